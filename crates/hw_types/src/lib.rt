@@ -11,6 +11,8 @@ mod config;
 mod items;
 mod laws;
 mod same;
+#[cfg(test)]
+mod tests;
 mod unit;
 
 pub use answers::{
