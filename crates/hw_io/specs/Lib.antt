@@ -1,0 +1,4 @@
+pub mod Doors
+pub mod Faults
+pub mod Files
+pub mod Sinks
