@@ -1,3 +1,4 @@
+pub mod Buffers
 pub mod Doors
 pub mod Faults
 pub mod Files

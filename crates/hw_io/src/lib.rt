@@ -6,8 +6,10 @@
 //! `OutOfMemory`, and needs no rise.
 #![tactic(auto)]
 
+mod buffer;
 mod outside;
 mod pieces;
 
+pub use buffer::{MOST_AT_ONCE, ReadBuffer};
 pub use outside::{Clock, Consumer, Door, Files, IoFault, Sink};
 pub use pieces::write_all;
