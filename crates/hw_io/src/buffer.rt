@@ -83,6 +83,71 @@ impl ReadBuffer {
         ensures begun { F.begun files.new ≡ F.begun files.old }
         ensures appends { F.append_faults files.new ≡ F.append_faults files.old }
     {
-        Err(IoFault::OutOfMemory)
+        let held = self.end - self.start;
+        if held < n {
+            make_room(&mut self.bytes, self.start, self.end, n)?;
+            self.start = 0;
+            let filled = fill(files, self.bytes.as_mut_slice(), held, n);
+            self.end = filled.end;
+            filled.outcome?;
+        }
+        Ok(self.end - self.start)
+    }
+}
+
+/// Moves the bytes from `start` up to `end` to the front, and makes room there for `n` bytes and a
+/// piece. An error changes nothing.
+fn make_room(bytes: &mut Vec<u8>, start: usize, end: usize, n: usize) -> Result<(), AllocError>
+    requires window { IsWindow bytes.old.items start end }
+    requires least { n ≤ MOST_AT_ONCE }
+    ensures front { OnOk result (take (end - start) bytes.new.items ≡ slice_range bytes.old.items start end) }
+    ensures room { OnOk result (n + PIECE ≤ vec_len bytes.new) }
+    ensures same { OnErr result (bytes.new.items ≡ bytes.old.items) }
+{
+    if bytes.len() < n + PIECE {
+        bytes.resize(n + PIECE, 0)?;
+    }
+    bytes.copy_within(start..end, 0);
+    Ok(())
+}
+
+/// How far the reads came, and the fault that stopped them.
+#[derive(Drop)]
+struct Filled {
+    end: usize,
+    outcome: Result<(), IoFault>,
+}
+
+/// Reads into the bytes behind the first `held` until `n` of them are read or the file is at its end.
+fn fill<F: Files>(files: &mut F, bytes: &mut [u8], held: usize, n: usize) -> Filled
+    requires within { held ≤ n }
+    requires room { n ≤ length bytes.old }
+    ensures end { IsTrue F.tells → OnOk result.outcome (result.end < n → F.unread files.new ≡ []) }
+    ensures within { result.end ≤ length bytes.new }
+    ensures held { (held ≤ result.end) × (take held bytes.new ≡ take held bytes.old) }
+    ensures left { IsTrue F.tells → take result.end bytes.new ++ F.unread files.new ≡ take held bytes.old ++ F.unread files.old }
+    ensures allowance { F.allowance files.new + result.end ≡ F.allowance files.old + held }
+    ensures cause { HasCause (F.read_faults files.old) (F.read_faults files.new) result.outcome }
+
+    ensures files { SameFiles (F.held files.old) (F.held files.new) }
+    ensures begun { F.begun files.new ≡ F.begun files.old }
+    ensures appends { F.append_faults files.new ≡ F.append_faults files.old }
+{
+    let mut end = held;
+    while end < n {
+        match files.read(&mut bytes[end..]) {
+            Ok(0) => break,
+            Ok(count) => end += count,
+            Err(fault) => {
+                return Filled {
+                    end,
+                    outcome: Err(fault),
+                };
+            }
+        }
+    }
+    Filled {
+        end,
+        outcome: Ok(()),
     }
 }

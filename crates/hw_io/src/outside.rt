@@ -6,6 +6,8 @@ ghost use Rattle.hw_io.specs.Files.{SameFiles, IsAnswer, Begins, Appended, Spend
 ghost use Rattle.hw_io.specs.Sinks.{TakesSome};
 ghost use Rattle.hw_io.specs.Doors.{ends_after};
 
+use std::alloc::AllocError;
+
 /// Why a call of the outside failed.
 #[derive(Clone, Copy, Debug, PartialEq, Eq)]
 pub enum IoFault {
@@ -13,6 +15,16 @@ pub enum IoFault {
     Failed,
     /// There was no memory for the call. This is no fault of the outside.
     OutOfMemory,
+}
+
+impl From<AllocError> for IoFault {
+    ghost use Rattle.hw_io.specs.declared.outside.IoFault.TheVariants.{OutOfMemory};
+
+    ghost from_gives = { λ _ fault. fault ≡ OutOfMemory };
+
+    fn from(_error: AllocError) -> IoFault {
+        IoFault::OutOfMemory
+    }
 }
 
 /// Files by name, of which one at a time is read.
