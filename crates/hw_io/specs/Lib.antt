@@ -1,0 +1,5 @@
+pub mod Buffers
+pub mod Doors
+pub mod Faults
+pub mod Files
+pub mod Sinks

@@ -1,0 +1,3 @@
+pub mod Log
+pub mod Causes
+pub mod Reader
