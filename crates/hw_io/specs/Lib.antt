@@ -2,4 +2,5 @@ pub mod Buffers
 pub mod Doors
 pub mod Faults
 pub mod Files
+pub mod Shelves
 pub mod Sinks

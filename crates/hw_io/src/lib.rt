@@ -9,6 +9,7 @@
 mod buffer;
 mod outside;
 mod pieces;
+mod shelf;
 
 pub use buffer::{MOST_AT_ONCE, ReadBuffer};
 pub use outside::{Clock, Consumer, Door, Files, IoFault, Sink};
