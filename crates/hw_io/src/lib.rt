@@ -7,10 +7,12 @@
 #![tactic(auto)]
 
 mod buffer;
+mod memory;
 mod outside;
 mod pieces;
 mod shelf;
 
 pub use buffer::{MOST_AT_ONCE, ReadBuffer};
+pub use memory::{MemFiles, MemSink, Planned};
 pub use outside::{Clock, Consumer, Door, Files, IoFault, Sink};
 pub use pieces::write_all;

@@ -1,7 +1,7 @@
 //! Files in memory, of which one at a time is read. It fails only where the rules of `Files` say so.
 ghost use Rattle.std.specs.Prelude.{◌≡◌, ◌≢◌, ◌↔◌, ◌+◌, ◌-◌, ◌^◌, ◌<◌, ◌≤◌, ◌⊎◌, [], ◌++◌, Some, None, IfSome, IfNone, length, take, drop, vec_len, IsTrue, IsSome, IsNone, IsErr, OnErr, OnOk, IfErr};
 ghost use Rattle.std.specs.Bool.{OnTrue, OnFalse};
-ghost use Rattle.std.specs.Option.{ForSome};
+ghost use Rattle.std.specs.Option.{ForSome, option_copied};
 ghost use Rattle.std.specs.Io.KnownBytes.{ReadConsumes};
 ghost use Rattle.std.specs.Io.{ReadsAtMost};
 ghost use Rattle.hw_io.specs.Files.{Begins, Appended, Spends};
@@ -60,6 +60,15 @@ impl Shelf {
         ensures { IsTrue result ↔ IsSome (held_in self.now.files.items name.now) }
     {
         self.place_of(name).is_some()
+    }
+
+    pub(crate) fn file(&self, name: &str) -> Option<&[u8]>
+        ensures { option_copied result ≡ held_in self.now.files.items name.now }
+    {
+        self.files
+            .iter()
+            .find(|file| file.name.as_slice() == name.as_bytes())
+            .map(|file| file.bytes.as_slice())
     }
 
     /// Begins the file of that name, or none where there is none.
