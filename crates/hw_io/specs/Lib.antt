@@ -3,5 +3,7 @@ pub mod Doors
 pub mod Faults
 pub mod Files
 pub mod Memory
+pub mod Moments
 pub mod Shelves
 pub mod Sinks
+pub mod Sure

@@ -8,11 +8,15 @@
 
 mod buffer;
 mod memory;
+mod moments;
 mod outside;
 mod pieces;
 mod shelf;
+mod sure;
 
 pub use buffer::{MOST_AT_ONCE, ReadBuffer};
 pub use memory::{MemFiles, MemSink, Planned};
+pub use moments::SetClock;
 pub use outside::{Clock, Consumer, Door, Files, IoFault, Sink};
 pub use pieces::write_all;
+pub use sure::{SureDoor, SureFiles, SureSink};
