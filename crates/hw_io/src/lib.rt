@@ -7,14 +7,18 @@
 #![tactic(auto)]
 
 mod buffer;
+mod host;
 mod memory;
 mod moments;
 mod outside;
 mod pieces;
 mod shelf;
 mod sure;
+#[cfg(test)]
+mod tests;
 
 pub use buffer::{MOST_AT_ONCE, ReadBuffer};
+pub use host::{HostFiles, HostSink};
 pub use memory::{MemFiles, MemSink, Planned};
 pub use moments::SetClock;
 pub use outside::{Clock, Consumer, Door, Files, IoFault, Sink};

@@ -7,11 +7,8 @@ ghost use Rattle.std.specs.Io.{ReadsAtMost};
 ghost use Rattle.hw_io.specs.Files.{Begins, Appended, Spends};
 ghost use Rattle.hw_io.specs.Shelves.{place_in, held_in, begun_in, unread_in, allowance_of, AddsFile};
 
-use crate::outside::IoFault;
+use crate::outside::{IoFault, READ_LIMIT};
 use std::alloc::{AllocError, Global};
-
-/// How many bytes reads of one file give: 2^62.
-const LIMIT: usize = 4_611_686_018_427_387_904;
 
 /// A file under its name.
 #[derive(Drop)]
@@ -167,7 +164,7 @@ fn give(bytes: &[u8], given: usize, piece: usize, buf: &mut [u8]) -> Option<usiz
 {
     let rest = rest_of(bytes, given);
     let most = rest.len().min(buf.len()).min(piece.max(1));
-    let allowance = LIMIT.saturating_sub(given);
+    let allowance = READ_LIMIT.saturating_sub(given);
     if most > 0 && allowance == 0 {
         return None;
     }
