@@ -1,0 +1,3 @@
+pub mod CauseLaws
+pub mod FieldLaws
+pub mod OpenLaws
