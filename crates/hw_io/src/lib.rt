@@ -7,9 +7,20 @@
 #![tactic(auto)]
 
 mod buffer;
+mod host;
+mod memory;
+mod moments;
 mod outside;
 mod pieces;
+mod shelf;
+mod sure;
+#[cfg(test)]
+mod tests;
 
 pub use buffer::{MOST_AT_ONCE, ReadBuffer};
+pub use host::{HostFiles, HostSink};
+pub use memory::{MemFiles, MemSink, Planned};
+pub use moments::SetClock;
 pub use outside::{Clock, Consumer, Door, Files, IoFault, Sink};
 pub use pieces::write_all;
+pub use sure::{SureDoor, SureFiles, SureSink};
