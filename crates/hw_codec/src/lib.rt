@@ -16,3 +16,6 @@ pub use encoding::{
 };
 pub use hw_types::{CodecError, Frame, NeedList};
 pub use unit::fits;
+
+#[cfg(test)]
+mod tests;
