@@ -1,0 +1,4 @@
+//! Units, vertices, configurations and frames as bytes.
+#![tactic(auto)]
+
+mod laws;
