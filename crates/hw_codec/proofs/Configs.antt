@@ -1,17 +1,15 @@
 -- Configurations: reading and spelling.
-use Rattle.std.proofs.Common.{◌≡◌, ℕ, zero, suc, ◌+◌, ◌^◌, ◌<◌, ◌≤◌, Bool, true, false, cond, eqb, List, [], ◌∷◌, ◌++◌, length, Option, Some, None, Ok, refl, sym, ap, subst, ◌∙◌, append_assoc, arith, ◌⊎◌, inl, inr}
+use Rattle.std.proofs.Common.{◌≡◌, ℕ, zero, suc, ◌^◌, ◌<◌, Bool, true, false, List, [], ◌∷◌, ◌++◌, Option, Some, None, refl, sym, ap, subst, ◌∙◌, append_assoc, arith, ◌⊎◌, inl, inr}
 use Rattle.std.specs.Prelude.{IfSome, ◌||◌, ◌==◌}
-use Rattle.std.specs.List.{All}
-use Rattle.std.specs.Int.{w32, w64}
-use Rattle.std.proofs.lemmas.Bool.{eqb-true, eq-eqb}
+use Rattle.std.proofs.lemmas.Bool.{eqb-true}
 use Rattle.std.proofs.lemmas.List.{append-nil}
 use Rattle.hw_types.specs.declared.answers.CodecError.TheVariants as error
 use Rattle.hw_types.specs.declared.config.Config.{Config}
 use Rattle.hw_types.specs.declared.config.Leaders.{Leaders}
 use Rattle.hw_types.specs.declared.config.Leaders.TheVariants.{Table, Drawn}
 use Rattle.hw_types.specs.Spelling.{counted, u32_bytes, u64_bytes, leaders_bytes, end_version, end_bytes, config_bytes, LeadersFit, ConfigFits}
-use Rattle.hw_types.specs.Reading.{◌>>=◌, Rest, Read, number_at, leaders_behind, version_at, end_behind, config_at}
-use Rattle.hw_codec.specs.Ranges.{AreBytes, AreBytesOf, LeadersInRange, ConfigInRange}
+use Rattle.hw_types.specs.Reading.{leaders_behind, version_at, end_behind, config_at}
+use Rattle.hw_codec.specs.Ranges.{AreBytesOf, LeadersInRange, ConfigInRange}
 use Rattle.hw_codec.proofs.Readings.{IsReading, Any, seq, seq_from, said, nothing, inside, tested, end, constant}
 use Rattle.hw_codec.proofs.Fields.{byte_alone, itself, bytes_reading, u32_reading, u64_reading, byte_reading, counted_reading, AreCounted}
 
@@ -134,8 +132,8 @@ config_reading = said
     seq (λ (c : Config). c.max_parked) u32_reading λ _ parked.
     seq_from (λ (c : Config). c.end) (end_reading version right.1) (λ c k. k.0.0.0.0.0.0.0.0.0.1) λ _ last versioned _.
     end (record { weights = weights; ftt = ftt; levels = levels; min_exponent = least; max_exponent = greatest; leaders = leaders; max_records = records; max_parked = parked; end = last }) _
-      (((((((((((tt, versioned), refl), refl), refl), refl), refl), tagged), refl), refl), refl), refl)
-      (λ c k i. record { weights = sym k.0.0.0.0.0.0.0.0.0.1 i; ftt = sym k.0.0.0.0.0.0.0.0.1 i; levels = sym k.0.0.0.0.0.0.0.1 i; min_exponent = sym k.0.0.0.0.0.0.1 i; max_exponent = sym k.0.0.0.0.0.1 i; leaders = sym k.0.0.0.1 i; max_records = sym k.0.0.1 i; max_parked = sym k.0.1 i; end = sym k.1 i }))
+    (((((((((((tt, versioned), refl), refl), refl), refl), refl), tagged), refl), refl), refl), refl)
+    (λ c k i. record { weights = sym k.0.0.0.0.0.0.0.0.0.1 i; ftt = sym k.0.0.0.0.0.0.0.0.1 i; levels = sym k.0.0.0.0.0.0.0.1 i; min_exponent = sym k.0.0.0.0.0.0.1 i; max_exponent = sym k.0.0.0.0.0.1 i; leaders = sym k.0.0.0.1 i; max_records = sym k.0.0.1 i; max_parked = sym k.0.1 i; end = sym k.1 i }))
     (λ c k. k) (λ c k. k)
     config_spelled
     (λ c k g. record {

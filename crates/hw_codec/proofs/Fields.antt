@@ -1,19 +1,17 @@
 -- Fields: bytes, numbers, digests, and lists with their count.
-use Rattle.std.proofs.Common.{◌≡◌, ℕ, zero, suc, ◌+◌, ◌-◌, ◌^◌, ◌<◌, ◌≤◌, Bool, true, false, cond, ltb, List, [], ◌∷◌, ◌++◌, length, get_or, take, drop, Result, Ok, Err, refl, sym, ap, subst, ◌∙◌, append_assoc, arith, inl, inr}
+use Rattle.std.proofs.Common.{◌≡◌, ℕ, zero, suc, ◌+◌, ◌^◌, ◌<◌, ◌≤◌, false, ltb, List, [], ◌∷◌, ◌++◌, length, get_or, take, drop, Ok, refl, sym, ap, subst, ◌∙◌, append_assoc, arith, inl, inr}
 use Rattle.std.specs.List.{flat_map, All, AllByRecursion}
 use Rattle.std.specs.Int.{Width, w8, w32, w64, byte_len, from_be_bytes, to_be_bytes}
 use Rattle.std.proofs.lemmas.Bool.{cases_lt, ltb-false, le-ltb}
 use Rattle.std.proofs.lemmas.List.{take_at, drop_at, take-append-drop, length-append, length-take, get_or_past}
-use Rattle.std.proofs.lemmas.List.Concat.{flat_map-cons}
 use Rattle.std.proofs.lemmas.List.Elements.{All-take, All-drop, All-from_get_or, All-from_recursion, recursion_from_All}
 use Rattle.std.proofs.lemmas.Nat.{be_bytes_4, be_bytes_8, from_be_bytes-to_be_bytes_4, from_be_bytes-to_be_bytes_8}
-use Rattle.hw_types.specs.declared.answers.CodecError.{CodecError}
 use Rattle.hw_types.specs.declared.answers.CodecError.TheVariants as error
 use Rattle.hw_types.specs.declared.unit.Digest.{Digest}
 use Rattle.hw_types.specs.Spelling.{counted, u32_bytes, u64_bytes}
 use Rattle.hw_types.specs.Reading.{◌>>=◌, Rest, Read, bytes_at, number_at, digest_at, count_at, many_at, counted_at}
 use Rattle.hw_codec.specs.Ranges.{AreBytes, AreBytesOf, DigestInRange}
-use Rattle.hw_codec.proofs.Readings.{at, Takes, Takes-then, IsReading, Any, seq, end, said, nothing, inside, tested, unrefused, bind_ok, ok_is, done, refused_ok}
+use Rattle.hw_codec.proofs.Readings.{at, Takes, Takes-then, IsReading, Any, seq, said, inside, unrefused, bind_ok, ok_is, done, refused_ok}
 
 -- ---- bytes
 
@@ -35,16 +33,18 @@ itself bytes = bytes
 pub bytes_reading : (n : ℕ) → IsReading (bytes_at n) Any itself (AreBytesOf n)
 bytes_reading n = record {
   takes = λ r b after fits e.
-    let g = refused_ok (ltb (length r.bytes) n) (error.Truncated r.place) (take n r.bytes, at (r.place + n) (drop n r.bytes)) (b, after) e in
-    let long : n ≤ length r.bytes = ltb-false _ _ g.0 in
-    let len : length (take n r.bytes) ≡ n = omega (arith, length-take n r.bytes) in
-    subst (λ (x : List ℕ × Rest). Takes r x.0 x.1 × Any x.0 × AreBytesOf n x.0) g.1
-      ( record { parts = sym (take-append-drop n r.bytes); place = omega arith; bytes = All-drop (λ (b : ℕ). b < 2 ^ 8) n r.bytes fits }
-      , tt, record { size = len; each = All-take (λ (b : ℕ). b < 2 ^ 8) n r.bytes fits });
+      let g = refused_ok (ltb (length r.bytes) n) (error.Truncated r.place) (take n r.bytes, at (r.place + n) (drop n r.bytes)) (b, after) e in
+      let long : n ≤ length r.bytes = ltb-false _ _ g.0 in
+      let len : length (take n r.bytes) ≡ n = omega (arith, length-take n r.bytes) in
+      subst (λ (x : List ℕ × Rest). Takes r x.0 x.1 × Any x.0 × AreBytesOf n x.0) g.1 (
+        record { parts = sym (take-append-drop n r.bytes); place = omega arith; bytes = All-drop (λ (b : ℕ). b < 2 ^ 8) n r.bytes fits },
+        tt,
+        record { size = len; each = All-take (λ (b : ℕ). b < 2 ^ 8) n r.bytes fits },
+      );
   again = λ b place rest k g.
-    let len : length b ≡ n = g.size in
-    let long : ltb (length (b ++ rest)) n ≡ false = le-ltb _ _ (omega (arith, length-append b rest)) in
-    rw (long, take_at b rest n len, drop_at b rest n len) (ap (λ (p : ℕ). done (b, at (place + p) rest)) (sym len));
+      let len : length b ≡ n = g.size in
+      let long : ltb (length (b ++ rest)) n ≡ false = le-ltb _ _ (omega (arith, length-append b rest)) in
+      rw (long, take_at b rest n len, drop_at b rest n len) (ap (λ (p : ℕ). done (b, at (place + p) rest)) (sym len));
 }
 
 pub digest_reading : IsReading digest_at Any (λ (d : Digest). d.0) DigestInRange
@@ -136,18 +136,18 @@ pub many_reading : {A : Type 0} {item : Rest → Read A} {spell : A → List ℕ
 unfolding many_at
 many_reading {A} {item} {spell} {Good} one zero = record {
   takes = λ r b after fits e.
-    subst (λ (x : List A × Rest). Takes r (flat_map spell x.0) x.1 × (length x.0 ≡ 0) × AllByRecursion Good x.0) (ok_is ([], r) (b, after) e)
+      subst (λ (x : List A × Rest). Takes r (flat_map spell x.0) x.1 × (length x.0 ≡ 0) × AllByRecursion Good x.0) (ok_is ([], r) (b, after) e)
       (record { parts = refl; place = omega arith; bytes = fits }, refl, tt);
   again = λ b place rest k g. none_again spell b place rest k;
 }
 many_reading {A} {item} {spell} {Good} one (suc n) = record {
   takes = λ r b after fits e.
-    let m = bind_ok (item r) (with_others item n) (b, after) e in
-    let ms = bind_ok (many_at item n m.0.1) (with_first m.0.0) (b, after) m.2 in
-    let t = one.takes r m.0.0 m.0.1 fits m.1 in
-    let ts = (many_reading one n).takes m.0.1 ms.0.0 ms.0.1 t.0.bytes ms.1 in
-    let made : List A × Rest = (m.0.0 ∷ ms.0.0, ms.0.1) in
-    subst (λ (x : List A × Rest). Takes r (flat_map spell x.0) x.1 × (length x.0 ≡ suc n) × AllByRecursion Good x.0) (ok_is made (b, after) ms.2)
+      let m = bind_ok (item r) (with_others item n) (b, after) e in
+      let ms = bind_ok (many_at item n m.0.1) (with_first m.0.0) (b, after) m.2 in
+      let t = one.takes r m.0.0 m.0.1 fits m.1 in
+      let ts = (many_reading one n).takes m.0.1 ms.0.0 ms.0.1 t.0.bytes ms.1 in
+      let made : List A × Rest = (m.0.0 ∷ ms.0.0, ms.0.1) in
+      subst (λ (x : List A × Rest). Takes r (flat_map spell x.0) x.1 × (length x.0 ≡ suc n) × AllByRecursion Good x.0) (ok_is made (b, after) ms.2)
       (Takes-then r (spell m.0.0) m.0.1 (flat_map spell ms.0.0) ms.0.1 t.0 ts.0, ap suc ts.1, (t.2, ts.2));
   again = λ b place rest k g. some_again n one (many_reading one n) b place rest k g;
 }
@@ -167,5 +167,5 @@ unfolding counted_at
 counted_reading {A} {item} {spell} {Good} limit lt one =
     let these : (n : ℕ) → IsReading (many_at item n) (λ xs. Any xs × (length xs ≡ n)) (flat_map spell) (AllByRecursion Good) = λ n. said (many_reading one n) (λ xs k. (tt, k)) (λ xs k. k.1) (λ xs k. refl) (λ xs k g. g) (λ xs k g. g) in
     said (seq (λ (xs : List A). length xs) (count_reading limit) (λ place n. these n)) (λ xs k. k) (λ xs k. k) (λ xs k. refl)
-      (λ xs k g. record { count = g.0.1; each = All-from_recursion Good xs g.1 })
-      (λ xs k g. ((omega (arith, g.count), g.count), recursion_from_All Good xs g.each))
+    (λ xs k g. record { count = g.0.1; each = All-from_recursion Good xs g.1 })
+    (λ xs k g. ((omega (arith, g.count), g.count), recursion_from_All Good xs g.each))

@@ -1,5 +1,5 @@
 -- Readings: what is read is spelled so, and what is spelled so is read.
-use Rattle.std.proofs.Common.{◌≡◌, ℕ, zero, suc, ◌+◌, ◌^◌, ◌<◌, ◌≤◌, Bool, true, false, cond, List, [], ◌∷◌, ◌++◌, length, Result, Ok, Err, refl, sym, ap, subst, ◌∙◌, append_assoc, arith}
+use Rattle.std.proofs.Common.{◌≡◌, ℕ, ◌+◌, Bool, true, false, cond, List, [], ◌++◌, length, Result, Ok, Err, refl, sym, ap, subst, ◌∙◌, append_assoc, arith}
 use Rattle.std.proofs.lemmas.List.{length-append}
 use Rattle.hw_types.specs.declared.answers.CodecError.{CodecError}
 use Rattle.hw_types.specs.Reading.{◌>>=◌, Rest, Read}
@@ -52,22 +52,22 @@ pub seq_from : {A B : Type 0} {first : Rest → Read A} {next : ℕ → A → Re
     → IsReading (λ r. first r >>= λ a. next r.place a.0 a.1) Known (λ b. spell (get b) ++ others b) (λ b. Good (get b) × Others b)
 seq_from {A} {B} {first} {next} {From} {Known} {spell} {others} {Good} {Others} get one from then = record {
   takes = λ r b after fits e.
-    let m = bind_ok (first r) (λ a. next r.place a.0 a.1) (b, after) e in
-    let t = one.takes r m.0.0 m.0.1 fits m.1 in
-    let u = (then r.place m.0.0 t.1 t.2).takes m.0.1 b after t.0.bytes m.2 in
-    let is : get b ≡ m.0.0 = u.1.1 in
-    let both = Takes-then r (spell m.0.0) m.0.1 (others b) after t.0 u.0 in
-    (subst (λ (a : A). Takes r (spell a ++ others b) after) (sym is) both, u.1.0, (subst Good (sym is) t.2, u.2));
+      let m = bind_ok (first r) (λ a. next r.place a.0 a.1) (b, after) e in
+      let t = one.takes r m.0.0 m.0.1 fits m.1 in
+      let u = (then r.place m.0.0 t.1 t.2).takes m.0.1 b after t.0.bytes m.2 in
+      let is : get b ≡ m.0.0 = u.1.1 in
+      let both = Takes-then r (spell m.0.0) m.0.1 (others b) after t.0 u.0 in
+      (subst (λ (a : A). Takes r (spell a ++ others b) after) (sym is) both, u.1.0, (subst Good (sym is) t.2, u.2));
   again = λ b place rest known good.
-    let x = spell (get b) in let y = others b in
-    let grouped : (x ++ y) ++ rest ≡ x ++ (y ++ rest) = append_assoc x y rest in
-    let one' = one.again (get b) place (y ++ rest) (from b known) good.0 in
-    let two = (then place (get b) (from b known) good.0).again b (place + length x) rest (known, refl) good.1 in
-    let far : place + length x + length y ≡ place + length (x ++ y) = omega (arith, length-append x y) in
-    ap (λ (bytes : List ℕ). first (at place bytes) >>= λ a. next place a.0 a.1) grouped
-    ∙ ap (λ (m : Read A). m >>= λ a. next place a.0 a.1) one'
-    ∙ two
-    ∙ ap (λ (p : ℕ). done (b, at p rest)) far;
+      let x = spell (get b) in let y = others b in
+      let grouped : (x ++ y) ++ rest ≡ x ++ (y ++ rest) = append_assoc x y rest in
+      let one' = one.again (get b) place (y ++ rest) (from b known) good.0 in
+      let two = (then place (get b) (from b known) good.0).again b (place + length x) rest (known, refl) good.1 in
+      let far : place + length x + length y ≡ place + length (x ++ y) = omega (arith, length-append x y) in
+      ap (λ (bytes : List ℕ). first (at place bytes) >>= λ a. next place a.0 a.1) grouped
+      ∙ ap (λ (m : Read A). m >>= λ a. next place a.0 a.1) one'
+      ∙ two
+      ∙ ap (λ (p : ℕ). done (b, at p rest)) far;
 }
 
 -- a field of the value, and then the others
@@ -80,11 +80,11 @@ seq get one then = seq_from get one (λ b k. tt) (λ place a from good. then pla
 pub end : {B : Type 0} (b : B) (Known : B → Type 0) → Known b → ((other : B) → Known other → b ≡ other) → IsReading (λ r. Ok (b, r)) Known (λ _. []) Any
 end {B} b Known is only = record {
   takes = λ r b' after fits e.
-    let same : b ≡ b' = ap (λ (x : B × Rest). x.0) (ok_is (b, r) (b', after) e) in
-    let rest : r ≡ after = ap (λ (x : B × Rest). x.1) (ok_is (b, r) (b', after) e) in
-    (record { parts = ap (λ (x : Rest). x.bytes) rest; place = sym (ap (λ (x : Rest). x.place) rest) ∙ omega arith; bytes = subst (λ (x : Rest). AreBytes x.bytes) rest fits }, subst Known same is, tt);
+      let same : b ≡ b' = ap (λ (x : B × Rest). x.0) (ok_is (b, r) (b', after) e) in
+      let rest : r ≡ after = ap (λ (x : B × Rest). x.1) (ok_is (b, r) (b', after) e) in
+      (record { parts = ap (λ (x : Rest). x.bytes) rest; place = sym (ap (λ (x : Rest). x.place) rest) ∙ omega arith; bytes = subst (λ (x : Rest). AreBytes x.bytes) rest fits }, subst Known same is, tt);
   again = λ b' place rest known good.
-    ap (λ (x : B). done (x, at place rest)) (only b' known) ∙ ap (λ (p : ℕ). done (b', at p rest)) (omega arith);
+      ap (λ (x : B). done (x, at place rest)) (only b' known) ∙ ap (λ (p : ℕ). done (b', at p rest)) (omega arith);
 }
 
 -- ---- other forms of what is known, spelled and good
@@ -95,11 +95,11 @@ pub said : {B : Type 0} {read : Rest → Read B} {Known Known' : B → Type 0} {
     → ((b : B) → Known' b → Good b → Good' b) → ((b : B) → Known' b → Good' b → Good b) → IsReading read Known' spell' Good'
 said {B} {read} {Known} {Known'} {spell} {spell'} {Good} {Good'} one known known' spelled good good' = record {
   takes = λ r b after fits e.
-    let t = one.takes r b after fits e in
-    let k = known b t.1 in
-    (subst (λ (bytes : List ℕ). Takes r bytes after) (spelled b k) t.0, k, good b k t.2);
+      let t = one.takes r b after fits e in
+      let k = known b t.1 in
+      (subst (λ (bytes : List ℕ). Takes r bytes after) (spelled b k) t.0, k, good b k t.2);
   again = λ b place rest k g.
-    subst (λ (bytes : List ℕ). read (at place (bytes ++ rest)) ≡ Ok (b, at (place + length bytes) rest)) (spelled b k) (one.again b place rest (known' b k) (good' b k g));
+      subst (λ (bytes : List ℕ). read (at place (bytes ++ rest)) ≡ Ok (b, at (place + length bytes) rest)) (spelled b k) (one.again b place rest (known' b k) (good' b k g));
 }
 
 -- what is refused is no value of which this is known
@@ -120,21 +120,21 @@ pub inside : {A B : Type 0} {read : Rest → Read A} {spell : A → List ℕ} {G
     → IsReading (λ r. read r >>= λ a. Ok (made a.0, a.1)) Known others Others
 inside {A} {B} {read} {spell} {Good} made Known others Others one forth back = record {
   takes = λ r b after fits e.
-    let m = bind_ok (read r) (with_made made) (b, after) e in
-    let same = ok_is (made m.0.0, m.0.1) (b, after) m.2 in
-    let t = one.takes r m.0.0 m.0.1 fits m.1 in
-    let f = forth m.0.0 t.2 in
-    subst (λ (x : B × Rest). Takes r (others x.0) x.1 × Known x.0 × Others x.0) same (subst (λ (bytes : List ℕ). Takes r bytes m.0.1) f.0 t.0, f.1, f.2);
+      let m = bind_ok (read r) (with_made made) (b, after) e in
+      let same = ok_is (made m.0.0, m.0.1) (b, after) m.2 in
+      let t = one.takes r m.0.0 m.0.1 fits m.1 in
+      let f = forth m.0.0 t.2 in
+      subst (λ (x : B × Rest). Takes r (others x.0) x.1 × Known x.0 × Others x.0) same (subst (λ (bytes : List ℕ). Takes r bytes m.0.1) f.0 t.0, f.1, f.2);
   again = λ b place rest k g.
-    let a = back b k g in
-    subst (λ (x : B). (read (at place (others b ++ rest)) >>= with_made made) ≡ Ok (x, at (place + length (others b)) rest)) a.1
+      let a = back b k g in
+      subst (λ (x : B). (read (at place (others b ++ rest)) >>= with_made made) ≡ Ok (x, at (place + length (others b)) rest)) a.1
       (subst (λ (bytes : List ℕ). (read (at place (bytes ++ rest)) >>= with_made made) ≡ Ok (made a.0, at (place + length bytes) rest)) a.3
-        (ap (λ (m : Read A). m >>= with_made made) (one.again a.0 place rest tt a.2)));
+      (ap (λ (m : Read A). m >>= with_made made) (one.again a.0 place rest tt a.2)));
 }
 
 -- ---- tests
 
-test_ok : {A : Type 0} (b : Bool) (d : CodecError) (x y : A) → cond b (Ok x) (Err d) ≡ Ok y → (b ≡ true) × (x ≡ y)
+pub test_ok : {A : Type 0} (b : Bool) (d : CodecError) (x y : A) → cond b (Ok x) (Err d) ≡ Ok y → (b ≡ true) × (x ≡ y)
 test_ok true d x y e = (refl, cc)
 test_ok false d x y e = absurd cc
 
@@ -144,12 +144,12 @@ pub tested : {A : Type 0} {read : Rest → Read A} {spell : A → List ℕ} {Goo
     → IsReading (λ r. read r >>= λ a. cond (test a.0) (Ok a) (Err (fault r.place))) Any spell (λ a. Good a × Passes a)
 tested {A} {read} {spell} {Good} test fault Passes one passes passed = record {
   takes = λ r b after fits e.
-    let m = bind_ok (read r) (λ a. cond (test a.0) (Ok a) (Err (fault r.place))) (b, after) e in
-    let g = test_ok (test m.0.0) (fault r.place) m.0 (b, after) m.2 in
-    let t = one.takes r m.0.0 m.0.1 fits m.1 in
-    subst (λ (x : A × Rest). Takes r (spell x.0) x.1 × Any x.0 × (Good x.0 × Passes x.0)) g.1 (t.0, tt, (t.2, passes m.0.0 t.2 g.0));
+      let m = bind_ok (read r) (λ a. cond (test a.0) (Ok a) (Err (fault r.place))) (b, after) e in
+      let g = test_ok (test m.0.0) (fault r.place) m.0 (b, after) m.2 in
+      let t = one.takes r m.0.0 m.0.1 fits m.1 in
+      subst (λ (x : A × Rest). Takes r (spell x.0) x.1 × Any x.0 × (Good x.0 × Passes x.0)) g.1 (t.0, tt, (t.2, passes m.0.0 t.2 g.0));
   again = λ b place rest k g.
-    ap (λ (m : Read A). m >>= λ a. cond (test a.0) (Ok a) (Err (fault place))) (one.again b place rest tt g.0) ∙ rw (passed b g.0 g.1) refl;
+      ap (λ (m : Read A). m >>= λ a. cond (test a.0) (Ok a) (Err (fault place))) (one.again b place rest tt g.0) ∙ rw (passed b g.0 g.1) refl;
 }
 
 pub refused_ok : {A : Type 0} (b : Bool) (d : CodecError) (x y : A) → cond b (Err d) (Ok x) ≡ Ok y → (b ≡ false) × (x ≡ y)
@@ -162,12 +162,12 @@ pub unrefused : {A : Type 0} {read : Rest → Read A} {spell : A → List ℕ} {
     → IsReading (λ r. read r >>= λ a. cond (test a.0) (Err (fault r.place)) (Ok a)) Any spell (λ a. Good a × Passes a)
 unrefused {A} {read} {spell} {Good} test fault Passes one passes passed = record {
   takes = λ r b after fits e.
-    let m = bind_ok (read r) (λ a. cond (test a.0) (Err (fault r.place)) (Ok a)) (b, after) e in
-    let g = refused_ok (test m.0.0) (fault r.place) m.0 (b, after) m.2 in
-    let t = one.takes r m.0.0 m.0.1 fits m.1 in
-    subst (λ (x : A × Rest). Takes r (spell x.0) x.1 × Any x.0 × (Good x.0 × Passes x.0)) g.1 (t.0, tt, (t.2, passes m.0.0 g.0));
+      let m = bind_ok (read r) (λ a. cond (test a.0) (Err (fault r.place)) (Ok a)) (b, after) e in
+      let g = refused_ok (test m.0.0) (fault r.place) m.0 (b, after) m.2 in
+      let t = one.takes r m.0.0 m.0.1 fits m.1 in
+      subst (λ (x : A × Rest). Takes r (spell x.0) x.1 × Any x.0 × (Good x.0 × Passes x.0)) g.1 (t.0, tt, (t.2, passes m.0.0 g.0));
   again = λ b place rest k g.
-    ap (λ (m : Read A). m >>= λ a. cond (test a.0) (Err (fault place)) (Ok a)) (one.again b place rest tt g.0) ∙ rw (passed b g.1) refl;
+      ap (λ (m : Read A). m >>= λ a. cond (test a.0) (Err (fault place)) (Ok a)) (one.again b place rest tt g.0) ∙ rw (passed b g.1) refl;
 }
 
 -- a value that what is known determines, and that takes no bytes

@@ -1,7 +1,6 @@
 -- Units, signed units and vertices: reading and spelling.
-use Rattle.std.proofs.Common.{◌≡◌, ℕ, zero, suc, ◌+◌, ◌^◌, ◌<◌, ◌≤◌, Bool, true, false, ltb, List, [], ◌∷◌, ◌++◌, length, Option, Some, None, Ok, refl, sym, ap, subst, ◌∙◌, append_assoc, arith}
+use Rattle.std.proofs.Common.{◌≡◌, ℕ, zero, suc, ◌^◌, ◌<◌, ◌≤◌, ltb, List, [], ◌∷◌, ◌++◌, length, Option, Some, None, Ok, refl, sym, ◌∙◌, append_assoc, arith}
 use Rattle.std.specs.Prelude.{IfSome}
-use Rattle.std.specs.List.{All}
 use Rattle.std.specs.Int.{w32}
 use Rattle.std.proofs.lemmas.Bool.{ltb-true, lt-ltb}
 use Rattle.std.proofs.lemmas.List.{append-nil}
@@ -11,7 +10,6 @@ use Rattle.hw_types.specs.declared.unit.Obs.{Obs}
 use Rattle.hw_types.specs.declared.unit.Obs.TheVariants.{Absent, Correct, Faulty}
 use Rattle.hw_types.specs.declared.unit.WireUnit.{WireUnit}
 use Rattle.hw_types.specs.declared.unit.SignedUnit.{SignedUnit}
-use Rattle.hw_types.specs.declared.unit.Signature.{Signature}
 use Rattle.hw_types.specs.declared.unit.Evidence.{Evidence}
 use Rattle.hw_types.specs.declared.unit.Endorsement.{Endorsement}
 use Rattle.hw_types.specs.declared.unit.Vertex.{Vertex}
@@ -20,7 +18,7 @@ use Rattle.hw_types.specs.Spelling.{counted, u32_bytes, u64_bytes, obs_bytes, va
 use Rattle.hw_types.specs.Reading.{◌>>=◌, bytes_at, obs_behind, obs_at, value_behind, value_at, time_at, unit_at, signed_at, vertex_behind, vertex_at, Rest, Read, number_at, digest_at}
 use Rattle.hw_codec.specs.Ranges.{AreBytes, AreBytesOf, DigestInRange, ObsInRange, UnitInRange, SignedInRange, SignatureInRange, VertexInRange}
 use Rattle.hw_codec.proofs.Readings.{IsReading, Any, seq, said, nothing, inside, tested, end, constant, alike, bind_assoc, bind_same, with_made}
-use Rattle.hw_codec.proofs.Fields.{byte_alone, itself, bytes_reading, digest_reading, u32_reading, u64_reading, byte_reading, count_reading, counted_reading, AreCounted}
+use Rattle.hw_codec.proofs.Fields.{byte_alone, itself, bytes_reading, digest_reading, u32_reading, u64_reading, byte_reading, count_reading, counted_reading}
 
 -- ---- observations
 
@@ -177,8 +175,8 @@ unit_reading = said
     seq (λ (u : WireUnit). u.value) value_reading λ _ value.
     seq (λ (u : WireUnit). u.endorsed) (counted_reading 256 (omega arith) digest_reading) λ _ endorsed.
     end (record { instance = instance; creator = creator; seq = number; time = time; exponent = exponent; panorama = panorama; value = value; endorsed = endorsed }) _
-      ((((((((tt, refl), refl), refl), refl), refl), refl), refl), refl)
-      (λ u k i. record { instance = sym k.0.0.0.0.0.0.0.1 i; creator = sym k.0.0.0.0.0.0.1 i; seq = sym k.0.0.0.0.0.1 i; time = sym k.0.0.0.0.1 i; exponent = sym k.0.0.0.1 i; panorama = sym k.0.0.1 i; value = sym k.0.1 i; endorsed = sym k.1 i }))
+    ((((((((tt, refl), refl), refl), refl), refl), refl), refl), refl)
+    (λ u k i. record { instance = sym k.0.0.0.0.0.0.0.1 i; creator = sym k.0.0.0.0.0.0.1 i; seq = sym k.0.0.0.0.0.1 i; time = sym k.0.0.0.0.1 i; exponent = sym k.0.0.0.1 i; panorama = sym k.0.0.1 i; value = sym k.0.1 i; endorsed = sym k.1 i }))
     (λ u k. k) (λ u k. k)
     unit_spelled
     (λ u k g. record {
@@ -322,12 +320,12 @@ vertex_rest_reading place (suc zero) =
     inside vertex.Unit (VertexOf 1) vertex_rest IsVertex signed_reading (λ s g. (refl, (tt, refl), record { fits = g.fits; in_range = g.in_range })) unit_only
 vertex_rest_reading place (suc (suc zero)) =
     alike (λ r. evidence_at r >>= with_made vertex.Evidence)
-      (inside vertex.Evidence (VertexOf 2) vertex_rest IsVertex evidence_reading (λ e g. (refl, (tt, refl), record { fits = (g.left.fits, g.right.fits); in_range = (g.left.in_range, g.right.in_range) })) evidence_only)
-      (evidence_alike place)
+    (inside vertex.Evidence (VertexOf 2) vertex_rest IsVertex evidence_reading (λ e g. (refl, (tt, refl), record { fits = (g.left.fits, g.right.fits); in_range = (g.left.in_range, g.right.in_range) })) evidence_only)
+    (evidence_alike place)
 vertex_rest_reading place (suc (suc (suc zero))) =
     alike (λ r. endorsement_at r >>= with_made vertex.Endorsement)
-      (inside vertex.Endorsement (VertexOf 3) vertex_rest IsVertex endorsement_reading (λ e g. (refl, (tt, refl), record { fits = tt; in_range = g })) endorsement_only)
-      (endorsement_alike place)
+    (inside vertex.Endorsement (VertexOf 3) vertex_rest IsVertex endorsement_reading (λ e g. (refl, (tt, refl), record { fits = tt; in_range = g })) endorsement_only)
+    (endorsement_alike place)
 vertex_rest_reading place (suc (suc (suc (suc kind)))) = nothing (error.BadTag place) (VertexOf (suc (suc (suc (suc kind))))) vertex_rest IsVertex (no_vertex kind)
 
 vertex_spelled : (v : Vertex) → byte_alone (vertex_kind v) ++ vertex_rest v ≡ vertex_bytes v
