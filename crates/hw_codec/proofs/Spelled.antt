@@ -57,6 +57,10 @@ pub unit_found : (bytes : List ℕ) (result : Result WireUnit CodecError) → Ar
 unit_found bytes (Ok u) fits given = unit_read_spells bytes u fits given
 unit_found bytes (Err e) fits given = tt
 
+pub unit_in_range : (bytes : List ℕ) (result : Result WireUnit CodecError) → AreBytes bytes → Gives (λ u. u) result (unit_of bytes) → IfOk result (λ u. UnitInRange u)
+unit_in_range bytes (Ok u) fits given = unit_read_in_range bytes u fits given
+unit_in_range bytes (Err e) fits given = tt
+
 pub unit_only : (bytes : List ℕ) (result : Result WireUnit CodecError) → Gives (λ u. u) result (unit_of bytes) → (u : WireUnit) → UnitInRange u → SpellsUnit bytes u → Gives (λ u. u) result (Ok u)
 unit_only bytes result given u in_range spells = subst (λ (read : Result WireUnit CodecError). Gives (λ u. u) result read) (unit_spelled_reads bytes u in_range spells) given
 
@@ -74,6 +78,10 @@ vertex_spelled_reads bytes v in_range spells = ap vertex_of spells.is ∙ whole_
 pub vertex_found : (bytes : List ℕ) (result : Result Vertex CodecError) → AreBytes bytes → Gives (λ v. v) result (vertex_of bytes) → IfOk result (λ v. SpellsVertex bytes v)
 vertex_found bytes (Ok v) fits given = vertex_read_spells bytes v fits given
 vertex_found bytes (Err e) fits given = tt
+
+pub vertex_in_range : (bytes : List ℕ) (result : Result Vertex CodecError) → AreBytes bytes → Gives (λ v. v) result (vertex_of bytes) → IfOk result (λ v. VertexInRange v)
+vertex_in_range bytes (Ok v) fits given = vertex_read_in_range bytes v fits given
+vertex_in_range bytes (Err e) fits given = tt
 
 pub vertex_only : (bytes : List ℕ) (result : Result Vertex CodecError) → Gives (λ v. v) result (vertex_of bytes) → (v : Vertex) → VertexInRange v → SpellsVertex bytes v → Gives (λ v. v) result (Ok v)
 vertex_only bytes result given v in_range spells = subst (λ (read : Result Vertex CodecError). Gives (λ v. v) result read) (vertex_spelled_reads bytes v in_range spells) given
@@ -93,6 +101,10 @@ pub config_found : (bytes : List ℕ) (result : Result Config CodecError) → Ar
 config_found bytes (Ok c) fits given = config_read_spells bytes c fits given
 config_found bytes (Err e) fits given = tt
 
+pub config_in_range : (bytes : List ℕ) (result : Result Config CodecError) → AreBytes bytes → Gives (λ c. c) result (config_of bytes) → IfOk result (λ c. ConfigInRange c)
+config_in_range bytes (Ok c) fits given = config_read_in_range bytes c fits given
+config_in_range bytes (Err e) fits given = tt
+
 pub config_only : (bytes : List ℕ) (result : Result Config CodecError) → Gives (λ c. c) result (config_of bytes) → (c : Config) → ConfigInRange c → SpellsConfig bytes c → Gives (λ c. c) result (Ok c)
 config_only bytes result given c in_range spells = subst (λ (read : Result Config CodecError). Gives (λ c. c) result read) (config_spelled_reads bytes c in_range spells) given
 
@@ -110,6 +122,10 @@ frame_spelled_reads bytes f in_range spells = ap frame_of spells.is ∙ whole_ag
 pub frame_found : (bytes : List ℕ) (result : Result Frame CodecError) → AreBytes bytes → Gives (λ f. f) result (frame_of bytes) → IfOk result (λ f. SpellsFrame bytes f)
 frame_found bytes (Ok f) fits given = frame_read_spells bytes f fits given
 frame_found bytes (Err e) fits given = tt
+
+pub frame_in_range : (bytes : List ℕ) (result : Result Frame CodecError) → AreBytes bytes → Gives (λ f. f) result (frame_of bytes) → IfOk result (λ f. FrameInRange f)
+frame_in_range bytes (Ok f) fits given = frame_read_in_range bytes f fits given
+frame_in_range bytes (Err e) fits given = tt
 
 pub frame_only : (bytes : List ℕ) (result : Result Frame CodecError) → Gives (λ f. f) result (frame_of bytes) → (f : Frame) → FrameInRange f → SpellsFrame bytes f → Gives (λ f. f) result (Ok f)
 frame_only bytes result given f in_range spells = subst (λ (read : Result Frame CodecError). Gives (λ f. f) result read) (frame_spelled_reads bytes f in_range spells) given
