@@ -1,6 +1,6 @@
 //! Whole values from all of the bytes.
 
-ghost use Rattle.std.specs.Prelude.{◌≡◌, IfOk, IfErr};
+ghost use Rattle.std.specs.Prelude.{◌≡◌, Ok, IfOk, IfErr};
 ghost use Rattle.hw_types.specs.declared.unit.WireUnit.{WireUnit};
 ghost use Rattle.hw_types.specs.declared.unit.Vertex.{Vertex};
 ghost use Rattle.hw_types.specs.declared.config.Config.{Config};
@@ -29,6 +29,9 @@ pub fn decode_unit(alloc: Global, bytes: &[u8]) -> Result<WireUnit, CodecError>
     // What is spelled so is read, unless memory runs out.
     ensures read { (unit : WireUnit) → UnitInRange unit → SpellsUnit bytes.now unit → IsReadAs result unit }
 
+    // It is what reading from left to right gives.
+    ensures value { IfOk result (λ unit. unit_of bytes.now ≡ Ok unit) }
+
     // Another error is the first one.
     ensures error { IfErr result (IsErrorOf (unit_of bytes.now)) }
 {
@@ -49,6 +52,7 @@ fn whole_unit(alloc: Global, bytes: &[u8]) -> Result<WireUnit, CodecError>
 pub fn decode_vertex(alloc: Global, bytes: &[u8]) -> Result<Vertex, CodecError>
     ensures ok { IfOk result (λ vertex. SpellsVertex bytes.now vertex) }
     ensures read { (vertex : Vertex) → VertexInRange vertex → SpellsVertex bytes.now vertex → IsReadAs result vertex }
+    ensures value { IfOk result (λ vertex. vertex_of bytes.now ≡ Ok vertex) }
     ensures error { IfErr result (IsErrorOf (vertex_of bytes.now)) }
 {
     whole_vertex(alloc, bytes)
@@ -70,6 +74,7 @@ fn whole_vertex(alloc: Global, bytes: &[u8]) -> Result<Vertex, CodecError>
 pub fn decode_config(alloc: Global, bytes: &[u8]) -> Result<Config, CodecError>
     ensures ok { IfOk result (λ config. SpellsConfig bytes.now config) }
     ensures read { (config : Config) → ConfigInRange config → SpellsConfig bytes.now config → IsReadAs result config }
+    ensures value { IfOk result (λ config. config_of bytes.now ≡ Ok config) }
     ensures error { IfErr result (IsErrorOf (config_of bytes.now)) }
 {
     whole_config(alloc, bytes)
@@ -90,6 +95,7 @@ fn whole_config(alloc: Global, bytes: &[u8]) -> Result<Config, CodecError>
 pub fn decode_frame(alloc: Global, body: &[u8]) -> Result<Frame, CodecError>
     ensures ok { IfOk result (λ frame. SpellsFrame body.now frame) }
     ensures read { (frame : Frame) → FrameInRange frame → SpellsFrame body.now frame → IsReadAs result frame }
+    ensures value { IfOk result (λ frame. frame_of body.now ≡ Ok frame) }
     ensures error { IfErr result (IsErrorOf (frame_of body.now)) }
 {
     whole_frame(alloc, body)

@@ -1,6 +1,7 @@
 //! Whole values as bytes, and their names.
 
 ghost use Rattle.std.specs.Prelude.{◌≡◌, IfOk};
+ghost use Rattle.sha2.specs.Sha256.{sha256};
 ghost use Rattle.hw_types.specs.Spelling.{SpellsUnit, SpellsVertex, SpellsConfig, SpellsFrame, Fits, VertexFits, ConfigFits, FrameFits, digest_of, instance_of};
 
 use crate::config::{config_len, put_config};
@@ -27,8 +28,7 @@ pub fn digest_of(alloc: Global, unit: &WireUnit) -> Result<Digest, OutOfMemory>
     requires { Fits unit.now }
     ensures { IfOk result (λ digest. digest ≡ digest_of unit.now) }
 {
-    let spelling = encode_unit(alloc, unit)?;
-    Ok(Digest(Sha256::digest(spelling.as_slice())))
+    Ok(sha256_of(&encode_unit(alloc, unit)?))
 }
 
 /// The one spelling of a vertex whose units keep the limits of their format.
@@ -58,8 +58,7 @@ pub fn instance_of(alloc: Global, config: &Config) -> Result<Digest, OutOfMemory
     requires { ConfigFits config.now }
     ensures { IfOk result (λ instance. instance ≡ instance_of config.now) }
 {
-    let spelling = encode_config(alloc, config)?;
-    Ok(Digest(Sha256::digest(spelling.as_slice())))
+    Ok(sha256_of(&encode_config(alloc, config)?))
 }
 
 /// The one spelling of a frame, without its length. Units in it keep the limits of their format,
@@ -71,4 +70,10 @@ pub fn encode_frame(alloc: Global, frame: &Frame) -> Result<Bytes, OutOfMemory>
     let mut out = Vec::with_capacity(alloc, frame_len(frame))?;
     put_frame(frame, &mut out)?;
     Ok(Bytes::from_vec(out))
+}
+
+fn sha256_of(bytes: &Bytes) -> Digest
+    ensures { result ≡ record { 0 = sha256 bytes.now } }
+{
+    Digest(Sha256::digest(bytes.as_slice()))
 }

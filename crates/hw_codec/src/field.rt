@@ -42,12 +42,7 @@ pub(crate) trait Field: Copy {
 }
 
 /// An empty list with room for as many items as are wanted and fit in the bytes that are left.
-fn room_for<T>(
-    alloc: Global,
-    count: u32,
-    left: usize,
-    least: usize,
-) -> Result<Vec<T>, OutOfMemory>
+fn room_for<T>(alloc: Global, count: u32, left: usize, least: usize) -> Result<Vec<T>, OutOfMemory>
     requires { 0 < least }
     ensures empty { IfOk result (λ list. list.items ≡ []) }
     ensures wanted { IfOk result (λ list. vec_capacity list ≤ count) }
@@ -58,7 +53,11 @@ fn room_for<T>(
 }
 
 /// Reads so many items.
-fn many<F: Field>(alloc: Global, count: u32, reader: &mut Reader<'_>) -> Result<Items<F>, CodecError>
+fn many<F: Field>(
+    alloc: Global,
+    count: u32,
+    reader: &mut Reader<'_>,
+) -> Result<Items<F>, CodecError>
     ensures { Gives (λ list. (list, reader.new)) result (many_at F.at count reader.old) }
 {
     let mut list = Items::from_vec(room_for(alloc, count, reader.left(), F::LEAST)?);

@@ -1,5 +1,5 @@
 -- What a log says: the whole grammar, read from left to right, with the first error and its place.
-use Rattle.std.specs.Prelude.{ℕ, zero, suc, ◌+◌, Bool, nat_lt, nat_le, ◌==◌, not, if◌then◌else◌, List, [], ◌∷◌, ◌++◌, length, take, drop, slice_index, nat_eq, codes, Option, Some, None, Result, Ok, Err}
+use Rattle.std.specs.Prelude.{ℕ, zero, suc, ◌+◌, Bool, nat_lt, ◌==◌, not, if◌then◌else◌, List, [], ◌∷◌, ◌++◌, length, take, drop, slice_index, nat_eq, codes, Option, Some, None, Result, Ok, Err}
 use Rattle.std.specs.Int.{w32, from_be_bytes}
 use Rattle.std.specs.List.{starts_with}
 use Rattle.hw_types.specs.declared.config.Config.{Config}
@@ -19,9 +19,13 @@ abbrev pub ◌>>=◌ : {A B : Type 0} → Result A LogError → (A → Result B 
 (Ok x) >>= f = f x
 (Err e) >>= f = Err e
 
+-- so many bytes from a place of the log on
+abbrev pub rest_at : ℕ → List ℕ → Rest
+rest_at place bytes = record { place = place; bytes = bytes }
+
 -- the next n bytes and what is left behind them, or the error where fewer are left
 abbrev pub bytes_at : ℕ → LogError → Rest → Result (List ℕ × Rest) LogError
-bytes_at n torn r = if nat_lt (length r.bytes) n then Err torn else Ok (take n r.bytes, record { place = r.place + n; bytes = drop n r.bytes })
+bytes_at n torn r = if nat_lt (length r.bytes) n then Err torn else Ok (take n r.bytes, rest_at (r.place + n) (drop n r.bytes))
 
 -- what a codec answers, with its error as one of the log
 abbrev pub decoded : {A : Type 0} → (CodecError → LogError) → Result A CodecError → Result A LogError
@@ -56,7 +60,7 @@ checked_config bytes = decoded BadConfig (config_of bytes) >>= λ config. refuse
 unfoldable pub header_of : List ℕ → Result (Config × Rest) LogError
 header_of bytes = do
   n ← config_length (take 9 bytes)
-  spelled ← bytes_at n (Torn 9) (record { place = 9; bytes = drop 9 bytes })
+  spelled ← bytes_at n (Torn 9) (rest_at 9 (drop 9 bytes))
   config ← checked_config spelled.0
   Ok (config, spelled.1)
 
@@ -70,14 +74,25 @@ head_of at head =
     else if is_too_long (from_be_bytes w32 (drop 2 head)) then Err (TooLong at)
     else Ok (record { verdict = slice_index head 1 == 1; length = from_be_bytes w32 (drop 2 head) })
 
+unfoldable pub head_at : Rest → Result (EntryHead × Rest) LogError
+head_at r = do
+  head ← bytes_at 6 (Torn r.place) r
+  said ← head_of r.place head.0
+  Ok (said, head.1)
+
+-- the vertex of so many bytes, in the entry at this place
+unfoldable pub body_at : ℕ → ℕ → Rest → Result (Vertex × Rest) LogError
+body_at at n r = do
+  spelled ← bytes_at n (Torn at) r
+  vertex ← decoded (BadVertex at) (vertex_of spelled.0)
+  Ok (vertex, spelled.1)
+
 -- the entry that begins here, and what is left behind it
 unfoldable pub entry_at : Rest → Result (LogEntry × Rest) LogError
 entry_at r = do
-  head ← bytes_at 6 (Torn r.place) r
-  said ← head_of r.place head.0
-  spelled ← bytes_at said.length (Torn r.place) head.1
-  vertex ← decoded (BadVertex r.place) (vertex_of spelled.0)
-  Ok (record { at = r.place; verdict = said.verdict; vertex = vertex }, spelled.1)
+  head ← head_at r
+  body ← body_at r.place head.0.length head.1
+  Ok (record { at = r.place; verdict = head.0.verdict; vertex = body.0 }, body.1)
 
 -- what comes next: an entry and what is left behind it, or none at the end of the bytes
 unfoldable pub next_at : Rest → Result (Option LogEntry × Rest) LogError

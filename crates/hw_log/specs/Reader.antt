@@ -3,7 +3,7 @@ use Rattle.std.specs.Prelude.{ℕ, ◌+◌, ◌≤◌, ◌^◌, List, ◌++◌, 
 use Rattle.hw_types.specs.declared.config.Config.{Config}
 use Rattle.hw_types.specs.Reading.{Rest}
 use Rattle.hw_log.specs.declared.error.LogError.{LogError}
-use Rattle.hw_log.specs.Log.{header_of}
+use Rattle.hw_log.specs.Log.{rest_at, header_of}
 use Rattle.hw_log.specs.Causes.{Gives, IsOutside}
 
 -- what a reader knows: the log's configuration, the place of the next entry, and what was read of the file and not yet used
@@ -11,10 +11,6 @@ pub record Reading : Type 0 where
   pub config : Config
   pub place : ℕ
   pub held : List ℕ
-
--- so many bytes from a place of the log on
-abbrev pub rest_at : ℕ → List ℕ → Rest
-rest_at place bytes = record { place = place; bytes = bytes }
 
 -- what is left of the log: what the reader holds, and then what is unread of the file
 abbrev pub left_of : Reading → List ℕ → Rest
@@ -24,9 +20,13 @@ left_of reader unread = rest_at reader.place (reader.held ++ unread)
 abbrev pub ahead_of : Reading → ℕ → ℕ
 ahead_of reader allowance = length reader.held + allowance
 
+-- how many bytes the file has at most, as far as the reader knows
+abbrev pub end_of : Reading → ℕ → ℕ
+end_of reader allowance = reader.place + ahead_of reader allowance
+
 -- no place that the reader may come to is above 2^62
 abbrev pub PlacesFit : Reading → ℕ → Type 0
-PlacesFit reader allowance = reader.place + ahead_of reader allowance ≤ 2 ^ 62
+PlacesFit reader allowance = end_of reader allowance ≤ 2 ^ 62
 
 -- The answer is what the header of the file says, with the reader behind it. Where there is no file, a read fails.
 abbrev pub Opens : Option (List ℕ) → List ℕ → Result Reading LogError → Type 0

@@ -1,6 +1,7 @@
 //! The fixed parts: the front of a log, and the head of an entry.
 
-ghost use Rattle.std.specs.Prelude.{◌≡◌, ◌≤◌, ◌<◌, length, IfOk};
+ghost use Rattle.std.specs.Prelude.{◌≡◌, ◌≤◌, ◌<◌, length, IfOk, IfErr, OnOk};
+ghost use Rattle.hw_log.specs.Causes.{IsOfBytes};
 ghost use Rattle.hw_log.specs.Log.{config_length, head_of};
 
 use crate::error::LogError;
@@ -36,6 +37,8 @@ pub struct EntryHead {
 pub fn config_length(front: &[u8]) -> Result<usize, LogError>
     requires { length front.now ≤ FRONT_LENGTH }
     ensures said { result ≡ config_length front.now }
+    ensures error { IfErr result IsOfBytes }
+    ensures whole { OnOk result (length front.now ≡ FRONT_LENGTH) }
     ensures limit { IfOk result (λ n. n ≤ MAX_LENGTH) }
 {
     if !front.starts_with(&MAGIC) {
@@ -62,6 +65,7 @@ pub fn config_length(front: &[u8]) -> Result<usize, LogError>
 pub fn head_of(at: u64, head: &[u8]) -> Result<EntryHead, LogError>
     requires { length head.now ≡ HEAD_LENGTH }
     ensures said { result ≡ head_of at head.now }
+    ensures error { IfErr result IsOfBytes }
     ensures limit { IfOk result (λ said. said.length ≤ MAX_LENGTH) }
 {
     if head[0] != VERTEX_EVENT {

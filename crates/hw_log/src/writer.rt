@@ -1,14 +1,14 @@
 //! Writing a log.
 
-ghost use Rattle.std.specs.Prelude.{◌≡◌, ◌≢◌, ◌≤◌, Some, length, IsTrue, IfOk, OnOk};
+ghost use Rattle.std.specs.Prelude.{◌≡◌, ◌≢◌, Some, IsTrue, IfOk};
 ghost use Rattle.hw_io.specs.Files.{Appended};
-ghost use Rattle.hw_types.specs.Spelling.{ConfigFits, VertexFits, vertex_bytes};
+ghost use Rattle.hw_types.specs.Spelling.{ConfigFits, VertexFits};
 ghost use Rattle.hw_log.specs.Log.{header_bytes, entry_bytes};
 ghost use Rattle.hw_log.specs.Causes.{HasAppendCause};
 
 use crate::error::{LogError, error_of_append};
-use crate::head::{MAGIC, MAX_LENGTH, VERSION, VERTEX_EVENT};
-use hw_codec::{encode_config, encode_vertex};
+use crate::head::{MAGIC, VERSION, VERTEX_EVENT};
+use hw_codec::{config_is_in_range, encode_config, encode_vertex, vertex_is_in_range};
 use hw_io::Files;
 use hw_types::{Bytes, Config, OutOfMemory, Vertex};
 use std::alloc::Global;
@@ -38,13 +38,14 @@ pub fn append_header<F: Files>(
 }
 
 /// The entry of this vertex with the verdict on its signatures, as it stands in a log.
+#[tactic(auto, using(crate::proofs::LengthLaws::vertex_short))]
 pub fn entry_bytes(alloc: Global, verdict: bool, vertex: &Vertex) -> Result<Bytes, OutOfMemory>
     requires { VertexFits vertex.now }
-    ensures bytes { IfOk result (λ bytes. bytes ≡ entry_bytes verdict vertex.now) }
-    ensures limit { OnOk result (length (vertex_bytes vertex.now) ≤ MAX_LENGTH) }
+    ensures { IfOk result (λ bytes. bytes ≡ entry_bytes verdict vertex.now) }
 {
     let spelling = encode_vertex(alloc, vertex)?;
-    let length = length_of(&spelling)?;
+    vertex_is_in_range(vertex);
+    let length = spelling.len() as u32;
     let mut entry = Bytes::new(alloc);
     entry.push(VERTEX_EVENT)?;
     entry.push(u8::from(verdict))?;
@@ -86,29 +87,18 @@ fn append<F: Files>(files: &mut F, name: &str, bytes: &[u8]) -> Result<(), LogEr
 }
 
 /// The header of a log with this configuration.
+#[tactic(auto, using(crate::proofs::LengthLaws::config_short))]
 fn spelled_header(alloc: Global, config: &Config) -> Result<Bytes, OutOfMemory>
     requires { ConfigFits config.now }
     ensures { IfOk result (λ bytes. bytes ≡ header_bytes config.now) }
 {
     let spelling = encode_config(alloc, config)?;
-    let length = length_of(&spelling)?;
+    config_is_in_range(config);
+    let length = spelling.len() as u32;
     let mut header = Bytes::new(alloc);
     header.extend(&MAGIC)?;
     header.push(VERSION)?;
     header.extend(&length.to_be_bytes())?;
     header.extend(spelling.as_slice())?;
     Ok(header)
-}
-
-/// How many bytes a spelling has. One above the limit of a log, which no value that keeps the
-/// limits of its format has, would be answered as if there were no memory for it.
-fn length_of(spelling: &Bytes) -> Result<u32, OutOfMemory>
-    ensures length { IfOk result (λ n. n ≡ length spelling.now) }
-    ensures limit { OnOk result (length spelling.now ≤ MAX_LENGTH) }
-{
-    let length = spelling.len();
-    if length > MAX_LENGTH {
-        return Err(OutOfMemory);
-    }
-    Ok(length as u32)
 }

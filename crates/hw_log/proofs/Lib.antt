@@ -1,0 +1,4 @@
+pub mod CauseLaws
+pub mod FieldLaws
+pub mod OpenLaws
+pub mod LengthLaws
