@@ -2,3 +2,5 @@ pub mod CauseLaws
 pub mod FieldLaws
 pub mod OpenLaws
 pub mod LengthLaws
+pub mod EntryLaws
+pub mod RunLaws

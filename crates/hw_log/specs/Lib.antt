@@ -1,3 +1,4 @@
 pub mod Log
 pub mod Causes
 pub mod Reader
+pub mod Whole

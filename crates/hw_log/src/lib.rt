@@ -9,9 +9,11 @@ mod entry;
 mod error;
 mod head;
 mod reader;
+mod whole;
 mod writer;
 
 pub use entry::LogEntry;
 pub use error::LogError;
 pub use reader::LogReader;
+pub use whole::{Log, read_log};
 pub use writer::{append_entry, append_header, entry_bytes};

@@ -66,6 +66,13 @@ impl LogReader {
         &self.config
     }
 
+    /// That configuration, and an end to the reading.
+    pub(crate) fn into_config(self) -> Config
+        ensures { result ≡ self.config }
+    {
+        self.config
+    }
+
     /// The next entry, or none at the end of the file where an entry ends.
     ///
     /// The file that `files` began last has to be this reader's, and nothing else may have read of
