@@ -1,8 +1,9 @@
 -- Look-ups in a table of units by their names.
-use Rattle.std.proofs.Common.{◌≡◌, ℕ, Bool, true, false, cond, ◌&&◌, ◌||◌, List, [], ◌∷◌, ◌++◌, map, Option, Some, None, is_some, inl, inr, refl, sym, ap, subst, ◌∙◌}
+use Rattle.std.proofs.Common.{◌≡◌, ℕ, Bool, true, false, cond, ◌&&◌, ◌||◌, List, [], ◌∷◌, ◌++◌, map, Option, Some, None, is_some, inl, inr, Bor, refl, sym, ap, subst, ◌∙◌}
 use lib.Pointwise.{bytes_decides, pointwise_decides}
 use Rattle.std.specs.Map.{lookup}
 use Rattle.std.specs.List.{list_any}
+use Rattle.std.specs.Option.{option_copied}
 use Rattle.std.proofs.lemmas.Bool.{eq-eqb, and_from, or_parts, or_from, or_left, or_right, or_cases, false_from_ne_true}
 use Rattle.std.proofs.lemmas.List.{map-append}
 use Rattle.std.proofs.lemmas.List.Folds.{list_any-append}
@@ -91,6 +92,11 @@ pub has_name-push : (units : List WireUnit) (u : WireUnit) (d : Digest) → has_
 unfolding has_name
 has_name-push units u d = list_any-append (λ v. digest_eq (digest_of v) d) units (u ∷ []) ∙ ap (λ b. has_name units d || b) (or_none (digest_eq (digest_of u) d) false refl)
 
+-- what is found is seen through a borrow
+pub some_copied : {T : Type 0} (o : Option (Bor T)) → is_some o ≡ is_some (option_copied o)
+some_copied None = refl
+some_copied (Some x) = refl
+
 -- ---- the table, looked up by an exact test of its keys
 
 module _ (E : Digest → Digest → Bool) (exact : IsExact E) where
@@ -129,6 +135,10 @@ module _ (E : Digest → Digest → Bool) (exact : IsExact E) where
       go false is rest =
           let other : unit_eq u e.1 ≡ false = false_from_ne_true _ (λ h. absurd (apart (E (digest_of u) e.0) is ((exact (digest_of u) e.0).1 (ap digest_of (unit_same u e.1 h) ∙ sym named.0)))) in
           ap (λ b. b || holds (units_in es) u) other ∙ rest
+
+  -- the same, by what the look-up answered
+  pub holds-found : (es : List (Digest × WireUnit)) → AreNamed es → (d : Digest) (u : WireUnit) → d ≡ digest_of u → (o : Option WireUnit) → o ≡ lookup (E d) es → holds (units_in es) u ≡ is_found u o
+  holds-found es named d u is o at = found-holds es named u ∙ ap (is_found u) (sym (at ∙ ap (λ x. lookup (E x) es) is))
 
   -- a name that isn't there isn't found
   pub lookup-new : (es : List (Digest × WireUnit)) → AreNamed es → (d : Digest) → has_name (units_in es) d ≡ false → lookup (E d) es ≡ None

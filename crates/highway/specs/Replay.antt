@@ -1,5 +1,5 @@
 -- What the replay of a log says, by the log's bytes.
-use Rattle.std.specs.Prelude.{ℕ, ◌+◌, Bool, ◌&&◌, ◌||◌, not, nat_le, ◌==◌, List, [], ◌∷◌, ◌++◌, length, take, Option, Some, None, is_some, Result, Ok, Err, codes, if◌then◌else◌}
+use Rattle.std.specs.Prelude.{ℕ, ◌+◌, Bool, ◌&&◌, not, nat_le, ◌==◌, List, [], ◌∷◌, ◌++◌, length, take, Option, Some, None, is_some, Result, Ok, Err, codes, if◌then◌else◌}
 use Rattle.std.specs.List.{list_any}
 use Rattle.std.specs.Option.{option_and_then}
 use Rattle.hw_types.specs.declared.unit.WireUnit.{WireUnit}
@@ -34,14 +34,23 @@ is_plain u = (length u.endorsed == 0) && not (list_any is_faulty_mark u.panorama
 abbrev pub is_full : Config → List WireUnit → Bool
 is_full config units = nat_le config.max_records (length units)
 
--- what becomes of a unit, where the journal has these units
+-- A unit that isn't among these can go last: no other has its name, there is room, and what it cites is there.
+abbrev pub can_join : Config → List WireUnit → WireUnit → Bool
+can_join config units u = not (has_name units (digest_of u)) && not (is_full config units) && cites_known units u
+
+-- what becomes of a unit of the form that is built, where the journal has these units
+unfoldable pub plain_outcome_of : Config → List WireUnit → WireUnit → Outcome
+plain_outcome_of config units u =
+    if holds units u then Repeated
+    else if can_join config units u then Joined
+    else NotBuilt
+
+-- what becomes of a unit
 unfoldable pub outcome_of : Config → List WireUnit → WireUnit → Outcome
 outcome_of config units u =
     if breaks_first_rules config u then Refused
-    else if not (is_plain u) then NotBuilt
-    else if holds units u then Repeated
-    else if has_name units (digest_of u) || is_full config units || not (cites_known units u) then NotBuilt
-    else Joined
+    else if is_plain u then plain_outcome_of config units u
+    else NotBuilt
 
 -- ---- the entries, one after the other; none where one isn't built
 

@@ -1,12 +1,14 @@
 //! The replay of a log: its units are taken in order, and counted.
 
-ghost use Rattle.std.specs.Prelude.{◌≡◌, false, ◌+◌, ◌<◌, ◌≤◌, ◌^◌, Some, IsTrue, IfOk, IfErr, IfSome, not, length};
+ghost use Rattle.std.specs.Prelude.{◌≡◌, ◌↔◌, ◌+◌, ◌<◌, ◌≤◌, ◌^◌, Some, IsTrue, IfOk, IfErr, IfSome, length};
 ghost use Rattle.hw_io.specs.Files.{SameFiles};
+ghost use Rattle.std.specs.List.{list_any};
+ghost use Rattle.hw_types.specs.Graph.{is_faulty_mark};
 ghost use Rattle.hw_types.specs.Spelling.{Fits, VertexFits, ConfigFits, digest_of, instance_of};
 ghost use Rattle.hw_log.specs.Log.{entries_of};
 ghost use Rattle.hw_log.specs.Reader.{left_of, PlacesFit};
-ghost use Rattle.highway.specs.Journals.{has_name, is_known, cites_known};
-ghost use Rattle.highway.specs.Replay.{breaks_first_rules, is_plain, is_full, outcome_of, unit_taken, entry_taken, entries_ended, nothing_taken, replay_ended};
+ghost use Rattle.highway.specs.Journals.{is_known, cites_known};
+ghost use Rattle.highway.specs.Replay.{breaks_first_rules, is_plain, is_full, can_join, plain_outcome_of, outcome_of, unit_taken, entry_taken, entries_ended, nothing_taken, replay_ended};
 ghost use Rattle.highway.specs.Replay.{input_ended};
 ghost use Rattle.highway.specs.Texts.{log_text};
 ghost use Rattle.highway.specs.Faults.{IsEnd, HasReadFault};
@@ -129,6 +131,7 @@ fn take(
     }
 }
 
+#[tactic(auto, using(crate::proofs::OutcomeLaws::joined_is_new))]
 fn take_unit(
     alloc: Global,
     config: &Config,
@@ -153,6 +156,7 @@ fn take_unit(
 }
 
 /// What becomes of a unit, whose name is its digest.
+#[tactic(auto, unfolding(crate::specs::Replay::outcome_of))]
 fn outcome_of(
     config: &Config,
     instance: &Digest,
@@ -162,28 +166,43 @@ fn outcome_of(
 ) -> Outcome
     requires instance { instance.now ≡ instance_of config.now }
     requires name { name.now ≡ digest_of unit.now }
-    ensures outcome { result ≡ outcome_of config.now journal.now unit.now }
-    ensures new { result ≡ Outcome.Joined → has_name journal.now name.now ≡ false }
+    ensures { result ≡ outcome_of config.now journal.now unit.now }
 {
-    if !keeps_first_rules(config, instance, unit) {
-        return Outcome::Refused;
+    if breaks_first_rules(config, instance, unit) {
+        Outcome::Refused
+    } else if is_plain(unit) {
+        plain_outcome_of(config, journal, name, unit)
+    } else {
+        Outcome::NotBuilt
     }
-    if !is_plain(unit) {
-        return Outcome::NotBuilt;
-    }
+}
+
+/// What becomes of a unit of the form that is built, whose name is its digest.
+#[tactic(auto, unfolding(crate::specs::Replay::plain_outcome_of))]
+fn plain_outcome_of(config: &Config, journal: &Journal, name: &Digest, unit: &WireUnit) -> Outcome
+    requires { name.now ≡ digest_of unit.now }
+    ensures { result ≡ plain_outcome_of config.now journal.now unit.now }
+{
     if journal.holds(name, unit) {
-        return Outcome::Repeated;
+        Outcome::Repeated
+    } else if can_join(config, journal, name, unit) {
+        Outcome::Joined
+    } else {
+        Outcome::NotBuilt
     }
-    if journal.has_name(name) || is_full(config, journal) || !cites_known(journal, unit) {
-        return Outcome::NotBuilt;
-    }
-    Outcome::Joined
+}
+
+/// Whether the unit breaks one of the first three rules.
+fn breaks_first_rules(config: &Config, instance: &Digest, unit: &WireUnit) -> bool
+    requires { instance.now ≡ instance_of config.now }
+    ensures { result ≡ breaks_first_rules config.now unit.now }
+{
+    !keeps_first_rules(config, instance, unit)
 }
 
 /// Whether the unit is of this instance, by a validator, and observes each validator once.
 fn keeps_first_rules(config: &Config, instance: &Digest, unit: &WireUnit) -> bool
-    requires { instance.now ≡ instance_of config.now }
-    ensures { result ≡ not (breaks_first_rules config.now unit.now) }
+    ensures { IsTrue result ↔ ((unit.now.instance ≡ instance.now) × (unit.now.creator < length config.now.weights) × (length unit.now.panorama ≡ length config.now.weights)) }
 {
     unit.instance == *instance
         && (unit.creator as usize) < config.weights.len()
@@ -194,7 +213,30 @@ fn keeps_first_rules(config: &Config, instance: &Digest, unit: &WireUnit) -> boo
 fn is_plain(unit: &WireUnit) -> bool
     ensures { result ≡ is_plain unit.now }
 {
-    unit.endorsed.len() == 0 && !unit.panorama.as_slice().iter().any(|obs| *obs == Obs::Faulty)
+    unit.endorsed.len() == 0 && !observes_faulty(unit)
+}
+
+fn observes_faulty(unit: &WireUnit) -> bool
+    ensures { result ≡ list_any is_faulty_mark unit.now.panorama }
+{
+    unit.panorama.as_slice().iter().any(|obs| is_faulty_mark(obs))
+}
+
+fn is_faulty_mark(obs: &Obs) -> bool
+    ensures { result ≡ is_faulty_mark obs.now }
+{
+    match obs {
+        Obs::Faulty => true,
+        Obs::Absent | Obs::Correct(_) => false,
+    }
+}
+
+/// Whether a unit that isn't in the journal, and whose name is its digest, can go last in it.
+fn can_join(config: &Config, journal: &Journal, name: &Digest, unit: &WireUnit) -> bool
+    requires { name.now ≡ digest_of unit.now }
+    ensures { result ≡ can_join config.now journal.now unit.now }
+{
+    !journal.has_name(name) && !is_full(config, journal) && cites_known(journal, unit)
 }
 
 /// Whether the journal is as long as it may be.
