@@ -7,6 +7,8 @@ mod journal;
 mod replay;
 mod report;
 mod run;
+#[cfg(test)]
+mod tests;
 mod texts;
 mod words;
 

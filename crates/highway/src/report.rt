@@ -1,8 +1,8 @@
 //! The lines of a run.
 
-ghost use Rattle.std.specs.Prelude.{◌≡◌, ◌++◌, length, IfOk, OnOk, codes};
+ghost use Rattle.std.specs.Prelude.{◌≡◌, ◌++◌, IfOk, OnOk, codes};
 ghost use Rattle.highway.specs.Replay.{report_ended, input_ended};
-ghost use Rattle.highway.specs.Texts.{usage_line, log_text, input_line, report_line};
+ghost use Rattle.highway.specs.Texts.{usage_line, log_text, line_feed};
 
 use crate::ended::{DONE, Ended, INPUT, USAGE};
 use crate::replay::Taken;
@@ -36,7 +36,7 @@ pub fn report(alloc: Global, taken: &Taken) -> Result<Ended, OutOfMemory>
     put_number(&mut text, taken.refused)?;
     put_word(&mut text, " repeats ")?;
     put_number(&mut text, taken.repeats)?;
-    put_word(&mut text, "\n")?;
+    end_line(&mut text)?;
     Ok(Ended { status: DONE, text })
 }
 
@@ -47,7 +47,7 @@ pub fn not_built(alloc: Global, log: &str) -> Result<Ended, OutOfMemory>
 {
     let mut text = input(alloc, log)?;
     put_word(&mut text, "not built")?;
-    put_word(&mut text, "\n")?;
+    end_line(&mut text)?;
     Ok(Ended {
         status: INPUT,
         text,
@@ -61,7 +61,7 @@ pub fn bad_log(alloc: Global, log: &str, error: LogError) -> Result<Ended, OutOf
 {
     let mut text = input(alloc, log)?;
     put_error(&mut text, error)?;
-    put_word(&mut text, "\n")?;
+    end_line(&mut text)?;
     Ok(Ended {
         status: INPUT,
         text,
@@ -77,4 +77,10 @@ fn input(alloc: Global, name: &str) -> Result<Bytes, OutOfMemory>
     put_word(&mut text, name)?;
     put_word(&mut text, ": ")?;
     Ok(text)
+}
+
+fn end_line(text: &mut Bytes) -> Result<(), OutOfMemory>
+    ensures { OnOk result (text.new ≡ text.old ++ line_feed) }
+{
+    put_word(text, "\n")
 }
