@@ -1,8 +1,7 @@
 -- Look-ups in a table of units by their names.
-use Rattle.std.proofs.Common.{◌≡◌, ℕ, Bool, true, false, cond, ◌&&◌, ◌||◌, List, [], ◌∷◌, ◌++◌, map, Option, Some, None, is_some, inl, inr, Bor, refl, sym, ap, subst, ◌∙◌}
+use Rattle.std.proofs.Common.{◌≡◌, ℕ, Bool, true, false, cond, ◌||◌, List, [], ◌∷◌, ◌++◌, map, Option, Some, None, is_some, inl, inr, Bor, refl, sym, ap, subst, ◌∙◌}
 use lib.Pointwise.{bytes_decides, pointwise_decides}
 use Rattle.std.specs.Map.{lookup}
-use Rattle.std.specs.List.{list_any}
 use Rattle.std.specs.Option.{option_copied}
 use Rattle.std.proofs.lemmas.Bool.{eq-eqb, and_from, or_parts, or_from, or_left, or_right, or_cases, false_from_ne_true}
 use Rattle.std.proofs.lemmas.List.{map-append}
@@ -58,14 +57,14 @@ value_self (Some x) = (bytes_decides x x).1 refl
 pub unit_self : (u : WireUnit) → unit_eq u u ≡ true
 unit_self u =
     and_from _ _ (and_from _ _ (and_from _ _ (and_from _ _ (and_from _ _ (and_from _ _ (and_from _ _
-        (digest_self u.instance)
-        (eq-eqb u.creator u.creator refl))
-        (eq-eqb u.seq u.seq refl))
-        (eq-eqb u.time u.time refl))
-        (eq-eqb u.exponent u.exponent refl))
-        ((pointwise_decides obs_exact u.panorama u.panorama).1 refl))
-        (value_self u.value))
-        ((pointwise_decides digest_exact u.endorsed u.endorsed).1 refl)
+    (digest_self u.instance)
+    (eq-eqb u.creator u.creator refl))
+    (eq-eqb u.seq u.seq refl))
+    (eq-eqb u.time u.time refl))
+    (eq-eqb u.exponent u.exponent refl))
+    ((pointwise_decides obs_exact u.panorama u.panorama).1 refl))
+    (value_self u.value))
+    ((pointwise_decides digest_exact u.endorsed u.endorsed).1 refl)
 
 -- the test is whether the two are one
 pub unit_test : (u v : WireUnit) (b : Bool) → (b ≡ true → u ≡ v) → (u ≡ v → b ≡ true) → b ≡ unit_eq u v
@@ -155,8 +154,8 @@ AreNamed-push [] named d u is new = (is, refl, tt)
 AreNamed-push (e ∷ es) named d u is new =
     let parts = or_parts (digest_eq (digest_of e.1) d) (has_name (units_in es) d) new in
     let other : digest_eq (digest_of u) e.0 ≡ false =
-        false_from_ne_true _ (λ h. absurd (apart (digest_eq (digest_of e.1) d) parts.0
-            (subst (λ c. digest_eq c d ≡ true) (is ∙ digest_same (digest_of u) e.0 h ∙ named.0) (digest_self d)))) in
+    false_from_ne_true _ (λ h. absurd (apart (digest_eq (digest_of e.1) d) parts.0
+    (subst (λ c. digest_eq c d ≡ true) (is ∙ digest_same (digest_of u) e.0 h ∙ named.0) (digest_self d)))) in
     let new_key : has_name (units_in (es ++ (d, u) ∷ [])) e.0 ≡ false =
-        ap (λ units. has_name units e.0) (map-append unit_in es ((d, u) ∷ [])) ∙ has_name-push (units_in es) u e.0 ∙ or_from _ _ named.1 other in
+    ap (λ units. has_name units e.0) (map-append unit_in es ((d, u) ∷ [])) ∙ has_name-push (units_in es) u e.0 ∙ or_from _ _ named.1 other in
     (named.0, new_key, AreNamed-push es named.2 d u is parts.1)

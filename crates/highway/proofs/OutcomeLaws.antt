@@ -1,5 +1,5 @@
 -- What becomes of a unit, by its tests.
-use Rattle.std.proofs.Common.{◌≡◌, ◌↔◌, ℕ, ◌<◌, Bool, true, false, cond, not, ◌&&◌, leb, eqb, List, length, Option, Some, None, is_some, IsTrue, refl, sym, ap, subst, ◌∙◌}
+use Rattle.std.proofs.Common.{◌≡◌, ◌↔◌, ◌<◌, Bool, true, false, cond, not, ◌&&◌, leb, eqb, List, length, Some, None, is_some, IsTrue, refl, sym, ap, subst, ◌∙◌}
 use Rattle.std.proofs.lemmas.Bool.{lt-leb, leb-false, eqb-true, eq-eqb}
 use Rattle.hw_types.specs.declared.unit.Digest.{Digest}
 use Rattle.hw_types.specs.declared.unit.WireUnit.{WireUnit}
@@ -8,7 +8,6 @@ use Rattle.hw_types.specs.Graph.{digest_eq}
 use Rattle.hw_types.specs.Rules.{local_tests}
 use Rattle.hw_types.specs.Spelling.{digest_of, instance_of}
 use Rattle.hw_types.proofs.SettledLaws.{digest_same, digest_self}
-use Rattle.highway.specs.declared.replay.Outcome.{Outcome}
 use Rattle.highway.specs.declared.replay.Outcome.TheVariants.{Joined, Repeated, Refused, NotBuilt}
 use Rattle.highway.specs.Journals.{has_name, holds, cites_known}
 use Rattle.highway.specs.Replay.{breaks_first_rules, is_plain, is_full, plain_outcome_of, outcome_of}
@@ -43,11 +42,11 @@ rules_test config instance u b is kept =
     let d = leb weights u.creator in
     let e = eqb (length u.panorama) weights in
     let there : cond a (cond d false e) false ≡ true → b ≡ true = λ h.
-        let p = passed a d e h in
-        kept.1 (digest_same u.instance (instance_of config) p.0 ∙ sym is, leb-false weights u.creator p.1, eqb-true (length u.panorama) weights p.2) in
+    let p = passed a d e h in
+    kept.1 (digest_same u.instance (instance_of config) p.0 ∙ sym is, leb-false weights u.creator p.1, eqb-true (length u.panorama) weights p.2) in
     let back : b ≡ true → cond a (cond d false e) false ≡ true = λ h.
-        let k = kept.0 h in
-        pass a d e (subst (λ i. digest_eq u.instance i ≡ true) (k.0 ∙ is) (digest_self u.instance)) (lt-leb weights u.creator k.1) (eq-eqb (length u.panorama) weights k.2) in
+    let k = kept.0 h in
+    pass a d e (subst (λ i. digest_eq u.instance i ≡ true) (k.0 ∙ is) (digest_self u.instance)) (lt-leb weights u.creator k.1) (eq-eqb (length u.panorama) weights k.2) in
     ap not (sym (same_tests (cond a (cond d false e) false) b there back)) ∙ sym (one_of a d e _ _ _)
 
 -- a unit that joins has a new name

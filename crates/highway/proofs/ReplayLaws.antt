@@ -1,14 +1,13 @@
 -- How a replay ends, one entry after the other.
-use Rattle.std.proofs.Common.{◌≡◌, ℕ, List, [], ◌∷◌, Option, Some, None, Result, Ok, Err, codes, refl, ap, ◌∙◌}
+use Rattle.std.proofs.Common.{◌≡◌, ℕ, List, Option, Some, None, Result, Ok, Err, codes, ap, ◌∙◌}
 use Rattle.std.specs.Option.{option_and_then}
 use Rattle.hw_types.specs.declared.config.Config.{Config}
 use Rattle.hw_types.specs.Reading.{Rest}
 use Rattle.hw_log.specs.declared.entry.LogEntry.{LogEntry}
 use Rattle.hw_log.specs.declared.error.LogError.{LogError}
-use Rattle.hw_log.specs.Log.{Entries, next_at, with_next, entries_of}
+use Rattle.hw_log.specs.Log.{next_at, with_next, entries_of}
 use Rattle.hw_log.proofs.EntryLaws.{entries_next}
 use Rattle.highway.specs.declared.replay.Taken.{Taken}
-use Rattle.highway.specs.declared.ended.Ended.{Ended}
 use Rattle.highway.specs.Texts.{log_text}
 use Rattle.highway.specs.Replay.{entry_taken, all_taken, taken_ended, entries_ended, input_ended, report_ended}
 

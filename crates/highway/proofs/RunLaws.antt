@@ -1,5 +1,5 @@
 -- What is written, one text after another.
-use Rattle.std.proofs.Common.{◌≡◌, ℕ, ◌≤◌, ◌<◌, List, ◌++◌, length, take, Option, Some, None, Result, Ok, Err, OnOk, OnErr, sym, subst, inl, inr, arith}
+use Rattle.std.proofs.Common.{ℕ, List, length, take, Option, Result, Ok, Err, OnOk, OnErr, sym, subst}
 use Rattle.std.proofs.KnownBytes.{Appends-nil, Appends-trans}
 use Rattle.std.proofs.Math.Seq.{take-length}
 use Rattle.std.specs.Io.KnownBytes.{Appends}

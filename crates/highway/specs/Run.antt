@@ -1,11 +1,11 @@
 -- What a run writes and answers.
-use Rattle.std.specs.Prelude.{◌≡◌, ℕ, ◌==◌, List, [], ◌∷◌, ◌++◌, take, Option, Some, None, ◌⊎◌, if◌then◌else◌}
+use Rattle.std.specs.Prelude.{◌≡◌, ℕ, ◌==◌, List, ◌++◌, take, Option, Some, None, ◌⊎◌, if◌then◌else◌}
 use Rattle.std.specs.Io.KnownBytes.{Appends}
 use Rattle.hw_io.specs.Faults.{Rose}
 use Rattle.hw_io.specs.Sinks.{AppendsPrefix}
 use Rattle.highway.specs.declared.ended.Ended.{Ended}
 use Rattle.highway.specs.Commands.{Request, Replay, request_of}
-use Rattle.highway.specs.Texts.{usage_line, read_fault_line, out_of_memory_line}
+use Rattle.highway.specs.Texts.{usage_line, out_of_memory_line}
 use Rattle.highway.specs.Replay.{replay_ended}
 
 abbrev pub request_ended : (List ℕ → Option (List ℕ)) → Option Request → Ended

@@ -12,15 +12,14 @@ mod tests;
 mod texts;
 mod words;
 
+use ended::OUT_OF_MEMORY;
 use hw_io::{Consumer, HostFiles, HostSink, SetClock, SureDoor};
 use hw_types::OutOfMemory;
-use ended::OUT_OF_MEMORY;
 use run::highway;
-use std::env;
-use std::io;
 use std::io::ErrorKind;
 use std::process::ExitCode;
 use std::rt::{Env, Runtime};
+use std::{env, io};
 use words::Words;
 
 fn main(rt: HostRuntime) -> ExitCode {

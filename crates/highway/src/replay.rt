@@ -219,7 +219,10 @@ fn is_plain(unit: &WireUnit) -> bool
 fn observes_faulty(unit: &WireUnit) -> bool
     ensures { result ≡ list_any is_faulty_mark unit.now.panorama }
 {
-    unit.panorama.as_slice().iter().any(|obs| is_faulty_mark(obs))
+    unit.panorama
+        .as_slice()
+        .iter()
+        .any(|obs| is_faulty_mark(obs))
 }
 
 fn is_faulty_mark(obs: &Obs) -> bool

@@ -48,12 +48,7 @@ fn files_with(alloc: Global, piece: usize, log: &[u8]) -> Result<MemFiles, Fail>
     Ok(files)
 }
 
-fn run(
-    alloc: Global,
-    words: &[&str],
-    files: &mut MemFiles,
-    out: &mut MemSink,
-) -> Result<u8, Fail> {
+fn run(alloc: Global, words: &[&str], files: &mut MemFiles, out: &mut MemSink) -> Result<u8, Fail> {
     let mut list = Words::new(alloc);
     for word in words {
         list.push(word)?;
@@ -86,7 +81,11 @@ fn words_are_kept_in_order(rt: HostRuntime) -> Result<(), Fail> {
 #[test]
 fn logs_are_counted_or_named_with_their_fault(rt: HostRuntime) -> Result<(), Fail> {
     let cases: [(&[&str], u8, &str); 7] = [
-        (&[HEADER], 0, "units 0 parked 0 dropped 0 refused 0 repeats 0\n"),
+        (
+            &[HEADER],
+            0,
+            "units 0 parked 0 dropped 0 refused 0 repeats 0\n",
+        ),
         (FOUR, 0, FOUR_UNITS),
         (
             &[HEADER, A0, A0, B0, A1, B1],

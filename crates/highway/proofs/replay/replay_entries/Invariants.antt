@@ -1,4 +1,4 @@
-use Rattle.std.proofs.Common.{◌≡◌, ℕ, ◌+◌, ◌≤◌, ◌^◌, IsTrue}
+use Rattle.std.proofs.Common.{◌≡◌, ◌+◌, ◌≤◌, ◌^◌, IsTrue}
 use Rattle.hw_io.specs.Files.{SameFiles}
 use Rattle.hw_log.specs.Log.{entries_of}
 use Rattle.hw_log.specs.Reader.{left_of, ahead_of, PlacesFit}
