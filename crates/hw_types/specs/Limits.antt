@@ -1,0 +1,53 @@
+-- The limits of a configuration.
+use Rattle.std.specs.Prelude.{ℕ, ◌-◌, ◌^◌, Bool, false, ◌&&◌, ◌||◌, not, nat_le, ◌==◌, List, [], ◌∷◌, length, position, unwrap_or, Option, is_some, sum}
+use Rattle.std.specs.List.{list_any}
+use Rattle.std.specs.Option.{option_or}
+use Rattle.hw_types.specs.declared.config.Config.{Config}
+use Rattle.hw_types.specs.declared.config.Leaders.{Leaders}
+use Rattle.hw_types.specs.declared.config.Leaders.TheVariants.{Table, Drawn}
+use Rattle.hw_types.specs.declared.config.ConfigFault.{ConfigFault}
+use Rattle.hw_types.specs.declared.config.ConfigFault.TheVariants.{Validators, ZeroWeight, Total, Threshold, Levels, Exponents, LeaderTable, Records, Parked}
+use Rattle.hw_types.specs.Tests.{Tests, first_broken}
+
+-- the number is neither below the one nor above the other
+abbrev pub is_within : ℕ → ℕ → ℕ → Bool
+is_within low high n = nat_le low n && nat_le n high
+
+abbrev pub is_zero : ℕ → Bool
+is_zero w = w == 0
+
+-- the first validator without weight
+abbrev pub first_zero : List ℕ → ℕ
+first_zero weights = unwrap_or (position is_zero weights) 0
+
+-- a table has 1 to 4,096 entries, each a validator
+abbrev pub is_bad_table : ℕ → Leaders → Bool
+is_bad_table validators (Table entries) = not (is_within 1 4096 (length entries)) || list_any (λ v. nat_le validators v) entries
+is_bad_table validators (Drawn key) = false
+
+-- ---- the limits in their order, each true where it is broken (ours)
+
+abbrev pub weight_tests : Config → Tests ConfigFault
+weight_tests c =
+    (Validators, not (is_within 1 256 (length c.weights)))
+    ∷ (ZeroWeight (first_zero c.weights), is_some (position is_zero c.weights))
+    ∷ (Total, not (nat_le (sum c.weights) (2 ^ 62 - 1)))
+    ∷ (Threshold, nat_le (sum c.weights) c.ftt)
+    ∷ []
+
+abbrev pub round_tests : Config → Tests ConfigFault
+round_tests c =
+    (Levels, not (is_within 1 30 c.levels))
+    ∷ (Exponents, not (nat_le 2 c.min_exponent && nat_le c.min_exponent c.max_exponent && nat_le c.max_exponent 40))
+    ∷ (LeaderTable, is_bad_table (length c.weights) c.leaders)
+    ∷ []
+
+abbrev pub room_tests : Config → Tests ConfigFault
+room_tests c =
+    (Records, not (is_within 1 131072 c.max_records))
+    ∷ (Parked, not (is_within 1 16384 c.max_parked))
+    ∷ []
+
+-- the first limit that the configuration breaks, or none
+unfoldable pub config_fault : Config → Option ConfigFault
+config_fault c = option_or (first_broken (weight_tests c)) (option_or (first_broken (round_tests c)) (first_broken (room_tests c)))

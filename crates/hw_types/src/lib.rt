@@ -1,0 +1,34 @@
+//! The values of the Highway protocol, its definitions, and the laws over them.
+//!
+//! The types are what validators exchange and what a node answers with. The definitions stand in
+//! `specs/`, over plain lists and numbers; each contract of the crates above cites them. The laws
+//! are public functions without a body, each with a statement about the definitions as its contract.
+#![tactic(auto)]
+
+mod answers;
+mod committee;
+mod config;
+mod items;
+mod laws;
+mod same;
+mod unit;
+
+pub use answers::{
+    Cause, CodecError, Culprit, Decision, Frame, PairFault, Plan, PlanKind, Receipt, Rule,
+};
+pub use committee::quorum;
+pub use config::{
+    Config, ConfigFault, Leaders, MAX_LEADERS, MAX_LEVELS, MAX_PARKED, MAX_RECORDS, MAX_TOTAL,
+    MAX_VALIDATORS,
+};
+pub use items::{
+    Bytes, CulpritList, DigestList, IndexList, Items, NeedList, ObsList, OutOfMemory, WeightList,
+};
+pub use laws::{
+    decisions_are_one, fork_is_the_walk, journal_is_bounded, lanes_are_histories,
+    longer_journal_grows, more_units_change_nothing, order_does_not_count, reach_is_a_chain,
+    receipt_tells_where, rounds_are_enough, settled_fork_is_the_walk, settled_is_lawful,
+    step_is_settled, tip_is_one, union_is_lawful,
+};
+pub use same::is_same_unit;
+pub use unit::{Digest, Endorsement, Evidence, Need, Obs, Signature, SignedUnit, Vertex, WireUnit};

@@ -1,0 +1,147 @@
+//! Units and vertices, as validators sign and exchange them.
+
+ghost use Rattle.std.specs.Prelude.{◌≡◌, IfOk};
+
+use crate::items::{Bytes, DigestList, ObsList, OutOfMemory};
+
+/// A SHA-256 digest: the name of a unit, or of an instance. Digests are ordered by their bytes.
+#[derive(Clone, Copy, Debug, PartialEq, Eq, PartialOrd, Ord, Hash)]
+pub struct Digest(pub [u8; 32]);
+
+/// A signature. What it proves is the caller's verdict.
+#[derive(Clone, Copy, Debug, PartialEq, Eq)]
+pub struct Signature(pub [u8; 32]);
+
+/// What a unit says of one validator.
+#[derive(Clone, Copy, Debug, PartialEq, Eq)]
+pub enum Obs {
+    /// No unit of it is known.
+    Absent,
+    /// This is its latest unit.
+    Correct(Digest),
+    /// It equivocated.
+    Faulty,
+}
+
+/// A unit without its signature.
+#[derive(Drop)]
+pub struct WireUnit {
+    /// The digest of the configuration that it belongs to.
+    pub instance: Digest,
+    /// The validator that made it.
+    pub creator: u32,
+    /// Its place on its creator's lane, from 0.
+    pub seq: u64,
+    /// When it was made, in milliseconds, below 2^63.
+    pub time: u64,
+    /// Its round lasts 2^exponent milliseconds.
+    pub exponent: u8,
+    /// What it says of each validator, in their order.
+    pub panorama: ObsList,
+    /// A unit with a value is a block.
+    pub value: Option<Bytes>,
+    /// The endorsed units that it relies on, in rising order.
+    pub endorsed: DigestList,
+}
+
+/// A unit with its creator's signature.
+#[derive(Drop)]
+pub struct SignedUnit {
+    pub unit: WireUnit,
+    pub signature: Signature,
+}
+
+/// Two units that show that their creator equivocated.
+#[derive(Drop)]
+pub struct Evidence {
+    pub left: SignedUnit,
+    pub right: SignedUnit,
+}
+
+/// A validator's word that a unit was made before its creator's equivocation was known to it.
+#[derive(Clone, Copy, Debug, PartialEq, Eq)]
+pub struct Endorsement {
+    pub unit: Digest,
+    pub endorser: u32,
+    pub signature: Signature,
+}
+
+/// What validators exchange.
+#[derive(Drop)]
+pub enum Vertex {
+    Unit(SignedUnit),
+    Evidence(Evidence),
+    Endorsement(Endorsement),
+}
+
+/// What a unit waits for.
+#[derive(Clone, Copy, Debug, PartialEq, Eq)]
+pub enum Need {
+    /// The unit of this digest has to settle.
+    Unit(Digest),
+    /// The validator has to be known as faulty.
+    Evidence(u32),
+    /// The unit of this digest has to be endorsed.
+    Endorsed(Digest),
+}
+
+impl WireUnit {
+    /// The same unit.
+    pub fn copy(&self) -> Result<WireUnit, OutOfMemory>
+        ensures { IfOk result (λ unit. unit ≡ self.now) }
+    {
+        let panorama = self.panorama.copy()?;
+        let value = match &self.value {
+            None => None,
+            Some(value) => Some(value.copy()?),
+        };
+        let endorsed = self.endorsed.copy()?;
+        Ok(WireUnit {
+            instance: self.instance,
+            creator: self.creator,
+            seq: self.seq,
+            time: self.time,
+            exponent: self.exponent,
+            panorama,
+            value,
+            endorsed,
+        })
+    }
+}
+
+impl SignedUnit {
+    /// The same unit with the same signature.
+    pub fn copy(&self) -> Result<SignedUnit, OutOfMemory>
+        ensures { IfOk result (λ unit. unit ≡ self.now) }
+    {
+        Ok(SignedUnit {
+            unit: self.unit.copy()?,
+            signature: self.signature,
+        })
+    }
+}
+
+impl Evidence {
+    /// The same two units.
+    pub fn copy(&self) -> Result<Evidence, OutOfMemory>
+        ensures { IfOk result (λ evidence. evidence ≡ self.now) }
+    {
+        Ok(Evidence {
+            left: self.left.copy()?,
+            right: self.right.copy()?,
+        })
+    }
+}
+
+impl Vertex {
+    /// The same vertex.
+    pub fn copy(&self) -> Result<Vertex, OutOfMemory>
+        ensures { IfOk result (λ vertex. vertex ≡ self.now) }
+    {
+        match self {
+            Vertex::Unit(unit) => Ok(Vertex::Unit(unit.copy()?)),
+            Vertex::Evidence(evidence) => Ok(Vertex::Evidence(evidence.copy()?)),
+            Vertex::Endorsement(endorsement) => Ok(Vertex::Endorsement(*endorsement)),
+        }
+    }
+}
