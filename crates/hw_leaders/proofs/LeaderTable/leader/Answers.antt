@@ -1,6 +1,6 @@
-use Rattle.std.proofs.Common.{◌≡◌, ℕ, ◌+◌, ◌*◌, ◌/◌, ◌%◌, ◌^◌, ◌<◌, ◌≤◌, List, length, slice_index, sum, sym, ap, ◌∙◌, subst, arith}
+use Rattle.std.proofs.Common.{ℕ, ◌*◌, ◌/◌, ◌%◌, ◌^◌, ◌<◌, List, length, slice_index, sum, sym, ap, ◌∙◌, subst, arith}
 use Rattle.hw_types.specs.declared.config.Config.{Config}
-use Rattle.hw_types.specs.Rounds.{leader_of, first_above, drawn_number}
+use Rattle.hw_types.specs.Rounds.{leader_of, first_above}
 use Rattle.hw_types.proofs.LimitLaws.{within_limits, some_weight}
 use Rattle.hw_leaders.specs.Drawing.{IsRunning}
 use Rattle.hw_leaders.proofs.TableLaws.{leader_by_table, leader_by_drawing, table_some, table_names_validators, number_of_seed}

@@ -1,4 +1,3 @@
-use Rattle.std.proofs.Common.{◌<◌, sum}
 use Rattle.hw_types.proofs.LimitLaws.{within_limits}
 use Rattle.hw_leaders.proofs.LeaderTable.new.Goals as goal
 

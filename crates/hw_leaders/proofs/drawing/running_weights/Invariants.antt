@@ -1,4 +1,4 @@
-use Rattle.std.proofs.Common.{◌≡◌, ℕ, ◌+◌, ◌<◌, suc, take, sum, length, get_or}
+use Rattle.std.proofs.Common.{◌≡◌, ℕ, ◌<◌, suc, take, sum, length, get_or}
 use Rattle.hw_leaders.proofs.drawing.running_weights.Given as goal
 
 abbrev pub invariant-loop-weight : goal.invariant-loop-weight
