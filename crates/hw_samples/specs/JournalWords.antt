@@ -12,12 +12,8 @@ use Rattle.std.specs.List.{list_any, list_all}
 use Rattle.hw_types.specs.Graph.{Node, is_some_and, latest, is_on_lane}
 use Rattle.hw_types.specs.Summit.{Committees, seen_weight}
 use Rattle.hw_types.specs.Votes.{unit_fork, vote_of, height_of, is_block, votes_for}
-use Rattle.hw_types.specs.Settled.{Received, missing_of, settled_of}
 use Rattle.hw_types.specs.Journal.{Setting}
-use Rattle.hw_types.specs.Culprits.{pair_of, culprits_of, shown_in_either}
-use Rattle.hw_samples.specs.StateSamples.{unfold_state}
-use Rattle.hw_samples.specs.DeliverySamples.{unfold_answers}
-use Rattle.hw_samples.specs.StepSamples.{unfold_steps}
+use Rattle.hw_samples.specs.Words.{unfold_steps}
 
 abbrev pub dg : List ℕ → Digest
 dg bytes = record { 0 = bytes }
@@ -102,5 +98,5 @@ committee_test weights units panorama block level quorum table =
     && each_level level (λ j. list_all (λ p. from_start units (latest units panorama p.0) p.1 (λ x. nat_le quorum (seen_weight weights units c j x))) (level_of table j)))))
 
 unfoldable pub unfold_all : Type 0
-unfolding unfold_state unfold_answers unfold_steps committee_test Rattle.hw_types.specs.Settled.dropped_of Rattle.hw_types.specs.Culprits.pair_of Rattle.hw_types.specs.Culprits.culprits_of Rattle.hw_types.specs.Rounds.drawn_number
+unfolding unfold_steps committee_test Rattle.hw_types.specs.Rounds.drawn_number
 unfold_all = Unit {0}
