@@ -5,6 +5,7 @@ use Rattle.hw_types.specs.declared.unit.Obs.{Obs}
 use Rattle.hw_types.specs.declared.unit.Obs.TheVariants.{Correct}
 use Rattle.hw_types.specs.declared.unit.WireUnit.{WireUnit}
 use Rattle.hw_types.specs.declared.unit.Signature.{Signature}
+use Rattle.hw_types.specs.declared.unit.SignedUnit.{SignedUnit}
 use Rattle.hw_types.specs.declared.unit.Vertex.{Vertex}
 use Rattle.hw_types.specs.declared.unit.Vertex.TheVariants as vertex
 use Rattle.hw_types.specs.declared.config.Config.{Config}
@@ -60,8 +61,11 @@ at u = Correct (short_name u)
 abbrev pub unsigned : Signature
 unsigned = record { 0 = [] }
 
+abbrev pub unsigned_as : WireUnit → SignedUnit
+unsigned_as u = record { unit = u; signature = unsigned }
+
 abbrev pub sent : WireUnit → Vertex
-sent u = vertex.Unit (record { unit = u; signature = unsigned })
+sent u = vertex.Unit (unsigned_as u)
 
 abbrev pub both : WireUnit → WireUnit → Vertex
 both u v = vertex.Evidence (record { left = record { unit = u; signature = unsigned }; right = record { unit = v; signature = unsigned } })
@@ -90,6 +94,12 @@ names_of xs = map (λ x. x.digest) xs
 abbrev pub name_of : Option Node → Option Digest
 name_of None = None
 name_of (Some x) = Some x.digest
+
+abbrev pub settled_in : Setting → List Vertex → List Node
+settled_in s journal = settled_of s.config (received_of s journal)
+
+abbrev pub is_faulty_in : Setting → List Vertex → ℕ → Bool
+is_faulty_in s journal = is_faulty (received_of s journal) (settled_of s.config (received_of s journal))
 
 abbrev pub settled_names : Setting → List Vertex → List Digest
 settled_names s journal = names_of (settled_of s.config (received_of s journal))
