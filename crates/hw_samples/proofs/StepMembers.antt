@@ -81,7 +81,7 @@ b0_more = record {
     was_not (inl e) = other e
     was_not (inr n) = absurd n
 
-one_more : HasOneMore (settled_in three (sent a0 ∷ [])) (settled_in three first_two) (named three b0)
+pub one_more : HasOneMore (settled_in three (sent a0 ∷ [])) (settled_in three first_two) (named three b0)
 unfolding unfold_answers
 one_more = b0_more
 
