@@ -153,3 +153,7 @@ unfold_reading = Unit {0}
 unfoldable pub unfold_names : Type 0
 unfolding Rattle.hw_types.specs.Spelling.digest_of Rattle.hw_types.specs.Spelling.instance_of Rattle.sha2.specs.Sha256.sha256 Rattle.sha2.specs.Sha256.first_words Rattle.sha2.specs.Sha256.schedule Rattle.sha2.specs.Sha256.rounds Rattle.sha2.specs.Sha256.compress Rattle.sha2.specs.Sha256.hash_after Rattle.sha2.specs.Sha256.digest_bytes
 unfold_names = Unit {0}
+
+unfoldable pub unfold_draws : Type 0
+unfolding Rattle.hw_types.specs.Rounds.leader_of Rattle.hw_types.specs.Rounds.drawn_number Rattle.rand_core.specs.Steps.u32_at Rattle.rand_chacha.specs.Block.block_word Rattle.rand_chacha.specs.Block.double_rounds Rattle.rand_chacha.specs.Block.diagonal_round Rattle.rand_chacha.specs.Block.column_round Rattle.rand_chacha.specs.Block.quarter_round
+unfold_draws = Unit {0}

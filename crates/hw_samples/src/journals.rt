@@ -4,6 +4,7 @@ ghost use Rattle.hw_samples.specs.FourUnits.{FourUnitsInOrder, EverythingParksUn
 ghost use Rattle.hw_samples.specs.Forks.{ForkAboveTheThreshold, MarkNeedsEvidence, JournalsInConflict, BothSidesInOne, NaiveForkIsDropped, EndorsementLetsItIn};
 ghost use Rattle.hw_samples.specs.Chains.{HeaviestPath, SingleValidatorDecides, TwoLevelsWhereOneIsSilent, NoBlockAfterTheLast};
 ghost use Rattle.hw_samples.specs.Steps.{StepsAtTheBeginning, StepsAfterABlock, StepsAtTheEnd, NoStep};
+ghost use Rattle.hw_samples.specs.Gathered.{HandMadeJournals, RandomJournals};
 
 /// Four units in order: the block is decided by two validators that see each other.
 pub fn four_units_in_order()
@@ -108,4 +109,14 @@ pub fn steps_at_the_end()
 /// A validator that is marked, or has two units in the round, makes nothing.
 pub fn no_step()
     ensures { NoStep }
+{}
+
+/// Journals made by hand, one for each thing that a reading may get wrong.
+pub fn hand_made_journals()
+    ensures { HandMadeJournals }
+{}
+
+/// Random journals, by a second reading of the definitions.
+pub fn random_journals()
+    ensures { RandomJournals }
 {}

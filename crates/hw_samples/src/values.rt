@@ -3,6 +3,7 @@
 ghost use Rattle.hw_samples.specs.Spelled.{UnitIsSpelled, VerticesAreSpelled, ConfigIsSpelled, FramesAreSpelled};
 ghost use Rattle.hw_samples.specs.RealNames.{RealNames, FourUnitsByTheirDigests};
 ghost use Rattle.hw_samples.specs.Formulas.{Quorums, Rounds};
+ghost use Rattle.hw_samples.specs.Gathered.{RandomValues};
 
 /// A unit byte by byte, and each error at its place.
 pub fn unit_is_spelled()
@@ -42,4 +43,9 @@ pub fn quorums()
 /// Rounds, witness times, leaders and changes of the exponent.
 pub fn rounds()
     ensures { Rounds }
+{}
+
+/// Random bytes and numbers, by a second reading.
+pub fn random_values()
+    ensures { RandomValues }
 {}
