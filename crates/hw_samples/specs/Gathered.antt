@@ -41,6 +41,30 @@ use Rattle.hw_samples.specs.RandomBytes1.{RandomBytes1}
 use Rattle.hw_samples.specs.RandomBytes2.{RandomBytes2}
 use Rattle.hw_samples.specs.RandomNumbers.{RandomNumbers}
 use Rattle.hw_samples.specs.ListLimit.{ListLimit}
+use Rattle.hw_samples.specs.RandomDecisions1.{Decided1}
+use Rattle.hw_samples.specs.RandomDecisions1.{Decided2}
+use Rattle.hw_samples.specs.RandomDecisions1.{Decided3}
+use Rattle.hw_samples.specs.RandomDecisions1.{Decided4}
+use Rattle.hw_samples.specs.RandomDecisions2.{Decided5}
+use Rattle.hw_samples.specs.RandomDecisions2.{Decided6}
+use Rattle.hw_samples.specs.RandomDecisions2.{Decided7}
+use Rattle.hw_samples.specs.RandomDecisions2.{Decided8}
+use Rattle.hw_samples.specs.RandomDecisions3.{Decided9}
+use Rattle.hw_samples.specs.RandomDecisions3.{Decided10}
+use Rattle.hw_samples.specs.RandomDecisions3.{Decided11}
+use Rattle.hw_samples.specs.RandomDecisions3.{Decided12}
+use Rattle.hw_samples.specs.RandomDecisions4.{Decided13}
+use Rattle.hw_samples.specs.RandomDecisions4.{Decided14}
+use Rattle.hw_samples.specs.RandomDecisions4.{Decided15}
+use Rattle.hw_samples.specs.RandomDecisions4.{Decided16}
+use Rattle.hw_samples.specs.RandomDecisions5.{Decided17}
+use Rattle.hw_samples.specs.RandomDecisions5.{Decided18}
+use Rattle.hw_samples.specs.RandomDecisions5.{Decided19}
+use Rattle.hw_samples.specs.RandomDecisions5.{Decided20}
+use Rattle.hw_samples.specs.RandomDecisions6.{Decided21}
+use Rattle.hw_samples.specs.RandomDecisions6.{Decided22}
+use Rattle.hw_samples.specs.RandomDecisions6.{Decided23}
+use Rattle.hw_samples.specs.RandomDecisions6.{Decided24}
 
 -- journals made by hand, one for each thing that a reading may get wrong
 pub record HandMadeJournals : Type 0 where
@@ -92,3 +116,30 @@ pub record RandomValues : Type 0 where
   pub random_bytes_2 : RandomBytes2
   pub random_numbers : RandomNumbers
   pub list_limit : ListLimit
+
+-- random journals with what they decide, by a third reading
+pub record RandomDecisions : Type 0 where
+  pub decided_1 : Decided1
+  pub decided_2 : Decided2
+  pub decided_3 : Decided3
+  pub decided_4 : Decided4
+  pub decided_5 : Decided5
+  pub decided_6 : Decided6
+  pub decided_7 : Decided7
+  pub decided_8 : Decided8
+  pub decided_9 : Decided9
+  pub decided_10 : Decided10
+  pub decided_11 : Decided11
+  pub decided_12 : Decided12
+  pub decided_13 : Decided13
+  pub decided_14 : Decided14
+  pub decided_15 : Decided15
+  pub decided_16 : Decided16
+  pub decided_17 : Decided17
+  pub decided_18 : Decided18
+  pub decided_19 : Decided19
+  pub decided_20 : Decided20
+  pub decided_21 : Decided21
+  pub decided_22 : Decided22
+  pub decided_23 : Decided23
+  pub decided_24 : Decided24

@@ -4,7 +4,7 @@ ghost use Rattle.hw_samples.specs.FourUnits.{FourUnitsInOrder, EverythingParksUn
 ghost use Rattle.hw_samples.specs.Forks.{ForkAboveTheThreshold, MarkNeedsEvidence, JournalsInConflict, BothSidesInOne, NaiveForkIsDropped, EndorsementLetsItIn};
 ghost use Rattle.hw_samples.specs.Chains.{HeaviestPath, SingleValidatorDecides, TwoLevelsWhereOneIsSilent, NoBlockAfterTheLast};
 ghost use Rattle.hw_samples.specs.Steps.{StepsAtTheBeginning, StepsAfterABlock, StepsAtTheEnd, NoStep};
-ghost use Rattle.hw_samples.specs.Gathered.{HandMadeJournals, RandomJournals};
+ghost use Rattle.hw_samples.specs.Gathered.{HandMadeJournals, RandomJournals, RandomDecisions};
 
 /// Four units in order: the block is decided by two validators that see each other.
 pub fn four_units_in_order()
@@ -119,4 +119,9 @@ pub fn hand_made_journals()
 /// Random journals, by a second reading of the definitions.
 pub fn random_journals()
     ensures { RandomJournals }
+{}
+
+/// Random journals with what they decide, by another reading of the definitions.
+pub fn random_decisions()
+    ensures { RandomDecisions }
 {}
