@@ -64,7 +64,7 @@ heaviest_path = record { answers = refl; fork = refl }
 
 pub single_validator_decides : SingleValidatorDecides
 unfolding unfold_decisions
-single_validator_decides = record { none = refl; one = refl; voters = refl; committee = refl; two = refl }
+single_validator_decides = record { none = refl; one = refl; voters = refl; committee = refl; two = refl; two_at_once = refl }
 
 pub two_levels_where_one_is_silent : TwoLevelsWhereOneIsSilent
 unfolding unfold_decisions

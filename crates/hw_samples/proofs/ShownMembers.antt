@@ -52,5 +52,6 @@ values_are_spelled = record {
   frame = record { limits = small_fits; is = refl };
   unfit = unfit;
   gives = refl;
+  first_error = refl;
   fails = refl;
 }

@@ -1,5 +1,5 @@
 -- Blocks stand, and are decided.
-use Rattle.std.proofs.Common.{◌≡◌, ◌≤◌, inl, true, false, List, [], ◌∷◌, refl, subst, arith}
+use Rattle.std.proofs.Common.{◌≡◌, ◌≤◌, inl, inr, true, false, List, [], ◌∷◌, refl, subst, arith}
 use Rattle.hw_types.proofs.WordsLaws.{never_both}
 use Rattle.hw_types.proofs.DecisionLaws.{decisions_one}
 use Rattle.hw_summit.proofs.StandLaws.{stands_is_test}
@@ -16,7 +16,7 @@ use Rattle.hw_summit.specs.Pruned.{has_summit}
 use Rattle.hw_summit.specs.Decided.{stands, decisions_of}
 use Rattle.hw_samples.specs.Words.{equal_three, three, settled_in, panorama_in, decided, unfold_decisions, unfold_names}
 use Rattle.hw_samples.specs.FourUnits.{a0, in_order, without_last}
-use Rattle.hw_samples.specs.Chains.{p0, single, s0, s2, two_decided, at_two_levels, nine_units}
+use Rattle.hw_samples.specs.Chains.{p0, single, s0, s2, two_decided, all_at_once, at_two_levels, nine_units}
 use Rattle.hw_samples.specs.RealNames.{real_a0, real, real_in_order}
 use Rattle.hw_samples.specs.Relations.{BlocksStand, DecisionsAreMade}
 
@@ -75,6 +75,10 @@ two_is : decisions_of single two_decided ≡ decided s0 0 1 1 2 ∷ decided s2 1
 unfolding unfold_decisions
 two_is = refl
 
+at_once_is : decisions_of single all_at_once ≡ decided s0 0 1 1 4 ∷ decided s2 1 1 1 4 ∷ []
+unfolding unfold_decisions
+at_once_is = refl
+
 level_two_is : decisions_of at_two_levels nine_units ≡ decided p0 0 2 3 9 ∷ []
 unfolding unfold_decisions
 level_two_is = refl
@@ -94,10 +98,12 @@ decisions_are_made = record {
   none = are three without_last [] none_is;
   one = one;
   two = are single two_decided (decided s0 0 1 1 2 ∷ decided s2 1 1 1 4 ∷ []) two_is;
+  two_at_once = are single all_at_once (decided s0 0 1 1 4 ∷ decided s2 1 1 1 4 ∷ []) at_once_is;
   at_level_two = are at_two_levels nine_units (decided p0 0 2 3 9 ∷ []) level_two_is;
   is_record = one.each 0 (decided a0 0 1 2 4) (omega arith);
   stood = four_stood;
   before = inl (omega arith);
+  lower = inr (refl, omega arith);
   one_block_each = one_block_each single two_decided;
   only = λ ds h. decisions_one three in_order ds (decided a0 0 1 2 4 ∷ []) h one;
 }

@@ -57,13 +57,17 @@ one_decided = sent s0 ∷ sent s1 ∷ []
 abbrev pub two_decided : List Vertex
 two_decided = sent s0 ∷ sent s1 ∷ sent s2 ∷ sent s3 ∷ []
 
--- each of its blocks is decided by its next unit
+abbrev pub all_at_once : List Vertex
+all_at_once = sent s3 ∷ sent s2 ∷ sent s1 ∷ sent s0 ∷ []
+
+-- each of its blocks is decided by its next unit, and both at once where the first unit comes last
 pub record SingleValidatorDecides : Type 0 where
   pub none : decisions_after single (sent s0 ∷ []) ≡ []
   pub one : decisions_after single one_decided ≡ decided s0 0 1 1 2 ∷ []
   pub voters : committee_in single one_decided s0 1 0 ≡ (0, 0) ∷ []
   pub committee : committee_in single one_decided s0 1 1 ≡ (0, 1) ∷ []
   pub two : decisions_after single two_decided ≡ decided s0 0 1 1 2 ∷ decided s2 1 1 1 4 ∷ []
+  pub two_at_once : decisions_after single all_at_once ≡ decided s0 0 1 1 4 ∷ decided s2 1 1 1 4 ∷ []
 
 -- ---- two levels
 

@@ -14,7 +14,8 @@ use Rattle.hw_types.specs.Rules.{state_rule, has_naive_fork}
 use Rattle.hw_types.specs.Settled.{Received, settled_of, parked_of, dropped_of, missing_of, panorama_of, faulty_weight, fork_choice}
 use Rattle.hw_types.specs.Journal.{Setting, received_of, journal_of, answers_from}
 use Rattle.hw_types.specs.Step.{step}
-use Rattle.hw_samples.specs.JournalWords.{dg, sent_as, mixed, named_by, names_of, name_of, votes_in, parents_in, committee_test}
+use Rattle.hw_samples.specs.Words.{names_of, name_of}
+use Rattle.hw_samples.specs.JournalWords.{dg, sent_as, mixed, named_by, votes_in, parents_in, committee_test}
 
 abbrev c : Config
 c = record { weights = (1 ∷ 1 ∷ 1 ∷ []); ftt = 0; levels = 2; min_exponent = 2; max_exponent = 4; leaders = Table (0 ∷ []); max_records = 131072; max_parked = 4096; end = Some (2) }

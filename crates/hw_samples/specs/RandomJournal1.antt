@@ -18,7 +18,8 @@ use Rattle.hw_types.specs.Settled.{Received, settled_of, parked_of, dropped_of, 
 use Rattle.hw_types.specs.Journal.{Setting, received_of, answers_from}
 use Rattle.hw_types.specs.Step.{step}
 use Rattle.hw_types.specs.Culprits.{culprits_of, pair_of, shown_in_either}
-use Rattle.hw_samples.specs.JournalWords.{dg, sent_as, both_as, backs, mixed, named_by, names_of, name_of, votes_in, parents_in, committee_test}
+use Rattle.hw_samples.specs.Words.{names_of, name_of}
+use Rattle.hw_samples.specs.JournalWords.{dg, sent_as, both_as, backs, mixed, named_by, votes_in, parents_in, committee_test}
 
 abbrev c : Config
 c = record { weights = (1 ∷ 1 ∷ 1 ∷ []); ftt = 0; levels = 2; min_exponent = 2; max_exponent = 4; leaders = Table (1 ∷ []); max_records = 131072; max_parked = 1; end = None }

@@ -13,7 +13,7 @@ use Rattle.hw_types.specs.ByName.{by_name, IsRising}
 use Rattle.hw_types.specs.Settled.{parked_of, dropped_of, is_faulty}
 use Rattle.hw_types.specs.Summit.{HasSummit, IsGreatest, Stands}
 use Rattle.hw_types.specs.Spelling.{signed_bytes, vertex_bytes, frame_bytes, Fits, SpellsUnit, SpellsVertex, SpellsConfig, SpellsFrame}
-use Rattle.hw_types.specs.Reading.{unit_of, Gives}
+use Rattle.hw_types.specs.Reading.{unit_of, Gives, IsFirstError}
 use Rattle.hw_types.specs.Journal.{named, received_of, receipt_of}
 use Rattle.hw_types.specs.Decisions.{StoodAt, IsRecord, ComesBefore, AreDecisions}
 use Rattle.hw_types.specs.Culprits.{SignedAs, IsShown, AreCulprits}
@@ -25,7 +25,7 @@ use Rattle.hw_summit.specs.Decided.{OneBlockEach}
 use Rattle.hw_samples.specs.Words.{equal_three, three, unsigned_as, sent, both, endorses, settled_in, is_faulty_in, panorama_in, decided}
 use Rattle.hw_samples.specs.FourUnits.{a0, b0, a1, b1, in_order, last_first, without_last, second, third}
 use Rattle.hw_samples.specs.Forks.{fork, with_fork, c0}
-use Rattle.hw_samples.specs.Chains.{p0, single, s0, s2, two_decided, at_two_levels, nine_units}
+use Rattle.hw_samples.specs.Chains.{p0, single, s0, s2, two_decided, all_at_once, at_two_levels, nine_units}
 use Rattle.hw_samples.specs.Spelled.{small_unit, small_unit_bytes, unit_vertex, evidence_vertex, equal_three_bytes}
 use Rattle.hw_samples.specs.RealNames.{real_a0, real_b0, real_e0, real, real_in_order, real_other_side}
 use Rattle.hw_types.specs.declared.answers.Rule.TheVariants as rule
@@ -50,10 +50,12 @@ pub record DecisionsAreMade : Type 0 where
   pub none : AreDecisions three without_last []
   pub one : AreDecisions three in_order (decided a0 0 1 2 4 ∷ [])
   pub two : AreDecisions single two_decided (decided s0 0 1 1 2 ∷ decided s2 1 1 1 4 ∷ [])
+  pub two_at_once : AreDecisions single all_at_once (decided s0 0 1 1 4 ∷ decided s2 1 1 1 4 ∷ [])
   pub at_level_two : AreDecisions at_two_levels nine_units (decided p0 0 2 3 9 ∷ [])
   pub is_record : IsRecord three in_order (decided a0 0 1 2 4)
   pub stood : StoodAt three in_order (named three a0) 1 2 4
   pub before : ComesBefore (decided s0 0 1 1 2) (decided s2 1 1 1 4)
+  pub lower : ComesBefore (decided s0 0 1 1 4) (decided s2 1 1 1 4)
   pub one_block_each : OneBlockEach single two_decided
   -- and each list is the only one
   pub only : (ds : List Decision) → AreDecisions three in_order ds → ds ≡ decided a0 0 1 2 4 ∷ []
@@ -85,6 +87,7 @@ pub record ValuesAreSpelled : Type 0 where
   pub frame : SpellsFrame (frame_bytes (frame.Vertex unit_vertex)) (frame.Vertex unit_vertex)
   pub unfit : Fits too_late → ⊥
   pub gives : Gives (λ (u : WireUnit). u) (Ok small_unit) (unit_of small_unit_bytes)
+  pub first_error : IsFirstError (unit_of (take 68 small_unit_bytes)) (error.Truncated 65)
   pub fails : Gives (λ (u : WireUnit). u) (Err (error.Truncated 65)) (unit_of (take 68 small_unit_bytes))
 
 -- ---- graphs
