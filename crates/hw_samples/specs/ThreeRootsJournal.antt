@@ -1,4 +1,4 @@
--- Three blocks without a parent, with one vote each: the greatest name is chosen.
+-- Three blocks without a parent: a unit that sees one vote for each votes for the greatest name, which so has two.
 -- The values are those of a second reading of the definitions, written apart from them; the two agree.
 use Rattle.std.specs.Prelude.{◌≡◌, true, false, List, [], ◌∷◌, map, Option, Some, None, Ok}
 use Rattle.hw_types.specs.declared.unit.Obs.TheVariants.{Absent, Correct}
