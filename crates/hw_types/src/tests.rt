@@ -28,6 +28,17 @@ fn list<T: Copy + Drop>(alloc: Global, items: &[T]) -> Result<Items<T>, OutOfMem
     Ok(list)
 }
 
+fn assert_quorum(rt: &impl Abort, total: u64, ftt: u64, level: u32, want: u64) {
+    assert!(rt; 1 <= total && total < 1 << 62);
+    assert!(rt; ftt < total);
+    assert!(rt; 1 <= level && level <= 30);
+    assert_eq!(rt;
+        quorum(total, ftt, level),
+        want,
+        "at {total}, {ftt}, {level}"
+    );
+}
+
 #[test]
 fn quorums_are_the_worked_ones(rt: HostRuntime) {
     let most = (1 << 62) - 1;
@@ -43,11 +54,7 @@ fn quorums_are_the_worked_ones(rt: HostRuntime) {
         (most, 0, 30, 2_305_843_009_213_693_952),
         (most, most - 1, 30, 4_611_686_020_574_871_553),
     ] {
-        assert_eq!(rt;
-            quorum(total, ftt, level),
-            want,
-            "at {total}, {ftt}, {level}"
-        );
+        assert_quorum(&rt, total, ftt, level, want);
     }
 }
 
@@ -190,6 +197,9 @@ fn units_differ_in_each_field(rt: HostRuntime) -> Result<(), Fail> {
     other.panorama.push(Obs::Absent)?;
     assert!(rt; !is_same_unit(&unit, &other));
     assert_eq!(rt; other.panorama.len(), 4);
-    assert_eq!(rt; other.panorama.into_vec().pop(), Some(Obs::Absent));
+    other.panorama.extend(&[Obs::Absent, Obs::Faulty])?;
+    let panorama = Items::from_vec(other.panorama.into_vec());
+    assert_eq!(rt; panorama.as_slice().last(), Some(&Obs::Faulty));
+    assert_eq!(rt; panorama.len(), 6);
     Ok(())
 }
