@@ -21,6 +21,7 @@ in_order pairs = map (λ e. e.1) (pairs_of pairs)
 abbrev pub is_told : List (Digest × ℕ) → Digest → ℕ → Bool
 is_told pairs d v = list_any (λ p. digest_eq p.0 d && (p.1 == v)) pairs
 
+-- what becomes of a pair
 abbrev pub added_of : List (Digest × ℕ) → Digest → ℕ → Added
 added_of pairs d v = if is_told pairs d v then Repeat else New
 
