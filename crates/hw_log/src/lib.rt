@@ -17,3 +17,6 @@ pub use error::LogError;
 pub use reader::LogReader;
 pub use whole::{Log, read_log};
 pub use writer::{append_entry, append_header, entry_bytes};
+
+#[cfg(test)]
+mod tests;
