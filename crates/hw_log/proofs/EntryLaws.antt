@@ -16,19 +16,19 @@ bind_ok (Ok a) f y e = (a, refl, e)
 bind_ok (Err d) f y e = absurd cc
 
 -- a choice that isn't the error
-chosen : {A : Type 0} (b : Bool) (d : LogError) (x y : A) → cond b (Err d) (Ok x) ≡ Ok y → (b ≡ false) × (x ≡ y)
+pub chosen : {A : Type 0} (b : Bool) (d : LogError) (x : Result A LogError) (y : A) → cond b (Err d) x ≡ Ok y → (b ≡ false) × (x ≡ Ok y)
 chosen true d x y e = absurd cc
-chosen false d x y e = (refl, cc)
+chosen false d x y e = (refl, e)
 
 -- what was read is gone from the rest
 pub bytes_at-shorter : (n : ℕ) (torn : LogError) (r : Rest) (x : List ℕ × Rest) → bytes_at n torn r ≡ Ok x → n + length x.1.bytes ≡ length r.bytes
 bytes_at-shorter n torn r x e =
-    let c = chosen (ltb (length r.bytes) n) torn (take n r.bytes, rest_at (r.place + n) (drop n r.bytes)) x e in
+    let c = chosen (ltb (length r.bytes) n) torn (Ok (take n r.bytes, rest_at (r.place + n) (drop n r.bytes))) x e in
     let enough : n ≤ length r.bytes = ltb-false _ _ c.0 in
-    let gone : length x.1.bytes ≡ length (drop n r.bytes) = ap (λ (y : List ℕ × Rest). length y.1.bytes) (sym c.1) in
+    let gone : length x.1.bytes ≡ length (drop n r.bytes) = ap (λ (y : Result (List ℕ × Rest) LogError). elim y [ Ok z ↦ length z.1.bytes | Err d ↦ 0 ]) (sym c.1) in
     omega (arith, length-drop n r.bytes)
 
-abbrev with_head : List ℕ × Rest → EntryHead → Result (EntryHead × Rest) LogError
+abbrev pub with_head : List ℕ × Rest → EntryHead → Result (EntryHead × Rest) LogError
 with_head head said = Ok (said, head.1)
 
 pub head_at-shorter : (r : Rest) (x : EntryHead × Rest) → head_at r ≡ Ok x → 6 + length x.1.bytes ≡ length r.bytes
@@ -39,7 +39,7 @@ head_at-shorter r x e =
     let rest : length front.0.1.bytes ≡ length x.1.bytes = ap (λ (y : Result (EntryHead × Rest) LogError). elim y [ Ok z ↦ length z.1.bytes | Err d ↦ 0 ]) said.2 in
     omega (arith, bytes_at-shorter 6 (Torn r.place) r front.0 front.1)
 
-abbrev with_vertex : List ℕ × Rest → Vertex → Result (Vertex × Rest) LogError
+abbrev pub with_vertex : List ℕ × Rest → Vertex → Result (Vertex × Rest) LogError
 with_vertex spelled vertex = Ok (vertex, spelled.1)
 
 pub body_at-shorter : (at n : ℕ) (r : Rest) (x : Vertex × Rest) → body_at at n r ≡ Ok x → n + length x.1.bytes ≡ length r.bytes
@@ -50,7 +50,7 @@ body_at-shorter at n r x e =
     let rest : length front.0.1.bytes ≡ length x.1.bytes = ap (λ (y : Result (Vertex × Rest) LogError). elim y [ Ok z ↦ length z.1.bytes | Err d ↦ 0 ]) said.2 in
     omega (arith, bytes_at-shorter n (Torn at) r front.0 front.1)
 
-abbrev with_body : ℕ → EntryHead × Rest → Vertex × Rest → Result (LogEntry × Rest) LogError
+abbrev pub with_body : ℕ → EntryHead × Rest → Vertex × Rest → Result (LogEntry × Rest) LogError
 with_body at head body = Ok (record { at = at; verdict = head.0.verdict; vertex = body.0 }, body.1)
 
 -- an entry takes six bytes and more
@@ -64,10 +64,10 @@ entry_at-shorter r x e =
 
 -- ---- what comes next
 
-abbrev as_next : LogEntry × Rest → Result (Option LogEntry × Rest) LogError
+abbrev pub as_next : LogEntry × Rest → Result (Option LogEntry × Rest) LogError
 as_next e = Ok (Some e.0, e.1)
 
-abbrev next_is : Option LogEntry × Rest → Result (Option LogEntry × Rest) LogError
+abbrev pub next_is : Option LogEntry × Rest → Result (Option LogEntry × Rest) LogError
 next_is x = Ok x
 
 -- at the end nothing comes
@@ -81,7 +81,7 @@ unfolding next_at
 next_at-entry r some = rw (ne_eqb (length r.bytes) 0 (λ (none : length r.bytes ≡ 0). omega arith)) refl
 
 -- the end is no entry
-end_or_entry : (x y : Option LogEntry × Rest) → next_is x ≡ next_is y → x.0 ≡ y.0
+pub end_or_entry : (x y : Option LogEntry × Rest) → next_is x ≡ next_is y → x.0 ≡ y.0
 end_or_entry x y e = cc
 
 entry_is_shorter : (r : Rest) (e : LogEntry) (rest : Rest) → (entry_at r >>= as_next) ≡ Ok (Some e, rest) → length rest.bytes < length r.bytes

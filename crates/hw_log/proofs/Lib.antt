@@ -4,3 +4,5 @@ pub mod OpenLaws
 pub mod LengthLaws
 pub mod EntryLaws
 pub mod RunLaws
+pub mod MoreLaws
+pub mod AppendLaws

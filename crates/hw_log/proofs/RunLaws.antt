@@ -9,7 +9,7 @@ use Rattle.hw_log.specs.Log.{◌>>=◌, header_of, next_at, Entries, with_next, 
 use Rattle.hw_log.specs.Reader.{Reading, left_of, behind_given, StandsBehind}
 use Rattle.hw_log.proofs.EntryLaws.{entries_next}
 
-abbrev with_entries : Config × Rest → Result (Config × Entries) LogError
+abbrev pub with_entries : Config × Rest → Result (Config × Entries) LogError
 with_entries header = Ok (header.0, entries_of header.1)
 
 -- after the header no entry was given

@@ -8,12 +8,17 @@
 mod entry;
 mod error;
 mod head;
+mod laws;
 mod reader;
 mod whole;
 mod writer;
 
 pub use entry::LogEntry;
 pub use error::LogError;
+pub use laws::{a_header_is_an_empty_log, an_append_adds_the_entry};
 pub use reader::LogReader;
 pub use whole::{Log, read_log};
 pub use writer::{append_entry, append_header, entry_bytes};
+
+#[cfg(test)]
+mod tests;
