@@ -1,5 +1,7 @@
 //! Values from outside, and places worked out by hand from the format.
 
+ghost use Rattle.hw_types.specs.Spelling.{VertexFits};
+
 use super::*;
 use hw_types::{Digest, Leaders, Need, Obs, Vertex};
 use std::alloc::Global;
@@ -10,24 +12,20 @@ use std::test::Fail;
 const UNIT: &str =
     "000000000000000000000000000000000000000000000000000000000000000000000001000000000000000000000000000000110400000002000001000000017800000000";
 
-/// The units of four blocks and votes as vertices, and their names.
-const UNITS: [(&str, &str); 4] = [
-    (
-        "014a778c0d210e148c19822a9479adaed1e477fbef865d79c08d948ba4c76707de00000000000000000000000000000000000000100400000003000000010000000178000000000000000000000000000000000000000000000000000000000000000000000000",
-        "41f3cb4d41701b06b152c089d6e26690acbfd300899c7ba57bdb7de70f39315f",
-    ),
-    (
-        "014a778c0d210e148c19822a9479adaed1e477fbef865d79c08d948ba4c76707de000000010000000000000000000000000000001104000000030141f3cb4d41701b06b152c089d6e26690acbfd300899c7ba57bdb7de70f39315f000000000000000000000000000000000000000000000000000000000000000000000000000000",
-        "779d0c3744c7c493bb39049229de0cc15761586919f443ced5dff26307474b87",
-    ),
-    (
-        "014a778c0d210e148c19822a9479adaed1e477fbef865d79c08d948ba4c76707de000000000000000000000001000000000000001b04000000030141f3cb4d41701b06b152c089d6e26690acbfd300899c7ba57bdb7de70f39315f01779d0c3744c7c493bb39049229de0cc15761586919f443ced5dff26307474b870000000000000000000000000000000000000000000000000000000000000000000000000000",
-        "87e79dc4bbcc0dfbc332c79b3df956f85db786d55641b0e96aa66a743164aa2f",
-    ),
-    (
-        "014a778c0d210e148c19822a9479adaed1e477fbef865d79c08d948ba4c76707de000000010000000000000001000000000000001b04000000030141f3cb4d41701b06b152c089d6e26690acbfd300899c7ba57bdb7de70f39315f01779d0c3744c7c493bb39049229de0cc15761586919f443ced5dff26307474b870000000000000000000000000000000000000000000000000000000000000000000000000000",
-        "e786fe865605bac792e7273324cb3a7e68148b1080979938fb0e3bc55b63de63",
-    ),
+/// A block, a vote and two votes after them as vertices.
+const UNITS: [&str; 4] = [
+    "014a778c0d210e148c19822a9479adaed1e477fbef865d79c08d948ba4c76707de00000000000000000000000000000000000000100400000003000000010000000178000000000000000000000000000000000000000000000000000000000000000000000000",
+    "014a778c0d210e148c19822a9479adaed1e477fbef865d79c08d948ba4c76707de000000010000000000000000000000000000001104000000030141f3cb4d41701b06b152c089d6e26690acbfd300899c7ba57bdb7de70f39315f000000000000000000000000000000000000000000000000000000000000000000000000000000",
+    "014a778c0d210e148c19822a9479adaed1e477fbef865d79c08d948ba4c76707de000000000000000000000001000000000000001b04000000030141f3cb4d41701b06b152c089d6e26690acbfd300899c7ba57bdb7de70f39315f01779d0c3744c7c493bb39049229de0cc15761586919f443ced5dff26307474b870000000000000000000000000000000000000000000000000000000000000000000000000000",
+    "014a778c0d210e148c19822a9479adaed1e477fbef865d79c08d948ba4c76707de000000010000000000000001000000000000001b04000000030141f3cb4d41701b06b152c089d6e26690acbfd300899c7ba57bdb7de70f39315f01779d0c3744c7c493bb39049229de0cc15761586919f443ced5dff26307474b870000000000000000000000000000000000000000000000000000000000000000000000000000",
+];
+
+/// The names of these units.
+const NAMES: [&str; 4] = [
+    "41f3cb4d41701b06b152c089d6e26690acbfd300899c7ba57bdb7de70f39315f",
+    "779d0c3744c7c493bb39049229de0cc15761586919f443ced5dff26307474b87",
+    "87e79dc4bbcc0dfbc332c79b3df956f85db786d55641b0e96aa66a743164aa2f",
+    "e786fe865605bac792e7273324cb3a7e68148b1080979938fb0e3bc55b63de63",
 ];
 
 /// An evidence of two units, and an endorsement.
@@ -144,11 +142,8 @@ fn a_unit_is_its_69_bytes(rt: HostRuntime) -> Result<(), Fail> {
 fn a_unit_is_refused_at_its_first_wrong_field(rt: HostRuntime) -> Result<(), Fail> {
     let alloc = rt.alloc();
     let bytes = bytes_of(alloc, UNIT)?;
-    assert!(rt; bytes.len() == 69);
-    assert_eq!(rt;
-        unit_error(alloc, &bytes[..68]),
-        Some(CodecError::Truncated(65))
-    );
+    let cut = bytes.as_slice().get(..68).ok_or("it has 69 bytes")?;
+    assert_eq!(rt; unit_error(alloc, cut), Some(CodecError::Truncated(65)));
     assert_eq!(rt;
         unit_error(alloc, &longer(alloc, &bytes)?),
         Some(CodecError::Trailing(69))
@@ -179,20 +174,30 @@ fn a_unit_is_refused_at_its_first_wrong_field(rt: HostRuntime) -> Result<(), Fai
 
 #[test]
 fn units_have_their_names(rt: HostRuntime) -> Result<(), Fail> {
-    let alloc = rt.alloc();
-    for (text, name) in UNITS {
-        let bytes = bytes_of(alloc, text)?;
-        let vertex = decode_vertex(alloc, &bytes)?;
-        let again = encode_vertex(alloc, &vertex)?.into_vec();
-        assert_eq!(rt; again.as_slice(), bytes.as_slice());
-        assert_eq!(rt; again.capacity(), bytes.len(), "room was made once");
-        let Vertex::Unit(signed) = vertex else {
-            return Err("a vertex of kind 1 is a unit")?;
-        };
-        let digest = digest_of(alloc, &signed.unit)?;
-        assert_eq!(rt; digest.0.as_slice(), bytes_of(alloc, name)?.as_slice());
-    }
+    unit_is_named(&rt, rt.alloc(), UNITS[0], NAMES[0])?;
+    unit_is_named(&rt, rt.alloc(), UNITS[1], NAMES[1])?;
+    unit_is_named(&rt, rt.alloc(), UNITS[2], NAMES[2])?;
+    unit_is_named(&rt, rt.alloc(), UNITS[3], NAMES[3])
+}
+
+fn unit_is_named(rt: &impl Abort, alloc: Global, text: &str, name: &str) -> Result<(), Fail> {
+    let bytes = bytes_of(alloc, text)?;
+    let vertex = decode_vertex(alloc, &bytes)?;
+    let again = encode_vertex(alloc, &vertex)?.into_vec();
+    assert_eq!(rt; again.as_slice(), bytes.as_slice());
+    assert_eq!(rt; again.capacity(), bytes.len(), "room was made once");
+    let name = bytes_of(alloc, name)?;
+    assert_eq!(rt; name_of(alloc, &vertex)?.0.as_slice(), name.as_slice());
     Ok(())
+}
+
+fn name_of(alloc: Global, vertex: &Vertex) -> Result<Digest, Fail>
+    requires { VertexFits vertex.now }
+{
+    match vertex {
+        Vertex::Unit(signed) => Ok(digest_of(alloc, &signed.unit)?),
+        _ => Err("a vertex of another kind")?,
+    }
 }
 
 #[test]
@@ -219,8 +224,8 @@ fn other_vertices_are_their_bytes(rt: HostRuntime) -> Result<(), Fail> {
 
 #[test]
 fn a_cut_vertex_names_the_cut_field(rt: HostRuntime) -> Result<(), Fail> {
-    vertex_is_cut(&rt, rt.alloc(), UNITS[0].0, &BLOCK_FIELDS)?;
-    vertex_is_cut(&rt, rt.alloc(), UNITS[2].0, &VOTE_FIELDS)
+    vertex_is_cut(&rt, rt.alloc(), UNITS[0], &BLOCK_FIELDS)?;
+    vertex_is_cut(&rt, rt.alloc(), UNITS[2], &VOTE_FIELDS)
 }
 
 fn vertex_is_cut(rt: &impl Abort, alloc: Global, text: &str, fields: &[u64]) -> Result<(), Fail> {
@@ -266,12 +271,16 @@ fn configurations_are_their_bytes(rt: HostRuntime) -> Result<(), Fail> {
         assert_eq!(rt; (config.min_exponent, config.max_exponent), (4, 8));
         assert_eq!(rt; (config.max_records, config.max_parked), (131_072, 4_096));
         assert_eq!(rt; config.end, if len == 73 { Some(5) } else { None });
-        match config.leaders {
-            Leaders::Table(table) => assert_eq!(rt; table.as_slice(), [0, 0, 2].as_slice()),
-            Leaders::Drawn(key) => assert_eq!(rt; key, [17; 32]),
-        }
+        leaders_are(&rt, &config.leaders);
     }
     Ok(())
+}
+
+fn leaders_are(rt: &impl Abort, leaders: &Leaders) {
+    match leaders {
+        Leaders::Table(table) => assert_eq!(rt; table.as_slice(), [0, 0, 2].as_slice()),
+        Leaders::Drawn(key) => assert_eq!(rt; *key, [17; 32]),
+    }
 }
 
 #[test]

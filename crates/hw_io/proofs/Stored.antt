@@ -48,7 +48,7 @@ found-place p xs i found =
       first = first;
       passes = find-passes p xs it.0 first;
       place = sym parts.1;
-      within = within
+      within = within;
     }
 
 pub missing-place : {X : Type 0} (p : X → Bool) (xs : List X) → position p xs ≡ None → find p xs ≡ None
@@ -90,7 +90,7 @@ begins files name place is =
     let found = found-place (has_name name) files place is in
     record {
       named = ap name_in found.at ∙ ap Some (name-is name found.item found.passes);
-      unread_is = ap bytes_in found.first ∙ sym (ap (λ o. Some (bytes_of (bytes_in o))) found.at)
+      unread_is = ap bytes_in found.first ∙ sym (ap (λ o. Some (bytes_of (bytes_in o))) found.at);
     }
 
 -- ---- one file written
@@ -131,13 +131,13 @@ module _ (files : List StoredFile) (name : List ℕ) (place : ℕ) (x y : Stored
     whole = ap bytes_in held_now ∙ ap Some (holds ∙ ap (λ o. bytes_of (bytes_in o) ++ bytes) (sym held_was));
     cut = tt;
     stays = λ _. ap (λ o. is_some (bytes_in o)) held_now;
-    others = others_kept
+    others = others_kept;
   }
   appended-set bytes (Err e) holds = record {
     whole = tt;
     cut = (0, ap (λ o. bytes_of (bytes_in o)) held_now ∙ holds ∙ ap (λ o. bytes_of (bytes_in o)) (sym held_was) ∙ sym (append-nil _));
     stays = λ _. ap (λ o. is_some (bytes_in o)) held_now;
-    others = others_kept
+    others = others_kept;
   }
 
   pub begun_in-set : (reading : Option Reading) → begun_in (set files place y) reading ≡ begun_in files reading
@@ -167,13 +167,13 @@ appended-added old new name bytes v missing added =
     let file = added.file in
     let none = missing-place (has_name name) old missing in
     let now : find (has_name name) new ≡ Some file = ap (find (has_name name)) added.last ∙ find-append (has_name name) old (file ∷ [])
-        ∙ ap (λ o. option_or o (cond (has_name name file) (Some file) None)) none ∙ ap (λ b. cond b (Some file) None) (has-name name file added.named) in
+    ∙ ap (λ o. option_or o (cond (has_name name file) (Some file) None)) none ∙ ap (λ b. cond b (Some file) None) (has-name name file added.named) in
     record {
       whole = ap bytes_in now ∙ ap Some (added.holds ∙ ap (λ o. bytes_of (bytes_in o) ++ bytes) (sym none));
       cut = tt;
       stays = λ _. ap (λ o. is_some (bytes_in o)) now;
       others = λ other differs. ap bytes_in (ap (find (has_name other)) added.last ∙ find-append (has_name other) old (file ∷ [])
-          ∙ ap (λ b. option_or (find (has_name other) old) (cond b (Some file) None)) (has-not name other file added.named differs) ∙ option_or-none _)
+          ∙ ap (λ b. option_or (find (has_name other) old) (cond b (Some file) None)) (has-not name other file added.named differs) ∙ option_or-none _);
     }
 
 appended-none : {T E : Type 0} (old new : List StoredFile) (name bytes : List ℕ) (e : E) → new ≡ old → Appended {T = T} (held_in old) (held_in new) name bytes (Err e)
@@ -181,7 +181,7 @@ appended-none old new name bytes e same = record {
   whole = tt;
   cut = (0, ap (λ files. bytes_of (held_in files name)) same ∙ sym (append-nil _));
   stays = λ was. ap (λ files. is_some (held_in files name)) same ∙ was;
-  others = λ other differs. ap (λ files. held_in files other) same
+  others = λ other differs. ap (λ files. held_in files other) same;
 }
 
 begun_file-added : (old new : List StoredFile) (name bytes : List ℕ) (reading : Option Reading) → ForSome reading (λ r. r.place < length old) → AddsFile old new name bytes → begun_file new reading ≡ begun_file old reading

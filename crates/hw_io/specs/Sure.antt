@@ -16,5 +16,8 @@ sure_unread files = unread_in files.shelf.files.items files.shelf.reading
 abbrev pub sure_allowance : SureFiles → ℕ
 sure_allowance files = allowance_of files.shelf.reading
 
+abbrev pub sure_read_faults : SureFiles → ℕ
+sure_read_faults files = files.read_faults
+
 abbrev pub sure_taken : SureSink → Option (List ℕ)
 sure_taken sink = Some sink.bytes.items

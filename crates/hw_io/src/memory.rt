@@ -1,9 +1,9 @@
 //! The outside in memory, which tells its content and fails at the calls that it is told.
-ghost use Rattle.std.specs.Prelude.{◌≡◌, ◌≤◌, ℕ, List, [], true, Some, None};
+ghost use Rattle.std.specs.Prelude.{◌≡◌, ◌≢◌, ◌≤◌, ℕ, List, [], ◌∷◌, ◌++◌, true, Some, None, OnOk, OnErr};
 ghost use Rattle.std.specs.Option.{option_copied};
 ghost use Rattle.hw_io.specs.Faults.{raised};
-ghost use Rattle.hw_io.specs.Files.{Appended};
-ghost use Rattle.hw_io.specs.Memory.{mem_held, mem_begun, mem_unread, mem_allowance, mem_taken, planned_at};
+ghost use Rattle.hw_io.specs.Files.{SameFiles, Appended};
+ghost use Rattle.hw_io.specs.Memory.{mem_held, mem_begun, mem_unread, mem_allowance, mem_read_faults, mem_append_faults, mem_planned, mem_calls, mem_taken, mem_faults, sink_planned, planned_at, SameCounts};
 
 use crate::outside::{Files, IoFault, Sink};
 use crate::shelf::Shelf;
@@ -32,8 +32,10 @@ impl MemFiles {
     pub fn new(alloc: Global) -> MemFiles
         ensures files { (name : List ℕ) → mem_held result name ≡ None }
         ensures begun { mem_begun result ≡ None }
-        ensures read_faults { result.read_faults ≡ 0 }
-        ensures append_faults { result.append_faults ≡ 0 }
+        ensures planned { mem_planned result ≡ [] }
+        ensures calls { mem_calls result ≡ 0 }
+        ensures read_faults { mem_read_faults result ≡ 0 }
+        ensures append_faults { mem_append_faults result ≡ 0 }
     {
         MemFiles::in_pieces(alloc, usize::MAX)
     }
@@ -42,8 +44,10 @@ impl MemFiles {
     pub fn in_pieces(alloc: Global, piece: usize) -> MemFiles
         ensures files { (name : List ℕ) → mem_held result name ≡ None }
         ensures begun { mem_begun result ≡ None }
-        ensures read_faults { result.read_faults ≡ 0 }
-        ensures append_faults { result.append_faults ≡ 0 }
+        ensures planned { mem_planned result ≡ [] }
+        ensures calls { mem_calls result ≡ 0 }
+        ensures read_faults { mem_read_faults result ≡ 0 }
+        ensures append_faults { mem_append_faults result ≡ 0 }
     {
         MemFiles {
             shelf: Shelf::new(alloc, piece),
@@ -55,7 +59,14 @@ impl MemFiles {
     }
 
     /// Plans that the call of this number fails, and that it writes so many bytes if it is an append.
-    pub fn fail_at(&mut self, call: u64, written: usize) -> Result<(), AllocError> {
+    pub fn fail_at(&mut self, call: u64, written: usize) -> Result<(), AllocError>
+        ensures ok { OnOk result (mem_planned self.new ≡ mem_planned self.old ++ record { call = call; written = written } ∷ []) }
+        ensures err { OnErr result (mem_planned self.new ≡ mem_planned self.old) }
+        ensures files { SameFiles (mem_held self.old) (mem_held self.new) }
+        ensures begun { mem_begun self.new ≡ mem_begun self.old }
+        ensures unread { mem_unread self.new ≡ mem_unread self.old }
+        ensures counts { SameCounts self.old self.new }
+    {
         self.planned.push(Planned { call, written })?;
         Ok(())
     }
@@ -63,6 +74,10 @@ impl MemFiles {
     /// Puts the bytes at the end of a file, as an append that succeeds, without a call of `Files`.
     pub fn put(&mut self, name: &str, bytes: &[u8]) -> Result<(), AllocError>
         ensures bytes { Appended (mem_held self.old) (mem_held self.new) name.now bytes.now result }
+        ensures begun { mem_begun self.new ≡ mem_begun self.old }
+        ensures unread { mem_begun self.old ≢ Some name.now → mem_unread self.new ≡ mem_unread self.old }
+        ensures planned { mem_planned self.new ≡ mem_planned self.old }
+        ensures counts { SameCounts self.old self.new }
     {
         self.shelf.append(name, bytes)
     }
@@ -76,21 +91,21 @@ impl MemFiles {
 
     /// How many calls were made.
     pub fn calls(&self) -> u64
-        ensures { result ≡ self.now.calls }
+        ensures { result ≡ mem_calls self.now }
     {
         self.calls
     }
 
     /// How often a read failed, or `exists` or `begin`.
     pub fn read_faults(&self) -> u64
-        ensures { result ≡ self.now.read_faults }
+        ensures { result ≡ mem_read_faults self.now }
     {
         self.read_faults
     }
 
     /// How often an append failed.
     pub fn append_faults(&self) -> u64
-        ensures { result ≡ self.now.append_faults }
+        ensures { result ≡ mem_append_faults self.now }
     {
         self.append_faults
     }
@@ -134,9 +149,9 @@ impl Files for MemFiles {
 
     ghost allowance = { mem_allowance };
 
-    ghost read_faults = { λ files. files.read_faults };
+    ghost read_faults = { mem_read_faults };
 
-    ghost append_faults = { λ files. files.append_faults };
+    ghost append_faults = { mem_append_faults };
 
     fn exists(&mut self, name: &str) -> Result<bool, IoFault> {
         if self.next_call().is_some() {
@@ -203,7 +218,8 @@ impl MemSink {
     /// Nothing is taken, and no call is to fail.
     pub fn new(alloc: Global) -> MemSink
         ensures taken { mem_taken result ≡ Some [] }
-        ensures faults { result.faults ≡ 0 }
+        ensures planned { sink_planned result ≡ [] }
+        ensures faults { mem_faults result ≡ 0 }
     {
         MemSink::in_pieces(alloc, usize::MAX)
     }
@@ -211,7 +227,8 @@ impl MemSink {
     /// The same, and a write takes at most `piece` bytes, or one where that is 0.
     pub fn in_pieces(alloc: Global, piece: usize) -> MemSink
         ensures taken { mem_taken result ≡ Some [] }
-        ensures faults { result.faults ≡ 0 }
+        ensures planned { sink_planned result ≡ [] }
+        ensures faults { mem_faults result ≡ 0 }
     {
         MemSink {
             bytes: Vec::new(alloc),
@@ -223,7 +240,12 @@ impl MemSink {
     }
 
     /// Plans that the call of this number fails.
-    pub fn fail_at(&mut self, call: u64) -> Result<(), AllocError> {
+    pub fn fail_at(&mut self, call: u64) -> Result<(), AllocError>
+        ensures ok { OnOk result (sink_planned self.new ≡ sink_planned self.old ++ call ∷ []) }
+        ensures err { OnErr result (sink_planned self.new ≡ sink_planned self.old) }
+        ensures taken { mem_taken self.new ≡ mem_taken self.old }
+        ensures faults { mem_faults self.new ≡ mem_faults self.old }
+    {
         self.planned.push(call)?;
         Ok(())
     }
@@ -237,7 +259,7 @@ impl MemSink {
 
     /// How often a write failed.
     pub fn faults(&self) -> u64
-        ensures { result ≡ self.now.faults }
+        ensures { result ≡ mem_faults self.now }
     {
         self.faults
     }
@@ -246,7 +268,7 @@ impl MemSink {
 impl Sink for MemSink {
     ghost taken = { mem_taken };
 
-    ghost faults = { λ sink. sink.faults };
+    ghost faults = { mem_faults };
 
     fn write(&mut self, bytes: &[u8]) -> Result<usize, IoFault> {
         let call = self.calls;

@@ -1,3 +1,4 @@
+//! The traits of the outside.
 ghost use Rattle.std.specs.Prelude.{◌≡◌, ◌≢◌, ℕ, ◌^◌, ◌<◌, ◌≤◌, List, Option, Bool, false, is_ok, length, IsTrue, IsNone, IsSome, IsErr, OnOk, OnErr, IfOk};
 ghost use Rattle.std.specs.Io.KnownBytes.{WriteAppends, ReadConsumes};
 ghost use Rattle.std.specs.Io.{ReadsAtMost};
@@ -41,7 +42,7 @@ pub trait Files {
     /// The bytes under a name, or none where there is no such file.
     ghost held: { Self → List ℕ → Option (List ℕ) };
 
-    /// The name of the file that was begun. It is told of each implementation whether there is one.
+    /// The name of the file that was begun. Each implementation tells whether there is one.
     ghost begun: { Self → Option (List ℕ) };
 
     /// The bytes of that file that are not yet read.
@@ -192,7 +193,7 @@ pub trait Door {
     /// Ends the session, if one is there.
     fn hang_up(&mut self)
         ensures session { is_open self.new ≡ false }
-        ensures faults { faults self.old ≤ faults self.new }
+        ensures faults { faults self.new ≡ faults self.old }
 
         ensures accepts { accepts self.new ≡ accepts self.old }
         ensures dials { dials self.new ≡ dials self.old }

@@ -7,7 +7,7 @@ ghost use Rattle.hw_io.specs.Faults.{HasCause, raised};
 ghost use Rattle.hw_io.specs.Files.{SameFiles, IsAnswer, Begins, Appended, Spends};
 ghost use Rattle.hw_io.specs.Sinks.{TakesSome};
 ghost use Rattle.hw_io.specs.Doors.{ends_after};
-ghost use Rattle.hw_io.specs.Sure.{sure_held, sure_begun, sure_unread, sure_allowance, sure_taken};
+ghost use Rattle.hw_io.specs.Sure.{sure_held, sure_begun, sure_unread, sure_allowance, sure_read_faults, sure_taken};
 
 use crate::outside::{Door, Files, IoFault, Sink};
 use crate::shelf::Shelf;
@@ -26,7 +26,7 @@ impl SureFiles {
     pub fn new(alloc: Global) -> SureFiles
         ensures files { (name : List ℕ) → sure_held result name ≡ None }
         ensures begun { sure_begun result ≡ None }
-        ensures read_faults { result.read_faults ≡ 0 }
+        ensures read_faults { sure_read_faults result ≡ 0 }
     {
         SureFiles {
             shelf: Shelf::new(alloc, usize::MAX),
@@ -37,6 +37,9 @@ impl SureFiles {
     /// Puts the bytes at the end of a file, as an append, without a call of `Files`.
     pub fn put(&mut self, name: &str, bytes: &[u8]) -> Result<(), AllocError>
         ensures bytes { Appended (sure_held self.old) (sure_held self.new) name.now bytes.now result }
+        ensures begun { sure_begun self.new ≡ sure_begun self.old }
+        ensures unread { sure_begun self.old ≢ Some name.now → sure_unread self.new ≡ sure_unread self.old }
+        ensures read_faults { sure_read_faults self.new ≡ sure_read_faults self.old }
     {
         self.shelf.append(name, bytes)
     }
@@ -50,7 +53,7 @@ impl SureFiles {
 
     /// How often a rule made a read or `begin` fail.
     pub fn read_faults(&self) -> u64
-        ensures { result ≡ self.now.read_faults }
+        ensures { result ≡ sure_read_faults self.now }
     {
         self.read_faults
     }
@@ -74,7 +77,7 @@ impl Files for SureFiles {
 
     ghost allowance = { sure_allowance };
 
-    ghost read_faults = { λ files. files.read_faults };
+    ghost read_faults = { sure_read_faults };
 
     ghost append_faults = { λ _. 0 };
 
@@ -88,12 +91,12 @@ impl Files for SureFiles {
 
     fn begin(&mut self, name: &str) -> Result<(), IoFault>
         ensures sure { IsOk result ↔ IsSome (sure_held self.old name.now) }
-        ensures count { OnOk result (self.new.read_faults ≡ self.old.read_faults) }
+        ensures count { OnOk result (sure_read_faults self.new ≡ sure_read_faults self.old) }
 
         ensures whole { OnOk result (Begins (sure_held self.old name.now) name.now (sure_begun self.new) (sure_unread self.new)) }
         ensures none { OnErr result (sure_begun self.new ≡ None) }
         ensures allowance { OnOk result (sure_allowance self.new ≤ 2 ^ 62) }
-        ensures cause { HasCause self.old.read_faults self.new.read_faults result }
+        ensures cause { HasCause (sure_read_faults self.old) (sure_read_faults self.new) result }
         ensures files { SameFiles (sure_held self.old) (sure_held self.new) }
     {
         if !self.shelf.begin(name) {
@@ -105,13 +108,13 @@ impl Files for SureFiles {
 
     fn read(&mut self, buf: &mut [u8]) -> Result<usize, IoFault>
         ensures sure { OnErr result ((sure_begun self.old ≡ None) ⊎ (sure_allowance self.old ≡ 0)) }
-        ensures count { OnOk result (self.new.read_faults ≡ self.old.read_faults) }
+        ensures count { OnOk result (sure_read_faults self.new ≡ sure_read_faults self.old) }
 
         ensures bound { ReadsAtMost result buf.new }
         ensures bytes { ReadConsumes (Some (sure_unread self.old)) (Some (sure_unread self.new)) result buf.new }
         ensures none { IsNone (sure_begun self.old) → IsErr result }
         ensures allowance { Spends (sure_allowance self.old) (sure_allowance self.new) result }
-        ensures cause { HasCause self.old.read_faults self.new.read_faults result }
+        ensures cause { HasCause (sure_read_faults self.old) (sure_read_faults self.new) result }
         ensures files { SameFiles (sure_held self.old) (sure_held self.new) }
         ensures begun { sure_begun self.new ≡ sure_begun self.old }
     {

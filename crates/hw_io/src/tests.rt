@@ -50,7 +50,10 @@ fn files_in_memory_are_read_and_appended_to(rt: HostRuntime) {
     assert_eq!(rt; exchange(&mut files, "log", &mut buf), EXCHANGED);
     assert_eq!(rt; buf, *b"abcde\0\0\0");
     assert_eq!(rt; files.file("log"), Some(b"abcde".as_slice()));
-    assert_eq!(rt; [files.calls(), files.read_faults(), files.append_faults()], [9, 2, 0]);
+    assert_eq!(rt;
+        [files.calls(), files.read_faults(), files.append_faults()],
+        [9, 2, 0]
+    );
 }
 
 #[test]
@@ -74,7 +77,10 @@ fn real_files_are_read_and_appended_to(rt: HostRuntime) -> Result<(), Fail> {
     fs::remove_file(&rt, name)?;
     assert_eq!(rt; answers, EXCHANGED);
     assert_eq!(rt; buf, *b"abcde\0\0\0");
-    assert_eq!(rt; files.append("missing_folder/log", b"x"), Err(IoFault::Failed));
+    assert_eq!(rt;
+        files.append("missing_folder/log", b"x"),
+        Err(IoFault::Failed)
+    );
     Ok(())
 }
 
@@ -171,8 +177,16 @@ fn a_buffer_loses_no_byte_whatever_sizes_the_reads_come_in(rt: HostRuntime) -> R
         files.fail_at(2, 0)?;
         files.begin("log")?;
         let mut buffer = ReadBuffer::new(rt.alloc());
-        assert_eq!(rt; buffered(&mut files, &mut buffer), answers, "in pieces of {piece}");
-        assert_eq!(rt; buffer.as_slice(), b"defghij".as_slice(), "in pieces of {piece}");
+        assert_eq!(rt;
+            buffered(&mut files, &mut buffer),
+            answers,
+            "in pieces of {piece}"
+        );
+        assert_eq!(rt;
+            buffer.as_slice(),
+            b"defghij".as_slice(),
+            "in pieces of {piece}"
+        );
     }
     Ok(())
 }
@@ -211,7 +225,10 @@ fn a_door_that_is_sure_fails_without_a_session(rt: HostRuntime) {
 #[test]
 fn a_clock_gives_its_moments_and_then_the_last(rt: HostRuntime) -> Result<(), Fail> {
     let mut clock = SetClock::new(vec![in rt.alloc(); 5, 3, 9]?);
-    assert_eq!(rt; [clock.now(), clock.now(), clock.now(), clock.now()], [5, 3, 9, 9]);
+    assert_eq!(rt;
+        [clock.now(), clock.now(), clock.now(), clock.now()],
+        [5, 3, 9, 9]
+    );
     let mut none = SetClock::new(Vec::new(rt.alloc()));
     assert_eq!(rt; none.now(), 0);
     Ok(())

@@ -1,4 +1,3 @@
-use Rattle.std.proofs.Common.{◌≡◌}
 use Rattle.std.proofs.lemmas.Result.{err_from_is_err_and}
 use Rattle.hw_types.specs.Reading.{many_at}
 use Rattle.hw_codec.proofs.Loop.{goes_on, ends, is_done}

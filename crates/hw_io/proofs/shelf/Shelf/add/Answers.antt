@@ -6,5 +6,5 @@ returns-clause-ok c = record {
   file = record { name = c.in_ok-from_slice.field-0; bytes = c.in_ok-from_slice-2.field-0 };
   named = c.in_ok-from_slice.ensures.items ∙ c.as_bytes.ensures.value;
   holds = c.in_ok-from_slice-2.ensures.items;
-  last = c.in_ok-push.ensures.items
+  last = c.in_ok-push.ensures.items;
 }
