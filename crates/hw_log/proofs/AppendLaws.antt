@@ -1,8 +1,8 @@
 -- What is written is read, and what is appended comes last.
-use Rattle.std.proofs.Common.{◌≡◌, ℕ, zero, suc, ◌+◌, ◌^◌, ◌<◌, ◌≤◌, Bool, true, false, cond, ltb, List, [], ◌∷◌, ◌++◌, length, take, drop, codes, slice_index, ◌==◌, if◌then◌else◌, Option, Some, None, Result, Ok, Err, refl, sym, ap, inl, inr, ◌∙◌, arith, length-append, append_assoc}
-use Rattle.std.specs.Int.{w32, from_be_bytes, to_be_bytes}
-use Rattle.std.proofs.lemmas.Bool.{le-ltb, eq-eqb}
-use Rattle.std.proofs.lemmas.List.{append-nil, take_all, drop_all}
+use Rattle.std.proofs.Common.{◌≡◌, ℕ, zero, suc, ◌+◌, ◌<◌, ◌≤◌, Bool, true, false, cond, ltb, List, [], ◌∷◌, ◌++◌, length, drop, codes, slice_index, ◌==◌, if◌then◌else◌, Option, Some, None, Result, Ok, Err, refl, sym, ap, ◌∙◌, arith, length-append}
+use Rattle.std.specs.Int.{w32, from_be_bytes}
+use Rattle.std.proofs.lemmas.Bool.{le-ltb}
+use Rattle.std.proofs.lemmas.List.{take_all, drop_all}
 use Rattle.std.proofs.lemmas.Nat.{from_be_bytes-to_be_bytes_4}
 use Rattle.hw_types.specs.declared.unit.Vertex.{Vertex}
 use Rattle.hw_types.specs.declared.config.Config.{Config}
@@ -12,14 +12,13 @@ use Rattle.hw_types.specs.Reading.{Rest, vertex_of, config_of}
 use Rattle.hw_codec.specs.Ranges.{VertexInRange, ConfigInRange}
 use Rattle.hw_codec.proofs.Spelled.{vertex_spelled_reads, config_spelled_reads}
 use Rattle.hw_log.specs.declared.entry.LogEntry.{LogEntry}
-use Rattle.hw_log.specs.declared.head.EntryHead.{EntryHead}
 use Rattle.hw_log.specs.declared.error.LogError.{LogError}
-use Rattle.hw_log.specs.declared.error.LogError.TheVariants.{Torn, TooLong, BadConfig, BadVertex}
-use Rattle.hw_log.specs.Log.{◌>>=◌, rest_at, bytes_at, decoded, is_too_long, refuse, config_length, checked_config, header_of, head_of, head_at, body_at, entry_at, next_at, Entries, with_next, entries_in, entries_of, log_of, header_bytes, entry_bytes}
+use Rattle.hw_log.specs.declared.error.LogError.TheVariants.{Torn, TooLong}
+use Rattle.hw_log.specs.Log.{◌>>=◌, rest_at, bytes_at, is_too_long, config_length, checked_config, header_of, head_of, head_at, body_at, entry_at, next_at, Entries, with_next, entries_in, entries_of, log_of, header_bytes, entry_bytes}
 use Rattle.hw_log.proofs.FieldLaws.{bytes_held}
 use Rattle.hw_log.proofs.LengthLaws.{vertex_short, config_short}
 use Rattle.hw_log.proofs.EntryLaws.{bind_ok, as_next, next_at-entry, next_at-shorter, entries_next}
-use Rattle.hw_log.proofs.MoreLaws.{more_of, end_at, with_more, next_at-none, next_at-reads, header_of-reads}
+use Rattle.hw_log.proofs.MoreLaws.{more_of, end_at, next_at-none, next_at-reads, header_of-reads}
 use Rattle.hw_log.proofs.RunLaws.{with_entries}
 
 -- all of the bytes are taken

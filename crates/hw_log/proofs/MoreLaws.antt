@@ -1,6 +1,5 @@
 -- More bytes behind what was read change nothing of it.
-use Rattle.std.proofs.Common.{◌≡◌, ℕ, ◌+◌, ◌<◌, ◌≤◌, Bool, true, false, not, cond, ltb, List, [], ◌∷◌, ◌++◌, length, take, drop, codes, slice_index, nat_eq, ◌==◌, Option, Some, None, Result, Ok, Err, refl, sym, ap, inl, inr, ◌∙◌, arith, length-append, length-drop}
-use Rattle.std.specs.Int.{w32, from_be_bytes}
+use Rattle.std.proofs.Common.{◌≡◌, ℕ, ◌+◌, ◌≤◌, not, ltb, List, ◌++◌, length, take, drop, codes, slice_index, nat_eq, ◌==◌, Option, Some, None, Result, Ok, Err, sym, ap, inl, inr, ◌∙◌, arith, length-append, length-drop}
 use Rattle.std.specs.List.{starts_with}
 use Rattle.std.proofs.lemmas.Bool.{ltb-false, cases_lt}
 use Rattle.std.proofs.lemmas.List.{take-append-le, drop-append-le, length-take}
@@ -10,8 +9,8 @@ use Rattle.hw_types.specs.Reading.{Rest, vertex_of}
 use Rattle.hw_log.specs.declared.entry.LogEntry.{LogEntry}
 use Rattle.hw_log.specs.declared.head.EntryHead.{EntryHead}
 use Rattle.hw_log.specs.declared.error.LogError.{LogError}
-use Rattle.hw_log.specs.declared.error.LogError.TheVariants.{BadMagic, Version, Torn, TooLong, BadVertex}
-use Rattle.hw_log.specs.Log.{◌>>=◌, rest_at, bytes_at, decoded, is_too_long, config_length, checked_config, header_of, head_of, head_at, body_at, entry_at, next_at}
+use Rattle.hw_log.specs.declared.error.LogError.TheVariants.{BadMagic, Version, Torn, BadVertex}
+use Rattle.hw_log.specs.Log.{◌>>=◌, rest_at, bytes_at, decoded, config_length, checked_config, header_of, head_of, head_at, body_at, entry_at, next_at}
 use Rattle.hw_log.proofs.FieldLaws.{bytes_held}
 use Rattle.hw_log.proofs.EntryLaws.{bind_ok, chosen, entry_at-shorter, with_head, with_vertex, with_body, as_next, next_at-end, next_at-entry, end_or_entry}
 

@@ -47,7 +47,8 @@ impl LogReader {
     pub fn begin<F: Files>(alloc: Global, files: &mut F, name: &str) -> Result<LogReader, LogError>
         // The answer is what the header of the file's bytes says.
         ensures said { IsTrue F.tells → Opens (F.held files.old name.now) (F.unread files.new) result }
-        ensures checked { IfOk result (λ reader. (config_fault reader.config ≡ None) × ConfigFits reader.config) }
+        ensures checked { IfOk result (λ reader.
+            (config_fault reader.config ≡ None) × ConfigFits reader.config) }
         ensures places { IfOk result (λ reader. PlacesFit reader (F.allowance files.new)) }
         ensures cause { HasReadCause (F.read_faults files.old) (F.read_faults files.new) result }
 
@@ -82,11 +83,15 @@ impl LogReader {
     pub fn next<F: Files>(&mut self, files: &mut F) -> Result<Option<LogEntry>, LogError>
         requires { PlacesFit self.old (F.allowance files.old) }
         // The answer is what the log says next, and the reader stands behind it.
-        ensures said { IsTrue F.tells → Gives (λ entry. (entry, left_of self.new (F.unread files.new))) result (next_at (left_of self.old (F.unread files.old))) }
+        ensures said { IsTrue F.tells →
+            Gives (λ entry. (entry, left_of self.new (F.unread files.new))) result
+            (next_at (left_of self.old (F.unread files.old))) }
         ensures entry { IfOk result (λ entry. IfSome entry (λ e. (e.at ≡ self.old.place) × VertexFits e.vertex)) }
         ensures config { self.new.config ≡ self.old.config }
         ensures places { PlacesFit self.new (F.allowance files.new) }
-        ensures nearer { IfOk result (λ entry. IfSome entry (λ e. ahead_of self.new (F.allowance files.new) < ahead_of self.old (F.allowance files.old))) }
+        // After an entry fewer bytes may still come.
+        ensures nearer { IfOk result (λ entry. IfSome entry (λ e.
+            ahead_of self.new (F.allowance files.new) < ahead_of self.old (F.allowance files.old))) }
         ensures cause { HasReadCause (F.read_faults files.old) (F.read_faults files.new) result }
 
         ensures files { SameFiles (F.held files.old) (F.held files.new) }

@@ -25,11 +25,13 @@ pub fn append_header<F: Files>(
     config: &Config,
 ) -> Result<(), LogError>
     requires { ConfigFits config.now }
-    ensures bytes { IsTrue F.tells → Appended (F.held files.old) (F.held files.new) name.now (header_bytes config.now) result }
+    ensures bytes { IsTrue F.tells →
+        Appended (F.held files.old) (F.held files.new) name.now (header_bytes config.now) result }
     ensures cause { HasAppendCause (F.append_faults files.old) (F.append_faults files.new) result }
 
     ensures begun { F.begun files.new ≡ F.begun files.old }
-    ensures unread { IsTrue F.tells → F.begun files.old ≢ Some name.now → F.unread files.new ≡ F.unread files.old }
+    ensures unread { IsTrue F.tells → F.begun files.old ≢ Some name.now
+        → F.unread files.new ≡ F.unread files.old }
     ensures allowance { F.allowance files.new ≡ F.allowance files.old }
     ensures reads { F.read_faults files.new ≡ F.read_faults files.old }
 {
@@ -59,11 +61,13 @@ pub fn entry_bytes(alloc: Global, verdict: bool, vertex: &Vertex) -> Result<Byte
 /// Its errors are `WriteFault`, where the append failed, and want of memory. After an error the file
 /// holds what it held and a prefix of the entry.
 pub fn append_entry<F: Files>(files: &mut F, name: &str, entry: &Bytes) -> Result<(), LogError>
-    ensures bytes { IsTrue F.tells → Appended (F.held files.old) (F.held files.new) name.now entry.now result }
+    ensures bytes { IsTrue F.tells →
+        Appended (F.held files.old) (F.held files.new) name.now entry.now result }
     ensures cause { HasAppendCause (F.append_faults files.old) (F.append_faults files.new) result }
 
     ensures begun { F.begun files.new ≡ F.begun files.old }
-    ensures unread { IsTrue F.tells → F.begun files.old ≢ Some name.now → F.unread files.new ≡ F.unread files.old }
+    ensures unread { IsTrue F.tells → F.begun files.old ≢ Some name.now
+        → F.unread files.new ≡ F.unread files.old }
     ensures allowance { F.allowance files.new ≡ F.allowance files.old }
     ensures reads { F.read_faults files.new ≡ F.read_faults files.old }
 {
@@ -76,7 +80,8 @@ fn append<F: Files>(files: &mut F, name: &str, bytes: &[u8]) -> Result<(), LogEr
     ensures cause { HasAppendCause (F.append_faults files.old) (F.append_faults files.new) result }
 
     ensures begun { F.begun files.new ≡ F.begun files.old }
-    ensures unread { IsTrue F.tells → F.begun files.old ≢ Some name.now → F.unread files.new ≡ F.unread files.old }
+    ensures unread { IsTrue F.tells → F.begun files.old ≢ Some name.now
+        → F.unread files.new ≡ F.unread files.old }
     ensures allowance { F.allowance files.new ≡ F.allowance files.old }
     ensures reads { F.read_faults files.new ≡ F.read_faults files.old }
 {

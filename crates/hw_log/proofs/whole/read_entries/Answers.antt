@@ -1,8 +1,7 @@
-use Rattle.std.proofs.Common.{◌≡◌, ℕ, List, Some, None, Ok, Err, inl, inr, ap, rules, arith, ◌∙◌}
+use Rattle.std.proofs.Common.{inl, inr, ap, arith, ◌∙◌}
 use Rattle.std.proofs.lemmas.Result.{err_from_is_err_and}
 use Rattle.hw_log.proofs.RunLaws.{stands_next, stands_last, stands_at_fault}
-use Rattle.hw_log.specs.Log.{log_of}
-use Rattle.hw_log.specs.Whole.{IsFaultOf, first_fault}
+use Rattle.hw_log.specs.Whole.{first_fault}
 use Rattle.hw_log.proofs.whole.read_entries.Goals as goal
 
 pub returns-in_err-entry-clause-fault : goal.returns-in_err-entry-clause-fault
