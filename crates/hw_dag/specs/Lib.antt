@@ -1,0 +1,4 @@
+pub mod Dag
+pub mod Admission
+pub mod Lanes
+pub mod Laws
