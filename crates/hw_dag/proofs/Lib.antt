@@ -1,0 +1,4 @@
+pub mod PlaceLaws
+pub mod NodeLaws
+pub mod SlotLaws
+pub mod LawfulLaws
