@@ -2,3 +2,5 @@ pub mod PlaceLaws
 pub mod NodeLaws
 pub mod SlotLaws
 pub mod LawfulLaws
+pub mod ChainLaws
+pub mod GrowthLaws

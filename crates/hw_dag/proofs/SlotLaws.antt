@@ -30,6 +30,16 @@ obs_number dag view.Absent d e = absurd (cc)
 obs_number dag view.Faulty d e = absurd (cc)
 obs_number dag (view.Correct number) d e = (number, refl, cc)
 
+-- a citation is the name of a number
+pub cited_name : (dag : UnitGraph) (panorama : List View) (x : Node) → cites (observations dag panorama) x ≡ true
+    → (v : ℕ) × (number : UnitNo) × (view_at panorama v ≡ view.Correct number) × ((unit_at dag number.0).digest ≡ x.digest)
+cited_name dag panorama x t =
+    let o = some_of (λ (o : Obs). observes o x.digest) (observations dag panorama) t in
+    let v = among_slot (observations dag panorama) o.0 o.1 in
+    let d = named_by o.0 x.digest o.2 in
+    let k = obs_number dag (view_at panorama v.0) x.digest (sym (slot_of dag panorama v.0) ∙ v.2 ∙ d) in
+    (v.0, k.0, k.1, k.2)
+
 module _ (dag : UnitGraph) (g : IsGraph dag) where
   -- the panorama of the unit of a number
   pub slot_at : (n v : ℕ) → n < count_of dag → slot (unit_at dag n).signed.unit.panorama v ≡ obs_of dag (view_at (unit_at dag n).panorama v)
@@ -50,8 +60,5 @@ module _ (dag : UnitGraph) (g : IsGraph dag) where
   pub cited_number : (panorama : List View) (n : ℕ) → ((v : ℕ) (number : UnitNo) → view_at panorama v ≡ view.Correct number → number.0 < count_of dag) → n < count_of dag
       → cites (observations dag panorama) (node_at dag n) ≡ true → (v : ℕ) × (number : UnitNo) × (view_at panorama v ≡ view.Correct number) × (number.0 ≡ n)
   cited_number panorama n known lt t =
-      let o = some_of (λ (o : Obs). observes o (unit_at dag n).digest) (observations dag panorama) t in
-      let v = among_slot (observations dag panorama) o.0 o.1 in
-      let d = named_by o.0 (unit_at dag n).digest o.2 in
-      let k = obs_number dag (view_at panorama v.0) (unit_at dag n).digest (sym (slot_of dag panorama v.0) ∙ v.2 ∙ d) in
-      (v.0, k.0, k.1, g.distinct k.0.0 n (known v.0 k.0 k.1) lt k.2)
+      let k = cited_name dag panorama (node_at dag n) t in
+      (k.0, k.1, k.2, g.distinct k.1.0 n (known k.0 k.1 k.2) lt k.3)
