@@ -4,3 +4,4 @@ pub mod SlotLaws
 pub mod LawfulLaws
 pub mod ChainLaws
 pub mod GrowthLaws
+pub mod LaneLaws

@@ -13,12 +13,14 @@
 #![tactic(auto)]
 
 mod graph;
+mod laws;
 mod numbers;
 mod preparing;
 mod scratch;
 mod settled;
 
 pub use graph::Dag;
+pub use laws::{apart_is_fork, graph_is_lawful, seen_by_entry, seen_is_on_lane};
 pub use numbers::{Panorama, UnitNo, View};
 pub use preparing::{NoRoom, Prepared};
 pub use scratch::Marks;
