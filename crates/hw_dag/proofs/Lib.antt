@@ -5,3 +5,4 @@ pub mod LawfulLaws
 pub mod ChainLaws
 pub mod GrowthLaws
 pub mod LaneLaws
+pub mod SkipLaws

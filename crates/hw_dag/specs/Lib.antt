@@ -2,3 +2,4 @@ pub mod Dag
 pub mod Admission
 pub mod Lanes
 pub mod Laws
+pub mod Skips
