@@ -6,3 +6,5 @@ pub mod ChainLaws
 pub mod GrowthLaws
 pub mod LaneLaws
 pub mod SkipLaws
+pub mod DepthLaws
+pub mod AdmitLaws

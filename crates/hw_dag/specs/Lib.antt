@@ -3,3 +3,4 @@ pub mod Admission
 pub mod Lanes
 pub mod Laws
 pub mod Skips
+pub mod Tables
