@@ -1,10 +1,13 @@
 //! Units on their way into the graph.
 
-ghost use Rattle.std.specs.Prelude.{◌≡◌, ◌≤◌, [], length, is_some, true, vec_capacity, IfOk, IfErr};
+ghost use Rattle.std.specs.Prelude.{◌≡◌, ◌≤◌, ◌↔◌, [], length, is_some, true, vec_capacity, IsTrue, IfOk, IfErr};
 ghost use Rattle.hw_skip.specs.Skip.{pointer_count_of};
-ghost use Rattle.hw_dag.specs.Admission.{IsFor};
+ghost use Rattle.hw_dag.specs.Dag.{graph};
+ghost use Rattle.hw_dag.specs.Admission.{IsFor, IsResolved, AllKnown, settled_as};
 
+use crate::graph::Dag;
 use crate::numbers::{Panorama, UnitNo};
+use crate::settled::Unit;
 use hw_skip::pointer_count;
 use hw_types::{Digest, OutOfMemory, SignedUnit, WireUnit};
 use std::alloc::Global;
@@ -36,6 +39,14 @@ pub struct Prepared {
     digest: Digest,
     signed: SignedUnit,
     room: Room,
+}
+
+/// A settled unit, with room for its pointers.
+#[derive(Drop)]
+pub struct Settling {
+    pub unit: Unit,
+    pub lane: Vec<UnitNo>,
+    pub chain: Vec<UnitNo>,
 }
 
 impl Model for Prepared {
@@ -79,6 +90,38 @@ impl Prepared {
             }),
             Err(OutOfMemory) => Err(NoRoom { unit }),
         }
+    }
+
+    /// Looks up each unit that it observes, and says whether they are all there.
+    pub(crate) fn resolve_in(&mut self, dag: &Dag) -> bool
+        ensures all { IsTrue result ↔ AllKnown (graph dag.now) self.old.signed.unit.panorama }
+        ensures resolved { IsTrue result → IsResolved dag.now self.new }
+        ensures signed { self.new.signed ≡ self.old.signed }
+        ensures digest { self.new.digest ≡ self.old.digest }
+    {
+        dag.resolve_views(self.signed.unit.panorama.as_slice(), &mut self.room.panorama)
+    }
+
+    /// The settled unit of this number, with its room for pointers.
+    pub(crate) fn settle(self, no: UnitNo, fork: Option<UnitNo>, height: u64) -> Settling
+        ensures unit { result.unit ≡ settled_as self no fork height }
+        ensures lane { result.lane.items ≡ [] }
+        ensures lane_fits { pointer_count_of self.signed.unit.seq ≤ vec_capacity result.lane }
+        ensures chain { result.chain.items ≡ [] }
+        ensures chain_fits { is_some self.signed.unit.value ≡ true → 32 ≤ vec_capacity result.chain }
+    {
+        let Prepared {
+            digest,
+            signed,
+            room,
+        } = self;
+        let Room {
+            panorama,
+            lane,
+            chain,
+        } = room;
+        let unit = Unit::settle(digest, signed, panorama, no, fork, height);
+        Settling { unit, lane, chain }
     }
 
     /// Its name.

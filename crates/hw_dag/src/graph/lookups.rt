@@ -20,7 +20,8 @@ impl Dag {
         ensures found { IsLaneAt self.now no.0 seq result.0 }
         ensures jumps { steps.new ≡ steps.old + jump_count (seq_of (unit_at self.now no.0)) seq }
     {
-        match self.never {}
+        let from = self.unit(no).signed().unit.seq;
+        self.lanes.walk(no, from, seq, steps)
     }
 
     /// The ancestor of a block that has this height. It ticks once for each jump.
@@ -31,26 +32,7 @@ impl Dag {
         ensures found { IsAncestorAt self.now block.0 height result.0 }
         ensures jumps { steps.new ≡ steps.old + jump_count (unwrap_or (unit_at self.now block.0).height 0) height }
     {
-        match self.never {}
-    }
-
-    /// Whether a unit is another one or on its lane.
-    pub fn on_lane(&self, low: UnitNo, high: UnitNo) -> bool
-        requires low_known { low.0 < count_of self.now }
-        requires high_known { high.0 < count_of self.now }
-        ensures { result ≡ is_lane_below self.now low.0 high.0 }
-    {
-        match self.never {}
-    }
-
-    /// Whether `low` is `high` or below it, whoever made them.
-    pub fn sees(&self, high: UnitNo, low: UnitNo, marks: &mut Marks) -> bool
-        requires high_known { high.0 < count_of self.now }
-        requires low_known { low.0 < count_of self.now }
-        requires room { count_of self.now ≤ marks.old }
-        ensures seen { result ≡ is_seen self.now low.0 high.0 }
-        ensures room { marks.new ≡ marks.old }
-    {
-        match self.never {}
+        let from = self.unit(block).height().unwrap_or(0);
+        self.chains.walk(block, from, height, steps)
     }
 }
