@@ -57,6 +57,12 @@ module _ (dag : UnitGraph) (g : IsGraph dag) where
   pub follows_own : (n : ℕ) (p : UnitNo) → n < count_of dag → own_view (unit_at dag n) ≡ view.Correct p → follows (node_at dag n) (node_at dag p.0) ≡ true
   follows_own n p lt e = ap (λ (o : Obs). observes o (unit_at dag p.0).digest) (own_slot_is n lt ∙ ap (obs_of dag) e) ∙ digest_self (unit_at dag p.0).digest
 
+  pub lanes_down : LeadsDown (lanes_of dag.units)
+  lanes_down n p less e =
+      let len = length-lanes in
+      let lt : n < count_of dag = omega arith in
+      own_earlier n p lt (number_some (own_view (unit_at dag n)) p (sym (lane_at_is n lt) ∙ e))
+
   lane_depth_within : (fuel n : ℕ) → n < fuel → n < count_of dag → IsDepth (lanes_of dag.units) n (seq_of (unit_at dag n))
   lane_depth_within zero n less lt = absurd (omega arith)
   lane_depth_within (suc fuel) n less lt = go (own_view (unit_at dag n)) refl (lane_depth_within fuel)
@@ -118,6 +124,9 @@ module _ (dag : UnitGraph) (g : IsGraph dag) where
 
   pub parent_earlier : (n : ℕ) (p : UnitNo) → n < count_of dag → (unit_at dag n).parent ≡ Some p → p.0 < n
   parent_earlier n p lt e = (g.settled n lt).fork_earlier p (given n p lt e)
+
+  pub chains_down : LeadsDown (chains_of dag.units)
+  chains_down n p less e = let len = length-chains in let lt : n < count_of dag = omega arith in parent_earlier n p lt (sym (chain_at_is n lt) ∙ e)
 
   pub parent_is_block : (n : ℕ) (p : UnitNo) → n < count_of dag → (unit_at dag n).parent ≡ Some p → is_block (node_at dag p.0) ≡ true
   parent_is_block n p lt e = (g.settled n lt).fork.block p (given n p lt e)

@@ -8,3 +8,5 @@ pub mod LaneLaws
 pub mod SkipLaws
 pub mod DepthLaws
 pub mod AdmitLaws
+pub mod KeptLaws
+pub mod KeepLaws

@@ -139,6 +139,26 @@ module _ (backs : List (Option UnitNo)) (down : LeadsDown backs) (last : Option 
     first = back_at_stays h.root (back_from_within backs down d n h.root lt h.leads) ∙ h.first;
   }
 
+  depth_was : (n d : ℕ) → n < length backs → IsDepth (backs ++ last ∷ []) n d → IsDepth backs n d
+  depth_was n d lt h =
+      let way = sym (back_from_stays d n lt) ∙ h.leads in
+      record {
+        root = h.root;
+        leads = way;
+        first = sym (back_at_stays h.root (back_from_within backs down d n h.root lt way)) ∙ h.first;
+      }
+
+  -- how deep the last one stands
+  pub last_first : (d : ℕ) → last ≡ None → IsDepth (backs ++ last ∷ []) (length backs) d → d ≡ 0
+  last_first d e h = depth_root (backs ++ last ∷ []) (length backs) d (back_at_last ∙ e) h
+
+  pub last_next : (d : ℕ) (p : UnitNo) → last ≡ Some p → p.0 < length backs → IsDepth (backs ++ last ∷ []) (length backs) d → (1 ≤ d) × IsDepth backs p.0 (d - 1)
+  last_next d p e known h =
+      let b = depth_back (backs ++ last ∷ []) (length backs) d p (back_at_last ∙ e) h in
+      let eb = b.1 in
+      let same : b.0 ≡ d - 1 = omega arith in
+      (omega arith, subst (λ (x : ℕ). IsDepth backs p.0 x) same (depth_was p.0 b.0 known b.2))
+
   pub down_more : ((p : UnitNo) → last ≡ Some p → p.0 < length backs) → LeadsDown (backs ++ last ∷ [])
   down_more known n p lt e = elim (cases_lt n (length backs)) [
     | inl less ↦ down n p less (sym (back_at_stays n less) ∙ e)

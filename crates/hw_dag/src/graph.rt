@@ -1,7 +1,9 @@
 //! The graph and what comes into it.
 
-ghost use Rattle.std.specs.Prelude.{◌≡◌, ℕ, ◌+◌, ◌-◌, ◌^◌, ◌<◌, ◌≤◌, ◌↔◌, [], length, Some, unwrap_or, vec_capacity, IsTrue, IsNone, IfSome, IfNone, IfOk, IfErr, OnOk, OnErr};
-ghost use Rattle.hw_types.specs.Graph.{Node};
+ghost use Rattle.std.specs.Prelude.{◌≡◌, ℕ, ◌+◌, ◌-◌, ◌^◌, ◌<◌, ◌≤◌, ◌↔◌, [], ◌∷◌, ◌++◌, false, length, Some, unwrap_or, vec_capacity, IsTrue, IsNone, IfSome, IfNone, IfOk, IfErr, OnOk, OnErr};
+ghost use Rattle.std.specs.List.{list_any};
+ghost use Rattle.indexmap.specs.IndexSet.{spare as room_of};
+ghost use Rattle.hw_types.specs.Graph.{digest_eq};
 ghost use Rattle.hw_skip.specs.Skip.{pointer_count_of};
 ghost use Rattle.hw_dag.specs.Dag.{unit_at, count_of, graph, observations, seq_of};
 ghost use Rattle.hw_dag.specs.Admission.{IsFor, IsNew, IsResolved, IsFork, IsGraph, KeepsRules, AllKnown, node_prepared, height_above, settled_from, with_unit};
@@ -186,7 +188,7 @@ impl Dag {
         ensures { result ≡ height_above self.now parent }
     {
         match parent {
-            Some(parent) => self.unit(parent).height().unwrap_or(0) + 1,
+            Some(parent) => self.units[parent.0 as usize].height().unwrap_or(0) + 1,
             None => 0,
         }
     }
@@ -206,11 +208,21 @@ impl Dag {
         self.spare -= 1;
         self.lanes.push(lane, unit.predecessor(), unit.signed().unit.seq);
         self.chains.push(chain, unit.parent(), unit.height().unwrap_or(0));
-        if self.names.insert(*unit.digest()).is_err() {
-            unreachable!()
-        }
+        add_name(&mut self.names, *unit.digest());
         if self.units.push(unit).is_err() {
             unreachable!()
         }
+    }
+}
+
+// Puts a new name last.
+fn add_name(names: &mut IndexSet<Digest>, name: Digest)
+    requires room { 1 ≤ room_of names.old }
+    requires fresh { list_any (digest_eq name) names.old.keys ≡ false }
+    ensures keys { names.new.keys ≡ names.old.keys ++ name ∷ [] }
+    ensures room { room_of names.old ≤ room_of names.new + 1 }
+{
+    if names.insert(name).is_err() {
+        unreachable!()
     }
 }
