@@ -15,7 +15,7 @@ use Rattle.hw_dag.specs.declared.numbers.UnitNo.{UnitNo}
 use Rattle.hw_dag.specs.declared.numbers.View.{View}
 use Rattle.hw_dag.specs.declared.numbers.View.TheVariants as view
 use Rattle.hw_dag.specs.Dag.{SettledUnit, UnitGraph, stand_in, unit_at, count_of, node_of, node_at, graph, creator_of, view_at, obs_of, observations, IsPanorama, GrowsTo}
-use Rattle.hw_dag.specs.Admission.{PreparedUnit, node_prepared, IsFor, IsResolved, IsNew, KeepsRules, IsFork, height_above, settled_from, with_unit, fork_given, IsSettled, IsGraph}
+use Rattle.hw_dag.specs.Admission.{PreparedUnit, node_prepared, IsFor, IsResolved, IsNew, KeepsRules, IsFork, height_above, settled_as, settled_from, with_unit, fork_given, IsSettled, IsGraph}
 use Rattle.hw_dag.proofs.NodeLaws.{AreApart, apart_found, graph_one_name}
 use Rattle.hw_dag.proofs.SlotLaws.{slot_of, length-observations, latest_of}
 use Rattle.hw_dag.proofs.DepthLaws.{parent_earlier}
@@ -201,3 +201,11 @@ module _ (dag : UnitGraph) (g : IsGraph dag) (p : PreparedUnit) (fork : Option U
       | inr new ↦ subst (λ (k : ℕ). IsSettled later k (unit_at later k)) (sym new) (subst (λ (u : SettledUnit). IsSettled later (count_of dag) u) (sym last_at) last_settled)
     ];
   }
+
+-- the unit as the code makes it
+pub settled_same : (dag : UnitGraph) (p : PreparedUnit) (fork : Option UnitNo) (u : SettledUnit) (n h : ℕ) → u ≡ settled_as p (record { 0 = n }) fork h → n ≡ count_of dag → h ≡ height_above dag fork → u ≡ settled_from dag p fork
+settled_same dag p fork u n h e count height =
+    e ∙ ap (λ (k : ℕ). settled_as p (record { 0 = k }) fork h) count ∙ ap (λ (k : ℕ). settled_as p (record { 0 = count_of dag }) fork k) height
+
+pub graph_with : (dag : UnitGraph) (g : IsGraph dag) (p : PreparedUnit) (fork : Option UnitNo) (ready : IsReady dag p fork) (u : SettledUnit) → u ≡ settled_from dag p fork → IsGraph (with_unit dag u)
+graph_with dag g p fork ready u e = subst (λ (v : SettledUnit). IsGraph (with_unit dag v)) (sym e) (graph_more dag g p fork ready)

@@ -15,12 +15,13 @@ use Rattle.hw_skip.specs.Skip.{pointer_count_of}
 use Rattle.hw_skip.proofs.JumpLaws.{pointers_lead}
 use Rattle.hw_dag.specs.declared.numbers.UnitNo.{UnitNo}
 use Rattle.hw_dag.specs.Dag.{SettledUnit, UnitGraph, stand_in, unit_at, count_of, seq_of}
-use Rattle.hw_dag.specs.Admission.{IsNew, IsGraph, with_unit}
+use Rattle.hw_dag.specs.Admission.{IsNew, IsGraph, with_unit, height_above}
+use Rattle.hw_dag.proofs.KeptLaws.{height_bound}
 use Rattle.hw_dag.specs.Skips.{IsDepth, LeadsDown}
 use Rattle.hw_dag.specs.Tables.{IsKept, predecessor_of, names_of, lanes_of, chains_of}
 use Rattle.hw_dag.proofs.PlaceLaws.{among_place}
 use Rattle.hw_dag.proofs.DepthLaws.{height_at, lane_depth, chain_depth, lanes_down, chains_down, length-lanes, length-chains, lane_at_is, chain_at_is}
-use Rattle.hw_dag.proofs.SkipLaws.{last_first, last_next}
+use Rattle.hw_dag.proofs.SkipLaws.{last_first, last_next, none_count}
 
 -- a number below 2 ^ 32 has no more pointers than 32
 pub few_pointers : (d : ℕ) → d < 2 ^ 32 → pointer_count_of d ≤ 32
@@ -123,3 +124,12 @@ pub kept_as : (validators spare : ℕ) (units units' : List SettledUnit) (names 
 kept_as validators spare units units' names names' lanes lanes' chains chains' k a b c d =
     let e : IsKept (record { validators = validators; spare = spare; units = units' }) names lanes chains = subst (λ (us : List SettledUnit). IsKept (record { validators = validators; spare = spare; units = us }) names lanes chains) (sym a) k in
     record { graph_is = e.graph_is; names_are = b ∙ e.names_are; lanes_are = c ∙ e.lanes_are; chains_are = d ∙ e.chains_are }
+
+-- a block has room for its pointers
+pub chain_room : (b : Bool) (h room : ℕ) → h < 2 ^ 32 → (b ≡ true → 32 ≤ room) → pointer_count_of (unwrap_or (if b then Some h else None) 0) ≤ room
+chain_room true h room small fits = let few = few_pointers h small in let enough = fits refl in omega arith
+chain_room false h room small fits = let none = none_count 0 refl in omega arith
+
+pub height_above_bound : (dag : UnitGraph) → IsGraph dag → (parent : Option UnitNo) → ((p : UnitNo) → parent ≡ Some p → p.0 < count_of dag) → height_above dag parent ≤ count_of dag
+height_above_bound dag g None known = omega arith
+height_above_bound dag g (Some p) known = let low = height_bound dag g p.0 (known p refl) in let less = known p refl in omega arith
