@@ -10,3 +10,4 @@ pub mod DepthLaws
 pub mod AdmitLaws
 pub mod KeptLaws
 pub mod KeepLaws
+pub mod ResolveLaws

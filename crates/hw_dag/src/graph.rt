@@ -173,6 +173,7 @@ impl Dag {
         ensures observes { IsTrue result → observations self.now panorama.new ≡ observed.now }
         ensures known { IsTrue result → IsKnown self.now panorama.new }
     {
+        let _ = &self.names;
         for (slot, obs) in observed.iter().enumerate() {
             let Some(view) = self.view_of(obs) else {
                 return false;

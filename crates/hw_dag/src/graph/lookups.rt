@@ -10,7 +10,8 @@ use crate::graph::Dag;
 use crate::numbers::UnitNo;
 use crate::scratch::Marks;
 use hw_skip::Steps;
-use std::sync::ledger::Ledger;
+use std::marker::Brand;
+use std::sync::ledger::{Blank, Ledger};
 
 impl Dag {
     /// The unit numbered `seq` on the lane of a unit. It ticks once for each jump.
@@ -34,5 +35,32 @@ impl Dag {
     {
         let from = self.unit(block).height().unwrap_or(0);
         self.chains.walk(block, from, height, steps)
+    }
+
+    /// Whether a unit is another one or on its lane.
+    pub fn on_lane(&self, low: UnitNo, high: UnitNo) -> bool
+        requires low_known { low.0 < count_of self.now }
+        requires high_known { high.0 < count_of self.now }
+        ensures { result ≡ is_lane_below self.now low.0 high.0 }
+    {
+        let seq = self.units[low.0 as usize].signed().unit.seq;
+        if self.units[high.0 as usize].signed().unit.seq < seq {
+            return false;
+        }
+        let found = self.lane_at_uncounted::<Brand>(high, seq, Blank::new(1));
+        found.0 == low.0
+    }
+
+    /// `lane_at` where nobody counts.
+    fn lane_at_uncounted<L: Ledger>(&self, no: UnitNo, seq: u64, blank: Blank) -> UnitNo
+        requires known { no.0 < count_of self.now }
+        requires within { seq ≤ seq_of (unit_at self.now no.0) }
+        requires name { blank.name ≡ L.name }
+        requires parts { blank.parts ≡ L.parts }
+        requires some { 0 < L.parts }
+        ensures { IsLaneAt self.now no.0 seq result.0 }
+    {
+        let mut steps = Steps::<L>::new(blank);
+        self.lane_at(no, seq, &mut steps)
     }
 }
