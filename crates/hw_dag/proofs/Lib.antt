@@ -11,3 +11,4 @@ pub mod AdmitLaws
 pub mod KeptLaws
 pub mod KeepLaws
 pub mod ResolveLaws
+pub mod MarkLaws

@@ -4,3 +4,4 @@ pub mod Lanes
 pub mod Laws
 pub mod Skips
 pub mod Tables
+pub mod Walks
