@@ -50,7 +50,7 @@ module _ (dag : UnitGraph) (g : IsGraph dag) (p : PreparedUnit) (fork : Option U
           ∙ ap (λ (o : Option UnitNo). option_map (λ (number : UnitNo). node_at later number.0) o) (last_fork dag g p fork ready)
           ∙ chosen_stays fork ready.fork_is.known ∙ choice
           ∙ sym (subst (λ (os : List Obs). fork_of weights (graph later) os ≡ fork_of weights (graph dag) os) ready.resolved.observes
-            (fork_stays dag later (grows dag g p fork ready) g (later_apart dag g p fork ready) weights p.panorama ready.resolved.known))
+          (fork_stays dag later (grows dag g p fork ready) g (later_apart dag g p fork ready) weights p.panorama ready.resolved.known))
           ∙ sym (ap (λ (u : SettledUnit). fork_of weights (graph later) u.signed.unit.panorama) (last_at dag g p fork ready))
 
 pub votes_stay : VotesStay
