@@ -1,0 +1,17 @@
+pub mod PlaceLaws
+pub mod NodeLaws
+pub mod SlotLaws
+pub mod LawfulLaws
+pub mod ChainLaws
+pub mod GrowthLaws
+pub mod LaneLaws
+pub mod SkipLaws
+pub mod DepthLaws
+pub mod AdmitLaws
+pub mod KeptLaws
+pub mod KeepLaws
+pub mod ResolveLaws
+pub mod MarkLaws
+pub mod SoloLaws
+pub mod VoteLaws
+pub mod RuleLaws

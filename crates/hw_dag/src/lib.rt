@@ -1,0 +1,33 @@
+//! The graph of settled units that all layers above share.
+//!
+//! A [`Dag`] is a list of units that only grows. A unit's number is its place in the list, and no unit
+//! in it ever changes: each has its name, the signed unit, its panorama in numbers, its vote and,
+//! where it is a block, its parent and its height. The definitions see the same units by name
+//! (`graph`), and each graph keeps the rules that make it lawful (`IsGraph`).
+//!
+//! A unit comes in by three steps. `prepare` takes all the memory that it will need. `resolve` turns
+//! the names that it observes into numbers, once they are all settled. `admit` puts it last.
+//!
+//! Look-ups along lanes and along parents jump, so they take logarithmic time. Of the tables and
+//! pointers that they use nothing is seen from outside.
+#![tactic(auto)]
+
+mod graph;
+mod laws;
+mod numbers;
+mod preparing;
+mod scratch;
+mod settled;
+mod skips;
+
+pub use graph::Dag;
+pub use laws::{
+    apart_is_fork, graph_is_lawful, rules_are_kept, seen_by_entry, seen_is_on_lane, votes_stay,
+};
+pub use numbers::{Panorama, UnitNo, View};
+pub use preparing::{NoRoom, Prepared};
+pub use scratch::Marks;
+pub use settled::Unit;
+
+#[cfg(test)]
+mod tests;
