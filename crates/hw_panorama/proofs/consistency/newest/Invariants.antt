@@ -1,0 +1,7 @@
+-- The newest of the units in the slots so far.
+use Rattle.std.proofs.Common.{◌≡◌, ℕ, ◌<◌}
+use Rattle.hw_panorama.proofs.NewestLaws.{IsNewestBelow}
+use Rattle.hw_panorama.proofs.consistency.newest.Given as goal
+
+abbrev pub invariant-loop-validator : goal.invariant-loop-validator
+invariant-loop-validator l = IsNewestBelow l.panorama l.validator l.newest
