@@ -1,10 +1,10 @@
 -- The join of two panoramas in numbers.
-use Rattle.std.proofs.Common.{◌≡◌, ℕ, ◌<◌, ◌⊎◌, inl, inr, Bool, true, false, List, length, Some, refl, sym, ap, subst, ◌∙◌, arith}
+use Rattle.std.proofs.Common.{◌≡◌, ℕ, ◌<◌, ◌⊎◌, inl, inr, Bool, true, false, List, length, Some, refl, sym, subst, ◌∙◌, arith}
 use Rattle.std.specs.Prelude.{if◌then◌else◌}
 use Rattle.hw_types.specs.declared.unit.Digest.{Digest}
 use Rattle.hw_types.specs.declared.unit.Obs.{Obs}
 use Rattle.hw_types.specs.declared.unit.Obs.TheVariants.{Absent, Correct, Faulty}
-use Rattle.hw_types.specs.Graph.{Node, is_some_and, is_faulty_mark, find_node, lane_of, is_on_lane, slot, obs_at_most, is_at_most, is_consistent}
+use Rattle.hw_types.specs.Graph.{Node, is_some_and, is_faulty_mark, find_node, lane_of, is_on_lane, slot, obs_at_most, is_consistent}
 use Rattle.hw_types.specs.Below.{Among}
 use Rattle.hw_types.proofs.WordsLaws.{never_both, passes_some, named_among, find_node_is}
 use Rattle.hw_types.proofs.LaneLaws as lanes
@@ -19,8 +19,8 @@ use Rattle.hw_dag.proofs.LaneLaws.{even_weights, all_faulty, lawful, among_on_la
 use Rattle.hw_dag.proofs.ChainLaws as chain
 use Rattle.hw_panorama.specs.Views.{IsKnownView, is_met}
 use Rattle.hw_panorama.specs.Join.{joined, IsLeastAbove}
-use Rattle.hw_panorama.proofs.ViewLaws.{known_view, met_faulty, met_lane, met_itself}
-use Rattle.hw_panorama.proofs.OrderLaws.{correct_inside, all_met_by, each_met_by, is_below_all, all_met, each_met, below_trans, cited_below_consistent, consistent_cited_below}
+use Rattle.hw_panorama.proofs.ViewLaws.{known_view, met_faulty, met_lane, lane_itself, met_itself}
+use Rattle.hw_panorama.proofs.OrderLaws.{correct_inside, all_met_by, each_met_by, is_below_all, all_met, below_trans, cited_below_consistent, consistent_cited_below}
 
 -- a number in the join is in one of the two
 pub joined_from : (dag : UnitGraph) (left right : View) (number : UnitNo) → joined dag left right ≡ view.Correct number → (left ≡ view.Correct number) ⊎ (right ≡ view.Correct number)
@@ -35,8 +35,22 @@ joined_from dag (view.Correct m) (view.Correct n) number e = go (is_lane_below d
     go false true h = inl h
     go false false h = absurd cc
 
+-- the slots of a panorama are the joins of those of two
+pub record AreJoined (dag : UnitGraph) (left right join : List View) : Type 0 where
+  pub length_is : length join ≡ dag.validators
+  pub slots : (v : ℕ) → v < dag.validators → view_at join v ≡ joined dag (view_at left v) (view_at right v)
+
 module _ (dag : UnitGraph) (g : IsGraph dag) where
   -- ---- slots
+
+  -- equal slots are their join
+  pub joined_same : (a b : View) → IsKnownView dag a → a ≡ b → a ≡ joined dag a b
+  joined_same a b ka e = subst (λ (w : View). a ≡ joined dag a w) e (itself a ka)
+    where
+      itself : (w : View) → IsKnownView dag w → w ≡ joined dag w w
+      itself view.Absent k = refl
+      itself view.Faulty k = refl
+      itself (view.Correct m) k = rw (lane_itself dag g m.0 k) refl
 
   pub joined_above_left : (left right : View) → IsKnownView dag left → IsKnownView dag right → is_met dag left (joined dag left right) ≡ true
   joined_above_left view.Absent right kl kr = refl
@@ -68,9 +82,12 @@ module _ (dag : UnitGraph) (g : IsGraph dag) where
   meets_by_lane m d lt h =
       let y = passes_some (λ (z : Node). is_some_and (λ x. is_on_lane (graph dag) x z) (find_node (graph dag) (unit_at dag m.0).digest)) (find_node (graph dag) d) h in
       let x = passes_some (λ (x : Node). is_on_lane (graph dag) x y.0) (find_node (graph dag) (unit_at dag m.0).digest) y.2 in
-      let same : x.0 ≡ node_at dag m.0 = (let e : Some x.0 ≡ Some (node_at dag m.0) = sym x.1 ∙ node_found dag g m.0 lt in cc) in
-      (y.0, y.1, named_among (graph dag) (lane_of (graph dag) y.0) (node_at dag m.0) (graph_one_name dag)
-          (lanes.lane_within (even_weights dag) all_faulty (graph dag) (lawful dag g) y.0) (node_among dag g m.0 lt) (subst (λ (z : Node). is_on_lane (graph dag) z y.0 ≡ true) same x.2))
+      let same : x.0 ≡ node_at dag m.0 = (let e : Some x.0 ≡ Some (node_at dag m.0) = sym x.1 ∙ node_found dag g m.0 lt in cc) in (
+        y.0,
+        y.1,
+        named_among (graph dag) (lane_of (graph dag) y.0) (node_at dag m.0) (graph_one_name dag)
+            (lanes.lane_within (even_weights dag) all_faulty (graph dag) (lawful dag g) y.0) (node_among dag g m.0 lt) (subst (λ (z : Node). is_on_lane (graph dag) z y.0 ≡ true) same x.2),
+      )
 
   -- Only the mark of a fault is above two units that aren't on one lane.
   apart_faulty : (m n : UnitNo) (o : Obs) → m.0 < count_of dag → n.0 < count_of dag → is_lane_below dag m.0 n.0 ≡ false → is_lane_below dag n.0 m.0 ≡ false
@@ -103,12 +120,7 @@ module _ (dag : UnitGraph) (g : IsGraph dag) where
 
   -- ---- panoramas
 
-  -- the slots of a panorama are the joins of those of two
-  pub record AreJoined (left right join : List View) : Type 0 where
-    pub length_is : length join ≡ dag.validators
-    pub slots : (v : ℕ) → v < dag.validators → view_at join v ≡ joined dag (view_at left v) (view_at right v)
-
-  module _ (left right join : List View) (hl : IsPanorama dag left) (hr : IsPanorama dag right) (slots_are : AreJoined left right join) where
+  module _ (left right join : List View) (hl : IsPanorama dag left) (hr : IsPanorama dag right) (slots_are : AreJoined dag left right join) where
     number_from : (v : ℕ) (number : UnitNo) → view_at join v ≡ view.Correct number → (view_at left v ≡ view.Correct number) ⊎ (view_at right v ≡ view.Correct number)
     number_from v number e =
         joined_from dag (view_at left v) (view_at right v) number (sym (slots_are.slots v (let lt = correct_inside join v number e in let same = slots_are.length_is in omega arith)) ∙ e)
@@ -134,12 +146,12 @@ module _ (dag : UnitGraph) (g : IsGraph dag) where
       above_right = join_above_right;
       least = λ other h k. all_met_by dag join other (λ v lt. subst (λ (w : View). obs_at_most (graph dag) (obs_of dag w) (slot other v) ≡ true) (sym (slots_are.slots v (let same = slots_are.length_is in omega arith)))
           (joined_least (view_at left v) (view_at right v) (slot other v) (known_view dag left hl v) (known_view dag right hr v)
-              (each_met_by dag left other h v (let a = slots_are.length_is in let b = hl.length_is in omega arith))
-              (each_met_by dag right other k v (let a = slots_are.length_is in let b = hr.length_is in omega arith))));
+          (each_met_by dag left other h v (let a = slots_are.length_is in let b = hl.length_is in omega arith))
+          (each_met_by dag right other k v (let a = slots_are.length_is in let b = hr.length_is in omega arith))));
     }
 
     pub join_consistent : is_consistent (graph dag) (observations dag left) ≡ true → is_consistent (graph dag) (observations dag right) ≡ true → is_consistent (graph dag) (observations dag join) ≡ true
-    join_consistent cl cr = cited_below_consistent dag g join join_panorama (λ v number e. elim (number_from v number e) [
+    join_consistent cl cr = cited_below_consistent dag g join join_panorama (λ v lt number e. elim (number_from v number e) [
       | inl l ↦ below_trans dag g (unit_at dag number.0).panorama left join (g.settled number.0 (hl.known v number l)).panorama_is hl join_panorama (consistent_cited_below dag g left hl cl v number l) join_above_left
       | inr r ↦ below_trans dag g (unit_at dag number.0).panorama right join (g.settled number.0 (hr.known v number r)).panorama_is hr join_panorama (consistent_cited_below dag g right hr cr v number r) join_above_right
     ])

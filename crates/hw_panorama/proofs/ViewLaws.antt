@@ -1,19 +1,15 @@
 -- The order of slots in numbers.
-use Rattle.std.proofs.Common.{◌≡◌, ℕ, ◌<◌, Bool, true, false, List, Some, refl, sym, ap, subst, ◌∙◌}
-use Rattle.hw_types.specs.declared.unit.Obs.{Obs}
-use Rattle.hw_types.specs.declared.unit.Obs.TheVariants.{Absent, Correct, Faulty}
-use Rattle.hw_types.specs.Graph.{Node, is_some_and, find_node, is_on_lane, obs_at_most}
-use Rattle.hw_types.specs.Below.{Among}
+use Rattle.std.proofs.Common.{◌≡◌, ℕ, ◌<◌, Bool, true, List, refl, sym, ap, subst, ◌∙◌}
 use Rattle.hw_types.proofs.LaneLaws as lanes
 use Rattle.hw_dag.specs.declared.numbers.UnitNo.{UnitNo}
 use Rattle.hw_dag.specs.declared.numbers.View.{View}
 use Rattle.hw_dag.specs.declared.numbers.View.TheVariants as view
-use Rattle.hw_dag.specs.Dag.{UnitGraph, unit_at, count_of, node_at, graph, view_at, obs_of, IsPanorama}
+use Rattle.hw_dag.specs.Dag.{UnitGraph, count_of, node_at, graph, view_at, IsPanorama}
 use Rattle.hw_dag.specs.Admission.{IsGraph}
 use Rattle.hw_dag.specs.Lanes.{is_lane_below}
 use Rattle.hw_dag.proofs.NodeLaws.{node_among, node_found}
 use Rattle.hw_dag.proofs.LaneLaws.{even_weights, all_faulty, lawful, on_lane_among, among_on_lane, on_own_lane}
-use Rattle.hw_panorama.specs.Views.{IsKnownView, is_met}
+use Rattle.hw_panorama.specs.Views.{IsKnownView, is_met, Cites}
 
 -- each slot of a panorama is known
 pub known_view : (dag : UnitGraph) (panorama : List View) → IsPanorama dag panorama → (v : ℕ) → IsKnownView dag (view_at panorama v)
@@ -23,6 +19,10 @@ known_view dag panorama h v = go (view_at panorama v) refl
     go view.Absent e = tt
     go view.Faulty e = tt
     go (view.Correct number) e = h.known v number e
+
+-- and so is each unit that it cites
+pub cited_known : (dag : UnitGraph) (panorama : List View) (number : UnitNo) → IsPanorama dag panorama → Cites panorama number → number.0 < count_of dag
+cited_known dag panorama number h c = h.known c.0 number c.1
 
 -- everything is at most the mark of a fault
 pub met_faulty : (dag : UnitGraph) (low : View) → is_met dag low view.Faulty ≡ true
@@ -42,7 +42,7 @@ module _ (dag : UnitGraph) (g : IsGraph dag) where
   lane_trans low middle high lo mi h k =
       among_on_lane dag g low high
       (lanes.lane_trans (even_weights dag) all_faulty (graph dag) (lawful dag g) (node_at dag low) (node_at dag middle) (node_at dag high) (node_among dag g middle mi)
-          (on_lane_among dag g low middle lo h) (on_lane_among dag g middle high mi k))
+      (on_lane_among dag g low middle lo h) (on_lane_among dag g middle high mi k))
 
   pub met_itself : (w : View) → IsKnownView dag w → is_met dag w w ≡ true
   met_itself view.Absent h = refl
@@ -65,3 +65,11 @@ module _ (dag : UnitGraph) (g : IsGraph dag) where
   met_trans (view.Correct l) (view.Correct m) view.Faulty ka kb kc h k = refl
   met_trans (view.Correct l) (view.Correct m) (view.Correct n) ka kb kc h k =
       met_lane l n ka kc ∙ lane_trans l.0 m.0 n.0 ka kb (sym (met_lane l m ka kb) ∙ h) (sym (met_lane m n kb kc) ∙ k)
+
+  -- the answer for two units is that of their lanes
+  pub met_by_lane : (a b : View) (low high : UnitNo) (answer : Bool) → a ≡ view.Correct low → b ≡ view.Correct high → IsKnownView dag a → IsKnownView dag b
+      → answer ≡ is_lane_below dag low.0 high.0 → answer ≡ is_met dag a b
+  met_by_lane a b low high answer ea eb ka kb e =
+      let lo : low.0 < count_of dag = subst (λ (w : View). IsKnownView dag w) ea ka in
+      let hi : high.0 < count_of dag = subst (λ (w : View). IsKnownView dag w) eb kb in
+      e ∙ sym (met_lane low high lo hi) ∙ ap (λ (w : View). is_met dag w (view.Correct high)) (sym ea) ∙ ap (λ (w : View). is_met dag a w) (sym eb)

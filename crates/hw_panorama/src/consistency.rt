@@ -1,6 +1,6 @@
 //! Whether a panorama is above those of the units that it cites.
 
-ghost use Rattle.std.specs.Prelude.{◌≡◌, ℕ, ◌<◌, ◌≤◌, Some, IsTrue, IfSome, MatchOption};
+ghost use Rattle.std.specs.Prelude.{◌≡◌, ◌⊎◌, ℕ, ◌<◌, ◌≤◌, Some, IsTrue, IfSome, MatchOption};
 ghost use Rattle.hw_types.specs.Graph.{is_at_most, is_consistent};
 ghost use Rattle.hw_dag.specs.Dag.{graph, observations, unit_at, view_at, count_of, IsPanorama};
 ghost use Rattle.hw_dag.specs.Admission.{IsGraph};
@@ -25,7 +25,8 @@ pub fn consistent(dag: &Dag, panorama: &Panorama) -> bool
 /// The cited unit that came into the graph last.
 fn newest(dag: &Dag, panorama: &Panorama) -> Option<UnitNo>
     requires { IsPanorama dag.now panorama.now }
-    ensures { MatchOption result (CitesNone panorama.now) (λ no. IsNewest panorama.now no) }
+    ensures newest { MatchOption result (CitesNone panorama.now) (λ no. IsNewest panorama.now no) }
+    ensures graph { IsGraph dag.now }
 {
     let mut newest: Option<UnitNo> = None;
     for validator in 0..dag.validators() {
@@ -37,7 +38,11 @@ fn newest(dag: &Dag, panorama: &Panorama) -> Option<UnitNo>
 }
 
 /// The greater of two numbers.
-fn later(before: Option<UnitNo>, no: UnitNo) -> UnitNo {
+fn later(before: Option<UnitNo>, no: UnitNo) -> UnitNo
+    ensures one { (result ≡ no) ⊎ (before ≡ Some result) }
+    ensures new_within { no.0 ≤ result.0 }
+    ensures old_within { IfSome before (λ other. other.0 ≤ result.0) }
+{
     match before {
         Some(other) if no.0 < other.0 => other,
         _ => no,

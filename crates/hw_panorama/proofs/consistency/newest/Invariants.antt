@@ -1,5 +1,4 @@
 -- The newest of the units in the slots so far.
-use Rattle.std.proofs.Common.{◌≡◌, ℕ, ◌<◌}
 use Rattle.hw_panorama.proofs.NewestLaws.{IsNewestBelow}
 use Rattle.hw_panorama.proofs.consistency.newest.Given as goal
 

@@ -1,10 +1,7 @@
 -- The panoramas of the units in the slots so far are at most the panorama.
-use Rattle.std.proofs.Common.{◌≡◌, ℕ, ◌<◌, true}
-use Rattle.hw_dag.specs.declared.numbers.UnitNo.{UnitNo}
-use Rattle.hw_dag.specs.declared.numbers.View.TheVariants as view
-use Rattle.hw_dag.specs.Dag.{unit_at, view_at}
-use Rattle.hw_panorama.proofs.OrderLaws.{is_below_all}
+use Rattle.std.proofs.Common.{ℕ, ◌<◌}
+use Rattle.hw_panorama.proofs.OrderLaws.{IsCitedBelow}
 use Rattle.hw_panorama.proofs.consistency.rest_is_met.Given as goal
 
 abbrev pub invariant-loop-validator : goal.invariant-loop-validator
-invariant-loop-validator l = (v : ℕ) (number : UnitNo) → v < l.validator → view_at l.panorama v ≡ view.Correct number → is_below_all l.dag (unit_at l.dag number.0).panorama l.panorama ≡ true
+invariant-loop-validator l = (v : ℕ) → v < l.validator → IsCitedBelow l.dag l.panorama v
