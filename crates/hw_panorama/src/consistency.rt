@@ -6,7 +6,7 @@ ghost use Rattle.hw_dag.specs.Dag.{graph, observations, unit_at, view_at, count_
 ghost use Rattle.hw_dag.specs.Admission.{IsGraph};
 ghost use Rattle.hw_panorama.specs.Views.{Cites, CitesNone, IsNewest};
 
-use crate::order::{at_most, at_most_beside};
+use crate::order::{at_most, meets};
 use hw_dag::{Dag, Panorama, UnitNo, View};
 
 /// Whether the panorama of each unit in it is at most the panorama.
@@ -67,6 +67,23 @@ fn rest_is_met(dag: &Dag, first: UnitNo, panorama: &Panorama) -> bool
             if !at_most_beside(dag, seen, dag.unit(no).panorama(), panorama) {
                 return false;
             }
+        }
+    }
+    true
+}
+
+/// Whether `left` is at most `right`, where `known` is. Slots that it shares with `known` need no look.
+fn at_most_beside(dag: &Dag, known: &Panorama, left: &Panorama, right: &Panorama) -> bool
+    requires known { IsPanorama dag.now known.now }
+    requires left { IsPanorama dag.now left.now }
+    requires right { IsPanorama dag.now right.now }
+    requires below { IsTrue (is_at_most (graph dag.now) (observations dag.now known.now) (observations dag.now right.now)) }
+    ensures { result ≡ is_at_most (graph dag.now) (observations dag.now left.now) (observations dag.now right.now) }
+{
+    for validator in 0..dag.validators() {
+        let low = left.get(validator);
+        if low != known.get(validator) && !meets(dag, low, right.get(validator)) {
+            return false;
         }
     }
     true

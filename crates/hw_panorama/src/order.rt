@@ -1,6 +1,6 @@
 //! Which of two panoramas observes more.
 
-ghost use Rattle.std.specs.Prelude.{◌≡◌, ◌<◌, true, IsTrue};
+ghost use Rattle.std.specs.Prelude.{◌≡◌};
 ghost use Rattle.hw_types.specs.Graph.{is_at_most};
 ghost use Rattle.hw_dag.specs.Dag.{graph, observations, IsPanorama};
 ghost use Rattle.hw_dag.specs.Admission.{IsGraph};
@@ -22,25 +22,8 @@ pub fn at_most(dag: &Dag, left: &Panorama, right: &Panorama) -> bool
     true
 }
 
-/// Whether `left` is at most `right`, where `known` is. Slots that it shares with `known` need no look.
-pub(crate) fn at_most_beside(dag: &Dag, known: &Panorama, left: &Panorama, right: &Panorama) -> bool
-    requires known { IsPanorama dag.now known.now }
-    requires left { IsPanorama dag.now left.now }
-    requires right { IsPanorama dag.now right.now }
-    requires below { IsTrue (is_at_most (graph dag.now) (observations dag.now known.now) (observations dag.now right.now)) }
-    ensures { result ≡ is_at_most (graph dag.now) (observations dag.now left.now) (observations dag.now right.now) }
-{
-    for validator in 0..dag.validators() {
-        let low = left.get(validator);
-        if low != known.get(validator) && !meets(dag, low, right.get(validator)) {
-            return false;
-        }
-    }
-    true
-}
-
 /// Whether the one slot is at most the other.
-fn meets(dag: &Dag, low: View, high: View) -> bool
+pub(crate) fn meets(dag: &Dag, low: View, high: View) -> bool
     requires graph { IsGraph dag.now }
     requires low { IsKnownView dag.now low }
     requires high { IsKnownView dag.now high }

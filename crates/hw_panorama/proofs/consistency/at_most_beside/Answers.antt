@@ -4,8 +4,8 @@ use borrow.Author.Count.{below_more}
 use Rattle.hw_dag.specs.Dag.{view_at}
 use Rattle.hw_panorama.specs.Views.{is_met}
 use Rattle.hw_panorama.proofs.OrderLaws.{all_met, met_step, unmet_step, shared_met}
-use Rattle.hw_panorama.proofs.order.at_most_beside.Goals as goal
-use Rattle.hw_panorama.proofs.order.at_most_beside.Goals.{else-ne-via-then-ne+else-not-meets, else-ne-via-else-ne}
+use Rattle.hw_panorama.proofs.consistency.at_most_beside.Goals as goal
+use Rattle.hw_panorama.proofs.consistency.at_most_beside.Goals.{else-ne-via-then-ne+else-not-meets, else-ne-via-else-ne}
 
 pub returns-then-not-meets : goal.returns-then-not-meets
 returns-then-not-meets c =
