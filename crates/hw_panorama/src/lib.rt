@@ -12,6 +12,8 @@
 mod consistency;
 mod joining;
 mod order;
+#[cfg(test)]
+mod tests;
 
 pub use consistency::consistent;
 pub use joining::join;
