@@ -15,7 +15,7 @@ module _ (weights : List ℕ) (faulty : ℕ → Bool) (units : List Node) (lawfu
   one_followed : (z x y : Node) → Among z units → Among x units → Among y units → follows z x ≡ true → follows z y ≡ true → x ≡ y
   one_followed z x y mz mx my tx ty = let same : Some x ≡ Some y = sym (followed_previous weights faulty units lawful z x mz mx tx) ∙ followed_previous weights faulty units lawful z y mz my ty in cc
 
-  lane_further : (u x y : Node) → Among y (lane_of units u) → Among x units → follows y x ≡ true → Among x (lane_of units u)
+  pub lane_further : (u x y : Node) → Among y (lane_of units u) → Among x units → follows y x ≡ true → Among x (lane_of units u)
   lane_further u x y h m t = reach_further follows (λ a. node_eq a u) units x y h m t
 
   -- a lane is its last unit and the lane of the one that it follows

@@ -1,7 +1,7 @@
 -- Lanes of a graph by number.
-use Rattle.std.proofs.Common.{◌≡◌, ◌≢◌, ℕ, ◌<◌, ◌≤◌, ◌⊎◌, inl, inr, Bool, true, false, List, length, replicate, Option, Some, refl, sym, ap, subst, ◌∙◌, arith}
+use Rattle.std.proofs.Common.{◌≡◌, ◌≢◌, ℕ, ◌<◌, ◌≤◌, ◌⊎◌, inl, inr, Bool, true, false, List, length, replicate, Option, Some, refl, sym, ap, subst, ◌∙◌, arith, eqb-true, eq-eqb}
 use Rattle.std.proofs.lemmas.List.{length-replicate}
-use Rattle.std.specs.Prelude.{◌||◌}
+use Rattle.std.specs.Prelude.{◌||◌, nat_eq}
 use Rattle.hw_types.specs.declared.unit.Obs.{Obs}
 use Rattle.hw_types.specs.declared.unit.Obs.TheVariants.{Absent, Correct, Faulty}
 use Rattle.hw_types.specs.declared.unit.Digest.{Digest}
@@ -12,16 +12,16 @@ use Rattle.hw_types.proofs.ClosureLaws.{Within}
 use Rattle.hw_types.proofs.PastLaws.{or_cases, or_left, or_right, reach_within}
 use Rattle.hw_types.proofs.StableLaws.{both_ways}
 use Rattle.hw_types.proofs.SettledLaws.{digest_self}
-use Rattle.hw_types.proofs.WordsLaws.{among_is, named_among, never_both}
+use Rattle.hw_types.proofs.WordsLaws.{among_is, named_among, never_both, either}
 use Rattle.hw_types.proofs.LaneLaws as lanes
 use Rattle.hw_dag.specs.declared.numbers.UnitNo.{UnitNo}
 use Rattle.hw_dag.specs.declared.numbers.View.{View}
 use Rattle.hw_dag.specs.declared.numbers.View.TheVariants as view
 use Rattle.hw_dag.specs.Dag.{UnitGraph, unit_at, count_of, node_at, graph, creator_of, seq_of, view_at, obs_of}
 use Rattle.hw_dag.specs.Admission.{IsGraph}
-use Rattle.hw_dag.specs.Lanes.{is_lane_below, is_seen}
+use Rattle.hw_dag.specs.Lanes.{IsLaneAt, is_lane_below, is_seen}
 use Rattle.hw_dag.specs.Laws.{SeenIsOnLane, ApartIsFork, SeenByEntry}
-use Rattle.hw_dag.proofs.NodeLaws.{graph_one_name, among_node, node_among, same_number}
+use Rattle.hw_dag.proofs.NodeLaws.{graph_one_name, among_node, node_among, same_number, same_node}
 use Rattle.hw_dag.proofs.SlotLaws.{slot_at, obs_number}
 use Rattle.hw_dag.proofs.LawfulLaws.{graph_lawful}
 use Rattle.hw_dag.proofs.ChainLaws as chain
@@ -127,3 +127,22 @@ apart_is_fork dag g m n lm ln same apart =
       ap (λ (z : Node). z.unit.creator) j.2 ∙ f.5,
       ap (λ (z : Node). z.unit.seq) i.2 ∙ f.6 ∙ sym (ap (λ (z : Node). z.unit.seq) j.2),
     )
+
+module _ (dag : UnitGraph) (g : IsGraph dag) where
+  -- a unit isn't on the lane of one with a lower number
+  pub never_higher : (low high : ℕ) → low < count_of dag → high < count_of dag → seq_of (unit_at dag high) < seq_of (unit_at dag low) → is_lane_below dag low high ≡ false
+  never_higher low high lo hi less = elim (either (is_lane_below dag low high)) [
+    | inl t ↦ absurd (elim (lanes.lane_seq (even_weights dag) all_faulty (graph dag) (lawful dag g) (node_at dag high) (node_at dag low) (node_among dag g high hi) (on_lane_among dag g low high lo t)) [
+      | inl same ↦ let e = ap (λ (x : Node). x.unit.seq) same in omega arith
+      | inr lower ↦ omega arith
+    ])
+    | inr f ↦ f
+  ]
+
+  -- a unit is on a lane where it is the one of its number there
+  pub on_lane_by_number : (low high found : ℕ) → low < count_of dag → high < count_of dag → IsLaneAt dag high (seq_of (unit_at dag low)) found → nat_eq found low ≡ is_lane_below dag low high
+  on_lane_by_number low high found lo hi f = both_ways (nat_eq found low) (is_lane_below dag low high)
+      (λ t. subst (λ (n : ℕ). is_lane_below dag n high ≡ true) (eqb-true found low t) f.on_lane)
+      (λ t. eq-eqb found low (same_node dag g found low f.known lo
+      (chain.lane_one (even_weights dag) all_faulty (graph dag) (lawful dag g) (node_at dag high) (node_at dag found) (node_at dag low) (node_among dag g high hi)
+      (on_lane_among dag g found high f.known f.on_lane) (on_lane_among dag g low high lo t) f.seq_is)))

@@ -5,3 +5,10 @@ pub mod LawfulLaws
 pub mod ChainLaws
 pub mod GrowthLaws
 pub mod LaneLaws
+pub mod SkipLaws
+pub mod DepthLaws
+pub mod AdmitLaws
+pub mod KeptLaws
+pub mod KeepLaws
+pub mod ResolveLaws
+pub mod MarkLaws

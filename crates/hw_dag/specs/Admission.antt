@@ -73,16 +73,20 @@ abbrev pub height_above : UnitGraph → Option UnitNo → ℕ
 height_above dag None = 0
 height_above dag (Some parent) = unwrap_or (unit_at dag parent.0).height 0 + 1
 
--- A block votes for itself, the fork choice is its parent, and it is one higher. The fork choice is another unit's vote.
-abbrev pub settled_from : UnitGraph → PreparedUnit → Option UnitNo → SettledUnit
-settled_from dag p fork = record {
+-- The unit of that number, with its fork choice and one more than the height of that. A block votes for itself, and the fork choice
+-- is its parent. The fork choice is another unit's vote.
+abbrev pub settled_as : PreparedUnit → UnitNo → Option UnitNo → ℕ → SettledUnit
+settled_as p number fork height = record {
   digest = p.digest;
   signed = p.signed;
   panorama = p.panorama;
-  vote = if is_block (node_prepared p) then record { 0 = count_of dag } else unwrap_or fork (record { 0 = count_of dag });
+  vote = if is_block (node_prepared p) then number else unwrap_or fork number;
   parent = if is_block (node_prepared p) then fork else None;
-  height = if is_block (node_prepared p) then Some (height_above dag fork) else None;
+  height = if is_block (node_prepared p) then Some height else None;
 }
+
+abbrev pub settled_from : UnitGraph → PreparedUnit → Option UnitNo → SettledUnit
+settled_from dag p fork = settled_as p (record { 0 = count_of dag }) fork (height_above dag fork)
 
 -- the graph with one unit more, which goes last and takes one place of the room
 abbrev pub with_unit : UnitGraph → SettledUnit → UnitGraph

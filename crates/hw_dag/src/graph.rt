@@ -1,39 +1,53 @@
 //! The graph and what comes into it.
 
-ghost use Rattle.std.specs.Prelude.{◌≡◌, ℕ, ◌+◌, ◌^◌, ◌<◌, ◌≤◌, ◌↔◌, [], length, Some, IsTrue, IsNone, IfSome, IfOk, IfErr, OnOk, OnErr};
-ghost use Rattle.hw_types.specs.Graph.{Node};
-ghost use Rattle.hw_dag.specs.Dag.{unit_at, count_of, graph, GrowsTo};
-ghost use Rattle.hw_dag.specs.Admission.{IsFor, IsNew, IsResolved, IsFork, IsGraph, KeepsRules, AllKnown, node_prepared, settled_from, with_unit};
+ghost use Rattle.std.specs.Prelude.{◌≡◌, ℕ, ◌+◌, ◌-◌, ◌^◌, ◌<◌, ◌≤◌, ◌↔◌, [], ◌∷◌, ◌++◌, false, length, Some, unwrap_or, vec_capacity, IsTrue, IsNone, IfSome, IfNone, IfOk, IfErr, OnOk, OnErr};
+ghost use Rattle.std.specs.List.{list_any};
+ghost use Rattle.indexmap.specs.IndexSet.{spare as room_of};
+ghost use Rattle.hw_types.specs.Graph.{digest_eq};
+ghost use Rattle.hw_skip.specs.Skip.{pointer_count_of};
+ghost use Rattle.hw_dag.specs.Dag.{unit_at, count_of, graph, observations, seq_of};
+ghost use Rattle.hw_dag.specs.Admission.{IsFor, IsNew, IsResolved, IsFork, IsGraph, KeepsRules, AllKnown, node_prepared, height_above, settled_from, with_unit};
+ghost use Rattle.hw_dag.specs.Tables.{StandsFor, IsUnknown, IsKnown};
 
-use crate::numbers::UnitNo;
-use crate::preparing::{NoRoom, Prepared};
+use crate::numbers::{Panorama, UnitNo, View};
+use crate::preparing::{NoRoom, Prepared, Settling};
 use crate::settled::Unit;
-use hw_types::{Digest, OutOfMemory, SignedUnit};
+use crate::skips::SkipTable;
+use hw_types::{Digest, Obs, OutOfMemory, SignedUnit};
+use indexmap::IndexSet;
 use std::alloc::Global;
 use std::marker::Model;
 
 mod lookups;
 
-#[derive(Drop)]
-enum Never {}
-
 /// The settled units by number. It only grows, and no unit in it ever changes.
 #[derive(Drop)]
 pub struct Dag {
-    never: Never,
+    validators: u32,
+    spare: u32,
+    units: Vec<Unit>,
+    names: IndexSet<Digest>,
+    lanes: SkipTable,
+    chains: SkipTable,
 }
 
 impl Model for Dag {
-    ghost use Rattle.std.specs.Prelude.{[]};
+    ghost use Rattle.std.specs.Prelude.{◌-◌, vec_len, vec_capacity};
+    ghost use Rattle.indexmap.specs.IndexSet.{spare as room_of};
     ghost use Rattle.hw_dag.specs.Dag.{UnitGraph};
 
     ghost Value = { UnitGraph };
 
     ghost view = { λ d. record {
-      validators = 0;
-      spare = 0;
-      units = [];
+      validators = d.validators;
+      spare = d.spare;
+      units = d.units.items;
     } };
+
+    ghost use Rattle.hw_dag.specs.Tables.{IsKept, HasSpare};
+
+    ghost invariant = { λ d. IsKept (record { validators = d.validators; spare = d.spare; units = d.units.items }) d.names.keys d.lanes.backs d.chains.backs
+        × HasSpare d.spare (vec_capacity d.units - vec_len d.units) (room_of d.names) d.lanes.spare d.chains.spare };
 }
 
 impl Dag {
@@ -42,7 +56,14 @@ impl Dag {
         ensures empty { IfOk result (λ dag. dag.units ≡ []) }
         ensures validators { IfOk result (λ dag. dag.validators ≡ validators) }
     {
-        Err(OutOfMemory)
+        Ok(Dag {
+            validators,
+            spare: 0,
+            units: Vec::new(alloc),
+            names: IndexSet::new(alloc),
+            lanes: SkipTable::new(alloc),
+            chains: SkipTable::new(alloc),
+        })
     }
 
     /// Takes all the room that the unit will need in the graph. The digest is its name.
@@ -52,7 +73,7 @@ impl Dag {
         ensures digest { IfOk result (λ prepared. prepared.digest ≡ digest) }
         ensures returned { IfErr result (λ no_room. no_room.unit ≡ unit) }
     {
-        match self.never {}
+        Prepared::new(*self.units.allocator(), self.validators, unit, digest)
     }
 
     /// Makes room for at least `count` more units. What is in the graph stays, and the room never shrinks.
@@ -63,7 +84,14 @@ impl Dag {
         ensures units { self.new.units ≡ self.old.units }
         ensures validators { self.new.validators ≡ self.old.validators }
     {
-        match self.never {}
+        if self.spare < count {
+            self.units.reserve(count as usize)?;
+            self.names.reserve(count as usize)?;
+            self.lanes.reserve(count as usize)?;
+            self.chains.reserve(count as usize)?;
+            self.spare = count;
+        }
+        Ok(())
     }
 
     /// Whether each unit that it observes is settled. Then its panorama is there in numbers.
@@ -73,7 +101,7 @@ impl Dag {
         ensures signed { prepared.new.signed ≡ prepared.old.signed }
         ensures digest { prepared.new.digest ≡ prepared.old.digest }
     {
-        match self.never {}
+        prepared.resolve_in(self)
     }
 
     /// Puts the unit last. `fork` is the fork choice of its panorama: its parent where it is a block,
@@ -89,7 +117,10 @@ impl Dag {
         ensures admitted { self.new ≡ with_unit self.old (settled_from self.old prepared fork) }
         ensures graph { IsGraph self.new }
     {
-        match self.never {}
+        let no = UnitNo(self.count());
+        let height = self.height_above(fork);
+        self.keep(prepared.settle(no, fork, height));
+        no
     }
 
     /// How many units there are. What is said of each graph holds of this one.
@@ -97,7 +128,7 @@ impl Dag {
         ensures count { result ≡ count_of self.now }
         ensures graph { IsGraph self.now }
     {
-        match self.never {}
+        self.units.len() as u32
     }
 
     /// How many validators there are.
@@ -113,7 +144,8 @@ impl Dag {
         ensures found { IfSome result (λ no. (no.0 < count_of self.now) × ((unit_at self.now no.0).digest ≡ digest.now)) }
         ensures none { IsNone result ↔ IsNew self.now digest.now }
     {
-        match self.never {}
+        let place = self.names.get_index_of(digest)?;
+        Some(UnitNo(place as u32))
     }
 
     /// The unit of a number.
@@ -121,6 +153,83 @@ impl Dag {
         requires { no.0 < count_of self.now }
         ensures { result.now ≡ unit_at self.now no.0 }
     {
-        match self.never {}
+        &self.units[no.0 as usize]
+    }
+
+    /// What an observation is in numbers, where its unit is there.
+    fn view_of(&self, obs: &Obs) -> Option<View>
+        ensures known { IfSome result (StandsFor self.now obs.now) }
+        ensures unknown { IfNone result (IsUnknown self.now obs.now) }
+    {
+        match obs {
+            Obs::Absent => Some(View::Absent),
+            Obs::Correct(digest) => self.find(digest).map(View::Correct),
+            Obs::Faulty => Some(View::Faulty),
+        }
+    }
+
+    /// Puts the observations in numbers, and says whether all their units are there.
+    pub(crate) fn resolve_views(&self, observed: &[Obs], panorama: &mut Panorama) -> bool
+        requires bounded { length observed.now < 2 ^ 32 }
+        requires slots { length panorama.old ≡ length observed.now }
+        ensures slots { length panorama.new ≡ length panorama.old }
+        ensures all { IsTrue result ↔ AllKnown (graph self.now) observed.now }
+        ensures observes { IsTrue result → observations self.now panorama.new ≡ observed.now }
+        ensures known { IsTrue result → IsKnown self.now panorama.new }
+    {
+        let _ = &self.names;
+        for (slot, obs) in observed.iter().enumerate() {
+            let Some(view) = self.view_of(obs) else {
+                return false;
+            };
+            panorama.set(slot as u32, view);
+        }
+        true
+    }
+
+    /// One more than the height of the parent, or 0 where there is none.
+    fn height_above(&self, parent: Option<UnitNo>) -> u64
+        requires { IfSome parent (λ no. no.0 < count_of self.now) }
+        ensures { result ≡ height_above self.now parent }
+    {
+        match parent {
+            Some(parent) => self.units[parent.0 as usize].height().unwrap_or(0) + 1,
+            None => 0,
+        }
+    }
+
+    /// Puts a settled unit last, with its name and its pointers.
+    fn keep(&mut self, settling: Settling)
+        requires room { 1 ≤ self.old.spare }
+        requires fresh { IsNew self.old settling.unit.digest }
+        requires graph { IsGraph (with_unit self.old settling.unit) }
+        requires lane { settling.lane.items ≡ [] }
+        requires lane_fits { pointer_count_of (seq_of settling.unit) ≤ vec_capacity settling.lane }
+        requires chain { settling.chain.items ≡ [] }
+        requires chain_fits { pointer_count_of (unwrap_or settling.unit.height 0) ≤ vec_capacity settling.chain }
+        ensures { self.new ≡ with_unit self.old settling.unit }
+    {
+        let Settling { unit, lane, chain } = settling;
+        self.spare -= 1;
+        self.lanes
+            .push(lane, unit.predecessor(), unit.signed().unit.seq);
+        self.chains
+            .push(chain, unit.parent(), unit.height().unwrap_or(0));
+        add_name(&mut self.names, *unit.digest());
+        if self.units.push(unit).is_err() {
+            unreachable!()
+        }
+    }
+}
+
+// Puts a new name last.
+fn add_name(names: &mut IndexSet<Digest>, name: Digest)
+    requires room { 1 ≤ room_of names.old }
+    requires fresh { list_any (digest_eq name) names.old.keys ≡ false }
+    ensures keys { names.new.keys ≡ names.old.keys ++ name ∷ [] }
+    ensures room { room_of names.old ≤ room_of names.new + 1 }
+{
+    if names.insert(name).is_err() {
+        unreachable!()
     }
 }

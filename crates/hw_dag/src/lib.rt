@@ -18,6 +18,7 @@ mod numbers;
 mod preparing;
 mod scratch;
 mod settled;
+mod skips;
 
 pub use graph::Dag;
 pub use laws::{apart_is_fork, graph_is_lawful, seen_by_entry, seen_is_on_lane};

@@ -63,6 +63,13 @@ impl Panorama {
         self.views[validator as usize]
     }
 
+    /// What is seen of each validator, in their order.
+    pub(crate) fn views(&self) -> &[View]
+        ensures { result.now ≡ self.now }
+    {
+        self.views.as_slice()
+    }
+
     /// Changes the slot of the validator, and no other.
     pub fn set(&mut self, validator: u32, view: View)
         requires { validator < length self.old }

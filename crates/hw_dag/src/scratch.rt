@@ -9,7 +9,7 @@ use std::marker::Model;
 /// Scratch for walks. Contracts see it as its room: how many units a graph may have for it to serve.
 #[derive(Drop)]
 pub struct Marks {
-    marked: Vec<bool>,
+    pub(crate) marked: Vec<bool>,
 }
 
 impl Model for Marks {

@@ -1,8 +1,11 @@
 //! Settled units.
 
-ghost use Rattle.std.specs.Prelude.{◌≡◌};
+ghost use Rattle.std.specs.Prelude.{◌≡◌, ◌<◌, length};
+ghost use Rattle.hw_dag.specs.Dag.{creator_of};
+ghost use Rattle.hw_dag.specs.Admission.{settled_as};
+ghost use Rattle.hw_dag.specs.Tables.{predecessor_of};
 
-use crate::numbers::{Panorama, UnitNo};
+use crate::numbers::{Panorama, UnitNo, View};
 use hw_types::{Digest, SignedUnit};
 use std::marker::Model;
 
@@ -33,6 +36,50 @@ impl Model for Unit {
 }
 
 impl Unit {
+    /// The settled unit of this number. A block votes for itself, and the fork choice is its parent. The
+    /// fork choice is another unit's vote.
+    pub(crate) fn settle(
+        digest: Digest,
+        signed: SignedUnit,
+        panorama: Panorama,
+        no: UnitNo,
+        fork: Option<UnitNo>,
+        height: u64,
+    ) -> Unit
+        ensures { result ≡ settled_as (record { digest = digest; signed = signed; panorama = panorama }) no fork height }
+    {
+        if signed.unit.value.is_some() {
+            Unit {
+                digest,
+                signed,
+                panorama,
+                vote: no,
+                parent: fork,
+                height: Some(height),
+            }
+        } else {
+            Unit {
+                digest,
+                signed,
+                panorama,
+                vote: fork.unwrap_or(no),
+                parent: None,
+                height: None,
+            }
+        }
+    }
+
+    /// The unit that comes before it on its lane.
+    pub(crate) fn predecessor(&self) -> Option<UnitNo>
+        requires { creator_of self.now < length self.now.panorama }
+        ensures { result ≡ predecessor_of self.now }
+    {
+        match self.panorama.get(self.signed.unit.creator) {
+            View::Correct(no) => Some(no),
+            View::Absent | View::Faulty => None,
+        }
+    }
+
     /// Its name.
     pub fn digest(&self) -> &Digest
         ensures { result.now ≡ self.now.digest }

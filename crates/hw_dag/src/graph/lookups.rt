@@ -1,16 +1,19 @@
 //! Look-ups along lanes and parents, and what is below a unit.
 
-ghost use Rattle.std.specs.Prelude.{◌≡◌, ℕ, ◌+◌, ◌<◌, ◌≤◌, Some, unwrap_or, IsTrue};
+ghost use Rattle.std.specs.Prelude.{◌≡◌, ℕ, ◌+◌, ◌<◌, ◌≤◌, ◌⊎◌, true, false, length, Some, unwrap_or, IsTrue};
 ghost use Rattle.hw_types.specs.Votes.{is_block};
 ghost use Rattle.hw_skip.specs.Skip.{jump_count};
 ghost use Rattle.hw_dag.specs.Dag.{unit_at, node_at, count_of, seq_of};
 ghost use Rattle.hw_dag.specs.Lanes.{is_lane_below, is_seen, IsLaneAt, IsAncestorAt};
+ghost use Rattle.hw_dag.specs.declared.numbers.UnitNo.{UnitNo as Number};
+ghost use Rattle.hw_dag.specs.Walks.{is_marked, Cites};
 
 use crate::graph::Dag;
-use crate::numbers::UnitNo;
+use crate::numbers::{UnitNo, View};
 use crate::scratch::Marks;
 use hw_skip::Steps;
-use std::sync::ledger::Ledger;
+use std::marker::Brand;
+use std::sync::ledger::{Blank, Ledger};
 
 impl Dag {
     /// The unit numbered `seq` on the lane of a unit. It ticks once for each jump.
@@ -20,7 +23,8 @@ impl Dag {
         ensures found { IsLaneAt self.now no.0 seq result.0 }
         ensures jumps { steps.new ≡ steps.old + jump_count (seq_of (unit_at self.now no.0)) seq }
     {
-        match self.never {}
+        let from = self.unit(no).signed().unit.seq;
+        self.lanes.walk(no, from, seq, steps)
     }
 
     /// The ancestor of a block that has this height. It ticks once for each jump.
@@ -31,7 +35,8 @@ impl Dag {
         ensures found { IsAncestorAt self.now block.0 height result.0 }
         ensures jumps { steps.new ≡ steps.old + jump_count (unwrap_or (unit_at self.now block.0).height 0) height }
     {
-        match self.never {}
+        let from = self.unit(block).height().unwrap_or(0);
+        self.chains.walk(block, from, height, steps)
     }
 
     /// Whether a unit is another one or on its lane.
@@ -40,7 +45,25 @@ impl Dag {
         requires high_known { high.0 < count_of self.now }
         ensures { result ≡ is_lane_below self.now low.0 high.0 }
     {
-        match self.never {}
+        let seq = self.units[low.0 as usize].signed().unit.seq;
+        if self.units[high.0 as usize].signed().unit.seq < seq {
+            return false;
+        }
+        let found = self.lane_at_uncounted::<Brand>(high, seq, Blank::new(1));
+        found.0 == low.0
+    }
+
+    /// `lane_at` where nobody counts.
+    fn lane_at_uncounted<L: Ledger>(&self, no: UnitNo, seq: u64, blank: Blank) -> UnitNo
+        requires known { no.0 < count_of self.now }
+        requires within { seq ≤ seq_of (unit_at self.now no.0) }
+        requires name { blank.name ≡ L.name }
+        requires parts { blank.parts ≡ L.parts }
+        requires some { 0 < L.parts }
+        ensures { IsLaneAt self.now no.0 seq result.0 }
+    {
+        let mut steps = Steps::<L>::new(blank);
+        self.lane_at(no, seq, &mut steps)
     }
 
     /// Whether `low` is `high` or below it, whoever made them.
@@ -51,6 +74,74 @@ impl Dag {
         ensures seen { result ≡ is_seen self.now low.0 high.0 }
         ensures room { marks.new ≡ marks.old }
     {
-        match self.never {}
+        let creator = self.units[low.0 as usize].signed().unit.creator;
+        // What a unit observes has a lesser number.
+        if high.0 <= low.0 {
+            return high.0 == low.0;
+        }
+        match self.units[high.0 as usize].panorama().get(creator) {
+            View::Absent => false,
+            View::Correct(no) => self.on_lane(low, no),
+            View::Faulty => self.reaches(high, low, marks.marked.as_mut_slice()),
+        }
+    }
+
+    /// Whether `low` is below `high`, by a walk over the numbers between them: from each unit that was
+    /// come to, on to those that it observes. It looks at each unit at most once.
+    fn reaches(&self, high: UnitNo, low: UnitNo, marked: &mut [bool]) -> bool
+        requires high_known { high.0 < count_of self.now }
+        requires below { low.0 < high.0 }
+        requires room { count_of self.now ≤ length marked.old }
+        ensures { result ≡ is_seen self.now low.0 high.0 }
+    {
+        let _ = &self.units;
+        clear(marked, low.0 as usize, high.0 as usize);
+        self.mark_observed(high, low, marked);
+        let mut next = high.0;
+        while low.0 + 1 < next {
+            next -= 1;
+            if marked[next as usize] {
+                self.mark_observed(UnitNo(next), low, marked);
+            }
+        }
+        marked[low.0 as usize]
+    }
+
+    /// Marks the units that a unit observes, from `low` on.
+    fn mark_observed(&self, no: UnitNo, low: UnitNo, marked: &mut [bool])
+        requires known { no.0 < count_of self.now }
+        requires room { count_of self.now ≤ length marked.old }
+        ensures kept { (m : ℕ) → is_marked marked.old m ≡ true → is_marked marked.new m ≡ true }
+        ensures all { (m : ℕ) → Cites self.now no.0 m → low.0 ≤ m → is_marked marked.new m ≡ true }
+        ensures only { (m : ℕ) → is_marked marked.new m ≡ true → (is_marked marked.old m ≡ true) ⊎ Cites self.now no.0 m }
+        ensures earlier { (m : ℕ) → Cites self.now no.0 m → m < no.0 }
+    {
+        for view in self.units[no.0 as usize].panorama().views() {
+            mark(marked, *view, low);
+        }
+    }
+}
+
+// Marks the unit that a slot names, unless it has a lesser number than `low`.
+fn mark(marked: &mut [bool], view: View, low: UnitNo)
+    requires { (number : Number) → view ≡ View.Correct number → number.0 < length marked.old }
+    ensures kept { (m : ℕ) → is_marked marked.old m ≡ true → is_marked marked.new m ≡ true }
+    ensures all { (number : Number) → view ≡ View.Correct number → low.0 ≤ number.0 → is_marked marked.new number.0 ≡ true }
+    ensures only { (m : ℕ) → is_marked marked.new m ≡ true → (is_marked marked.old m ≡ true) ⊎ (view ≡ View.Correct (record { 0 = m })) }
+{
+    if let View::Correct(no) = view {
+        if low.0 <= no.0 {
+            marked[no.0 as usize] = true;
+        }
+    }
+}
+
+// Takes the marks away from `from` up to `to`.
+fn clear(marked: &mut [bool], from: usize, to: usize)
+    requires { to ≤ length marked.old }
+    ensures { (m : ℕ) → from ≤ m → m < to → is_marked marked.new m ≡ false }
+{
+    for m in from..to {
+        marked[m] = false;
     }
 }

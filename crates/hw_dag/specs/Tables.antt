@@ -1,0 +1,69 @@
+-- What is kept beside the units of a graph to find them.
+use Rattle.std.specs.Prelude.{◌≡◌, ℕ, ◌^◌, ◌<◌, ◌≤◌, Bool, true, List, [], length, map, Option, Some, None, is_some}
+use Rattle.hw_types.specs.declared.unit.Digest.{Digest}
+use Rattle.hw_types.specs.declared.unit.SignedUnit.{SignedUnit}
+use Rattle.hw_skip.specs.Skip.{pointer_count_of}
+use Rattle.hw_dag.specs.declared.numbers.UnitNo.{UnitNo}
+use Rattle.hw_dag.specs.declared.numbers.View.{View}
+use Rattle.hw_dag.specs.declared.numbers.View.TheVariants as view
+use Rattle.hw_types.specs.declared.unit.Obs.{Obs}
+use Rattle.hw_types.specs.declared.unit.Obs.TheVariants.{Correct}
+use Rattle.hw_dag.specs.Dag.{SettledUnit, UnitGraph, count_of, creator_of, view_at, obs_of}
+use Rattle.hw_dag.specs.Admission.{IsGraph, IsNew}
+
+-- the unit that a slot names
+abbrev pub number_of : View → Option UnitNo
+number_of view.Absent = None
+number_of (view.Correct number) = Some number
+number_of view.Faulty = None
+
+-- the unit that comes before it on its lane
+abbrev pub predecessor_of : SettledUnit → Option UnitNo
+predecessor_of u = number_of (view_at u.panorama (creator_of u))
+
+abbrev pub names_of : List SettledUnit → List Digest
+names_of units = map (λ (u : SettledUnit). u.digest) units
+
+abbrev pub lanes_of : List SettledUnit → List (Option UnitNo)
+lanes_of units = map predecessor_of units
+
+abbrev pub chains_of : List SettledUnit → List (Option UnitNo)
+chains_of units = map (λ (u : SettledUnit). u.parent) units
+
+-- the tables are those of the units
+pub record IsKept (dag : UnitGraph) (names : List Digest) (lanes chains : List (Option UnitNo)) : Type 0 where
+  pub graph_is : IsGraph dag
+  pub names_are : names ≡ names_of dag.units
+  pub lanes_are : lanes ≡ lanes_of dag.units
+  pub chains_are : chains ≡ chains_of dag.units
+
+-- each table has room for so many more units
+pub record HasSpare (spare units names lanes chains : ℕ) : Type 0 where
+  pub in_units : spare ≤ units
+  pub in_names : spare ≤ names
+  pub in_lanes : spare ≤ lanes
+  pub in_chains : spare ≤ chains
+
+-- a slot for each observation, and empty lists with room for the pointers that the unit will have
+pub record HasRoom (unit : SignedUnit) (panorama : List View) (lane : List UnitNo) (lane_room : ℕ) (chain : List UnitNo) (chain_room : ℕ) : Type 0 where
+  pub bounded : length panorama < 2 ^ 32
+  pub length_is : length panorama ≡ length unit.unit.panorama
+  pub lane_empty : lane ≡ []
+  pub lane_fits : pointer_count_of unit.unit.seq ≤ lane_room
+  pub chain_empty : chain ≡ []
+  pub chain_fits : is_some unit.unit.value ≡ true → 32 ≤ chain_room
+
+-- the slot in numbers stands for the observation
+pub record StandsFor (dag : UnitGraph) (o : Obs) (w : View) : Type 0 where
+  pub same : obs_of dag w ≡ o
+  pub known : (number : UnitNo) → w ≡ view.Correct number → number.0 < count_of dag
+
+-- the observation names a unit that the graph hasn't
+pub record IsUnknown (dag : UnitGraph) (o : Obs) : Type 0 where
+  pub digest : Digest
+  pub names : o ≡ Correct digest
+  pub fresh : IsNew dag digest
+
+-- each number in the panorama is a unit of the graph
+abbrev pub IsKnown : UnitGraph → List View → Type 0
+IsKnown dag panorama = (v : ℕ) (number : UnitNo) → view_at panorama v ≡ view.Correct number → number.0 < count_of dag
