@@ -197,6 +197,9 @@ fn units_differ_in_each_field(rt: HostRuntime) -> Result<(), Fail> {
     other.panorama.push(Obs::Absent)?;
     assert!(rt; !is_same_unit(&unit, &other));
     assert_eq!(rt; other.panorama.len(), 4);
-    assert_eq!(rt; other.panorama.into_vec().pop(), Some(Obs::Absent));
+    other.panorama.extend(&[Obs::Absent, Obs::Faulty])?;
+    let panorama = Items::from_vec(other.panorama.into_vec());
+    assert_eq!(rt; panorama.as_slice().last(), Some(&Obs::Faulty));
+    assert_eq!(rt; panorama.len(), 6);
     Ok(())
 }
