@@ -54,7 +54,8 @@ fn later(before: Option<UnitNo>, no: UnitNo) -> UnitNo
 fn rest_is_met(dag: &Dag, first: UnitNo, panorama: &Panorama) -> bool
     requires panorama { IsPanorama dag.now panorama.now }
     requires first { Cites panorama.now first }
-    requires below { IsTrue (is_at_most (graph dag.now) (observations dag.now (unit_at dag.now first.0).panorama) (observations dag.now panorama.now)) }
+    requires below { let seen = observations dag.now (unit_at dag.now first.0).panorama in
+        IsTrue (is_at_most (graph dag.now) seen (observations dag.now panorama.now)) }
     ensures { result ≡ is_consistent (graph dag.now) (observations dag.now panorama.now) }
 {
     let seen = dag.unit(first).panorama();

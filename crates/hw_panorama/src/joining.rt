@@ -16,8 +16,10 @@ pub fn join(dag: &Dag, left: &mut Panorama, right: &Panorama)
     requires left_consistent { IsTrue (is_consistent (graph dag.now) (observations dag.now left.old)) }
     requires right_consistent { IsTrue (is_consistent (graph dag.now) (observations dag.now right.now)) }
     ensures panorama { IsPanorama dag.now left.new }
-    ensures slots { (v : ℕ) → v < dag.now.validators → view_at left.new v ≡ joined dag.now (view_at left.old v) (view_at right.now v) }
-    ensures least { IsLeastAbove (graph dag.now) (observations dag.now left.old) (observations dag.now right.now) (observations dag.now left.new) }
+    ensures slots { (v : ℕ) → v < dag.now.validators
+        → view_at left.new v ≡ joined dag.now (view_at left.old v) (view_at right.now v) }
+    ensures least { IsLeastAbove (graph dag.now) (observations dag.now left.old)
+        (observations dag.now right.now) (observations dag.now left.new) }
     ensures consistent { IsTrue (is_consistent (graph dag.now) (observations dag.now left.new)) }
 {
     for validator in 0..dag.validators() {

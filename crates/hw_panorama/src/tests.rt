@@ -11,6 +11,7 @@ ghost use Rattle.std.specs.List.{list_any};
 ghost use Rattle.hw_types.specs.Graph.{Node, cites, is_correct};
 ghost use Rattle.hw_types.specs.Below.{Among};
 ghost use Rattle.hw_dag.specs.Dag.{graph, obs_of, observations, count_of, seq_of, IsPanorama};
+ghost use Rattle.hw_dag.specs.Admission.{IsFork};
 ghost use Rattle.hw_panorama.specs.Views.{IsKnownView};
 
 use crate::{at_most, consistent, join};
@@ -25,7 +26,8 @@ use std::test::Fail;
 /// The panorama with these slots, each of which is tested.
 fn seen(rt: &impl Abort, alloc: Global, dag: &Dag, views: &[View]) -> Result<Panorama, OutOfMemory>
     ensures panorama { IfOk result (λ panorama. IsPanorama dag.now panorama) }
-    ensures timely { IfOk result (λ panorama. (w : Node) → Among w (graph dag.now) → IsTrue (cites (observations dag.now panorama) w) → w.unit.time ≤ count_of dag.now) }
+    ensures timely { IfOk result (λ panorama. (w : Node) → Among w (graph dag.now)
+        → IsTrue (cites (observations dag.now panorama) w) → w.unit.time ≤ count_of dag.now) }
 {
     assert!(rt; views.len() == dag.validators() as usize);
     let mut panorama = Panorama::new(alloc, dag.validators())?;
@@ -70,6 +72,18 @@ fn observes_some(observed: &[Obs]) -> bool
     observed.iter().any(|obs| matches!(obs, Obs::Correct(_)))
 }
 
+/// The first unit of the graph, where some unit is observed. Each unit here is a block.
+fn fork_in(rt: &impl Abort, dag: &Dag, observed: &[Obs]) -> Option<UnitNo>
+    ensures { IsFork dag.now observed.now result }
+{
+    if !observes_some(observed) {
+        return None;
+    }
+    assert!(rt; 0 < dag.count());
+    assert!(rt; dag.unit(UnitNo(0)).signed().unit.value.is_some());
+    Some(UnitNo(0))
+}
+
 fn seq_after(rt: &impl Abort, unit: &Unit) -> u64
     ensures { result ≡ seq_of unit.now + 1 }
 {
@@ -99,13 +113,7 @@ fn settle(
         _ => 0,
     };
     let observed = named(alloc, dag, &panorama)?;
-    let fork = if observes_some(observed.as_slice()) {
-        assert!(rt; 0 < dag.count());
-        assert!(rt; dag.unit(UnitNo(0)).signed().unit.value.is_some());
-        Some(UnitNo(0))
-    } else {
-        None
-    };
+    let fork = fork_in(rt, dag, observed.as_slice());
     let signed = SignedUnit {
         unit: WireUnit {
             instance: Digest([0; 32]),

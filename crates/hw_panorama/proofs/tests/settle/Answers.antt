@@ -1,10 +1,8 @@
 -- What was tested are the rules.
-use Rattle.std.proofs.Common.{rules, ◌≡◌, ◌≢◌, ◌∙◌, true, sym, subst, refl}
-use Rattle.hw_types.specs.declared.unit.SignedUnit.{SignedUnit}
+use Rattle.std.proofs.Common.{rules, ℕ, ◌≤◌, ◌≡◌, ◌≢◌, ◌∙◌, true, sym, subst, refl}
 use Rattle.hw_dag.specs.declared.numbers.View.{View}
 use Rattle.hw_dag.specs.declared.numbers.View.TheVariants as view
-use Rattle.hw_dag.specs.Dag.{graph, view_at}
-use Rattle.hw_dag.specs.Admission.{KeepsRules}
+use Rattle.hw_dag.specs.Dag.{view_at}
 use Rattle.hw_panorama.proofs.KeptLaws.{IsNextSeq, seq_after_unit, seq_of_first, prepared_keeps_rules}
 use Rattle.hw_panorama.proofs.tests.settle.Goals as goal
 use Rattle.hw_panorama.proofs.tests.settle.Goals.{in-Correct, in_default}
@@ -22,4 +20,4 @@ admit-requires-clause-rules g c =
     subst (λ (w : View). IsNextSeq c.reserve.new.self w c.match-own.seq) c.get-own.ensures own in
     let met : c.consistent.result ≡ true = search rules in
     prepared_keeps_rules c.reserve.new.self c.validators.ensures.graph c.in_ok-panorama.panorama c.in_ok-panorama.ensures.panorama c.resolve.new.prepared _ (c.resolve.ensures.signed ∙ c.in-Ok.ensures.signed)
-    c.in_ok-observed.ensures refl next (sym c.consistent.ensures ∙ met) c.in_ok-panorama.ensures.timely
+    c.in_ok-observed.ensures refl next (sym c.consistent.ensures ∙ met) (λ w m k. subst (λ (n : ℕ). w.unit.time ≤ n) (sym c.count-2.ensures.count) (c.in_ok-panorama.ensures.timely w m k))
