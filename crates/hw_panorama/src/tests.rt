@@ -11,11 +11,11 @@ ghost use Rattle.std.specs.List.{list_any};
 ghost use Rattle.hw_types.specs.Graph.{Node, cites, is_correct};
 ghost use Rattle.hw_types.specs.Below.{Among};
 ghost use Rattle.hw_dag.specs.Dag.{graph, obs_of, observations, count_of, seq_of, IsPanorama};
-ghost use Rattle.hw_dag.specs.Admission.{IsFork};
+ghost use Rattle.hw_dag.specs.Admission.{IsFor, IsFork, IsResolved};
 ghost use Rattle.hw_panorama.specs.Views.{IsKnownView};
 
 use crate::{at_most, consistent, join};
-use hw_dag::{Dag, Panorama, Unit, UnitNo, View};
+use hw_dag::{Dag, Panorama, Prepared, Unit, UnitNo, View};
 use hw_types::{
     Bytes, Digest, DigestList, Obs, ObsList, OutOfMemory, Signature, SignedUnit, WireUnit,
 };
@@ -92,6 +92,25 @@ fn seq_after(rt: &impl Abort, unit: &Unit) -> u64
     seq + 1
 }
 
+/// The unit with its name and its panorama in numbers.
+fn resolved(
+    rt: &impl Abort,
+    dag: &Dag,
+    signed: SignedUnit,
+    digest: Digest,
+) -> Result<Prepared, OutOfMemory>
+    requires { IsFor dag.now.validators signed }
+    ensures signed { IfOk result (λ prepared. prepared.signed ≡ signed) }
+    ensures digest { IfOk result (λ prepared. prepared.digest ≡ digest) }
+    ensures resolved { IfOk result (λ prepared. IsResolved dag.now prepared) }
+{
+    let Ok(mut prepared) = dag.prepare(signed, digest) else {
+        return Err(OutOfMemory);
+    };
+    assert!(rt; dag.resolve(&mut prepared));
+    Ok(prepared)
+}
+
 /// Admits a block whose name is this byte.
 fn settle(
     rt: &impl Abort,
@@ -128,10 +147,7 @@ fn settle(
         signature: Signature([0; 32]),
     };
     let digest = Digest([name; 32]);
-    let Ok(mut prepared) = dag.prepare(signed, digest) else {
-        return Err(OutOfMemory);
-    };
-    assert!(rt; dag.resolve(&mut prepared));
+    let prepared = resolved(rt, dag, signed, digest)?;
     assert!(rt; dag.find(&digest).is_none());
     Ok(dag.admit(prepared, fork))
 }

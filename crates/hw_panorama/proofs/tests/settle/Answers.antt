@@ -19,5 +19,5 @@ admit-requires-clause-rules g c =
     let next : IsNextSeq c.reserve.new.self (view_at c.in_ok-panorama.panorama c.args.creator) c.match-own.seq =
     subst (λ (w : View). IsNextSeq c.reserve.new.self w c.match-own.seq) c.get-own.ensures own in
     let met : c.consistent.result ≡ true = search rules in
-    prepared_keeps_rules c.reserve.new.self c.validators.ensures.graph c.in_ok-panorama.panorama c.in_ok-panorama.ensures.panorama c.resolve.new.prepared _ (c.resolve.ensures.signed ∙ c.in-Ok.ensures.signed)
+    prepared_keeps_rules c.reserve.new.self c.validators.ensures.graph c.in_ok-panorama.panorama c.in_ok-panorama.ensures.panorama c.in_ok-prepared.prepared _ c.in_ok-prepared.ensures.signed
     c.in_ok-observed.ensures refl next (sym c.consistent.ensures ∙ met) (λ w m k. subst (λ (n : ℕ). w.unit.time ≤ n) (sym c.count-2.ensures.count) (c.in_ok-panorama.ensures.timely w m k))
