@@ -1,8 +1,8 @@
 //! Whether a panorama is above those of the units that it cites.
 
-ghost use Rattle.std.specs.Prelude.{◌≡◌, ◌⊎◌, ℕ, ◌<◌, ◌≤◌, Some, IsTrue, IfSome, MatchOption};
+ghost use Rattle.std.specs.Prelude.{◌≡◌, ◌⊎◌, ◌≤◌, Some, IsTrue, IfSome, MatchOption};
 ghost use Rattle.hw_types.specs.Graph.{is_at_most, is_consistent};
-ghost use Rattle.hw_dag.specs.Dag.{graph, observations, unit_at, view_at, count_of, IsPanorama};
+ghost use Rattle.hw_dag.specs.Dag.{graph, observations, unit_at, IsPanorama};
 ghost use Rattle.hw_dag.specs.Admission.{IsGraph};
 ghost use Rattle.hw_panorama.specs.Views.{Cites, CitesNone, IsNewest};
 

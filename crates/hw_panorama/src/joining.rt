@@ -1,6 +1,6 @@
 //! The least panorama above two.
 
-ghost use Rattle.std.specs.Prelude.{◌≡◌, ℕ, ◌<◌, true, IsTrue};
+ghost use Rattle.std.specs.Prelude.{◌≡◌, ℕ, ◌<◌, IsTrue};
 ghost use Rattle.hw_types.specs.Graph.{is_consistent};
 ghost use Rattle.hw_dag.specs.Dag.{graph, observations, view_at, IsPanorama};
 ghost use Rattle.hw_dag.specs.Admission.{IsGraph};

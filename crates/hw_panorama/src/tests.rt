@@ -6,7 +6,7 @@
 //! a0 <- b0 <- c0
 //! ```
 
-ghost use Rattle.std.specs.Prelude.{◌≡◌, ◌≢◌, ◌+◌, ◌≤◌, ◌<◌, length, IsTrue, IfOk};
+ghost use Rattle.std.specs.Prelude.{◌≡◌, ◌+◌, ◌≤◌, IsTrue, IfOk};
 ghost use Rattle.std.specs.List.{list_any};
 ghost use Rattle.hw_types.specs.Graph.{Node, cites, is_correct};
 ghost use Rattle.hw_types.specs.Below.{Among};
