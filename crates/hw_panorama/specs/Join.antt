@@ -1,5 +1,5 @@
 -- Panoramas joined, slot by slot.
-use Rattle.std.specs.Prelude.{◌≡◌, ℕ, Bool, true, List, if◌then◌else◌}
+use Rattle.std.specs.Prelude.{◌≡◌, true, List, if◌then◌else◌}
 use Rattle.hw_types.specs.declared.unit.Obs.{Obs}
 use Rattle.hw_types.specs.Graph.{Node, is_at_most}
 use Rattle.hw_dag.specs.declared.numbers.View.{View}

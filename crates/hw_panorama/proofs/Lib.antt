@@ -1,0 +1,6 @@
+pub mod ViewLaws
+pub mod OrderLaws
+pub mod JoinLaws
+pub mod NewestLaws
+pub mod JoiningLaws
+pub mod KeptLaws
