@@ -1,6 +1,5 @@
-use Rattle.std.proofs.Common.{◌≡◌, ◌+◌, ℕ, sym, ap, ◌∙◌, arith}
+use Rattle.std.proofs.Common.{◌≡◌, sym, ap, ◌∙◌, arith}
 use Rattle.hw_types.specs.declared.unit.SignedUnit.{SignedUnit}
-use Rattle.hw_skip.specs.Skip.{jump_count}
 use Rattle.hw_skip.proofs.JumpLaws.{jump_count-arrived}
 use Rattle.hw_dag.specs.Dag.{SettledUnit, seq_of, unit_at}
 use Rattle.hw_dag.proofs.tests.no_jump.Goals as goal
