@@ -131,6 +131,14 @@ impl Dag {
         self.units.len() as u32
     }
 
+    /// How many validators there are.
+    pub fn validators(&self) -> u32
+        ensures validators { result ≡ self.now.validators }
+        ensures graph { IsGraph self.now }
+    {
+        match self.never {}
+    }
+
     /// The number of the unit of this name, or None where there is no such unit.
     pub fn find(&self, digest: &Digest) -> Option<UnitNo>
         ensures found { IfSome result (λ no. (no.0 < count_of self.now) × ((unit_at self.now no.0).digest ≡ digest.now)) }
