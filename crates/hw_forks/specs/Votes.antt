@@ -15,12 +15,12 @@ height_at dag n = unwrap_or (unit_at dag n).height 0
 
 -- the vote of a unit of this weight
 abbrev pub vote_of : UnitGraph → UnitNo → ℕ → Vote
-vote_of dag no weight = record { block = (unit_at dag no.0).vote; height = height_at dag (unit_at dag no.0).vote.0; weight = weight }
+vote_of dag number weight = record { block = (unit_at dag number.0).vote; height = height_at dag (unit_at dag number.0).vote.0; weight = weight }
 
 -- the vote of a slot, which only a Correct one has
 abbrev pub vote_in : UnitGraph → View → ℕ → List Vote
 vote_in dag view.Absent weight = []
-vote_in dag (view.Correct no) weight = vote_of dag no weight ∷ []
+vote_in dag (view.Correct number) weight = vote_of dag number weight ∷ []
 vote_in dag view.Faulty weight = []
 
 -- the votes of the first n slots
