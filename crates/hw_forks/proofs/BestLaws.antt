@@ -1,17 +1,19 @@
 -- The best of scored blocks, and the walk.
 use Rattle.std.proofs.Common.{◌≡◌, ℕ, zero, suc, ◌+◌, ◌≤◌, ◌<◌, ◌⊎◌, inl, inr, Bool, true, false, cond, List, [], ◌∷◌, length, Option, Some, None, refl, sym, ap, subst, ◌∙◌, arith, Less}
 use Rattle.std.specs.Prelude.{map, fold, ◌&&◌, ◌||◌, nat_lt, ◌==◌}
-use Rattle.std.specs.Ordering.{is_lt, ordering_reverse}
+use Rattle.std.specs.Ordering.{is_lt, is_eq, ordering_reverse}
 use Rattle.std.specs.declared.cmp.Ordering.{Ordering}
 use Rattle.std.specs.declared.cmp.Ordering.TheVariants as ordering
 use Rattle.std.proofs.lemmas.Bool.{cases_lt, eqb-true, ltb-true, ltb-false, lt-ltb, le-ltb}
 use Rattle.std.proofs.lemmas.Cmp.{nat_list_cmp_total}
+use Rattle.std.proofs.lemmas.Map.Text.{is_eq-slice_cmp}
 use Rattle.hw_types.specs.declared.unit.Digest.{Digest}
 use Rattle.hw_types.specs.declared.unit.Obs.{Obs}
 use Rattle.hw_types.specs.Graph.{Node, bytes_cmp, digest_lt, past}
 use Rattle.hw_types.specs.Below.{Among}
 use Rattle.hw_types.specs.Votes.{ForkAt, score_of, children_of, better, best_child, walk, ghost_walk}
 use Rattle.hw_types.proofs.StableLaws.{and_parts}
+use Rattle.hw_types.proofs.SettledLaws.{digest_same}
 use Rattle.hw_types.proofs.WordsLaws.{never_both}
 
 -- ---- the order of names
@@ -29,6 +31,14 @@ digest_lt_never d e s t =
 
 pub digest_lt_trans : (d e f : Digest) → digest_lt d e ≡ true → digest_lt e f ≡ true → digest_lt d f ≡ true
 digest_lt_trans d e f s t = ap is_lt (nat_list_cmp_total.trans d.0 e.0 f.0 (less_cmp _ s) (less_cmp _ t))
+
+pub digest_cases : (d e : Digest) → digest_lt d e ≡ false → (e ≡ d) ⊎ (digest_lt e d ≡ true)
+digest_cases d e f = go (bytes_cmp d.0 e.0) refl
+  where
+    go : (o : Ordering) → bytes_cmp d.0 e.0 ≡ o → (e ≡ d) ⊎ (digest_lt e d ≡ true)
+    go ordering.Less h = absurd (never_both (digest_lt d e) (ap is_lt h) f)
+    go ordering.Equal h = inl (sym (digest_same d e (sym (is_eq-slice_cmp d.0 e.0) ∙ ap is_eq h)))
+    go ordering.Greater h = inr (ap is_lt (nat_list_cmp_total.antisymm e.0 d.0 ∙ ap ordering_reverse h))
 
 -- ---- the best of scored blocks
 

@@ -4,3 +4,4 @@ pub mod StartLaws
 pub mod BestLaws
 pub mod DefinedLaws
 pub mod TallyLaws
+pub mod LoopLaws

@@ -43,7 +43,7 @@ module _ (dag : UnitGraph) (votes : List Vote) (are : AreVotes dag votes) where
         | inl above ↦ one_child dag are.graph place d c v.0.block.0 k child (are.each v.0 v.1).known v.2 above
         | inr below ↦ one_child dag are.graph place d c c k child w.known (anc_trans dag are.graph d v.0.block.0 c v.2 below) itself
       ]))
-      | inr none ↦ inr (inl (omega arith))
+      | inr none ↦ inr (inl (let voted = some in omega arith))
     ];
   }
     where

@@ -105,6 +105,7 @@ fn heaviest(
 
 // The one of two children that is next: of the greater tally, or of one tally and the greater name.
 fn heavier(tallies: &[u64], dag: &Dag, best: Option<UnitNo>, child: UnitNo) -> UnitNo
+    requires graph { IsGraph dag.now }
     requires room { count_of dag.now ≤ length tallies.now }
     requires best_known { IfSome best (λ no. no.0 < count_of dag.now) }
     requires child_known { child.0 < count_of dag.now }
