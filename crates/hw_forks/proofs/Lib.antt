@@ -5,3 +5,5 @@ pub mod BestLaws
 pub mod DefinedLaws
 pub mod TallyLaws
 pub mod LoopLaws
+pub mod GatherLaws
+pub mod ForkLaws

@@ -1,5 +1,6 @@
 -- The walk passes through each block that is on the way to all votes.
 use Rattle.std.proofs.Common.{◌≡◌, ℕ, zero, suc, ◌+◌, ◌<◌, ◌≤◌, ◌⊎◌, inl, inr, true, List, Option, Some, None, refl, sym, subst, ◌∙◌, arith}
+use Rattle.std.specs.Prelude.{IfSome}
 use Rattle.std.proofs.lemmas.Bool.{cases_lt}
 use Rattle.hw_types.specs.Below.{Among}
 use Rattle.hw_dag.specs.declared.numbers.UnitNo.{UnitNo}
@@ -66,3 +67,8 @@ module _ (dag : UnitGraph) (votes : List Vote) (are : AreVotes dag votes) where
   -- so a walk from there is a walk from above all blocks
   pub on_way_walk : (c : ℕ) → IsOnTheWay dag votes c → (end : Option UnitNo) → WalksTo dag votes end (Some (record { 0 = c })) → WalksTo dag votes end None
   on_way_walk c w end h = on_way_within (suc c) c (omega arith) w end h
+
+  -- where the walk can begin it comes to the same end
+  pub begins : (place : Option UnitNo) → IfSome place (λ number. IsOnTheWay dag votes number.0) → (IfSome place (λ number. number.0 < count_of dag)) × ((end : Option UnitNo) → WalksTo dag votes end place → WalksTo dag votes end None)
+  begins None w = (tt, λ end h. h)
+  begins (Some number) w = (w.known, on_way_walk number.0 w)

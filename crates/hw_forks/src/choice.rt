@@ -97,7 +97,7 @@ fn walk(votes: &[Vote], tallies: &mut [u64], dag: &Dag) -> Option<UnitNo>
     requires room { count_of dag.now ≤ length tallies.old }
     requires some { 0 < length votes.now }
     requires votes { AreVotes dag.now votes.now }
-    ensures { WalksTo dag.now votes.now None result }
+    ensures { WalksTo dag.now votes.now result None }
 {
     let mut place = start(votes, dag);
     let mut height = children_height(dag, place);
