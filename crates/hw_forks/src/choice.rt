@@ -81,7 +81,7 @@ impl Forks {
         if count == 0 {
             return None;
         }
-        walk(&votes[..count], self.tallies.as_mut_slice(), dag)
+        walk(&self.votes[..count], self.tallies.as_mut_slice(), dag)
     }
 }
 
