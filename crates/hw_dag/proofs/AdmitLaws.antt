@@ -15,7 +15,7 @@ use Rattle.hw_dag.specs.declared.numbers.UnitNo.{UnitNo}
 use Rattle.hw_dag.specs.declared.numbers.View.{View}
 use Rattle.hw_dag.specs.declared.numbers.View.TheVariants as view
 use Rattle.hw_dag.specs.Dag.{SettledUnit, UnitGraph, stand_in, unit_at, count_of, node_of, node_at, graph, creator_of, view_at, obs_of, observations, IsPanorama, GrowsTo}
-use Rattle.hw_dag.specs.Admission.{PreparedUnit, node_prepared, IsFor, IsResolved, IsNew, KeepsRules, IsFork, height_above, settled_as, settled_from, with_unit, fork_given, IsSettled, IsGraph}
+use Rattle.hw_dag.specs.Admission.{PreparedUnit, node_prepared, IsFor, IsResolved, IsNew, KeepsRules, IsFork, height_above, settled_as, settled_from, with_unit, fork_given, IsSettled, IsGraph, IsReady}
 use Rattle.hw_dag.proofs.NodeLaws.{AreApart, apart_found, graph_one_name}
 use Rattle.hw_dag.proofs.SlotLaws.{slot_of, length-observations, latest_of}
 use Rattle.hw_dag.proofs.DepthLaws.{parent_earlier}
@@ -78,15 +78,6 @@ module _ (dag later : UnitGraph) (grows : GrowsTo dag later) (g : IsGraph dag) (
   height_above_stays (Some p) known = ap (λ (u : SettledUnit). unwrap_or u.height 0 + 1) (unit_stays dag later grows p.0 (known p refl))
 
 -- ---- one unit more
-
--- a unit that is prepared, resolved and new, keeps the rules and has its fork choice
-pub record IsReady (dag : UnitGraph) (p : PreparedUnit) (fork : Option UnitNo) : Type 0 where
-  pub room : 1 ≤ dag.spare
-  pub is_for : IsFor dag.validators p.signed
-  pub resolved : IsResolved dag p
-  pub rules : KeepsRules (graph dag) (node_prepared p)
-  pub fresh : IsNew dag p.digest
-  pub fork_is : IsFork dag p.signed.unit.panorama fork
 
 chosen : (b : Bool) (o : Option UnitNo) (d : UnitNo) → (b ≡ false → is_some o ≡ true) → (if b then (if b then o else None) else Some (if b then d else unwrap_or o d)) ≡ o
 chosen true o d h = refl

@@ -12,3 +12,6 @@ pub mod KeptLaws
 pub mod KeepLaws
 pub mod ResolveLaws
 pub mod MarkLaws
+pub mod SoloLaws
+pub mod VoteLaws
+pub mod RuleLaws

@@ -66,6 +66,15 @@ pub record IsFork (dag : UnitGraph) (panorama : List Obs) (fork : Option UnitNo)
   pub known : (no : UnitNo) → fork ≡ Some no → no.0 < count_of dag
   pub block : (no : UnitNo) → fork ≡ Some no → is_block (node_at dag no.0) ≡ true
 
+-- a unit that is prepared, resolved and new, keeps the rules and has its fork choice
+pub record IsReady (dag : UnitGraph) (p : PreparedUnit) (fork : Option UnitNo) : Type 0 where
+  pub room : 1 ≤ dag.spare
+  pub is_for : IsFor dag.validators p.signed
+  pub resolved : IsResolved dag p
+  pub rules : KeepsRules (graph dag) (node_prepared p)
+  pub fresh : IsNew dag p.digest
+  pub fork_is : IsFork dag p.signed.unit.panorama fork
+
 -- ---- the settled unit
 
 -- the height of a block that has this parent
