@@ -7,3 +7,4 @@ pub mod TallyLaws
 pub mod LoopLaws
 pub mod GatherLaws
 pub mod ForkLaws
+pub mod KeptLaws
