@@ -1,20 +1,24 @@
 -- A unit whose panorama in numbers was tested keeps the rules that the graph asks for.
-use Rattle.std.proofs.Common.{◌≡◌, ℕ, ◌+◌, ◌<◌, ◌≤◌, true, false, List, [], ◌∷◌, ◌++◌, length, take, Some, None, refl, sym, ap, subst, ◌∙◌, arith}
-use Rattle.std.proofs.lemmas.List.{take_more, take_all}
-use Rattle.std.specs.Prelude.{is_some}
+use Rattle.std.proofs.Common.{◌≡◌, ℕ, ◌+◌, ◌<◌, ◌≤◌, true, false, List, [], ◌∷◌, ◌++◌, length, take, Some, None, Bool, inl, inr, refl, sym, ap, subst, ◌∙◌, arith}
+use Rattle.std.proofs.lemmas.List.{take_more, take_all, get_or_past}
+use Rattle.std.specs.Prelude.{is_some, not, ◌||◌}
+use Rattle.std.specs.List.{list_any}
+use Rattle.std.proofs.lemmas.Bool.{cases_lt}
 use Rattle.hw_types.specs.declared.unit.Obs.{Obs}
 use Rattle.hw_types.specs.declared.unit.Obs.TheVariants.{Absent}
 use Rattle.hw_types.specs.declared.unit.SignedUnit.{SignedUnit}
-use Rattle.hw_types.specs.Graph.{Node, is_faulty_mark, is_absent, slot, cites, observed, latest, is_consistent}
+use Rattle.hw_types.specs.Graph.{Node, is_faulty_mark, is_absent, is_correct, is_some_and, slot, slots, cites, observed, latest, find_node, is_on_lane, obs_at_most, is_at_most, is_consistent}
 use Rattle.hw_types.specs.Below.{Among}
 use Rattle.hw_types.specs.Votes.{is_block}
-use Rattle.hw_types.proofs.WordsLaws.{never_both}
+use Rattle.hw_types.proofs.PastLaws.{or_left, or_right}
+use Rattle.hw_types.proofs.WordsLaws.{either, each_all, range_below}
 use Rattle.hw_dag.specs.declared.numbers.UnitNo.{UnitNo}
 use Rattle.hw_dag.specs.declared.numbers.View.{View}
 use Rattle.hw_dag.specs.declared.numbers.View.TheVariants as view
 use Rattle.hw_dag.specs.Dag.{SettledUnit, UnitGraph, unit_at, count_of, node_at, graph, creator_of, seq_of, view_at, obs_of, observations, IsPanorama}
 use Rattle.hw_dag.specs.Admission.{PreparedUnit, node_prepared, IsGraph, KeepsRules}
-use Rattle.hw_dag.proofs.NodeLaws.{among_node}
+use Rattle.hw_dag.proofs.NodeLaws.{among_node, node_found}
+use Rattle.hw_dag.specs.Lanes.{is_lane_below, VotesAre, AreWeights}
 use Rattle.hw_dag.proofs.SlotLaws.{slot_of, length-observations, observed_number, cited_number}
 
 -- the number of a unit that observes this of its own creator
@@ -44,13 +48,13 @@ module _ (dag : UnitGraph) (g : IsGraph dag) (panorama : List View) (hp : IsPano
       go view.Faulty e = absurd (let q : None ≡ Some x = found view.Faulty e in cc)
       go (view.Correct number) e = (number, e, (let q : Some (node_at dag number.0) ≡ Some x = sym (observed_number dag g number (hp.known v number e)) ∙ found (view.Correct number) e in cc))
 
-  pub keeps_rules : (u : Node) → u.unit.panorama ≡ observations dag panorama → is_block u ≡ true → IsNextSeq dag (view_at panorama u.unit.creator) u.unit.seq
+  pub keeps_rules : (u : Node) → u.unit.panorama ≡ observations dag panorama → (is_block u ≡ false → list_any is_correct (observations dag panorama) ≡ true) → IsNextSeq dag (view_at panorama u.unit.creator) u.unit.seq
       → is_consistent (graph dag) (observations dag panorama) ≡ true → ((w : Node) → Among w (graph dag) → cites (observations dag panorama) w ≡ true → w.unit.time ≤ u.unit.time)
       → KeepsRules (graph dag) u
   keeps_rules u same block seq consistent timely = record {
     unmarked = unmarked (view_at panorama u.unit.creator) refl;
     first = λ t. first (view_at panorama u.unit.creator) refl t;
-    sighted = λ f. absurd (never_both (is_block u) block f);
+    sighted = λ f. subst (λ (os : List Obs). list_any is_correct os ≡ true) (sym same) (block f);
     creators = λ v x h. creator v x (subst (λ (os : List Obs). latest (graph dag) os v ≡ Some x) same h);
     next = λ p h. next p (latest_number u.unit.creator p (subst (λ (os : List Obs). latest (graph dag) os u.unit.creator ≡ Some p) same h));
     consistent = subst (λ (os : List Obs). is_consistent (graph dag) os ≡ true) (sym same) consistent;
@@ -120,8 +124,63 @@ named_all dag panorama n observed le h = h ∙ take_all n (observations dag pano
 -- ---- a unit on its way in
 
 pub prepared_keeps_rules : (dag : UnitGraph) → IsGraph dag → (panorama : List View) → IsPanorama dag panorama → (p : PreparedUnit) (signed : SignedUnit) → p.signed ≡ signed
-    → signed.unit.panorama ≡ observations dag panorama → is_some signed.unit.value ≡ true → IsNextSeq dag (view_at panorama signed.unit.creator) signed.unit.seq
+    → signed.unit.panorama ≡ observations dag panorama → (is_some signed.unit.value ≡ false → list_any is_correct (observations dag panorama) ≡ true) → IsNextSeq dag (view_at panorama signed.unit.creator) signed.unit.seq
     → is_consistent (graph dag) (observations dag panorama) ≡ true → ((w : Node) → Among w (graph dag) → cites (observations dag panorama) w ≡ true → w.unit.time ≤ signed.unit.time)
     → KeepsRules (graph dag) (node_prepared p)
 prepared_keeps_rules dag g panorama hp p signed e same block seq consistent timely =
     subst (λ (s : SignedUnit). KeepsRules (graph dag) (record { digest = p.digest; unit = s.unit })) (sym e) (keeps_rules dag g panorama hp (record { digest = p.digest; unit = signed.unit }) same block seq consistent timely)
+
+-- ---- panoramas that are met slot by slot
+
+module _ (dag : UnitGraph) (g : IsGraph dag) where
+  -- a unit on the lane of another is no more than it
+  pub lane_within : (low high : UnitNo) → low.0 < count_of dag → high.0 < count_of dag → is_lane_below dag low.0 high.0 ≡ true
+      → obs_at_most (graph dag) (obs_of dag (view.Correct low)) (obs_of dag (view.Correct high)) ≡ true
+  lane_within low high lo hi t =
+      ap (is_some_and (λ y. is_some_and (λ x. is_on_lane (graph dag) x y) (find_node (graph dag) (unit_at dag low.0).digest))) (node_found dag g high.0 hi)
+      ∙ ap (is_some_and (λ x. is_on_lane (graph dag) x (node_at dag high.0))) (node_found dag g low.0 lo) ∙ t
+
+  pub within_all : (small large : List View) → length small ≡ dag.validators
+      → ((v : ℕ) → v < dag.validators → obs_at_most (graph dag) (obs_of dag (view_at small v)) (obs_of dag (view_at large v)) ≡ true)
+      → is_at_most (graph dag) (observations dag small) (observations dag large) ≡ true
+  unfolding is_at_most
+  within_all small large many each = each_all (λ v. obs_at_most (graph dag) (slot (observations dag small) v) (slot (observations dag large) v)) (slots (observations dag small))
+      (λ v m. let lt : v < dag.validators = (let long = length-observations dag small in omega (arith, range_below 0 (length (observations dag small)) v m)) in
+      ap (λ (o : Obs). obs_at_most (graph dag) o (slot (observations dag large) v)) (slot_of dag small v) ∙ ap (λ (o : Obs). obs_at_most (graph dag) (obs_of dag (view_at small v)) o) (slot_of dag large v) ∙ each v lt)
+
+  pub met_all : (panorama : List View) → IsPanorama dag panorama
+      → ((v : ℕ) (number : UnitNo) → v < dag.validators → view_at panorama v ≡ view.Correct number → is_at_most (graph dag) (observations dag (unit_at dag number.0).panorama) (observations dag panorama) ≡ true)
+      → is_consistent (graph dag) (observations dag panorama) ≡ true
+  unfolding is_consistent
+  met_all panorama hp each = each_all (λ w. not (cites (observations dag panorama) w) || is_at_most (graph dag) w.unit.panorama (observations dag panorama)) (graph dag)
+      (λ w m. elim (either (cites (observations dag panorama) w)) [
+        | inl t ↦ or_right (not (cites (observations dag panorama) w)) (is_at_most (graph dag) w.unit.panorama (observations dag panorama)) (cited w m t)
+        | inr f ↦ or_left (not (cites (observations dag panorama) w)) (is_at_most (graph dag) w.unit.panorama (observations dag panorama)) (ap not f)
+      ])
+    where
+      within : (v : ℕ) (number : UnitNo) → view_at panorama v ≡ view.Correct number → v < dag.validators
+      within v number e = elim (cases_lt v dag.validators) [
+        | inl lt ↦ lt
+        | inr past ↦ absurd (let none : view_at panorama v ≡ view.Absent = get_or_past panorama v view.Absent (let many = hp.length_is in omega arith) in let no_unit : view.Absent ≡ view.Correct number = sym none ∙ e in cc)
+      ]
+
+      cited : (w : Node) → Among w (graph dag) → cites (observations dag panorama) w ≡ true → is_at_most (graph dag) w.unit.panorama (observations dag panorama) ≡ true
+      cited w m t =
+          let n = among_node dag w m in
+          let k = cited_number dag g panorama n.0 hp.known n.1 (subst (λ (y : Node). cites (observations dag panorama) y ≡ true) (sym n.2) t) in
+          let met = each k.0 k.1 (within k.0 k.1 k.2) k.2 in
+          let here : is_at_most (graph dag) (observations dag (unit_at dag n.0).panorama) (observations dag panorama) ≡ true =
+          subst (λ (i : ℕ). is_at_most (graph dag) (observations dag (unit_at dag i).panorama) (observations dag panorama) ≡ true) k.3 met in
+          subst (λ (y : Node). is_at_most (graph dag) y.unit.panorama (observations dag panorama) ≡ true) n.2
+          (subst (λ (os : List Obs). is_at_most (graph dag) os (observations dag panorama) ≡ true) (g.settled n.0 n.1).observes here)
+
+-- ---- weights
+
+-- weights are those of each graph with the same units
+pub weights_stay : (weights : List ℕ) (dag later : UnitGraph) → later.units ≡ dag.units → later.validators ≡ dag.validators → AreWeights weights dag → AreWeights weights later
+weights_stay weights dag later units validators aw = record {
+  length_is = aw.length_is ∙ sym validators;
+  positive = aw.positive;
+  bounded = aw.bounded;
+  votes = subst (λ (us : List SettledUnit). VotesAre weights (record { validators = later.validators; spare = later.spare; units = us })) (sym units) aw.votes;
+}
