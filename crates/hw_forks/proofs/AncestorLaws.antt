@@ -1,10 +1,9 @@
 -- Ancestors by number.
-use Rattle.std.proofs.Common.{◌≡◌, ℕ, zero, suc, ◌+◌, ◌<◌, ◌≤◌, ◌⊎◌, inl, inr, Bool, true, false, Option, Some, None, refl, sym, ap, subst, ◌∙◌, arith, eqb-true, eq-eqb}
-use Rattle.std.specs.Prelude.{◌||◌, ◌==◌, unwrap_or}
+use Rattle.std.proofs.Common.{◌≡◌, ℕ, zero, suc, ◌<◌, ◌≤◌, ◌⊎◌, inl, inr, Bool, true, false, Option, Some, refl, sym, ap, subst, ◌∙◌, arith, eqb-true, eq-eqb}
+use Rattle.std.specs.Prelude.{◌==◌, unwrap_or}
 use Rattle.hw_types.specs.Graph.{is_some_and}
 use Rattle.hw_types.specs.Votes.{is_block}
 use Rattle.hw_types.proofs.PastLaws.{or_cases, or_left, or_right}
-use Rattle.hw_types.proofs.StableLaws.{both_ways}
 use Rattle.hw_types.proofs.WordsLaws.{passes_some}
 use Rattle.hw_dag.specs.declared.numbers.UnitNo.{UnitNo}
 use Rattle.hw_dag.specs.Dag.{UnitGraph, unit_at, count_of, node_at}

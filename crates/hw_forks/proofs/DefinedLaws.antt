@@ -1,14 +1,13 @@
 -- The walk by number is the walk of the definitions.
-use Rattle.std.proofs.Common.{◌≡◌, ℕ, zero, suc, ◌+◌, ◌≤◌, ◌<◌, ◌⊎◌, inl, inr, Bool, true, false, cond, List, [], ◌∷◌, ◌++◌, length, replicate, Option, Some, None, refl, sym, ap, subst, ◌∙◌, arith, zero-add}
-use Rattle.std.specs.Prelude.{◌&&◌, ◌||◌, sum_by, slice_index, if◌then◌else◌}
+use Rattle.std.proofs.Common.{◌≡◌, ℕ, zero, suc, ◌+◌, ◌≤◌, ◌<◌, ◌⊎◌, inl, inr, Bool, true, false, List, [], length, Option, Some, None, refl, sym, ap, subst, ◌∙◌, arith, zero-add}
+use Rattle.std.specs.Prelude.{◌&&◌, sum_by, slice_index, if◌then◌else◌}
 use Rattle.std.specs.Option.{option_map}
 use Rattle.std.specs.List.{range_with_len}
 use Rattle.std.proofs.lemmas.List.Sums.{sum_by-cons, sum_by-append}
-use Rattle.hw_types.specs.declared.unit.Digest.{Digest}
 use Rattle.hw_types.specs.declared.unit.Obs.{Obs}
-use Rattle.hw_types.specs.Graph.{Node, node_eq, digest_eq, is_some_and, observed, latest, cites, unit_cites, past}
+use Rattle.hw_types.specs.Graph.{Node, node_eq, is_some_and, observed, latest, cites, unit_cites, past}
 use Rattle.hw_types.specs.Below.{Among}
-use Rattle.hw_types.specs.Votes.{ForkAt, weight_of, is_block, vote_of, is_ancestor_within, votes_for, score_of, is_at, children_of, best_child, walk, ghost_walk, choice_of, choices_after, fork_over, fork_of, unit_fork}
+use Rattle.hw_types.specs.Votes.{ForkAt, is_block, vote_of, is_ancestor_within, votes_for, score_of, is_at, children_of, best_child, walk, choice_of, choices_after, fork_over, fork_of, unit_fork}
 use Rattle.hw_types.proofs.ClosureLaws.{Within, Among-filter, filter-Among}
 use Rattle.hw_types.proofs.PastLaws.{or_cases, or_left, or_right, reach_first, reach_within}
 use Rattle.hw_types.proofs.StableLaws.{OneName, both_ways, and_parts, and_whole}
@@ -30,10 +29,10 @@ use Rattle.hw_dag.proofs.LaneLaws.{even_weights, all_faulty, lawful}
 use Rattle.hw_dag.proofs.DepthLaws.{parent_earlier, parent_is_block}
 use Rattle.hw_forks.specs.declared.votes.Vote.{Vote}
 use Rattle.hw_forks.specs.Votes.{votes_of, vote_in}
-use Rattle.hw_forks.specs.Walk.{is_over, score_in, IsChild, Yields, IsBest, HasNoSupport, WalksTo, stops, goes}
+use Rattle.hw_forks.specs.Walk.{is_over, score_in, IsChild, IsBest, HasNoSupport, WalksTo, stops, goes}
 use Rattle.hw_forks.proofs.AncestorLaws.{over_anc, anc_over}
 use Rattle.hw_forks.proofs.ScoreLaws.{share, score_some}
-use Rattle.hw_forks.proofs.BestLaws.{Falls, best_is, none_is, walk_goes, walk_stops, walk_zero, walk_whole}
+use Rattle.hw_forks.proofs.BestLaws.{Falls, best_is, none_is, walk_goes, walk_stops, walk_whole}
 
 -- a number as the definitions see it
 abbrev pub node_for : UnitGraph → Option UnitNo → Option Node
@@ -284,8 +283,7 @@ module _ (weights : List ℕ) (dag : UnitGraph) (g : IsGraph dag) (aw : AreWeigh
         go (view.Correct number) e (inr h) = absurd h
         go (view.Correct number) e (inl h) =
             let own = vote_at number.0 (ip.known n number e) in
-            let name = ap (λ (v : Vote). v.block.0) h in
-            (
+            let name = ap (λ (v : Vote). v.block.0) h in (
               subst (λ (b : ℕ). b < count_of dag) name own.known,
               subst (λ (b : ℕ). is_block (node_at dag b) ≡ true) name own.block,
               subst (λ (b : ℕ). Among (node_at dag b) below) name (vote_below n number e),

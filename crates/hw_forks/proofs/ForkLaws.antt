@@ -1,5 +1,5 @@
 -- What holds of the end of the walk.
-use Rattle.std.proofs.Common.{◌≡◌, ℕ, zero, suc, ◌+◌, ◌<◌, ◌≤◌, ◌⊎◌, inl, inr, Bool, true, false, List, [], ◌∷◌, ◌++◌, length, Option, Some, None, refl, sym, ap, subst, ◌∙◌, arith}
+use Rattle.std.proofs.Common.{◌≡◌, ℕ, zero, suc, ◌<◌, ◌⊎◌, inl, inr, true, false, List, [], Option, Some, None, refl, sym, ap, subst, ◌∙◌, arith}
 use Rattle.std.specs.Prelude.{is_some, slice_index}
 use Rattle.std.specs.List.{list_any}
 use Rattle.std.proofs.lemmas.Bool.{cases_lt}
@@ -19,13 +19,12 @@ use Rattle.hw_dag.specs.declared.numbers.View.{View}
 use Rattle.hw_dag.specs.declared.numbers.View.TheVariants as view
 use Rattle.hw_dag.specs.Dag.{UnitGraph, unit_at, count_of, node_at, view_at, obs_of, observations, IsPanorama}
 use Rattle.hw_dag.specs.Admission.{IsGraph, IsFork}
-use Rattle.hw_dag.specs.Lanes.{IsAncestor, itself, further, AreWeights}
+use Rattle.hw_dag.specs.Lanes.{IsAncestor, itself, further}
 use Rattle.hw_dag.proofs.DepthLaws.{parent_earlier, parent_is_block}
 use Rattle.hw_dag.proofs.SlotLaws.{slot_of, obs_number, length-observations}
 use Rattle.hw_forks.specs.declared.votes.Vote.{Vote}
 use Rattle.hw_forks.specs.Votes.{votes_of, vote_of, vote_in, AreVotes}
-use Rattle.hw_forks.specs.Walk.{score_in, IsChild, HasNoSupport, WalksTo, stops, goes}
-use Rattle.hw_forks.proofs.AncestorLaws.{anc_trans, anc_known, anc_block}
+use Rattle.hw_forks.specs.Walk.{score_in, IsChild, WalksTo, stops, goes}
 use Rattle.hw_forks.proofs.ScoreLaws.{score_some, score_has}
 
 -- the end is the place, or a block of the graph
@@ -129,8 +128,8 @@ module _ (dag : UnitGraph) (weights : List ℕ) (panorama : List View) where
   pub end_is_fork : (g : IsGraph dag) → IsPanorama dag panorama → AreVotes dag (votes_of dag weights panorama dag.validators) → (end : Option UnitNo) → WalksTo dag (votes_of dag weights panorama dag.validators) end None → IsFork dag (observations dag panorama) end
   end_is_fork g ip are end h = record {
     some = both_ways (is_some end) (list_any is_correct (observations dag panorama))
-    (λ t. let v = end_votes dag g (votes_of dag weights panorama dag.validators) end t h in votes_correct dag.validators v.0 v.1)
-    (λ t. let v = correct_votes ip t in votes_end dag g (votes_of dag weights panorama dag.validators) are end v.0 v.1 h);
+        (λ t. let v = end_votes dag g (votes_of dag weights panorama dag.validators) end t h in votes_correct dag.validators v.0 v.1)
+        (λ t. let v = correct_votes ip t in votes_end dag g (votes_of dag weights panorama dag.validators) are end v.0 v.1 h);
     known = λ number e. (whole number e).0;
     block = λ number e. (whole number e).1;
   }

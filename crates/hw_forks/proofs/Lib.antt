@@ -7,4 +7,3 @@ pub mod TallyLaws
 pub mod LoopLaws
 pub mod GatherLaws
 pub mod ForkLaws
-pub mod KeptLaws

@@ -1,5 +1,5 @@
 -- What loops over votes keep.
-use Rattle.std.proofs.Common.{◌≡◌, ◌≢◌, ℕ, zero, suc, ◌+◌, ◌<◌, ◌≤◌, ◌⊎◌, inl, inr, Bool, true, false, List, [], ◌∷◌, length, get_or, take, Option, Some, None, refl, sym, ap, subst, ◌∙◌, arith, get_or-set_other, get_or-set_same}
+use Rattle.std.proofs.Common.{◌≡◌, ◌≢◌, ℕ, ◌+◌, ◌<◌, ◌≤◌, ◌⊎◌, inl, inr, Bool, true, false, List, length, get_or, take, Option, Some, None, refl, sym, ap, subst, ◌∙◌, arith, get_or-set_other, get_or-set_same}
 use Rattle.std.specs.Prelude.{sum_by, slice_set, if◌then◌else◌}
 use Rattle.std.proofs.lemmas.Bool.{cases_lt}
 use Rattle.std.proofs.lemmas.List.Sums.{sum_by-take-le}
@@ -12,7 +12,7 @@ use Rattle.hw_dag.specs.Lanes.{IsAncestor}
 use Rattle.hw_dag.proofs.PlaceLaws.{among_place, place_is_among}
 use Rattle.hw_forks.specs.declared.votes.Vote.{Vote}
 use Rattle.hw_forks.specs.Votes.{AreVotes}
-use Rattle.hw_forks.specs.Walk.{is_over, score_in, IsChild, Yields, IsBest, HasNoSupport, HoldsTallies, ComesBefore, IsHeavier}
+use Rattle.hw_forks.specs.Walk.{is_over, score_in, IsChild, Yields, IsBest, HoldsTallies, ComesBefore, IsHeavier}
 use Rattle.hw_forks.proofs.AncestorLaws.{over_anc, anc_over, one_child}
 use Rattle.hw_forks.proofs.ScoreLaws.{share, score_more, score_most, score_has}
 use Rattle.hw_forks.proofs.BestLaws.{digest_lt_trans, digest_cases}
@@ -164,32 +164,41 @@ module _ (dag : UnitGraph) (g : IsGraph dag) (place : Option UnitNo) where
 
     pub best_more : (tallies : List ℕ) → HoldsTallies dag votes place tallies → (best : Option UnitNo) (child next : UnitNo) → HasChild vote child.0 → IsHeavier dag tallies best child next → BestSoFar dag votes front place best → BestSoFar dag votes more place (Some next)
     best_more tallies holds None child next h e old =
-        subst (λ (n : UnitNo). BestSoFar dag votes more place (Some n)) (sym e)
-        (h.0, child_some child.0 h, λ c k some. elim (eq_cases c child.0) [
-          | inl same ↦ inl same
-          | inr differ ↦ absurd (let s = other_stays child.0 h c k differ in let o = old c k in omega arith)
-        ])
+        subst (λ (n : UnitNo). BestSoFar dag votes more place (Some n)) (sym e) (
+          h.0,
+          child_some child.0 h,
+          λ c k some. elim (eq_cases c child.0) [
+            | inl same ↦ inl same
+            | inr differ ↦ absurd (let s = other_stays child.0 h c k differ in let o = old c k in omega arith)
+          ],
+        )
     best_more tallies holds (Some best) child next h (inl up) old =
         let some_child = child_some child.0 h in
         let rises = by_score tallies holds best.0 child.0 old.0 h.0 old.1 some_child up.1 in
-        subst (λ (n : UnitNo). BestSoFar dag votes more place (Some n)) (sym up.0)
-        (h.0, some_child, λ c k some. elim (eq_cases c child.0) [
-          | inl same ↦ inl same
-          | inr differ ↦ elim (old.2 c k (let s = other_stays child.0 h c k differ in omega arith)) [
-            | inl here ↦ inr (subst (λ (n : ℕ). Yields dag votes n child.0) (sym here) rises)
-            | inr less ↦ inr (yields_trans c best.0 child.0 less rises)
-          ]
-        ])
+        subst (λ (n : UnitNo). BestSoFar dag votes more place (Some n)) (sym up.0) (
+          h.0,
+          some_child,
+          λ c k some. elim (eq_cases c child.0) [
+            | inl same ↦ inl same
+            | inr differ ↦ elim (old.2 c k (let s = other_stays child.0 h c k differ in omega arith)) [
+              | inl here ↦ inr (subst (λ (n : ℕ). Yields dag votes n child.0) (sym here) rises)
+              | inr less ↦ inr (yields_trans c best.0 child.0 less rises)
+            ]
+          ],
+        )
     best_more tallies holds (Some best) child next h (inr stays) old =
         let some_child = child_some child.0 h in
-        subst (λ (n : UnitNo). BestSoFar dag votes more place (Some n)) (sym stays.0)
-        (old.0, old.1, λ c k some. elim (eq_cases c child.0) [
-          | inl same ↦ elim stays.1 [
-            | inl one ↦ inl (same ∙ one)
-            | inr less ↦ inr (subst (λ (n : ℕ). Yields dag votes n best.0) (sym same) (by_score tallies holds child.0 best.0 h.0 old.0 some_child old.1 less))
-          ]
-          | inr differ ↦ old.2 c k (let s = other_stays child.0 h c k differ in omega arith)
-        ])
+        subst (λ (n : UnitNo). BestSoFar dag votes more place (Some n)) (sym stays.0) (
+          old.0,
+          old.1,
+          λ c k some. elim (eq_cases c child.0) [
+            | inl same ↦ elim stays.1 [
+              | inl one ↦ inl (same ∙ one)
+              | inr less ↦ inr (subst (λ (n : ℕ). Yields dag votes n best.0) (sym same) (by_score tallies holds child.0 best.0 h.0 old.0 some_child old.1 less))
+            ]
+            | inr differ ↦ old.2 c k (let s = other_stays child.0 h c k differ in omega arith)
+          ],
+        )
 
 -- all votes were looked at
 pub best_whole : (dag : UnitGraph) (place : Option UnitNo) (votes : List Vote) (best : UnitNo) → IsChild dag place best.0 → 0 < score_in dag votes best.0

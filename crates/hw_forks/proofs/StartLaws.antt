@@ -1,16 +1,14 @@
 -- The walk passes through each block that is on the way to all votes.
-use Rattle.std.proofs.Common.{◌≡◌, ℕ, zero, suc, ◌+◌, ◌<◌, ◌≤◌, ◌⊎◌, inl, inr, true, List, Option, Some, None, refl, sym, subst, ◌∙◌, arith}
+use Rattle.std.proofs.Common.{◌≡◌, ℕ, zero, suc, ◌<◌, inl, inr, List, Option, Some, None, refl, sym, subst, ◌∙◌, arith}
 use Rattle.std.specs.Prelude.{IfSome}
 use Rattle.std.proofs.lemmas.Bool.{cases_lt}
-use Rattle.hw_types.specs.Below.{Among}
 use Rattle.hw_dag.specs.declared.numbers.UnitNo.{UnitNo}
 use Rattle.hw_dag.specs.Dag.{UnitGraph, unit_at, count_of}
-use Rattle.hw_dag.specs.Admission.{IsGraph}
 use Rattle.hw_dag.specs.Lanes.{IsAncestor, itself, further}
 use Rattle.hw_dag.proofs.DepthLaws.{parent_earlier, parent_is_block}
 use Rattle.hw_forks.specs.declared.votes.Vote.{Vote}
 use Rattle.hw_forks.specs.Votes.{AreVotes}
-use Rattle.hw_forks.specs.Walk.{score_in, IsChild, Yields, IsBest, WalksTo, goes, IsOnTheWay}
+use Rattle.hw_forks.specs.Walk.{score_in, IsChild, IsBest, WalksTo, goes, IsOnTheWay}
 use Rattle.hw_forks.proofs.AncestorLaws.{anc_trans, anc_split, one_child}
 use Rattle.hw_forks.proofs.ScoreLaws.{score_some, score_has}
 

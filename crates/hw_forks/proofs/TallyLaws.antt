@@ -1,13 +1,12 @@
 -- Tallies are scores.
-use Rattle.std.proofs.Common.{◌≡◌, ℕ, zero, suc, ◌+◌, ◌-◌, ◌<◌, ◌≤◌, ◌⊎◌, inl, inr, Bool, true, false, cond, List, [], ◌∷◌, length, Option, Some, None, refl, sym, ap, subst, ◌∙◌, arith, eqb-true, eq-eqb}
-use Rattle.std.specs.Prelude.{◌&&◌, ◌==◌, nat_le, sum_by, if◌then◌else◌}
-use Rattle.std.proofs.lemmas.Bool.{leb-true, le-leb}
+use Rattle.std.proofs.Common.{◌≡◌, ℕ, suc, ◌-◌, ◌<◌, inl, inr, Bool, true, List, [], ◌∷◌, Option, Some, None, refl, sym, ap, ◌∙◌, arith, eqb-true, eq-eqb}
+use Rattle.std.specs.Prelude.{nat_le, if◌then◌else◌}
+use Rattle.std.proofs.lemmas.Bool.{le-leb}
 use Rattle.std.proofs.lemmas.List.Sums.{sum_by-cons}
 use Rattle.hw_types.specs.Below.{Among}
 use Rattle.hw_types.specs.Votes.{is_block}
 use Rattle.hw_types.proofs.StableLaws.{both_ways, and_parts, and_whole}
-use Rattle.hw_dag.specs.declared.numbers.UnitNo.{UnitNo}
-use Rattle.hw_dag.specs.Dag.{UnitGraph, unit_at, count_of, node_at}
+use Rattle.hw_dag.specs.Dag.{UnitGraph, count_of, node_at}
 use Rattle.hw_dag.specs.Admission.{IsGraph}
 use Rattle.hw_dag.specs.Lanes.{IsAncestor, itself, further}
 use Rattle.hw_dag.specs.Skips.{back_from}

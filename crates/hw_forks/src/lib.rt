@@ -14,10 +14,9 @@ mod choice;
 mod laws;
 mod start;
 mod tallies;
-mod votes;
-
 #[cfg(test)]
 mod tests;
+mod votes;
 
 pub use choice::Forks;
 pub use laws::tally_is_score;

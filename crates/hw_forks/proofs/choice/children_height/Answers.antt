@@ -1,4 +1,4 @@
-use Rattle.std.proofs.Common.{◌≡◌, ◌<◌, ◌≤◌, ap, subst, ◌∙◌, arith, ℕ, Option}
+use Rattle.std.proofs.Common.{◌<◌, ap, subst, ◌∙◌, arith, ℕ, Option}
 use Rattle.std.specs.Prelude.{unwrap_or, IfSome}
 use Rattle.hw_dag.specs.declared.numbers.UnitNo.{UnitNo}
 use Rattle.hw_dag.specs.Dag.{SettledUnit, count_of}

@@ -1,11 +1,6 @@
-use Rattle.std.proofs.Common.{◌≡◌, ◌+◌, ◌<◌, ◌≤◌, ℕ, Option, Some, None, refl, sym, ap, subst, ◌∙◌, arith}
-use Rattle.hw_dag.specs.declared.numbers.UnitNo.{UnitNo}
-use Rattle.hw_dag.specs.Dag.{UnitGraph, count_of}
-use Rattle.hw_dag.specs.Admission.{IsGraph, height_above}
+use Rattle.std.proofs.Common.{refl, arith}
 use Rattle.hw_dag.proofs.KeptLaws.{height_bound}
-use Rattle.hw_forks.specs.declared.votes.Vote.{Vote}
-use Rattle.hw_forks.specs.Votes.{height_at}
-use Rattle.hw_forks.specs.Walk.{IsBest, goes, stops}
+use Rattle.hw_forks.specs.Walk.{goes, stops}
 use Rattle.hw_forks.proofs.AncestorLaws.{child_height}
 use Rattle.hw_forks.proofs.StartLaws.{begins}
 use Rattle.hw_forks.proofs.choice.walk.Goals as goal

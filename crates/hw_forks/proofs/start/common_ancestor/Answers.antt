@@ -1,4 +1,4 @@
-use Rattle.std.proofs.Common.{◌≡◌, ◌+◌, ◌<◌, ◌≤◌, ℕ, length, get_or, arith}
+use Rattle.std.proofs.Common.{get_or, arith}
 use Rattle.hw_dag.proofs.KeptLaws.{height_bound}
 use Rattle.hw_forks.proofs.LoopLaws.{no_vote, vote_is_among}
 use Rattle.hw_forks.proofs.start.common_ancestor.Goals as goal

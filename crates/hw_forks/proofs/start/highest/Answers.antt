@@ -1,4 +1,4 @@
-use Rattle.std.proofs.Common.{◌≡◌, ◌<◌, ◌≤◌, ℕ, length, get_or, sym, ap, subst, arith}
+use Rattle.std.proofs.Common.{◌≡◌, ◌<◌, ◌≤◌, length, get_or, sym, ap, subst, arith}
 use Rattle.hw_types.specs.Below.{Among}
 use Rattle.hw_forks.specs.declared.votes.Vote.{Vote}
 use Rattle.hw_forks.proofs.LoopLaws.{no_vote, so_far_all, so_far_more, vote_is_among}

@@ -1,5 +1,4 @@
-use Rattle.std.proofs.Common.{◌≡◌, ◌+◌, ◌<◌, ◌≤◌, ℕ, List, length, get_or, sym, ap, subst, arith, take}
-use Rattle.hw_dag.specs.Dag.{count_of}
+use Rattle.std.proofs.Common.{◌≡◌, ◌+◌, ◌<◌, ℕ, List, length, get_or, sym, subst, arith, take}
 use Rattle.hw_forks.specs.Walk.{score_in, IsChild}
 use Rattle.hw_forks.proofs.ScoreLaws.{score_none}
 use Rattle.hw_forks.proofs.LoopLaws.{no_vote, vote_is_among, cleared_none, cleared_more}

@@ -1,7 +1,5 @@
-use Rattle.std.proofs.Common.{◌≡◌, ◌+◌, ◌<◌, ◌≤◌, ℕ, List, length, get_or, Option, Some, sym, ap, subst, ◌∙◌, arith, take}
+use Rattle.std.proofs.Common.{◌+◌, ◌<◌, length, get_or, Option, sym, subst, arith, take}
 use Rattle.hw_dag.specs.declared.numbers.UnitNo.{UnitNo}
-use Rattle.hw_dag.specs.Dag.{count_of}
-use Rattle.hw_forks.specs.Walk.{score_in, IsChild}
 use Rattle.hw_forks.proofs.ScoreLaws.{score_none}
 use Rattle.hw_forks.proofs.LoopLaws.{no_vote, vote_is_among, BestSoFar, best_none, best_more}
 use Rattle.hw_forks.proofs.tallies.heaviest.Goals as goal

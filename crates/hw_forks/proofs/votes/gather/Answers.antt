@@ -1,10 +1,4 @@
-use Rattle.std.proofs.Common.{◌≡◌, ◌+◌, ◌<◌, ◌≤◌, ◌++◌, ◌∷◌, [], ℕ, List, length, get_or, take, sym, ap, subst, ◌∙◌, arith}
-use Rattle.std.specs.Prelude.{slice_set, slice_index}
-use Rattle.std.proofs.lemmas.List.{take_more_set, length-take-le}
-use Rattle.hw_dag.specs.declared.numbers.UnitNo.{UnitNo}
-use Rattle.hw_dag.specs.declared.numbers.View.{View}
-use Rattle.hw_dag.specs.declared.numbers.View.TheVariants as view
-use Rattle.hw_dag.specs.Dag.{count_of, view_at}
+use Rattle.std.proofs.Common.{◌≡◌, ◌++◌, ◌∷◌, [], ℕ, List, length, take, sym, ap, subst, ◌∙◌, arith}
 use Rattle.hw_forks.specs.declared.votes.Vote.{Vote}
 use Rattle.hw_forks.specs.Votes.{votes_of, AreVotes}
 use Rattle.hw_forks.proofs.GatherLaws.{votes_none, votes_with, votes_without, count_room, put_last, votes_are}
@@ -29,16 +23,17 @@ loop-v-preserved c =
     elim c.match-get.branch [
       | in-Correct w ↦
           let less = count_room c.args.dag.now c.args.weights.now c.args.panorama.now c.requires.panorama c.loop-v.votes c.loop-v.count c.loop-v.v w.in-Correct.no i.0 i.1 (omega arith) (sym w.in-Correct.ensures) in
-          let put = put_last c.loop-v.votes c.match-get.votes (votes_of c.args.dag.now c.args.weights.now c.args.panorama.now c.loop-v.v) c.loop-v.count c.match-get.count w.vote_of.result less i.1 w.votes-is w.count-is in
-          (put.0, put.1 ∙ ap (λ (vote : Vote). votes_of c.args.dag.now c.args.weights.now c.args.panorama.now c.loop-v.v ++ vote ∷ []) w.vote_of.ensures
-          ∙ sym (votes_with c.args.dag.now c.args.weights.now c.args.panorama.now c.loop-v.v w.in-Correct.no (sym w.in-Correct.ensures)))
+          let put = put_last c.loop-v.votes c.match-get.votes (votes_of c.args.dag.now c.args.weights.now c.args.panorama.now c.loop-v.v) c.loop-v.count c.match-get.count w.vote_of.result less i.1 w.votes-is w.count-is in (
+            put.0,
+            put.1 ∙ ap (λ (vote : Vote). votes_of c.args.dag.now c.args.weights.now c.args.panorama.now c.loop-v.v ++ vote ∷ []) w.vote_of.ensures
+                ∙ sym (votes_with c.args.dag.now c.args.weights.now c.args.panorama.now c.loop-v.v w.in-Correct.no (sym w.in-Correct.ensures)),
+          )
       | in_default w ↦
           let votes = w.votes-is in
-          let count = w.count-is in
-          (
+          let count = w.count-is in (
             (let long = ap length votes in omega arith),
             ap (λ (k : ℕ). take k c.match-get.votes) count ∙ ap (λ (xs : List Vote). take c.loop-v.count xs) votes ∙ i.1
-            ∙ sym (votes_without c.args.dag.now c.args.weights.now c.args.panorama.now c.loop-v.v (λ number e. w.in_default.not-Correct number (c.get.ensures ∙ e))),
+                ∙ sym (votes_without c.args.dag.now c.args.weights.now c.args.panorama.now c.loop-v.v (λ number e. w.in_default.not-Correct number (c.get.ensures ∙ e))),
           )
     ]
 
