@@ -1,21 +1,19 @@
 -- A graph with one unit more is a graph.
-use Rattle.std.proofs.Common.{◌≡◌, ℕ, zero, suc, ◌+◌, ◌-◌, ◌^◌, ◌<◌, ◌≤◌, ◌⊎◌, inl, inr, Bool, true, false, cond, List, [], ◌∷◌, ◌++◌, length, get_or, Option, Some, None, refl, sym, ap, subst, ◌∙◌, arith, length-append}
+use Rattle.std.proofs.Common.{◌≡◌, ℕ, ◌+◌, ◌<◌, ◌⊎◌, inl, inr, Bool, true, false, List, [], ◌∷◌, length, Option, Some, None, refl, sym, ap, subst, ◌∙◌, arith, length-append}
 use Rattle.std.specs.Prelude.{is_some, unwrap_or, if◌then◌else◌}
-use Rattle.std.specs.List.{list_any}
 use Rattle.std.proofs.lemmas.List.{get_or_push}
 use Rattle.std.proofs.lemmas.Bool.{cases_lt}
 use Rattle.hw_types.specs.declared.unit.Obs.{Obs}
-use Rattle.hw_types.specs.declared.unit.Obs.TheVariants.{Absent, Correct, Faulty}
-use Rattle.hw_types.specs.Graph.{Node, slot, cites, latest, previous, observed, is_correct, is_consistent}
+use Rattle.hw_types.specs.declared.unit.Obs.TheVariants.{Correct}
+use Rattle.hw_types.specs.Graph.{Node, slot, cites, latest, observed}
 use Rattle.hw_types.specs.Below.{Among}
 use Rattle.hw_types.specs.Votes.{is_block}
-use Rattle.hw_types.proofs.WordsLaws.{either}
 use Rattle.hw_types.proofs.LawfulLaws.{consistent_grows}
 use Rattle.hw_dag.specs.declared.numbers.UnitNo.{UnitNo}
 use Rattle.hw_dag.specs.declared.numbers.View.{View}
 use Rattle.hw_dag.specs.declared.numbers.View.TheVariants as view
-use Rattle.hw_dag.specs.Dag.{SettledUnit, UnitGraph, stand_in, unit_at, count_of, node_of, node_at, graph, creator_of, view_at, obs_of, observations, IsPanorama, GrowsTo}
-use Rattle.hw_dag.specs.Admission.{PreparedUnit, node_prepared, IsFor, IsResolved, IsNew, KeepsRules, IsFork, height_above, settled_as, settled_from, with_unit, fork_given, IsSettled, IsGraph, IsReady}
+use Rattle.hw_dag.specs.Dag.{SettledUnit, UnitGraph, stand_in, unit_at, count_of, node_at, graph, creator_of, view_at, obs_of, observations, IsPanorama, GrowsTo}
+use Rattle.hw_dag.specs.Admission.{PreparedUnit, node_prepared, KeepsRules, IsFork, height_above, settled_as, settled_from, with_unit, fork_given, IsSettled, IsGraph, IsReady}
 use Rattle.hw_dag.proofs.NodeLaws.{AreApart, apart_found, graph_one_name}
 use Rattle.hw_dag.proofs.SlotLaws.{slot_of, length-observations, latest_of}
 use Rattle.hw_dag.proofs.DepthLaws.{parent_earlier}

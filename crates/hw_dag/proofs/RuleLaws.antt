@@ -1,21 +1,21 @@
 -- A unit that breaks no rule keeps what the graph asks.
-use Rattle.std.proofs.Common.{◌≡◌, ℕ, ◌+◌, ◌<◌, ◌≤◌, inl, inr, Bool, true, false, not, List, length, Option, Some, None, refl, sym, ap, subst, ◌∙◌, arith, eqb-true}
-use Rattle.std.specs.Prelude.{◌&&◌, ◌||◌, ◌==◌, nat_lt, is_none, is_some}
+use Rattle.std.proofs.Common.{◌≡◌, ℕ, ◌+◌, ◌<◌, ◌≤◌, true, false, not, List, length, Option, Some, None, refl, sym, ap, ◌∙◌, eqb-true}
+use Rattle.std.specs.Prelude.{◌&&◌, ◌==◌, is_none, is_some}
 use Rattle.std.specs.List.{list_any}
 use Rattle.std.proofs.lemmas.Bool.{ltb-false}
 use Rattle.hw_types.specs.declared.config.Config.{Config}
 use Rattle.hw_types.specs.declared.unit.Digest.{Digest}
 use Rattle.hw_types.specs.declared.unit.Obs.{Obs}
 use Rattle.hw_types.specs.declared.unit.Obs.TheVariants.{Absent, Correct, Faulty}
-use Rattle.hw_types.specs.Graph.{Node, is_some_and, is_absent, is_correct, is_faulty_mark, slot, slots, cites, unit_cites, past, latest, previous, observed, find_node, is_consistent}
+use Rattle.hw_types.specs.Graph.{Node, is_some_and, is_absent, is_correct, is_faulty_mark, slot, slots, cites, unit_cites, past, latest, previous, observed, is_consistent}
 use Rattle.hw_types.specs.Below.{Among}
 use Rattle.hw_types.specs.Votes.{is_block}
 use Rattle.hw_types.specs.Rules.{local_rule, local_tests, state_rule, state_tests, own_slot}
 use Rattle.hw_types.proofs.ClosureLaws.{Within}
 use Rattle.hw_types.proofs.PastLaws.{reach_first, reach_within}
-use Rattle.hw_types.proofs.StableLaws.{OneName, and_whole}
+use Rattle.hw_types.proofs.StableLaws.{OneName}
 use Rattle.hw_types.proofs.LawfulLaws.{consistent_grows}
-use Rattle.hw_types.proofs.WordsLaws.{AllFalse, none_broken, any_none, not_false, or_none, and_none, never_both, either, found_node, find_node_is, latest_is, slot_cites, slots_in, correct_in}
+use Rattle.hw_types.proofs.WordsLaws.{AllFalse, none_broken, any_none, not_false, or_none, and_none, found_node, find_node_is, latest_is, slot_cites, slots_in, correct_in}
 use Rattle.hw_dag.specs.Dag.{graph}
 use Rattle.hw_dag.specs.Admission.{KeepsRules}
 use Rattle.hw_dag.specs.Laws.{RulesAreKept}

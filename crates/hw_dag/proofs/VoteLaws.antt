@@ -1,23 +1,15 @@
 -- What a layer above keeps up as the graph grows, and what it has from the rules.
-use Rattle.std.proofs.Common.{◌≡◌, ℕ, ◌+◌, ◌<◌, ◌≤◌, ◌⊎◌, inl, inr, Bool, true, false, not, List, [], ◌∷◌, ◌++◌, length, Option, Some, None, refl, sym, ap, subst, ◌∙◌, arith, eqb-true}
-use Rattle.std.specs.Prelude.{◌&&◌, ◌||◌, ◌==◌, nat_lt, is_none}
-use Rattle.std.specs.List.{list_any}
+use Rattle.std.proofs.Common.{◌≡◌, ℕ, ◌<◌, inl, inr, List, Option, Some, None, refl, sym, ap, subst, ◌∙◌, arith}
 use Rattle.std.specs.Option.{option_map}
-use Rattle.hw_types.specs.declared.config.Config.{Config}
-use Rattle.hw_types.specs.declared.unit.Digest.{Digest}
 use Rattle.hw_types.specs.declared.unit.Obs.{Obs}
-use Rattle.hw_types.specs.declared.unit.Obs.TheVariants.{Absent, Correct, Faulty}
-use Rattle.hw_types.specs.Graph.{Node, is_some_and, is_absent, is_correct, is_faulty_mark, slot, slots, cites, past, latest, previous, observed, find_node, is_consistent}
-use Rattle.hw_types.specs.Below.{Among}
-use Rattle.hw_types.specs.Votes.{is_block, fork_of, unit_fork}
-use Rattle.hw_types.specs.Rules.{local_rule, local_tests, state_rule, state_tests, own_slot}
+use Rattle.hw_types.specs.Votes.{fork_of, unit_fork}
 use Rattle.hw_dag.specs.declared.numbers.UnitNo.{UnitNo}
-use Rattle.hw_dag.specs.Dag.{SettledUnit, UnitGraph, unit_at, count_of, node_of, node_at, graph, observations}
+use Rattle.hw_dag.specs.Dag.{SettledUnit, UnitGraph, unit_at, count_of, node_at, graph}
 use Rattle.hw_dag.specs.Admission.{PreparedUnit, IsGraph, IsReady, settled_from, with_unit, fork_given}
 use Rattle.hw_dag.specs.Lanes.{VotesAre}
 use Rattle.hw_dag.specs.Laws.{VotesStay}
 use Rattle.hw_dag.proofs.AdmitLaws.{later_apart, grows, last_at, last_fork, count_later}
-use Rattle.hw_dag.proofs.GrowthLaws.{count_grows, unit_stays, node_stays, fork_stays, fork_at_stays}
+use Rattle.hw_dag.proofs.GrowthLaws.{unit_stays, node_stays, fork_stays, fork_at_stays}
 use Rattle.std.proofs.lemmas.Bool.{cases_lt}
 
 -- ---- votes
@@ -50,7 +42,7 @@ module _ (dag : UnitGraph) (g : IsGraph dag) (p : PreparedUnit) (fork : Option U
           ∙ ap (λ (o : Option UnitNo). option_map (λ (number : UnitNo). node_at later number.0) o) (last_fork dag g p fork ready)
           ∙ chosen_stays fork ready.fork_is.known ∙ choice
           ∙ sym (subst (λ (os : List Obs). fork_of weights (graph later) os ≡ fork_of weights (graph dag) os) ready.resolved.observes
-            (fork_stays dag later (grows dag g p fork ready) g (later_apart dag g p fork ready) weights p.panorama ready.resolved.known))
+          (fork_stays dag later (grows dag g p fork ready) g (later_apart dag g p fork ready) weights p.panorama ready.resolved.known))
           ∙ sym (ap (λ (u : SettledUnit). fork_of weights (graph later) u.signed.unit.panorama) (last_at dag g p fork ready))
 
 pub votes_stay : VotesStay

@@ -1,5 +1,5 @@
 -- Laws of each graph.
-use Rattle.std.specs.Prelude.{◌≡◌, ◌≢◌, ℕ, ◌<◌, Bool, true, false, ◌⊎◌, List, length, Option, None}
+use Rattle.std.specs.Prelude.{◌≡◌, ◌≢◌, ℕ, ◌<◌, true, false, ◌⊎◌, List, length, Option, None}
 use Rattle.hw_types.specs.Graph.{Node, are_comparable}
 use Rattle.hw_types.specs.Lawful.{IsLawful}
 use Rattle.hw_dag.specs.declared.numbers.UnitNo.{UnitNo}

@@ -52,7 +52,12 @@ fn name_of(seq: u64) -> Digest {
 }
 
 // Admits a unit that keeps the rules, if its name is new and it is resolved.
-fn admit_new(dag: &mut Dag, unit: SignedUnit, digest: Digest, fork: Option<UnitNo>) -> Option<UnitNo>
+fn admit_new(
+    dag: &mut Dag,
+    unit: SignedUnit,
+    digest: Digest,
+    fork: Option<UnitNo>,
+) -> Option<UnitNo>
     requires room { 1 ≤ dag.old.spare }
     requires is_for { IsFor dag.old.validators unit }
     requires rules { KeepsRules (graph dag.old) (record { digest = digest; unit = unit.unit }) }
@@ -200,7 +205,8 @@ fn one_jump<L: Ledger>(dag: &Dag, no: UnitNo, steps: &mut Steps<L>) -> UnitNo
 // and to its own number none.
 fn no_jump<L: Ledger>(dag: &Dag, no: UnitNo, steps: &mut Steps<L>) -> UnitNo
     requires { no.0 < count_of dag.now }
-    ensures { steps.new ≡ steps.old }
+    ensures known { result.0 < count_of dag.now }
+    ensures steps { steps.new ≡ steps.old }
 {
     dag.lane_at(no, dag.unit(no).signed().unit.seq, steps)
 }

@@ -1,8 +1,8 @@
-use Rattle.std.proofs.Common.{◌≡◌, ◌<◌, ◌≤◌, ◌+◌, ℕ, List, [], ◌∷◌, length, ◌∙◌, sym, ap, subst, arith}
+use Rattle.std.proofs.Common.{◌≡◌, ◌<◌, List, [], ◌∷◌, length, ◌∙◌, sym, ap, subst, arith}
 use Rattle.hw_types.specs.declared.unit.SignedUnit.{SignedUnit}
 use Rattle.hw_types.specs.declared.unit.Digest.{Digest}
 use Rattle.hw_types.specs.declared.unit.Obs.TheVariants.{Correct}
-use Rattle.hw_dag.specs.Dag.{SettledUnit, UnitGraph, count_of, unit_at, seq_of}
+use Rattle.hw_dag.specs.Dag.{SettledUnit, UnitGraph, unit_at, seq_of}
 use Rattle.hw_dag.proofs.SoloLaws.{next_rules}
 use Rattle.hw_dag.proofs.tests.add_after.Goals as goal
 

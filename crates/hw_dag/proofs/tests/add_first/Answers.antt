@@ -1,4 +1,4 @@
-use Rattle.std.proofs.Common.{◌≡◌, ◌∙◌}
+use Rattle.std.proofs.Common.{◌∙◌}
 use Rattle.hw_dag.proofs.SoloLaws.{first_rules}
 use Rattle.hw_dag.proofs.tests.add_first.Goals as goal
 
