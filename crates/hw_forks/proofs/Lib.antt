@@ -1,0 +1,9 @@
+pub mod AncestorLaws
+pub mod ScoreLaws
+pub mod StartLaws
+pub mod BestLaws
+pub mod DefinedLaws
+pub mod TallyLaws
+pub mod LoopLaws
+pub mod GatherLaws
+pub mod ForkLaws

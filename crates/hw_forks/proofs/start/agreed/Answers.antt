@@ -1,0 +1,36 @@
+use Rattle.std.proofs.Common.{◌<◌, length, get_or, arith}
+use Rattle.hw_dag.specs.Lanes.{IsAncestor}
+use Rattle.hw_forks.specs.declared.votes.Vote.{Vote}
+use Rattle.hw_forks.proofs.LoopLaws.{no_vote, so_far_all, vote_is_among}
+use Rattle.hw_forks.proofs.start.agreed.Goals as goal
+
+pub ancestor_at-block-requires-clause-known : goal.ancestor_at-block-requires-clause-known
+ancestor_at-block-requires-clause-known c = (c.requires.votes.each (get_or c.args.votes.now 0 no_vote) (vote_is_among c.args.votes.now 0 c.requires.some)).known
+
+pub ancestor_at-block-requires-clause-within : goal.ancestor_at-block-requires-clause-within
+ancestor_at-block-requires-clause-within c =
+    let m = vote_is_among c.args.votes.now 0 c.requires.some in
+    let height = (c.requires.votes.each (get_or c.args.votes.now 0 no_vote) m).height_is in
+    let le = c.requires.within (get_or c.args.votes.now 0 no_vote) m in
+    omega arith
+
+pub ancestor_at-requires-clause-known : goal.ancestor_at-requires-clause-known
+ancestor_at-requires-clause-known c = (c.requires.votes.each (get_or c.args.votes.now c.loop-vote.vote-index no_vote) (vote_is_among c.args.votes.now c.loop-vote.vote-index (omega arith))).known
+
+pub ancestor_at-requires-clause-block : goal.ancestor_at-requires-clause-block
+ancestor_at-requires-clause-block c = (c.requires.votes.each (get_or c.args.votes.now c.loop-vote.vote-index no_vote) (vote_is_among c.args.votes.now c.loop-vote.vote-index (omega arith))).block
+
+pub ancestor_at-requires-clause-within : goal.ancestor_at-requires-clause-within
+ancestor_at-requires-clause-within c =
+    let lt : c.loop-vote.vote-index < length c.args.votes.now = omega arith in
+    let m = vote_is_among c.args.votes.now c.loop-vote.vote-index lt in
+    let height = (c.requires.votes.each (get_or c.args.votes.now c.loop-vote.vote-index no_vote) m).height_is in
+    let le = c.requires.within (get_or c.args.votes.now c.loop-vote.vote-index no_vote) m in
+    omega arith
+
+pub returns : goal.returns
+returns c = record {
+  known = c.ancestor_at-block.ensures.known;
+  block = c.ancestor_at-block.ensures.block;
+  over = so_far_all (λ (v : Vote). IsAncestor c.args.dag.now c.ancestor_at-block.result.0 v.block.0) c.args.votes.now c.loop-vote.vote-index (omega arith) c.loop-vote.invariant;
+}

@@ -1,0 +1,18 @@
+use Rattle.std.proofs.Common.{get_or, arith}
+use Rattle.hw_dag.proofs.KeptLaws.{height_bound}
+use Rattle.hw_forks.proofs.LoopLaws.{no_vote, vote_is_among}
+use Rattle.hw_forks.proofs.start.common_ancestor.Goals as goal
+
+pub overflow_add-low : goal.overflow_add-low
+overflow_add-low c =
+    let vote = get_or c.args.votes.now 0 no_vote in
+    let m = vote_is_among c.args.votes.now 0 c.requires.some in
+    let is = c.requires.votes.each vote m in
+    let known = is.known in
+    let height = is.height_is in
+    let bound = height_bound c.args.dag.now c.requires.votes.graph vote.block.0 is.known in
+    let small = c.requires.votes.graph.bounded in
+    let least = c.requires.least vote m in
+    let high = c.loop-low.invariant.1 in
+    let test = c.loop-low-test.true in
+    omega arith

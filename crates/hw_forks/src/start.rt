@@ -1,0 +1,109 @@
+//! Where the walk can begin: a block that it passes through.
+
+ghost use Rattle.std.specs.Prelude.{◌≡◌, ◌<◌, ◌≤◌, length, IsTrue, IfSome};
+ghost use Rattle.hw_types.specs.Below.{Among};
+ghost use Rattle.hw_dag.specs.Lanes.{IsAncestor};
+ghost use Rattle.hw_forks.specs.declared.votes.Vote.{Vote as Voted};
+ghost use Rattle.hw_forks.specs.Votes.{AreVotes};
+ghost use Rattle.hw_forks.specs.Walk.{IsCommon, IsOnTheWay};
+
+use crate::ancestors::ancestor_at;
+use crate::votes::Vote;
+use hw_dag::{Dag, UnitNo};
+
+/// A block that the walk passes through, or None where it is to begin above all blocks.
+pub fn start(votes: &[Vote], dag: &Dag) -> Option<UnitNo>
+    requires some { 0 < length votes.now }
+    requires votes { AreVotes dag.now votes.now }
+    ensures { IfSome result (λ no. IsOnTheWay dag.now votes.now no.0) }
+{
+    let top = highest(votes);
+    if are_on_one_chain(votes, dag, top) {
+        return Some(top.block);
+    }
+    common_ancestor(votes, dag, least_height(votes))
+}
+
+// A vote for a block that no other vote's is higher than.
+fn highest(votes: &[Vote]) -> Vote
+    requires some { 0 < length votes.now }
+    ensures among { Among result votes.now }
+    ensures highest { (other : Voted) → Among other votes.now → other.height ≤ result.height }
+{
+    let mut top = votes[0];
+    for vote in votes {
+        if top.height < vote.height {
+            top = *vote;
+        }
+    }
+    top
+}
+
+// The least height of a block that is voted for.
+fn least_height(votes: &[Vote]) -> u64
+    requires some { 0 < length votes.now }
+    ensures among { (w : Voted) × Among w votes.now × (result ≡ w.height) }
+    ensures least { (other : Voted) → Among other votes.now → result ≤ other.height }
+{
+    let mut least = votes[0].height;
+    for vote in votes {
+        least = least.min(vote.height);
+    }
+    least
+}
+
+// Whether all votes are for the block of the highest or ancestors of it.
+fn are_on_one_chain(votes: &[Vote], dag: &Dag, top: Vote) -> bool
+    requires votes { AreVotes dag.now votes.now }
+    requires top { Among top votes.now }
+    requires highest { (other : Voted) → Among other votes.now → other.height ≤ top.height }
+    ensures { IsTrue result → (vote : Voted) → Among vote votes.now → IsAncestor dag.now vote.block.0 top.block.0 }
+{
+    for vote in votes {
+        if ancestor_at(dag, top.block, vote.height) != vote.block {
+            return false;
+        }
+    }
+    true
+}
+
+// The highest block from which all votes descend. Where they have one ancestor at a height, they have
+// one at each lesser height too, so it is found by bisection.
+fn common_ancestor(votes: &[Vote], dag: &Dag, least: u64) -> Option<UnitNo>
+    requires some { 0 < length votes.now }
+    requires votes { AreVotes dag.now votes.now }
+    requires least { (vote : Voted) → Among vote votes.now → least ≤ vote.height }
+    ensures { IfSome result (λ no. IsCommon dag.now votes.now no.0) }
+{
+    let mut found = None;
+    let mut low = 0;
+    let mut high = least;
+    while low <= high {
+        let middle = low + (high - low) / 2;
+        match agreed(votes, dag, middle) {
+            Some(block) => {
+                found = Some(block);
+                low = middle + 1;
+            }
+            None if middle == 0 => break,
+            None => high = middle - 1,
+        }
+    }
+    found
+}
+
+// The ancestor of that height that all votes have, where it is one.
+fn agreed(votes: &[Vote], dag: &Dag, height: u64) -> Option<UnitNo>
+    requires some { 0 < length votes.now }
+    requires votes { AreVotes dag.now votes.now }
+    requires within { (vote : Voted) → Among vote votes.now → height ≤ vote.height }
+    ensures { IfSome result (λ no. IsCommon dag.now votes.now no.0) }
+{
+    let block = ancestor_at(dag, votes[0].block, height);
+    for vote in votes {
+        if ancestor_at(dag, vote.block, height) != block {
+            return None;
+        }
+    }
+    Some(block)
+}
