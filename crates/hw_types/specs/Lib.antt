@@ -21,3 +21,4 @@ pub mod Real
 pub mod Lawful
 pub mod Laws
 pub mod StateLaws
+pub mod SomeBlock

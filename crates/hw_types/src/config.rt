@@ -16,6 +16,12 @@ pub const MAX_TOTAL: u64 = (1 << 62) - 1;
 /// The greatest level of a summit.
 pub const MAX_LEVELS: usize = 30;
 
+/// The least exponent of a round, which then lasts 4 milliseconds.
+pub const MIN_EXPONENT: u8 = 2;
+
+/// The greatest exponent of a round, which then lasts some 35 years.
+pub const MAX_EXPONENT: u8 = 40;
+
 /// The most entries of a table of leaders.
 pub const MAX_LEADERS: usize = 4_096;
 
@@ -196,7 +202,7 @@ fn total_weight(weights: &[u64]) -> u128
 fn has_lawful_exponents(least: u8, greatest: u8) -> bool
     ensures { result ≡ (nat_le 2 least && nat_le least greatest && nat_le greatest 40) }
 {
-    2 <= least && least <= greatest && greatest <= 40
+    MIN_EXPONENT <= least && least <= greatest && greatest <= MAX_EXPONENT
 }
 
 /// Whether a table names validators alone, and neither too few nor too many.

@@ -88,6 +88,15 @@ impl<T: Drop> Items<T> {
 }
 
 impl<T: Copy> Items<T> {
+    /// Puts all the items last, in order. Where there is no memory, the list stays as it was.
+    pub fn extend(&mut self, items: &[T]) -> Result<(), OutOfMemory>
+        ensures ok { OnOk result (self.new ≡ self.old ++ items.now) }
+        ensures err { OnErr result (self.new ≡ self.old) }
+    {
+        self.items.extend_from_slice(items)?;
+        Ok(())
+    }
+
     /// A list with the same items.
     pub fn copy(&self) -> Result<Items<T>, OutOfMemory>
         ensures { IfOk result (λ list. list ≡ self.now) }

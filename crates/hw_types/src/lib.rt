@@ -11,6 +11,8 @@ mod config;
 mod items;
 mod laws;
 mod same;
+#[cfg(test)]
+mod tests;
 mod unit;
 
 pub use answers::{
@@ -18,14 +20,14 @@ pub use answers::{
 };
 pub use committee::quorum;
 pub use config::{
-    Config, ConfigFault, Leaders, MAX_LEADERS, MAX_LEVELS, MAX_PARKED, MAX_RECORDS, MAX_TOTAL,
-    MAX_VALIDATORS,
+    Config, ConfigFault, Leaders, MAX_EXPONENT, MAX_LEADERS, MAX_LEVELS, MAX_PARKED, MAX_RECORDS,
+    MAX_TOTAL, MAX_VALIDATORS, MIN_EXPONENT,
 };
 pub use items::{
     Bytes, CulpritList, DigestList, IndexList, Items, NeedList, ObsList, OutOfMemory, WeightList,
 };
 pub use laws::{
-    decisions_are_one, fork_is_the_walk, journal_is_bounded, lanes_are_histories,
+    a_block_stands, decisions_are_one, fork_is_the_walk, journal_is_bounded, lanes_are_histories,
     longer_journal_grows, more_units_change_nothing, order_does_not_count, reach_is_a_chain,
     receipt_tells_where, rounds_are_enough, settled_fork_is_the_walk, settled_is_lawful,
     step_is_settled, tip_is_one, union_is_lawful,

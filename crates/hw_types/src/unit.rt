@@ -58,7 +58,7 @@ pub struct Evidence {
     pub right: SignedUnit,
 }
 
-/// A validator's word that a unit was made before its creator's equivocation was known to it.
+/// A validator's word that a unit may be relied on. What counts is the weight behind a unit.
 #[derive(Clone, Copy, Debug, PartialEq, Eq)]
 pub struct Endorsement {
     pub unit: Digest,

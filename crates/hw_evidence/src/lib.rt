@@ -1,0 +1,97 @@
+//! Evidence: two units that show that their creator equivocated.
+//!
+//! It is a pair where the two are different units of one creator, which is a validator, with one
+//! sequence number and of this instance. The units are compared whole, field by field, and not by their
+//! digests, so that nothing rests on the digests' being different. Signatures don't count.
+//!
+//! Nothing here takes memory.
+#![tactic(auto)]
+
+ghost use Rattle.std.specs.Prelude.{◌≡◌, IfOk, IfErr, Some, None};
+ghost use Rattle.hw_types.specs.Journal.{pair_fault};
+
+pub use hw_types::PairFault;
+use hw_types::{Digest, Evidence, is_same_unit};
+
+/// The creator of a pair of units, in an instance with so many validators. Where the two are no pair,
+/// the first of these faults is answered:
+///
+/// - `Creator`: the creators differ, or are no validator's number;
+/// - `Sequence`: the sequence numbers differ;
+/// - `Instance`: one of the two isn't of this instance;
+/// - `Same`: the two units are equal.
+pub fn check_pair(evidence: &Evidence, instance: &Digest, validators: u32) -> Result<u32, PairFault>
+    ensures pair { IfOk result (λ creator. (pair_fault validators instance.now evidence.now ≡ None) × (creator ≡ evidence.now.left.unit.creator)) }
+    ensures fault { IfErr result (λ fault. pair_fault validators instance.now evidence.now ≡ Some fault) }
+{
+    let left = &evidence.left.unit;
+    let right = &evidence.right.unit;
+    if left.creator != right.creator || left.creator >= validators {
+        return Err(PairFault::Creator);
+    }
+    if left.seq != right.seq {
+        return Err(PairFault::Sequence);
+    }
+    if left.instance != *instance || right.instance != *instance {
+        return Err(PairFault::Instance);
+    }
+    if is_same_unit(left, right) {
+        return Err(PairFault::Same);
+    }
+    Ok(left.creator)
+}
+
+#[cfg(test)]
+mod tests {
+    use super::*;
+    use hw_types::{Items, Signature, SignedUnit, WireUnit};
+    use std::alloc::Global;
+    use std::test::Fail;
+
+    const HERE: Digest = Digest([1; 32]);
+
+    const ELSEWHERE: Digest = Digest([2; 32]);
+
+    // A unit without a panorama, which differs from others in these numbers alone.
+    fn unit(alloc: Global, instance: Digest, creator: u32, seq: u64, time: u64) -> SignedUnit {
+        SignedUnit {
+            unit: WireUnit {
+                instance,
+                creator,
+                seq,
+                time,
+                exponent: 4,
+                panorama: Items::new(alloc),
+                value: None,
+                endorsed: Items::new(alloc),
+            },
+            signature: Signature([0; 32]),
+        }
+    }
+
+    fn fault(left: SignedUnit, right: SignedUnit) -> Option<PairFault> {
+        check_pair(&Evidence { left, right }, &HERE, 3).err()
+    }
+
+    #[test]
+    fn a_pair_is_named_by_its_creator(rt: HostRuntime) {
+        let evidence = Evidence {
+            left: unit(rt.alloc(), HERE, 1, 0, 17),
+            right: unit(rt.alloc(), HERE, 1, 0, 18),
+        };
+        assert_eq!(rt; check_pair(&evidence, &HERE, 3), Ok(1));
+        assert_eq!(rt; check_pair(&evidence, &HERE, 1), Err(PairFault::Creator));
+    }
+
+    #[test]
+    fn the_first_fault_is_answered(rt: HostRuntime) {
+        let base = || unit(rt.alloc(), HERE, 1, 0, 17);
+        let other = unit(rt.alloc(), ELSEWHERE, 2, 1, 17);
+        assert_eq!(rt; fault(base(), other), Some(PairFault::Creator));
+        let later = unit(rt.alloc(), ELSEWHERE, 1, 1, 17);
+        assert_eq!(rt; fault(base(), later), Some(PairFault::Sequence));
+        let foreign = unit(rt.alloc(), ELSEWHERE, 1, 0, 17);
+        assert_eq!(rt; fault(base(), foreign), Some(PairFault::Instance));
+        assert_eq!(rt; fault(base(), base()), Some(PairFault::Same));
+    }
+}

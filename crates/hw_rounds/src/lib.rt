@@ -1,0 +1,62 @@
+//! Rounds: which one a moment lies in, when its witness units are due, and when a validator may change
+//! their length.
+//!
+//! A round of exponent `e` lasts `2^e` milliseconds, and its number is the moment at which it begins.
+//! Moments are in milliseconds, below 2^63, and exponents are at most 40, so that nothing overflows.
+//!
+//! Nothing here takes memory.
+#![tactic(auto)]
+
+ghost use Rattle.std.specs.Prelude.{◌≡◌, ◌^◌, ◌<◌, ◌≤◌};
+ghost use Rattle.hw_types.specs.Rounds.{round_id, witness_time, changes_lawfully};
+
+/// The round that a moment lies in: the moment, with its last `exponent` binary digits as 0.
+pub fn round_id(time: u64, exponent: u8) -> u64
+    requires { exponent ≤ 40 }
+    ensures { result ≡ round_id time exponent }
+{
+    time >> exponent << exponent
+}
+
+/// The moment of a round, two thirds through and rounded down, from which its witness units are made.
+pub fn witness_time(round: u64, exponent: u8) -> u64
+    requires time { round < 2 ^ 63 }
+    requires length { exponent ≤ 40 }
+    ensures { result ≡ witness_time round exponent }
+{
+    round + (2 << exponent) / 3
+}
+
+/// Whether a unit at `time` may have `exponent` where its creator's unit before, at the moment `before`,
+/// has `before_exponent`: it is the same, or the two units lie in different rounds of the greater one.
+pub fn changes_lawfully(before: u64, before_exponent: u8, time: u64, exponent: u8) -> bool
+    requires before { before_exponent ≤ 40 }
+    requires length { exponent ≤ 40 }
+    ensures { result ≡ changes_lawfully before before_exponent time exponent }
+{
+    let greater = before_exponent.max(exponent);
+    before_exponent == exponent || before >> greater < time >> greater
+}
+
+#[cfg(test)]
+mod tests {
+    use super::*;
+
+    #[test]
+    fn rounds_begin_at_multiples_of_their_length(rt: HostRuntime) {
+        assert_eq!(rt; round_id(27, 4), 16);
+        assert_eq!(rt; round_id((1 << 63) - 1, 40), 9223370937343148032);
+        assert_eq!(rt; witness_time(16, 4), 26);
+        assert_eq!(rt; witness_time(0, 2), 2);
+        assert_eq!(rt; witness_time(0, 40), 733007751850);
+    }
+
+    #[test]
+    fn the_length_changes_between_rounds_alone(rt: HostRuntime) {
+        assert!(rt; changes_lawfully(17, 4, 18, 4));
+        assert!(rt; !changes_lawfully(17, 4, 26, 5));
+        assert!(rt; !changes_lawfully(33, 5, 48, 4));
+        assert!(rt; changes_lawfully(17, 4, 32, 5));
+        assert!(rt; changes_lawfully(40, 5, 64, 4));
+    }
+}

@@ -1,0 +1,105 @@
+-- A random journal of rounds in which nearly all cite nearly all.
+use Rattle.std.specs.Prelude.{◌≡◌, true, List, [], ◌∷◌, map, Option, Some, None, Ok, refl}
+use Rattle.hw_types.specs.declared.unit.Obs.TheVariants.{Absent, Correct}
+use Rattle.hw_types.specs.declared.unit.WireUnit.{WireUnit}
+use Rattle.hw_types.specs.declared.unit.Need.TheVariants as need
+use Rattle.hw_types.specs.declared.unit.Vertex.{Vertex}
+use Rattle.hw_types.specs.declared.config.Config.{Config}
+use Rattle.hw_types.specs.declared.answers.Plan.{Plan}
+use Rattle.hw_types.specs.declared.answers.PlanKind.TheVariants as kind
+use Rattle.hw_types.specs.declared.config.Leaders.TheVariants.{Table}
+use Rattle.hw_types.specs.declared.answers.Receipt.TheVariants as receipt
+use Rattle.hw_types.specs.Graph.{Node}
+use Rattle.hw_types.specs.Settled.{Received, settled_of, parked_of, dropped_of, missing_of, panorama_of, faulty_weight, fork_choice}
+use Rattle.hw_types.specs.Journal.{Setting, received_of, journal_of, answers_from}
+use Rattle.hw_types.specs.Step.{step}
+use Rattle.hw_samples.specs.JournalWords.{unfold_all, dg, sent_as, mixed, named_by, names_of, name_of}
+
+abbrev c : Config
+c = record { weights = (1 ∷ 1 ∷ 1 ∷ 1 ∷ []); ftt = 1; levels = 2; min_exponent = 2; max_exponent = 4; leaders = Table (0 ∷ 3 ∷ []); max_records = 131072; max_parked = 4096; end = None }
+
+abbrev s : Setting
+s = named_by mixed c
+
+abbrev u0 : WireUnit
+u0 = record { instance = dg (0 ∷ 0 ∷ 0 ∷ 0 ∷ []); creator = 1; seq = 0; time = 9; exponent = 2; panorama = (Correct (dg (41 ∷ 0 ∷ 0 ∷ 8 ∷ [])) ∷ Absent ∷ Absent ∷ Absent ∷ []); value = None; endorsed = [] }
+
+abbrev u1 : WireUnit
+u1 = record { instance = dg (0 ∷ 0 ∷ 0 ∷ 0 ∷ []); creator = 2; seq = 0; time = 9; exponent = 2; panorama = (Correct (dg (41 ∷ 0 ∷ 0 ∷ 8 ∷ [])) ∷ Absent ∷ Absent ∷ Absent ∷ []); value = None; endorsed = [] }
+
+abbrev u2 : WireUnit
+u2 = record { instance = dg (0 ∷ 0 ∷ 0 ∷ 0 ∷ []); creator = 3; seq = 0; time = 9; exponent = 2; panorama = (Correct (dg (41 ∷ 0 ∷ 0 ∷ 8 ∷ [])) ∷ Absent ∷ Absent ∷ Absent ∷ []); value = None; endorsed = [] }
+
+abbrev u3 : WireUnit
+u3 = record { instance = dg (0 ∷ 0 ∷ 0 ∷ 0 ∷ []); creator = 0; seq = 1; time = 12; exponent = 2; panorama = (Correct (dg (41 ∷ 0 ∷ 0 ∷ 8 ∷ [])) ∷ Correct (dg (19 ∷ 1 ∷ 0 ∷ 9 ∷ [])) ∷ Correct (dg (26 ∷ 2 ∷ 0 ∷ 9 ∷ [])) ∷ Correct (dg (33 ∷ 3 ∷ 0 ∷ 9 ∷ [])) ∷ []); value = None; endorsed = [] }
+
+abbrev u4 : WireUnit
+u4 = record { instance = dg (0 ∷ 0 ∷ 0 ∷ 0 ∷ []); creator = 1; seq = 1; time = 12; exponent = 2; panorama = (Correct (dg (41 ∷ 0 ∷ 0 ∷ 8 ∷ [])) ∷ Correct (dg (19 ∷ 1 ∷ 0 ∷ 9 ∷ [])) ∷ Absent ∷ Correct (dg (33 ∷ 3 ∷ 0 ∷ 9 ∷ [])) ∷ []); value = None; endorsed = [] }
+
+abbrev u5 : WireUnit
+u5 = record { instance = dg (0 ∷ 0 ∷ 0 ∷ 0 ∷ []); creator = 2; seq = 1; time = 12; exponent = 2; panorama = (Correct (dg (41 ∷ 0 ∷ 0 ∷ 8 ∷ [])) ∷ Correct (dg (19 ∷ 1 ∷ 0 ∷ 9 ∷ [])) ∷ Correct (dg (26 ∷ 2 ∷ 0 ∷ 9 ∷ [])) ∷ Correct (dg (33 ∷ 3 ∷ 0 ∷ 9 ∷ [])) ∷ []); value = None; endorsed = [] }
+
+abbrev u6 : WireUnit
+u6 = record { instance = dg (0 ∷ 0 ∷ 0 ∷ 0 ∷ []); creator = 3; seq = 1; time = 12; exponent = 2; panorama = (Correct (dg (41 ∷ 0 ∷ 0 ∷ 8 ∷ [])) ∷ Absent ∷ Correct (dg (26 ∷ 2 ∷ 0 ∷ 9 ∷ [])) ∷ Correct (dg (33 ∷ 3 ∷ 0 ∷ 9 ∷ [])) ∷ []); value = None; endorsed = [] }
+
+abbrev u7 : WireUnit
+u7 = record { instance = dg (0 ∷ 0 ∷ 0 ∷ 0 ∷ []); creator = 0; seq = 2; time = 16; exponent = 2; panorama = (Correct (dg (50 ∷ 0 ∷ 1 ∷ 12 ∷ [])) ∷ Correct (dg (57 ∷ 1 ∷ 1 ∷ 12 ∷ [])) ∷ Correct (dg (26 ∷ 2 ∷ 0 ∷ 9 ∷ [])) ∷ Correct (dg (71 ∷ 3 ∷ 1 ∷ 12 ∷ [])) ∷ []); value = Some ((121 ∷ 122 ∷ [])); endorsed = [] }
+
+answers : answers_from s [] ((sent_as [] u0, true) ∷ (sent_as (1 ∷ []) u1, true) ∷ (sent_as (1 ∷ []) u2, true) ∷ (sent_as [] u3, true) ∷ (sent_as [] u4, true) ∷ (sent_as (1 ∷ []) u5, true) ∷ (sent_as (1 ∷ []) u6, true) ∷ (sent_as [] u7, true) ∷ []) ≡ ((Ok (receipt.Parked 1) ∷ Ok (receipt.Parked 1) ∷ Ok (receipt.Parked 1) ∷ Ok (receipt.Parked 4) ∷ Ok (receipt.Parked 3) ∷ Ok (receipt.Parked 4) ∷ Ok (receipt.Parked 3) ∷ Ok (receipt.Parked 4) ∷ []))
+unfolding unfold_all
+answers = refl
+
+abbrev j_shuffled : List Vertex
+j_shuffled = (sent_as [] u0 ∷ sent_as (1 ∷ []) u5 ∷ sent_as [] u7 ∷ sent_as (1 ∷ []) u2 ∷ sent_as (1 ∷ []) u1 ∷ sent_as (1 ∷ []) u6 ∷ sent_as [] u4 ∷ sent_as [] u3 ∷ [])
+
+abbrev j : List Vertex
+j = (sent_as [] u0 ∷ sent_as (1 ∷ []) u1 ∷ sent_as (1 ∷ []) u2 ∷ sent_as [] u3 ∷ sent_as [] u4 ∷ sent_as (1 ∷ []) u5 ∷ sent_as (1 ∷ []) u6 ∷ sent_as [] u7 ∷ [])
+
+abbrev k : Received
+k = received_of s j
+
+order : received_of s j_shuffled ≡ k
+unfolding unfold_all
+order = refl
+
+kept : journal_of s ((sent_as [] u0, true) ∷ (sent_as (1 ∷ []) u1, true) ∷ (sent_as (1 ∷ []) u2, true) ∷ (sent_as [] u3, true) ∷ (sent_as [] u4, true) ∷ (sent_as (1 ∷ []) u5, true) ∷ (sent_as (1 ∷ []) u6, true) ∷ (sent_as [] u7, true) ∷ []) ≡ j
+unfolding unfold_all
+kept = refl
+
+abbrev units : List Node
+units = []
+
+settled : settled_of c k ≡ units
+unfolding unfold_all
+settled = refl
+
+parked : names_of (parked_of c k) ≡ (dg (19 ∷ 1 ∷ 0 ∷ 9 ∷ []) ∷ dg (26 ∷ 2 ∷ 0 ∷ 9 ∷ []) ∷ dg (33 ∷ 3 ∷ 0 ∷ 9 ∷ []) ∷ dg (50 ∷ 0 ∷ 1 ∷ 12 ∷ []) ∷ dg (57 ∷ 1 ∷ 1 ∷ 12 ∷ []) ∷ dg (64 ∷ 2 ∷ 1 ∷ 12 ∷ []) ∷ dg (68 ∷ 0 ∷ 2 ∷ 16 ∷ []) ∷ dg (71 ∷ 3 ∷ 1 ∷ 12 ∷ []) ∷ [])
+unfolding unfold_all
+parked = refl
+
+dropped : names_of (dropped_of c k) ≡ []
+unfolding unfold_all
+dropped = refl
+
+panorama : panorama_of c k ≡ (Absent ∷ Absent ∷ Absent ∷ Absent ∷ [])
+unfolding unfold_all
+panorama = refl
+
+weight : faulty_weight c k ≡ 0
+unfolding unfold_all
+weight = refl
+
+fork : name_of (fork_choice c k) ≡ None
+unfolding unfold_all
+fork = refl
+
+missing : map (missing_of c k units) (record { digest = dg (19 ∷ 1 ∷ 0 ∷ 9 ∷ []); unit = u0 } ∷ record { digest = dg (26 ∷ 2 ∷ 0 ∷ 9 ∷ []); unit = u1 } ∷ record { digest = dg (33 ∷ 3 ∷ 0 ∷ 9 ∷ []); unit = u2 } ∷ record { digest = dg (50 ∷ 0 ∷ 1 ∷ 12 ∷ []); unit = u3 } ∷ record { digest = dg (57 ∷ 1 ∷ 1 ∷ 12 ∷ []); unit = u4 } ∷ record { digest = dg (64 ∷ 2 ∷ 1 ∷ 12 ∷ []); unit = u5 } ∷ record { digest = dg (68 ∷ 0 ∷ 2 ∷ 16 ∷ []); unit = u7 } ∷ record { digest = dg (71 ∷ 3 ∷ 1 ∷ 12 ∷ []); unit = u6 } ∷ []) ≡ (((need.Unit (dg (41 ∷ 0 ∷ 0 ∷ 8 ∷ [])) ∷ []) ∷ (need.Unit (dg (41 ∷ 0 ∷ 0 ∷ 8 ∷ [])) ∷ []) ∷ (need.Unit (dg (41 ∷ 0 ∷ 0 ∷ 8 ∷ [])) ∷ []) ∷ (need.Unit (dg (41 ∷ 0 ∷ 0 ∷ 8 ∷ [])) ∷ need.Unit (dg (19 ∷ 1 ∷ 0 ∷ 9 ∷ [])) ∷ need.Unit (dg (26 ∷ 2 ∷ 0 ∷ 9 ∷ [])) ∷ need.Unit (dg (33 ∷ 3 ∷ 0 ∷ 9 ∷ [])) ∷ []) ∷ (need.Unit (dg (41 ∷ 0 ∷ 0 ∷ 8 ∷ [])) ∷ need.Unit (dg (19 ∷ 1 ∷ 0 ∷ 9 ∷ [])) ∷ need.Unit (dg (33 ∷ 3 ∷ 0 ∷ 9 ∷ [])) ∷ []) ∷ (need.Unit (dg (41 ∷ 0 ∷ 0 ∷ 8 ∷ [])) ∷ need.Unit (dg (19 ∷ 1 ∷ 0 ∷ 9 ∷ [])) ∷ need.Unit (dg (26 ∷ 2 ∷ 0 ∷ 9 ∷ [])) ∷ need.Unit (dg (33 ∷ 3 ∷ 0 ∷ 9 ∷ [])) ∷ []) ∷ (need.Unit (dg (50 ∷ 0 ∷ 1 ∷ 12 ∷ [])) ∷ need.Unit (dg (57 ∷ 1 ∷ 1 ∷ 12 ∷ [])) ∷ need.Unit (dg (26 ∷ 2 ∷ 0 ∷ 9 ∷ [])) ∷ need.Unit (dg (71 ∷ 3 ∷ 1 ∷ 12 ∷ [])) ∷ []) ∷ (need.Unit (dg (41 ∷ 0 ∷ 0 ∷ 8 ∷ [])) ∷ need.Unit (dg (26 ∷ 2 ∷ 0 ∷ 9 ∷ [])) ∷ need.Unit (dg (33 ∷ 3 ∷ 0 ∷ 9 ∷ [])) ∷ []) ∷ []))
+unfolding unfold_all
+missing = refl
+
+abbrev plans : List (Option Plan)
+plans = (Some (record { kind = kind.Propose; unit = record { instance = dg (0 ∷ 0 ∷ 0 ∷ 0 ∷ []); creator = 0; seq = 0; time = 8; exponent = 2; panorama = (Absent ∷ Absent ∷ Absent ∷ Absent ∷ []); value = Some ((118 ∷ [])); endorsed = [] } }) ∷ None ∷ None ∷ None ∷ None ∷ None ∷ Some (record { kind = kind.Propose; unit = record { instance = dg (0 ∷ 0 ∷ 0 ∷ 0 ∷ []); creator = 3; seq = 0; time = 4; exponent = 2; panorama = (Absent ∷ Absent ∷ Absent ∷ Absent ∷ []); value = Some ((118 ∷ [])); endorsed = [] } }) ∷ None ∷ [])
+
+steps : (step s k 0 9 (118 ∷ []) ∷ step s k 0 4 (118 ∷ []) ∷ step s k 1 2 (118 ∷ []) ∷ step s k 1 0 (118 ∷ []) ∷ step s k 2 5 (118 ∷ []) ∷ step s k 2 9 (118 ∷ []) ∷ step s k 3 5 (118 ∷ []) ∷ step s k 3 2 (118 ∷ []) ∷ []) ≡ plans
+unfolding unfold_all
+steps = refl

@@ -1,0 +1,3 @@
+pub mod Pruned
+pub mod Decided
+pub mod Laws
