@@ -144,5 +144,5 @@ module _ (dag : UnitGraph) (g : IsGraph dag) where
   on_lane_by_number low high found lo hi f = both_ways (nat_eq found low) (is_lane_below dag low high)
       (λ t. subst (λ (n : ℕ). is_lane_below dag n high ≡ true) (eqb-true found low t) f.on_lane)
       (λ t. eq-eqb found low (same_node dag g found low f.known lo
-          (chain.lane_one (even_weights dag) all_faulty (graph dag) (lawful dag g) (node_at dag high) (node_at dag found) (node_at dag low) (node_among dag g high hi)
-          (on_lane_among dag g found high f.known f.on_lane) (on_lane_among dag g low high lo t) f.seq_is)))
+      (chain.lane_one (even_weights dag) all_faulty (graph dag) (lawful dag g) (node_at dag high) (node_at dag found) (node_at dag low) (node_among dag g high hi)
+      (on_lane_among dag g found high f.known f.on_lane) (on_lane_among dag g low high lo t) f.seq_is)))

@@ -12,3 +12,4 @@ pub mod KeptLaws
 pub mod KeepLaws
 pub mod ResolveLaws
 pub mod MarkLaws
+pub mod SoloLaws

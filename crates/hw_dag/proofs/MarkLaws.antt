@@ -54,14 +54,14 @@ module _ (dag : UnitGraph) (g : IsGraph dag) where
   pub below_earlier : (high low : ℕ) → high < count_of dag → low < count_of dag → Among (node_at dag low) (history dag g high) → low < high
   below_earlier high low hi lo h =
       let all = (reach_keeps unit_cites (cites (unit_at dag high).signed.unit.panorama) (graph dag)
-          (λ (x : Node). (n : ℕ) × (n < count_of dag) × (node_at dag n ≡ x) × (n < high))
-          (λ x m t. let n = among_node dag x m in (n.0, n.1, n.2, observed_earlier dag g n.0 high n.1 hi (subst (λ (y : Node). cites (unit_at dag high).signed.unit.panorama y ≡ true) (sym n.2) t)))
-          (λ x y p m t.
-              let n = among_node dag x m in
-              let less = observed_earlier dag g n.0 p.0 n.1 p.1 (subst (λ (z : Node). cites z.unit.panorama (node_at dag n.0) ≡ true) (sym p.2) (subst (λ (z : Node). cites y.unit.panorama z ≡ true) (sym n.2) t)) in
-              let more = p.3 in
-              (n.0, n.1, n.2, omega arith))
-          (node_at dag low) h) in
+      (λ (x : Node). (n : ℕ) × (n < count_of dag) × (node_at dag n ≡ x) × (n < high))
+      (λ x m t. let n = among_node dag x m in (n.0, n.1, n.2, observed_earlier dag g n.0 high n.1 hi (subst (λ (y : Node). cites (unit_at dag high).signed.unit.panorama y ≡ true) (sym n.2) t)))
+      (λ x y p m t.
+      let n = among_node dag x m in
+      let less = observed_earlier dag g n.0 p.0 n.1 p.1 (subst (λ (z : Node). cites z.unit.panorama (node_at dag n.0) ≡ true) (sym p.2) (subst (λ (z : Node). cites y.unit.panorama z ≡ true) (sym n.2) t)) in
+      let more = p.3 in
+      (n.0, n.1, n.2, omega arith))
+      (node_at dag low) h) in
       subst (λ (k : ℕ). k < high) (same_node dag g all.0 low all.1 lo all.2) all.3
 
   pub seen_earlier : (low high : ℕ) → low < count_of dag → high < count_of dag → is_seen dag low high ≡ true → low ≤ high
@@ -186,17 +186,17 @@ module _ (dag : UnitGraph) (g : IsGraph dag) where
       come : Among (node_at dag low) (history dag g high) → is_marked marked low ≡ true
       come h =
           let all = (reach_keeps unit_cites (cites (unit_at dag high).signed.unit.panorama) (graph dag)
-              (λ (x : Node). (n : ℕ) × (n < count_of dag) × (node_at dag n ≡ x) × (n < high) × (low ≤ n → is_marked marked n ≡ true))
-              (λ x m t.
-                  let n = among_node dag x m in
-                  let c = node_cites high n.0 hi n.1 (subst (λ (y : Node). cites (unit_at dag high).signed.unit.panorama y ≡ true) (sym n.2) t) in
-                  (n.0, n.1, n.2, cites_earlier high n.0 hi c, λ le. w.started n.0 c le))
-              (λ x y p m t.
-                  let n = among_node dag x m in
-                  let c = node_cites p.0 n.0 p.1 n.1 (subst (λ (z : Node). cites z.unit.panorama (node_at dag n.0) ≡ true) (sym p.2) (subst (λ (z : Node). cites y.unit.panorama z ≡ true) (sym n.2) t)) in
-                  let earlier = cites_earlier p.0 n.0 p.1 c in
-                  let before = p.3 in
-                  (n.0, n.1, n.2, omega arith, λ le. w.done p.0 n.0 (omega arith) before (p.4 (omega arith)) c le))
-              (node_at dag low) h) in
+          (λ (x : Node). (n : ℕ) × (n < count_of dag) × (node_at dag n ≡ x) × (n < high) × (low ≤ n → is_marked marked n ≡ true))
+          (λ x m t.
+          let n = among_node dag x m in
+          let c = node_cites high n.0 hi n.1 (subst (λ (y : Node). cites (unit_at dag high).signed.unit.panorama y ≡ true) (sym n.2) t) in
+          (n.0, n.1, n.2, cites_earlier high n.0 hi c, λ le. w.started n.0 c le))
+          (λ x y p m t.
+          let n = among_node dag x m in
+          let c = node_cites p.0 n.0 p.1 n.1 (subst (λ (z : Node). cites z.unit.panorama (node_at dag n.0) ≡ true) (sym p.2) (subst (λ (z : Node). cites y.unit.panorama z ≡ true) (sym n.2) t)) in
+          let earlier = cites_earlier p.0 n.0 p.1 c in
+          let before = p.3 in
+          (n.0, n.1, n.2, omega arith, λ le. w.done p.0 n.0 (omega arith) before (p.4 (omega arith)) c le))
+          (node_at dag low) h) in
           let same = same_node dag g all.0 low all.1 (omega arith) all.2 in
           subst (λ (k : ℕ). is_marked marked k ≡ true) same (all.4 (omega arith))

@@ -2,7 +2,8 @@
 use Rattle.std.proofs.Common.{◌≡◌, ℕ, zero, suc, ◌+◌, ◌<◌, ◌≤◌, inl, inr, List, [], ◌∷◌, ◌++◌, length, get_or, Option, Some, None, refl, sym, ap, subst, ◌∙◌, arith}
 use Rattle.std.proofs.lemmas.List.{get_or_read}
 use Rattle.hw_types.specs.Below.{Among}
-use Rattle.hw_dag.specs.Dag.{SettledUnit, UnitGraph, stand_in, unit_at, count_of}
+use Rattle.hw_dag.specs.declared.numbers.View.{View}
+use Rattle.hw_dag.specs.Dag.{SettledUnit, UnitGraph, stand_in, unit_at, count_of, view_at}
 
 pub among_place : {A : Type 0} (d : A) (x : A) (xs : List A) → Among x xs → (k : ℕ) × (k < length xs) × (get_or xs k d ≡ x)
 among_place d x [] m = absurd m
@@ -19,3 +20,7 @@ pub read_unit : (dag now : UnitGraph) (n : ℕ) (x : SettledUnit) → dag ≡ no
 read_unit dag now n x e lt read =
     let P : UnitGraph → Type 0 = λ d. x ≡ get_or d.units n x in
     get_or_read now.units n x lt (subst P e read) stand_in
+
+-- a slot that was read
+pub read_slot : (panorama views : List View) (v n : ℕ) (w : View) → views ≡ panorama → n ≡ v → w ≡ view_at views n → view_at panorama v ≡ w
+read_slot panorama views v n w same at read = ap (λ (ws : List View). view_at ws v) (sym same) ∙ ap (λ (k : ℕ). view_at views k) (sym at) ∙ sym read

@@ -38,20 +38,16 @@ impl Model for Dag {
 
     ghost Value = { UnitGraph };
 
-    ghost view = {
-        λ d. record {
-            validators = d.validators;
-            spare = d.spare;
-            units = d.units.items;
-        }
-    };
+    ghost view = { λ d. record {
+      validators = d.validators;
+      spare = d.spare;
+      units = d.units.items;
+    } };
 
     ghost use Rattle.hw_dag.specs.Tables.{IsKept, HasSpare};
 
-    ghost invariant = {
-        λ d. IsKept (record { validators = d.validators; spare = d.spare; units = d.units.items }) d.names.keys d.lanes.backs d.chains.backs
-            × HasSpare d.spare (vec_capacity d.units - vec_len d.units) (room_of d.names) d.lanes.spare d.chains.spare
-    };
+    ghost invariant = { λ d. IsKept (record { validators = d.validators; spare = d.spare; units = d.units.items }) d.names.keys d.lanes.backs d.chains.backs
+        × HasSpare d.spare (vec_capacity d.units - vec_len d.units) (room_of d.names) d.lanes.spare d.chains.spare };
 }
 
 impl Dag {
@@ -207,8 +203,10 @@ impl Dag {
     {
         let Settling { unit, lane, chain } = settling;
         self.spare -= 1;
-        self.lanes.push(lane, unit.predecessor(), unit.signed().unit.seq);
-        self.chains.push(chain, unit.parent(), unit.height().unwrap_or(0));
+        self.lanes
+            .push(lane, unit.predecessor(), unit.signed().unit.seq);
+        self.chains
+            .push(chain, unit.parent(), unit.height().unwrap_or(0));
         add_name(&mut self.names, *unit.digest());
         if self.units.push(unit).is_err() {
             unreachable!()

@@ -56,17 +56,13 @@ impl Model for Prepared {
 
     ghost Value = { PreparedUnit };
 
-    ghost view = {
-        λ p. record {
-            digest = p.digest;
-            signed = p.signed;
-            panorama = p.room.panorama;
-        }
-    };
+    ghost view = { λ p. record {
+      digest = p.digest;
+      signed = p.signed;
+      panorama = p.room.panorama;
+    } };
 
-    ghost invariant = {
-        λ p. HasRoom p.signed p.room.panorama p.room.lane.items (vec_capacity p.room.lane) p.room.chain.items (vec_capacity p.room.chain)
-    };
+    ghost invariant = { λ p. HasRoom p.signed p.room.panorama p.room.lane.items (vec_capacity p.room.lane) p.room.chain.items (vec_capacity p.room.chain) };
 }
 
 impl Prepared {
@@ -99,7 +95,10 @@ impl Prepared {
         ensures signed { self.new.signed ≡ self.old.signed }
         ensures digest { self.new.digest ≡ self.old.digest }
     {
-        dag.resolve_views(self.signed.unit.panorama.as_slice(), &mut self.room.panorama)
+        dag.resolve_views(
+            self.signed.unit.panorama.as_slice(),
+            &mut self.room.panorama,
+        )
     }
 
     /// The settled unit of this number, with its room for pointers.

@@ -26,12 +26,10 @@ impl Model for SkipTable {
 
     ghost Value = { BackLinks };
 
-    ghost view = {
-        λ t. record {
-            spare = vec_capacity t.pointers - vec_len t.pointers;
-            backs = backs_of (map (λ p. p.items) t.pointers.items);
-        }
-    };
+    ghost view = { λ t. record {
+      spare = vec_capacity t.pointers - vec_len t.pointers;
+      backs = backs_of (map (λ p. p.items) t.pointers.items);
+    } };
 
     ghost invariant = { λ t. IsSkipTable (map (λ p. p.items) t.pointers.items) };
 }

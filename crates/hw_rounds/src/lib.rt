@@ -10,9 +10,11 @@
 ghost use Rattle.std.specs.Prelude.{◌≡◌, ◌^◌, ◌<◌, ◌≤◌};
 ghost use Rattle.hw_types.specs.Rounds.{round_id, witness_time, changes_lawfully};
 
+use hw_types::MAX_EXPONENT;
+
 /// The round that a moment lies in: the moment, with its last `exponent` binary digits as 0.
 pub fn round_id(time: u64, exponent: u8) -> u64
-    requires { exponent ≤ 40 }
+    requires { exponent ≤ MAX_EXPONENT }
     ensures { result ≡ round_id time exponent }
 {
     time >> exponent << exponent
@@ -21,7 +23,7 @@ pub fn round_id(time: u64, exponent: u8) -> u64
 /// The moment of a round, two thirds through and rounded down, from which its witness units are made.
 pub fn witness_time(round: u64, exponent: u8) -> u64
     requires time { round < 2 ^ 63 }
-    requires length { exponent ≤ 40 }
+    requires length { exponent ≤ MAX_EXPONENT }
     ensures { result ≡ witness_time round exponent }
 {
     round + (2 << exponent) / 3
@@ -30,8 +32,8 @@ pub fn witness_time(round: u64, exponent: u8) -> u64
 /// Whether a unit at `time` may have `exponent` where its creator's unit before, at the moment `before`,
 /// has `before_exponent`: it is the same, or the two units lie in different rounds of the greater one.
 pub fn changes_lawfully(before: u64, before_exponent: u8, time: u64, exponent: u8) -> bool
-    requires before { before_exponent ≤ 40 }
-    requires length { exponent ≤ 40 }
+    requires before { before_exponent ≤ MAX_EXPONENT }
+    requires length { exponent ≤ MAX_EXPONENT }
     ensures { result ≡ changes_lawfully before before_exponent time exponent }
 {
     let greater = before_exponent.max(exponent);

@@ -1,5 +1,6 @@
--- A hand-made journal: block twice.
-use Rattle.std.specs.Prelude.{◌≡◌, true, false, List, [], ◌∷◌, map, Option, Some, None, Ok, refl}
+-- A leader's second block at the time of its first is dropped; blocks of later rounds aren't.
+-- The values are those of a second reading of the definitions, written apart from them; the two agree.
+use Rattle.std.specs.Prelude.{◌≡◌, true, false, List, [], ◌∷◌, map, Option, Some, None, Ok}
 use Rattle.hw_types.specs.declared.unit.Obs.TheVariants.{Absent, Correct, Faulty}
 use Rattle.hw_types.specs.declared.unit.WireUnit.{WireUnit}
 use Rattle.hw_types.specs.declared.unit.Vertex.{Vertex}
@@ -15,7 +16,8 @@ use Rattle.hw_types.specs.Settled.{Received, settled_of, parked_of, dropped_of, 
 use Rattle.hw_types.specs.Journal.{Setting, received_of, journal_of, answers_from}
 use Rattle.hw_types.specs.Step.{step}
 use Rattle.hw_types.specs.Culprits.{culprits_of}
-use Rattle.hw_samples.specs.JournalWords.{unfold_all, dg, sent_as, mixed, named_by, names_of, name_of, votes_in, parents_in, committee_test}
+use Rattle.hw_samples.specs.Words.{names_of, name_of}
+use Rattle.hw_samples.specs.JournalWords.{dg, sent_as, mixed, named_by, votes_in, parents_in, committee_test}
 
 abbrev c : Config
 c = record { weights = (1 ∷ 1 ∷ 1 ∷ []); ftt = 0; levels = 2; min_exponent = 2; max_exponent = 4; leaders = Table (0 ∷ []); max_records = 131072; max_parked = 4096; end = None }
@@ -35,10 +37,6 @@ u2 = record { instance = dg (0 ∷ 0 ∷ 0 ∷ 0 ∷ []); creator = 0; seq = 1; 
 abbrev u3 : WireUnit
 u3 = record { instance = dg (0 ∷ 0 ∷ 0 ∷ 0 ∷ []); creator = 0; seq = 2; time = 16; exponent = 2; panorama = (Correct (dg (90 ∷ 0 ∷ 1 ∷ 12 ∷ [])) ∷ Absent ∷ Absent ∷ []); value = Some ((119 ∷ [])); endorsed = [] }
 
-answers : answers_from s [] ((sent_as [] u0, true) ∷ (sent_as [] u1, true) ∷ (sent_as [] u2, true) ∷ (sent_as [] u3, true) ∷ []) ≡ ((Ok (receipt.Admitted 1) ∷ Ok (receipt.Dropped rule.NotLeader) ∷ Ok (receipt.Admitted 1) ∷ Ok (receipt.Admitted 1) ∷ []))
-unfolding unfold_all
-answers = refl
-
 abbrev j_shuffled : List Vertex
 j_shuffled = (sent_as [] u2 ∷ sent_as [] u1 ∷ sent_as [] u3 ∷ sent_as [] u0 ∷ [])
 
@@ -48,75 +46,30 @@ j = (sent_as [] u0 ∷ sent_as [] u1 ∷ sent_as [] u2 ∷ sent_as [] u3 ∷ [])
 abbrev k : Received
 k = received_of s j
 
-order : received_of s j_shuffled ≡ k
-unfolding unfold_all
-order = refl
-
-kept : journal_of s ((sent_as [] u0, true) ∷ (sent_as [] u1, true) ∷ (sent_as [] u2, true) ∷ (sent_as [] u3, true) ∷ []) ≡ j
-unfolding unfold_all
-kept = refl
-
 abbrev units : List Node
 units = (record { digest = dg (40 ∷ 0 ∷ 0 ∷ 8 ∷ []); unit = u0 } ∷ record { digest = dg (40 ∷ 0 ∷ 2 ∷ 16 ∷ []); unit = u3 } ∷ record { digest = dg (90 ∷ 0 ∷ 1 ∷ 12 ∷ []); unit = u2 } ∷ [])
-
-settled : settled_of c k ≡ units
-unfolding unfold_all
-settled = refl
-
-parked : names_of (parked_of c k) ≡ []
-unfolding unfold_all
-parked = refl
-
-dropped : names_of (dropped_of c k) ≡ (dg (46 ∷ 0 ∷ 1 ∷ 8 ∷ []) ∷ [])
-unfolding unfold_all
-dropped = refl
-
-panorama : panorama_of c k ≡ (Correct (dg (40 ∷ 0 ∷ 2 ∷ 16 ∷ [])) ∷ Absent ∷ Absent ∷ [])
-unfolding unfold_all
-panorama = refl
-
-weight : faulty_weight c k ≡ 0
-unfolding unfold_all
-weight = refl
-
-fork : name_of (fork_choice c k) ≡ Some (dg (40 ∷ 0 ∷ 2 ∷ 16 ∷ []))
-unfolding unfold_all
-fork = refl
-
-votes : votes_in c units ≡ (Some (dg (40 ∷ 0 ∷ 0 ∷ 8 ∷ [])) ∷ Some (dg (40 ∷ 0 ∷ 2 ∷ 16 ∷ [])) ∷ Some (dg (90 ∷ 0 ∷ 1 ∷ 12 ∷ [])) ∷ [])
-unfolding unfold_all
-votes = refl
-
-heights : parents_in c units ≡ ((None, 0) ∷ (Some (dg (90 ∷ 0 ∷ 1 ∷ 12 ∷ [])), 2) ∷ (Some (dg (40 ∷ 0 ∷ 0 ∷ 8 ∷ [])), 1) ∷ [])
-unfolding unfold_all
-heights = refl
-
-missing : map (missing_of c k units) (record { digest = dg (40 ∷ 0 ∷ 0 ∷ 8 ∷ []); unit = u0 } ∷ record { digest = dg (40 ∷ 0 ∷ 2 ∷ 16 ∷ []); unit = u3 } ∷ record { digest = dg (46 ∷ 0 ∷ 1 ∷ 8 ∷ []); unit = u1 } ∷ record { digest = dg (90 ∷ 0 ∷ 1 ∷ 12 ∷ []); unit = u2 } ∷ []) ≡ (([] ∷ [] ∷ [] ∷ [] ∷ []))
-unfolding unfold_all
-missing = refl
-
-rules : map (state_rule c units) (record { digest = dg (40 ∷ 0 ∷ 0 ∷ 8 ∷ []); unit = u0 } ∷ record { digest = dg (40 ∷ 0 ∷ 2 ∷ 16 ∷ []); unit = u3 } ∷ record { digest = dg (46 ∷ 0 ∷ 1 ∷ 8 ∷ []); unit = u1 } ∷ record { digest = dg (90 ∷ 0 ∷ 1 ∷ 12 ∷ []); unit = u2 } ∷ []) ≡ (None ∷ None ∷ Some (rule.NotLeader) ∷ None ∷ [])
-unfolding unfold_all
-rules = refl
-
-naive : (has_naive_fork (past units (Correct (dg (40 ∷ 0 ∷ 0 ∷ 8 ∷ [])) ∷ Absent ∷ Faulty ∷ [])) [] ∷ has_naive_fork (past units (Correct (dg (40 ∷ 0 ∷ 0 ∷ 8 ∷ [])) ∷ Absent ∷ Absent ∷ [])) [] ∷ has_naive_fork (past units (Faulty ∷ Faulty ∷ Faulty ∷ [])) [] ∷ has_naive_fork (past units (Correct (dg (40 ∷ 0 ∷ 0 ∷ 8 ∷ [])) ∷ Absent ∷ Faulty ∷ [])) (dg (40 ∷ 0 ∷ 0 ∷ 8 ∷ []) ∷ []) ∷ []) ≡ (false ∷ false ∷ false ∷ false ∷ [])
-unfolding unfold_all
-naive = refl
 
 abbrev plans : List (Option Plan)
 plans = (None ∷ Some (record { kind = kind.Witness; unit = record { instance = dg (0 ∷ 0 ∷ 0 ∷ 0 ∷ []); creator = 0; seq = 3; time = 19; exponent = 2; panorama = (Correct (dg (40 ∷ 0 ∷ 2 ∷ 16 ∷ [])) ∷ Absent ∷ Absent ∷ []); value = None; endorsed = [] } }) ∷ Some (record { kind = kind.Witness; unit = record { instance = dg (0 ∷ 0 ∷ 0 ∷ 0 ∷ []); creator = 1; seq = 0; time = 19; exponent = 2; panorama = (Correct (dg (40 ∷ 0 ∷ 2 ∷ 16 ∷ [])) ∷ Absent ∷ Absent ∷ []); value = None; endorsed = [] } }) ∷ Some (record { kind = kind.Confirm; unit = record { instance = dg (0 ∷ 0 ∷ 0 ∷ 0 ∷ []); creator = 1; seq = 0; time = 17; exponent = 2; panorama = (Correct (dg (40 ∷ 0 ∷ 2 ∷ 16 ∷ [])) ∷ Absent ∷ Absent ∷ []); value = None; endorsed = [] } }) ∷ Some (record { kind = kind.Confirm; unit = record { instance = dg (0 ∷ 0 ∷ 0 ∷ 0 ∷ []); creator = 2; seq = 0; time = 17; exponent = 2; panorama = (Correct (dg (40 ∷ 0 ∷ 2 ∷ 16 ∷ [])) ∷ Absent ∷ Absent ∷ []); value = None; endorsed = [] } }) ∷ None ∷ [])
 
-steps : (step s k 0 11 (118 ∷ []) ∷ step s k 0 19 (118 ∷ []) ∷ step s k 1 19 (118 ∷ []) ∷ step s k 1 17 (118 ∷ []) ∷ step s k 2 17 (118 ∷ []) ∷ step s k 2 14 (118 ∷ []) ∷ []) ≡ plans
-unfolding unfold_all
-steps = refl
-
 abbrev j2 : List Vertex
 j2 = (sent_as [] u1 ∷ sent_as [] u0 ∷ sent_as [] u2 ∷ sent_as [] u3 ∷ [])
 
-culprits : culprits_of s j j2 ≡ []
-unfolding unfold_all
-culprits = refl
-
-summits : (committee_test c.weights units (Correct (dg (40 ∷ 0 ∷ 2 ∷ 16 ∷ [])) ∷ Absent ∷ Absent ∷ []) (record { digest = dg (40 ∷ 0 ∷ 0 ∷ 8 ∷ []); unit = record { instance = dg (0 ∷ 0 ∷ 0 ∷ 0 ∷ []); creator = 0; seq = 0; time = 8; exponent = 2; panorama = (Absent ∷ Absent ∷ Absent ∷ []); value = Some ((120 ∷ [])); endorsed = [] } }) 1 3 (((0, 2) ∷ []) ∷ [] ∷ []) ∷ committee_test c.weights units (Correct (dg (40 ∷ 0 ∷ 2 ∷ 16 ∷ [])) ∷ Absent ∷ Absent ∷ []) (record { digest = dg (40 ∷ 0 ∷ 0 ∷ 8 ∷ []); unit = record { instance = dg (0 ∷ 0 ∷ 0 ∷ 0 ∷ []); creator = 0; seq = 0; time = 8; exponent = 2; panorama = (Absent ∷ Absent ∷ Absent ∷ []); value = Some ((120 ∷ [])); endorsed = [] } }) 1 3 ([] ∷ [] ∷ []) ∷ committee_test c.weights units (Correct (dg (40 ∷ 0 ∷ 2 ∷ 16 ∷ [])) ∷ Absent ∷ Absent ∷ []) (record { digest = dg (40 ∷ 0 ∷ 0 ∷ 8 ∷ []); unit = record { instance = dg (0 ∷ 0 ∷ 0 ∷ 0 ∷ []); creator = 0; seq = 0; time = 8; exponent = 2; panorama = (Absent ∷ Absent ∷ Absent ∷ []); value = Some ((120 ∷ [])); endorsed = [] } }) 2 2 (((0, 0) ∷ []) ∷ ((0, 1) ∷ []) ∷ ((0, 2) ∷ []) ∷ []) ∷ committee_test c.weights units (Correct (dg (40 ∷ 0 ∷ 2 ∷ 16 ∷ [])) ∷ Absent ∷ Absent ∷ []) (record { digest = dg (40 ∷ 0 ∷ 0 ∷ 8 ∷ []); unit = record { instance = dg (0 ∷ 0 ∷ 0 ∷ 0 ∷ []); creator = 0; seq = 0; time = 8; exponent = 2; panorama = (Absent ∷ Absent ∷ Absent ∷ []); value = Some ((120 ∷ [])); endorsed = [] } }) 2 2 ([] ∷ [] ∷ [] ∷ []) ∷ committee_test c.weights units (Correct (dg (40 ∷ 0 ∷ 2 ∷ 16 ∷ [])) ∷ Absent ∷ Absent ∷ []) (record { digest = dg (40 ∷ 0 ∷ 2 ∷ 16 ∷ []); unit = record { instance = dg (0 ∷ 0 ∷ 0 ∷ 0 ∷ []); creator = 0; seq = 2; time = 16; exponent = 2; panorama = (Correct (dg (90 ∷ 0 ∷ 1 ∷ 12 ∷ [])) ∷ Absent ∷ Absent ∷ []); value = Some ((119 ∷ [])); endorsed = [] } }) 1 2 ([] ∷ [] ∷ []) ∷ committee_test c.weights units (Correct (dg (40 ∷ 0 ∷ 2 ∷ 16 ∷ [])) ∷ Absent ∷ Absent ∷ []) (record { digest = dg (40 ∷ 0 ∷ 2 ∷ 16 ∷ []); unit = record { instance = dg (0 ∷ 0 ∷ 0 ∷ 0 ∷ []); creator = 0; seq = 2; time = 16; exponent = 2; panorama = (Correct (dg (90 ∷ 0 ∷ 1 ∷ 12 ∷ [])) ∷ Absent ∷ Absent ∷ []); value = Some ((119 ∷ [])); endorsed = [] } }) 1 2 ([] ∷ [] ∷ []) ∷ committee_test c.weights units (Correct (dg (40 ∷ 0 ∷ 2 ∷ 16 ∷ [])) ∷ Absent ∷ Absent ∷ []) (record { digest = dg (40 ∷ 0 ∷ 2 ∷ 16 ∷ []); unit = record { instance = dg (0 ∷ 0 ∷ 0 ∷ 0 ∷ []); creator = 0; seq = 2; time = 16; exponent = 2; panorama = (Correct (dg (90 ∷ 0 ∷ 1 ∷ 12 ∷ [])) ∷ Absent ∷ Absent ∷ []); value = Some ((119 ∷ [])); endorsed = [] } }) 2 2 (((0, 1) ∷ []) ∷ ((0, 2) ∷ []) ∷ ((0, 2) ∷ []) ∷ []) ∷ committee_test c.weights units (Correct (dg (40 ∷ 0 ∷ 2 ∷ 16 ∷ [])) ∷ Absent ∷ Absent ∷ []) (record { digest = dg (40 ∷ 0 ∷ 2 ∷ 16 ∷ []); unit = record { instance = dg (0 ∷ 0 ∷ 0 ∷ 0 ∷ []); creator = 0; seq = 2; time = 16; exponent = 2; panorama = (Correct (dg (90 ∷ 0 ∷ 1 ∷ 12 ∷ [])) ∷ Absent ∷ Absent ∷ []); value = Some ((119 ∷ [])); endorsed = [] } }) 2 2 ([] ∷ [] ∷ [] ∷ []) ∷ committee_test c.weights units (Absent ∷ Absent ∷ Absent ∷ []) (record { digest = dg (40 ∷ 0 ∷ 2 ∷ 16 ∷ []); unit = record { instance = dg (0 ∷ 0 ∷ 0 ∷ 0 ∷ []); creator = 0; seq = 2; time = 16; exponent = 2; panorama = (Correct (dg (90 ∷ 0 ∷ 1 ∷ 12 ∷ [])) ∷ Absent ∷ Absent ∷ []); value = Some ((119 ∷ [])); endorsed = [] } }) 1 2 ([] ∷ [] ∷ []) ∷ committee_test c.weights units (Absent ∷ Absent ∷ Absent ∷ []) (record { digest = dg (40 ∷ 0 ∷ 2 ∷ 16 ∷ []); unit = record { instance = dg (0 ∷ 0 ∷ 0 ∷ 0 ∷ []); creator = 0; seq = 2; time = 16; exponent = 2; panorama = (Correct (dg (90 ∷ 0 ∷ 1 ∷ 12 ∷ [])) ∷ Absent ∷ Absent ∷ []); value = Some ((119 ∷ [])); endorsed = [] } }) 1 2 ([] ∷ [] ∷ []) ∷ committee_test c.weights units (Absent ∷ Absent ∷ Absent ∷ []) (record { digest = dg (40 ∷ 0 ∷ 2 ∷ 16 ∷ []); unit = record { instance = dg (0 ∷ 0 ∷ 0 ∷ 0 ∷ []); creator = 0; seq = 2; time = 16; exponent = 2; panorama = (Correct (dg (90 ∷ 0 ∷ 1 ∷ 12 ∷ [])) ∷ Absent ∷ Absent ∷ []); value = Some ((119 ∷ [])); endorsed = [] } }) 2 3 ([] ∷ [] ∷ [] ∷ []) ∷ committee_test c.weights units (Absent ∷ Absent ∷ Absent ∷ []) (record { digest = dg (40 ∷ 0 ∷ 2 ∷ 16 ∷ []); unit = record { instance = dg (0 ∷ 0 ∷ 0 ∷ 0 ∷ []); creator = 0; seq = 2; time = 16; exponent = 2; panorama = (Correct (dg (90 ∷ 0 ∷ 1 ∷ 12 ∷ [])) ∷ Absent ∷ Absent ∷ []); value = Some ((119 ∷ [])); endorsed = [] } }) 2 3 ([] ∷ [] ∷ [] ∷ []) ∷ committee_test c.weights units (Absent ∷ Absent ∷ Absent ∷ []) (record { digest = dg (90 ∷ 0 ∷ 1 ∷ 12 ∷ []); unit = record { instance = dg (0 ∷ 0 ∷ 0 ∷ 0 ∷ []); creator = 0; seq = 1; time = 12; exponent = 2; panorama = (Correct (dg (40 ∷ 0 ∷ 0 ∷ 8 ∷ [])) ∷ Absent ∷ Absent ∷ []); value = Some ((121 ∷ [])); endorsed = [] } }) 1 2 ([] ∷ [] ∷ []) ∷ committee_test c.weights units (Absent ∷ Absent ∷ Absent ∷ []) (record { digest = dg (90 ∷ 0 ∷ 1 ∷ 12 ∷ []); unit = record { instance = dg (0 ∷ 0 ∷ 0 ∷ 0 ∷ []); creator = 0; seq = 1; time = 12; exponent = 2; panorama = (Correct (dg (40 ∷ 0 ∷ 0 ∷ 8 ∷ [])) ∷ Absent ∷ Absent ∷ []); value = Some ((121 ∷ [])); endorsed = [] } }) 1 2 ([] ∷ [] ∷ []) ∷ committee_test c.weights units (Absent ∷ Absent ∷ Absent ∷ []) (record { digest = dg (90 ∷ 0 ∷ 1 ∷ 12 ∷ []); unit = record { instance = dg (0 ∷ 0 ∷ 0 ∷ 0 ∷ []); creator = 0; seq = 1; time = 12; exponent = 2; panorama = (Correct (dg (40 ∷ 0 ∷ 0 ∷ 8 ∷ [])) ∷ Absent ∷ Absent ∷ []); value = Some ((121 ∷ [])); endorsed = [] } }) 2 1 ([] ∷ [] ∷ [] ∷ []) ∷ committee_test c.weights units (Absent ∷ Absent ∷ Absent ∷ []) (record { digest = dg (90 ∷ 0 ∷ 1 ∷ 12 ∷ []); unit = record { instance = dg (0 ∷ 0 ∷ 0 ∷ 0 ∷ []); creator = 0; seq = 1; time = 12; exponent = 2; panorama = (Correct (dg (40 ∷ 0 ∷ 0 ∷ 8 ∷ [])) ∷ Absent ∷ Absent ∷ []); value = Some ((121 ∷ [])); endorsed = [] } }) 2 1 ([] ∷ [] ∷ [] ∷ []) ∷ []) ≡ (false ∷ false ∷ false ∷ false ∷ false ∷ false ∷ false ∷ false ∷ false ∷ false ∷ false ∷ false ∷ false ∷ false ∷ false ∷ false ∷ [])
-unfolding unfold_all
-summits = refl
+pub record BlockTwiceJournal : Type 0 where
+  pub answers : answers_from s [] ((sent_as [] u0, true) ∷ (sent_as [] u1, true) ∷ (sent_as [] u2, true) ∷ (sent_as [] u3, true) ∷ []) ≡ ((Ok (receipt.Admitted 1) ∷ Ok (receipt.Dropped rule.NotLeader) ∷ Ok (receipt.Admitted 1) ∷ Ok (receipt.Admitted 1) ∷ []))
+  pub order : received_of s j_shuffled ≡ k
+  pub kept : journal_of s ((sent_as [] u0, true) ∷ (sent_as [] u1, true) ∷ (sent_as [] u2, true) ∷ (sent_as [] u3, true) ∷ []) ≡ j
+  pub settled : settled_of c k ≡ units
+  pub parked : names_of (parked_of c k) ≡ []
+  pub dropped : names_of (dropped_of c k) ≡ (dg (46 ∷ 0 ∷ 1 ∷ 8 ∷ []) ∷ [])
+  pub panorama : panorama_of c k ≡ (Correct (dg (40 ∷ 0 ∷ 2 ∷ 16 ∷ [])) ∷ Absent ∷ Absent ∷ [])
+  pub weight : faulty_weight c k ≡ 0
+  pub fork : name_of (fork_choice c k) ≡ Some (dg (40 ∷ 0 ∷ 2 ∷ 16 ∷ []))
+  pub votes : votes_in c units ≡ (Some (dg (40 ∷ 0 ∷ 0 ∷ 8 ∷ [])) ∷ Some (dg (40 ∷ 0 ∷ 2 ∷ 16 ∷ [])) ∷ Some (dg (90 ∷ 0 ∷ 1 ∷ 12 ∷ [])) ∷ [])
+  pub heights : parents_in c units ≡ ((None, 0) ∷ (Some (dg (90 ∷ 0 ∷ 1 ∷ 12 ∷ [])), 2) ∷ (Some (dg (40 ∷ 0 ∷ 0 ∷ 8 ∷ [])), 1) ∷ [])
+  pub missing : map (missing_of c k units) (record { digest = dg (40 ∷ 0 ∷ 0 ∷ 8 ∷ []); unit = u0 } ∷ record { digest = dg (40 ∷ 0 ∷ 2 ∷ 16 ∷ []); unit = u3 } ∷ record { digest = dg (46 ∷ 0 ∷ 1 ∷ 8 ∷ []); unit = u1 } ∷ record { digest = dg (90 ∷ 0 ∷ 1 ∷ 12 ∷ []); unit = u2 } ∷ []) ≡ (([] ∷ [] ∷ [] ∷ [] ∷ []))
+  pub rules : map (state_rule c units) (record { digest = dg (40 ∷ 0 ∷ 0 ∷ 8 ∷ []); unit = u0 } ∷ record { digest = dg (40 ∷ 0 ∷ 2 ∷ 16 ∷ []); unit = u3 } ∷ record { digest = dg (46 ∷ 0 ∷ 1 ∷ 8 ∷ []); unit = u1 } ∷ record { digest = dg (90 ∷ 0 ∷ 1 ∷ 12 ∷ []); unit = u2 } ∷ []) ≡ (None ∷ None ∷ Some (rule.NotLeader) ∷ None ∷ [])
+  pub naive : (has_naive_fork (past units (Correct (dg (40 ∷ 0 ∷ 0 ∷ 8 ∷ [])) ∷ Absent ∷ Faulty ∷ [])) [] ∷ has_naive_fork (past units (Correct (dg (40 ∷ 0 ∷ 0 ∷ 8 ∷ [])) ∷ Absent ∷ Absent ∷ [])) [] ∷ has_naive_fork (past units (Faulty ∷ Faulty ∷ Faulty ∷ [])) [] ∷ has_naive_fork (past units (Correct (dg (40 ∷ 0 ∷ 0 ∷ 8 ∷ [])) ∷ Absent ∷ Faulty ∷ [])) (dg (40 ∷ 0 ∷ 0 ∷ 8 ∷ []) ∷ []) ∷ []) ≡ (false ∷ false ∷ false ∷ false ∷ [])
+  pub steps : (step s k 0 11 (118 ∷ []) ∷ step s k 0 19 (118 ∷ []) ∷ step s k 1 19 (118 ∷ []) ∷ step s k 1 17 (118 ∷ []) ∷ step s k 2 17 (118 ∷ []) ∷ step s k 2 14 (118 ∷ []) ∷ []) ≡ plans
+  pub culprits : culprits_of s j j2 ≡ []
+  pub summits : (committee_test c.weights units (Correct (dg (40 ∷ 0 ∷ 2 ∷ 16 ∷ [])) ∷ Absent ∷ Absent ∷ []) (record { digest = dg (40 ∷ 0 ∷ 0 ∷ 8 ∷ []); unit = record { instance = dg (0 ∷ 0 ∷ 0 ∷ 0 ∷ []); creator = 0; seq = 0; time = 8; exponent = 2; panorama = (Absent ∷ Absent ∷ Absent ∷ []); value = Some ((120 ∷ [])); endorsed = [] } }) 1 3 (((0, 2) ∷ []) ∷ [] ∷ []) ∷ committee_test c.weights units (Correct (dg (40 ∷ 0 ∷ 2 ∷ 16 ∷ [])) ∷ Absent ∷ Absent ∷ []) (record { digest = dg (40 ∷ 0 ∷ 0 ∷ 8 ∷ []); unit = record { instance = dg (0 ∷ 0 ∷ 0 ∷ 0 ∷ []); creator = 0; seq = 0; time = 8; exponent = 2; panorama = (Absent ∷ Absent ∷ Absent ∷ []); value = Some ((120 ∷ [])); endorsed = [] } }) 1 3 ([] ∷ [] ∷ []) ∷ committee_test c.weights units (Correct (dg (40 ∷ 0 ∷ 2 ∷ 16 ∷ [])) ∷ Absent ∷ Absent ∷ []) (record { digest = dg (40 ∷ 0 ∷ 0 ∷ 8 ∷ []); unit = record { instance = dg (0 ∷ 0 ∷ 0 ∷ 0 ∷ []); creator = 0; seq = 0; time = 8; exponent = 2; panorama = (Absent ∷ Absent ∷ Absent ∷ []); value = Some ((120 ∷ [])); endorsed = [] } }) 2 2 (((0, 0) ∷ []) ∷ ((0, 1) ∷ []) ∷ ((0, 2) ∷ []) ∷ []) ∷ committee_test c.weights units (Correct (dg (40 ∷ 0 ∷ 2 ∷ 16 ∷ [])) ∷ Absent ∷ Absent ∷ []) (record { digest = dg (40 ∷ 0 ∷ 0 ∷ 8 ∷ []); unit = record { instance = dg (0 ∷ 0 ∷ 0 ∷ 0 ∷ []); creator = 0; seq = 0; time = 8; exponent = 2; panorama = (Absent ∷ Absent ∷ Absent ∷ []); value = Some ((120 ∷ [])); endorsed = [] } }) 2 2 ([] ∷ [] ∷ [] ∷ []) ∷ committee_test c.weights units (Correct (dg (40 ∷ 0 ∷ 2 ∷ 16 ∷ [])) ∷ Absent ∷ Absent ∷ []) (record { digest = dg (40 ∷ 0 ∷ 2 ∷ 16 ∷ []); unit = record { instance = dg (0 ∷ 0 ∷ 0 ∷ 0 ∷ []); creator = 0; seq = 2; time = 16; exponent = 2; panorama = (Correct (dg (90 ∷ 0 ∷ 1 ∷ 12 ∷ [])) ∷ Absent ∷ Absent ∷ []); value = Some ((119 ∷ [])); endorsed = [] } }) 1 2 ([] ∷ [] ∷ []) ∷ committee_test c.weights units (Correct (dg (40 ∷ 0 ∷ 2 ∷ 16 ∷ [])) ∷ Absent ∷ Absent ∷ []) (record { digest = dg (40 ∷ 0 ∷ 2 ∷ 16 ∷ []); unit = record { instance = dg (0 ∷ 0 ∷ 0 ∷ 0 ∷ []); creator = 0; seq = 2; time = 16; exponent = 2; panorama = (Correct (dg (90 ∷ 0 ∷ 1 ∷ 12 ∷ [])) ∷ Absent ∷ Absent ∷ []); value = Some ((119 ∷ [])); endorsed = [] } }) 1 2 ([] ∷ [] ∷ []) ∷ committee_test c.weights units (Correct (dg (40 ∷ 0 ∷ 2 ∷ 16 ∷ [])) ∷ Absent ∷ Absent ∷ []) (record { digest = dg (40 ∷ 0 ∷ 2 ∷ 16 ∷ []); unit = record { instance = dg (0 ∷ 0 ∷ 0 ∷ 0 ∷ []); creator = 0; seq = 2; time = 16; exponent = 2; panorama = (Correct (dg (90 ∷ 0 ∷ 1 ∷ 12 ∷ [])) ∷ Absent ∷ Absent ∷ []); value = Some ((119 ∷ [])); endorsed = [] } }) 2 2 (((0, 1) ∷ []) ∷ ((0, 2) ∷ []) ∷ ((0, 2) ∷ []) ∷ []) ∷ committee_test c.weights units (Correct (dg (40 ∷ 0 ∷ 2 ∷ 16 ∷ [])) ∷ Absent ∷ Absent ∷ []) (record { digest = dg (40 ∷ 0 ∷ 2 ∷ 16 ∷ []); unit = record { instance = dg (0 ∷ 0 ∷ 0 ∷ 0 ∷ []); creator = 0; seq = 2; time = 16; exponent = 2; panorama = (Correct (dg (90 ∷ 0 ∷ 1 ∷ 12 ∷ [])) ∷ Absent ∷ Absent ∷ []); value = Some ((119 ∷ [])); endorsed = [] } }) 2 2 ([] ∷ [] ∷ [] ∷ []) ∷ committee_test c.weights units (Absent ∷ Absent ∷ Absent ∷ []) (record { digest = dg (40 ∷ 0 ∷ 2 ∷ 16 ∷ []); unit = record { instance = dg (0 ∷ 0 ∷ 0 ∷ 0 ∷ []); creator = 0; seq = 2; time = 16; exponent = 2; panorama = (Correct (dg (90 ∷ 0 ∷ 1 ∷ 12 ∷ [])) ∷ Absent ∷ Absent ∷ []); value = Some ((119 ∷ [])); endorsed = [] } }) 1 2 ([] ∷ [] ∷ []) ∷ committee_test c.weights units (Absent ∷ Absent ∷ Absent ∷ []) (record { digest = dg (40 ∷ 0 ∷ 2 ∷ 16 ∷ []); unit = record { instance = dg (0 ∷ 0 ∷ 0 ∷ 0 ∷ []); creator = 0; seq = 2; time = 16; exponent = 2; panorama = (Correct (dg (90 ∷ 0 ∷ 1 ∷ 12 ∷ [])) ∷ Absent ∷ Absent ∷ []); value = Some ((119 ∷ [])); endorsed = [] } }) 1 2 ([] ∷ [] ∷ []) ∷ committee_test c.weights units (Absent ∷ Absent ∷ Absent ∷ []) (record { digest = dg (40 ∷ 0 ∷ 2 ∷ 16 ∷ []); unit = record { instance = dg (0 ∷ 0 ∷ 0 ∷ 0 ∷ []); creator = 0; seq = 2; time = 16; exponent = 2; panorama = (Correct (dg (90 ∷ 0 ∷ 1 ∷ 12 ∷ [])) ∷ Absent ∷ Absent ∷ []); value = Some ((119 ∷ [])); endorsed = [] } }) 2 3 ([] ∷ [] ∷ [] ∷ []) ∷ committee_test c.weights units (Absent ∷ Absent ∷ Absent ∷ []) (record { digest = dg (40 ∷ 0 ∷ 2 ∷ 16 ∷ []); unit = record { instance = dg (0 ∷ 0 ∷ 0 ∷ 0 ∷ []); creator = 0; seq = 2; time = 16; exponent = 2; panorama = (Correct (dg (90 ∷ 0 ∷ 1 ∷ 12 ∷ [])) ∷ Absent ∷ Absent ∷ []); value = Some ((119 ∷ [])); endorsed = [] } }) 2 3 ([] ∷ [] ∷ [] ∷ []) ∷ committee_test c.weights units (Absent ∷ Absent ∷ Absent ∷ []) (record { digest = dg (90 ∷ 0 ∷ 1 ∷ 12 ∷ []); unit = record { instance = dg (0 ∷ 0 ∷ 0 ∷ 0 ∷ []); creator = 0; seq = 1; time = 12; exponent = 2; panorama = (Correct (dg (40 ∷ 0 ∷ 0 ∷ 8 ∷ [])) ∷ Absent ∷ Absent ∷ []); value = Some ((121 ∷ [])); endorsed = [] } }) 1 2 ([] ∷ [] ∷ []) ∷ committee_test c.weights units (Absent ∷ Absent ∷ Absent ∷ []) (record { digest = dg (90 ∷ 0 ∷ 1 ∷ 12 ∷ []); unit = record { instance = dg (0 ∷ 0 ∷ 0 ∷ 0 ∷ []); creator = 0; seq = 1; time = 12; exponent = 2; panorama = (Correct (dg (40 ∷ 0 ∷ 0 ∷ 8 ∷ [])) ∷ Absent ∷ Absent ∷ []); value = Some ((121 ∷ [])); endorsed = [] } }) 1 2 ([] ∷ [] ∷ []) ∷ committee_test c.weights units (Absent ∷ Absent ∷ Absent ∷ []) (record { digest = dg (90 ∷ 0 ∷ 1 ∷ 12 ∷ []); unit = record { instance = dg (0 ∷ 0 ∷ 0 ∷ 0 ∷ []); creator = 0; seq = 1; time = 12; exponent = 2; panorama = (Correct (dg (40 ∷ 0 ∷ 0 ∷ 8 ∷ [])) ∷ Absent ∷ Absent ∷ []); value = Some ((121 ∷ [])); endorsed = [] } }) 2 1 ([] ∷ [] ∷ [] ∷ []) ∷ committee_test c.weights units (Absent ∷ Absent ∷ Absent ∷ []) (record { digest = dg (90 ∷ 0 ∷ 1 ∷ 12 ∷ []); unit = record { instance = dg (0 ∷ 0 ∷ 0 ∷ 0 ∷ []); creator = 0; seq = 1; time = 12; exponent = 2; panorama = (Correct (dg (40 ∷ 0 ∷ 0 ∷ 8 ∷ [])) ∷ Absent ∷ Absent ∷ []); value = Some ((121 ∷ [])); endorsed = [] } }) 2 1 ([] ∷ [] ∷ [] ∷ []) ∷ []) ≡ (false ∷ false ∷ false ∷ false ∷ false ∷ false ∷ false ∷ false ∷ false ∷ false ∷ false ∷ false ∷ false ∷ false ∷ false ∷ false ∷ [])

@@ -1,32 +1,20 @@
 -- Words for the samples of journals.
-use Rattle.std.specs.Prelude.{ℕ, zero, suc, ◌+◌, ◌-◌, ◌*◌, ◌%◌, Bool, true, not, nat_le, nat_lt, ◌==◌, ◌&&◌, ◌||◌, if◌then◌else◌, slice_index_or, List, [], ◌∷◌, length, map, filter, sum, Option, Some, None, Result}
+use Rattle.std.specs.Prelude.{ℕ, zero, suc, ◌+◌, ◌-◌, ◌*◌, ◌%◌, Bool, true, not, nat_le, nat_lt, ◌==◌, ◌&&◌, ◌||◌, if◌then◌else◌, slice_index_or, List, [], ◌∷◌, length, map, filter, sum, Option, Some, None}
 use Rattle.hw_types.specs.declared.unit.Digest.{Digest}
 use Rattle.hw_types.specs.declared.unit.Obs.{Obs}
 use Rattle.hw_types.specs.declared.unit.WireUnit.{WireUnit}
 use Rattle.hw_types.specs.declared.unit.Vertex.{Vertex}
 use Rattle.hw_types.specs.declared.unit.Vertex.TheVariants as vertex
 use Rattle.hw_types.specs.declared.config.Config.{Config}
-use Rattle.hw_types.specs.declared.answers.Receipt.{Receipt}
-use Rattle.hw_types.specs.declared.answers.Cause.{Cause}
 use Rattle.std.specs.List.{list_any, list_all}
 use Rattle.hw_types.specs.Graph.{Node, is_some_and, latest, is_on_lane}
 use Rattle.hw_types.specs.Summit.{Committees, seen_weight}
 use Rattle.hw_types.specs.Votes.{unit_fork, vote_of, height_of, is_block, votes_for}
-use Rattle.hw_types.specs.Settled.{Received, missing_of, settled_of}
 use Rattle.hw_types.specs.Journal.{Setting}
-use Rattle.hw_types.specs.Culprits.{pair_of, culprits_of, shown_in_either}
-use Rattle.hw_samples.specs.StateSamples.{unfold_state}
-use Rattle.hw_samples.specs.DeliverySamples.{unfold_answers}
-use Rattle.hw_samples.specs.StepSamples.{unfold_steps}
+use Rattle.hw_samples.specs.Words.{name_of, unfold_steps}
 
 abbrev pub dg : List ℕ → Digest
 dg bytes = record { 0 = bytes }
-
-abbrev pub sent : WireUnit → Vertex
-sent u = vertex.Unit (record { unit = u; signature = record { 0 = [] } })
-
-abbrev pub both : WireUnit → WireUnit → Vertex
-both u v = vertex.Evidence (record { left = record { unit = u; signature = record { 0 = [] } }; right = record { unit = v; signature = record { 0 = [] } } })
 
 abbrev pub sent_as : List ℕ → WireUnit → Vertex
 sent_as by u = vertex.Unit (record { unit = u; signature = record { 0 = by } })
@@ -52,35 +40,25 @@ narrow u = dg ((u.time + u.seq * 3 + value_code u.value) % 5 ∷ u.creator ∷ 0
 abbrev pub named_by : (WireUnit → Digest) → Config → Setting
 named_by name config = record { config = config; instance = dg (0 ∷ 0 ∷ 0 ∷ 0 ∷ []); name = name }
 
-abbrev pub names_of : List Node → List Digest
-names_of xs = map (λ x. x.digest) xs
-
-abbrev pub name_of : Option Node → Option Digest
-name_of None = None
-name_of (Some x) = Some x.digest
-
 abbrev pub votes_in : Config → List Node → List (Option Digest)
 votes_in c units = map (λ u. name_of (vote_of (unit_fork c.weights units) u)) units
 
 abbrev pub parents_in : Config → List Node → List (Option Digest × ℕ)
 parents_in c units = map (λ u. (name_of (unit_fork c.weights units u), height_of c.weights units u)) (filter is_block units)
 
-abbrev pub Answers : Type 0
-Answers = List (Result Receipt Cause)
-
 -- ---- the words of a summit as a test, for committees given as tables of members and starts
 
-abbrev pub Table2 : Type 0
-Table2 = List (List (ℕ × ℕ))
+abbrev pub StartTables : Type 0
+StartTables = List (List (ℕ × ℕ))
 
-abbrev pub level_of : Table2 → ℕ → List (ℕ × ℕ)
+abbrev pub level_of : StartTables → ℕ → List (ℕ × ℕ)
 level_of table j = slice_index_or table j []
 
 abbrev pub start_in : List (ℕ × ℕ) → ℕ → ℕ
 start_in [] v = 0
 start_in (p ∷ ps) v = if p.0 == v then p.1 else start_in ps v
 
-abbrev pub committees_of : Table2 → Committees
+abbrev pub committees_of : StartTables → Committees
 committees_of table = record { member = λ j v. list_any (λ p. p.0 == v) (level_of table j); start = λ j v. start_in (level_of table j) v }
 
 -- each level from 1 to this one
@@ -92,7 +70,7 @@ abbrev pub from_start : List Node → Option Node → ℕ → (Node → Bool) �
 from_start units last from test =
     is_some_and (λ u. nat_le from u.unit.seq && list_all (λ x. not (is_on_lane units x u && nat_le from x.unit.seq) || test x) units) last
 
-unfoldable pub committee_test : List ℕ → List Node → List Obs → Node → ℕ → ℕ → Table2 → Bool
+unfoldable pub committee_test : List ℕ → List Node → List Obs → Node → ℕ → ℕ → StartTables → Bool
 committee_test weights units panorama block level quorum table =
     let c = committees_of table in
     list_all (λ p. nat_lt p.0 (length weights)) (level_of table 0)
@@ -102,5 +80,5 @@ committee_test weights units panorama block level quorum table =
     && each_level level (λ j. list_all (λ p. from_start units (latest units panorama p.0) p.1 (λ x. nat_le quorum (seen_weight weights units c j x))) (level_of table j)))))
 
 unfoldable pub unfold_all : Type 0
-unfolding unfold_state unfold_answers unfold_steps committee_test Rattle.hw_types.specs.Settled.dropped_of Rattle.hw_types.specs.Culprits.pair_of Rattle.hw_types.specs.Culprits.culprits_of Rattle.hw_types.specs.Rounds.drawn_number
+unfolding unfold_steps committee_test Rattle.hw_types.specs.Rounds.drawn_number
 unfold_all = Unit {0}

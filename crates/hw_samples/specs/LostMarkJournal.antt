@@ -1,5 +1,6 @@
--- A hand-made journal: lost mark.
-use Rattle.std.specs.Prelude.{◌≡◌, true, false, List, [], ◌∷◌, map, Option, Some, None, Ok, refl}
+-- Units that cite one with a mark, and lack the mark themselves, are inconsistent.
+-- The values are those of a second reading of the definitions, written apart from them; the two agree.
+use Rattle.std.specs.Prelude.{◌≡◌, true, false, List, [], ◌∷◌, map, Option, Some, None, Ok}
 use Rattle.hw_types.specs.declared.unit.Obs.TheVariants.{Absent, Correct, Faulty}
 use Rattle.hw_types.specs.declared.unit.WireUnit.{WireUnit}
 use Rattle.hw_types.specs.declared.unit.Vertex.{Vertex}
@@ -15,7 +16,8 @@ use Rattle.hw_types.specs.Settled.{Received, settled_of, parked_of, dropped_of, 
 use Rattle.hw_types.specs.Journal.{Setting, received_of, journal_of, answers_from}
 use Rattle.hw_types.specs.Step.{step}
 use Rattle.hw_types.specs.Culprits.{culprits_of, pair_of, shown_in_either}
-use Rattle.hw_samples.specs.JournalWords.{unfold_all, dg, sent_as, mixed, named_by, names_of, name_of, votes_in, parents_in, committee_test}
+use Rattle.hw_samples.specs.Words.{names_of, name_of}
+use Rattle.hw_samples.specs.JournalWords.{dg, sent_as, mixed, named_by, votes_in, parents_in, committee_test}
 
 abbrev c : Config
 c = record { weights = (1 ∷ 1 ∷ 1 ∷ []); ftt = 0; levels = 2; min_exponent = 2; max_exponent = 4; leaders = Table (0 ∷ []); max_records = 131072; max_parked = 4096; end = None }
@@ -44,10 +46,6 @@ u5 = record { instance = dg (0 ∷ 0 ∷ 0 ∷ 0 ∷ []); creator = 0; seq = 1; 
 abbrev u6 : WireUnit
 u6 = record { instance = dg (0 ∷ 0 ∷ 0 ∷ 0 ∷ []); creator = 0; seq = 1; time = 14; exponent = 2; panorama = (Correct (dg (40 ∷ 0 ∷ 0 ∷ 8 ∷ [])) ∷ Faulty ∷ Correct (dg (47 ∷ 2 ∷ 0 ∷ 11 ∷ [])) ∷ []); value = None; endorsed = [] }
 
-answers : answers_from s [] ((sent_as [] u0, true) ∷ (sent_as [] u1, true) ∷ (sent_as [] u2, true) ∷ (sent_as [] u3, true) ∷ (sent_as [] u4, true) ∷ (sent_as [] u5, true) ∷ (sent_as [] u6, true) ∷ []) ≡ ((Ok (receipt.Admitted 1) ∷ Ok (receipt.Admitted 1) ∷ Ok (receipt.Admitted 1) ∷ Ok (receipt.Admitted 1) ∷ Ok (receipt.Dropped rule.Inconsistent) ∷ Ok (receipt.Dropped rule.Inconsistent) ∷ Ok (receipt.Admitted 1) ∷ []))
-unfolding unfold_all
-answers = refl
-
 abbrev j_shuffled : List Vertex
 j_shuffled = (sent_as [] u4 ∷ sent_as [] u3 ∷ sent_as [] u2 ∷ sent_as [] u5 ∷ sent_as [] u6 ∷ sent_as [] u1 ∷ sent_as [] u0 ∷ [])
 
@@ -57,79 +55,31 @@ j = (sent_as [] u0 ∷ sent_as [] u1 ∷ sent_as [] u2 ∷ sent_as [] u3 ∷ sen
 abbrev k : Received
 k = received_of s j
 
-order : received_of s j_shuffled ≡ k
-unfolding unfold_all
-order = refl
-
-kept : journal_of s ((sent_as [] u0, true) ∷ (sent_as [] u1, true) ∷ (sent_as [] u2, true) ∷ (sent_as [] u3, true) ∷ (sent_as [] u4, true) ∷ (sent_as [] u5, true) ∷ (sent_as [] u6, true) ∷ []) ≡ j
-unfolding unfold_all
-kept = refl
-
 abbrev units : List Node
 units = (record { digest = dg (18 ∷ 1 ∷ 0 ∷ 9 ∷ []); unit = u1 } ∷ record { digest = dg (29 ∷ 1 ∷ 0 ∷ 10 ∷ []); unit = u2 } ∷ record { digest = dg (40 ∷ 0 ∷ 0 ∷ 8 ∷ []); unit = u0 } ∷ record { digest = dg (47 ∷ 2 ∷ 0 ∷ 11 ∷ []); unit = u3 } ∷ record { digest = dg (71 ∷ 0 ∷ 1 ∷ 14 ∷ []); unit = u6 } ∷ [])
-
-settled : settled_of c k ≡ units
-unfolding unfold_all
-settled = refl
-
-parked : names_of (parked_of c k) ≡ []
-unfolding unfold_all
-parked = refl
-
-dropped : names_of (dropped_of c k) ≡ (dg (49 ∷ 0 ∷ 1 ∷ 12 ∷ []) ∷ dg (60 ∷ 0 ∷ 1 ∷ 13 ∷ []) ∷ [])
-unfolding unfold_all
-dropped = refl
-
-panorama : panorama_of c k ≡ (Correct (dg (71 ∷ 0 ∷ 1 ∷ 14 ∷ [])) ∷ Faulty ∷ Correct (dg (47 ∷ 2 ∷ 0 ∷ 11 ∷ [])) ∷ [])
-unfolding unfold_all
-panorama = refl
-
-weight : faulty_weight c k ≡ 1
-unfolding unfold_all
-weight = refl
-
-fork : name_of (fork_choice c k) ≡ Some (dg (40 ∷ 0 ∷ 0 ∷ 8 ∷ []))
-unfolding unfold_all
-fork = refl
-
-votes : votes_in c units ≡ (Some (dg (40 ∷ 0 ∷ 0 ∷ 8 ∷ [])) ∷ Some (dg (40 ∷ 0 ∷ 0 ∷ 8 ∷ [])) ∷ Some (dg (40 ∷ 0 ∷ 0 ∷ 8 ∷ [])) ∷ Some (dg (40 ∷ 0 ∷ 0 ∷ 8 ∷ [])) ∷ Some (dg (40 ∷ 0 ∷ 0 ∷ 8 ∷ [])) ∷ [])
-unfolding unfold_all
-votes = refl
-
-heights : parents_in c units ≡ ((None, 0) ∷ [])
-unfolding unfold_all
-heights = refl
-
-missing : map (missing_of c k units) (record { digest = dg (18 ∷ 1 ∷ 0 ∷ 9 ∷ []); unit = u1 } ∷ record { digest = dg (29 ∷ 1 ∷ 0 ∷ 10 ∷ []); unit = u2 } ∷ record { digest = dg (40 ∷ 0 ∷ 0 ∷ 8 ∷ []); unit = u0 } ∷ record { digest = dg (47 ∷ 2 ∷ 0 ∷ 11 ∷ []); unit = u3 } ∷ record { digest = dg (49 ∷ 0 ∷ 1 ∷ 12 ∷ []); unit = u4 } ∷ record { digest = dg (60 ∷ 0 ∷ 1 ∷ 13 ∷ []); unit = u5 } ∷ record { digest = dg (71 ∷ 0 ∷ 1 ∷ 14 ∷ []); unit = u6 } ∷ []) ≡ (([] ∷ [] ∷ [] ∷ [] ∷ [] ∷ [] ∷ [] ∷ []))
-unfolding unfold_all
-missing = refl
-
-rules : map (state_rule c units) (record { digest = dg (18 ∷ 1 ∷ 0 ∷ 9 ∷ []); unit = u1 } ∷ record { digest = dg (29 ∷ 1 ∷ 0 ∷ 10 ∷ []); unit = u2 } ∷ record { digest = dg (40 ∷ 0 ∷ 0 ∷ 8 ∷ []); unit = u0 } ∷ record { digest = dg (47 ∷ 2 ∷ 0 ∷ 11 ∷ []); unit = u3 } ∷ record { digest = dg (49 ∷ 0 ∷ 1 ∷ 12 ∷ []); unit = u4 } ∷ record { digest = dg (60 ∷ 0 ∷ 1 ∷ 13 ∷ []); unit = u5 } ∷ record { digest = dg (71 ∷ 0 ∷ 1 ∷ 14 ∷ []); unit = u6 } ∷ []) ≡ (None ∷ None ∷ None ∷ None ∷ Some (rule.Inconsistent) ∷ Some (rule.Inconsistent) ∷ None ∷ [])
-unfolding unfold_all
-rules = refl
-
-naive : (has_naive_fork (past units (Correct (dg (40 ∷ 0 ∷ 0 ∷ 8 ∷ [])) ∷ Correct (dg (18 ∷ 1 ∷ 0 ∷ 9 ∷ [])) ∷ Correct (dg (47 ∷ 2 ∷ 0 ∷ 11 ∷ [])) ∷ [])) [] ∷ has_naive_fork (past units (Correct (dg (40 ∷ 0 ∷ 0 ∷ 8 ∷ [])) ∷ Correct (dg (29 ∷ 1 ∷ 0 ∷ 10 ∷ [])) ∷ Correct (dg (47 ∷ 2 ∷ 0 ∷ 11 ∷ [])) ∷ [])) [] ∷ has_naive_fork (past units (Correct (dg (40 ∷ 0 ∷ 0 ∷ 8 ∷ [])) ∷ Correct (dg (29 ∷ 1 ∷ 0 ∷ 10 ∷ [])) ∷ Correct (dg (47 ∷ 2 ∷ 0 ∷ 11 ∷ [])) ∷ [])) (dg (40 ∷ 0 ∷ 0 ∷ 8 ∷ []) ∷ []) ∷ has_naive_fork (past units (Correct (dg (71 ∷ 0 ∷ 1 ∷ 14 ∷ [])) ∷ Correct (dg (18 ∷ 1 ∷ 0 ∷ 9 ∷ [])) ∷ Correct (dg (47 ∷ 2 ∷ 0 ∷ 11 ∷ [])) ∷ [])) (dg (71 ∷ 0 ∷ 1 ∷ 14 ∷ []) ∷ []) ∷ []) ≡ (false ∷ false ∷ false ∷ false ∷ [])
-unfolding unfold_all
-naive = refl
 
 abbrev plans : List (Option Plan)
 plans = (None ∷ None ∷ None ∷ None ∷ None ∷ Some (record { kind = kind.Witness; unit = record { instance = dg (0 ∷ 0 ∷ 0 ∷ 0 ∷ []); creator = 2; seq = 1; time = 18; exponent = 2; panorama = (Correct (dg (71 ∷ 0 ∷ 1 ∷ 14 ∷ [])) ∷ Faulty ∷ Correct (dg (47 ∷ 2 ∷ 0 ∷ 11 ∷ [])) ∷ []); value = None; endorsed = [] } }) ∷ [])
 
-steps : (step s k 0 11 (118 ∷ []) ∷ step s k 0 12 (118 ∷ []) ∷ step s k 1 15 (118 ∷ []) ∷ step s k 1 16 (118 ∷ []) ∷ step s k 2 10 (118 ∷ []) ∷ step s k 2 18 (118 ∷ []) ∷ []) ≡ plans
-unfolding unfold_all
-steps = refl
-
 abbrev j2 : List Vertex
 j2 = (sent_as [] u1 ∷ sent_as [] u4 ∷ sent_as [] u3 ∷ sent_as [] u0 ∷ sent_as [] u2 ∷ sent_as [] u6 ∷ sent_as [] u5 ∷ [])
 
-culprits : culprits_of s j j2 ≡ (1 ∷ [])
-unfolding unfold_all
-culprits = refl
-
-pair1 : pair_of (shown_in_either s j j2) 1 ≡ Some (record { digest = dg (18 ∷ 1 ∷ 0 ∷ 9 ∷ []); unit = u1 }, record { digest = dg (29 ∷ 1 ∷ 0 ∷ 10 ∷ []); unit = u2 })
-unfolding unfold_all
-pair1 = refl
-
-summits : (committee_test c.weights units (Correct (dg (71 ∷ 0 ∷ 1 ∷ 14 ∷ [])) ∷ Faulty ∷ Correct (dg (47 ∷ 2 ∷ 0 ∷ 11 ∷ [])) ∷ []) (record { digest = dg (40 ∷ 0 ∷ 0 ∷ 8 ∷ []); unit = record { instance = dg (0 ∷ 0 ∷ 0 ∷ 0 ∷ []); creator = 0; seq = 0; time = 8; exponent = 2; panorama = (Absent ∷ Absent ∷ Absent ∷ []); value = Some ((120 ∷ [])); endorsed = [] } }) 1 2 (((0, 1) ∷ (2, 0) ∷ []) ∷ ((0, 1) ∷ (2, 0) ∷ []) ∷ []) ∷ committee_test c.weights units (Correct (dg (71 ∷ 0 ∷ 1 ∷ 14 ∷ [])) ∷ Faulty ∷ Correct (dg (47 ∷ 2 ∷ 0 ∷ 11 ∷ [])) ∷ []) (record { digest = dg (40 ∷ 0 ∷ 0 ∷ 8 ∷ []); unit = record { instance = dg (0 ∷ 0 ∷ 0 ∷ 0 ∷ []); creator = 0; seq = 0; time = 8; exponent = 2; panorama = (Absent ∷ Absent ∷ Absent ∷ []); value = Some ((120 ∷ [])); endorsed = [] } }) 1 2 ([] ∷ [] ∷ []) ∷ committee_test c.weights units (Correct (dg (71 ∷ 0 ∷ 1 ∷ 14 ∷ [])) ∷ Faulty ∷ Correct (dg (47 ∷ 2 ∷ 0 ∷ 11 ∷ [])) ∷ []) (record { digest = dg (40 ∷ 0 ∷ 0 ∷ 8 ∷ []); unit = record { instance = dg (0 ∷ 0 ∷ 0 ∷ 0 ∷ []); creator = 0; seq = 0; time = 8; exponent = 2; panorama = (Absent ∷ Absent ∷ Absent ∷ []); value = Some ((120 ∷ [])); endorsed = [] } }) 2 2 (((0, 0) ∷ (2, 0) ∷ []) ∷ ((0, 1) ∷ (2, 0) ∷ []) ∷ ((0, 1) ∷ (2, 0) ∷ []) ∷ []) ∷ committee_test c.weights units (Correct (dg (71 ∷ 0 ∷ 1 ∷ 14 ∷ [])) ∷ Faulty ∷ Correct (dg (47 ∷ 2 ∷ 0 ∷ 11 ∷ [])) ∷ []) (record { digest = dg (40 ∷ 0 ∷ 0 ∷ 8 ∷ []); unit = record { instance = dg (0 ∷ 0 ∷ 0 ∷ 0 ∷ []); creator = 0; seq = 0; time = 8; exponent = 2; panorama = (Absent ∷ Absent ∷ Absent ∷ []); value = Some ((120 ∷ [])); endorsed = [] } }) 2 2 (((0, 0) ∷ (2, 0) ∷ []) ∷ ((0, 1) ∷ (2, 0) ∷ []) ∷ ((0, 1) ∷ (2, 0) ∷ []) ∷ []) ∷ committee_test c.weights units (Correct (dg (40 ∷ 0 ∷ 0 ∷ 8 ∷ [])) ∷ Absent ∷ Absent ∷ []) (record { digest = dg (40 ∷ 0 ∷ 0 ∷ 8 ∷ []); unit = record { instance = dg (0 ∷ 0 ∷ 0 ∷ 0 ∷ []); creator = 0; seq = 0; time = 8; exponent = 2; panorama = (Absent ∷ Absent ∷ Absent ∷ []); value = Some ((120 ∷ [])); endorsed = [] } }) 1 2 (((0, 0) ∷ []) ∷ ((0, 0) ∷ []) ∷ []) ∷ committee_test c.weights units (Correct (dg (40 ∷ 0 ∷ 0 ∷ 8 ∷ [])) ∷ Absent ∷ Absent ∷ []) (record { digest = dg (40 ∷ 0 ∷ 0 ∷ 8 ∷ []); unit = record { instance = dg (0 ∷ 0 ∷ 0 ∷ 0 ∷ []); creator = 0; seq = 0; time = 8; exponent = 2; panorama = (Absent ∷ Absent ∷ Absent ∷ []); value = Some ((120 ∷ [])); endorsed = [] } }) 1 2 (((0, 0) ∷ []) ∷ ((0, 0) ∷ []) ∷ []) ∷ committee_test c.weights units (Correct (dg (40 ∷ 0 ∷ 0 ∷ 8 ∷ [])) ∷ Absent ∷ Absent ∷ []) (record { digest = dg (40 ∷ 0 ∷ 0 ∷ 8 ∷ []); unit = record { instance = dg (0 ∷ 0 ∷ 0 ∷ 0 ∷ []); creator = 0; seq = 0; time = 8; exponent = 2; panorama = (Absent ∷ Absent ∷ Absent ∷ []); value = Some ((120 ∷ [])); endorsed = [] } }) 2 2 (((0, 0) ∷ []) ∷ ((0, 0) ∷ []) ∷ ((0, 0) ∷ []) ∷ []) ∷ committee_test c.weights units (Correct (dg (40 ∷ 0 ∷ 0 ∷ 8 ∷ [])) ∷ Absent ∷ Absent ∷ []) (record { digest = dg (40 ∷ 0 ∷ 0 ∷ 8 ∷ []); unit = record { instance = dg (0 ∷ 0 ∷ 0 ∷ 0 ∷ []); creator = 0; seq = 0; time = 8; exponent = 2; panorama = (Absent ∷ Absent ∷ Absent ∷ []); value = Some ((120 ∷ [])); endorsed = [] } }) 2 2 (((0, 0) ∷ []) ∷ ((0, 0) ∷ []) ∷ [] ∷ []) ∷ []) ≡ (false ∷ false ∷ false ∷ false ∷ false ∷ false ∷ false ∷ false ∷ [])
-unfolding unfold_all
-summits = refl
+pub record LostMarkJournal : Type 0 where
+  pub answers : answers_from s [] ((sent_as [] u0, true) ∷ (sent_as [] u1, true) ∷ (sent_as [] u2, true) ∷ (sent_as [] u3, true) ∷ (sent_as [] u4, true) ∷ (sent_as [] u5, true) ∷ (sent_as [] u6, true) ∷ []) ≡ ((Ok (receipt.Admitted 1) ∷ Ok (receipt.Admitted 1) ∷ Ok (receipt.Admitted 1) ∷ Ok (receipt.Admitted 1) ∷ Ok (receipt.Dropped rule.Inconsistent) ∷ Ok (receipt.Dropped rule.Inconsistent) ∷ Ok (receipt.Admitted 1) ∷ []))
+  pub order : received_of s j_shuffled ≡ k
+  pub kept : journal_of s ((sent_as [] u0, true) ∷ (sent_as [] u1, true) ∷ (sent_as [] u2, true) ∷ (sent_as [] u3, true) ∷ (sent_as [] u4, true) ∷ (sent_as [] u5, true) ∷ (sent_as [] u6, true) ∷ []) ≡ j
+  pub settled : settled_of c k ≡ units
+  pub parked : names_of (parked_of c k) ≡ []
+  pub dropped : names_of (dropped_of c k) ≡ (dg (49 ∷ 0 ∷ 1 ∷ 12 ∷ []) ∷ dg (60 ∷ 0 ∷ 1 ∷ 13 ∷ []) ∷ [])
+  pub panorama : panorama_of c k ≡ (Correct (dg (71 ∷ 0 ∷ 1 ∷ 14 ∷ [])) ∷ Faulty ∷ Correct (dg (47 ∷ 2 ∷ 0 ∷ 11 ∷ [])) ∷ [])
+  pub weight : faulty_weight c k ≡ 1
+  pub fork : name_of (fork_choice c k) ≡ Some (dg (40 ∷ 0 ∷ 0 ∷ 8 ∷ []))
+  pub votes : votes_in c units ≡ (Some (dg (40 ∷ 0 ∷ 0 ∷ 8 ∷ [])) ∷ Some (dg (40 ∷ 0 ∷ 0 ∷ 8 ∷ [])) ∷ Some (dg (40 ∷ 0 ∷ 0 ∷ 8 ∷ [])) ∷ Some (dg (40 ∷ 0 ∷ 0 ∷ 8 ∷ [])) ∷ Some (dg (40 ∷ 0 ∷ 0 ∷ 8 ∷ [])) ∷ [])
+  pub heights : parents_in c units ≡ ((None, 0) ∷ [])
+  pub missing : map (missing_of c k units) (record { digest = dg (18 ∷ 1 ∷ 0 ∷ 9 ∷ []); unit = u1 } ∷ record { digest = dg (29 ∷ 1 ∷ 0 ∷ 10 ∷ []); unit = u2 } ∷ record { digest = dg (40 ∷ 0 ∷ 0 ∷ 8 ∷ []); unit = u0 } ∷ record { digest = dg (47 ∷ 2 ∷ 0 ∷ 11 ∷ []); unit = u3 } ∷ record { digest = dg (49 ∷ 0 ∷ 1 ∷ 12 ∷ []); unit = u4 } ∷ record { digest = dg (60 ∷ 0 ∷ 1 ∷ 13 ∷ []); unit = u5 } ∷ record { digest = dg (71 ∷ 0 ∷ 1 ∷ 14 ∷ []); unit = u6 } ∷ []) ≡ (([] ∷ [] ∷ [] ∷ [] ∷ [] ∷ [] ∷ [] ∷ []))
+  pub rules : map (state_rule c units) (record { digest = dg (18 ∷ 1 ∷ 0 ∷ 9 ∷ []); unit = u1 } ∷ record { digest = dg (29 ∷ 1 ∷ 0 ∷ 10 ∷ []); unit = u2 } ∷ record { digest = dg (40 ∷ 0 ∷ 0 ∷ 8 ∷ []); unit = u0 } ∷ record { digest = dg (47 ∷ 2 ∷ 0 ∷ 11 ∷ []); unit = u3 } ∷ record { digest = dg (49 ∷ 0 ∷ 1 ∷ 12 ∷ []); unit = u4 } ∷ record { digest = dg (60 ∷ 0 ∷ 1 ∷ 13 ∷ []); unit = u5 } ∷ record { digest = dg (71 ∷ 0 ∷ 1 ∷ 14 ∷ []); unit = u6 } ∷ []) ≡ (None ∷ None ∷ None ∷ None ∷ Some (rule.Inconsistent) ∷ Some (rule.Inconsistent) ∷ None ∷ [])
+  pub naive : (has_naive_fork (past units (Correct (dg (40 ∷ 0 ∷ 0 ∷ 8 ∷ [])) ∷ Correct (dg (18 ∷ 1 ∷ 0 ∷ 9 ∷ [])) ∷ Correct (dg (47 ∷ 2 ∷ 0 ∷ 11 ∷ [])) ∷ [])) [] ∷ has_naive_fork (past units (Correct (dg (40 ∷ 0 ∷ 0 ∷ 8 ∷ [])) ∷ Correct (dg (29 ∷ 1 ∷ 0 ∷ 10 ∷ [])) ∷ Correct (dg (47 ∷ 2 ∷ 0 ∷ 11 ∷ [])) ∷ [])) [] ∷ has_naive_fork (past units (Correct (dg (40 ∷ 0 ∷ 0 ∷ 8 ∷ [])) ∷ Correct (dg (29 ∷ 1 ∷ 0 ∷ 10 ∷ [])) ∷ Correct (dg (47 ∷ 2 ∷ 0 ∷ 11 ∷ [])) ∷ [])) (dg (40 ∷ 0 ∷ 0 ∷ 8 ∷ []) ∷ []) ∷ has_naive_fork (past units (Correct (dg (71 ∷ 0 ∷ 1 ∷ 14 ∷ [])) ∷ Correct (dg (18 ∷ 1 ∷ 0 ∷ 9 ∷ [])) ∷ Correct (dg (47 ∷ 2 ∷ 0 ∷ 11 ∷ [])) ∷ [])) (dg (71 ∷ 0 ∷ 1 ∷ 14 ∷ []) ∷ []) ∷ []) ≡ (false ∷ false ∷ false ∷ false ∷ [])
+  pub steps : (step s k 0 11 (118 ∷ []) ∷ step s k 0 12 (118 ∷ []) ∷ step s k 1 15 (118 ∷ []) ∷ step s k 1 16 (118 ∷ []) ∷ step s k 2 10 (118 ∷ []) ∷ step s k 2 18 (118 ∷ []) ∷ []) ≡ plans
+  pub culprits : culprits_of s j j2 ≡ (1 ∷ [])
+  pub pair1 : pair_of (shown_in_either s j j2) 1 ≡ Some (record { digest = dg (18 ∷ 1 ∷ 0 ∷ 9 ∷ []); unit = u1 }, record { digest = dg (29 ∷ 1 ∷ 0 ∷ 10 ∷ []); unit = u2 })
+  pub summits : (committee_test c.weights units (Correct (dg (71 ∷ 0 ∷ 1 ∷ 14 ∷ [])) ∷ Faulty ∷ Correct (dg (47 ∷ 2 ∷ 0 ∷ 11 ∷ [])) ∷ []) (record { digest = dg (40 ∷ 0 ∷ 0 ∷ 8 ∷ []); unit = record { instance = dg (0 ∷ 0 ∷ 0 ∷ 0 ∷ []); creator = 0; seq = 0; time = 8; exponent = 2; panorama = (Absent ∷ Absent ∷ Absent ∷ []); value = Some ((120 ∷ [])); endorsed = [] } }) 1 2 (((0, 1) ∷ (2, 0) ∷ []) ∷ ((0, 1) ∷ (2, 0) ∷ []) ∷ []) ∷ committee_test c.weights units (Correct (dg (71 ∷ 0 ∷ 1 ∷ 14 ∷ [])) ∷ Faulty ∷ Correct (dg (47 ∷ 2 ∷ 0 ∷ 11 ∷ [])) ∷ []) (record { digest = dg (40 ∷ 0 ∷ 0 ∷ 8 ∷ []); unit = record { instance = dg (0 ∷ 0 ∷ 0 ∷ 0 ∷ []); creator = 0; seq = 0; time = 8; exponent = 2; panorama = (Absent ∷ Absent ∷ Absent ∷ []); value = Some ((120 ∷ [])); endorsed = [] } }) 1 2 ([] ∷ [] ∷ []) ∷ committee_test c.weights units (Correct (dg (71 ∷ 0 ∷ 1 ∷ 14 ∷ [])) ∷ Faulty ∷ Correct (dg (47 ∷ 2 ∷ 0 ∷ 11 ∷ [])) ∷ []) (record { digest = dg (40 ∷ 0 ∷ 0 ∷ 8 ∷ []); unit = record { instance = dg (0 ∷ 0 ∷ 0 ∷ 0 ∷ []); creator = 0; seq = 0; time = 8; exponent = 2; panorama = (Absent ∷ Absent ∷ Absent ∷ []); value = Some ((120 ∷ [])); endorsed = [] } }) 2 2 (((0, 0) ∷ (2, 0) ∷ []) ∷ ((0, 1) ∷ (2, 0) ∷ []) ∷ ((0, 1) ∷ (2, 0) ∷ []) ∷ []) ∷ committee_test c.weights units (Correct (dg (71 ∷ 0 ∷ 1 ∷ 14 ∷ [])) ∷ Faulty ∷ Correct (dg (47 ∷ 2 ∷ 0 ∷ 11 ∷ [])) ∷ []) (record { digest = dg (40 ∷ 0 ∷ 0 ∷ 8 ∷ []); unit = record { instance = dg (0 ∷ 0 ∷ 0 ∷ 0 ∷ []); creator = 0; seq = 0; time = 8; exponent = 2; panorama = (Absent ∷ Absent ∷ Absent ∷ []); value = Some ((120 ∷ [])); endorsed = [] } }) 2 2 (((0, 0) ∷ (2, 0) ∷ []) ∷ ((0, 1) ∷ (2, 0) ∷ []) ∷ ((0, 1) ∷ (2, 0) ∷ []) ∷ []) ∷ committee_test c.weights units (Correct (dg (40 ∷ 0 ∷ 0 ∷ 8 ∷ [])) ∷ Absent ∷ Absent ∷ []) (record { digest = dg (40 ∷ 0 ∷ 0 ∷ 8 ∷ []); unit = record { instance = dg (0 ∷ 0 ∷ 0 ∷ 0 ∷ []); creator = 0; seq = 0; time = 8; exponent = 2; panorama = (Absent ∷ Absent ∷ Absent ∷ []); value = Some ((120 ∷ [])); endorsed = [] } }) 1 2 (((0, 0) ∷ []) ∷ ((0, 0) ∷ []) ∷ []) ∷ committee_test c.weights units (Correct (dg (40 ∷ 0 ∷ 0 ∷ 8 ∷ [])) ∷ Absent ∷ Absent ∷ []) (record { digest = dg (40 ∷ 0 ∷ 0 ∷ 8 ∷ []); unit = record { instance = dg (0 ∷ 0 ∷ 0 ∷ 0 ∷ []); creator = 0; seq = 0; time = 8; exponent = 2; panorama = (Absent ∷ Absent ∷ Absent ∷ []); value = Some ((120 ∷ [])); endorsed = [] } }) 1 2 (((0, 0) ∷ []) ∷ ((0, 0) ∷ []) ∷ []) ∷ committee_test c.weights units (Correct (dg (40 ∷ 0 ∷ 0 ∷ 8 ∷ [])) ∷ Absent ∷ Absent ∷ []) (record { digest = dg (40 ∷ 0 ∷ 0 ∷ 8 ∷ []); unit = record { instance = dg (0 ∷ 0 ∷ 0 ∷ 0 ∷ []); creator = 0; seq = 0; time = 8; exponent = 2; panorama = (Absent ∷ Absent ∷ Absent ∷ []); value = Some ((120 ∷ [])); endorsed = [] } }) 2 2 (((0, 0) ∷ []) ∷ ((0, 0) ∷ []) ∷ ((0, 0) ∷ []) ∷ []) ∷ committee_test c.weights units (Correct (dg (40 ∷ 0 ∷ 0 ∷ 8 ∷ [])) ∷ Absent ∷ Absent ∷ []) (record { digest = dg (40 ∷ 0 ∷ 0 ∷ 8 ∷ []); unit = record { instance = dg (0 ∷ 0 ∷ 0 ∷ 0 ∷ []); creator = 0; seq = 0; time = 8; exponent = 2; panorama = (Absent ∷ Absent ∷ Absent ∷ []); value = Some ((120 ∷ [])); endorsed = [] } }) 2 2 (((0, 0) ∷ []) ∷ ((0, 0) ∷ []) ∷ [] ∷ []) ∷ []) ≡ (false ∷ false ∷ false ∷ false ∷ false ∷ false ∷ false ∷ false ∷ [])

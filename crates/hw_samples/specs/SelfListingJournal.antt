@@ -1,5 +1,6 @@
--- A hand-made journal: self listing.
-use Rattle.std.specs.Prelude.{◌≡◌, true, false, List, [], ◌∷◌, map, Option, Some, None, Ok, refl}
+-- A unit lists its own endorsed name: it isn't below itself, so it is dropped.
+-- The values are those of a second reading of the definitions, written apart from them; the two agree.
+use Rattle.std.specs.Prelude.{◌≡◌, true, false, List, [], ◌∷◌, map, Option, Some, None, Ok}
 use Rattle.hw_types.specs.declared.unit.Obs.TheVariants.{Absent, Correct}
 use Rattle.hw_types.specs.declared.unit.WireUnit.{WireUnit}
 use Rattle.hw_types.specs.declared.unit.Vertex.{Vertex}
@@ -14,7 +15,8 @@ use Rattle.hw_types.specs.Rules.{state_rule}
 use Rattle.hw_types.specs.Settled.{Received, settled_of, parked_of, dropped_of, missing_of, panorama_of, faulty_weight, fork_choice, is_endorsed}
 use Rattle.hw_types.specs.Journal.{Setting, received_of, journal_of, answers_from}
 use Rattle.hw_types.specs.Step.{step}
-use Rattle.hw_samples.specs.JournalWords.{unfold_all, dg, sent_as, backs, mixed, named_by, names_of, name_of, votes_in, parents_in, committee_test}
+use Rattle.hw_samples.specs.Words.{names_of, name_of}
+use Rattle.hw_samples.specs.JournalWords.{dg, sent_as, backs, mixed, named_by, votes_in, parents_in, committee_test}
 
 abbrev c : Config
 c = record { weights = (1 ∷ 1 ∷ 1 ∷ []); ftt = 0; levels = 2; min_exponent = 2; max_exponent = 4; leaders = Table (0 ∷ []); max_records = 131072; max_parked = 4096; end = None }
@@ -28,10 +30,6 @@ u0 = record { instance = dg (0 ∷ 0 ∷ 0 ∷ 0 ∷ []); creator = 0; seq = 0; 
 abbrev u1 : WireUnit
 u1 = record { instance = dg (0 ∷ 0 ∷ 0 ∷ 0 ∷ []); creator = 1; seq = 0; time = 9; exponent = 2; panorama = (Correct (dg (40 ∷ 0 ∷ 0 ∷ 8 ∷ [])) ∷ Absent ∷ Absent ∷ []); value = None; endorsed = (dg (31 ∷ 1 ∷ 0 ∷ 9 ∷ []) ∷ []) }
 
-answers : answers_from s [] ((backs (dg (31 ∷ 1 ∷ 0 ∷ 9 ∷ [])) 0, true) ∷ (backs (dg (31 ∷ 1 ∷ 0 ∷ 9 ∷ [])) 1, true) ∷ (sent_as [] u0, true) ∷ (sent_as [] u1, true) ∷ []) ≡ ((Ok (receipt.Admitted 0) ∷ Ok (receipt.Admitted 0) ∷ Ok (receipt.Admitted 1) ∷ Ok (receipt.Dropped rule.EndorsedUnseen) ∷ []))
-unfolding unfold_all
-answers = refl
-
 abbrev j_shuffled : List Vertex
 j_shuffled = (backs (dg (31 ∷ 1 ∷ 0 ∷ 9 ∷ [])) 1 ∷ backs (dg (31 ∷ 1 ∷ 0 ∷ 9 ∷ [])) 0 ∷ sent_as [] u1 ∷ sent_as [] u0 ∷ [])
 
@@ -41,68 +39,26 @@ j = (backs (dg (31 ∷ 1 ∷ 0 ∷ 9 ∷ [])) 0 ∷ backs (dg (31 ∷ 1 ∷ 0 �
 abbrev k : Received
 k = received_of s j
 
-order : received_of s j_shuffled ≡ k
-unfolding unfold_all
-order = refl
-
-kept : journal_of s ((backs (dg (31 ∷ 1 ∷ 0 ∷ 9 ∷ [])) 0, true) ∷ (backs (dg (31 ∷ 1 ∷ 0 ∷ 9 ∷ [])) 1, true) ∷ (sent_as [] u0, true) ∷ (sent_as [] u1, true) ∷ []) ≡ j
-unfolding unfold_all
-kept = refl
-
 abbrev units : List Node
 units = (record { digest = dg (40 ∷ 0 ∷ 0 ∷ 8 ∷ []); unit = u0 } ∷ [])
-
-settled : settled_of c k ≡ units
-unfolding unfold_all
-settled = refl
-
-parked : names_of (parked_of c k) ≡ []
-unfolding unfold_all
-parked = refl
-
-dropped : names_of (dropped_of c k) ≡ (dg (31 ∷ 1 ∷ 0 ∷ 9 ∷ []) ∷ [])
-unfolding unfold_all
-dropped = refl
-
-panorama : panorama_of c k ≡ (Correct (dg (40 ∷ 0 ∷ 0 ∷ 8 ∷ [])) ∷ Absent ∷ Absent ∷ [])
-unfolding unfold_all
-panorama = refl
-
-weight : faulty_weight c k ≡ 0
-unfolding unfold_all
-weight = refl
-
-fork : name_of (fork_choice c k) ≡ Some (dg (40 ∷ 0 ∷ 0 ∷ 8 ∷ []))
-unfolding unfold_all
-fork = refl
-
-endorsed : map (is_endorsed c k) (dg (31 ∷ 1 ∷ 0 ∷ 9 ∷ []) ∷ []) ≡ (true ∷ [])
-unfolding unfold_all
-endorsed = refl
-
-votes : votes_in c units ≡ (Some (dg (40 ∷ 0 ∷ 0 ∷ 8 ∷ [])) ∷ [])
-unfolding unfold_all
-votes = refl
-
-heights : parents_in c units ≡ ((None, 0) ∷ [])
-unfolding unfold_all
-heights = refl
-
-missing : map (missing_of c k units) (record { digest = dg (31 ∷ 1 ∷ 0 ∷ 9 ∷ []); unit = u1 } ∷ record { digest = dg (40 ∷ 0 ∷ 0 ∷ 8 ∷ []); unit = u0 } ∷ []) ≡ (([] ∷ [] ∷ []))
-unfolding unfold_all
-missing = refl
-
-rules : map (state_rule c units) (record { digest = dg (31 ∷ 1 ∷ 0 ∷ 9 ∷ []); unit = u1 } ∷ record { digest = dg (40 ∷ 0 ∷ 0 ∷ 8 ∷ []); unit = u0 } ∷ []) ≡ (Some (rule.EndorsedUnseen) ∷ None ∷ [])
-unfolding unfold_all
-rules = refl
 
 abbrev plans : List (Option Plan)
 plans = (Some (record { kind = kind.Witness; unit = record { instance = dg (0 ∷ 0 ∷ 0 ∷ 0 ∷ []); creator = 0; seq = 1; time = 11; exponent = 2; panorama = (Correct (dg (40 ∷ 0 ∷ 0 ∷ 8 ∷ [])) ∷ Absent ∷ Absent ∷ []); value = None; endorsed = [] } }) ∷ None ∷ None ∷ None ∷ None ∷ None ∷ [])
 
-steps : (step s k 0 11 (118 ∷ []) ∷ step s k 0 7 (118 ∷ []) ∷ step s k 1 12 (118 ∷ []) ∷ step s k 1 3 (118 ∷ []) ∷ step s k 2 12 (118 ∷ []) ∷ step s k 2 13 (118 ∷ []) ∷ []) ≡ plans
-unfolding unfold_all
-steps = refl
-
-summits : (committee_test c.weights units (Correct (dg (40 ∷ 0 ∷ 0 ∷ 8 ∷ [])) ∷ Absent ∷ Absent ∷ []) (record { digest = dg (40 ∷ 0 ∷ 0 ∷ 8 ∷ []); unit = record { instance = dg (0 ∷ 0 ∷ 0 ∷ 0 ∷ []); creator = 0; seq = 0; time = 8; exponent = 2; panorama = (Absent ∷ Absent ∷ Absent ∷ []); value = Some ((120 ∷ [])); endorsed = [] } }) 1 2 (((0, 0) ∷ []) ∷ ((0, 0) ∷ []) ∷ []) ∷ committee_test c.weights units (Correct (dg (40 ∷ 0 ∷ 0 ∷ 8 ∷ [])) ∷ Absent ∷ Absent ∷ []) (record { digest = dg (40 ∷ 0 ∷ 0 ∷ 8 ∷ []); unit = record { instance = dg (0 ∷ 0 ∷ 0 ∷ 0 ∷ []); creator = 0; seq = 0; time = 8; exponent = 2; panorama = (Absent ∷ Absent ∷ Absent ∷ []); value = Some ((120 ∷ [])); endorsed = [] } }) 1 2 ([] ∷ [] ∷ []) ∷ committee_test c.weights units (Correct (dg (40 ∷ 0 ∷ 0 ∷ 8 ∷ [])) ∷ Absent ∷ Absent ∷ []) (record { digest = dg (40 ∷ 0 ∷ 0 ∷ 8 ∷ []); unit = record { instance = dg (0 ∷ 0 ∷ 0 ∷ 0 ∷ []); creator = 0; seq = 0; time = 8; exponent = 2; panorama = (Absent ∷ Absent ∷ Absent ∷ []); value = Some ((120 ∷ [])); endorsed = [] } }) 2 3 ([] ∷ [] ∷ [] ∷ []) ∷ committee_test c.weights units (Correct (dg (40 ∷ 0 ∷ 0 ∷ 8 ∷ [])) ∷ Absent ∷ Absent ∷ []) (record { digest = dg (40 ∷ 0 ∷ 0 ∷ 8 ∷ []); unit = record { instance = dg (0 ∷ 0 ∷ 0 ∷ 0 ∷ []); creator = 0; seq = 0; time = 8; exponent = 2; panorama = (Absent ∷ Absent ∷ Absent ∷ []); value = Some ((120 ∷ [])); endorsed = [] } }) 2 3 ([] ∷ [] ∷ [] ∷ []) ∷ committee_test c.weights units (Absent ∷ Absent ∷ Absent ∷ []) (record { digest = dg (40 ∷ 0 ∷ 0 ∷ 8 ∷ []); unit = record { instance = dg (0 ∷ 0 ∷ 0 ∷ 0 ∷ []); creator = 0; seq = 0; time = 8; exponent = 2; panorama = (Absent ∷ Absent ∷ Absent ∷ []); value = Some ((120 ∷ [])); endorsed = [] } }) 1 1 ([] ∷ [] ∷ []) ∷ committee_test c.weights units (Absent ∷ Absent ∷ Absent ∷ []) (record { digest = dg (40 ∷ 0 ∷ 0 ∷ 8 ∷ []); unit = record { instance = dg (0 ∷ 0 ∷ 0 ∷ 0 ∷ []); creator = 0; seq = 0; time = 8; exponent = 2; panorama = (Absent ∷ Absent ∷ Absent ∷ []); value = Some ((120 ∷ [])); endorsed = [] } }) 1 1 ([] ∷ [] ∷ []) ∷ committee_test c.weights units (Absent ∷ Absent ∷ Absent ∷ []) (record { digest = dg (40 ∷ 0 ∷ 0 ∷ 8 ∷ []); unit = record { instance = dg (0 ∷ 0 ∷ 0 ∷ 0 ∷ []); creator = 0; seq = 0; time = 8; exponent = 2; panorama = (Absent ∷ Absent ∷ Absent ∷ []); value = Some ((120 ∷ [])); endorsed = [] } }) 2 2 ([] ∷ [] ∷ [] ∷ []) ∷ committee_test c.weights units (Absent ∷ Absent ∷ Absent ∷ []) (record { digest = dg (40 ∷ 0 ∷ 0 ∷ 8 ∷ []); unit = record { instance = dg (0 ∷ 0 ∷ 0 ∷ 0 ∷ []); creator = 0; seq = 0; time = 8; exponent = 2; panorama = (Absent ∷ Absent ∷ Absent ∷ []); value = Some ((120 ∷ [])); endorsed = [] } }) 2 2 ([] ∷ [] ∷ [] ∷ []) ∷ []) ≡ (false ∷ false ∷ false ∷ false ∷ false ∷ false ∷ false ∷ false ∷ [])
-unfolding unfold_all
-summits = refl
+pub record SelfListingJournal : Type 0 where
+  pub answers : answers_from s [] ((backs (dg (31 ∷ 1 ∷ 0 ∷ 9 ∷ [])) 0, true) ∷ (backs (dg (31 ∷ 1 ∷ 0 ∷ 9 ∷ [])) 1, true) ∷ (sent_as [] u0, true) ∷ (sent_as [] u1, true) ∷ []) ≡ ((Ok (receipt.Admitted 0) ∷ Ok (receipt.Admitted 0) ∷ Ok (receipt.Admitted 1) ∷ Ok (receipt.Dropped rule.EndorsedUnseen) ∷ []))
+  pub order : received_of s j_shuffled ≡ k
+  pub kept : journal_of s ((backs (dg (31 ∷ 1 ∷ 0 ∷ 9 ∷ [])) 0, true) ∷ (backs (dg (31 ∷ 1 ∷ 0 ∷ 9 ∷ [])) 1, true) ∷ (sent_as [] u0, true) ∷ (sent_as [] u1, true) ∷ []) ≡ j
+  pub settled : settled_of c k ≡ units
+  pub parked : names_of (parked_of c k) ≡ []
+  pub dropped : names_of (dropped_of c k) ≡ (dg (31 ∷ 1 ∷ 0 ∷ 9 ∷ []) ∷ [])
+  pub panorama : panorama_of c k ≡ (Correct (dg (40 ∷ 0 ∷ 0 ∷ 8 ∷ [])) ∷ Absent ∷ Absent ∷ [])
+  pub weight : faulty_weight c k ≡ 0
+  pub fork : name_of (fork_choice c k) ≡ Some (dg (40 ∷ 0 ∷ 0 ∷ 8 ∷ []))
+  pub endorsed : map (is_endorsed c k) (dg (31 ∷ 1 ∷ 0 ∷ 9 ∷ []) ∷ []) ≡ (true ∷ [])
+  pub votes : votes_in c units ≡ (Some (dg (40 ∷ 0 ∷ 0 ∷ 8 ∷ [])) ∷ [])
+  pub heights : parents_in c units ≡ ((None, 0) ∷ [])
+  pub missing : map (missing_of c k units) (record { digest = dg (31 ∷ 1 ∷ 0 ∷ 9 ∷ []); unit = u1 } ∷ record { digest = dg (40 ∷ 0 ∷ 0 ∷ 8 ∷ []); unit = u0 } ∷ []) ≡ (([] ∷ [] ∷ []))
+  pub rules : map (state_rule c units) (record { digest = dg (31 ∷ 1 ∷ 0 ∷ 9 ∷ []); unit = u1 } ∷ record { digest = dg (40 ∷ 0 ∷ 0 ∷ 8 ∷ []); unit = u0 } ∷ []) ≡ (Some (rule.EndorsedUnseen) ∷ None ∷ [])
+  pub steps : (step s k 0 11 (118 ∷ []) ∷ step s k 0 7 (118 ∷ []) ∷ step s k 1 12 (118 ∷ []) ∷ step s k 1 3 (118 ∷ []) ∷ step s k 2 12 (118 ∷ []) ∷ step s k 2 13 (118 ∷ []) ∷ []) ≡ plans
+  pub summits : (committee_test c.weights units (Correct (dg (40 ∷ 0 ∷ 0 ∷ 8 ∷ [])) ∷ Absent ∷ Absent ∷ []) (record { digest = dg (40 ∷ 0 ∷ 0 ∷ 8 ∷ []); unit = record { instance = dg (0 ∷ 0 ∷ 0 ∷ 0 ∷ []); creator = 0; seq = 0; time = 8; exponent = 2; panorama = (Absent ∷ Absent ∷ Absent ∷ []); value = Some ((120 ∷ [])); endorsed = [] } }) 1 2 (((0, 0) ∷ []) ∷ ((0, 0) ∷ []) ∷ []) ∷ committee_test c.weights units (Correct (dg (40 ∷ 0 ∷ 0 ∷ 8 ∷ [])) ∷ Absent ∷ Absent ∷ []) (record { digest = dg (40 ∷ 0 ∷ 0 ∷ 8 ∷ []); unit = record { instance = dg (0 ∷ 0 ∷ 0 ∷ 0 ∷ []); creator = 0; seq = 0; time = 8; exponent = 2; panorama = (Absent ∷ Absent ∷ Absent ∷ []); value = Some ((120 ∷ [])); endorsed = [] } }) 1 2 ([] ∷ [] ∷ []) ∷ committee_test c.weights units (Correct (dg (40 ∷ 0 ∷ 0 ∷ 8 ∷ [])) ∷ Absent ∷ Absent ∷ []) (record { digest = dg (40 ∷ 0 ∷ 0 ∷ 8 ∷ []); unit = record { instance = dg (0 ∷ 0 ∷ 0 ∷ 0 ∷ []); creator = 0; seq = 0; time = 8; exponent = 2; panorama = (Absent ∷ Absent ∷ Absent ∷ []); value = Some ((120 ∷ [])); endorsed = [] } }) 2 3 ([] ∷ [] ∷ [] ∷ []) ∷ committee_test c.weights units (Correct (dg (40 ∷ 0 ∷ 0 ∷ 8 ∷ [])) ∷ Absent ∷ Absent ∷ []) (record { digest = dg (40 ∷ 0 ∷ 0 ∷ 8 ∷ []); unit = record { instance = dg (0 ∷ 0 ∷ 0 ∷ 0 ∷ []); creator = 0; seq = 0; time = 8; exponent = 2; panorama = (Absent ∷ Absent ∷ Absent ∷ []); value = Some ((120 ∷ [])); endorsed = [] } }) 2 3 ([] ∷ [] ∷ [] ∷ []) ∷ committee_test c.weights units (Absent ∷ Absent ∷ Absent ∷ []) (record { digest = dg (40 ∷ 0 ∷ 0 ∷ 8 ∷ []); unit = record { instance = dg (0 ∷ 0 ∷ 0 ∷ 0 ∷ []); creator = 0; seq = 0; time = 8; exponent = 2; panorama = (Absent ∷ Absent ∷ Absent ∷ []); value = Some ((120 ∷ [])); endorsed = [] } }) 1 1 ([] ∷ [] ∷ []) ∷ committee_test c.weights units (Absent ∷ Absent ∷ Absent ∷ []) (record { digest = dg (40 ∷ 0 ∷ 0 ∷ 8 ∷ []); unit = record { instance = dg (0 ∷ 0 ∷ 0 ∷ 0 ∷ []); creator = 0; seq = 0; time = 8; exponent = 2; panorama = (Absent ∷ Absent ∷ Absent ∷ []); value = Some ((120 ∷ [])); endorsed = [] } }) 1 1 ([] ∷ [] ∷ []) ∷ committee_test c.weights units (Absent ∷ Absent ∷ Absent ∷ []) (record { digest = dg (40 ∷ 0 ∷ 0 ∷ 8 ∷ []); unit = record { instance = dg (0 ∷ 0 ∷ 0 ∷ 0 ∷ []); creator = 0; seq = 0; time = 8; exponent = 2; panorama = (Absent ∷ Absent ∷ Absent ∷ []); value = Some ((120 ∷ [])); endorsed = [] } }) 2 2 ([] ∷ [] ∷ [] ∷ []) ∷ committee_test c.weights units (Absent ∷ Absent ∷ Absent ∷ []) (record { digest = dg (40 ∷ 0 ∷ 0 ∷ 8 ∷ []); unit = record { instance = dg (0 ∷ 0 ∷ 0 ∷ 0 ∷ []); creator = 0; seq = 0; time = 8; exponent = 2; panorama = (Absent ∷ Absent ∷ Absent ∷ []); value = Some ((120 ∷ [])); endorsed = [] } }) 2 2 ([] ∷ [] ∷ [] ∷ []) ∷ []) ≡ (false ∷ false ∷ false ∷ false ∷ false ∷ false ∷ false ∷ false ∷ [])

@@ -1,5 +1,6 @@
--- A hand-made journal: three roots.
-use Rattle.std.specs.Prelude.{◌≡◌, true, false, List, [], ◌∷◌, map, Option, Some, None, Ok, refl}
+-- Three blocks without a parent: a unit that sees one vote for each votes for the greatest name, which so has two.
+-- The values are those of a second reading of the definitions, written apart from them; the two agree.
+use Rattle.std.specs.Prelude.{◌≡◌, true, false, List, [], ◌∷◌, map, Option, Some, None, Ok}
 use Rattle.hw_types.specs.declared.unit.Obs.TheVariants.{Absent, Correct}
 use Rattle.hw_types.specs.declared.unit.WireUnit.{WireUnit}
 use Rattle.hw_types.specs.declared.unit.Vertex.{Vertex}
@@ -13,7 +14,8 @@ use Rattle.hw_types.specs.Rules.{state_rule, has_naive_fork}
 use Rattle.hw_types.specs.Settled.{Received, settled_of, parked_of, dropped_of, missing_of, panorama_of, faulty_weight, fork_choice}
 use Rattle.hw_types.specs.Journal.{Setting, received_of, journal_of, answers_from}
 use Rattle.hw_types.specs.Step.{step}
-use Rattle.hw_samples.specs.JournalWords.{unfold_all, dg, sent_as, mixed, named_by, names_of, name_of, votes_in, parents_in, committee_test}
+use Rattle.hw_samples.specs.Words.{names_of, name_of}
+use Rattle.hw_samples.specs.JournalWords.{dg, sent_as, mixed, named_by, votes_in, parents_in, committee_test}
 
 abbrev c : Config
 c = record { weights = (1 ∷ 1 ∷ 1 ∷ []); ftt = 0; levels = 2; min_exponent = 2; max_exponent = 4; leaders = Table (2 ∷ 0 ∷ 0 ∷ 1 ∷ []); max_records = 131072; max_parked = 4096; end = None }
@@ -39,10 +41,6 @@ u4 = record { instance = dg (0 ∷ 0 ∷ 0 ∷ 0 ∷ []); creator = 1; seq = 1; 
 abbrev u5 : WireUnit
 u5 = record { instance = dg (0 ∷ 0 ∷ 0 ∷ 0 ∷ []); creator = 2; seq = 1; time = 19; exponent = 2; panorama = (Correct (dg (40 ∷ 0 ∷ 0 ∷ 8 ∷ [])) ∷ Correct (dg (92 ∷ 1 ∷ 0 ∷ 12 ∷ [])) ∷ Correct (dg (47 ∷ 2 ∷ 0 ∷ 16 ∷ [])) ∷ []); value = None; endorsed = [] }
 
-answers : answers_from s [] ((sent_as [] u0, true) ∷ (sent_as [] u1, true) ∷ (sent_as [] u2, true) ∷ (sent_as [] u3, true) ∷ (sent_as [] u4, true) ∷ (sent_as [] u5, true) ∷ []) ≡ ((Ok (receipt.Admitted 1) ∷ Ok (receipt.Admitted 1) ∷ Ok (receipt.Admitted 1) ∷ Ok (receipt.Admitted 1) ∷ Ok (receipt.Admitted 1) ∷ Ok (receipt.Admitted 1) ∷ []))
-unfolding unfold_all
-answers = refl
-
 abbrev j_shuffled : List Vertex
 j_shuffled = (sent_as [] u2 ∷ sent_as [] u1 ∷ sent_as [] u5 ∷ sent_as [] u0 ∷ sent_as [] u4 ∷ sent_as [] u3 ∷ [])
 
@@ -52,68 +50,26 @@ j = (sent_as [] u0 ∷ sent_as [] u1 ∷ sent_as [] u2 ∷ sent_as [] u3 ∷ sen
 abbrev k : Received
 k = received_of s j
 
-order : received_of s j_shuffled ≡ k
-unfolding unfold_all
-order = refl
-
-kept : journal_of s ((sent_as [] u0, true) ∷ (sent_as [] u1, true) ∷ (sent_as [] u2, true) ∷ (sent_as [] u3, true) ∷ (sent_as [] u4, true) ∷ (sent_as [] u5, true) ∷ []) ≡ j
-unfolding unfold_all
-kept = refl
-
 abbrev units : List Node
 units = (record { digest = dg (7 ∷ 0 ∷ 1 ∷ 17 ∷ []); unit = u3 } ∷ record { digest = dg (25 ∷ 1 ∷ 1 ∷ 18 ∷ []); unit = u4 } ∷ record { digest = dg (40 ∷ 0 ∷ 0 ∷ 8 ∷ []); unit = u0 } ∷ record { digest = dg (43 ∷ 2 ∷ 1 ∷ 19 ∷ []); unit = u5 } ∷ record { digest = dg (47 ∷ 2 ∷ 0 ∷ 16 ∷ []); unit = u2 } ∷ record { digest = dg (92 ∷ 1 ∷ 0 ∷ 12 ∷ []); unit = u1 } ∷ [])
-
-settled : settled_of c k ≡ units
-unfolding unfold_all
-settled = refl
-
-parked : names_of (parked_of c k) ≡ []
-unfolding unfold_all
-parked = refl
-
-dropped : names_of (dropped_of c k) ≡ []
-unfolding unfold_all
-dropped = refl
-
-panorama : panorama_of c k ≡ (Correct (dg (7 ∷ 0 ∷ 1 ∷ 17 ∷ [])) ∷ Correct (dg (25 ∷ 1 ∷ 1 ∷ 18 ∷ [])) ∷ Correct (dg (43 ∷ 2 ∷ 1 ∷ 19 ∷ [])) ∷ [])
-unfolding unfold_all
-panorama = refl
-
-weight : faulty_weight c k ≡ 0
-unfolding unfold_all
-weight = refl
-
-fork : name_of (fork_choice c k) ≡ Some (dg (92 ∷ 1 ∷ 0 ∷ 12 ∷ []))
-unfolding unfold_all
-fork = refl
-
-votes : votes_in c units ≡ (Some (dg (40 ∷ 0 ∷ 0 ∷ 8 ∷ [])) ∷ Some (dg (92 ∷ 1 ∷ 0 ∷ 12 ∷ [])) ∷ Some (dg (40 ∷ 0 ∷ 0 ∷ 8 ∷ [])) ∷ Some (dg (92 ∷ 1 ∷ 0 ∷ 12 ∷ [])) ∷ Some (dg (47 ∷ 2 ∷ 0 ∷ 16 ∷ [])) ∷ Some (dg (92 ∷ 1 ∷ 0 ∷ 12 ∷ [])) ∷ [])
-unfolding unfold_all
-votes = refl
-
-heights : parents_in c units ≡ ((None, 0) ∷ (None, 0) ∷ (None, 0) ∷ [])
-unfolding unfold_all
-heights = refl
-
-missing : map (missing_of c k units) (record { digest = dg (7 ∷ 0 ∷ 1 ∷ 17 ∷ []); unit = u3 } ∷ record { digest = dg (25 ∷ 1 ∷ 1 ∷ 18 ∷ []); unit = u4 } ∷ record { digest = dg (40 ∷ 0 ∷ 0 ∷ 8 ∷ []); unit = u0 } ∷ record { digest = dg (43 ∷ 2 ∷ 1 ∷ 19 ∷ []); unit = u5 } ∷ record { digest = dg (47 ∷ 2 ∷ 0 ∷ 16 ∷ []); unit = u2 } ∷ record { digest = dg (92 ∷ 1 ∷ 0 ∷ 12 ∷ []); unit = u1 } ∷ []) ≡ (([] ∷ [] ∷ [] ∷ [] ∷ [] ∷ [] ∷ []))
-unfolding unfold_all
-missing = refl
-
-rules : map (state_rule c units) (record { digest = dg (7 ∷ 0 ∷ 1 ∷ 17 ∷ []); unit = u3 } ∷ record { digest = dg (25 ∷ 1 ∷ 1 ∷ 18 ∷ []); unit = u4 } ∷ record { digest = dg (40 ∷ 0 ∷ 0 ∷ 8 ∷ []); unit = u0 } ∷ record { digest = dg (43 ∷ 2 ∷ 1 ∷ 19 ∷ []); unit = u5 } ∷ record { digest = dg (47 ∷ 2 ∷ 0 ∷ 16 ∷ []); unit = u2 } ∷ record { digest = dg (92 ∷ 1 ∷ 0 ∷ 12 ∷ []); unit = u1 } ∷ []) ≡ (None ∷ None ∷ None ∷ None ∷ None ∷ None ∷ [])
-unfolding unfold_all
-rules = refl
-
-naive : (has_naive_fork (past units (Correct (dg (7 ∷ 0 ∷ 1 ∷ 17 ∷ [])) ∷ Correct (dg (25 ∷ 1 ∷ 1 ∷ 18 ∷ [])) ∷ Correct (dg (47 ∷ 2 ∷ 0 ∷ 16 ∷ [])) ∷ [])) (dg (47 ∷ 2 ∷ 0 ∷ 16 ∷ []) ∷ []) ∷ has_naive_fork (past units (Correct (dg (7 ∷ 0 ∷ 1 ∷ 17 ∷ [])) ∷ Correct (dg (25 ∷ 1 ∷ 1 ∷ 18 ∷ [])) ∷ Correct (dg (47 ∷ 2 ∷ 0 ∷ 16 ∷ [])) ∷ [])) [] ∷ has_naive_fork (past units (Correct (dg (40 ∷ 0 ∷ 0 ∷ 8 ∷ [])) ∷ Correct (dg (92 ∷ 1 ∷ 0 ∷ 12 ∷ [])) ∷ Correct (dg (43 ∷ 2 ∷ 1 ∷ 19 ∷ [])) ∷ [])) (dg (40 ∷ 0 ∷ 0 ∷ 8 ∷ []) ∷ []) ∷ has_naive_fork (past units (Correct (dg (40 ∷ 0 ∷ 0 ∷ 8 ∷ [])) ∷ Correct (dg (92 ∷ 1 ∷ 0 ∷ 12 ∷ [])) ∷ Correct (dg (43 ∷ 2 ∷ 1 ∷ 19 ∷ [])) ∷ [])) (dg (43 ∷ 2 ∷ 1 ∷ 19 ∷ []) ∷ []) ∷ []) ≡ (false ∷ false ∷ false ∷ false ∷ [])
-unfolding unfold_all
-naive = refl
 
 abbrev plans : List (Option Plan)
 plans = (Some (record { kind = kind.Witness; unit = record { instance = dg (0 ∷ 0 ∷ 0 ∷ 0 ∷ []); creator = 0; seq = 2; time = 22; exponent = 2; panorama = (Correct (dg (7 ∷ 0 ∷ 1 ∷ 17 ∷ [])) ∷ Correct (dg (25 ∷ 1 ∷ 1 ∷ 18 ∷ [])) ∷ Correct (dg (43 ∷ 2 ∷ 1 ∷ 19 ∷ [])) ∷ []); value = None; endorsed = [] } }) ∷ Some (record { kind = kind.Witness; unit = record { instance = dg (0 ∷ 0 ∷ 0 ∷ 0 ∷ []); creator = 0; seq = 2; time = 18; exponent = 2; panorama = (Correct (dg (7 ∷ 0 ∷ 1 ∷ 17 ∷ [])) ∷ Correct (dg (25 ∷ 1 ∷ 1 ∷ 18 ∷ [])) ∷ Absent ∷ []); value = None; endorsed = [] } }) ∷ None ∷ None ∷ None ∷ None ∷ [])
 
-steps : (step s k 0 22 (118 ∷ []) ∷ step s k 0 18 (118 ∷ []) ∷ step s k 1 25 (118 ∷ []) ∷ step s k 1 18 (118 ∷ []) ∷ step s k 2 21 (118 ∷ []) ∷ step s k 2 16 (118 ∷ []) ∷ []) ≡ plans
-unfolding unfold_all
-steps = refl
-
-summits : (committee_test c.weights units (Correct (dg (7 ∷ 0 ∷ 1 ∷ 17 ∷ [])) ∷ Correct (dg (25 ∷ 1 ∷ 1 ∷ 18 ∷ [])) ∷ Correct (dg (43 ∷ 2 ∷ 1 ∷ 19 ∷ [])) ∷ []) (record { digest = dg (47 ∷ 2 ∷ 0 ∷ 16 ∷ []); unit = record { instance = dg (0 ∷ 0 ∷ 0 ∷ 0 ∷ []); creator = 2; seq = 0; time = 16; exponent = 2; panorama = (Absent ∷ Absent ∷ Absent ∷ []); value = Some ((122 ∷ [])); endorsed = [] } }) 1 1 (((0, 0) ∷ (1, 1) ∷ (2, 0) ∷ []) ∷ ((0, 0) ∷ (1, 1) ∷ (2, 1) ∷ []) ∷ []) ∷ committee_test c.weights units (Correct (dg (7 ∷ 0 ∷ 1 ∷ 17 ∷ [])) ∷ Correct (dg (25 ∷ 1 ∷ 1 ∷ 18 ∷ [])) ∷ Correct (dg (43 ∷ 2 ∷ 1 ∷ 19 ∷ [])) ∷ []) (record { digest = dg (47 ∷ 2 ∷ 0 ∷ 16 ∷ []); unit = record { instance = dg (0 ∷ 0 ∷ 0 ∷ 0 ∷ []); creator = 2; seq = 0; time = 16; exponent = 2; panorama = (Absent ∷ Absent ∷ Absent ∷ []); value = Some ((122 ∷ [])); endorsed = [] } }) 1 1 (((0, 1) ∷ (1, 1) ∷ (2, 0) ∷ []) ∷ ((0, 1) ∷ (2, 0) ∷ []) ∷ []) ∷ committee_test c.weights units (Correct (dg (7 ∷ 0 ∷ 1 ∷ 17 ∷ [])) ∷ Correct (dg (25 ∷ 1 ∷ 1 ∷ 18 ∷ [])) ∷ Correct (dg (43 ∷ 2 ∷ 1 ∷ 19 ∷ [])) ∷ []) (record { digest = dg (47 ∷ 2 ∷ 0 ∷ 16 ∷ []); unit = record { instance = dg (0 ∷ 0 ∷ 0 ∷ 0 ∷ []); creator = 2; seq = 0; time = 16; exponent = 2; panorama = (Absent ∷ Absent ∷ Absent ∷ []); value = Some ((122 ∷ [])); endorsed = [] } }) 2 1 (((1, 0) ∷ (2, 0) ∷ []) ∷ ((1, 0) ∷ (2, 1) ∷ []) ∷ ((2, 1) ∷ []) ∷ []) ∷ committee_test c.weights units (Correct (dg (7 ∷ 0 ∷ 1 ∷ 17 ∷ [])) ∷ Correct (dg (25 ∷ 1 ∷ 1 ∷ 18 ∷ [])) ∷ Correct (dg (43 ∷ 2 ∷ 1 ∷ 19 ∷ [])) ∷ []) (record { digest = dg (47 ∷ 2 ∷ 0 ∷ 16 ∷ []); unit = record { instance = dg (0 ∷ 0 ∷ 0 ∷ 0 ∷ []); creator = 2; seq = 0; time = 16; exponent = 2; panorama = (Absent ∷ Absent ∷ Absent ∷ []); value = Some ((122 ∷ [])); endorsed = [] } }) 2 1 (((1, 0) ∷ (2, 0) ∷ []) ∷ ((1, 0) ∷ (2, 1) ∷ []) ∷ ((1, 1) ∷ (2, 1) ∷ []) ∷ []) ∷ committee_test c.weights units (Correct (dg (7 ∷ 0 ∷ 1 ∷ 17 ∷ [])) ∷ Correct (dg (25 ∷ 1 ∷ 1 ∷ 18 ∷ [])) ∷ Correct (dg (43 ∷ 2 ∷ 1 ∷ 19 ∷ [])) ∷ []) (record { digest = dg (92 ∷ 1 ∷ 0 ∷ 12 ∷ []); unit = record { instance = dg (0 ∷ 0 ∷ 0 ∷ 0 ∷ []); creator = 1; seq = 0; time = 12; exponent = 2; panorama = (Absent ∷ Absent ∷ Absent ∷ []); value = Some ((121 ∷ [])); endorsed = [] } }) 1 3 (((0, 0) ∷ (1, 0) ∷ (2, 1) ∷ []) ∷ ((0, 0) ∷ (1, 0) ∷ (2, 1) ∷ []) ∷ []) ∷ committee_test c.weights units (Correct (dg (7 ∷ 0 ∷ 1 ∷ 17 ∷ [])) ∷ Correct (dg (25 ∷ 1 ∷ 1 ∷ 18 ∷ [])) ∷ Correct (dg (43 ∷ 2 ∷ 1 ∷ 19 ∷ [])) ∷ []) (record { digest = dg (92 ∷ 1 ∷ 0 ∷ 12 ∷ []); unit = record { instance = dg (0 ∷ 0 ∷ 0 ∷ 0 ∷ []); creator = 1; seq = 0; time = 12; exponent = 2; panorama = (Absent ∷ Absent ∷ Absent ∷ []); value = Some ((121 ∷ [])); endorsed = [] } }) 1 3 (((0, 1) ∷ (1, 1) ∷ []) ∷ ((0, 1) ∷ (1, 1) ∷ []) ∷ []) ∷ committee_test c.weights units (Correct (dg (7 ∷ 0 ∷ 1 ∷ 17 ∷ [])) ∷ Correct (dg (25 ∷ 1 ∷ 1 ∷ 18 ∷ [])) ∷ Correct (dg (43 ∷ 2 ∷ 1 ∷ 19 ∷ [])) ∷ []) (record { digest = dg (92 ∷ 1 ∷ 0 ∷ 12 ∷ []); unit = record { instance = dg (0 ∷ 0 ∷ 0 ∷ 0 ∷ []); creator = 1; seq = 0; time = 12; exponent = 2; panorama = (Absent ∷ Absent ∷ Absent ∷ []); value = Some ((121 ∷ [])); endorsed = [] } }) 2 2 (((1, 1) ∷ (2, 1) ∷ []) ∷ ((1, 1) ∷ []) ∷ ((1, 1) ∷ []) ∷ []) ∷ committee_test c.weights units (Correct (dg (7 ∷ 0 ∷ 1 ∷ 17 ∷ [])) ∷ Correct (dg (25 ∷ 1 ∷ 1 ∷ 18 ∷ [])) ∷ Correct (dg (43 ∷ 2 ∷ 1 ∷ 19 ∷ [])) ∷ []) (record { digest = dg (92 ∷ 1 ∷ 0 ∷ 12 ∷ []); unit = record { instance = dg (0 ∷ 0 ∷ 0 ∷ 0 ∷ []); creator = 1; seq = 0; time = 12; exponent = 2; panorama = (Absent ∷ Absent ∷ Absent ∷ []); value = Some ((121 ∷ [])); endorsed = [] } }) 2 2 (((1, 0) ∷ []) ∷ ((1, 0) ∷ []) ∷ [] ∷ []) ∷ committee_test c.weights units (Absent ∷ Correct (dg (92 ∷ 1 ∷ 0 ∷ 12 ∷ [])) ∷ Absent ∷ []) (record { digest = dg (40 ∷ 0 ∷ 0 ∷ 8 ∷ []); unit = record { instance = dg (0 ∷ 0 ∷ 0 ∷ 0 ∷ []); creator = 0; seq = 0; time = 8; exponent = 2; panorama = (Absent ∷ Absent ∷ Absent ∷ []); value = Some ((120 ∷ [])); endorsed = [] } }) 1 3 ([] ∷ [] ∷ []) ∷ committee_test c.weights units (Absent ∷ Correct (dg (92 ∷ 1 ∷ 0 ∷ 12 ∷ [])) ∷ Absent ∷ []) (record { digest = dg (40 ∷ 0 ∷ 0 ∷ 8 ∷ []); unit = record { instance = dg (0 ∷ 0 ∷ 0 ∷ 0 ∷ []); creator = 0; seq = 0; time = 8; exponent = 2; panorama = (Absent ∷ Absent ∷ Absent ∷ []); value = Some ((120 ∷ [])); endorsed = [] } }) 1 3 (((1, 0) ∷ []) ∷ ((1, 0) ∷ []) ∷ []) ∷ committee_test c.weights units (Absent ∷ Correct (dg (92 ∷ 1 ∷ 0 ∷ 12 ∷ [])) ∷ Absent ∷ []) (record { digest = dg (40 ∷ 0 ∷ 0 ∷ 8 ∷ []); unit = record { instance = dg (0 ∷ 0 ∷ 0 ∷ 0 ∷ []); creator = 0; seq = 0; time = 8; exponent = 2; panorama = (Absent ∷ Absent ∷ Absent ∷ []); value = Some ((120 ∷ [])); endorsed = [] } }) 2 2 ([] ∷ [] ∷ [] ∷ []) ∷ committee_test c.weights units (Absent ∷ Correct (dg (92 ∷ 1 ∷ 0 ∷ 12 ∷ [])) ∷ Absent ∷ []) (record { digest = dg (40 ∷ 0 ∷ 0 ∷ 8 ∷ []); unit = record { instance = dg (0 ∷ 0 ∷ 0 ∷ 0 ∷ []); creator = 0; seq = 0; time = 8; exponent = 2; panorama = (Absent ∷ Absent ∷ Absent ∷ []); value = Some ((120 ∷ [])); endorsed = [] } }) 2 2 ([] ∷ [] ∷ [] ∷ []) ∷ committee_test c.weights units (Absent ∷ Correct (dg (92 ∷ 1 ∷ 0 ∷ 12 ∷ [])) ∷ Absent ∷ []) (record { digest = dg (92 ∷ 1 ∷ 0 ∷ 12 ∷ []); unit = record { instance = dg (0 ∷ 0 ∷ 0 ∷ 0 ∷ []); creator = 1; seq = 0; time = 12; exponent = 2; panorama = (Absent ∷ Absent ∷ Absent ∷ []); value = Some ((121 ∷ [])); endorsed = [] } }) 1 1 (((1, 0) ∷ []) ∷ ((1, 0) ∷ []) ∷ []) ∷ committee_test c.weights units (Absent ∷ Correct (dg (92 ∷ 1 ∷ 0 ∷ 12 ∷ [])) ∷ Absent ∷ []) (record { digest = dg (92 ∷ 1 ∷ 0 ∷ 12 ∷ []); unit = record { instance = dg (0 ∷ 0 ∷ 0 ∷ 0 ∷ []); creator = 1; seq = 0; time = 12; exponent = 2; panorama = (Absent ∷ Absent ∷ Absent ∷ []); value = Some ((121 ∷ [])); endorsed = [] } }) 1 1 (((1, 0) ∷ []) ∷ ((1, 0) ∷ []) ∷ []) ∷ committee_test c.weights units (Absent ∷ Correct (dg (92 ∷ 1 ∷ 0 ∷ 12 ∷ [])) ∷ Absent ∷ []) (record { digest = dg (92 ∷ 1 ∷ 0 ∷ 12 ∷ []); unit = record { instance = dg (0 ∷ 0 ∷ 0 ∷ 0 ∷ []); creator = 1; seq = 0; time = 12; exponent = 2; panorama = (Absent ∷ Absent ∷ Absent ∷ []); value = Some ((121 ∷ [])); endorsed = [] } }) 2 2 (((1, 0) ∷ []) ∷ ((1, 0) ∷ []) ∷ ((1, 0) ∷ []) ∷ []) ∷ committee_test c.weights units (Absent ∷ Correct (dg (92 ∷ 1 ∷ 0 ∷ 12 ∷ [])) ∷ Absent ∷ []) (record { digest = dg (92 ∷ 1 ∷ 0 ∷ 12 ∷ []); unit = record { instance = dg (0 ∷ 0 ∷ 0 ∷ 0 ∷ []); creator = 1; seq = 0; time = 12; exponent = 2; panorama = (Absent ∷ Absent ∷ Absent ∷ []); value = Some ((121 ∷ [])); endorsed = [] } }) 2 2 (((1, 0) ∷ []) ∷ ((1, 0) ∷ []) ∷ ((1, 0) ∷ []) ∷ []) ∷ []) ≡ (false ∷ false ∷ false ∷ false ∷ false ∷ false ∷ false ∷ false ∷ false ∷ false ∷ false ∷ false ∷ false ∷ false ∷ false ∷ false ∷ [])
-unfolding unfold_all
-summits = refl
+pub record ThreeRootsJournal : Type 0 where
+  pub answers : answers_from s [] ((sent_as [] u0, true) ∷ (sent_as [] u1, true) ∷ (sent_as [] u2, true) ∷ (sent_as [] u3, true) ∷ (sent_as [] u4, true) ∷ (sent_as [] u5, true) ∷ []) ≡ ((Ok (receipt.Admitted 1) ∷ Ok (receipt.Admitted 1) ∷ Ok (receipt.Admitted 1) ∷ Ok (receipt.Admitted 1) ∷ Ok (receipt.Admitted 1) ∷ Ok (receipt.Admitted 1) ∷ []))
+  pub order : received_of s j_shuffled ≡ k
+  pub kept : journal_of s ((sent_as [] u0, true) ∷ (sent_as [] u1, true) ∷ (sent_as [] u2, true) ∷ (sent_as [] u3, true) ∷ (sent_as [] u4, true) ∷ (sent_as [] u5, true) ∷ []) ≡ j
+  pub settled : settled_of c k ≡ units
+  pub parked : names_of (parked_of c k) ≡ []
+  pub dropped : names_of (dropped_of c k) ≡ []
+  pub panorama : panorama_of c k ≡ (Correct (dg (7 ∷ 0 ∷ 1 ∷ 17 ∷ [])) ∷ Correct (dg (25 ∷ 1 ∷ 1 ∷ 18 ∷ [])) ∷ Correct (dg (43 ∷ 2 ∷ 1 ∷ 19 ∷ [])) ∷ [])
+  pub weight : faulty_weight c k ≡ 0
+  pub fork : name_of (fork_choice c k) ≡ Some (dg (92 ∷ 1 ∷ 0 ∷ 12 ∷ []))
+  pub votes : votes_in c units ≡ (Some (dg (40 ∷ 0 ∷ 0 ∷ 8 ∷ [])) ∷ Some (dg (92 ∷ 1 ∷ 0 ∷ 12 ∷ [])) ∷ Some (dg (40 ∷ 0 ∷ 0 ∷ 8 ∷ [])) ∷ Some (dg (92 ∷ 1 ∷ 0 ∷ 12 ∷ [])) ∷ Some (dg (47 ∷ 2 ∷ 0 ∷ 16 ∷ [])) ∷ Some (dg (92 ∷ 1 ∷ 0 ∷ 12 ∷ [])) ∷ [])
+  pub heights : parents_in c units ≡ ((None, 0) ∷ (None, 0) ∷ (None, 0) ∷ [])
+  pub missing : map (missing_of c k units) (record { digest = dg (7 ∷ 0 ∷ 1 ∷ 17 ∷ []); unit = u3 } ∷ record { digest = dg (25 ∷ 1 ∷ 1 ∷ 18 ∷ []); unit = u4 } ∷ record { digest = dg (40 ∷ 0 ∷ 0 ∷ 8 ∷ []); unit = u0 } ∷ record { digest = dg (43 ∷ 2 ∷ 1 ∷ 19 ∷ []); unit = u5 } ∷ record { digest = dg (47 ∷ 2 ∷ 0 ∷ 16 ∷ []); unit = u2 } ∷ record { digest = dg (92 ∷ 1 ∷ 0 ∷ 12 ∷ []); unit = u1 } ∷ []) ≡ (([] ∷ [] ∷ [] ∷ [] ∷ [] ∷ [] ∷ []))
+  pub rules : map (state_rule c units) (record { digest = dg (7 ∷ 0 ∷ 1 ∷ 17 ∷ []); unit = u3 } ∷ record { digest = dg (25 ∷ 1 ∷ 1 ∷ 18 ∷ []); unit = u4 } ∷ record { digest = dg (40 ∷ 0 ∷ 0 ∷ 8 ∷ []); unit = u0 } ∷ record { digest = dg (43 ∷ 2 ∷ 1 ∷ 19 ∷ []); unit = u5 } ∷ record { digest = dg (47 ∷ 2 ∷ 0 ∷ 16 ∷ []); unit = u2 } ∷ record { digest = dg (92 ∷ 1 ∷ 0 ∷ 12 ∷ []); unit = u1 } ∷ []) ≡ (None ∷ None ∷ None ∷ None ∷ None ∷ None ∷ [])
+  pub naive : (has_naive_fork (past units (Correct (dg (7 ∷ 0 ∷ 1 ∷ 17 ∷ [])) ∷ Correct (dg (25 ∷ 1 ∷ 1 ∷ 18 ∷ [])) ∷ Correct (dg (47 ∷ 2 ∷ 0 ∷ 16 ∷ [])) ∷ [])) (dg (47 ∷ 2 ∷ 0 ∷ 16 ∷ []) ∷ []) ∷ has_naive_fork (past units (Correct (dg (7 ∷ 0 ∷ 1 ∷ 17 ∷ [])) ∷ Correct (dg (25 ∷ 1 ∷ 1 ∷ 18 ∷ [])) ∷ Correct (dg (47 ∷ 2 ∷ 0 ∷ 16 ∷ [])) ∷ [])) [] ∷ has_naive_fork (past units (Correct (dg (40 ∷ 0 ∷ 0 ∷ 8 ∷ [])) ∷ Correct (dg (92 ∷ 1 ∷ 0 ∷ 12 ∷ [])) ∷ Correct (dg (43 ∷ 2 ∷ 1 ∷ 19 ∷ [])) ∷ [])) (dg (40 ∷ 0 ∷ 0 ∷ 8 ∷ []) ∷ []) ∷ has_naive_fork (past units (Correct (dg (40 ∷ 0 ∷ 0 ∷ 8 ∷ [])) ∷ Correct (dg (92 ∷ 1 ∷ 0 ∷ 12 ∷ [])) ∷ Correct (dg (43 ∷ 2 ∷ 1 ∷ 19 ∷ [])) ∷ [])) (dg (43 ∷ 2 ∷ 1 ∷ 19 ∷ []) ∷ []) ∷ []) ≡ (false ∷ false ∷ false ∷ false ∷ [])
+  pub steps : (step s k 0 22 (118 ∷ []) ∷ step s k 0 18 (118 ∷ []) ∷ step s k 1 25 (118 ∷ []) ∷ step s k 1 18 (118 ∷ []) ∷ step s k 2 21 (118 ∷ []) ∷ step s k 2 16 (118 ∷ []) ∷ []) ≡ plans
+  pub summits : (committee_test c.weights units (Correct (dg (7 ∷ 0 ∷ 1 ∷ 17 ∷ [])) ∷ Correct (dg (25 ∷ 1 ∷ 1 ∷ 18 ∷ [])) ∷ Correct (dg (43 ∷ 2 ∷ 1 ∷ 19 ∷ [])) ∷ []) (record { digest = dg (47 ∷ 2 ∷ 0 ∷ 16 ∷ []); unit = record { instance = dg (0 ∷ 0 ∷ 0 ∷ 0 ∷ []); creator = 2; seq = 0; time = 16; exponent = 2; panorama = (Absent ∷ Absent ∷ Absent ∷ []); value = Some ((122 ∷ [])); endorsed = [] } }) 1 1 (((0, 0) ∷ (1, 1) ∷ (2, 0) ∷ []) ∷ ((0, 0) ∷ (1, 1) ∷ (2, 1) ∷ []) ∷ []) ∷ committee_test c.weights units (Correct (dg (7 ∷ 0 ∷ 1 ∷ 17 ∷ [])) ∷ Correct (dg (25 ∷ 1 ∷ 1 ∷ 18 ∷ [])) ∷ Correct (dg (43 ∷ 2 ∷ 1 ∷ 19 ∷ [])) ∷ []) (record { digest = dg (47 ∷ 2 ∷ 0 ∷ 16 ∷ []); unit = record { instance = dg (0 ∷ 0 ∷ 0 ∷ 0 ∷ []); creator = 2; seq = 0; time = 16; exponent = 2; panorama = (Absent ∷ Absent ∷ Absent ∷ []); value = Some ((122 ∷ [])); endorsed = [] } }) 1 1 (((0, 1) ∷ (1, 1) ∷ (2, 0) ∷ []) ∷ ((0, 1) ∷ (2, 0) ∷ []) ∷ []) ∷ committee_test c.weights units (Correct (dg (7 ∷ 0 ∷ 1 ∷ 17 ∷ [])) ∷ Correct (dg (25 ∷ 1 ∷ 1 ∷ 18 ∷ [])) ∷ Correct (dg (43 ∷ 2 ∷ 1 ∷ 19 ∷ [])) ∷ []) (record { digest = dg (47 ∷ 2 ∷ 0 ∷ 16 ∷ []); unit = record { instance = dg (0 ∷ 0 ∷ 0 ∷ 0 ∷ []); creator = 2; seq = 0; time = 16; exponent = 2; panorama = (Absent ∷ Absent ∷ Absent ∷ []); value = Some ((122 ∷ [])); endorsed = [] } }) 2 1 (((1, 0) ∷ (2, 0) ∷ []) ∷ ((1, 0) ∷ (2, 1) ∷ []) ∷ ((2, 1) ∷ []) ∷ []) ∷ committee_test c.weights units (Correct (dg (7 ∷ 0 ∷ 1 ∷ 17 ∷ [])) ∷ Correct (dg (25 ∷ 1 ∷ 1 ∷ 18 ∷ [])) ∷ Correct (dg (43 ∷ 2 ∷ 1 ∷ 19 ∷ [])) ∷ []) (record { digest = dg (47 ∷ 2 ∷ 0 ∷ 16 ∷ []); unit = record { instance = dg (0 ∷ 0 ∷ 0 ∷ 0 ∷ []); creator = 2; seq = 0; time = 16; exponent = 2; panorama = (Absent ∷ Absent ∷ Absent ∷ []); value = Some ((122 ∷ [])); endorsed = [] } }) 2 1 (((1, 0) ∷ (2, 0) ∷ []) ∷ ((1, 0) ∷ (2, 1) ∷ []) ∷ ((1, 1) ∷ (2, 1) ∷ []) ∷ []) ∷ committee_test c.weights units (Correct (dg (7 ∷ 0 ∷ 1 ∷ 17 ∷ [])) ∷ Correct (dg (25 ∷ 1 ∷ 1 ∷ 18 ∷ [])) ∷ Correct (dg (43 ∷ 2 ∷ 1 ∷ 19 ∷ [])) ∷ []) (record { digest = dg (92 ∷ 1 ∷ 0 ∷ 12 ∷ []); unit = record { instance = dg (0 ∷ 0 ∷ 0 ∷ 0 ∷ []); creator = 1; seq = 0; time = 12; exponent = 2; panorama = (Absent ∷ Absent ∷ Absent ∷ []); value = Some ((121 ∷ [])); endorsed = [] } }) 1 3 (((0, 0) ∷ (1, 0) ∷ (2, 1) ∷ []) ∷ ((0, 0) ∷ (1, 0) ∷ (2, 1) ∷ []) ∷ []) ∷ committee_test c.weights units (Correct (dg (7 ∷ 0 ∷ 1 ∷ 17 ∷ [])) ∷ Correct (dg (25 ∷ 1 ∷ 1 ∷ 18 ∷ [])) ∷ Correct (dg (43 ∷ 2 ∷ 1 ∷ 19 ∷ [])) ∷ []) (record { digest = dg (92 ∷ 1 ∷ 0 ∷ 12 ∷ []); unit = record { instance = dg (0 ∷ 0 ∷ 0 ∷ 0 ∷ []); creator = 1; seq = 0; time = 12; exponent = 2; panorama = (Absent ∷ Absent ∷ Absent ∷ []); value = Some ((121 ∷ [])); endorsed = [] } }) 1 3 (((0, 1) ∷ (1, 1) ∷ []) ∷ ((0, 1) ∷ (1, 1) ∷ []) ∷ []) ∷ committee_test c.weights units (Correct (dg (7 ∷ 0 ∷ 1 ∷ 17 ∷ [])) ∷ Correct (dg (25 ∷ 1 ∷ 1 ∷ 18 ∷ [])) ∷ Correct (dg (43 ∷ 2 ∷ 1 ∷ 19 ∷ [])) ∷ []) (record { digest = dg (92 ∷ 1 ∷ 0 ∷ 12 ∷ []); unit = record { instance = dg (0 ∷ 0 ∷ 0 ∷ 0 ∷ []); creator = 1; seq = 0; time = 12; exponent = 2; panorama = (Absent ∷ Absent ∷ Absent ∷ []); value = Some ((121 ∷ [])); endorsed = [] } }) 2 2 (((1, 1) ∷ (2, 1) ∷ []) ∷ ((1, 1) ∷ []) ∷ ((1, 1) ∷ []) ∷ []) ∷ committee_test c.weights units (Correct (dg (7 ∷ 0 ∷ 1 ∷ 17 ∷ [])) ∷ Correct (dg (25 ∷ 1 ∷ 1 ∷ 18 ∷ [])) ∷ Correct (dg (43 ∷ 2 ∷ 1 ∷ 19 ∷ [])) ∷ []) (record { digest = dg (92 ∷ 1 ∷ 0 ∷ 12 ∷ []); unit = record { instance = dg (0 ∷ 0 ∷ 0 ∷ 0 ∷ []); creator = 1; seq = 0; time = 12; exponent = 2; panorama = (Absent ∷ Absent ∷ Absent ∷ []); value = Some ((121 ∷ [])); endorsed = [] } }) 2 2 (((1, 0) ∷ []) ∷ ((1, 0) ∷ []) ∷ [] ∷ []) ∷ committee_test c.weights units (Absent ∷ Correct (dg (92 ∷ 1 ∷ 0 ∷ 12 ∷ [])) ∷ Absent ∷ []) (record { digest = dg (40 ∷ 0 ∷ 0 ∷ 8 ∷ []); unit = record { instance = dg (0 ∷ 0 ∷ 0 ∷ 0 ∷ []); creator = 0; seq = 0; time = 8; exponent = 2; panorama = (Absent ∷ Absent ∷ Absent ∷ []); value = Some ((120 ∷ [])); endorsed = [] } }) 1 3 ([] ∷ [] ∷ []) ∷ committee_test c.weights units (Absent ∷ Correct (dg (92 ∷ 1 ∷ 0 ∷ 12 ∷ [])) ∷ Absent ∷ []) (record { digest = dg (40 ∷ 0 ∷ 0 ∷ 8 ∷ []); unit = record { instance = dg (0 ∷ 0 ∷ 0 ∷ 0 ∷ []); creator = 0; seq = 0; time = 8; exponent = 2; panorama = (Absent ∷ Absent ∷ Absent ∷ []); value = Some ((120 ∷ [])); endorsed = [] } }) 1 3 (((1, 0) ∷ []) ∷ ((1, 0) ∷ []) ∷ []) ∷ committee_test c.weights units (Absent ∷ Correct (dg (92 ∷ 1 ∷ 0 ∷ 12 ∷ [])) ∷ Absent ∷ []) (record { digest = dg (40 ∷ 0 ∷ 0 ∷ 8 ∷ []); unit = record { instance = dg (0 ∷ 0 ∷ 0 ∷ 0 ∷ []); creator = 0; seq = 0; time = 8; exponent = 2; panorama = (Absent ∷ Absent ∷ Absent ∷ []); value = Some ((120 ∷ [])); endorsed = [] } }) 2 2 ([] ∷ [] ∷ [] ∷ []) ∷ committee_test c.weights units (Absent ∷ Correct (dg (92 ∷ 1 ∷ 0 ∷ 12 ∷ [])) ∷ Absent ∷ []) (record { digest = dg (40 ∷ 0 ∷ 0 ∷ 8 ∷ []); unit = record { instance = dg (0 ∷ 0 ∷ 0 ∷ 0 ∷ []); creator = 0; seq = 0; time = 8; exponent = 2; panorama = (Absent ∷ Absent ∷ Absent ∷ []); value = Some ((120 ∷ [])); endorsed = [] } }) 2 2 ([] ∷ [] ∷ [] ∷ []) ∷ committee_test c.weights units (Absent ∷ Correct (dg (92 ∷ 1 ∷ 0 ∷ 12 ∷ [])) ∷ Absent ∷ []) (record { digest = dg (92 ∷ 1 ∷ 0 ∷ 12 ∷ []); unit = record { instance = dg (0 ∷ 0 ∷ 0 ∷ 0 ∷ []); creator = 1; seq = 0; time = 12; exponent = 2; panorama = (Absent ∷ Absent ∷ Absent ∷ []); value = Some ((121 ∷ [])); endorsed = [] } }) 1 1 (((1, 0) ∷ []) ∷ ((1, 0) ∷ []) ∷ []) ∷ committee_test c.weights units (Absent ∷ Correct (dg (92 ∷ 1 ∷ 0 ∷ 12 ∷ [])) ∷ Absent ∷ []) (record { digest = dg (92 ∷ 1 ∷ 0 ∷ 12 ∷ []); unit = record { instance = dg (0 ∷ 0 ∷ 0 ∷ 0 ∷ []); creator = 1; seq = 0; time = 12; exponent = 2; panorama = (Absent ∷ Absent ∷ Absent ∷ []); value = Some ((121 ∷ [])); endorsed = [] } }) 1 1 (((1, 0) ∷ []) ∷ ((1, 0) ∷ []) ∷ []) ∷ committee_test c.weights units (Absent ∷ Correct (dg (92 ∷ 1 ∷ 0 ∷ 12 ∷ [])) ∷ Absent ∷ []) (record { digest = dg (92 ∷ 1 ∷ 0 ∷ 12 ∷ []); unit = record { instance = dg (0 ∷ 0 ∷ 0 ∷ 0 ∷ []); creator = 1; seq = 0; time = 12; exponent = 2; panorama = (Absent ∷ Absent ∷ Absent ∷ []); value = Some ((121 ∷ [])); endorsed = [] } }) 2 2 (((1, 0) ∷ []) ∷ ((1, 0) ∷ []) ∷ ((1, 0) ∷ []) ∷ []) ∷ committee_test c.weights units (Absent ∷ Correct (dg (92 ∷ 1 ∷ 0 ∷ 12 ∷ [])) ∷ Absent ∷ []) (record { digest = dg (92 ∷ 1 ∷ 0 ∷ 12 ∷ []); unit = record { instance = dg (0 ∷ 0 ∷ 0 ∷ 0 ∷ []); creator = 1; seq = 0; time = 12; exponent = 2; panorama = (Absent ∷ Absent ∷ Absent ∷ []); value = Some ((121 ∷ [])); endorsed = [] } }) 2 2 (((1, 0) ∷ []) ∷ ((1, 0) ∷ []) ∷ ((1, 0) ∷ []) ∷ []) ∷ []) ≡ (false ∷ false ∷ false ∷ false ∷ false ∷ false ∷ false ∷ false ∷ false ∷ false ∷ false ∷ false ∷ false ∷ false ∷ false ∷ false ∷ [])

@@ -1,5 +1,6 @@
--- A hand-made journal: two blocks one number.
-use Rattle.std.specs.Prelude.{◌≡◌, true, false, List, [], ◌∷◌, map, Option, Some, None, Ok, refl}
+-- A leader makes two blocks of one number: who cites both sides is naive, unless one block is endorsed and listed.
+-- The values are those of a second reading of the definitions, written apart from them; the two agree.
+use Rattle.std.specs.Prelude.{◌≡◌, true, false, List, [], ◌∷◌, map, Option, Some, None, Ok}
 use Rattle.hw_types.specs.declared.unit.Obs.TheVariants.{Absent, Correct, Faulty}
 use Rattle.hw_types.specs.declared.unit.WireUnit.{WireUnit}
 use Rattle.hw_types.specs.declared.unit.Vertex.{Vertex}
@@ -14,7 +15,8 @@ use Rattle.hw_types.specs.Rules.{state_rule, has_naive_fork}
 use Rattle.hw_types.specs.Settled.{Received, settled_of, parked_of, dropped_of, missing_of, panorama_of, faulty_weight, fork_choice, is_endorsed}
 use Rattle.hw_types.specs.Journal.{Setting, received_of, journal_of, answers_from}
 use Rattle.hw_types.specs.Step.{step}
-use Rattle.hw_samples.specs.JournalWords.{unfold_all, dg, sent_as, backs, mixed, named_by, names_of, name_of, votes_in, parents_in, committee_test}
+use Rattle.hw_samples.specs.Words.{names_of, name_of}
+use Rattle.hw_samples.specs.JournalWords.{dg, sent_as, backs, mixed, named_by, votes_in, parents_in, committee_test}
 
 abbrev c : Config
 c = record { weights = (1 ∷ 1 ∷ 1 ∷ []); ftt = 0; levels = 2; min_exponent = 2; max_exponent = 4; leaders = Table (0 ∷ []); max_records = 131072; max_parked = 4096; end = None }
@@ -40,10 +42,6 @@ u4 = record { instance = dg (0 ∷ 0 ∷ 0 ∷ 0 ∷ []); creator = 1; seq = 1; 
 abbrev u5 : WireUnit
 u5 = record { instance = dg (0 ∷ 0 ∷ 0 ∷ 0 ∷ []); creator = 2; seq = 1; time = 11; exponent = 2; panorama = (Faulty ∷ Correct (dg (18 ∷ 1 ∷ 0 ∷ 9 ∷ [])) ∷ Correct (dg (25 ∷ 2 ∷ 0 ∷ 9 ∷ [])) ∷ []); value = None; endorsed = (dg (40 ∷ 0 ∷ 0 ∷ 8 ∷ []) ∷ []) }
 
-answers : answers_from s [] ((backs (dg (40 ∷ 0 ∷ 0 ∷ 8 ∷ [])) 1, true) ∷ (backs (dg (40 ∷ 0 ∷ 0 ∷ 8 ∷ [])) 2, true) ∷ (sent_as [] u0, true) ∷ (sent_as [] u1, true) ∷ (sent_as [] u2, true) ∷ (sent_as [] u3, true) ∷ (sent_as [] u4, true) ∷ (sent_as [] u5, true) ∷ []) ≡ ((Ok (receipt.Admitted 0) ∷ Ok (receipt.Admitted 0) ∷ Ok (receipt.Admitted 1) ∷ Ok (receipt.Admitted 1) ∷ Ok (receipt.Admitted 1) ∷ Ok (receipt.Admitted 1) ∷ Ok (receipt.Dropped rule.Naive) ∷ Ok (receipt.Admitted 1) ∷ []))
-unfolding unfold_all
-answers = refl
-
 abbrev j_shuffled : List Vertex
 j_shuffled = (sent_as [] u4 ∷ sent_as [] u5 ∷ backs (dg (40 ∷ 0 ∷ 0 ∷ 8 ∷ [])) 1 ∷ sent_as [] u2 ∷ sent_as [] u1 ∷ sent_as [] u3 ∷ sent_as [] u0 ∷ backs (dg (40 ∷ 0 ∷ 0 ∷ 8 ∷ [])) 2 ∷ [])
 
@@ -53,72 +51,27 @@ j = (backs (dg (40 ∷ 0 ∷ 0 ∷ 8 ∷ [])) 1 ∷ backs (dg (40 ∷ 0 ∷ 0 �
 abbrev k : Received
 k = received_of s j
 
-order : received_of s j_shuffled ≡ k
-unfolding unfold_all
-order = refl
-
-kept : journal_of s ((backs (dg (40 ∷ 0 ∷ 0 ∷ 8 ∷ [])) 1, true) ∷ (backs (dg (40 ∷ 0 ∷ 0 ∷ 8 ∷ [])) 2, true) ∷ (sent_as [] u0, true) ∷ (sent_as [] u1, true) ∷ (sent_as [] u2, true) ∷ (sent_as [] u3, true) ∷ (sent_as [] u4, true) ∷ (sent_as [] u5, true) ∷ []) ≡ j
-unfolding unfold_all
-kept = refl
-
 abbrev units : List Node
 units = (record { digest = dg (18 ∷ 1 ∷ 0 ∷ 9 ∷ []); unit = u2 } ∷ record { digest = dg (25 ∷ 2 ∷ 0 ∷ 9 ∷ []); unit = u3 } ∷ record { digest = dg (40 ∷ 0 ∷ 0 ∷ 8 ∷ []); unit = u0 } ∷ record { digest = dg (65 ∷ 0 ∷ 0 ∷ 8 ∷ []); unit = u1 } ∷ record { digest = dg (65 ∷ 2 ∷ 1 ∷ 11 ∷ []); unit = u5 } ∷ [])
-
-settled : settled_of c k ≡ units
-unfolding unfold_all
-settled = refl
-
-parked : names_of (parked_of c k) ≡ []
-unfolding unfold_all
-parked = refl
-
-dropped : names_of (dropped_of c k) ≡ (dg (34 ∷ 1 ∷ 1 ∷ 10 ∷ []) ∷ [])
-unfolding unfold_all
-dropped = refl
-
-panorama : panorama_of c k ≡ (Faulty ∷ Correct (dg (18 ∷ 1 ∷ 0 ∷ 9 ∷ [])) ∷ Correct (dg (65 ∷ 2 ∷ 1 ∷ 11 ∷ [])) ∷ [])
-unfolding unfold_all
-panorama = refl
-
-weight : faulty_weight c k ≡ 1
-unfolding unfold_all
-weight = refl
-
-fork : name_of (fork_choice c k) ≡ Some (dg (65 ∷ 0 ∷ 0 ∷ 8 ∷ []))
-unfolding unfold_all
-fork = refl
-
-endorsed : map (is_endorsed c k) (dg (40 ∷ 0 ∷ 0 ∷ 8 ∷ []) ∷ []) ≡ (true ∷ [])
-unfolding unfold_all
-endorsed = refl
-
-votes : votes_in c units ≡ (Some (dg (40 ∷ 0 ∷ 0 ∷ 8 ∷ [])) ∷ Some (dg (65 ∷ 0 ∷ 0 ∷ 8 ∷ [])) ∷ Some (dg (40 ∷ 0 ∷ 0 ∷ 8 ∷ [])) ∷ Some (dg (65 ∷ 0 ∷ 0 ∷ 8 ∷ [])) ∷ Some (dg (65 ∷ 0 ∷ 0 ∷ 8 ∷ [])) ∷ [])
-unfolding unfold_all
-votes = refl
-
-heights : parents_in c units ≡ ((None, 0) ∷ (None, 0) ∷ [])
-unfolding unfold_all
-heights = refl
-
-missing : map (missing_of c k units) (record { digest = dg (18 ∷ 1 ∷ 0 ∷ 9 ∷ []); unit = u2 } ∷ record { digest = dg (25 ∷ 2 ∷ 0 ∷ 9 ∷ []); unit = u3 } ∷ record { digest = dg (34 ∷ 1 ∷ 1 ∷ 10 ∷ []); unit = u4 } ∷ record { digest = dg (40 ∷ 0 ∷ 0 ∷ 8 ∷ []); unit = u0 } ∷ record { digest = dg (65 ∷ 0 ∷ 0 ∷ 8 ∷ []); unit = u1 } ∷ record { digest = dg (65 ∷ 2 ∷ 1 ∷ 11 ∷ []); unit = u5 } ∷ []) ≡ (([] ∷ [] ∷ [] ∷ [] ∷ [] ∷ [] ∷ []))
-unfolding unfold_all
-missing = refl
-
-rules : map (state_rule c units) (record { digest = dg (18 ∷ 1 ∷ 0 ∷ 9 ∷ []); unit = u2 } ∷ record { digest = dg (25 ∷ 2 ∷ 0 ∷ 9 ∷ []); unit = u3 } ∷ record { digest = dg (34 ∷ 1 ∷ 1 ∷ 10 ∷ []); unit = u4 } ∷ record { digest = dg (40 ∷ 0 ∷ 0 ∷ 8 ∷ []); unit = u0 } ∷ record { digest = dg (65 ∷ 0 ∷ 0 ∷ 8 ∷ []); unit = u1 } ∷ record { digest = dg (65 ∷ 2 ∷ 1 ∷ 11 ∷ []); unit = u5 } ∷ []) ≡ (None ∷ None ∷ Some (rule.Naive) ∷ None ∷ None ∷ None ∷ [])
-unfolding unfold_all
-rules = refl
-
-naive : (has_naive_fork (past units (Faulty ∷ Correct (dg (18 ∷ 1 ∷ 0 ∷ 9 ∷ [])) ∷ Correct (dg (25 ∷ 2 ∷ 0 ∷ 9 ∷ [])) ∷ [])) [] ∷ has_naive_fork (past units (Correct (dg (40 ∷ 0 ∷ 0 ∷ 8 ∷ [])) ∷ Correct (dg (18 ∷ 1 ∷ 0 ∷ 9 ∷ [])) ∷ Correct (dg (25 ∷ 2 ∷ 0 ∷ 9 ∷ [])) ∷ [])) (dg (18 ∷ 1 ∷ 0 ∷ 9 ∷ []) ∷ []) ∷ has_naive_fork (past units (Correct (dg (65 ∷ 0 ∷ 0 ∷ 8 ∷ [])) ∷ Correct (dg (18 ∷ 1 ∷ 0 ∷ 9 ∷ [])) ∷ Correct (dg (25 ∷ 2 ∷ 0 ∷ 9 ∷ [])) ∷ [])) [] ∷ has_naive_fork (past units (Correct (dg (65 ∷ 0 ∷ 0 ∷ 8 ∷ [])) ∷ Absent ∷ Correct (dg (25 ∷ 2 ∷ 0 ∷ 9 ∷ [])) ∷ [])) (dg (25 ∷ 2 ∷ 0 ∷ 9 ∷ []) ∷ []) ∷ []) ≡ (true ∷ false ∷ true ∷ false ∷ [])
-unfolding unfold_all
-naive = refl
 
 abbrev plans : List (Option Plan)
 plans = (None ∷ None ∷ Some (record { kind = kind.Witness; unit = record { instance = dg (0 ∷ 0 ∷ 0 ∷ 0 ∷ []); creator = 1; seq = 1; time = 14; exponent = 2; panorama = (Faulty ∷ Correct (dg (18 ∷ 1 ∷ 0 ∷ 9 ∷ [])) ∷ Correct (dg (65 ∷ 2 ∷ 1 ∷ 11 ∷ [])) ∷ []); value = None; endorsed = (dg (40 ∷ 0 ∷ 0 ∷ 8 ∷ []) ∷ []) } }) ∷ None ∷ Some (record { kind = kind.Witness; unit = record { instance = dg (0 ∷ 0 ∷ 0 ∷ 0 ∷ []); creator = 2; seq = 2; time = 15; exponent = 2; panorama = (Faulty ∷ Correct (dg (18 ∷ 1 ∷ 0 ∷ 9 ∷ [])) ∷ Correct (dg (65 ∷ 2 ∷ 1 ∷ 11 ∷ [])) ∷ []); value = None; endorsed = (dg (40 ∷ 0 ∷ 0 ∷ 8 ∷ []) ∷ []) } }) ∷ None ∷ [])
 
-steps : (step s k 0 8 (118 ∷ []) ∷ step s k 0 11 (118 ∷ []) ∷ step s k 1 14 (118 ∷ []) ∷ step s k 1 9 (118 ∷ []) ∷ step s k 2 15 (118 ∷ []) ∷ step s k 2 7 (118 ∷ []) ∷ []) ≡ plans
-unfolding unfold_all
-steps = refl
-
-summits : (committee_test c.weights units (Faulty ∷ Correct (dg (18 ∷ 1 ∷ 0 ∷ 9 ∷ [])) ∷ Correct (dg (65 ∷ 2 ∷ 1 ∷ 11 ∷ [])) ∷ []) (record { digest = dg (65 ∷ 0 ∷ 0 ∷ 8 ∷ []); unit = record { instance = dg (0 ∷ 0 ∷ 0 ∷ 0 ∷ []); creator = 0; seq = 0; time = 8; exponent = 2; panorama = (Absent ∷ Absent ∷ Absent ∷ []); value = Some ((121 ∷ 121 ∷ [])); endorsed = [] } }) 1 3 (((1, 0) ∷ []) ∷ ((1, 0) ∷ []) ∷ []) ∷ committee_test c.weights units (Faulty ∷ Correct (dg (18 ∷ 1 ∷ 0 ∷ 9 ∷ [])) ∷ Correct (dg (65 ∷ 2 ∷ 1 ∷ 11 ∷ [])) ∷ []) (record { digest = dg (65 ∷ 0 ∷ 0 ∷ 8 ∷ []); unit = record { instance = dg (0 ∷ 0 ∷ 0 ∷ 0 ∷ []); creator = 0; seq = 0; time = 8; exponent = 2; panorama = (Absent ∷ Absent ∷ Absent ∷ []); value = Some ((121 ∷ 121 ∷ [])); endorsed = [] } }) 1 3 (((2, 1) ∷ []) ∷ ((2, 1) ∷ []) ∷ []) ∷ committee_test c.weights units (Faulty ∷ Correct (dg (18 ∷ 1 ∷ 0 ∷ 9 ∷ [])) ∷ Correct (dg (65 ∷ 2 ∷ 1 ∷ 11 ∷ [])) ∷ []) (record { digest = dg (65 ∷ 0 ∷ 0 ∷ 8 ∷ []); unit = record { instance = dg (0 ∷ 0 ∷ 0 ∷ 0 ∷ []); creator = 0; seq = 0; time = 8; exponent = 2; panorama = (Absent ∷ Absent ∷ Absent ∷ []); value = Some ((121 ∷ 121 ∷ [])); endorsed = [] } }) 2 3 (((1, 0) ∷ (2, 1) ∷ []) ∷ ((1, 0) ∷ (2, 1) ∷ []) ∷ ((1, 0) ∷ (2, 1) ∷ []) ∷ []) ∷ committee_test c.weights units (Faulty ∷ Correct (dg (18 ∷ 1 ∷ 0 ∷ 9 ∷ [])) ∷ Correct (dg (65 ∷ 2 ∷ 1 ∷ 11 ∷ [])) ∷ []) (record { digest = dg (65 ∷ 0 ∷ 0 ∷ 8 ∷ []); unit = record { instance = dg (0 ∷ 0 ∷ 0 ∷ 0 ∷ []); creator = 0; seq = 0; time = 8; exponent = 2; panorama = (Absent ∷ Absent ∷ Absent ∷ []); value = Some ((121 ∷ 121 ∷ [])); endorsed = [] } }) 2 3 (((1, 0) ∷ []) ∷ ((1, 0) ∷ []) ∷ ((1, 0) ∷ []) ∷ []) ∷ committee_test c.weights units (Faulty ∷ Correct (dg (18 ∷ 1 ∷ 0 ∷ 9 ∷ [])) ∷ Correct (dg (65 ∷ 2 ∷ 1 ∷ 11 ∷ [])) ∷ []) (record { digest = dg (40 ∷ 0 ∷ 0 ∷ 8 ∷ []); unit = record { instance = dg (0 ∷ 0 ∷ 0 ∷ 0 ∷ []); creator = 0; seq = 0; time = 8; exponent = 2; panorama = (Absent ∷ Absent ∷ Absent ∷ []); value = Some ((120 ∷ [])); endorsed = [] } }) 1 2 (((1, 0) ∷ (2, 1) ∷ []) ∷ ((1, 0) ∷ (2, 1) ∷ []) ∷ []) ∷ committee_test c.weights units (Faulty ∷ Correct (dg (18 ∷ 1 ∷ 0 ∷ 9 ∷ [])) ∷ Correct (dg (65 ∷ 2 ∷ 1 ∷ 11 ∷ [])) ∷ []) (record { digest = dg (40 ∷ 0 ∷ 0 ∷ 8 ∷ []); unit = record { instance = dg (0 ∷ 0 ∷ 0 ∷ 0 ∷ []); creator = 0; seq = 0; time = 8; exponent = 2; panorama = (Absent ∷ Absent ∷ Absent ∷ []); value = Some ((120 ∷ [])); endorsed = [] } }) 1 2 (((1, 0) ∷ (2, 0) ∷ []) ∷ ((1, 0) ∷ (2, 1) ∷ []) ∷ []) ∷ committee_test c.weights units (Faulty ∷ Correct (dg (18 ∷ 1 ∷ 0 ∷ 9 ∷ [])) ∷ Correct (dg (65 ∷ 2 ∷ 1 ∷ 11 ∷ [])) ∷ []) (record { digest = dg (40 ∷ 0 ∷ 0 ∷ 8 ∷ []); unit = record { instance = dg (0 ∷ 0 ∷ 0 ∷ 0 ∷ []); creator = 0; seq = 0; time = 8; exponent = 2; panorama = (Absent ∷ Absent ∷ Absent ∷ []); value = Some ((120 ∷ [])); endorsed = [] } }) 2 1 (((1, 0) ∷ (2, 0) ∷ []) ∷ ((1, 0) ∷ (2, 1) ∷ []) ∷ ((1, 0) ∷ (2, 1) ∷ []) ∷ []) ∷ committee_test c.weights units (Faulty ∷ Correct (dg (18 ∷ 1 ∷ 0 ∷ 9 ∷ [])) ∷ Correct (dg (65 ∷ 2 ∷ 1 ∷ 11 ∷ [])) ∷ []) (record { digest = dg (40 ∷ 0 ∷ 0 ∷ 8 ∷ []); unit = record { instance = dg (0 ∷ 0 ∷ 0 ∷ 0 ∷ []); creator = 0; seq = 0; time = 8; exponent = 2; panorama = (Absent ∷ Absent ∷ Absent ∷ []); value = Some ((120 ∷ [])); endorsed = [] } }) 2 1 (((1, 0) ∷ (2, 0) ∷ []) ∷ ((2, 1) ∷ []) ∷ [] ∷ []) ∷ committee_test c.weights units (Faulty ∷ Correct (dg (18 ∷ 1 ∷ 0 ∷ 9 ∷ [])) ∷ Correct (dg (25 ∷ 2 ∷ 0 ∷ 9 ∷ [])) ∷ []) (record { digest = dg (65 ∷ 0 ∷ 0 ∷ 8 ∷ []); unit = record { instance = dg (0 ∷ 0 ∷ 0 ∷ 0 ∷ []); creator = 0; seq = 0; time = 8; exponent = 2; panorama = (Absent ∷ Absent ∷ Absent ∷ []); value = Some ((121 ∷ 121 ∷ [])); endorsed = [] } }) 1 2 (((1, 0) ∷ []) ∷ ((1, 0) ∷ []) ∷ []) ∷ committee_test c.weights units (Faulty ∷ Correct (dg (18 ∷ 1 ∷ 0 ∷ 9 ∷ [])) ∷ Correct (dg (25 ∷ 2 ∷ 0 ∷ 9 ∷ [])) ∷ []) (record { digest = dg (65 ∷ 0 ∷ 0 ∷ 8 ∷ []); unit = record { instance = dg (0 ∷ 0 ∷ 0 ∷ 0 ∷ []); creator = 0; seq = 0; time = 8; exponent = 2; panorama = (Absent ∷ Absent ∷ Absent ∷ []); value = Some ((121 ∷ 121 ∷ [])); endorsed = [] } }) 1 2 (((1, 0) ∷ (2, 0) ∷ []) ∷ ((1, 0) ∷ (2, 0) ∷ []) ∷ []) ∷ committee_test c.weights units (Faulty ∷ Correct (dg (18 ∷ 1 ∷ 0 ∷ 9 ∷ [])) ∷ Correct (dg (25 ∷ 2 ∷ 0 ∷ 9 ∷ [])) ∷ []) (record { digest = dg (65 ∷ 0 ∷ 0 ∷ 8 ∷ []); unit = record { instance = dg (0 ∷ 0 ∷ 0 ∷ 0 ∷ []); creator = 0; seq = 0; time = 8; exponent = 2; panorama = (Absent ∷ Absent ∷ Absent ∷ []); value = Some ((121 ∷ 121 ∷ [])); endorsed = [] } }) 2 2 (((1, 0) ∷ (2, 0) ∷ []) ∷ ((1, 0) ∷ (2, 0) ∷ []) ∷ ((1, 0) ∷ (2, 0) ∷ []) ∷ []) ∷ committee_test c.weights units (Faulty ∷ Correct (dg (18 ∷ 1 ∷ 0 ∷ 9 ∷ [])) ∷ Correct (dg (25 ∷ 2 ∷ 0 ∷ 9 ∷ [])) ∷ []) (record { digest = dg (65 ∷ 0 ∷ 0 ∷ 8 ∷ []); unit = record { instance = dg (0 ∷ 0 ∷ 0 ∷ 0 ∷ []); creator = 0; seq = 0; time = 8; exponent = 2; panorama = (Absent ∷ Absent ∷ Absent ∷ []); value = Some ((121 ∷ 121 ∷ [])); endorsed = [] } }) 2 2 (((1, 0) ∷ (2, 0) ∷ []) ∷ ((2, 0) ∷ []) ∷ ((2, 0) ∷ []) ∷ []) ∷ committee_test c.weights units (Faulty ∷ Correct (dg (18 ∷ 1 ∷ 0 ∷ 9 ∷ [])) ∷ Correct (dg (25 ∷ 2 ∷ 0 ∷ 9 ∷ [])) ∷ []) (record { digest = dg (40 ∷ 0 ∷ 0 ∷ 8 ∷ []); unit = record { instance = dg (0 ∷ 0 ∷ 0 ∷ 0 ∷ []); creator = 0; seq = 0; time = 8; exponent = 2; panorama = (Absent ∷ Absent ∷ Absent ∷ []); value = Some ((120 ∷ [])); endorsed = [] } }) 1 3 (((1, 0) ∷ (2, 0) ∷ []) ∷ ((1, 0) ∷ (2, 0) ∷ []) ∷ []) ∷ committee_test c.weights units (Faulty ∷ Correct (dg (18 ∷ 1 ∷ 0 ∷ 9 ∷ [])) ∷ Correct (dg (25 ∷ 2 ∷ 0 ∷ 9 ∷ [])) ∷ []) (record { digest = dg (40 ∷ 0 ∷ 0 ∷ 8 ∷ []); unit = record { instance = dg (0 ∷ 0 ∷ 0 ∷ 0 ∷ []); creator = 0; seq = 0; time = 8; exponent = 2; panorama = (Absent ∷ Absent ∷ Absent ∷ []); value = Some ((120 ∷ [])); endorsed = [] } }) 1 3 (((1, 0) ∷ (2, 0) ∷ []) ∷ ((1, 0) ∷ (2, 0) ∷ []) ∷ []) ∷ committee_test c.weights units (Faulty ∷ Correct (dg (18 ∷ 1 ∷ 0 ∷ 9 ∷ [])) ∷ Correct (dg (25 ∷ 2 ∷ 0 ∷ 9 ∷ [])) ∷ []) (record { digest = dg (40 ∷ 0 ∷ 0 ∷ 8 ∷ []); unit = record { instance = dg (0 ∷ 0 ∷ 0 ∷ 0 ∷ []); creator = 0; seq = 0; time = 8; exponent = 2; panorama = (Absent ∷ Absent ∷ Absent ∷ []); value = Some ((120 ∷ [])); endorsed = [] } }) 2 2 (((2, 0) ∷ []) ∷ ((2, 0) ∷ []) ∷ ((2, 0) ∷ []) ∷ []) ∷ committee_test c.weights units (Faulty ∷ Correct (dg (18 ∷ 1 ∷ 0 ∷ 9 ∷ [])) ∷ Correct (dg (25 ∷ 2 ∷ 0 ∷ 9 ∷ [])) ∷ []) (record { digest = dg (40 ∷ 0 ∷ 0 ∷ 8 ∷ []); unit = record { instance = dg (0 ∷ 0 ∷ 0 ∷ 0 ∷ []); creator = 0; seq = 0; time = 8; exponent = 2; panorama = (Absent ∷ Absent ∷ Absent ∷ []); value = Some ((120 ∷ [])); endorsed = [] } }) 2 2 (((1, 0) ∷ (2, 0) ∷ []) ∷ ((1, 0) ∷ (2, 0) ∷ []) ∷ ((1, 0) ∷ (2, 0) ∷ []) ∷ []) ∷ []) ≡ (false ∷ false ∷ false ∷ false ∷ false ∷ false ∷ false ∷ false ∷ false ∷ false ∷ false ∷ false ∷ false ∷ false ∷ false ∷ false ∷ [])
-unfolding unfold_all
-summits = refl
+pub record TwoBlocksOneNumberJournal : Type 0 where
+  pub answers : answers_from s [] ((backs (dg (40 ∷ 0 ∷ 0 ∷ 8 ∷ [])) 1, true) ∷ (backs (dg (40 ∷ 0 ∷ 0 ∷ 8 ∷ [])) 2, true) ∷ (sent_as [] u0, true) ∷ (sent_as [] u1, true) ∷ (sent_as [] u2, true) ∷ (sent_as [] u3, true) ∷ (sent_as [] u4, true) ∷ (sent_as [] u5, true) ∷ []) ≡ ((Ok (receipt.Admitted 0) ∷ Ok (receipt.Admitted 0) ∷ Ok (receipt.Admitted 1) ∷ Ok (receipt.Admitted 1) ∷ Ok (receipt.Admitted 1) ∷ Ok (receipt.Admitted 1) ∷ Ok (receipt.Dropped rule.Naive) ∷ Ok (receipt.Admitted 1) ∷ []))
+  pub order : received_of s j_shuffled ≡ k
+  pub kept : journal_of s ((backs (dg (40 ∷ 0 ∷ 0 ∷ 8 ∷ [])) 1, true) ∷ (backs (dg (40 ∷ 0 ∷ 0 ∷ 8 ∷ [])) 2, true) ∷ (sent_as [] u0, true) ∷ (sent_as [] u1, true) ∷ (sent_as [] u2, true) ∷ (sent_as [] u3, true) ∷ (sent_as [] u4, true) ∷ (sent_as [] u5, true) ∷ []) ≡ j
+  pub settled : settled_of c k ≡ units
+  pub parked : names_of (parked_of c k) ≡ []
+  pub dropped : names_of (dropped_of c k) ≡ (dg (34 ∷ 1 ∷ 1 ∷ 10 ∷ []) ∷ [])
+  pub panorama : panorama_of c k ≡ (Faulty ∷ Correct (dg (18 ∷ 1 ∷ 0 ∷ 9 ∷ [])) ∷ Correct (dg (65 ∷ 2 ∷ 1 ∷ 11 ∷ [])) ∷ [])
+  pub weight : faulty_weight c k ≡ 1
+  pub fork : name_of (fork_choice c k) ≡ Some (dg (65 ∷ 0 ∷ 0 ∷ 8 ∷ []))
+  pub endorsed : map (is_endorsed c k) (dg (40 ∷ 0 ∷ 0 ∷ 8 ∷ []) ∷ []) ≡ (true ∷ [])
+  pub votes : votes_in c units ≡ (Some (dg (40 ∷ 0 ∷ 0 ∷ 8 ∷ [])) ∷ Some (dg (65 ∷ 0 ∷ 0 ∷ 8 ∷ [])) ∷ Some (dg (40 ∷ 0 ∷ 0 ∷ 8 ∷ [])) ∷ Some (dg (65 ∷ 0 ∷ 0 ∷ 8 ∷ [])) ∷ Some (dg (65 ∷ 0 ∷ 0 ∷ 8 ∷ [])) ∷ [])
+  pub heights : parents_in c units ≡ ((None, 0) ∷ (None, 0) ∷ [])
+  pub missing : map (missing_of c k units) (record { digest = dg (18 ∷ 1 ∷ 0 ∷ 9 ∷ []); unit = u2 } ∷ record { digest = dg (25 ∷ 2 ∷ 0 ∷ 9 ∷ []); unit = u3 } ∷ record { digest = dg (34 ∷ 1 ∷ 1 ∷ 10 ∷ []); unit = u4 } ∷ record { digest = dg (40 ∷ 0 ∷ 0 ∷ 8 ∷ []); unit = u0 } ∷ record { digest = dg (65 ∷ 0 ∷ 0 ∷ 8 ∷ []); unit = u1 } ∷ record { digest = dg (65 ∷ 2 ∷ 1 ∷ 11 ∷ []); unit = u5 } ∷ []) ≡ (([] ∷ [] ∷ [] ∷ [] ∷ [] ∷ [] ∷ []))
+  pub rules : map (state_rule c units) (record { digest = dg (18 ∷ 1 ∷ 0 ∷ 9 ∷ []); unit = u2 } ∷ record { digest = dg (25 ∷ 2 ∷ 0 ∷ 9 ∷ []); unit = u3 } ∷ record { digest = dg (34 ∷ 1 ∷ 1 ∷ 10 ∷ []); unit = u4 } ∷ record { digest = dg (40 ∷ 0 ∷ 0 ∷ 8 ∷ []); unit = u0 } ∷ record { digest = dg (65 ∷ 0 ∷ 0 ∷ 8 ∷ []); unit = u1 } ∷ record { digest = dg (65 ∷ 2 ∷ 1 ∷ 11 ∷ []); unit = u5 } ∷ []) ≡ (None ∷ None ∷ Some (rule.Naive) ∷ None ∷ None ∷ None ∷ [])
+  pub naive : (has_naive_fork (past units (Faulty ∷ Correct (dg (18 ∷ 1 ∷ 0 ∷ 9 ∷ [])) ∷ Correct (dg (25 ∷ 2 ∷ 0 ∷ 9 ∷ [])) ∷ [])) [] ∷ has_naive_fork (past units (Correct (dg (40 ∷ 0 ∷ 0 ∷ 8 ∷ [])) ∷ Correct (dg (18 ∷ 1 ∷ 0 ∷ 9 ∷ [])) ∷ Correct (dg (25 ∷ 2 ∷ 0 ∷ 9 ∷ [])) ∷ [])) (dg (18 ∷ 1 ∷ 0 ∷ 9 ∷ []) ∷ []) ∷ has_naive_fork (past units (Correct (dg (65 ∷ 0 ∷ 0 ∷ 8 ∷ [])) ∷ Correct (dg (18 ∷ 1 ∷ 0 ∷ 9 ∷ [])) ∷ Correct (dg (25 ∷ 2 ∷ 0 ∷ 9 ∷ [])) ∷ [])) [] ∷ has_naive_fork (past units (Correct (dg (65 ∷ 0 ∷ 0 ∷ 8 ∷ [])) ∷ Absent ∷ Correct (dg (25 ∷ 2 ∷ 0 ∷ 9 ∷ [])) ∷ [])) (dg (25 ∷ 2 ∷ 0 ∷ 9 ∷ []) ∷ []) ∷ []) ≡ (true ∷ false ∷ true ∷ false ∷ [])
+  pub steps : (step s k 0 8 (118 ∷ []) ∷ step s k 0 11 (118 ∷ []) ∷ step s k 1 14 (118 ∷ []) ∷ step s k 1 9 (118 ∷ []) ∷ step s k 2 15 (118 ∷ []) ∷ step s k 2 7 (118 ∷ []) ∷ []) ≡ plans
+  pub summits : (committee_test c.weights units (Faulty ∷ Correct (dg (18 ∷ 1 ∷ 0 ∷ 9 ∷ [])) ∷ Correct (dg (65 ∷ 2 ∷ 1 ∷ 11 ∷ [])) ∷ []) (record { digest = dg (65 ∷ 0 ∷ 0 ∷ 8 ∷ []); unit = record { instance = dg (0 ∷ 0 ∷ 0 ∷ 0 ∷ []); creator = 0; seq = 0; time = 8; exponent = 2; panorama = (Absent ∷ Absent ∷ Absent ∷ []); value = Some ((121 ∷ 121 ∷ [])); endorsed = [] } }) 1 3 (((1, 0) ∷ []) ∷ ((1, 0) ∷ []) ∷ []) ∷ committee_test c.weights units (Faulty ∷ Correct (dg (18 ∷ 1 ∷ 0 ∷ 9 ∷ [])) ∷ Correct (dg (65 ∷ 2 ∷ 1 ∷ 11 ∷ [])) ∷ []) (record { digest = dg (65 ∷ 0 ∷ 0 ∷ 8 ∷ []); unit = record { instance = dg (0 ∷ 0 ∷ 0 ∷ 0 ∷ []); creator = 0; seq = 0; time = 8; exponent = 2; panorama = (Absent ∷ Absent ∷ Absent ∷ []); value = Some ((121 ∷ 121 ∷ [])); endorsed = [] } }) 1 3 (((2, 1) ∷ []) ∷ ((2, 1) ∷ []) ∷ []) ∷ committee_test c.weights units (Faulty ∷ Correct (dg (18 ∷ 1 ∷ 0 ∷ 9 ∷ [])) ∷ Correct (dg (65 ∷ 2 ∷ 1 ∷ 11 ∷ [])) ∷ []) (record { digest = dg (65 ∷ 0 ∷ 0 ∷ 8 ∷ []); unit = record { instance = dg (0 ∷ 0 ∷ 0 ∷ 0 ∷ []); creator = 0; seq = 0; time = 8; exponent = 2; panorama = (Absent ∷ Absent ∷ Absent ∷ []); value = Some ((121 ∷ 121 ∷ [])); endorsed = [] } }) 2 3 (((1, 0) ∷ (2, 1) ∷ []) ∷ ((1, 0) ∷ (2, 1) ∷ []) ∷ ((1, 0) ∷ (2, 1) ∷ []) ∷ []) ∷ committee_test c.weights units (Faulty ∷ Correct (dg (18 ∷ 1 ∷ 0 ∷ 9 ∷ [])) ∷ Correct (dg (65 ∷ 2 ∷ 1 ∷ 11 ∷ [])) ∷ []) (record { digest = dg (65 ∷ 0 ∷ 0 ∷ 8 ∷ []); unit = record { instance = dg (0 ∷ 0 ∷ 0 ∷ 0 ∷ []); creator = 0; seq = 0; time = 8; exponent = 2; panorama = (Absent ∷ Absent ∷ Absent ∷ []); value = Some ((121 ∷ 121 ∷ [])); endorsed = [] } }) 2 3 (((1, 0) ∷ []) ∷ ((1, 0) ∷ []) ∷ ((1, 0) ∷ []) ∷ []) ∷ committee_test c.weights units (Faulty ∷ Correct (dg (18 ∷ 1 ∷ 0 ∷ 9 ∷ [])) ∷ Correct (dg (65 ∷ 2 ∷ 1 ∷ 11 ∷ [])) ∷ []) (record { digest = dg (40 ∷ 0 ∷ 0 ∷ 8 ∷ []); unit = record { instance = dg (0 ∷ 0 ∷ 0 ∷ 0 ∷ []); creator = 0; seq = 0; time = 8; exponent = 2; panorama = (Absent ∷ Absent ∷ Absent ∷ []); value = Some ((120 ∷ [])); endorsed = [] } }) 1 2 (((1, 0) ∷ (2, 1) ∷ []) ∷ ((1, 0) ∷ (2, 1) ∷ []) ∷ []) ∷ committee_test c.weights units (Faulty ∷ Correct (dg (18 ∷ 1 ∷ 0 ∷ 9 ∷ [])) ∷ Correct (dg (65 ∷ 2 ∷ 1 ∷ 11 ∷ [])) ∷ []) (record { digest = dg (40 ∷ 0 ∷ 0 ∷ 8 ∷ []); unit = record { instance = dg (0 ∷ 0 ∷ 0 ∷ 0 ∷ []); creator = 0; seq = 0; time = 8; exponent = 2; panorama = (Absent ∷ Absent ∷ Absent ∷ []); value = Some ((120 ∷ [])); endorsed = [] } }) 1 2 (((1, 0) ∷ (2, 0) ∷ []) ∷ ((1, 0) ∷ (2, 1) ∷ []) ∷ []) ∷ committee_test c.weights units (Faulty ∷ Correct (dg (18 ∷ 1 ∷ 0 ∷ 9 ∷ [])) ∷ Correct (dg (65 ∷ 2 ∷ 1 ∷ 11 ∷ [])) ∷ []) (record { digest = dg (40 ∷ 0 ∷ 0 ∷ 8 ∷ []); unit = record { instance = dg (0 ∷ 0 ∷ 0 ∷ 0 ∷ []); creator = 0; seq = 0; time = 8; exponent = 2; panorama = (Absent ∷ Absent ∷ Absent ∷ []); value = Some ((120 ∷ [])); endorsed = [] } }) 2 1 (((1, 0) ∷ (2, 0) ∷ []) ∷ ((1, 0) ∷ (2, 1) ∷ []) ∷ ((1, 0) ∷ (2, 1) ∷ []) ∷ []) ∷ committee_test c.weights units (Faulty ∷ Correct (dg (18 ∷ 1 ∷ 0 ∷ 9 ∷ [])) ∷ Correct (dg (65 ∷ 2 ∷ 1 ∷ 11 ∷ [])) ∷ []) (record { digest = dg (40 ∷ 0 ∷ 0 ∷ 8 ∷ []); unit = record { instance = dg (0 ∷ 0 ∷ 0 ∷ 0 ∷ []); creator = 0; seq = 0; time = 8; exponent = 2; panorama = (Absent ∷ Absent ∷ Absent ∷ []); value = Some ((120 ∷ [])); endorsed = [] } }) 2 1 (((1, 0) ∷ (2, 0) ∷ []) ∷ ((2, 1) ∷ []) ∷ [] ∷ []) ∷ committee_test c.weights units (Faulty ∷ Correct (dg (18 ∷ 1 ∷ 0 ∷ 9 ∷ [])) ∷ Correct (dg (25 ∷ 2 ∷ 0 ∷ 9 ∷ [])) ∷ []) (record { digest = dg (65 ∷ 0 ∷ 0 ∷ 8 ∷ []); unit = record { instance = dg (0 ∷ 0 ∷ 0 ∷ 0 ∷ []); creator = 0; seq = 0; time = 8; exponent = 2; panorama = (Absent ∷ Absent ∷ Absent ∷ []); value = Some ((121 ∷ 121 ∷ [])); endorsed = [] } }) 1 2 (((1, 0) ∷ []) ∷ ((1, 0) ∷ []) ∷ []) ∷ committee_test c.weights units (Faulty ∷ Correct (dg (18 ∷ 1 ∷ 0 ∷ 9 ∷ [])) ∷ Correct (dg (25 ∷ 2 ∷ 0 ∷ 9 ∷ [])) ∷ []) (record { digest = dg (65 ∷ 0 ∷ 0 ∷ 8 ∷ []); unit = record { instance = dg (0 ∷ 0 ∷ 0 ∷ 0 ∷ []); creator = 0; seq = 0; time = 8; exponent = 2; panorama = (Absent ∷ Absent ∷ Absent ∷ []); value = Some ((121 ∷ 121 ∷ [])); endorsed = [] } }) 1 2 (((1, 0) ∷ (2, 0) ∷ []) ∷ ((1, 0) ∷ (2, 0) ∷ []) ∷ []) ∷ committee_test c.weights units (Faulty ∷ Correct (dg (18 ∷ 1 ∷ 0 ∷ 9 ∷ [])) ∷ Correct (dg (25 ∷ 2 ∷ 0 ∷ 9 ∷ [])) ∷ []) (record { digest = dg (65 ∷ 0 ∷ 0 ∷ 8 ∷ []); unit = record { instance = dg (0 ∷ 0 ∷ 0 ∷ 0 ∷ []); creator = 0; seq = 0; time = 8; exponent = 2; panorama = (Absent ∷ Absent ∷ Absent ∷ []); value = Some ((121 ∷ 121 ∷ [])); endorsed = [] } }) 2 2 (((1, 0) ∷ (2, 0) ∷ []) ∷ ((1, 0) ∷ (2, 0) ∷ []) ∷ ((1, 0) ∷ (2, 0) ∷ []) ∷ []) ∷ committee_test c.weights units (Faulty ∷ Correct (dg (18 ∷ 1 ∷ 0 ∷ 9 ∷ [])) ∷ Correct (dg (25 ∷ 2 ∷ 0 ∷ 9 ∷ [])) ∷ []) (record { digest = dg (65 ∷ 0 ∷ 0 ∷ 8 ∷ []); unit = record { instance = dg (0 ∷ 0 ∷ 0 ∷ 0 ∷ []); creator = 0; seq = 0; time = 8; exponent = 2; panorama = (Absent ∷ Absent ∷ Absent ∷ []); value = Some ((121 ∷ 121 ∷ [])); endorsed = [] } }) 2 2 (((1, 0) ∷ (2, 0) ∷ []) ∷ ((2, 0) ∷ []) ∷ ((2, 0) ∷ []) ∷ []) ∷ committee_test c.weights units (Faulty ∷ Correct (dg (18 ∷ 1 ∷ 0 ∷ 9 ∷ [])) ∷ Correct (dg (25 ∷ 2 ∷ 0 ∷ 9 ∷ [])) ∷ []) (record { digest = dg (40 ∷ 0 ∷ 0 ∷ 8 ∷ []); unit = record { instance = dg (0 ∷ 0 ∷ 0 ∷ 0 ∷ []); creator = 0; seq = 0; time = 8; exponent = 2; panorama = (Absent ∷ Absent ∷ Absent ∷ []); value = Some ((120 ∷ [])); endorsed = [] } }) 1 3 (((1, 0) ∷ (2, 0) ∷ []) ∷ ((1, 0) ∷ (2, 0) ∷ []) ∷ []) ∷ committee_test c.weights units (Faulty ∷ Correct (dg (18 ∷ 1 ∷ 0 ∷ 9 ∷ [])) ∷ Correct (dg (25 ∷ 2 ∷ 0 ∷ 9 ∷ [])) ∷ []) (record { digest = dg (40 ∷ 0 ∷ 0 ∷ 8 ∷ []); unit = record { instance = dg (0 ∷ 0 ∷ 0 ∷ 0 ∷ []); creator = 0; seq = 0; time = 8; exponent = 2; panorama = (Absent ∷ Absent ∷ Absent ∷ []); value = Some ((120 ∷ [])); endorsed = [] } }) 1 3 (((1, 0) ∷ (2, 0) ∷ []) ∷ ((1, 0) ∷ (2, 0) ∷ []) ∷ []) ∷ committee_test c.weights units (Faulty ∷ Correct (dg (18 ∷ 1 ∷ 0 ∷ 9 ∷ [])) ∷ Correct (dg (25 ∷ 2 ∷ 0 ∷ 9 ∷ [])) ∷ []) (record { digest = dg (40 ∷ 0 ∷ 0 ∷ 8 ∷ []); unit = record { instance = dg (0 ∷ 0 ∷ 0 ∷ 0 ∷ []); creator = 0; seq = 0; time = 8; exponent = 2; panorama = (Absent ∷ Absent ∷ Absent ∷ []); value = Some ((120 ∷ [])); endorsed = [] } }) 2 2 (((2, 0) ∷ []) ∷ ((2, 0) ∷ []) ∷ ((2, 0) ∷ []) ∷ []) ∷ committee_test c.weights units (Faulty ∷ Correct (dg (18 ∷ 1 ∷ 0 ∷ 9 ∷ [])) ∷ Correct (dg (25 ∷ 2 ∷ 0 ∷ 9 ∷ [])) ∷ []) (record { digest = dg (40 ∷ 0 ∷ 0 ∷ 8 ∷ []); unit = record { instance = dg (0 ∷ 0 ∷ 0 ∷ 0 ∷ []); creator = 0; seq = 0; time = 8; exponent = 2; panorama = (Absent ∷ Absent ∷ Absent ∷ []); value = Some ((120 ∷ [])); endorsed = [] } }) 2 2 (((1, 0) ∷ (2, 0) ∷ []) ∷ ((1, 0) ∷ (2, 0) ∷ []) ∷ ((1, 0) ∷ (2, 0) ∷ []) ∷ []) ∷ []) ≡ (false ∷ false ∷ false ∷ false ∷ false ∷ false ∷ false ∷ false ∷ false ∷ false ∷ false ∷ false ∷ false ∷ false ∷ false ∷ false ∷ [])

@@ -74,11 +74,11 @@ impl Dag {
         ensures seen { result ≡ is_seen self.now low.0 high.0 }
         ensures room { marks.new ≡ marks.old }
     {
+        let creator = self.units[low.0 as usize].signed().unit.creator;
         // What a unit observes has a lesser number.
         if high.0 <= low.0 {
             return high.0 == low.0;
         }
-        let creator = self.units[low.0 as usize].signed().unit.creator;
         match self.units[high.0 as usize].panorama().get(creator) {
             View::Absent => false,
             View::Correct(no) => self.on_lane(low, no),

@@ -4,25 +4,35 @@ use Rattle.hw_dag.proofs.MarkLaws.{IsWalked, walk_starts, walk_skips, walk_looks
 use Rattle.hw_dag.proofs.graph.Dag.reaches.Goals as goal
 
 pub loop-next-init : goal.loop-next-init
-loop-next-init c = (c.requires.below, omega arith, λ g. walk_starts c.args.self.now g c.args.high.0 c.args.low.0 c.clear.new.marked c.mark_observed.new.marked c.requires.high_known c.clear.ensures
-    (let made = c.mark_observed.ensures in record { kept = made.kept; all = made.all; only = made.only }))
+loop-next-init c = (
+  c.requires.below,
+  omega arith,
+  λ g. walk_starts c.args.self.now g c.args.high.0 c.args.low.0 c.clear.new.marked c.mark_observed.new.marked c.requires.high_known c.clear.ensures
+      (let made = c.mark_observed.ensures in record { kept = made.kept; all = made.all; only = made.only }),
+)
 
 pub loop-next-preserved-then-marked-next : goal.loop-next-preserved-then-marked-next
 loop-next-preserved-then-marked-next c =
     let i = c.loop-next.invariant in
     let more = c.loop-next-test.true in
-    let up : c.loop-next.next ≡ c.loop-next.next - 1 + 1 = omega arith in
-    (omega arith, omega (arith, i.1), λ g. walk_looks c.args.self.now g c.args.high.0 c.args.low.0 (c.loop-next.next - 1) c.loop-next.marked c.mark_observed-then-marked-next.new.marked c.requires.high_known (omega (arith, i.1)) (omega arith)
-    (subst (λ (n : ℕ). IsWalked c.args.self.now g c.args.high.0 c.args.low.0 n c.loop-next.marked) up (i.2 g)) c.if-marked-next.true
-    (let made = c.mark_observed-then-marked-next.ensures in record { kept = made.kept; all = made.all; only = made.only }))
+    let up : c.loop-next.next ≡ c.loop-next.next - 1 + 1 = omega arith in (
+      omega arith,
+      omega (arith, i.1),
+      λ g. walk_looks c.args.self.now g c.args.high.0 c.args.low.0 (c.loop-next.next - 1) c.loop-next.marked c.mark_observed-then-marked-next.new.marked c.requires.high_known (omega (arith, i.1)) (omega arith)
+          (subst (λ (n : ℕ). IsWalked c.args.self.now g c.args.high.0 c.args.low.0 n c.loop-next.marked) up (i.2 g)) c.if-marked-next.true
+          (let made = c.mark_observed-then-marked-next.ensures in record { kept = made.kept; all = made.all; only = made.only }),
+    )
 
 pub loop-next-preserved : goal.loop-next-preserved
 loop-next-preserved c =
     let i = c.loop-next.invariant in
     let more = c.loop-next-test.true in
-    let up : c.loop-next.next ≡ c.loop-next.next - 1 + 1 = omega arith in
-    (omega arith, omega (arith, i.1), λ g. walk_skips c.args.self.now g c.args.high.0 c.args.low.0 (c.loop-next.next - 1) c.loop-next.marked
-    (subst (λ (n : ℕ). IsWalked c.args.self.now g c.args.high.0 c.args.low.0 n c.loop-next.marked) up (i.2 g)) c.if-marked-next.false)
+    let up : c.loop-next.next ≡ c.loop-next.next - 1 + 1 = omega arith in (
+      omega arith,
+      omega (arith, i.1),
+      λ g. walk_skips c.args.self.now g c.args.high.0 c.args.low.0 (c.loop-next.next - 1) c.loop-next.marked
+          (subst (λ (n : ℕ). IsWalked c.args.self.now g c.args.high.0 c.args.low.0 n c.loop-next.marked) up (i.2 g)) c.if-marked-next.false,
+    )
 
 pub returns : goal.returns
 returns c =

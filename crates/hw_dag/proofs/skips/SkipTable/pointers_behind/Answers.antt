@@ -36,9 +36,12 @@ loop-i-preserved c =
     let many : length c.push.new.self.items ≡ c.loop-i.i + 1 = ap length new ∙ length-append c.loop-i.pointers.items (c.if-i-gt0.at ∷ []) ∙ ap (λ (n : ℕ). n + 1) i.0 in
     let capacity = c.push.ensures.capacity in
     let here = at_pointer c in
-    let down : c.loop-i.i + 1 - 1 ≡ c.loop-i.i = omega arith in
-    (many, omega (arith, i.1), ap (λ (n : ℕ). back_from c.args.self.now.backs (2 ^ n - 1) c.args.back.0) down ∙ here,
-    pointers_more c.args.self.now.backs c.args.back.0 c.loop-i.i c.loop-i.pointers.items c.push.new.self.items c.if-i-gt0.at new i.0 i.3 here)
+    let down : c.loop-i.i + 1 - 1 ≡ c.loop-i.i = omega arith in (
+      many,
+      omega (arith, i.1),
+      ap (λ (n : ℕ). back_from c.args.self.now.backs (2 ^ n - 1) c.args.back.0) down ∙ here,
+      pointers_more c.args.self.now.backs c.args.back.0 c.loop-i.i c.loop-i.pointers.items c.push.new.self.items c.if-i-gt0.at new i.0 i.3 here,
+    )
   where
     at_pointer : (c : goal.Else-is_err) → back_from c.args.self.now.backs (2 ^ c.loop-i.i - 1) c.args.back.0 ≡ Some c.if-i-gt0.at.0
     at_pointer c =

@@ -1,0 +1,4 @@
+pub mod JournalLaws
+pub mod ReplayLaws
+pub mod OutcomeLaws
+pub mod RunLaws

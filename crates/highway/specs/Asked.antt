@@ -1,0 +1,13 @@
+-- What a command asks for.
+use Rattle.std.specs.Prelude.{Option, Some, None}
+use Rattle.highway.specs.declared.command.Command.{Command}
+use Rattle.highway.specs.declared.command.Command.TheVariants as command
+use Rattle.highway.specs.Commands.{Request, Replay}
+
+abbrev pub request : Command → Request
+request (command.Replay log) = Replay log.now
+
+-- the request of the command, if there is one
+abbrev pub asked : Option Command → Option Request
+asked None = None
+asked (Some c) = Some (request c)

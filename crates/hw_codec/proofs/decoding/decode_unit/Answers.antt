@@ -1,0 +1,11 @@
+use Rattle.std.proofs.Common.{arith}
+use Rattle.hw_codec.proofs.Decoded.{given_is_read}
+use Rattle.hw_codec.proofs.Fields.{bytes_are}
+use Rattle.hw_codec.proofs.Spelled.{unit_found, unit_spelled_reads}
+use Rattle.hw_codec.proofs.decoding.decode_unit.Goals as goal
+
+pub returns-clause-ok : goal.returns-clause-ok
+returns-clause-ok c = unit_found c.args.bytes.now _ (bytes_are _ (λ i. omega (arith, c.type_inv.bytes i))) c.whole_unit.ensures
+
+pub returns-clause-read : goal.returns-clause-read
+returns-clause-read c = λ x in_range spells. given_is_read _ _ x c.whole_unit.ensures (unit_spelled_reads c.args.bytes.now x in_range spells)

@@ -1,0 +1,5 @@
+pub mod EndorserLaws
+pub mod CountLaws
+pub mod PairLaws
+pub mod WeightLaws
+pub mod KeptLaws

@@ -1,0 +1,4 @@
+pub mod Endorsers
+pub mod Told
+pub mod Kept
+pub mod Laws

@@ -1,0 +1,21 @@
+use Rattle.std.proofs.Common.{◌≡◌, ◌+◌, ◌-◌, ◌≤◌, IsTrue, length, take, ◌++◌}
+use Rattle.hw_io.specs.Files.{SameFiles}
+use Rattle.hw_io.proofs.buffer.fill.Given as goal
+
+abbrev pub invariant-loop-end : goal.invariant-loop-end
+invariant-loop-end g l =
+    let f = g.F.Files in
+    record {
+      later : l.held ≤ l.end;
+      within : l.end ≤ length l.bytes;
+      held : take l.held l.bytes ≡ take l.held l.initial.bytes;
+      left : IsTrue f.tells → take l.end l.bytes ++ f.unread l.files ≡ take l.held l.initial.bytes ++ f.unread l.initial.files;
+      allowance : f.allowance l.files + l.end ≡ f.allowance l.initial.files + l.held;
+      cause : f.read_faults l.initial.files ≤ f.read_faults l.files;
+      files : SameFiles (f.held l.initial.files) (f.held l.files);
+      begun : f.begun l.files ≡ f.begun l.initial.files;
+      appends : f.append_faults l.files ≡ f.append_faults l.initial.files;
+    }
+
+abbrev pub decreases-loop-end : goal.decreases-loop-end
+decreases-loop-end g l = length l.bytes - l.end

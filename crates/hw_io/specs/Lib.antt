@@ -1,0 +1,9 @@
+pub mod Buffers
+pub mod Doors
+pub mod Faults
+pub mod Files
+pub mod Memory
+pub mod Moments
+pub mod Shelves
+pub mod Sinks
+pub mod Sure

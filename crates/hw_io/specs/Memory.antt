@@ -1,0 +1,54 @@
+-- What the outside in memory tells, and which of its calls are to fail.
+use Rattle.std.specs.Prelude.{◌≡◌, ℕ, ◌==◌, List, Option, Some}
+use Rattle.std.specs.List.{find}
+use Rattle.std.specs.Option.{option_map}
+use Rattle.hw_io.specs.Shelves.{held_in, begun_in, unread_in, allowance_of}
+use Rattle.hw_io.specs.declared.memory.Planned.{Planned}
+use Rattle.hw_io.specs.declared.memory.MemFiles.{MemFiles}
+use Rattle.hw_io.specs.declared.memory.MemSink.{MemSink}
+
+abbrev pub mem_held : MemFiles → List ℕ → Option (List ℕ)
+mem_held files = held_in files.shelf.files.items
+
+abbrev pub mem_begun : MemFiles → Option (List ℕ)
+mem_begun files = begun_in files.shelf.files.items files.shelf.reading
+
+abbrev pub mem_unread : MemFiles → List ℕ
+mem_unread files = unread_in files.shelf.files.items files.shelf.reading
+
+abbrev pub mem_allowance : MemFiles → ℕ
+mem_allowance files = allowance_of files.shelf.reading
+
+abbrev pub mem_read_faults : MemFiles → ℕ
+mem_read_faults files = files.read_faults
+
+abbrev pub mem_append_faults : MemFiles → ℕ
+mem_append_faults files = files.append_faults
+
+-- the calls that are to fail
+abbrev pub mem_planned : MemFiles → List Planned
+mem_planned files = files.planned.items
+
+-- how many calls were made
+abbrev pub mem_calls : MemFiles → ℕ
+mem_calls files = files.calls
+
+-- no call was made, and no fault counted
+pub record SameCounts (old new : MemFiles) : Type 0 where
+  pub calls : new.calls ≡ old.calls
+  pub read_faults : new.read_faults ≡ old.read_faults
+  pub append_faults : new.append_faults ≡ old.append_faults
+
+abbrev pub mem_taken : MemSink → Option (List ℕ)
+mem_taken sink = Some sink.bytes.items
+
+abbrev pub mem_faults : MemSink → ℕ
+mem_faults sink = sink.faults
+
+-- the calls of the sink that are to fail
+abbrev pub sink_planned : MemSink → List ℕ
+sink_planned sink = sink.planned.items
+
+-- how much is written by the call of this number, where it is to fail
+abbrev pub planned_at : List Planned → ℕ → Option ℕ
+planned_at planned call = option_map (λ p. p.written) (find (λ p. p.call == call) planned)

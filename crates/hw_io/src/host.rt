@@ -1,0 +1,156 @@
+//! The real file system and standard output. They tell no content, and count each error.
+ghost use Rattle.std.specs.Prelude.{◌≡◌, ◌≤◌, ℕ, [], false, None, Some};
+ghost use Rattle.std.specs.Option.{option_map};
+ghost use Rattle.hw_io.specs.Faults.{raised};
+
+use crate::outside::{Files, IoFault, READ_LIMIT, Sink};
+use std::io::{Read, Write};
+use std::{fs, io, rt};
+
+/// The files of a runtime. A name is a path, as the system reads it.
+#[derive(Drop)]
+pub struct HostFiles<R: rt::Files> {
+    runtime: R,
+    file: Option<R::File>,
+    allowance: usize,
+    read_faults: u64,
+    append_faults: u64,
+}
+
+impl<R: rt::Files> HostFiles<R> {
+    /// No file is begun, and both counts are 0.
+    pub fn new(runtime: R) -> HostFiles<R>
+        ensures read_faults { result.read_faults ≡ 0 }
+        ensures append_faults { result.append_faults ≡ 0 }
+    {
+        HostFiles {
+            runtime,
+            file: None,
+            allowance: 0,
+            read_faults: 0,
+            append_faults: 0,
+        }
+    }
+
+    fn count_read_fault(&mut self)
+        ensures later { self.old.read_faults ≤ self.new.read_faults }
+        ensures raised { self.new ≡ record self.old { read_faults = raised self.old.read_faults } }
+    {
+        self.read_faults = self.read_faults.saturating_add(1);
+    }
+
+    fn count_append_fault(&mut self)
+        ensures later { self.old.append_faults ≤ self.new.append_faults }
+        ensures raised { self.new ≡ record self.old { append_faults = raised self.old.append_faults } }
+    {
+        self.append_faults = self.append_faults.saturating_add(1);
+    }
+}
+
+impl<R: rt::Files> Files for HostFiles<R> {
+    ghost tells = { false };
+
+    ghost held = { λ _ _. None };
+
+    ghost begun = { λ files. option_map (λ _. []) files.file };
+
+    ghost unread = { λ _. [] };
+
+    ghost allowance = { λ files. files.allowance };
+
+    ghost read_faults = { λ files. files.read_faults };
+
+    ghost append_faults = { λ files. files.append_faults };
+
+    fn exists(&mut self, name: &str) -> Result<bool, IoFault> {
+        match fs::exists(&self.runtime, name) {
+            Ok(there) => Ok(there),
+            Err(_) => {
+                self.count_read_fault();
+                Err(IoFault::Failed)
+            }
+        }
+    }
+
+    fn begin(&mut self, name: &str) -> Result<(), IoFault> {
+        match fs::open(&self.runtime, name) {
+            Ok(file) => {
+                self.file = Some(file);
+                self.allowance = READ_LIMIT;
+                Ok(())
+            }
+            Err(_) => {
+                self.file = None;
+                self.count_read_fault();
+                Err(IoFault::Failed)
+            }
+        }
+    }
+
+    fn read(&mut self, buf: &mut [u8]) -> Result<usize, IoFault> {
+        let most = buf.len().min(self.allowance);
+        if most > 0 || buf.is_empty() {
+            if let Some(file) = &mut self.file {
+                if let Ok(count) = file.read(&mut buf[..most]) {
+                    self.allowance -= count;
+                    return Ok(count);
+                }
+            }
+        }
+        self.count_read_fault();
+        Err(IoFault::Failed)
+    }
+
+    fn append(&mut self, name: &str, bytes: &[u8]) -> Result<(), IoFault> {
+        match append_to(&self.runtime, name, bytes) {
+            Ok(()) => Ok(()),
+            Err(_) => {
+                self.count_append_fault();
+                Err(IoFault::Failed)
+            }
+        }
+    }
+}
+
+/// Makes the file where it is missing, and writes all of the bytes at its end, by one write where
+/// the system takes them all.
+fn append_to(files: &impl rt::Files, name: &str, bytes: &[u8]) -> io::Result<()> {
+    let mut file = fs::OpenOptions::new()
+        .append(true)
+        .create(true)
+        .open(files, name)?;
+    file.write_all(bytes)?;
+    file.flush()
+}
+
+/// Standard output, or any other writer.
+#[derive(Drop)]
+pub struct HostSink<W: Write> {
+    out: W,
+    faults: u64,
+}
+
+impl<W: Write> HostSink<W> {
+    /// The count of faults is 0.
+    pub fn new(out: W) -> HostSink<W>
+        ensures faults { result.faults ≡ 0 }
+    {
+        HostSink { out, faults: 0 }
+    }
+}
+
+impl<W: Write> Sink for HostSink<W> {
+    ghost taken = { λ _. None };
+
+    ghost faults = { λ sink. sink.faults };
+
+    fn write(&mut self, bytes: &[u8]) -> Result<usize, IoFault> {
+        match self.out.write(bytes) {
+            Ok(count) if count > 0 || bytes.is_empty() => Ok(count),
+            _ => {
+                self.faults = self.faults.saturating_add(1);
+                Err(IoFault::Failed)
+            }
+        }
+    }
+}

@@ -1,0 +1,26 @@
+//! The outside of the program: files, output, the clock, the link to a peer, and consumers.
+//!
+//! Each is a trait, so that everything above is proved for any outside. A trait tells, for contracts
+//! alone, what it holds, and counts its faults: a call answers `Failed` only where its count rose in
+//! that call. A count stops at the end of a `u64` and is said to rise there too. Want of memory is
+//! `OutOfMemory`, and needs no rise.
+#![tactic(auto)]
+
+mod buffer;
+mod host;
+mod memory;
+mod moments;
+mod outside;
+mod pieces;
+mod shelf;
+mod sure;
+#[cfg(test)]
+mod tests;
+
+pub use buffer::{MOST_AT_ONCE, ReadBuffer};
+pub use host::{HostFiles, HostSink};
+pub use memory::{MemFiles, MemSink, Planned};
+pub use moments::SetClock;
+pub use outside::{Clock, Consumer, Door, Files, IoFault, Sink};
+pub use pieces::write_all;
+pub use sure::{SureDoor, SureFiles, SureSink};

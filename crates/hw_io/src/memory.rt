@@ -1,0 +1,284 @@
+//! The outside in memory, which tells its content and fails at the calls that it is told.
+ghost use Rattle.std.specs.Prelude.{◌≡◌, ◌≢◌, ◌≤◌, ℕ, List, [], ◌∷◌, ◌++◌, true, Some, None, OnOk, OnErr};
+ghost use Rattle.std.specs.Option.{option_copied};
+ghost use Rattle.hw_io.specs.Faults.{raised};
+ghost use Rattle.hw_io.specs.Files.{SameFiles, Appended};
+ghost use Rattle.hw_io.specs.Memory.{mem_held, mem_begun, mem_unread, mem_allowance, mem_read_faults, mem_append_faults, mem_planned, mem_calls, mem_taken, mem_faults, sink_planned, planned_at, SameCounts};
+
+use crate::outside::{Files, IoFault, Sink};
+use crate::shelf::Shelf;
+use std::alloc::{AllocError, Global};
+
+/// A call that is to fail: its number among the calls of the object, from 0, and how many of the
+/// bytes are written where it is an append.
+#[derive(Clone, Copy, Debug, PartialEq, Eq)]
+pub struct Planned {
+    pub call: u64,
+    pub written: usize,
+}
+
+/// Files in memory. Each call of `Files` counts, from 0, and those that are planned fail.
+#[derive(Drop)]
+pub struct MemFiles {
+    shelf: Shelf,
+    planned: Vec<Planned>,
+    calls: u64,
+    read_faults: u64,
+    append_faults: u64,
+}
+
+impl MemFiles {
+    /// No files, and no call is to fail.
+    pub fn new(alloc: Global) -> MemFiles
+        ensures files { (name : List ℕ) → mem_held result name ≡ None }
+        ensures begun { mem_begun result ≡ None }
+        ensures planned { mem_planned result ≡ [] }
+        ensures calls { mem_calls result ≡ 0 }
+        ensures read_faults { mem_read_faults result ≡ 0 }
+        ensures append_faults { mem_append_faults result ≡ 0 }
+    {
+        MemFiles::in_pieces(alloc, usize::MAX)
+    }
+
+    /// The same, and a read gives at most `piece` bytes, or one where that is 0.
+    pub fn in_pieces(alloc: Global, piece: usize) -> MemFiles
+        ensures files { (name : List ℕ) → mem_held result name ≡ None }
+        ensures begun { mem_begun result ≡ None }
+        ensures planned { mem_planned result ≡ [] }
+        ensures calls { mem_calls result ≡ 0 }
+        ensures read_faults { mem_read_faults result ≡ 0 }
+        ensures append_faults { mem_append_faults result ≡ 0 }
+    {
+        MemFiles {
+            shelf: Shelf::new(alloc, piece),
+            planned: Vec::new(alloc),
+            calls: 0,
+            read_faults: 0,
+            append_faults: 0,
+        }
+    }
+
+    /// Plans that the call of this number fails, and that it writes so many bytes if it is an append.
+    pub fn fail_at(&mut self, call: u64, written: usize) -> Result<(), AllocError>
+        ensures ok { OnOk result (mem_planned self.new ≡ mem_planned self.old ++ record { call = call; written = written } ∷ []) }
+        ensures err { OnErr result (mem_planned self.new ≡ mem_planned self.old) }
+        ensures files { SameFiles (mem_held self.old) (mem_held self.new) }
+        ensures begun { mem_begun self.new ≡ mem_begun self.old }
+        ensures unread { mem_unread self.new ≡ mem_unread self.old }
+        ensures counts { SameCounts self.old self.new }
+    {
+        self.planned.push(Planned { call, written })?;
+        Ok(())
+    }
+
+    /// Puts the bytes at the end of a file, as an append that succeeds, without a call of `Files`.
+    pub fn put(&mut self, name: &str, bytes: &[u8]) -> Result<(), AllocError>
+        ensures bytes { Appended (mem_held self.old) (mem_held self.new) name.now bytes.now result }
+        ensures begun { mem_begun self.new ≡ mem_begun self.old }
+        ensures unread { mem_begun self.old ≢ Some name.now → mem_unread self.new ≡ mem_unread self.old }
+        ensures planned { mem_planned self.new ≡ mem_planned self.old }
+        ensures counts { SameCounts self.old self.new }
+    {
+        self.shelf.append(name, bytes)
+    }
+
+    /// The bytes under this name.
+    pub fn file(&self, name: &str) -> Option<&[u8]>
+        ensures bytes { option_copied result ≡ mem_held self.now name.now }
+    {
+        self.shelf.file(name)
+    }
+
+    /// How many calls were made.
+    pub fn calls(&self) -> u64
+        ensures { result ≡ mem_calls self.now }
+    {
+        self.calls
+    }
+
+    /// How often a read failed, or `exists` or `begin`.
+    pub fn read_faults(&self) -> u64
+        ensures { result ≡ mem_read_faults self.now }
+    {
+        self.read_faults
+    }
+
+    /// How often an append failed.
+    pub fn append_faults(&self) -> u64
+        ensures { result ≡ mem_append_faults self.now }
+    {
+        self.append_faults
+    }
+
+    /// Counts a call. Where it is to fail, the answer is how much an append writes.
+    fn next_call(&mut self) -> Option<usize>
+        ensures planned { result ≡ planned_at self.old.planned.items self.old.calls }
+        ensures rest { self.new ≡ record self.old { calls = raised self.old.calls } }
+    {
+        let call = self.calls;
+        self.calls = call.saturating_add(1);
+        self.planned
+            .iter()
+            .find(|planned| planned.call == call)
+            .map(|planned| planned.written)
+    }
+
+    fn count_read_fault(&mut self)
+        ensures later { self.old.read_faults ≤ self.new.read_faults }
+        ensures raised { self.new ≡ record self.old { read_faults = raised self.old.read_faults } }
+    {
+        self.read_faults = self.read_faults.saturating_add(1);
+    }
+
+    fn count_append_fault(&mut self)
+        ensures later { self.old.append_faults ≤ self.new.append_faults }
+        ensures raised { self.new ≡ record self.old { append_faults = raised self.old.append_faults } }
+    {
+        self.append_faults = self.append_faults.saturating_add(1);
+    }
+}
+
+impl Files for MemFiles {
+    ghost tells = { true };
+
+    ghost held = { mem_held };
+
+    ghost begun = { mem_begun };
+
+    ghost unread = { mem_unread };
+
+    ghost allowance = { mem_allowance };
+
+    ghost read_faults = { mem_read_faults };
+
+    ghost append_faults = { mem_append_faults };
+
+    fn exists(&mut self, name: &str) -> Result<bool, IoFault> {
+        if self.next_call().is_some() {
+            self.count_read_fault();
+            return Err(IoFault::Failed);
+        }
+        Ok(self.shelf.has(name))
+    }
+
+    fn begin(&mut self, name: &str) -> Result<(), IoFault> {
+        if self.next_call().is_some() {
+            self.shelf.close();
+            self.count_read_fault();
+            return Err(IoFault::Failed);
+        }
+        if !self.shelf.begin(name) {
+            self.count_read_fault();
+            return Err(IoFault::Failed);
+        }
+        Ok(())
+    }
+
+    fn read(&mut self, buf: &mut [u8]) -> Result<usize, IoFault> {
+        if self.next_call().is_some() {
+            self.count_read_fault();
+            return Err(IoFault::Failed);
+        }
+        match self.shelf.read(buf) {
+            Ok(count) => Ok(count),
+            Err(_) => {
+                self.count_read_fault();
+                Err(IoFault::Failed)
+            }
+        }
+    }
+
+    fn append(&mut self, name: &str, bytes: &[u8]) -> Result<(), IoFault> {
+        match self.next_call() {
+            Some(written) => {
+                let written = written.min(bytes.len());
+                self.shelf.append(name, &bytes[..written])?;
+                self.count_append_fault();
+                Err(IoFault::Failed)
+            }
+            None => {
+                self.shelf.append(name, bytes)?;
+                Ok(())
+            }
+        }
+    }
+}
+
+/// A sink in memory. Each call of `write` counts, from 0, and those that are planned fail.
+#[derive(Drop)]
+pub struct MemSink {
+    bytes: Vec<u8>,
+    planned: Vec<u64>,
+    calls: u64,
+    faults: u64,
+    piece: usize,
+}
+
+impl MemSink {
+    /// Nothing is taken, and no call is to fail.
+    pub fn new(alloc: Global) -> MemSink
+        ensures taken { mem_taken result ≡ Some [] }
+        ensures planned { sink_planned result ≡ [] }
+        ensures faults { mem_faults result ≡ 0 }
+    {
+        MemSink::in_pieces(alloc, usize::MAX)
+    }
+
+    /// The same, and a write takes at most `piece` bytes, or one where that is 0.
+    pub fn in_pieces(alloc: Global, piece: usize) -> MemSink
+        ensures taken { mem_taken result ≡ Some [] }
+        ensures planned { sink_planned result ≡ [] }
+        ensures faults { mem_faults result ≡ 0 }
+    {
+        MemSink {
+            bytes: Vec::new(alloc),
+            planned: Vec::new(alloc),
+            calls: 0,
+            faults: 0,
+            piece,
+        }
+    }
+
+    /// Plans that the call of this number fails.
+    pub fn fail_at(&mut self, call: u64) -> Result<(), AllocError>
+        ensures ok { OnOk result (sink_planned self.new ≡ sink_planned self.old ++ call ∷ []) }
+        ensures err { OnErr result (sink_planned self.new ≡ sink_planned self.old) }
+        ensures taken { mem_taken self.new ≡ mem_taken self.old }
+        ensures faults { mem_faults self.new ≡ mem_faults self.old }
+    {
+        self.planned.push(call)?;
+        Ok(())
+    }
+
+    /// The bytes taken.
+    pub fn taken(&self) -> &[u8]
+        ensures { Some result.now ≡ mem_taken self.now }
+    {
+        self.bytes.as_slice()
+    }
+
+    /// How often a write failed.
+    pub fn faults(&self) -> u64
+        ensures { result ≡ mem_faults self.now }
+    {
+        self.faults
+    }
+}
+
+impl Sink for MemSink {
+    ghost taken = { mem_taken };
+
+    ghost faults = { mem_faults };
+
+    fn write(&mut self, bytes: &[u8]) -> Result<usize, IoFault> {
+        let call = self.calls;
+        self.calls = call.saturating_add(1);
+        if self.planned.contains(&call) {
+            self.faults = self.faults.saturating_add(1);
+            return Err(IoFault::Failed);
+        }
+        let count = bytes.len().min(self.piece.max(1));
+        self.bytes.extend_from_slice(&bytes[..count])?;
+        Ok(count)
+    }
+}

@@ -1,0 +1,277 @@
+//! The outside that fails only where its rules say so.
+ghost use Rattle.std.specs.Prelude.{◌≡◌, ◌≢◌, ◌↔◌, ◌^◌, ◌≤◌, ◌⊎◌, ℕ, List, [], true, false, Ok, Some, None, length, IsTrue, IsSome, IsNone, IsOk, IsErr, OnOk, OnErr, IfOk};
+ghost use Rattle.std.specs.Option.{option_copied};
+ghost use Rattle.std.specs.Io.KnownBytes.{ReadConsumes};
+ghost use Rattle.std.specs.Io.{ReadsAtMost};
+ghost use Rattle.hw_io.specs.Faults.{HasCause, raised};
+ghost use Rattle.hw_io.specs.Files.{SameFiles, IsAnswer, Begins, Appended, Spends};
+ghost use Rattle.hw_io.specs.Sinks.{TakesSome};
+ghost use Rattle.hw_io.specs.Doors.{ends_after};
+ghost use Rattle.hw_io.specs.Sure.{sure_held, sure_begun, sure_unread, sure_allowance, sure_read_faults, sure_taken};
+
+use crate::outside::{Door, Files, IoFault, Sink};
+use crate::shelf::Shelf;
+use std::alloc::{AllocError, Global};
+
+/// Files in memory, of which a read fails only where no file is begun or 2^62 bytes were given, and
+/// `begin` only where there is no such file. `exists` and `append` never fail.
+#[derive(Drop)]
+pub struct SureFiles {
+    shelf: Shelf,
+    read_faults: u64,
+}
+
+impl SureFiles {
+    /// No files.
+    pub fn new(alloc: Global) -> SureFiles
+        ensures files { (name : List ℕ) → sure_held result name ≡ None }
+        ensures begun { sure_begun result ≡ None }
+        ensures read_faults { sure_read_faults result ≡ 0 }
+    {
+        SureFiles {
+            shelf: Shelf::new(alloc, usize::MAX),
+            read_faults: 0,
+        }
+    }
+
+    /// Puts the bytes at the end of a file, as an append, without a call of `Files`.
+    pub fn put(&mut self, name: &str, bytes: &[u8]) -> Result<(), AllocError>
+        ensures bytes { Appended (sure_held self.old) (sure_held self.new) name.now bytes.now result }
+        ensures begun { sure_begun self.new ≡ sure_begun self.old }
+        ensures unread { sure_begun self.old ≢ Some name.now → sure_unread self.new ≡ sure_unread self.old }
+        ensures read_faults { sure_read_faults self.new ≡ sure_read_faults self.old }
+    {
+        self.shelf.append(name, bytes)
+    }
+
+    /// The bytes under this name.
+    pub fn file(&self, name: &str) -> Option<&[u8]>
+        ensures bytes { option_copied result ≡ sure_held self.now name.now }
+    {
+        self.shelf.file(name)
+    }
+
+    /// How often a rule made a read or `begin` fail.
+    pub fn read_faults(&self) -> u64
+        ensures { result ≡ sure_read_faults self.now }
+    {
+        self.read_faults
+    }
+
+    fn count_read_fault(&mut self)
+        ensures later { self.old.read_faults ≤ self.new.read_faults }
+        ensures raised { self.new ≡ record self.old { read_faults = raised self.old.read_faults } }
+    {
+        self.read_faults = self.read_faults.saturating_add(1);
+    }
+}
+
+impl Files for SureFiles {
+    ghost tells = { true };
+
+    ghost held = { sure_held };
+
+    ghost begun = { sure_begun };
+
+    ghost unread = { sure_unread };
+
+    ghost allowance = { sure_allowance };
+
+    ghost read_faults = { sure_read_faults };
+
+    ghost append_faults = { λ _. 0 };
+
+    fn exists(&mut self, name: &str) -> Result<bool, IoFault>
+        ensures sure { IsOk result }
+        ensures answer { IfOk result (IsAnswer (sure_held self.old name.now)) }
+        ensures same { self.new ≡ self.old }
+    {
+        Ok(self.shelf.has(name))
+    }
+
+    fn begin(&mut self, name: &str) -> Result<(), IoFault>
+        ensures sure { IsOk result ↔ IsSome (sure_held self.old name.now) }
+        ensures count { OnOk result (sure_read_faults self.new ≡ sure_read_faults self.old) }
+
+        ensures whole { OnOk result (Begins (sure_held self.old name.now) name.now (sure_begun self.new) (sure_unread self.new)) }
+        ensures none { OnErr result (sure_begun self.new ≡ None) }
+        ensures allowance { OnOk result (sure_allowance self.new ≤ 2 ^ 62) }
+        ensures cause { HasCause (sure_read_faults self.old) (sure_read_faults self.new) result }
+        ensures files { SameFiles (sure_held self.old) (sure_held self.new) }
+    {
+        if !self.shelf.begin(name) {
+            self.count_read_fault();
+            return Err(IoFault::Failed);
+        }
+        Ok(())
+    }
+
+    fn read(&mut self, buf: &mut [u8]) -> Result<usize, IoFault>
+        ensures sure { OnErr result ((sure_begun self.old ≡ None) ⊎ (sure_allowance self.old ≡ 0)) }
+        ensures count { OnOk result (sure_read_faults self.new ≡ sure_read_faults self.old) }
+
+        ensures bound { ReadsAtMost result buf.new }
+        ensures bytes { ReadConsumes (Some (sure_unread self.old)) (Some (sure_unread self.new)) result buf.new }
+        ensures none { IsNone (sure_begun self.old) → IsErr result }
+        ensures allowance { Spends (sure_allowance self.old) (sure_allowance self.new) result }
+        ensures cause { HasCause (sure_read_faults self.old) (sure_read_faults self.new) result }
+        ensures files { SameFiles (sure_held self.old) (sure_held self.new) }
+        ensures begun { sure_begun self.new ≡ sure_begun self.old }
+    {
+        match self.shelf.read(buf) {
+            Ok(count) => Ok(count),
+            Err(_) => {
+                self.count_read_fault();
+                Err(IoFault::Failed)
+            }
+        }
+    }
+
+    fn append(&mut self, name: &str, bytes: &[u8]) -> Result<(), IoFault> {
+        self.shelf.append(name, bytes)?;
+        Ok(())
+    }
+}
+
+/// A sink in memory that never fails. Its count of faults stays 0.
+#[derive(Drop)]
+pub struct SureSink {
+    bytes: Vec<u8>,
+}
+
+impl SureSink {
+    /// Nothing is taken.
+    pub fn new(alloc: Global) -> SureSink
+        ensures { sure_taken result ≡ Some [] }
+    {
+        SureSink {
+            bytes: Vec::new(alloc),
+        }
+    }
+
+    /// The bytes taken.
+    pub fn taken(&self) -> &[u8]
+        ensures { Some result.now ≡ sure_taken self.now }
+    {
+        self.bytes.as_slice()
+    }
+}
+
+impl Sink for SureSink {
+    ghost taken = { sure_taken };
+
+    ghost faults = { λ _. 0 };
+
+    fn write(&mut self, bytes: &[u8]) -> Result<usize, IoFault> {
+        self.bytes.extend_from_slice(bytes)?;
+        Ok(bytes.len())
+    }
+}
+
+/// A door at which each peer comes, says nothing and takes all. Reads and writes fail only where no
+/// session is there.
+#[derive(Drop)]
+pub struct SureDoor {
+    is_open: bool,
+    accepts: u64,
+    dials: u64,
+    ends: u64,
+    faults: u64,
+}
+
+impl SureDoor {
+    /// No session is there, and all numbers are 0.
+    pub fn new() -> SureDoor
+        ensures { result ≡ record { is_open = false; accepts = 0; dials = 0; ends = 0; faults = 0 } }
+    {
+        SureDoor {
+            is_open: false,
+            accepts: 0,
+            dials: 0,
+            ends: 0,
+            faults: 0,
+        }
+    }
+
+    /// How often a rule made a call fail.
+    pub fn faults(&self) -> u64
+        ensures { result ≡ self.now.faults }
+    {
+        self.faults
+    }
+}
+
+impl Door for SureDoor {
+    ghost is_open = { λ door. door.is_open };
+
+    ghost accepts = { λ door. door.accepts };
+
+    ghost dials = { λ door. door.dials };
+
+    ghost ends = { λ door. door.ends };
+
+    ghost faults = { λ door. door.faults };
+
+    fn accept(&mut self) -> Result<(), IoFault>
+        ensures sure { IsOk result }
+        ensures rest { self.new ≡ record self.old { is_open = true; accepts = raised self.old.accepts } }
+    {
+        self.is_open = true;
+        self.accepts = self.accepts.saturating_add(1);
+        Ok(())
+    }
+
+    fn dial(&mut self, _address: &str) -> Result<(), IoFault>
+        ensures sure { IsOk result }
+        ensures rest { self.new ≡ record self.old { is_open = true; dials = raised self.old.dials } }
+    {
+        self.is_open = true;
+        self.dials = self.dials.saturating_add(1);
+        Ok(())
+    }
+
+    fn read(&mut self, buf: &mut [u8]) -> Result<usize, IoFault>
+        ensures sure { self.old.is_open ≡ true → result ≡ Ok 0 }
+        ensures count { self.old.is_open ≡ true → self.new.faults ≡ self.old.faults }
+
+        ensures bound { ReadsAtMost result buf.new }
+        ensures none { self.old.is_open ≡ false → IsErr result }
+        ensures ends { self.new.ends ≡ ends_after self.old.ends result buf.new }
+        ensures cause { HasCause self.old.faults self.new.faults result }
+        ensures session { self.new.is_open ≡ self.old.is_open }
+        ensures accepts { self.new.accepts ≡ self.old.accepts }
+        ensures dials { self.new.dials ≡ self.old.dials }
+    {
+        if !self.is_open {
+            self.faults = self.faults.saturating_add(1);
+            return Err(IoFault::Failed);
+        }
+        if !buf.is_empty() {
+            self.ends = self.ends.saturating_add(1);
+        }
+        Ok(0)
+    }
+
+    fn write(&mut self, bytes: &[u8]) -> Result<usize, IoFault>
+        ensures sure { self.old.is_open ≡ true → result ≡ Ok (length bytes.now) }
+        ensures count { self.old.is_open ≡ true → self.new.faults ≡ self.old.faults }
+
+        ensures some { TakesSome result bytes.now }
+        ensures none { self.old.is_open ≡ false → IsErr result }
+        ensures cause { HasCause self.old.faults self.new.faults result }
+        ensures session { self.new.is_open ≡ self.old.is_open }
+        ensures accepts { self.new.accepts ≡ self.old.accepts }
+        ensures dials { self.new.dials ≡ self.old.dials }
+        ensures ends { self.new.ends ≡ self.old.ends }
+    {
+        if !self.is_open {
+            self.faults = self.faults.saturating_add(1);
+            return Err(IoFault::Failed);
+        }
+        Ok(bytes.len())
+    }
+
+    fn hang_up(&mut self) {
+        self.is_open = false;
+    }
+}

@@ -1,0 +1,18 @@
+use Rattle.std.proofs.Common.{◌≡◌, ℕ, ◌≤◌, List, IsTrue}
+use Rattle.hw_io.specs.Files.{SameFiles}
+use Rattle.hw_log.specs.Reader.{PlacesFit, StandsBehind, ahead_of}
+use Rattle.hw_log.proofs.whole.read_entries.Given as goal
+
+abbrev pub invariant-loop-entry : goal.invariant-loop-entry
+invariant-loop-entry g l = record {
+  stands : IsTrue g.F.Files.tells → (bytes : List ℕ)
+      → StandsBehind bytes l.initial.entries l.initial.reader (g.F.Files.unread l.initial.files)
+      → StandsBehind bytes l.entries l.reader (g.F.Files.unread l.files);
+  places : PlacesFit l.reader (g.F.Files.allowance l.files);
+  counted : g.F.Files.read_faults l.initial.files ≤ g.F.Files.read_faults l.files;
+  files : SameFiles (g.F.Files.held l.initial.files) (g.F.Files.held l.files);
+  appends : g.F.Files.append_faults l.files ≡ g.F.Files.append_faults l.initial.files;
+}
+
+abbrev pub decreases-loop-entry : goal.decreases-loop-entry
+decreases-loop-entry g l = ahead_of l.reader (g.F.Files.allowance l.files)

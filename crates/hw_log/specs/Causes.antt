@@ -1,0 +1,66 @@
+-- When the calls answer which error.
+use Rattle.std.specs.Prelude.{◌≡◌, ℕ, ◌≤◌, ◌⊎◌, Result, Ok, Err, IfErr}
+use Rattle.hw_io.specs.declared.outside.IoFault.{IoFault}
+use Rattle.hw_io.specs.declared.outside.IoFault.TheVariants as io
+use Rattle.hw_io.specs.Faults.{Rose}
+use Rattle.hw_types.specs.declared.answers.CodecError.TheVariants as codec
+use Rattle.hw_log.specs.declared.error.LogError.{LogError}
+use Rattle.hw_log.specs.declared.error.LogError.TheVariants.{BadConfig, BadVertex, ReadFault, WriteFault, OutOfMemory}
+
+abbrev pub error_of_read : IoFault → LogError
+error_of_read io.Failed = ReadFault
+error_of_read io.OutOfMemory = OutOfMemory
+
+abbrev pub error_of_append : IoFault → LogError
+error_of_append io.Failed = WriteFault
+error_of_append io.OutOfMemory = OutOfMemory
+
+-- it says nothing of the log's bytes: a failed read, or want of memory
+abbrev pub IsOutside : LogError → Type 0
+IsOutside ReadFault = Unit {0}
+IsOutside OutOfMemory = Unit {0}
+IsOutside e = ⊥
+
+-- the error is that of the log's bytes, if it isn't one of the outside
+abbrev pub Fails : {T : Type 0} → LogError → Result T LogError → Type 0
+Fails e said = IsOutside e ⊎ (said ≡ Err e)
+
+-- What a call answers, seen by view, is what the log says.
+abbrev pub Gives : {X Y : Type 0} → (X → Y) → Result X LogError → Result Y LogError → Type 0
+Gives view (Ok x) said = said ≡ Ok (view x)
+Gives view (Err e) said = Fails e said
+
+-- a failed read is counted
+abbrev pub IsReadCounted : ℕ → ℕ → LogError → Type 0
+IsReadCounted before now ReadFault = Rose before now
+IsReadCounted before now e = Unit {0}
+
+-- no append failed, and no error of content holds want of memory
+abbrev pub IsOfReading : LogError → Type 0
+IsOfReading WriteFault = ⊥
+IsOfReading (BadConfig codec.OutOfMemory) = ⊥
+IsOfReading (BadVertex at codec.OutOfMemory) = ⊥
+IsOfReading e = Unit {0}
+
+-- it is one of content, or want of memory
+abbrev pub IsOfBytes : LogError → Type 0
+IsOfBytes ReadFault = ⊥
+IsOfBytes e = IsOfReading e
+
+-- the read count didn't fall, and the answer is `ReadFault` only where it rose
+pub record HasReadCause {T : Type 0} (before now : ℕ) (result : Result T LogError) : Type 0 where
+  pub later : before ≤ now
+  pub failed : IfErr result (IsReadCounted before now)
+  pub error : IfErr result IsOfReading
+
+-- a failed append is counted, and there is no other error but want of memory
+abbrev pub IsAppendCounted : {T : Type 0} → Result T LogError → ℕ → ℕ → Type 0
+IsAppendCounted (Ok x) before now = Unit {0}
+IsAppendCounted (Err WriteFault) before now = Rose before now
+IsAppendCounted (Err OutOfMemory) before now = Unit {0}
+IsAppendCounted (Err e) before now = ⊥
+
+-- the append count didn't fall, and the answer is `WriteFault` only where it rose, and else want of memory or Ok
+pub record HasAppendCause {T : Type 0} (before now : ℕ) (result : Result T LogError) : Type 0 where
+  pub later : before ≤ now
+  pub failed : IsAppendCounted result before now

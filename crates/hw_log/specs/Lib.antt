@@ -1,0 +1,4 @@
+pub mod Log
+pub mod Causes
+pub mod Reader
+pub mod Whole

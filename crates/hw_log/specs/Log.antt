@@ -1,0 +1,132 @@
+-- What a log says: the whole grammar, read from left to right, with the first error and its place.
+use Rattle.std.specs.Prelude.{ℕ, zero, suc, ◌+◌, Bool, nat_lt, ◌==◌, not, if◌then◌else◌, List, [], ◌∷◌, ◌++◌, length, take, drop, slice_index, nat_eq, codes, Option, Some, None, Result, Ok, Err}
+use Rattle.std.specs.Int.{w32, from_be_bytes}
+use Rattle.std.specs.List.{starts_with}
+use Rattle.hw_types.specs.declared.config.Config.{Config}
+use Rattle.hw_types.specs.declared.config.ConfigFault.{ConfigFault}
+use Rattle.hw_types.specs.declared.answers.CodecError.{CodecError}
+use Rattle.hw_types.specs.declared.unit.Vertex.{Vertex}
+use Rattle.hw_types.specs.Limits.{config_fault}
+use Rattle.hw_types.specs.Spelling.{u32_bytes, config_bytes, vertex_bytes}
+use Rattle.hw_types.specs.Reading.{Rest, config_of, vertex_of}
+use Rattle.hw_log.specs.declared.entry.LogEntry.{LogEntry}
+use Rattle.hw_log.specs.declared.head.EntryHead.{EntryHead}
+use Rattle.hw_log.specs.declared.error.LogError.{LogError}
+use Rattle.hw_log.specs.declared.error.LogError.TheVariants.{BadMagic, Version, Torn, TooLong, BadConfig, ConfigFault as Refused, BadEvent, BadVerdict, BadVertex}
+
+infixl 10 ◌>>=◌
+abbrev pub ◌>>=◌ : {A B : Type 0} → Result A LogError → (A → Result B LogError) → Result B LogError
+(Ok x) >>= f = f x
+(Err e) >>= f = Err e
+
+-- so many bytes from a place of the log on
+abbrev pub rest_at : ℕ → List ℕ → Rest
+rest_at place bytes = record { place = place; bytes = bytes }
+
+-- the next n bytes and what is left behind them, or the error where fewer are left
+abbrev pub bytes_at : ℕ → LogError → Rest → Result (List ℕ × Rest) LogError
+bytes_at n torn r = if nat_lt (length r.bytes) n then Err torn else Ok (take n r.bytes, rest_at (r.place + n) (drop n r.bytes))
+
+-- what a codec answers, with its error as one of the log
+abbrev pub decoded : {A : Type 0} → (CodecError → LogError) → Result A CodecError → Result A LogError
+decoded wrap (Ok x) = Ok x
+decoded wrap (Err e) = Err (wrap e)
+
+-- a configuration or a vertex has at most 1,048,576 bytes
+abbrev pub is_too_long : ℕ → Bool
+is_too_long n = nat_lt 1048576 n
+
+-- ---- the header: HWLG, the version 1, the length of the configuration, the configuration
+
+-- The length of the configuration, from the file's first nine bytes, or as many as it has.
+unfoldable pub config_length : List ℕ → Result ℕ LogError
+config_length front =
+    if not (starts_with nat_eq front (codes "HWLG")) then Err BadMagic
+    else if nat_lt (length front) 5 then Err (Torn 4)
+    else if not (slice_index front 4 == 1) then Err (Version (slice_index front 4))
+    else if nat_lt (length front) 9 then Err (Torn 5)
+    else if is_too_long (from_be_bytes w32 (drop 5 front)) then Err (TooLong 5)
+    else Ok (from_be_bytes w32 (drop 5 front))
+
+abbrev pub refuse : Config → Option ConfigFault → Result Config LogError
+refuse config None = Ok config
+refuse config (Some fault) = Err (Refused fault)
+
+-- a configuration that keeps all limits
+unfoldable pub checked_config : List ℕ → Result Config LogError
+checked_config bytes = decoded BadConfig (config_of bytes) >>= λ config. refuse config (config_fault config)
+
+-- the configuration, and what is left behind the header
+unfoldable pub header_of : List ℕ → Result (Config × Rest) LogError
+header_of bytes = do
+  n ← config_length (take 9 bytes)
+  spelled ← bytes_at n (Torn 9) (rest_at 9 (drop 9 bytes))
+  config ← checked_config spelled.0
+  Ok (config, spelled.1)
+
+-- ---- an entry: the event 1, the verdict 0 or 1, the length of the vertex, the vertex
+
+-- the verdict and the length of the vertex, from the entry's first six bytes; its errors name the entry's first byte
+unfoldable pub head_of : ℕ → List ℕ → Result EntryHead LogError
+head_of at head =
+    if not (slice_index head 0 == 1) then Err (BadEvent at)
+    else if nat_lt 1 (slice_index head 1) then Err (BadVerdict at)
+    else if is_too_long (from_be_bytes w32 (drop 2 head)) then Err (TooLong at)
+    else Ok (record { verdict = slice_index head 1 == 1; length = from_be_bytes w32 (drop 2 head) })
+
+unfoldable pub head_at : Rest → Result (EntryHead × Rest) LogError
+head_at r = do
+  head ← bytes_at 6 (Torn r.place) r
+  said ← head_of r.place head.0
+  Ok (said, head.1)
+
+-- the vertex of so many bytes, in the entry at this place
+unfoldable pub body_at : ℕ → ℕ → Rest → Result (Vertex × Rest) LogError
+body_at at n r = do
+  spelled ← bytes_at n (Torn at) r
+  vertex ← decoded (BadVertex at) (vertex_of spelled.0)
+  Ok (vertex, spelled.1)
+
+-- the entry that begins here, and what is left behind it
+unfoldable pub entry_at : Rest → Result (LogEntry × Rest) LogError
+entry_at r = do
+  head ← head_at r
+  body ← body_at r.place head.0.length head.1
+  Ok (record { at = r.place; verdict = head.0.verdict; vertex = body.0 }, body.1)
+
+-- what comes next: an entry and what is left behind it, or none at the end of the bytes
+unfoldable pub next_at : Rest → Result (Option LogEntry × Rest) LogError
+next_at r = if length r.bytes == 0 then Ok (None, r) else (entry_at r >>= λ e. Ok (Some e.0, e.1))
+
+-- ---- the whole log
+
+-- entries, and the error at which they stop, if any
+pub record Entries : Type 0 where
+  pub given : List LogEntry
+  pub fault : Option LogError
+
+abbrev pub with_next : Result (Option LogEntry × Rest) LogError → (Rest → Entries) → Entries
+with_next (Ok (Some e, r)) others = record { given = e ∷ (others r).given; fault = (others r).fault }
+with_next (Ok (None, r)) others = record { given = []; fault = None }
+with_next (Err e) others = record { given = []; fault = Some e }
+
+-- the entries up to the end of the bytes or the first error, in at most so many steps
+unfoldable pub entries_in : ℕ → Rest → Entries
+entries_in zero r = record { given = []; fault = None }
+entries_in (suc steps) r = with_next (next_at r) (entries_in steps)
+
+-- as many steps as there are bytes are enough, since each entry takes six bytes and more
+abbrev pub entries_of : Rest → Entries
+entries_of r = entries_in (length r.bytes) r
+
+-- What the bytes of a log say: the error of the header, or the configuration and the entries.
+abbrev pub log_of : List ℕ → Result (Config × Entries) LogError
+log_of bytes = header_of bytes >>= λ header. Ok (header.0, entries_of header.1)
+
+-- ---- what is written
+
+abbrev pub header_bytes : Config → List ℕ
+header_bytes config = codes "HWLG" ++ (1 ∷ u32_bytes (length (config_bytes config))) ++ config_bytes config
+
+abbrev pub entry_bytes : Bool → Vertex → List ℕ
+entry_bytes verdict vertex = (1 ∷ (if verdict then 1 else 0) ∷ u32_bytes (length (vertex_bytes vertex))) ++ vertex_bytes vertex

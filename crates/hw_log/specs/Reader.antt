@@ -1,0 +1,44 @@
+-- Where a reader stands in a log.
+use Rattle.std.specs.Prelude.{◌≡◌, ℕ, ◌+◌, ◌≤◌, ◌^◌, List, ◌++◌, length, Option, Some, None, Result, Ok, MatchResult}
+use Rattle.hw_types.specs.declared.config.Config.{Config}
+use Rattle.hw_types.specs.Reading.{Rest}
+use Rattle.hw_log.specs.declared.error.LogError.{LogError}
+use Rattle.hw_log.specs.declared.entry.LogEntry.{LogEntry}
+use Rattle.hw_log.specs.Log.{rest_at, header_of, Entries, entries_of, log_of}
+use Rattle.hw_log.specs.Causes.{Gives, IsOutside}
+
+-- what a reader knows: the log's configuration, the place of the next entry, and what was read of the file and not yet used
+pub record Reading : Type 0 where
+  pub config : Config
+  pub place : ℕ
+  pub held : List ℕ
+
+-- what is left of the log: what the reader holds, and then what is unread of the file
+abbrev pub left_of : Reading → List ℕ → Rest
+left_of reader unread = rest_at reader.place (reader.held ++ unread)
+
+-- how many bytes may still come: those that the reader holds, and those that reads may still give
+abbrev pub ahead_of : Reading → ℕ → ℕ
+ahead_of reader allowance = length reader.held + allowance
+
+-- how many bytes the file has at most, as far as the reader knows
+abbrev pub end_of : Reading → ℕ → ℕ
+end_of reader allowance = reader.place + ahead_of reader allowance
+
+-- no place that the reader may come to is above 2^62
+abbrev pub PlacesFit : Reading → ℕ → Type 0
+PlacesFit reader allowance = end_of reader allowance ≤ 2 ^ 62
+
+-- The answer is what the header of the file says, with the reader behind it. Where there is no file, a read fails.
+abbrev pub Opens : Option (List ℕ) → List ℕ → Result Reading LogError → Type 0
+Opens (Some bytes) unread result = Gives (λ (reader : Reading). (reader.config, left_of reader unread)) result (header_of bytes)
+Opens None unread result = MatchResult result (λ _. ⊥) IsOutside
+
+-- entries that were given before, and then these
+abbrev pub behind_given : List LogEntry → Entries → Entries
+behind_given given others = record { given = given ++ others.given; fault = others.fault }
+
+-- The reader stands behind these entries in the log of these bytes: what the log says is its configuration, these entries, and
+-- what is left says the others and how they end.
+pub record StandsBehind (bytes : List ℕ) (given : List LogEntry) (reader : Reading) (unread : List ℕ) : Type 0 where
+  pub says : log_of bytes ≡ Ok (reader.config, behind_given given (entries_of (left_of reader unread)))

@@ -1,0 +1,324 @@
+//! The reader of a log.
+
+ghost use Rattle.std.specs.Prelude.{◌≡◌, ℕ, ◌+◌, ◌≤◌, ◌<◌, ◌^◌, ◌==◌, Some, None, ◌++◌, length, take, drop, IsTrue, IfOk, IfErr, IfSome, OnOk};
+ghost use Rattle.hw_io.specs.Files.{SameFiles, Begins};
+ghost use Rattle.hw_types.specs.Limits.{config_fault};
+ghost use Rattle.hw_types.specs.Reading.{config_of, vertex_of};
+ghost use Rattle.hw_types.specs.Spelling.{ConfigFits, VertexFits};
+ghost use Rattle.hw_log.specs.declared.error.LogError.TheVariants.{Torn, BadConfig, BadVertex};
+ghost use Rattle.hw_log.specs.Log.{rest_at, bytes_at, decoded, config_length, checked_config, header_of, head_at, body_at, entry_at, next_at};
+ghost use Rattle.hw_log.specs.Causes.{Fails, IsOutside, IsOfBytes, Gives, HasReadCause};
+ghost use Rattle.hw_log.specs.Reader.{Reading, left_of, ahead_of, end_of, PlacesFit, Opens};
+
+use crate::entry::LogEntry;
+use crate::error::{LogError, error_of_read};
+use crate::head::{EntryHead, FRONT_LENGTH, HEAD_LENGTH, MAX_LENGTH, config_length, head_of};
+use hw_codec::{decode_config, decode_vertex};
+use hw_io::{Files, ReadBuffer};
+use hw_types::{CodecError, Config, Vertex};
+use std::alloc::Global;
+use std::marker::Model;
+
+/// Reads a log from its first byte to its end, one entry at a time.
+///
+/// Contracts see it as the log's configuration, the place of the next entry, and the bytes that
+/// were read of the file and not yet used. These and then the file's unread bytes are what is left
+/// of the log.
+#[derive(Drop)]
+pub struct LogReader {
+    alloc: Global,
+    buffer: ReadBuffer,
+    config: Config,
+    place: u64,
+}
+
+impl Model for LogReader {
+    ghost Value = { Reading };
+
+    ghost view = { λ r. record { config = r.config; place = r.place; held = r.buffer } };
+}
+
+impl LogReader {
+    /// Begins to read the file of that name, and reads the header of its log.
+    ///
+    /// What the bytes are no log for is answered with its place; `ReadFault` where the file isn't
+    /// there or a read failed.
+    #[tactic(auto, using(crate::proofs::OpenLaws::opens_outside, crate::proofs::OpenLaws::opens_there))]
+    pub fn begin<F: Files>(alloc: Global, files: &mut F, name: &str) -> Result<LogReader, LogError>
+        // The answer is what the header of the file's bytes says.
+        ensures said { IsTrue F.tells → Opens (F.held files.old name.now) (F.unread files.new) result }
+        ensures checked { IfOk result (λ reader. (config_fault reader.config ≡ None) × ConfigFits reader.config) }
+        ensures places { IfOk result (λ reader. PlacesFit reader (F.allowance files.new)) }
+        ensures cause { HasReadCause (F.read_faults files.old) (F.read_faults files.new) result }
+
+        ensures begun { IsTrue F.tells → OnOk result (F.begun files.new ≡ Some name.now) }
+        ensures files { SameFiles (F.held files.old) (F.held files.new) }
+        ensures appends { F.append_faults files.new ≡ F.append_faults files.old }
+    {
+        begin_file(files, name)?;
+        header(alloc, ReadBuffer::new(alloc), files)
+    }
+
+    /// The configuration in the log's header.
+    pub fn config(&self) -> &Config
+        ensures { result.now ≡ self.now.config }
+    {
+        &self.config
+    }
+
+    /// That configuration, and an end to the reading.
+    pub(crate) fn into_config(self) -> Config
+        ensures { result ≡ self.config }
+    {
+        self.config
+    }
+
+    /// The next entry, or none at the end of the file where an entry ends.
+    ///
+    /// The file that `files` began last has to be this reader's, and nothing else may have read of
+    /// it since. What the bytes are no entry for is answered with the place of the entry's first
+    /// byte; `ReadFault` where a read failed.
+    #[tactic(auto, unfolding(crate::specs::Log::next_at))]
+    pub fn next<F: Files>(&mut self, files: &mut F) -> Result<Option<LogEntry>, LogError>
+        requires { PlacesFit self.old (F.allowance files.old) }
+        // The answer is what the log says next, and the reader stands behind it.
+        ensures said { IsTrue F.tells → Gives (λ entry. (entry, left_of self.new (F.unread files.new))) result (next_at (left_of self.old (F.unread files.old))) }
+        ensures entry { IfOk result (λ entry. IfSome entry (λ e. (e.at ≡ self.old.place) × VertexFits e.vertex)) }
+        ensures config { self.new.config ≡ self.old.config }
+        ensures places { PlacesFit self.new (F.allowance files.new) }
+        ensures nearer { IfOk result (λ entry. IfSome entry (λ e. ahead_of self.new (F.allowance files.new) < ahead_of self.old (F.allowance files.old))) }
+        ensures cause { HasReadCause (F.read_faults files.old) (F.read_faults files.new) result }
+
+        ensures files { SameFiles (F.held files.old) (F.held files.new) }
+        ensures begun { F.begun files.new ≡ F.begun files.old }
+        ensures appends { F.append_faults files.new ≡ F.append_faults files.old }
+    {
+        if self.is_at_end(files)? {
+            Ok(None)
+        } else {
+            Ok(Some(self.entry(files)?))
+        }
+    }
+
+    /// Whether no byte of the file is left.
+    fn is_at_end<F: Files>(&mut self, files: &mut F) -> Result<bool, LogError>
+        ensures said { IsTrue F.tells → IfOk result (λ end. end ≡ (length (self.old.held ++ F.unread files.old) == 0)) }
+        ensures error { IfErr result IsOutside }
+        ensures left { IsTrue F.tells → left_of self.new (F.unread files.new) ≡ left_of self.old (F.unread files.old) }
+        ensures place { self.new.place ≡ self.old.place }
+        ensures config { self.new.config ≡ self.old.config }
+        ensures end { end_of self.new (F.allowance files.new) ≡ end_of self.old (F.allowance files.old) }
+        ensures cause { HasReadCause (F.read_faults files.old) (F.read_faults files.new) result }
+
+        ensures files { SameFiles (F.held files.old) (F.held files.new) }
+        ensures begun { F.begun files.new ≡ F.begun files.old }
+        ensures appends { F.append_faults files.new ≡ F.append_faults files.old }
+    {
+        match self.buffer.available(files, 1) {
+            Ok(held) => Ok(held == 0),
+            Err(fault) => Err(error_of_read(fault)),
+        }
+    }
+
+    /// The entry that begins at the reader's place.
+    #[tactic(auto, unfolding(crate::specs::Log::entry_at))]
+    fn entry<F: Files>(&mut self, files: &mut F) -> Result<LogEntry, LogError>
+        requires { PlacesFit self.old (F.allowance files.old) }
+        ensures said { IsTrue F.tells → Gives (λ entry. (entry, left_of self.new (F.unread files.new))) result (entry_at (left_of self.old (F.unread files.old))) }
+        ensures entry { IfOk result (λ e. (e.at ≡ self.old.place) × VertexFits e.vertex) }
+        ensures place { OnOk result (self.old.place < self.new.place) }
+        ensures config { self.new.config ≡ self.old.config }
+        ensures end { end_of self.new (F.allowance files.new) ≡ end_of self.old (F.allowance files.old) }
+        ensures cause { HasReadCause (F.read_faults files.old) (F.read_faults files.new) result }
+
+        ensures files { SameFiles (F.held files.old) (F.held files.new) }
+        ensures begun { F.begun files.new ≡ F.begun files.old }
+        ensures appends { F.append_faults files.new ≡ F.append_faults files.old }
+    {
+        let at = self.place;
+        let head = self.head(files)?;
+        let vertex = self.body(files, at, head.length)?;
+        Ok(LogEntry {
+            at,
+            verdict: head.verdict,
+            vertex,
+        })
+    }
+
+    /// The head of the entry that begins at the reader's place.
+    #[tactic(auto, using(crate::proofs::CauseLaws::cause_of_bytes, crate::proofs::FieldLaws::fails_bind), unfolding(crate::specs::Log::head_at))]
+    fn head<F: Files>(&mut self, files: &mut F) -> Result<EntryHead, LogError>
+        requires { PlacesFit self.old (F.allowance files.old) }
+        ensures said { IsTrue F.tells → Gives (λ head. (head, left_of self.new (F.unread files.new))) result (head_at (left_of self.old (F.unread files.old))) }
+        ensures limit { IfOk result (λ head. head.length ≤ MAX_LENGTH) }
+        ensures place { OnOk result (self.old.place < self.new.place) }
+        ensures config { self.new.config ≡ self.old.config }
+        ensures end { end_of self.new (F.allowance files.new) ≡ end_of self.old (F.allowance files.old) }
+        ensures cause { HasReadCause (F.read_faults files.old) (F.read_faults files.new) result }
+
+        ensures files { SameFiles (F.held files.old) (F.held files.new) }
+        ensures begun { F.begun files.new ≡ F.begun files.old }
+        ensures appends { F.append_faults files.new ≡ F.append_faults files.old }
+    {
+        let at = self.place;
+        need(&mut self.buffer, files, HEAD_LENGTH, at)?;
+        let head = head_of(at, &self.buffer.as_slice()[..HEAD_LENGTH])?;
+        self.buffer.consume(HEAD_LENGTH);
+        self.place += HEAD_LENGTH as u64;
+        Ok(head)
+    }
+
+    /// The vertex of so many bytes at the reader's place, in the entry that begins at `at`.
+    #[tactic(auto, using(crate::proofs::CauseLaws::cause_of_bytes), unfolding(crate::specs::Log::body_at))]
+    fn body<F: Files>(&mut self, files: &mut F, at: u64, length: usize) -> Result<Vertex, LogError>
+        requires limit { length ≤ MAX_LENGTH }
+        requires places { PlacesFit self.old (F.allowance files.old) }
+        ensures said { IsTrue F.tells → Gives (λ vertex. (vertex, left_of self.new (F.unread files.new))) result (body_at at length (left_of self.old (F.unread files.old))) }
+        ensures fits { IfOk result VertexFits }
+        ensures place { OnOk result (self.old.place ≤ self.new.place) }
+        ensures config { self.new.config ≡ self.old.config }
+        ensures end { end_of self.new (F.allowance files.new) ≡ end_of self.old (F.allowance files.old) }
+        ensures cause { HasReadCause (F.read_faults files.old) (F.read_faults files.new) result }
+
+        ensures files { SameFiles (F.held files.old) (F.held files.new) }
+        ensures begun { F.begun files.new ≡ F.begun files.old }
+        ensures appends { F.append_faults files.new ≡ F.append_faults files.old }
+    {
+        need(&mut self.buffer, files, length, at)?;
+        let vertex = decoded_vertex(self.alloc, at, &self.buffer.as_slice()[..length])?;
+        self.buffer.consume(length);
+        self.place += length as u64;
+        Ok(vertex)
+    }
+}
+
+/// Begins to read the file of that name.
+fn begin_file<F: Files>(files: &mut F, name: &str) -> Result<(), LogError>
+    ensures whole { IsTrue F.tells → OnOk result (Begins (F.held files.old name.now) name.now (F.begun files.new) (F.unread files.new)) }
+    ensures error { IfErr result IsOutside }
+    ensures allowance { OnOk result (F.allowance files.new ≤ 2 ^ 62) }
+    ensures cause { HasReadCause (F.read_faults files.old) (F.read_faults files.new) result }
+
+    ensures files { SameFiles (F.held files.old) (F.held files.new) }
+    ensures appends { F.append_faults files.new ≡ F.append_faults files.old }
+{
+    match files.begin(name) {
+        Ok(()) => Ok(()),
+        Err(fault) => Err(error_of_read(fault)),
+    }
+}
+
+/// Reads the header of a log, of which the buffer holds the first bytes.
+#[tactic(auto, using(crate::proofs::FieldLaws::fails_bind), unfolding(crate::specs::Log::header_of))]
+fn header<F: Files>(
+    alloc: Global,
+    mut buffer: ReadBuffer,
+    files: &mut F,
+) -> Result<LogReader, LogError>
+    ensures said { IsTrue F.tells → Gives (λ reader. (reader.config, left_of reader (F.unread files.new))) result (header_of (buffer ++ F.unread files.old)) }
+    ensures checked { IfOk result (λ reader. (config_fault reader.config ≡ None) × ConfigFits reader.config) }
+    ensures end { IfOk result (λ reader. end_of reader (F.allowance files.new) ≡ length buffer + F.allowance files.old) }
+    ensures cause { HasReadCause (F.read_faults files.old) (F.read_faults files.new) result }
+
+    ensures files { SameFiles (F.held files.old) (F.held files.new) }
+    ensures begun { F.begun files.new ≡ F.begun files.old }
+    ensures appends { F.append_faults files.new ≡ F.append_faults files.old }
+{
+    let length = front(&mut buffer, files)?;
+    need(&mut buffer, files, length, FRONT_LENGTH as u64)?;
+    let config = checked_config(alloc, &buffer.as_slice()[..length])?;
+    buffer.consume(length);
+    Ok(LogReader {
+        alloc,
+        buffer,
+        config,
+        place: (FRONT_LENGTH + length) as u64,
+    })
+}
+
+/// Uses the front of a log, and answers the length of the configuration.
+#[tactic(auto, using(crate::proofs::FieldLaws::front_held))]
+fn front<F: Files>(buffer: &mut ReadBuffer, files: &mut F) -> Result<usize, LogError>
+    ensures said { IsTrue F.tells → Gives (λ n. n) result (config_length (take FRONT_LENGTH (buffer.old ++ F.unread files.old))) }
+    ensures rest { IsTrue F.tells → OnOk result (buffer.new ++ F.unread files.new ≡ drop FRONT_LENGTH (buffer.old ++ F.unread files.old)) }
+    ensures limit { IfOk result (λ n. n ≤ MAX_LENGTH) }
+    ensures ahead { OnOk result (F.allowance files.new + length buffer.new + FRONT_LENGTH ≡ F.allowance files.old + length buffer.old) }
+    ensures cause { HasReadCause (F.read_faults files.old) (F.read_faults files.new) result }
+
+    ensures files { SameFiles (F.held files.old) (F.held files.new) }
+    ensures begun { F.begun files.new ≡ F.begun files.old }
+    ensures appends { F.append_faults files.new ≡ F.append_faults files.old }
+{
+    match buffer.available(files, FRONT_LENGTH) {
+        Ok(held) => {
+            let length = config_length(&buffer.as_slice()[..held.min(FRONT_LENGTH)])?;
+            buffer.consume(FRONT_LENGTH);
+            Ok(length)
+        }
+        Err(fault) => Err(error_of_read(fault)),
+    }
+}
+
+/// Reads until the next `n` bytes are held. Where the file ends before, it is torn at this place.
+fn need<F: Files>(buffer: &mut ReadBuffer, files: &mut F, n: usize, at: u64) -> Result<(), LogError>
+    requires { n ≤ MAX_LENGTH }
+    ensures held { OnOk result (n ≤ length buffer.new) }
+    ensures torn { IsTrue F.tells → IfErr result (λ e. (place : ℕ) → Fails e (bytes_at n (Torn at) (rest_at place (buffer.old ++ F.unread files.old)))) }
+    ensures left { IsTrue F.tells → buffer.new ++ F.unread files.new ≡ buffer.old ++ F.unread files.old }
+    ensures ahead { F.allowance files.new + length buffer.new ≡ F.allowance files.old + length buffer.old }
+    ensures cause { HasReadCause (F.read_faults files.old) (F.read_faults files.new) result }
+
+    ensures files { SameFiles (F.held files.old) (F.held files.new) }
+    ensures begun { F.begun files.new ≡ F.begun files.old }
+    ensures appends { F.append_faults files.new ≡ F.append_faults files.old }
+{
+    match buffer.available(files, n) {
+        Ok(held) => {
+            if held < n {
+                return Err(LogError::Torn(at));
+            }
+            Ok(())
+        }
+        Err(fault) => Err(error_of_read(fault)),
+    }
+}
+
+/// The configuration that these bytes spell, if it keeps all limits.
+#[tactic(auto, unfolding(crate::specs::Log::checked_config))]
+fn checked_config(alloc: Global, bytes: &[u8]) -> Result<Config, LogError>
+    ensures said { Gives (λ config. config) result (checked_config bytes.now) }
+    ensures error { IfErr result IsOfBytes }
+    ensures checked { IfOk result (λ config. (config_fault config ≡ None) × ConfigFits config) }
+{
+    let config = decoded_config(alloc, bytes)?;
+    match config.check() {
+        Ok(()) => Ok(config),
+        Err(fault) => Err(LogError::ConfigFault(fault)),
+    }
+}
+
+/// The configuration that these bytes spell.
+fn decoded_config(alloc: Global, bytes: &[u8]) -> Result<Config, LogError>
+    ensures said { Gives (λ config. config) result (decoded BadConfig (config_of bytes.now)) }
+    ensures error { IfErr result IsOfBytes }
+    ensures fits { IfOk result (λ config. ConfigFits config) }
+{
+    match decode_config(alloc, bytes) {
+        Ok(config) => Ok(config),
+        Err(CodecError::OutOfMemory) => Err(LogError::OutOfMemory),
+        Err(error) => Err(LogError::BadConfig(error)),
+    }
+}
+
+/// The vertex that these bytes spell, in the entry at this place.
+fn decoded_vertex(alloc: Global, at: u64, bytes: &[u8]) -> Result<Vertex, LogError>
+    ensures said { Gives (λ vertex. vertex) result (decoded (BadVertex at) (vertex_of bytes.now)) }
+    ensures error { IfErr result IsOfBytes }
+    ensures fits { IfOk result (λ vertex. VertexFits vertex) }
+{
+    match decode_vertex(alloc, bytes) {
+        Ok(vertex) => Ok(vertex),
+        Err(CodecError::OutOfMemory) => Err(LogError::OutOfMemory),
+        Err(error) => Err(LogError::BadVertex(at, error)),
+    }
+}

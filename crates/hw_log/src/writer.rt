@@ -1,0 +1,104 @@
+//! Writing a log.
+
+ghost use Rattle.std.specs.Prelude.{◌≡◌, ◌≢◌, Some, IsTrue, IfOk};
+ghost use Rattle.hw_io.specs.Files.{Appended};
+ghost use Rattle.hw_types.specs.Spelling.{ConfigFits, VertexFits};
+ghost use Rattle.hw_log.specs.Log.{header_bytes, entry_bytes};
+ghost use Rattle.hw_log.specs.Causes.{HasAppendCause};
+
+use crate::error::{LogError, error_of_append};
+use crate::head::{MAGIC, VERSION, VERTEX_EVENT};
+use hw_codec::{config_is_in_range, encode_config, encode_vertex, vertex_is_in_range};
+use hw_io::Files;
+use hw_types::{Bytes, Config, OutOfMemory, Vertex};
+use std::alloc::Global;
+
+/// Appends the header of a log with this configuration to the file of that name, which is made
+/// where it is missing.
+///
+/// Its errors are `WriteFault`, where the append failed, and want of memory. After an error the file
+/// holds what it held and a prefix of the header.
+pub fn append_header<F: Files>(
+    alloc: Global,
+    files: &mut F,
+    name: &str,
+    config: &Config,
+) -> Result<(), LogError>
+    requires { ConfigFits config.now }
+    ensures bytes { IsTrue F.tells → Appended (F.held files.old) (F.held files.new) name.now (header_bytes config.now) result }
+    ensures cause { HasAppendCause (F.append_faults files.old) (F.append_faults files.new) result }
+
+    ensures begun { F.begun files.new ≡ F.begun files.old }
+    ensures unread { IsTrue F.tells → F.begun files.old ≢ Some name.now → F.unread files.new ≡ F.unread files.old }
+    ensures allowance { F.allowance files.new ≡ F.allowance files.old }
+    ensures reads { F.read_faults files.new ≡ F.read_faults files.old }
+{
+    let header = spelled_header(alloc, config)?;
+    append(files, name, header.as_slice())
+}
+
+/// The entry of this vertex with the verdict on its signatures, as it stands in a log.
+#[tactic(auto, using(crate::proofs::LengthLaws::vertex_short))]
+pub fn entry_bytes(alloc: Global, verdict: bool, vertex: &Vertex) -> Result<Bytes, OutOfMemory>
+    requires { VertexFits vertex.now }
+    ensures { IfOk result (λ bytes. bytes ≡ entry_bytes verdict vertex.now) }
+{
+    let spelling = encode_vertex(alloc, vertex)?;
+    vertex_is_in_range(vertex);
+    let length = spelling.len() as u32;
+    let mut entry = Bytes::new(alloc);
+    entry.push(VERTEX_EVENT)?;
+    entry.push(u8::from(verdict))?;
+    entry.extend(&length.to_be_bytes())?;
+    entry.extend(spelling.as_slice())?;
+    Ok(entry)
+}
+
+/// Appends an entry to the file of that name, which is made where it is missing.
+///
+/// Its errors are `WriteFault`, where the append failed, and want of memory. After an error the file
+/// holds what it held and a prefix of the entry.
+pub fn append_entry<F: Files>(files: &mut F, name: &str, entry: &Bytes) -> Result<(), LogError>
+    ensures bytes { IsTrue F.tells → Appended (F.held files.old) (F.held files.new) name.now entry.now result }
+    ensures cause { HasAppendCause (F.append_faults files.old) (F.append_faults files.new) result }
+
+    ensures begun { F.begun files.new ≡ F.begun files.old }
+    ensures unread { IsTrue F.tells → F.begun files.old ≢ Some name.now → F.unread files.new ≡ F.unread files.old }
+    ensures allowance { F.allowance files.new ≡ F.allowance files.old }
+    ensures reads { F.read_faults files.new ≡ F.read_faults files.old }
+{
+    append(files, name, entry.as_slice())
+}
+
+/// Appends bytes to the file of that name.
+fn append<F: Files>(files: &mut F, name: &str, bytes: &[u8]) -> Result<(), LogError>
+    ensures bytes { IsTrue F.tells → Appended (F.held files.old) (F.held files.new) name.now bytes.now result }
+    ensures cause { HasAppendCause (F.append_faults files.old) (F.append_faults files.new) result }
+
+    ensures begun { F.begun files.new ≡ F.begun files.old }
+    ensures unread { IsTrue F.tells → F.begun files.old ≢ Some name.now → F.unread files.new ≡ F.unread files.old }
+    ensures allowance { F.allowance files.new ≡ F.allowance files.old }
+    ensures reads { F.read_faults files.new ≡ F.read_faults files.old }
+{
+    match files.append(name, bytes) {
+        Ok(()) => Ok(()),
+        Err(fault) => Err(error_of_append(fault)),
+    }
+}
+
+/// The header of a log with this configuration.
+#[tactic(auto, using(crate::proofs::LengthLaws::config_short))]
+fn spelled_header(alloc: Global, config: &Config) -> Result<Bytes, OutOfMemory>
+    requires { ConfigFits config.now }
+    ensures { IfOk result (λ bytes. bytes ≡ header_bytes config.now) }
+{
+    let spelling = encode_config(alloc, config)?;
+    config_is_in_range(config);
+    let length = spelling.len() as u32;
+    let mut header = Bytes::new(alloc);
+    header.extend(&MAGIC)?;
+    header.push(VERSION)?;
+    header.extend(&length.to_be_bytes())?;
+    header.extend(spelling.as_slice())?;
+    Ok(header)
+}

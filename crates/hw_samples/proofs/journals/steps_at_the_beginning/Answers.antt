@@ -1,0 +1,5 @@
+use Rattle.hw_samples.proofs.JournalSamples.{steps_at_the_beginning}
+use Rattle.hw_samples.proofs.journals.steps_at_the_beginning.Goals as goal
+
+pub returns : goal.returns
+returns c = steps_at_the_beginning

@@ -1,0 +1,14 @@
+//! Parts of printed texts: numbers, digests, words and the names of rules.
+//!
+//! Each call puts its part last in a list of bytes. Where there is no memory for it, the list stays
+//! as it was. `specs/Text.antt` has the printed forms.
+#![tactic(auto)]
+
+mod parts;
+mod rules;
+
+pub use parts::{put_digest, put_number, put_word};
+pub use rules::rule_name;
+
+#[cfg(test)]
+mod tests;
