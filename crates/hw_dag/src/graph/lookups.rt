@@ -70,7 +70,7 @@ impl Dag {
     pub fn sees(&self, high: UnitNo, low: UnitNo, marks: &mut Marks) -> bool
         requires high_known { high.0 < count_of self.now }
         requires low_known { low.0 < count_of self.now }
-        requires room { count_of self.now ≤ marks.old }
+        requires room { high.0 ≤ marks.old }
         ensures seen { result ≡ is_seen self.now low.0 high.0 }
         ensures room { marks.new ≡ marks.old }
     {
@@ -91,7 +91,7 @@ impl Dag {
     fn reaches(&self, high: UnitNo, low: UnitNo, marked: &mut [bool]) -> bool
         requires high_known { high.0 < count_of self.now }
         requires below { low.0 < high.0 }
-        requires room { count_of self.now ≤ length marked.old }
+        requires room { high.0 ≤ length marked.old }
         ensures { result ≡ is_seen self.now low.0 high.0 }
     {
         let _ = &self.units;
@@ -110,7 +110,7 @@ impl Dag {
     /// Marks the units that a unit observes, from `low` on.
     fn mark_observed(&self, no: UnitNo, low: UnitNo, marked: &mut [bool])
         requires known { no.0 < count_of self.now }
-        requires room { count_of self.now ≤ length marked.old }
+        requires room { no.0 ≤ length marked.old }
         ensures kept { (m : ℕ) → is_marked marked.old m ≡ true → is_marked marked.new m ≡ true }
         ensures all { (m : ℕ) → Cites self.now no.0 m → low.0 ≤ m → is_marked marked.new m ≡ true }
         ensures only { (m : ℕ) → is_marked marked.new m ≡ true → (is_marked marked.old m ≡ true) ⊎ Cites self.now no.0 m }
