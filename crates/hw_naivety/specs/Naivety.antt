@@ -1,11 +1,14 @@
 -- Naive units, over a graph in numbers.
-use Rattle.std.specs.Prelude.{◌≡◌, ℕ, ◌<◌, ◌≤◌, Bool, true, false, List}
+use Rattle.std.specs.Prelude.{◌≡◌, ℕ, ◌<◌, ◌≤◌, Bool, true, false, List, Option}
 use Rattle.std.specs.List.{list_all}
 use Rattle.hw_types.specs.Graph.{Node, cites, past, are_comparable}
 use Rattle.hw_types.specs.Below.{Among}
 use Rattle.hw_types.specs.Rules.{has_digest, has_naive_fork, is_naive}
+use Rattle.hw_dag.specs.declared.numbers.UnitNo.{UnitNo}
+use Rattle.hw_dag.specs.declared.numbers.View.{View}
 use Rattle.hw_dag.specs.Dag.{UnitGraph, count_of, node_at, graph}
-use Rattle.hw_naivety.specs.declared.NaiveFork.{NaiveFork}
+use Rattle.hw_naivety.specs.Tips.{TipsAre, LanesAre}
+use Rattle.hw_naivety.specs.declared.fork.NaiveFork.{NaiveFork}
 
 -- the list of endorsed units has each one of the lists of the units that it cites
 abbrev pub KeepsEndorsed : List Node → Node → Type 0
@@ -30,11 +33,13 @@ pub record IsLeastNaiveFork (dag : UnitGraph) (u : Node) (fork : NaiveFork) : Ty
   pub apart : are_comparable (graph dag) (node_at dag fork.left.0) (node_at dag fork.right.0) ≡ false
   pub least : (v : ℕ) (x y : Node) → v < fork.creator → IsNaiveOf (graph dag) u v x → IsNaiveOf (graph dag) u v y → are_comparable (graph dag) x y ≡ true
 
--- what is kept: of how many units of the graph, and the room for more
+-- what is kept: of how many units of the graph, the room for more, their tips, and what the noted units show of each validator
 pub record NaiveTips : Type 0 where
   pub validators : ℕ
   pub spare : ℕ
   pub count : ℕ
+  pub tips : List (List (Option UnitNo))
+  pub lanes : List View
 
 -- the first units of the graph were noted, each of which keeps the rules of endorsed lists and of naive forks
 pub record IsNoted (tips : NaiveTips) (dag : UnitGraph) : Type 0 where
@@ -42,3 +47,5 @@ pub record IsNoted (tips : NaiveTips) (dag : UnitGraph) : Type 0 where
   pub within : tips.count ≤ count_of dag
   pub endorsed : (n : ℕ) → n < tips.count → KeepsEndorsed (graph dag) (node_at dag n)
   pub forkless : (n : ℕ) → n < tips.count → HasNoNaiveFork (graph dag) (node_at dag n)
+  pub tips_are : TipsAre dag tips.count tips.tips
+  pub lanes_are : LanesAre dag tips.count tips.lanes
