@@ -41,12 +41,12 @@ noted_grown dag old new validators wanted before after sv sc sl sb sa room grown
         ∙ sym (ap (λ (r : List (Option UnitNo)). get_or r v None) (grown.kept n (omega arith)))
         ∙ sym (ap (λ (rs : List (List (Option UnitNo))). tip_at rs n v) sa)
 
-pub noted_next : (dag : UnitGraph) (old new : NaiveTips) (no : ℕ) → IsNoted old dag → old.count ≡ no → no < count_of dag → KeepsEndorsed (graph dag) (node_at dag no) → HasNoNaiveFork (graph dag) (node_at dag no)
-    → new.validators ≡ old.validators → new.count ≡ no + 1
-    → ((v : ℕ) → v < dag.validators → IsTip dag (unit_at dag no).panorama (unit_at dag no).signed.unit.endorsed v (tip_at new.tips no v))
-    → ((n v : ℕ) → n ≢ no → tip_at new.tips n v ≡ tip_at old.tips n v)
-    → LanesAre dag (no + 1) new.lanes → IsNoted new dag
-noted_next dag old new no h next known keeps forkless sv sc filled stay lanes = record {
+pub noted_next : (dag : UnitGraph) (old new : NaiveTips) (unit : ℕ) → IsNoted old dag → old.count ≡ unit → unit < count_of dag → KeepsEndorsed (graph dag) (node_at dag unit) → HasNoNaiveFork (graph dag) (node_at dag unit)
+    → new.validators ≡ old.validators → new.count ≡ unit + 1
+    → ((v : ℕ) → v < dag.validators → IsTip dag (unit_at dag unit).panorama (unit_at dag unit).signed.unit.endorsed v (tip_at new.tips unit v))
+    → ((n v : ℕ) → n ≢ unit → tip_at new.tips n v ≡ tip_at old.tips n v)
+    → LanesAre dag (unit + 1) new.lanes → IsNoted new dag
+noted_next dag old new unit h next known keeps forkless sv sc filled stay lanes = record {
   validators_are = sv ∙ h.validators_are;
   within = omega arith;
   endorsed = λ n lt. each (λ (k : ℕ). KeepsEndorsed (graph dag) (node_at dag k)) h.endorsed keeps n lt;
@@ -56,8 +56,8 @@ noted_next dag old new no h next known keeps forkless sv sc filled stay lanes = 
   lanes_are = subst (λ (k : ℕ). LanesAre dag k new.lanes) (sym sc) lanes;
 }
   where
-    each : (P : ℕ → Type 0) → ((k : ℕ) → k < old.count → P k) → P no → (n : ℕ) → n < new.count → P n
-    each P before here n lt = elim (cases_lt n no) [
+    each : (P : ℕ → Type 0) → ((k : ℕ) → k < old.count → P k) → P unit → (n : ℕ) → n < new.count → P n
+    each P before here n lt = elim (cases_lt n unit) [
       | inl less ↦ before n (omega arith)
-      | inr above ↦ (let same : no ≡ n = omega arith in subst P same here)
+      | inr above ↦ (let same : unit ≡ n = omega arith in subst P same here)
     ]

@@ -11,10 +11,10 @@ use Rattle.hw_dag.specs.Dag.{view_at}
 use Rattle.hw_naivety.specs.Tips.{tip_of, tip_at, AreRows}
 
 -- a slot with a unit is one of the panorama's
-pub slot_small : (ws : List View) (s : ℕ) (no : UnitNo) → view_at ws s ≡ view.Correct no → s < length ws
-slot_small [] s no e = absurd cc
-slot_small (w ∷ ws) zero no e = omega arith
-slot_small (w ∷ ws) (suc s) no e = let rest = slot_small ws s no e in omega arith
+pub slot_small : (ws : List View) (s : ℕ) (cited : UnitNo) → view_at ws s ≡ view.Correct cited → s < length ws
+slot_small [] s cited e = absurd cc
+slot_small (w ∷ ws) zero cited e = omega arith
+slot_small (w ∷ ws) (suc s) cited e = let rest = slot_small ws s cited e in omega arith
 
 pub set_tip : (xs : List ℕ) (i next : ℕ) (tip : Option UnitNo) (now : List (Option UnitNo)) → map tip_of xs ≡ now → tip_of next ≡ tip → map tip_of (slice_set xs i next) ≡ slice_set now i tip
 set_tip xs i next tip now e t = map-set tip_of xs i next ∙ ap (λ (o : Option UnitNo). slice_set (map tip_of xs) i o) t ∙ ap (λ (os : List (Option UnitNo)). slice_set os i tip) e

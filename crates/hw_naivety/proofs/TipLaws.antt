@@ -113,6 +113,11 @@ module _ (dag : UnitGraph) (g : IsGraph dag) where
     tip_order v None t m n hm hn = absurd (t.all m hm)
     tip_order v (Some tip) t m n hm hn = lane_order dag g tip.0 m n (t.naive tip refl).known hm.known hn.known (t.all m hm) (t.all n hn)
 
+    pub found_order : (v : ℕ) (r : Result (Option UnitNo) NaiveFork) → IfOk r (IsTip dag panorama endorsed v) → ((fork : NaiveFork) → r ≡ Err fork → ⊥) → (m n : ℕ) → IsNaive dag panorama endorsed v m → IsNaive dag panorama endorsed v n
+        → (is_lane_below dag m n ≡ true) ⊎ (is_lane_below dag n m ≡ true)
+    found_order v (Ok tip) t other = tip_order v tip t
+    found_order v (Err fork) t other = absurd (other fork refl)
+
     -- ---- what a slot's candidate is
 
     module _ (validators : ℕ) (same : validators ≡ dag.validators) (tips : List (List (Option UnitNo))) (has : HasTips dag panorama tips) (lists : HasLists dag panorama endorsed)
@@ -230,6 +235,12 @@ module _ (dag : UnitGraph) (g : IsGraph dag) where
     IsFollowed view.Absent = ⊥
     IsFollowed (view.Correct last) = (last ≡ no) × ((n : ℕ) → n < no.0 → IsOnLaneOf dag n (view_at lanes it) → is_lane_below dag n no.0 ≡ true)
     IsFollowed view.Faulty = Unit {0}
+
+    pub follow_first : view_at lanes it ≡ view.Absent → IsFollowed (view.Correct no)
+    follow_first e = (refl, λ n lt on. absurd (subst (λ (w : View). IsOnLaneOf dag n w) e on))
+
+    pub follow_next : (last : UnitNo) → view_at lanes it ≡ view.Correct last → is_lane_below dag last.0 no.0 ≡ true → IsFollowed (view.Correct no)
+    follow_next last e t = (refl, λ n lt on. lane_trans dag g n last.0 no.0 (omega arith) (are.known it last e) known (subst (λ (w : View). IsOnLaneOf dag n w) e on) t)
 
     followed_on : (n : ℕ) (lane : View) → IsFollowed lane → n < no.0 + 1 → IsOnLaneOf dag n (view_at lanes it) ⊎ (n ≡ no.0) → IsOnLaneOf dag n lane
     followed_on n view.Absent f less h = absurd f
