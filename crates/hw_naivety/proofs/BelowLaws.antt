@@ -48,9 +48,9 @@ module _ (dag : UnitGraph) (g : IsGraph dag) where
       → (is_lane_below dag a b ≡ true) ⊎ (is_lane_below dag b a ≡ true)
   lane_order t a b lt la lb s r = elim (chain.lane_order (even_weights dag) all_faulty (graph dag) (lawful dag g) (node_at dag t) (node_at dag a) (node_at dag b) (node_among dag g t lt)
       (on_lane_among dag g a t la s) (on_lane_among dag g b t lb r)) [
-    | inl m ↦ inl (among_on_lane dag g a b m)
-    | inr m ↦ inr (among_on_lane dag g b a m)
-  ]
+        | inl m ↦ inl (among_on_lane dag g a b m)
+        | inr m ↦ inr (among_on_lane dag g b a m)
+      ]
 
   pub lane_itself : (n : ℕ) → n < count_of dag → is_lane_below dag n n ≡ true
   lane_itself n lt = among_on_lane dag g n n (on_own_lane dag g n lt)

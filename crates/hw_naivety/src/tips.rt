@@ -185,7 +185,13 @@ impl Tips {
 
     /// The tip of a settled unit that has no fork. Where the unit observes a unit of the creator, all that it
     /// has below it of the creator is on that one's lane.
-    fn tip_of(&self, sight: &Sight<'_>, no: UnitNo, creator: u32, marks: &mut Marks) -> Option<UnitNo>
+    fn tip_of(
+        &self,
+        sight: &Sight<'_>,
+        no: UnitNo,
+        creator: u32,
+        marks: &mut Marks,
+    ) -> Option<UnitNo>
         requires sight { IsSight sight.now.dag.now sight.now.panorama.now sight.now.validators }
         requires unit { IsSightOf sight.now.dag.now no.0 sight.now.panorama.now sight.now.endorsed.now }
         requires room { HasRoom sight.now.panorama.now marks.old }

@@ -16,9 +16,9 @@ returns-clause-lanes c =
     let here : view_at c.args.lanes.now (creator_of (unit_at c.args.dag.now c.args.no.0)) ≡ c.get.result = ap (λ (v : ℕ). view_at c.args.lanes.now v) (sym creator) ∙ sym c.get.ensures in
     let followed : IsFollowed c.args.dag.now g c.args.lanes.now c.args.no c.requires.known room c.requires.lanes c.match-get.lane = elim c.match-get.branch [
       | in-Absent w ↦ subst (λ (l : View). IsFollowed c.args.dag.now g c.args.lanes.now c.args.no c.requires.known room c.requires.lanes l) (sym w.lane-is)
-        (follow_first c.args.dag.now g c.args.lanes.now c.args.no c.requires.known room c.requires.lanes (here ∙ w.in-Absent.is))
+          (follow_first c.args.dag.now g c.args.lanes.now c.args.no c.requires.known room c.requires.lanes (here ∙ w.in-Absent.is))
       | in-Correct w ↦ subst (λ (l : View). IsFollowed c.args.dag.now g c.args.lanes.now c.args.no c.requires.known room c.requires.lanes l) (sym w.lane-is)
-        (follow_next c.args.dag.now g c.args.lanes.now c.args.no c.requires.known room c.requires.lanes w.in-Correct.last (here ∙ w.in-Correct.is) (sym w.on_lane.ensures ∙ w.if-on_lane.true))
+          (follow_next c.args.dag.now g c.args.lanes.now c.args.no c.requires.known room c.requires.lanes w.in-Correct.last (here ∙ w.in-Correct.is) (sym w.on_lane.ensures ∙ w.if-on_lane.true))
       | in-Correct-2-2 w ↦ subst (λ (l : View). IsFollowed c.args.dag.now g c.args.lanes.now c.args.no c.requires.known room c.requires.lanes l) (sym w.lane-is) tt
       | in-Correct-2 w ↦ subst (λ (l : View). IsFollowed c.args.dag.now g c.args.lanes.now c.args.no c.requires.known room c.requires.lanes l) (sym w.lane-is) tt
     ] in

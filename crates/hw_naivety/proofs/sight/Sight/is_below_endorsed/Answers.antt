@@ -18,8 +18,8 @@ pub returns-clause-below : goal.returns-clause-below
 returns-clause-below c = (
   λ t. absurd cc,
   λ b. absurd (
-    let k = among_place (record { 0 = [] }) b.name c.args.self.now.endorsed.now b.among in
-    c.loop-name.invariant.0 k.0 (let lt = k.1 in let over = c.loop-name-test.false in omega arith)
-    (subst (λ (d : Digest). IsBelowNamed c.args.self.now.dag.now c.args.self.now.panorama.now d c.args.no.0) (sym k.2) b.below)
-  ),
+      let k = among_place (record { 0 = [] }) b.name c.args.self.now.endorsed.now b.among in
+      c.loop-name.invariant.0 k.0 (let lt = k.1 in let over = c.loop-name-test.false in omega arith)
+      (subst (λ (d : Digest). IsBelowNamed c.args.self.now.dag.now c.args.self.now.panorama.now d c.args.no.0) (sym k.2) b.below)
+      ),
 )

@@ -31,7 +31,7 @@ returns-then-on_lane-clause-raised c =
       more = λ n h u. elim c.then-on_lane.branch [
         | then-on_lane-via-then-on_lane w ↦ lane_trans c.args.self.now.dag.now s.graph_is n c.args.candidate.0 c.in-Some.low.0 h.known c.requires.known low.known u (sym c.on_lane.ensures ∙ w.if-on_lane.true)
         | then-on_lane-via-else-on_lane+then-is_below_endorsed-2 w ↦ absurd (none_under c.args.self.now.dag.now s.graph_is c.args.self.now.panorama.now s.panorama_is c.args.self.now.endorsed.now c.args.creator c.args.candidate.0 n
-          c.requires.known (w.is_below_endorsed-else-on_lane.ensures.below.0 w.if-is_below_endorsed-2.true) h u)
+            c.requires.known (w.is_below_endorsed-else-on_lane.ensures.below.0 w.if-is_below_endorsed-2.true) h u)
       ];
     }
 

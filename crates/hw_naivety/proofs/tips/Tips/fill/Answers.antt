@@ -19,11 +19,11 @@ loop-creator-preserved c =
     let small = c.loop-creator-test.true in (
       (λ v lt. elim (cases_lt v c.loop-creator.creator) [
         | inl less ↦ subst (λ (o : Option UnitNo). IsTip c.args.sight.now.dag.now c.args.sight.now.panorama.now c.args.sight.now.endorsed.now v o)
-          (sym (put_beside c.args.sight.now.validators c.loop-creator.self c.put.new.self c.args.no.0 c.loop-creator.creator c.tip_of-tip.result i.2 known small c.put.ensures v (λ e. absurd (omega arith)))) (i.0 v less)
+            (sym (put_beside c.args.sight.now.validators c.loop-creator.self c.put.new.self c.args.no.0 c.loop-creator.creator c.tip_of-tip.result i.2 known small c.put.ensures v (λ e. absurd (omega arith)))) (i.0 v less)
         | inr above ↦ (let same : c.loop-creator.creator ≡ v = omega arith in
-          subst (λ (k : ℕ). IsTip c.args.sight.now.dag.now c.args.sight.now.panorama.now c.args.sight.now.endorsed.now k (tip_at c.put.new.self c.args.no.0 k)) same
-          (subst (λ (o : Option UnitNo). IsTip c.args.sight.now.dag.now c.args.sight.now.panorama.now c.args.sight.now.endorsed.now c.loop-creator.creator o)
-          (sym (put_here c.args.sight.now.validators c.loop-creator.self c.put.new.self c.args.no.0 c.loop-creator.creator c.tip_of-tip.result i.2 known small c.put.ensures)) c.tip_of-tip.ensures.tip))
+            subst (λ (k : ℕ). IsTip c.args.sight.now.dag.now c.args.sight.now.panorama.now c.args.sight.now.endorsed.now k (tip_at c.put.new.self c.args.no.0 k)) same
+            (subst (λ (o : Option UnitNo). IsTip c.args.sight.now.dag.now c.args.sight.now.panorama.now c.args.sight.now.endorsed.now c.loop-creator.creator o)
+            (sym (put_here c.args.sight.now.validators c.loop-creator.self c.put.new.self c.args.no.0 c.loop-creator.creator c.tip_of-tip.result i.2 known small c.put.ensures)) c.tip_of-tip.ensures.tip))
       ]),
       (λ n v other. put_elsewhere c.args.sight.now.validators c.loop-creator.self c.put.new.self c.args.no.0 c.loop-creator.creator c.tip_of-tip.result i.2 known small c.put.ensures n v other ∙ i.1 n v other),
       put_rows c.args.sight.now.validators c.loop-creator.self c.put.new.self c.args.no.0 c.loop-creator.creator c.tip_of-tip.result i.2 known small c.put.ensures,

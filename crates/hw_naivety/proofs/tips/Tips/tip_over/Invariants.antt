@@ -11,5 +11,5 @@ abbrev pub invariant-loop-slot : goal.invariant-loop-slot
 invariant-loop-slot l =
     IsNaiveTip l.sight.dag.now l.sight.panorama.now l.sight.endorsed.now l.creator l.tip
     × ((slot : ℕ) (cited : UnitNo) (n : ℕ) → slot < l.slot → view_at l.sight.panorama.now slot ≡ view.Correct cited → IsNaive l.sight.dag.now l.sight.panorama.now l.sight.endorsed.now l.creator n
-        → is_seen l.sight.dag.now n cited.0 ≡ true → IsUnder l.sight.dag.now n l.tip)
+    → is_seen l.sight.dag.now n cited.0 ≡ true → IsUnder l.sight.dag.now n l.tip)
     × (l.marks ≡ l.initial.marks)

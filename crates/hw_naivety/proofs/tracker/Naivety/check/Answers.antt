@@ -34,7 +34,7 @@ returns-in-Err-clause-none c =
     (c.as_slice.ensures ∙ ap (λ (s : SignedUnit). s.unit.endorsed) c.signed.ensures) c.in-Err.ensures.fork in (
       (λ t. absurd cc),
       (λ h. absurd (fork_unordered c.args.dag.now c.count-count.ensures.graph c.args.prepared.now.panorama c.requires.panorama (node_prepared c.args.prepared.now) c.requires.resolved.observes c.loop-creator.creator c.in-Err.fork fork
-      (forkless_ordered c.args.dag.now c.count-count.ensures.graph c.args.prepared.now.panorama c.requires.panorama (node_prepared c.args.prepared.now) c.requires.resolved.observes h c.loop-creator.creator))),
+          (forkless_ordered c.args.dag.now c.count-count.ensures.graph c.args.prepared.now.panorama c.requires.panorama (node_prepared c.args.prepared.now) c.requires.resolved.observes h c.loop-creator.creator))),
     )
 
 pub returns-in-Err-clause-least : goal.returns-in-Err-clause-least

@@ -7,5 +7,5 @@ use Rattle.hw_naivety.proofs.tracker.Naivety.check.Given as goal
 abbrev pub invariant-loop-creator : goal.invariant-loop-creator
 invariant-loop-creator l =
     ((v m n : ℕ) → v < l.creator → IsNaive l.dag l.prepared.panorama l.prepared.signed.unit.endorsed v m → IsNaive l.dag l.prepared.panorama l.prepared.signed.unit.endorsed v n
-        → (is_lane_below l.dag m n ≡ true) ⊎ (is_lane_below l.dag n m ≡ true))
+    → (is_lane_below l.dag m n ≡ true) ⊎ (is_lane_below l.dag n m ≡ true))
     × (l.marks ≡ l.initial.marks)
