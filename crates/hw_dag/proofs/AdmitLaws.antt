@@ -1,21 +1,19 @@
 -- A graph with one unit more is a graph.
-use Rattle.std.proofs.Common.{◌≡◌, ℕ, zero, suc, ◌+◌, ◌-◌, ◌^◌, ◌<◌, ◌≤◌, ◌⊎◌, inl, inr, Bool, true, false, cond, List, [], ◌∷◌, ◌++◌, length, get_or, Option, Some, None, refl, sym, ap, subst, ◌∙◌, arith, length-append}
+use Rattle.std.proofs.Common.{◌≡◌, ℕ, ◌+◌, ◌<◌, ◌⊎◌, inl, inr, Bool, true, false, List, [], ◌∷◌, length, Option, Some, None, refl, sym, ap, subst, ◌∙◌, arith, length-append}
 use Rattle.std.specs.Prelude.{is_some, unwrap_or, if◌then◌else◌}
-use Rattle.std.specs.List.{list_any}
 use Rattle.std.proofs.lemmas.List.{get_or_push}
 use Rattle.std.proofs.lemmas.Bool.{cases_lt}
 use Rattle.hw_types.specs.declared.unit.Obs.{Obs}
-use Rattle.hw_types.specs.declared.unit.Obs.TheVariants.{Absent, Correct, Faulty}
-use Rattle.hw_types.specs.Graph.{Node, slot, cites, latest, previous, observed, is_correct, is_consistent}
+use Rattle.hw_types.specs.declared.unit.Obs.TheVariants.{Correct}
+use Rattle.hw_types.specs.Graph.{Node, slot, cites, latest, observed}
 use Rattle.hw_types.specs.Below.{Among}
 use Rattle.hw_types.specs.Votes.{is_block}
-use Rattle.hw_types.proofs.WordsLaws.{either}
 use Rattle.hw_types.proofs.LawfulLaws.{consistent_grows}
 use Rattle.hw_dag.specs.declared.numbers.UnitNo.{UnitNo}
 use Rattle.hw_dag.specs.declared.numbers.View.{View}
 use Rattle.hw_dag.specs.declared.numbers.View.TheVariants as view
-use Rattle.hw_dag.specs.Dag.{SettledUnit, UnitGraph, stand_in, unit_at, count_of, node_of, node_at, graph, creator_of, view_at, obs_of, observations, IsPanorama, GrowsTo}
-use Rattle.hw_dag.specs.Admission.{PreparedUnit, node_prepared, IsFor, IsResolved, IsNew, KeepsRules, IsFork, height_above, settled_as, settled_from, with_unit, fork_given, IsSettled, IsGraph}
+use Rattle.hw_dag.specs.Dag.{SettledUnit, UnitGraph, stand_in, unit_at, count_of, node_at, graph, creator_of, view_at, obs_of, observations, IsPanorama, GrowsTo}
+use Rattle.hw_dag.specs.Admission.{PreparedUnit, node_prepared, KeepsRules, IsFork, height_above, settled_as, settled_from, with_unit, fork_given, IsSettled, IsGraph, IsReady}
 use Rattle.hw_dag.proofs.NodeLaws.{AreApart, apart_found, graph_one_name}
 use Rattle.hw_dag.proofs.SlotLaws.{slot_of, length-observations, latest_of}
 use Rattle.hw_dag.proofs.DepthLaws.{parent_earlier}
@@ -78,15 +76,6 @@ module _ (dag later : UnitGraph) (grows : GrowsTo dag later) (g : IsGraph dag) (
   height_above_stays (Some p) known = ap (λ (u : SettledUnit). unwrap_or u.height 0 + 1) (unit_stays dag later grows p.0 (known p refl))
 
 -- ---- one unit more
-
--- a unit that is prepared, resolved and new, keeps the rules and has its fork choice
-pub record IsReady (dag : UnitGraph) (p : PreparedUnit) (fork : Option UnitNo) : Type 0 where
-  pub room : 1 ≤ dag.spare
-  pub is_for : IsFor dag.validators p.signed
-  pub resolved : IsResolved dag p
-  pub rules : KeepsRules (graph dag) (node_prepared p)
-  pub fresh : IsNew dag p.digest
-  pub fork_is : IsFork dag p.signed.unit.panorama fork
 
 chosen : (b : Bool) (o : Option UnitNo) (d : UnitNo) → (b ≡ false → is_some o ≡ true) → (if b then (if b then o else None) else Some (if b then d else unwrap_or o d)) ≡ o
 chosen true o d h = refl

@@ -1,5 +1,5 @@
 -- The units of a lane are a chain.
-use Rattle.std.proofs.Common.{◌≡◌, ℕ, ◌<◌, ◌≤◌, ◌⊎◌, inl, inr, Bool, true, false, List, length, Option, Some, refl, sym, ap, subst, ◌∙◌, arith}
+use Rattle.std.proofs.Common.{◌≡◌, ℕ, ◌≤◌, ◌⊎◌, inl, inr, Bool, true, List, Some, sym, subst, ◌∙◌, arith}
 use Rattle.hw_types.specs.Graph.{Node, node_eq, follows, lane_of}
 use Rattle.hw_types.specs.Below.{Among}
 use Rattle.hw_types.specs.Lawful.{IsLawful}

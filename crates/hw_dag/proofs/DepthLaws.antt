@@ -1,10 +1,9 @@
 -- Lanes and parents as chains that lead back.
-use Rattle.std.proofs.Common.{◌≡◌, ℕ, zero, suc, ◌+◌, ◌-◌, ◌<◌, ◌≤◌, inl, inr, Bool, true, false, cond, List, length, map, Option, Some, None, refl, sym, ap, subst, ◌∙◌, arith}
+use Rattle.std.proofs.Common.{◌≡◌, ℕ, zero, suc, ◌+◌, ◌-◌, ◌<◌, ◌≤◌, inl, inr, Bool, true, length, Option, Some, None, refl, sym, ap, subst, ◌∙◌, arith}
 use Rattle.std.specs.Prelude.{unwrap_or, if◌then◌else◌}
 use Rattle.std.proofs.lemmas.List.{get_or-map, length-map}
 use Rattle.hw_types.specs.declared.unit.Obs.{Obs}
-use Rattle.hw_types.specs.Graph.{Node, observes, slot, follows, lane_of, is_absent, is_faulty_mark, observed, previous}
-use Rattle.hw_types.specs.Below.{Among}
+use Rattle.hw_types.specs.Graph.{observes, slot, follows, is_absent, is_faulty_mark, observed}
 use Rattle.hw_types.specs.Votes.{is_block}
 use Rattle.hw_types.proofs.SettledLaws.{digest_self}
 use Rattle.hw_types.proofs.WordsLaws.{either, never_both}
@@ -12,15 +11,15 @@ use Rattle.hw_types.proofs.LaneLaws as lanes
 use Rattle.hw_dag.specs.declared.numbers.UnitNo.{UnitNo}
 use Rattle.hw_dag.specs.declared.numbers.View.{View}
 use Rattle.hw_dag.specs.declared.numbers.View.TheVariants as view
-use Rattle.hw_dag.specs.Dag.{SettledUnit, UnitGraph, stand_in, unit_at, count_of, node_of, node_at, graph, creator_of, seq_of, view_at, obs_of}
+use Rattle.hw_dag.specs.Dag.{SettledUnit, UnitGraph, stand_in, unit_at, count_of, node_at, graph, creator_of, seq_of, view_at, obs_of}
 use Rattle.hw_dag.specs.Admission.{IsGraph, height_above, fork_given}
-use Rattle.hw_dag.specs.Lanes.{IsLaneAt, IsAncestor, itself, further, IsAncestorAt, is_lane_below}
+use Rattle.hw_dag.specs.Lanes.{IsLaneAt, itself, further, IsAncestorAt}
 use Rattle.hw_dag.specs.Skips.{back_at, back_from, IsDepth, LeadsDown}
 use Rattle.hw_dag.specs.Tables.{number_of, predecessor_of, lanes_of, chains_of}
-use Rattle.hw_dag.proofs.NodeLaws.{node_among, node_found}
+use Rattle.hw_dag.proofs.NodeLaws.{node_among}
 use Rattle.hw_dag.proofs.SlotLaws.{slot_at, observed_number}
 use Rattle.hw_dag.proofs.ChainLaws.{lane_further}
-use Rattle.hw_dag.proofs.LaneLaws.{even_weights, all_faulty, lawful, lane, on_lane_among, among_on_lane, on_own_lane}
+use Rattle.hw_dag.proofs.LaneLaws.{even_weights, all_faulty, lawful, on_lane_among, among_on_lane, on_own_lane}
 use Rattle.hw_dag.proofs.SkipLaws.{back_from-none, first_step, root_depth, next_depth}
 
 -- the slot of a unit's own creator

@@ -1,5 +1,5 @@
 -- What stays as a graph grows.
-use Rattle.std.proofs.Common.{◌≡◌, ℕ, zero, suc, ◌+◌, ◌<◌, ◌≤◌, ◌⊎◌, inl, inr, Bool, true, List, [], ◌∷◌, ◌++◌, length, get_or, map, refl, sym, ap, subst, ◌∙◌, arith, length-append}
+use Rattle.std.proofs.Common.{◌≡◌, ℕ, suc, ◌<◌, ◌≤◌, true, List, [], ◌∷◌, refl, sym, ap, subst, ◌∙◌, arith, length-append}
 use Rattle.std.specs.Prelude.{◌||◌}
 use Rattle.std.proofs.lemmas.List.{get_or_append_left}
 use Rattle.hw_types.specs.declared.unit.Obs.{Obs}
@@ -16,15 +16,12 @@ use Rattle.hw_types.proofs.WordsLaws.{slot_cites}
 use Rattle.hw_dag.specs.declared.numbers.UnitNo.{UnitNo}
 use Rattle.hw_dag.specs.declared.numbers.View.{View}
 use Rattle.hw_dag.specs.declared.numbers.View.TheVariants as view
-use Rattle.hw_dag.specs.Dag.{SettledUnit, UnitGraph, stand_in, unit_at, count_of, node_at, graph, view_at, obs_of, observations, GrowsTo}
+use Rattle.hw_dag.specs.Dag.{SettledUnit, UnitGraph, stand_in, unit_at, count_of, node_at, graph, obs_of, observations, GrowsTo}
 use Rattle.hw_dag.specs.Admission.{IsGraph}
 use Rattle.hw_dag.specs.Lanes.{is_seen, is_lane_below}
+pub use Rattle.hw_dag.specs.Tables.{IsKnown}
 use Rattle.hw_dag.proofs.NodeLaws.{AreApart, graph_rising, graph_one_name, among_node, apart_among, node_among}
 use Rattle.hw_dag.proofs.SlotLaws.{cited_name}
-
--- each number in the panorama is a unit of the graph
-abbrev pub IsKnown : UnitGraph → List View → Type 0
-IsKnown dag panorama = (v : ℕ) (number : UnitNo) → view_at panorama v ≡ view.Correct number → number.0 < count_of dag
 
 module _ (dag later : UnitGraph) (grows : GrowsTo dag later) where
   pub count_grows : count_of dag ≤ count_of later

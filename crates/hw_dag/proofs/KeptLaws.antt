@@ -1,5 +1,5 @@
 -- Look-ups in the tables that are kept beside a graph.
-use Rattle.std.proofs.Common.{◌≡◌, ℕ, ◌+◌, ◌-◌, ◌^◌, ◌<◌, ◌≤◌, Bool, true, false, List, length, get_or, Option, Some, sym, ap, subst, ◌∙◌, arith}
+use Rattle.std.proofs.Common.{◌≡◌, ℕ, ◌-◌, ◌<◌, ◌≤◌, Bool, true, false, List, length, get_or, Option, Some, sym, ap, subst, ◌∙◌, arith}
 use Rattle.std.specs.Prelude.{unwrap_or, position}
 use Rattle.std.specs.List.{list_any}
 use Rattle.std.proofs.lemmas.List.{get_or-map, length-map}
@@ -14,7 +14,7 @@ use Rattle.hw_dag.specs.Lanes.{IsLaneAt, IsAncestorAt}
 use Rattle.hw_dag.specs.Skips.{IsDepth, LeadsDown, back_from}
 use Rattle.hw_dag.specs.Tables.{IsKept, lanes_of, chains_of}
 use Rattle.hw_dag.proofs.PlaceLaws.{place_is_among}
-use Rattle.hw_dag.proofs.DepthLaws.{height_at, lane_depth, lane_found, chain_depth, chain_found, length-lanes, length-chains, chain_at_is, parent_earlier}
+use Rattle.hw_dag.proofs.DepthLaws.{lane_depth, lane_found, chain_depth, chain_found, length-lanes, length-chains, chain_at_is, parent_earlier}
 use Rattle.hw_dag.proofs.SkipLaws.{depth_bound}
 
 module _ (dag : UnitGraph) (names : List Digest) (lanes chains : List (Option UnitNo)) (k : IsKept dag names lanes chains) where

@@ -1,11 +1,10 @@
 -- Lanes of a graph by number.
-use Rattle.std.proofs.Common.{◌≡◌, ◌≢◌, ℕ, ◌<◌, ◌≤◌, ◌⊎◌, inl, inr, Bool, true, false, List, length, replicate, Option, Some, refl, sym, ap, subst, ◌∙◌, arith, eqb-true, eq-eqb}
+use Rattle.std.proofs.Common.{◌≡◌, ℕ, ◌<◌, ◌⊎◌, inl, inr, Bool, true, false, List, replicate, refl, sym, ap, subst, ◌∙◌, arith, eqb-true, eq-eqb}
 use Rattle.std.proofs.lemmas.List.{length-replicate}
-use Rattle.std.specs.Prelude.{◌||◌, nat_eq}
-use Rattle.hw_types.specs.declared.unit.Obs.{Obs}
-use Rattle.hw_types.specs.declared.unit.Obs.TheVariants.{Absent, Correct, Faulty}
+use Rattle.std.specs.Prelude.{nat_eq}
+use Rattle.hw_types.specs.declared.unit.Obs.TheVariants.{Faulty}
 use Rattle.hw_types.specs.declared.unit.Digest.{Digest}
-use Rattle.hw_types.specs.Graph.{Node, digest_eq, node_eq, past, lane_of, is_among, is_on_lane, is_below, is_strictly_below, is_faulty_mark, slot}
+use Rattle.hw_types.specs.Graph.{Node, digest_eq, node_eq, past, lane_of, is_strictly_below}
 use Rattle.hw_types.specs.Below.{Among}
 use Rattle.hw_types.specs.Lawful.{IsLawful}
 use Rattle.hw_types.proofs.ClosureLaws.{Within}

@@ -1,20 +1,19 @@
 -- Each graph is lawful.
-use Rattle.std.proofs.Common.{◌≡◌, ℕ, ◌+◌, ◌<◌, ◌≤◌, ◌⊎◌, inl, inr, zero, suc, Bool, true, false, cond, List, [], ◌∷◌, length, get_or, Option, Some, None, refl, sym, ap, subst, ◌∙◌, arith}
+use Rattle.std.proofs.Common.{◌≡◌, ℕ, ◌+◌, ◌<◌, ◌⊎◌, inl, inr, zero, suc, Bool, true, false, cond, List, [], ◌∷◌, length, get_or, Some, None, refl, sym, ap, subst, ◌∙◌, arith}
 use Rattle.hw_types.specs.declared.unit.Digest.{Digest}
 use Rattle.hw_types.specs.declared.unit.Obs.{Obs}
-use Rattle.hw_types.specs.declared.unit.Obs.TheVariants.{Absent, Correct, Faulty}
-use Rattle.hw_types.specs.Graph.{Node, digest_eq, node_eq, is_faulty_mark, is_absent, slot, cites, find_node, observed, previous, is_consistent}
+use Rattle.hw_types.specs.declared.unit.Obs.TheVariants.{Correct}
+use Rattle.hw_types.specs.Graph.{Node, digest_eq, is_faulty_mark, is_absent, slot, cites, observed, previous, is_consistent}
 use Rattle.hw_types.specs.Below.{Among}
 use Rattle.hw_types.specs.Lawful.{IsLawful}
 use Rattle.hw_types.proofs.WordsLaws.{never_both}
 use Rattle.hw_types.proofs.SettledLaws.{digest_same, digest_self}
-use Rattle.hw_dag.specs.declared.numbers.UnitNo.{UnitNo}
 use Rattle.hw_dag.specs.declared.numbers.View.{View}
 use Rattle.hw_dag.specs.declared.numbers.View.TheVariants as view
-use Rattle.hw_dag.specs.Dag.{SettledUnit, UnitGraph, stand_in, seq_of, creator_of, unit_at, count_of, node_of, node_at, graph, view_at, obs_of, observations}
+use Rattle.hw_dag.specs.Dag.{SettledUnit, UnitGraph, stand_in, seq_of, creator_of, unit_at, count_of, node_of, node_at, graph, view_at, obs_of}
 use Rattle.hw_dag.specs.Admission.{IsGraph}
 use Rattle.hw_dag.specs.Laws.{GraphIsLawful}
-use Rattle.hw_dag.proofs.NodeLaws.{graph_rising, graph_one_name, among_node, node_among, node_found}
+use Rattle.hw_dag.proofs.NodeLaws.{graph_rising, among_node, node_among, node_found}
 use Rattle.hw_dag.proofs.SlotLaws.{slot_at, length-observations, obs_number, cited_number}
 
 -- the place of the first unit of that name

@@ -13,3 +13,5 @@ pub mod KeepLaws
 pub mod ResolveLaws
 pub mod MarkLaws
 pub mod SoloLaws
+pub mod VoteLaws
+pub mod RuleLaws

@@ -1,16 +1,15 @@
 -- A walk over numbers comes to what is below.
-use Rattle.std.proofs.Common.{◌≡◌, ◌≢◌, ℕ, ◌+◌, ◌-◌, ◌<◌, ◌≤◌, ◌⊎◌, inl, inr, Bool, true, false, List, refl, sym, ap, subst, ◌∙◌, arith, eqb, eqb-true, eq-eqb}
+use Rattle.std.proofs.Common.{◌≡◌, ℕ, ◌+◌, ◌<◌, ◌≤◌, ◌⊎◌, inl, inr, Bool, true, false, List, refl, sym, subst, ◌∙◌, arith, eqb, eqb-true, eq-eqb}
 use Rattle.std.proofs.lemmas.Bool.{cases_lt}
 use Rattle.hw_types.specs.declared.unit.Obs.{Obs}
-use Rattle.hw_types.specs.Graph.{Node, cites, unit_cites, past, node_eq}
+use Rattle.hw_types.specs.Graph.{Node, cites, unit_cites}
 use Rattle.hw_types.specs.Below.{Among}
 use Rattle.hw_types.proofs.PastLaws.{reach_first, reach_further, reach_keeps}
 use Rattle.hw_types.proofs.StableLaws.{both_ways}
 use Rattle.hw_types.proofs.WordsLaws.{either, never_both}
 use Rattle.hw_dag.specs.declared.numbers.UnitNo.{UnitNo}
-use Rattle.hw_dag.specs.declared.numbers.View.{View}
 use Rattle.hw_dag.specs.declared.numbers.View.TheVariants as view
-use Rattle.hw_dag.specs.Dag.{SettledUnit, UnitGraph, unit_at, count_of, node_at, graph, creator_of, view_at, observations}
+use Rattle.hw_dag.specs.Dag.{UnitGraph, unit_at, count_of, node_at, graph, creator_of, view_at}
 use Rattle.hw_dag.specs.Admission.{IsGraph}
 use Rattle.hw_dag.specs.Lanes.{is_lane_below, is_seen}
 use Rattle.hw_dag.specs.Walks.{is_marked, Cites}

@@ -1,13 +1,11 @@
 -- The units of a graph by number, as the definitions see them.
-use Rattle.std.proofs.Common.{◌≡◌, ℕ, ◌<◌, Bool, true, List, length, get_or, map, Option, Some, refl, sym, ap, subst, ◌∙◌, cond, arith}
-use Rattle.std.specs.Prelude.{slice_index_or}
-use Rattle.hw_types.specs.declared.unit.Digest.{Digest}
-use Rattle.hw_types.specs.Graph.{Node, digest_eq, node_eq, find_node}
+use Rattle.std.proofs.Common.{◌≡◌, ℕ, ◌<◌, true, map, Some, refl, sym, ap, ◌∙◌}
+use Rattle.hw_types.specs.Graph.{Node, node_eq, find_node}
 use Rattle.hw_types.specs.Below.{Among}
-use Rattle.hw_types.specs.ByName.{by_name, IsRising}
+use Rattle.hw_types.specs.ByName.{IsRising}
 use Rattle.hw_types.proofs.GraphLaws.{rising_by_name, rising_one_name}
 use Rattle.hw_types.proofs.StableLaws.{OneName}
-use Rattle.hw_types.proofs.SettledLaws.{digest_same, digest_self}
+use Rattle.hw_types.proofs.SettledLaws.{digest_same}
 use Rattle.hw_types.proofs.EntryLaws.{map_among, among_map, by_name_in, in_by_name}
 use Rattle.hw_types.proofs.WordsLaws.{found_node}
 use Rattle.hw_dag.specs.Dag.{SettledUnit, UnitGraph, stand_in, unit_at, count_of, node_of, node_at, by_name_of, graph}

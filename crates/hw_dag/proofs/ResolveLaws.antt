@@ -1,17 +1,15 @@
 -- Observations in numbers.
-use Rattle.std.proofs.Common.{◌≡◌, ℕ, ◌<◌, ◌≤◌, inl, inr, List, length, get_or, map, refl, sym, ap, subst, ◌∙◌, arith}
+use Rattle.std.proofs.Common.{◌≡◌, ℕ, ◌<◌, inl, inr, List, length, get_or, sym, ap, subst, ◌∙◌, arith}
 use Rattle.std.proofs.lemmas.List.{ext_get_or, length-map, get_or_past}
 use Rattle.std.proofs.lemmas.Bool.{cases_lt}
-use Rattle.hw_types.specs.declared.unit.Digest.{Digest}
 use Rattle.hw_types.specs.declared.unit.Obs.{Obs}
 use Rattle.hw_types.specs.declared.unit.Obs.TheVariants.{Absent, Correct}
 use Rattle.hw_types.specs.Graph.{Node, slot}
 use Rattle.hw_types.specs.Below.{Among}
 use Rattle.hw_types.proofs.WordsLaws.{among_slot}
-use Rattle.hw_dag.specs.declared.numbers.UnitNo.{UnitNo}
 use Rattle.hw_dag.specs.declared.numbers.View.{View}
 use Rattle.hw_dag.specs.declared.numbers.View.TheVariants as view
-use Rattle.hw_dag.specs.Dag.{UnitGraph, unit_at, count_of, node_at, graph, view_at, obs_of, observations}
+use Rattle.hw_dag.specs.Dag.{UnitGraph, node_at, graph, view_at, observations}
 use Rattle.hw_dag.specs.Admission.{IsGraph, AllKnown}
 use Rattle.hw_dag.specs.Tables.{StandsFor, IsUnknown, IsKnown}
 use Rattle.hw_dag.proofs.PlaceLaws.{place_is_among}

@@ -1,22 +1,20 @@
 -- Panoramas in numbers, as the definitions see them.
-use Rattle.std.proofs.Common.{◌≡◌, ℕ, ◌<◌, Bool, true, List, length, get_or, map, Option, Some, None, refl, sym, ap, subst, ◌∙◌, inl, inr, arith}
-use Rattle.std.specs.List.{list_any}
+use Rattle.std.proofs.Common.{◌≡◌, ℕ, ◌<◌, true, List, length, Some, refl, sym, ap, ◌∙◌}
 use Rattle.std.proofs.Math.ListN.{get_or-map}
 use Rattle.std.proofs.lemmas.List.{length-map}
 use Rattle.hw_types.specs.declared.unit.Digest.{Digest}
 use Rattle.hw_types.specs.declared.unit.Obs.{Obs}
-use Rattle.hw_types.specs.declared.unit.Obs.TheVariants.{Absent, Correct, Faulty}
-use Rattle.hw_types.specs.Graph.{Node, digest_eq, observes, slot, cites, find_node, observed, latest}
-use Rattle.hw_types.specs.Below.{Among}
+use Rattle.hw_types.specs.declared.unit.Obs.TheVariants.{Correct}
+use Rattle.hw_types.specs.Graph.{Node, observes, slot, cites, observed, latest}
 use Rattle.hw_types.proofs.PastLaws.{some_of}
-use Rattle.hw_types.proofs.SettledLaws.{digest_same, digest_self, named_by}
+use Rattle.hw_types.proofs.SettledLaws.{named_by}
 use Rattle.hw_types.proofs.WordsLaws.{among_slot, slot_cites}
 use Rattle.hw_dag.specs.declared.numbers.UnitNo.{UnitNo}
 use Rattle.hw_dag.specs.declared.numbers.View.{View}
 use Rattle.hw_dag.specs.declared.numbers.View.TheVariants as view
-use Rattle.hw_dag.specs.Dag.{UnitGraph, unit_at, count_of, node_at, graph, view_at, obs_of, observations, IsPanorama}
+use Rattle.hw_dag.specs.Dag.{UnitGraph, unit_at, count_of, node_at, graph, view_at, obs_of, observations}
 use Rattle.hw_dag.specs.Admission.{IsGraph}
-use Rattle.hw_dag.proofs.NodeLaws.{node_found, same_number, among_node}
+use Rattle.hw_dag.proofs.NodeLaws.{node_found}
 
 pub slot_of : (dag : UnitGraph) (panorama : List View) (v : ℕ) → slot (observations dag panorama) v ≡ obs_of dag (view_at panorama v)
 slot_of dag panorama v = get_or-map (obs_of dag) panorama v view.Absent

@@ -1,22 +1,18 @@
 -- A graph of one validator.
 use Rattle.std.proofs.Common.{◌≡◌, ℕ, zero, suc, ◌+◌, ◌<◌, ◌≤◌, inl, inr, Bool, true, false, not, List, [], ◌∷◌, length, Option, Some, None, refl, sym, ap, subst, ◌∙◌, arith}
 use Rattle.std.specs.Prelude.{◌||◌}
-use Rattle.std.specs.List.{list_any}
-use Rattle.hw_types.specs.declared.unit.Digest.{Digest}
 use Rattle.hw_types.specs.declared.unit.Obs.{Obs}
 use Rattle.hw_types.specs.declared.unit.Obs.TheVariants.{Absent, Correct, Faulty}
-use Rattle.hw_types.specs.Graph.{Node, digest_eq, observes, is_faulty_mark, is_absent, is_correct, is_some_and, slot, slots, cites, find_node, observed, latest, previous, is_on_lane, obs_at_most, is_at_most, is_consistent}
+use Rattle.hw_types.specs.Graph.{Node, digest_eq, is_faulty_mark, is_absent, is_some_and, slot, slots, cites, find_node, observed, latest, is_on_lane, obs_at_most, is_at_most, is_consistent}
 use Rattle.hw_types.specs.Below.{Among}
 use Rattle.hw_types.specs.Votes.{is_block}
 use Rattle.hw_types.proofs.PastLaws.{or_cases}
 use Rattle.hw_types.proofs.SettledLaws.{digest_self}
 use Rattle.hw_types.proofs.WordsLaws.{each_all, never_both, range_below, find_node_is}
-use Rattle.hw_dag.specs.declared.numbers.UnitNo.{UnitNo}
 use Rattle.hw_dag.specs.declared.numbers.View.{View}
 use Rattle.hw_dag.specs.declared.numbers.View.TheVariants as view
 use Rattle.hw_dag.specs.Dag.{UnitGraph, unit_at, count_of, node_at, graph, creator_of, seq_of, view_at, obs_of}
 use Rattle.hw_dag.specs.Admission.{IsGraph, KeepsRules}
-use Rattle.hw_dag.specs.Lanes.{is_lane_below}
 use Rattle.hw_dag.proofs.NodeLaws.{among_node, node_among, node_found, graph_one_name}
 use Rattle.hw_dag.proofs.SlotLaws.{slot_at, length-observations}
 use Rattle.hw_dag.proofs.ChainLaws.{lane_further}

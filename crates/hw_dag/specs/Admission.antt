@@ -1,11 +1,11 @@
 -- How a unit comes into a graph, and what holds of each graph that was made so.
-use Rattle.std.specs.Prelude.{◌≡◌, ◌≢◌, ℕ, ◌+◌, ◌-◌, ◌<◌, ◌≤◌, ◌^◌, Bool, true, false, List, [], ◌∷◌, ◌++◌, length, Option, Some, None, is_some, is_none, unwrap_or, IsTrue, if◌then◌else◌}
+use Rattle.std.specs.Prelude.{◌≡◌, ◌≢◌, ℕ, ◌+◌, ◌-◌, ◌<◌, ◌≤◌, ◌^◌, true, false, List, [], ◌∷◌, ◌++◌, length, Option, Some, None, is_some, unwrap_or, if◌then◌else◌}
 use Rattle.std.specs.List.{list_any}
 use Rattle.hw_types.specs.declared.unit.Digest.{Digest}
 use Rattle.hw_types.specs.declared.unit.SignedUnit.{SignedUnit}
 use Rattle.hw_types.specs.declared.unit.Obs.{Obs}
 use Rattle.hw_types.specs.declared.unit.Obs.TheVariants.{Correct}
-use Rattle.hw_types.specs.Graph.{Node, is_faulty_mark, is_absent, is_correct, slot, cites, latest, previous, is_consistent}
+use Rattle.hw_types.specs.Graph.{Node, is_faulty_mark, is_absent, is_correct, cites, latest, previous, is_consistent}
 use Rattle.hw_types.specs.Below.{Among}
 use Rattle.hw_types.specs.Votes.{is_block}
 use Rattle.hw_types.specs.Rules.{own_slot}
@@ -65,6 +65,15 @@ pub record IsFork (dag : UnitGraph) (panorama : List Obs) (fork : Option UnitNo)
   pub some : is_some fork ≡ list_any is_correct panorama
   pub known : (no : UnitNo) → fork ≡ Some no → no.0 < count_of dag
   pub block : (no : UnitNo) → fork ≡ Some no → is_block (node_at dag no.0) ≡ true
+
+-- a unit that is prepared, resolved and new, keeps the rules and has its fork choice
+pub record IsReady (dag : UnitGraph) (p : PreparedUnit) (fork : Option UnitNo) : Type 0 where
+  pub room : 1 ≤ dag.spare
+  pub is_for : IsFor dag.validators p.signed
+  pub resolved : IsResolved dag p
+  pub rules : KeepsRules (graph dag) (node_prepared p)
+  pub fresh : IsNew dag p.digest
+  pub fork_is : IsFork dag p.signed.unit.panorama fork
 
 -- ---- the settled unit
 

@@ -1,5 +1,5 @@
 -- Look-ups along lanes and parents.
-use Rattle.std.specs.Prelude.{◌≡◌, ℕ, ◌≤◌, ◌<◌, ◌^◌, Bool, true, List, length, Option, Some, None, All, sum}
+use Rattle.std.specs.Prelude.{◌≡◌, ℕ, ◌≤◌, ◌<◌, ◌^◌, Bool, true, List, length, Some, All, sum}
 use Rattle.hw_types.specs.Graph.{is_on_lane, is_below}
 use Rattle.hw_types.specs.Votes.{is_block, unit_fork}
 use Rattle.std.specs.Option.{option_map}

@@ -1,6 +1,6 @@
 //! Laws of each graph.
 
-ghost use Rattle.hw_dag.specs.Laws.{GraphIsLawful, SeenIsOnLane, ApartIsFork, SeenByEntry};
+ghost use Rattle.hw_dag.specs.Laws.{GraphIsLawful, SeenIsOnLane, ApartIsFork, SeenByEntry, RulesAreKept, VotesStay};
 
 /// Each graph is lawful, for any weights of its validators.
 pub fn graph_is_lawful()
@@ -22,4 +22,15 @@ pub fn apart_is_fork()
 /// entry is Faulty.
 pub fn seen_by_entry()
     ensures { SeenByEntry }
+{}
+
+/// A unit that breaks no rule keeps what the graph asks.
+pub fn rules_are_kept()
+    ensures { RulesAreKept }
+{}
+
+/// Where each unit is given the fork choice of its panorama, the votes and the parents in the graph are
+/// those of the definitions.
+pub fn votes_stay()
+    ensures { VotesStay }
 {}

@@ -21,8 +21,13 @@ mod settled;
 mod skips;
 
 pub use graph::Dag;
-pub use laws::{apart_is_fork, graph_is_lawful, seen_by_entry, seen_is_on_lane};
+pub use laws::{
+    apart_is_fork, graph_is_lawful, rules_are_kept, seen_by_entry, seen_is_on_lane, votes_stay,
+};
 pub use numbers::{Panorama, UnitNo, View};
 pub use preparing::{NoRoom, Prepared};
 pub use scratch::Marks;
 pub use settled::Unit;
+
+#[cfg(test)]
+mod tests;

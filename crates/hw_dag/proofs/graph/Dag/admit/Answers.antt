@@ -1,10 +1,10 @@
-use Rattle.std.proofs.Common.{◌≡◌, ◌+◌, ◌<◌, ◌≤◌, ◌^◌, ℕ, Option, sym, ap, subst, ◌∙◌, arith}
+use Rattle.std.proofs.Common.{◌≤◌, sym, subst, arith}
 use Rattle.std.specs.Prelude.{unwrap_or, vec_capacity}
 use Rattle.hw_types.specs.Votes.{is_block}
 use Rattle.hw_skip.specs.Skip.{pointer_count_of}
-use Rattle.hw_dag.specs.Dag.{SettledUnit, UnitGraph}
-use Rattle.hw_dag.specs.Admission.{IsGraph, node_prepared, height_above}
-use Rattle.hw_dag.proofs.AdmitLaws.{IsReady, settled_same, graph_with}
+use Rattle.hw_dag.specs.Dag.{SettledUnit}
+use Rattle.hw_dag.specs.Admission.{IsGraph, IsReady, node_prepared, height_above}
+use Rattle.hw_dag.proofs.AdmitLaws.{settled_same, graph_with}
 use Rattle.hw_dag.proofs.KeepLaws.{chain_room, height_above_bound}
 use Rattle.hw_dag.proofs.graph.Dag.admit.Goals as goal
 

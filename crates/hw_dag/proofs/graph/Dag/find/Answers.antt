@@ -1,4 +1,4 @@
-use Rattle.std.proofs.Common.{◌≡◌, Option, refl, sym, ap, subst}
+use Rattle.std.proofs.Common.{Option, refl, sym, ap, subst}
 use Rattle.std.specs.Prelude.{is_some}
 use Rattle.hw_dag.specs.declared.numbers.UnitNo.{UnitNo}
 use Rattle.hw_types.proofs.Equal.{digest_eq_exact}

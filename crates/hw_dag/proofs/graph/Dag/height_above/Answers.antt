@@ -1,8 +1,8 @@
-use Rattle.std.proofs.Common.{◌≡◌, ◌+◌, ◌<◌, ◌≤◌, sym, ap, subst, ◌∙◌, arith, ℕ, Option}
+use Rattle.std.proofs.Common.{◌<◌, sym, ap, subst, ◌∙◌, arith, ℕ, Option}
 use Rattle.std.specs.Prelude.{unwrap_or, IfSome}
 use Rattle.std.proofs.lemmas.List.{get_or_read}
 use Rattle.hw_dag.specs.declared.numbers.UnitNo.{UnitNo}
-use Rattle.hw_dag.specs.Dag.{UnitGraph, SettledUnit, stand_in, count_of, unit_at}
+use Rattle.hw_dag.specs.Dag.{UnitGraph, SettledUnit, stand_in, count_of}
 use Rattle.hw_dag.proofs.KeptLaws.{height_bound}
 use Rattle.hw_dag.proofs.graph.Dag.height_above.Goals as goal
 

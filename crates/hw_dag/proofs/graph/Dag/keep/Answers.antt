@@ -1,12 +1,12 @@
-use Rattle.std.proofs.Common.{◌≡◌, ◌+◌, ◌-◌, ◌<◌, ◌≤◌, ℕ, List, [], ◌∷◌, ◌++◌, length, Option, Some, None, refl, sym, ap, subst, ◌∙◌, arith}
+use Rattle.std.proofs.Common.{◌-◌, ◌≤◌, ℕ, [], ◌∷◌, ◌++◌, Option, sym, ap, subst, ◌∙◌, arith}
 use Rattle.std.specs.Prelude.{unwrap_or}
 use Rattle.hw_types.specs.declared.unit.SignedUnit.{SignedUnit}
 use Rattle.hw_types.specs.declared.unit.Digest.{Digest}
 use Rattle.hw_dag.specs.declared.numbers.UnitNo.{UnitNo}
-use Rattle.hw_dag.specs.Dag.{UnitGraph, SettledUnit, seq_of}
+use Rattle.hw_dag.specs.Dag.{UnitGraph}
 use Rattle.hw_dag.specs.Admission.{IsNew, IsGraph, with_unit}
 use Rattle.hw_dag.specs.Skips.{IsDepth}
-use Rattle.hw_dag.specs.Tables.{IsKept, predecessor_of}
+use Rattle.hw_dag.specs.Tables.{IsKept}
 use Rattle.hw_dag.proofs.KeepLaws.{lane_first, lane_next, chain_known, chain_first, chain_next, kept_more, kept_as, name_fresh}
 use Rattle.hw_dag.proofs.SkipLaws.{pushed}
 use Rattle.hw_dag.proofs.graph.Dag.keep.Goals as goal

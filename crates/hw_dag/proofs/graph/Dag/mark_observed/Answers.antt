@@ -1,10 +1,8 @@
-use Rattle.std.proofs.Common.{◌≡◌, ◌<◌, ◌≤◌, ◌+◌, ℕ, List, length, get_or, refl, sym, ap, subst, ◌∙◌, arith, inl, inr}
+use Rattle.std.proofs.Common.{◌≡◌, ℕ, List, get_or, refl, sym, ap, subst, ◌∙◌, arith, inl, inr}
 use Rattle.std.proofs.lemmas.Bool.{cases_lt}
-use Rattle.hw_dag.specs.declared.numbers.UnitNo.{UnitNo}
 use Rattle.hw_dag.specs.declared.numbers.View.{View}
 use Rattle.hw_dag.specs.declared.numbers.View.TheVariants as view
-use Rattle.hw_dag.specs.Dag.{SettledUnit, UnitGraph, unit_at, view_at}
-use Rattle.hw_dag.specs.Walks.{Cites}
+use Rattle.hw_dag.specs.Dag.{SettledUnit, unit_at, view_at}
 use Rattle.hw_dag.proofs.PlaceLaws.{read_unit}
 use Rattle.hw_dag.proofs.graph.Dag.mark_observed.Goals as goal
 

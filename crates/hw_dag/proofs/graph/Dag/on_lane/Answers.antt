@@ -1,6 +1,6 @@
-use Rattle.std.proofs.Common.{◌≡◌, ◌<◌, ◌≤◌, ℕ, sym, ap, subst, ◌∙◌, arith}
+use Rattle.std.proofs.Common.{ℕ, sym, ap, subst, ◌∙◌, arith}
 use Rattle.hw_types.specs.declared.unit.SignedUnit.{SignedUnit}
-use Rattle.hw_dag.specs.Dag.{SettledUnit, UnitGraph, unit_at, seq_of}
+use Rattle.hw_dag.specs.Dag.{SettledUnit, seq_of}
 use Rattle.hw_dag.specs.Admission.{IsGraph}
 use Rattle.hw_dag.specs.Lanes.{IsLaneAt}
 use Rattle.hw_dag.proofs.PlaceLaws.{read_unit}

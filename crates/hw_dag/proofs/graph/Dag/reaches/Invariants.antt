@@ -1,4 +1,4 @@
-use Rattle.std.proofs.Common.{◌+◌, ◌<◌, ◌≤◌}
+use Rattle.std.proofs.Common.{◌<◌, ◌≤◌}
 use Rattle.hw_dag.specs.Admission.{IsGraph}
 use Rattle.hw_dag.proofs.MarkLaws.{IsWalked}
 use Rattle.hw_dag.proofs.graph.Dag.reaches.Given as goal

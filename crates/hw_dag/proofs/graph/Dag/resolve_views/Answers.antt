@@ -1,5 +1,4 @@
-use Rattle.std.proofs.Common.{◌<◌, ◌≤◌, refl, subst, arith}
-use Rattle.hw_dag.specs.Dag.{UnitGraph}
+use Rattle.std.proofs.Common.{refl, subst, arith}
 use Rattle.hw_dag.specs.Admission.{IsGraph}
 use Rattle.hw_dag.proofs.ResolveLaws.{all_observes, all_known, never_known}
 use Rattle.hw_dag.proofs.graph.Dag.resolve_views.Goals as goal

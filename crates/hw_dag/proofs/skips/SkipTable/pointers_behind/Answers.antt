@@ -1,7 +1,7 @@
-use Rattle.std.proofs.Common.{◌≡◌, ℕ, ◌+◌, ◌-◌, ◌^◌, ◌<◌, ◌≤◌, length, List, Some, refl, sym, ap, ◌∙◌, subst, arith, length-append, ◌∷◌, [], Vec, Global}
+use Rattle.std.proofs.Common.{◌≡◌, ℕ, ◌+◌, ◌-◌, ◌^◌, ◌<◌, length, Some, sym, ap, ◌∙◌, subst, arith, length-append, ◌∷◌, [], Vec, Global}
 use Rattle.hw_dag.specs.declared.numbers.UnitNo.{UnitNo}
 use Rattle.hw_skip.specs.Skip.{pointer_count_of}
-use Rattle.hw_dag.specs.Skips.{BackLinks, back_from, pointer_at}
+use Rattle.hw_dag.specs.Skips.{BackLinks, back_from}
 use Rattle.hw_dag.proofs.SkipLaws.{back_from-none, place_list, found_known, read_list, next_count, next_read, pointers_more, pushed}
 use Rattle.hw_dag.proofs.skips.SkipTable.pointers_behind.Goals as goal
 use Rattle.hw_dag.proofs.skips.SkipTable.pointers_behind.Goals.{then-i-gt0, else-i-gt0}

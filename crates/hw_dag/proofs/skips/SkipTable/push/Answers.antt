@@ -1,6 +1,5 @@
-use Rattle.std.proofs.Common.{◌≡◌, ℕ, ◌+◌, ◌-◌, ◌^◌, ◌<◌, ◌≤◌, length, List, [], ◌∷◌, ◌++◌, map, Option, Some, None, refl, sym, ap, ◌∙◌, subst, arith, Vec, Global}
+use Rattle.std.proofs.Common.{◌≡◌, ◌-◌, ◌^◌, length, [], ◌∷◌, ◌++◌, map, Some, None, sym, ap, ◌∙◌, subst, Vec, Global}
 use Rattle.std.proofs.lemmas.List.{map-append}
-use Rattle.hw_skip.specs.Skip.{pointer_count_of}
 use Rattle.hw_dag.specs.declared.numbers.UnitNo.{UnitNo}
 use Rattle.hw_dag.specs.Skips.{BackLinks, IsSkipTable, back_from, backs_of, pointer_at}
 use Rattle.hw_dag.proofs.SkipLaws.{IsBehind, pushed, table_more, backs_more, none_count}

@@ -1,8 +1,8 @@
-use Rattle.std.proofs.Common.{◌≡◌, ℕ, length, ◌+◌, ◌-◌, ◌^◌, ◌<◌, ◌≤◌, List, Some, refl, sym, ap, ◌∙◌, subst, arith, Vec, Global}
+use Rattle.std.proofs.Common.{◌≡◌, ℕ, length, ◌-◌, refl, sym, ap, ◌∙◌, arith, Vec, Global}
 use Rattle.std.proofs.lemmas.Nat.{one_shl}
 use Rattle.hw_skip.proofs.JumpLaws.{jump_count-arrived}
 use Rattle.hw_dag.specs.declared.numbers.UnitNo.{UnitNo}
-use Rattle.hw_dag.specs.Skips.{BackLinks, back_from, pointer_at}
+use Rattle.hw_dag.specs.Skips.{BackLinks, back_from}
 use Rattle.hw_dag.proofs.SkipLaws.{back_from-none, place_list, length-table, found_known, pointer_count, jump_read, way_depth, read_list}
 use Rattle.hw_dag.proofs.skips.SkipTable.walk.Goals as goal
 
