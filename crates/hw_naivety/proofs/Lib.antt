@@ -1,0 +1,5 @@
+pub mod BelowLaws
+pub mod TipLaws
+pub mod ForkLaws
+pub mod RowLaws
+pub mod NotedLaws

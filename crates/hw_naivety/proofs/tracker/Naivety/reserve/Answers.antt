@@ -1,0 +1,11 @@
+use Rattle.std.proofs.Common.{refl, ◌≡◌, ◌<◌, ◌≤◌, ◌+◌, ℕ, List, sym, ap, subst, ◌∙◌, arith}
+use Rattle.hw_naivety.specs.Naivety.{NaiveTips}
+use Rattle.hw_naivety.proofs.NotedLaws.{noted_grown}
+use Rattle.hw_naivety.proofs.tracker.Naivety.reserve.Goals as goal
+
+pub returns-clause-noted : goal.returns-clause-noted
+returns-clause-noted c = λ dag h.
+    let count = ap (λ (t : NaiveTips). t.count) c.self.view_is in
+    let room = c.self.invariant.1 in
+    noted_grown dag c.args.self.now _ c.self.inside.validators _ c.self.inside.tips c.grow.new.self (ap (λ (t : NaiveTips). t.validators) c.self.view_is) count (ap (λ (t : NaiveTips). t.lanes) c.self.view_is)
+    (sym (ap (λ (t : NaiveTips). t.tips) c.self.view_is)) refl (omega (arith, count, room)) c.grow.ensures.grown h

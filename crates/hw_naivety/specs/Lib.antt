@@ -1,0 +1,3 @@
+pub mod Naivety
+pub mod Tips
+pub mod Forks

@@ -1,0 +1,15 @@
+//! The limited naivety criterion: a unit is naive for a later one that has it below, unless it is below
+//! a unit of the later one's endorsed list. Any two naive units of one creator have to be comparable.
+//!
+//! [`Naivety`] follows a graph: after a `note` for each admission in order, `check` is that rule. For each
+//! noted unit and each creator it keeps one tip, the naive unit on whose lane all naive units of that
+//! creator are. The tips of the units that a later unit cites are all that has to be looked at.
+#![tactic(auto)]
+
+mod fork;
+mod sight;
+mod tips;
+mod tracker;
+
+pub use fork::NaiveFork;
+pub use tracker::Naivety;

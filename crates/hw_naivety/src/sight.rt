@@ -1,0 +1,108 @@
+//! What a unit has below it, and which of it is naive.
+
+ghost use Rattle.std.specs.Prelude.{◌≡◌, ◌<◌, ◌≤◌, ◌↔◌, Some, IsTrue, IfOk, IfErr};
+ghost use Rattle.hw_dag.specs.Dag.{unit_at, count_of, creator_of};
+ghost use Rattle.hw_naivety.specs.Tips.{IsBelow, IsBelowNamed, IsBelowEndorsed, IsNaiveTip, IsSight, HasRoom, IsRaised};
+ghost use Rattle.hw_naivety.specs.Forks.{IsNaiveFork};
+
+use crate::fork::NaiveFork;
+use hw_dag::{Dag, Marks, Panorama, UnitNo, View};
+use hw_types::Digest;
+
+/// What a unit of a graph observes, and the units that it endorses.
+#[derive(Drop)]
+pub struct Sight<'a> {
+    pub dag: &'a Dag,
+    pub panorama: &'a Panorama,
+    pub endorsed: &'a [Digest],
+    pub validators: u32,
+}
+
+impl Sight<'_> {
+    /// Whether the unit has another one strictly below it.
+    pub fn has_below(&self, no: UnitNo, marks: &mut Marks) -> bool
+        requires sight { IsSight self.now.dag.now self.now.panorama.now self.now.validators }
+        requires known { no.0 < count_of self.now.dag.now }
+        requires room { HasRoom self.now.panorama.now marks.old }
+        ensures below { IsTrue result ↔ IsBelow self.now.dag.now self.now.panorama.now no.0 }
+        ensures room { marks.new ≡ marks.old }
+    {
+        for slot in 0..self.validators {
+            if let View::Correct(cited) = self.panorama.get(slot) {
+                if self.dag.sees(cited, no, marks) {
+                    return true;
+                }
+            }
+        }
+        false
+    }
+
+    /// Whether another one is below the unit of this name, which is looked up among the units below.
+    fn is_below_named(&self, name: &Digest, no: UnitNo, marks: &mut Marks) -> bool
+        requires sight { IsSight self.now.dag.now self.now.panorama.now self.now.validators }
+        requires known { no.0 < count_of self.now.dag.now }
+        requires room { HasRoom self.now.panorama.now marks.old }
+        ensures below { IsTrue result ↔ IsBelowNamed self.now.dag.now self.now.panorama.now name.now no.0 }
+        ensures room { marks.new ≡ marks.old }
+    {
+        let Some(named) = self.dag.find(name) else {
+            return false;
+        };
+        self.has_below(named, marks) && self.dag.sees(named, no, marks)
+    }
+
+    /// Whether another one is below a unit of the endorsed list.
+    pub fn is_below_endorsed(&self, no: UnitNo, marks: &mut Marks) -> bool
+        requires sight { IsSight self.now.dag.now self.now.panorama.now self.now.validators }
+        requires known { no.0 < count_of self.now.dag.now }
+        requires room { HasRoom self.now.panorama.now marks.old }
+        ensures below { IsTrue result ↔ IsBelowEndorsed self.now.dag.now self.now.panorama.now self.now.endorsed.now no.0 }
+        ensures room { marks.new ≡ marks.old }
+    {
+        for name in self.endorsed {
+            if self.is_below_named(name, no, marks) {
+                return true;
+            }
+        }
+        false
+    }
+
+    /// The tip that stands for the candidate's lane too, or the fork that the two are.
+    pub fn raise(
+        &self,
+        creator: u32,
+        tip: Option<UnitNo>,
+        candidate: UnitNo,
+        marks: &mut Marks,
+    ) -> Result<Option<UnitNo>, NaiveFork>
+        requires sight { IsSight self.now.dag.now self.now.panorama.now self.now.validators }
+        requires room { HasRoom self.now.panorama.now marks.old }
+        requires tip { IsNaiveTip self.now.dag.now self.now.panorama.now self.now.endorsed.now creator tip }
+        requires known { candidate.0 < count_of self.now.dag.now }
+        requires creator { creator_of (unit_at self.now.dag.now candidate.0) ≡ creator }
+        requires below { IsBelow self.now.dag.now self.now.panorama.now candidate.0 }
+        ensures raised { IfOk result (IsRaised self.now.dag.now self.now.panorama.now self.now.endorsed.now creator tip (Some candidate)) }
+        ensures fork { IfErr result (IsNaiveFork self.now.dag.now self.now.panorama.now self.now.endorsed.now creator) }
+        ensures room { marks.new ≡ marks.old }
+    {
+        let Some(low) = tip else {
+            return if self.is_below_endorsed(candidate, marks) {
+                Ok(None)
+            } else {
+                Ok(Some(candidate))
+            };
+        };
+        if self.dag.on_lane(candidate, low) || self.is_below_endorsed(candidate, marks) {
+            return Ok(tip);
+        }
+        if self.dag.on_lane(low, candidate) {
+            Ok(Some(candidate))
+        } else {
+            Err(NaiveFork {
+                creator,
+                left: low,
+                right: candidate,
+            })
+        }
+    }
+}
