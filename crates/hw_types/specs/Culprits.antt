@@ -1,4 +1,5 @@
 -- Who equivocated, over two journals.
+-- Source: Highway; which pair shows a culprit is ours.
 use Rattle.hw_types.specs.Below.{Among}
 use Rattle.std.specs.Prelude.{◌≡◌, ℕ, Bool, true, ◌&&◌, ◌||◌, not, nat_lt, ◌==◌, List, [], ◌∷◌, ◌++◌, filter, flat_map, map, Option, Some, None, All, if◌then◌else◌}
 use Rattle.std.specs.List.{list_any}
@@ -21,14 +22,17 @@ evidence_units s (vertex.Evidence e ∷ vs) = named s e.left.unit ∷ named s e.
 evidence_units s (vertex.Unit u ∷ vs) = evidence_units s vs
 evidence_units s (vertex.Endorsement e ∷ vs) = evidence_units s vs
 
+-- the units that a journal shows: those it settles, and those of its evidence
 abbrev pub shown_in : Setting → List Vertex → List Node
 shown_in s journal = settled_of s.config (received_of s journal) ++ evidence_units s journal
 
+-- the units that one of two journals shows
 abbrev pub shown_in_either : Setting → List Vertex → List Vertex → List Node
 shown_in_either s left right = shown_in s left ++ shown_in s right
 
 -- ---- the pair that shows it: the least number, and there the two first units
 
+-- the least sequence number of these units, or the one that was found so far
 abbrev pub least_seq : Option ℕ → List Node → Option ℕ
 least_seq found [] = found
 least_seq None (x ∷ xs) = least_seq (Some x.unit.seq) xs
@@ -38,6 +42,7 @@ least_seq (Some n) (x ∷ xs) = least_seq (if nat_lt x.unit.seq n then Some x.un
 abbrev pub equivocations_of : List Node → ℕ → List Node
 equivocations_of xs v = filter (λ x. (x.unit.creator == v) && list_any (λ y. (y.unit.creator == v) && (y.unit.seq == x.unit.seq) && not (unit_eq x.unit y.unit)) xs) xs
 
+-- those of these units that have the number
 abbrev pub at_seq : Option ℕ → List Node → List Node
 at_seq None xs = []
 at_seq (Some n) xs = filter (λ x. x.unit.seq == n) xs
@@ -46,6 +51,7 @@ at_seq (Some n) xs = filter (λ x. x.unit.seq == n) xs
 abbrev pub stands_before : Node → Node → Bool
 stands_before x y = digest_lt x.digest y.digest || (digest_eq x.digest y.digest && is_lt (bytes_cmp (unit_bytes x.unit) (unit_bytes y.unit)))
 
+-- the first of these units in that order, or the one that was found so far
 abbrev pub first_unit : Option Node → List Node → Option Node
 first_unit found [] = found
 first_unit None (x ∷ xs) = first_unit (Some x) xs
@@ -55,6 +61,7 @@ first_unit (Some y) (x ∷ xs) = first_unit (if stands_before x y then Some x el
 abbrev pub first_two : List Node → Option (Node × Node)
 first_two xs = option_and_then (λ x. option_map (λ y. (x, y)) (first_unit None (filter (λ y. not (unit_eq x.unit y.unit)) xs))) (first_unit None xs)
 
+-- the two units that show the validator: at its least number with two different units, the first two
 unfoldable pub pair_of : List Node → ℕ → Option (Node × Node)
 pair_of xs v = first_two (at_seq (least_seq None (equivocations_of xs v)) (equivocations_of xs v))
 
@@ -68,6 +75,7 @@ signed_in (vertex.Unit u) = u ∷ []
 signed_in (vertex.Evidence e) = e.left ∷ e.right ∷ []
 signed_in (vertex.Endorsement e) = []
 
+-- the bytes are those of the unit with a signature under which it stands in the journal
 abbrev pub SignedAs : List Vertex → Node → List ℕ → Type 0
 SignedAs journal x bytes = (u : SignedUnit) × Among u (flat_map signed_in journal) × (u.unit ≡ x.unit) × (bytes ≡ signed_bytes u)
 

@@ -1,4 +1,5 @@
 -- The blocks that a node decides, moment by moment.
+-- Source: ours.
 use Rattle.std.specs.Prelude.{◌≡◌, ℕ, ◌<◌, ◌≤◌, List, length, take, Some, All, Any, ◌⊎◌}
 use Rattle.std.specs.List.{AllAdjacentBelow}
 use Rattle.hw_types.specs.declared.unit.Vertex.{Vertex}
@@ -28,6 +29,7 @@ pub record IsRecord (s : Setting) (journal : List Vertex) (d : Decision) : Type 
   pub least_level : (level quorum : ℕ) → StoodAt s journal block level quorum d.at → d.level ≤ level
   pub first : (at level quorum : ℕ) → StoodAt s journal block level quorum at → d.at ≤ at
 
+-- the one was decided earlier, or at the same moment at a lesser height
 abbrev pub ComesBefore : Decision → Decision → Type 0
 ComesBefore d e = (d.at < e.at) ⊎ ((d.at ≡ e.at) × (d.height < e.height))
 

@@ -1,4 +1,5 @@
 -- Journals, and the answer to each delivery.
+-- Source: ours.
 use Rattle.std.specs.Prelude.{ℕ, ◌-◌, Bool, true, false, ◌&&◌, ◌||◌, not, nat_lt, nat_le, ◌==◌, List, [], ◌∷◌, ◌++◌, length, filter, Option, Some, None, is_none, filter_map, map, Result, Ok, Err, fold, if◌then◌else◌}
 use Rattle.std.specs.List.{list_any}
 use Rattle.hw_types.specs.declared.unit.Digest.{Digest}
@@ -23,26 +24,31 @@ use Rattle.hw_types.specs.Same.{unit_eq}
 
 -- ---- a configuration and how units are named
 
+-- what the definitions over journals need to know: the configuration, its instance, and how units are named
 pub record Setting : Type 0 where
   pub config : Config
   pub instance : Digest
   pub name : WireUnit → Digest
 
+-- a unit under its name
 abbrev pub named : Setting → WireUnit → Node
 named s u = record { digest = s.name u; unit = u }
 
 -- ---- what a journal says
 
+-- the unit of a vertex, where it keeps the rules of the unit alone
 abbrev pub unit_of_vertex : Setting → Vertex → Option Node
 unit_of_vertex s (vertex.Unit u) = if is_none (local_rule s.config s.instance u.unit) then Some (named s u.unit) else None
 unit_of_vertex s (vertex.Evidence e) = None
 unit_of_vertex s (vertex.Endorsement e) = None
 
+-- the validator against whom the vertex is evidence
 abbrev pub evidence_in : Vertex → Option ℕ
 evidence_in (vertex.Unit u) = None
 evidence_in (vertex.Evidence e) = Some e.left.unit.creator
 evidence_in (vertex.Endorsement e) = None
 
+-- the unit and the endorser of the vertex, where it is an endorsement
 abbrev pub endorsement_in : Vertex → Option (Digest × ℕ)
 endorsement_in (vertex.Unit u) = None
 endorsement_in (vertex.Evidence e) = None
@@ -72,6 +78,7 @@ pair_fault validators instance e =
     else if not (digest_eq e.left.unit.instance instance && digest_eq e.right.unit.instance instance) then Some fault.Instance
     else if unit_eq e.left.unit e.right.unit then Some fault.Same else None
 
+-- what is wrong with a pair in this setting
 abbrev pub evidence_fault : Setting → Evidence → Option PairFault
 evidence_fault s e = pair_fault (length s.config.weights) s.instance e
 
@@ -79,6 +86,7 @@ evidence_fault s e = pair_fault (length s.config.weights) s.instance e
 abbrev pub clashes : Setting → WireUnit → Node → Bool
 clashes s u x = digest_eq (s.name u) x.digest && not (unit_eq u x.unit)
 
+-- the name, where these units have another unit of it
 abbrev pub clash_among : Setting → List Node → WireUnit → Option Digest
 clash_among s units u = if list_any (clashes s u) units then Some (s.name u) else None
 
@@ -100,9 +108,11 @@ is_repeat s journal (vertex.Unit u) = list_any (λ x. unit_eq x.unit u.unit) (re
 is_repeat s journal (vertex.Evidence e) = has_evidence (received_of s journal).with_evidence e.left.unit.creator
 is_repeat s journal (vertex.Endorsement e) = list_any (λ p. digest_eq p.0 e.unit && (p.1 == e.endorser)) (received_of s journal).endorsements
 
+-- how many needs of the unit are missing
 abbrev pub missing_in : Setting → List Vertex → WireUnit → ℕ
 missing_in s journal u = length (missing_of s.config (received_of s journal) (settled_of s.config (received_of s journal)) (named s u))
 
+-- the unit would be parked, and as many are parked as may be
 abbrev pub is_park_full : Setting → List Vertex → Vertex → Bool
 is_park_full s journal (vertex.Unit u) = nat_lt 0 (missing_in s journal u.unit) && nat_le s.config.max_parked (length (parked_of s.config (received_of s journal)))
 is_park_full s journal (vertex.Evidence e) = false
@@ -112,6 +122,7 @@ is_park_full s journal (vertex.Endorsement e) = false
 abbrev pub newly_settled : Setting → List Vertex → Vertex → ℕ
 newly_settled s journal v = length (settled_of s.config (received_of s (journal ++ v ∷ []))) - length (settled_of s.config (received_of s journal))
 
+-- what became of a unit that went last in the journal
 abbrev pub unit_receipt : Setting → List Vertex → Vertex → Node → Receipt
 unit_receipt s journal v u =
     let after = received_of s (journal ++ v ∷ []) in
@@ -119,6 +130,7 @@ unit_receipt s journal v u =
     if nat_lt 0 missing then receipt.Parked missing
     else elim (state_rule s.config (settled_of s.config after) u) [ Some rule ↦ receipt.Dropped rule | None ↦ receipt.Admitted (newly_settled s journal v) ]
 
+-- what became of a vertex that went last in the journal
 abbrev pub receipt_of : Setting → List Vertex → Vertex → Receipt
 receipt_of s journal (vertex.Unit u) = unit_receipt s journal (vertex.Unit u) (named s u.unit)
 receipt_of s journal (vertex.Evidence e) = receipt.Admitted (newly_settled s journal (vertex.Evidence e))
@@ -137,6 +149,7 @@ answer s journal v verdict =
           else Ok (receipt_of s journal v)
     ]
 
+-- the vertex goes last in the journal
 abbrev pub is_accepted : Result Receipt Cause → Bool
 is_accepted (Err c) = false
 is_accepted (Ok receipt.Repeat) = false

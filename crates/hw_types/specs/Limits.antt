@@ -1,4 +1,5 @@
 -- The limits of a configuration.
+-- Source: ours.
 use Rattle.std.specs.Prelude.{ℕ, ◌-◌, ◌^◌, Bool, false, ◌&&◌, ◌||◌, not, nat_le, ◌==◌, List, [], ◌∷◌, length, position, unwrap_or, Option, is_some, sum}
 use Rattle.std.specs.List.{list_any}
 use Rattle.std.specs.Option.{option_or}
@@ -13,6 +14,7 @@ use Rattle.hw_types.specs.Tests.{Tests, first_broken}
 abbrev pub is_within : ℕ → ℕ → ℕ → Bool
 is_within low high n = nat_le low n && nat_le n high
 
+-- the number is 0
 abbrev pub is_zero : ℕ → Bool
 is_zero w = w == 0
 
@@ -27,6 +29,7 @@ is_bad_table validators (Drawn key) = false
 
 -- ---- the limits in their order, each true where it is broken (ours)
 
+-- the limits on validators and weights
 abbrev pub weight_tests : Config → Tests ConfigFault
 weight_tests c =
     (Validators, not (is_within 1 256 (length c.weights)))
@@ -35,6 +38,7 @@ weight_tests c =
     ∷ (Threshold, nat_le (sum c.weights) c.ftt)
     ∷ []
 
+-- the limits on levels, rounds and their leaders
 abbrev pub round_tests : Config → Tests ConfigFault
 round_tests c =
     (Levels, not (is_within 1 30 c.levels))
@@ -42,6 +46,7 @@ round_tests c =
     ∷ (LeaderTable, is_bad_table (length c.weights) c.leaders)
     ∷ []
 
+-- the limits on what is kept
 abbrev pub room_tests : Config → Tests ConfigFault
 room_tests c =
     (Records, not (is_within 1 131072 c.max_records))

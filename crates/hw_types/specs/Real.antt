@@ -1,4 +1,5 @@
 -- The definitions with units named by SHA-256, as a node has them.
+-- Source: ours.
 use Rattle.std.specs.Prelude.{ℕ, Bool, List, Result}
 use Rattle.hw_types.specs.declared.unit.Obs.{Obs}
 use Rattle.hw_types.specs.declared.unit.Vertex.{Vertex}
@@ -19,20 +20,26 @@ pub record CoreState : Type 0 where
   pub config : Config
   pub journal : List Vertex
 
+-- what the journal says
 abbrev pub received_in : CoreState → Received
 received_in c = received_of (setting_of c.config) c.journal
 
+-- the settled units
 abbrev pub settled_in : CoreState → List Node
 settled_in c = settled_of c.config (received_in c)
 
+-- the panorama
 abbrev pub panorama_in : CoreState → List Obs
 panorama_in c = panorama_of c.config (received_in c)
 
+-- the weight of the faulty validators
 abbrev pub weight_in : CoreState → ℕ
 weight_in c = faulty_weight c.config (received_in c)
 
+-- the answer to a delivery
 abbrev pub answer_in : CoreState → Vertex → Bool → Result Receipt Cause
 answer_in c v verdict = answer (setting_of c.config) c.journal v verdict
 
+-- the node after a delivery
 abbrev pub after_in : CoreState → Vertex → Bool → CoreState
 after_in c v verdict = record c { journal = journal_after (setting_of c.config) c.journal (v, verdict) }

@@ -1,4 +1,5 @@
 -- The rules that a unit keeps.
+-- Source: casper-node in outline; order, numbers and the reading of naivety are ours.
 use Rattle.std.specs.Prelude.{◌+◌, ◌/◌, ◌^◌, Bool, true, ◌&&◌, ◌||◌, not, nat_lt, nat_le, ◌==◌, List, [], ◌∷◌, length, filter, Option, is_none}
 use Rattle.std.specs.List.{list_any, list_all}
 use Rattle.hw_types.specs.declared.unit.Digest.{Digest}
@@ -14,13 +15,16 @@ use Rattle.hw_types.specs.Rounds.{round_id, changes_lawfully, leader_of}
 
 -- ---- rules of the unit alone
 
+-- the unit's observation of its own creator
 abbrev pub own_slot : WireUnit → Obs
 own_slot u = slot u.panorama u.creator
 
+-- these rise, and each is above the first
 abbrev pub is_rising_after : Digest → List Digest → Bool
 is_rising_after d [] = true
 is_rising_after d (e ∷ es) = digest_lt d e && is_rising_after e es
 
+-- each digest is above the one before
 abbrev pub is_rising : List Digest → Bool
 is_rising [] = true
 is_rising (d ∷ ds) = is_rising_after d ds
@@ -38,6 +42,7 @@ local_tests config instance u =
     ∷ (NoBlock, is_none u.value && not (list_any is_correct u.panorama))
     ∷ []
 
+-- the first rule of the unit alone that it breaks
 abbrev pub local_rule : Config → Digest → WireUnit → Option Rule
 local_rule config instance u = first_broken (local_tests config instance u)
 
@@ -47,6 +52,7 @@ local_rule config instance u = first_broken (local_tests config instance u)
 abbrev pub is_naive : List Node → List Digest → Node → Bool
 is_naive below endorsed x = not (list_any (λ d. is_some_and (is_below below x) (find_node below d)) endorsed)
 
+-- all units that are naive
 abbrev pub naive_of : List Node → List Digest → List Node
 naive_of below endorsed = filter (is_naive below endorsed) below
 
@@ -59,9 +65,11 @@ has_naive_fork below endorsed =
 abbrev pub some_cited : List Node → Node → (Node → Bool) → Bool
 some_cited units u test = list_any (λ w. cites u.unit.panorama w && test w) units
 
+-- the digest is in the list
 abbrev pub has_digest : List Digest → Digest → Bool
 has_digest ds d = list_any (digest_eq d) ds
 
+-- the two are in one round, by the exponent of the second
 abbrev pub same_round : Node → Node → Bool
 same_round x u = (x.unit.time / 2 ^ u.unit.exponent == u.unit.time / 2 ^ u.unit.exponent)
 

@@ -1,4 +1,5 @@
 -- Laws of the state that a journal leaves.
+-- Source: ours.
 use Rattle.std.specs.Prelude.{◌≡◌, ◌≢◌, ℕ, List, [], ◌∷◌, length, ◌++◌, Bool, filter_map, ◌↔◌, true, false, ◌<◌, ◌≤◌, suc, Some, ◌⊎◌, slice_set, if◌then◌else◌}
 use Rattle.hw_types.specs.declared.unit.Digest.{Digest}
 use Rattle.hw_types.specs.declared.unit.Obs.TheVariants.{Absent, Correct, Faulty}
@@ -48,6 +49,7 @@ pub record SaysTheSame (s : Setting) (left right : List Vertex) : Type 0 where
 abbrev pub NamesApart : List Node → Type 0
 NamesApart units = (x y : Node) → Among x units → Among y units → x.digest ≡ y.digest → x ≡ y
 
+-- the two leave the same state
 pub record HasSameState (config : Config) (k l : Received) : Type 0 where
   pub settled : settled_of config k ≡ settled_of config l
   pub faulty : (v : ℕ) → is_faulty k (settled_of config k) v ≡ is_faulty l (settled_of config l) v
@@ -102,6 +104,7 @@ pub record IsLawfulUnion (config : Config) (k l : Received) : Type 0 where
   pub left_faulty : (v : ℕ) → is_faulty k (settled_of config k) v ≡ true → faulty_in_either config k l v ≡ true
   pub right_faulty : (v : ℕ) → is_faulty l (settled_of config l) v ≡ true → faulty_in_either config k l v ≡ true
 
+-- and where no name is that of two units, the two together are lawful
 abbrev pub UnionIsLawful : Type 0
 UnionIsLawful = (s : Setting) (left right : List Vertex) → NoClash (received_of s left).units (received_of s right).units → IsLawfulUnion s.config (received_of s left) (received_of s right)
 
@@ -118,6 +121,7 @@ pub data Admits (config : Config) (received : Received) (from start : List Node)
   begin : Admits config received from start start
   admit : (x : Node) (found : List Node) → Admits config received from start found → Among x from → settles config received (by_name found) x ≡ true → Admits config received from start (found ++ x ∷ [])
 
+-- what holds of each moment of such a run, and of its end
 pub record LeadsToSettled (config : Config) (received : Received) (from found : List Node) : Type 0 where
   -- all that is admitted is settled
   pub within : (x : Node) → Among x (by_name found) → Among x (settled_of config received)
@@ -148,6 +152,7 @@ pub record IsSplit (config : Config) (received : Received) : Type 0 where
   pub settled_dropped : (x : Node) → Among x (settled_of config received) → Among x (dropped_of config received) → ⊥
   pub parked_dropped : (x : Node) → Among x (parked_of config received) → Among x (dropped_of config received) → ⊥
 
+-- Each unit of a journal is settled, parked or dropped, and no two of these.
 abbrev pub JournalIsSplit : Type 0
 JournalIsSplit = (s : Setting) (journal : List Vertex) → IsSplit s.config (received_of s journal)
 
@@ -158,6 +163,7 @@ pub record IsStep (config : Config) (k l : Received) (fresh : List Node) : Type 
   pub parked : (x : Node) → Among x (parked_of config l) → Among x (parked_of config k) ⊎ Among x fresh
   pub dropped : (x : Node) → Among x (dropped_of config l) → Among x (dropped_of config k) ⊎ (Among x (parked_of config k) ⊎ Among x fresh)
 
+-- An accepted vertex is such a step.
 abbrev pub AcceptedIsStep : Type 0
 AcceptedIsStep = (s : Setting) (journal : List Vertex) (v : Vertex) (verdict : Bool) → NamesApart (units_in s journal) → is_accepted (answer s journal v verdict) ≡ true
     → IsStep s.config (received_of s journal) (received_of s (journal ++ v ∷ [])) (units_in s (v ∷ []))
@@ -192,6 +198,7 @@ pub record OtherSlots (config : Config) (faulty : ℕ → Bool) (units : List No
   pub none : (v : ℕ) → faulty v ≡ false → ((x : Node) → Among x units → x.unit.creator ≡ v → ⊥) → slot (panorama_over config faulty units) v ≡ Absent
   pub marked : (v : ℕ) → v < length config.weights → faulty v ≡ true → slot (panorama_over config faulty units) v ≡ Faulty
 
+-- The other slots are those.
 abbrev pub SlotsAreThose : Type 0
 SlotsAreThose = (config : Config) (faulty : ℕ → Bool) (units : List Node) → IsLawful config.weights faulty units → OtherSlots config faulty units
 
@@ -202,6 +209,7 @@ pub record HasOneMore (units more : List Node) (x : Node) : Type 0 where
   pub was_not : Among x units → ⊥
   pub no_other : (y : Node) → Among y more → Among y units ⊎ (y ≡ x)
 
+-- no slot moves but that of the new unit's creator
 pub record MovesOwnSlot (config : Config) (f g : ℕ → Bool) (units more : List Node) (x : Node) : Type 0 where
   pub others : (v : ℕ) → v ≢ x.unit.creator → slot (panorama_over config g more) v ≡ slot (panorama_over config f units) v
   pub own : g x.unit.creator ≡ false → slot (panorama_over config g more) x.unit.creator ≡ Correct x.digest
@@ -249,6 +257,7 @@ pub record IsLawfulRun (config : Config) (received : Received) (from found : Lis
   pub moves : (x : Node) → Among x from → settles config received (by_name found) x ≡ true → (Among x found → ⊥)
       → MovesOwnSlot config (is_faulty received (by_name found)) (is_faulty received (by_name (found ++ x ∷ []))) (by_name found) (by_name (found ++ x ∷ [])) x
 
+-- Each moment of the step is lawful.
 abbrev pub StepIsLawful : Type 0
 StepIsLawful = (s : Setting) (journal : List Vertex) (v : Vertex) (verdict : Bool) (start found : List Node)
     → NamesApart (units_in s journal) → is_accepted (answer s journal v verdict) ≡ true
@@ -298,6 +307,7 @@ JournalIsBounded = (s : Setting) (deliveries : List (Vertex × Bool))
 abbrev pub SettledIsNoLess : Type 0
 SettledIsNoLess = (s : Setting) (journal more : List Vertex) → length (settled_of s.config (received_of s journal)) ≤ length (settled_of s.config (received_of s (journal ++ more)))
 
+-- and so it grows by one each time
 abbrev pub OneMoreIsLonger : Type 0
 OneMoreIsLonger = (found : List Node) (x : Node) → HasOneMore (by_name found) (by_name (found ++ x ∷ [])) x → length (by_name (found ++ x ∷ [])) ≡ suc (length (by_name found))
 
@@ -322,6 +332,7 @@ pub record IsOneChange (s : Setting) (journal : List Vertex) (v : Vertex) : Type
   pub slots : (units : List Node) (w : ℕ) → (evidence_in v ≡ Some w → ⊥)
       → slot (panorama_over s.config (is_faulty (received_of s (journal ++ v ∷ [])) units) units) w ≡ slot (panorama_over s.config (is_faulty (received_of s journal) units) units) w
 
+-- Each vertex is such a change.
 abbrev pub VertexIsOneChange : Type 0
 VertexIsOneChange = (s : Setting) (journal : List Vertex) (v : Vertex) → IsOneChange s journal v
 
@@ -339,5 +350,6 @@ pub record TellsWhere (s : Setting) (journal : List Vertex) (u : SignedUnit) : T
   pub none_settles : (length (missing_of s.config (received_of s journal) (settled_of s.config (received_of s journal)) (named s u.unit)) ≡ 0 → ⊥)
       → settled_of s.config (received_of s (journal ++ vertex.Unit u ∷ [])) ≡ settled_of s.config (received_of s journal)
 
+-- A receipt tells where the unit of an accepted vertex is.
 abbrev pub ReceiptTellsWhere : Type 0
 ReceiptTellsWhere = (s : Setting) (journal : List Vertex) (u : SignedUnit) (verdict : Bool) → NamesApart (units_in s journal) → is_accepted (answer s journal (vertex.Unit u) verdict) ≡ true → TellsWhere s journal u

@@ -1,4 +1,5 @@
 -- One step of an honest validator.
+-- Source: ours, after Highway.
 use Rattle.std.specs.Prelude.{ℕ, ◌+◌, Bool, true, ◌&&◌, ◌||◌, not, nat_lt, nat_le, ◌==◌, List, [], ◌∷◌, ◌++◌, length, map, filter, fold, replicate, slice_set, Option, Some, None, if◌then◌else◌}
 use Rattle.std.specs.List.{list_any, list_all}
 use Rattle.hw_types.specs.declared.unit.Digest.{Digest}
@@ -20,6 +21,7 @@ use Rattle.hw_types.specs.Journal.{Setting}
 abbrev pub join_obs : List Node → Obs → Obs → Obs
 join_obs units o p = if obs_at_most units o p then p else if obs_at_most units p o then o else Faulty
 
+-- slot by slot
 abbrev pub join_from : List Node → List Obs → List Obs → List Obs
 join_from units [] qs = []
 join_from units (p ∷ ps) [] = p ∷ join_from units ps []
@@ -36,20 +38,25 @@ abbrev pub put_rising : Digest → List Digest → List Digest
 put_rising d [] = d ∷ []
 put_rising d (e ∷ es) = if digest_eq d e then e ∷ es else if digest_lt d e then d ∷ e ∷ es else e ∷ put_rising d es
 
+-- these digests, each once, in rising order
 abbrev pub rising : List Digest → List Digest
 rising [] = []
 rising (d ∷ ds) = put_rising d (rising ds)
 
+-- the endorsed lists of these units, one after the other
 abbrev pub all_lists : List Node → List Digest
 all_lists [] = []
 all_lists (u ∷ us) = u.unit.endorsed ++ all_lists us
 
+-- the units that the panorama cites
 abbrev pub cited_units : List Node → List Obs → List Node
 cited_units units panorama = filter (cites panorama) units
 
+-- the endorsed units at or below the cited ones
 abbrev pub endorsed_below : Setting → Received → List Node → List Obs → List Digest
 endorsed_below s received units panorama = map (λ x. x.digest) (filter (λ x. is_endorsed s.config received x.digest) (past units panorama))
 
+-- the endorsed list that a unit with this panorama gets
 unfoldable pub list_of : Setting → Received → List Node → List Obs → List Digest
 list_of s received units panorama =
     let inherited = all_lists (cited_units units panorama) in
@@ -73,15 +80,18 @@ joining units v state = elim (slot state v) [
   | Correct d ↦ elim (latest units state v) [ None ↦ [] | Some u ↦ with_own u ]
 ]
 
+-- the panorama with the validator joined, where that is fit
 abbrev pub joined_where_fit : Setting → Received → List Node → ℕ → List Obs → List Obs → ℕ → List Obs
 joined_where_fit s received units time state base v =
     let both = join_from units base (joining units v state) in
     if is_fit s received units time both then both else base
 
+-- where joining begins: the own last unit's panorama, or nothing
 abbrev pub first_base : Setting → Option Node → List Obs
 first_base s None = replicate (length s.config.weights) Absent
 first_base s (Some p) = with_own p
 
+-- the state's panorama where it is fit, or what fits of it
 unfoldable pub chosen_panorama : Setting → Received → List Node → ℕ → ℕ → List Obs → Option Node → List Obs
 chosen_panorama s received units time me state own =
     if is_fit s received units time state then state
@@ -89,6 +99,7 @@ chosen_panorama s received units time me state own =
 
 -- ---- the cases
 
+-- there is none, or it is earlier than that
 abbrev pub is_earlier : Option Node → ℕ → Bool
 is_earlier None time = true
 is_earlier (Some p) time = nat_lt p.unit.time time
@@ -108,10 +119,12 @@ abbrev pub confirms : List Node → List Obs → List Obs → ℕ → ℕ → Bo
 confirms units state panorama leader round =
     is_some_and (λ l. list_any (λ b. is_block b && (b.unit.time == round) && is_on_lane units b l && list_any (λ x. digest_eq x.digest b.digest) (past units panorama)) units) (latest units state leader)
 
+-- the number of the next unit
 abbrev pub next_seq : Option Node → ℕ
 next_seq None = 0
 next_seq (Some p) = p.unit.seq + 1
 
+-- the unit to be made, with what it is for
 abbrev pub plan : Setting → Received → List Node → PlanKind → ℕ → ℕ → List Obs → Option Node → Option (List ℕ) → Plan
 plan s received units kind me time panorama own value = record {
   kind = kind;
@@ -127,6 +140,7 @@ plan s received units kind me time panorama own value = record {
   };
 }
 
+-- the fork choice is a block at the height of the end
 abbrev pub is_at_end : Setting → List Node → List Obs → Bool
 is_at_end s units panorama = is_some_and (λ end. is_some_and (λ b. height_of s.config.weights units b == end) (fork_of s.config.weights units panorama)) s.config.end
 
@@ -151,6 +165,7 @@ is_witness s panorama own now =
     let witness = witness_time (round_id now s.config.min_exponent) s.config.min_exponent in
     nat_le witness now && is_earlier own witness && list_any is_correct panorama
 
+-- the step over these settled units, with this panorama
 unfoldable pub step_in : Setting → Received → List Node → List Obs → ℕ → ℕ → List ℕ → Option Plan
 step_in s received units state me now value =
     let exponent = s.config.min_exponent in
@@ -164,5 +179,6 @@ step_in s received units state me now value =
     else if is_witness s panorama own now then Some (plan s received units Witness me time panorama own None)
     else None
 
+-- the step after a journal
 unfoldable pub step : Setting → Received → ℕ → ℕ → List ℕ → Option Plan
 step s received me now value = step_in s received (settled_of s.config received) (panorama_of s.config received) me now value
