@@ -4,6 +4,7 @@ use Rattle.highway.specs.declared.command.Command.{Command}
 use Rattle.highway.specs.declared.command.Command.TheVariants as command
 use Rattle.highway.specs.Commands.{Request, Replay}
 
+-- what a command asks for
 abbrev pub request : Command → Request
 request (command.Replay log) = Replay log.now
 

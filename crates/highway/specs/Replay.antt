@@ -54,26 +54,31 @@ outcome_of config units u =
 
 -- ---- the entries, one after the other; none where one isn't built
 
+-- what is taken after a unit with this outcome
 abbrev pub unit_taken : Taken → WireUnit → Outcome → Option Taken
 unit_taken t u Joined = Some (record t { journal = t.journal ++ u ∷ [] })
 unit_taken t u Repeated = Some (record t { repeats = t.repeats + 1 })
 unit_taken t u Refused = Some (record t { refused = t.refused + 1 })
 unit_taken t u NotBuilt = None
 
+-- what is taken after a vertex, which has to be a unit
 abbrev pub vertex_taken : Config → Taken → Vertex → Option Taken
 vertex_taken config t (vertex.Unit s) = unit_taken t s.unit (outcome_of config t.journal s.unit)
 vertex_taken config t (vertex.Evidence e) = None
 vertex_taken config t (vertex.Endorsement e) = None
 
+-- what is taken after an entry, whose verdict has to be true
 abbrev pub entry_taken : Config → Taken → LogEntry → Option Taken
 entry_taken config t entry = if entry.verdict then vertex_taken config t entry.vertex else None
 
+-- what is taken after these entries
 unfoldable pub all_taken : Config → Taken → List LogEntry → Option Taken
 all_taken config t [] = Some t
 all_taken config t (e ∷ es) = option_and_then (λ (s : Taken). all_taken config s es) (entry_taken config t e)
 
 -- ---- the whole log
 
+-- before the first entry
 abbrev pub nothing_taken : Taken
 nothing_taken = record { journal = []; refused = 0; repeats = 0 }
 
@@ -81,6 +86,7 @@ nothing_taken = record { journal = []; refused = 0; repeats = 0 }
 abbrev pub input_ended : List ℕ → List ℕ → Ended
 input_ended log text = record { status = 2; text = input_line log text }
 
+-- it ends with status 0 and the report
 abbrev pub report_ended : Taken → Ended
 report_ended t = record { status = 0; text = report_line (length t.journal) t.refused t.repeats }
 
@@ -94,6 +100,7 @@ taken_ended log (Some t) None = report_ended t
 abbrev pub entries_ended : Config → List ℕ → Taken → Entries → Ended
 entries_ended config log t entries = taken_ended log (all_taken config t entries.given) entries.fault
 
+-- how the replay of a log ends that says this
 abbrev pub log_ended : List ℕ → Result (Config × Entries) LogError → Ended
 log_ended log (Err e) = input_ended log (log_text e)
 log_ended log (Ok (config, entries)) = entries_ended config log nothing_taken entries

@@ -8,6 +8,7 @@ use Rattle.highway.specs.Commands.{Request, Replay, request_of}
 use Rattle.highway.specs.Texts.{usage_line, out_of_memory_line}
 use Rattle.highway.specs.Replay.{replay_ended}
 
+-- how a request ends, or a command line outside the grammar
 abbrev pub request_ended : (List ℕ → Option (List ℕ)) → Option Request → Ended
 request_ended held None = record { status = 1; text = usage_line }
 request_ended held (Some (Replay log)) = replay_ended log (held log)

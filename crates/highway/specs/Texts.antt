@@ -8,17 +8,20 @@ use Rattle.hw_log.specs.declared.error.LogError.{LogError}
 use Rattle.hw_log.specs.declared.error.LogError.TheVariants as log
 use Rattle.hw_text.specs.Text.{number_text}
 
+-- the end of a line
 abbrev pub line_feed : List ℕ
 line_feed = 10 ∷ []
 
 -- ---- the line of a log that was replayed
 
+-- how many units there are, how many were refused, and how many came again
 unfoldable pub report_line : ℕ → ℕ → ℕ → List ℕ
 report_line units refused repeats =
     codes "units " ++ number_text units ++ codes " parked 0 dropped 0 refused " ++ number_text refused ++ codes " repeats " ++ number_text repeats ++ line_feed
 
 -- ---- what is wrong with the bytes of a log
 
+-- why bytes are no spelling
 unfoldable pub codec_text : CodecError → List ℕ
 codec_text (codec.Truncated at) = codes "truncated at " ++ number_text at
 codec_text (codec.Trailing at) = codes "trailing at " ++ number_text at
@@ -27,6 +30,7 @@ codec_text (codec.TooLong at) = codes "too long at " ++ number_text at
 codec_text (codec.OutOfRange at) = codes "out of range at " ++ number_text at
 codec_text codec.OutOfMemory = []
 
+-- which limit a configuration breaks
 unfoldable pub limit_text : ConfigFault → List ℕ
 limit_text limit.Validators = codes "validators"
 limit_text (limit.ZeroWeight v) = codes "zero weight " ++ number_text v
@@ -55,14 +59,18 @@ log_text log.OutOfMemory = []
 
 -- ---- the lines of faults
 
+-- what is wrong with a file
 unfoldable pub input_line : List ℕ → List ℕ → List ℕ
 input_line name text = codes "input " ++ name ++ codes ": " ++ text ++ line_feed
 
+-- how the program is called
 abbrev pub usage_line : List ℕ
 usage_line = codes "usage: highway COMMAND WORDS" ++ line_feed
 
+-- a file could not be read
 abbrev pub read_fault_line : List ℕ
 read_fault_line = codes "read fault" ++ line_feed
 
+-- there was no memory
 abbrev pub out_of_memory_line : List ℕ
 out_of_memory_line = codes "out of memory" ++ line_feed

@@ -7,6 +7,7 @@ use Rattle.hw_types.specs.Spelling.{Fits, IsSpelling, signed_bytes}
 use Rattle.hw_types.specs.Reading.{Rest, Read}
 use Rattle.hw_codec.specs.Ranges.{AreBytes}
 
+-- the bytes spell the unit and its signature
 abbrev pub SpellsSigned : List ℕ → SignedUnit → Type 0
 SpellsSigned = IsSpelling (λ s. Fits s.unit) signed_bytes
 

@@ -22,6 +22,7 @@ pub record PreparedUnit : Type 0 where
   pub signed : SignedUnit
   pub panorama : List View
 
+-- a prepared unit under its name
 abbrev pub node_prepared : PreparedUnit → Node
 node_prepared p = record { digest = p.digest; unit = p.signed.unit }
 
@@ -94,6 +95,7 @@ settled_as p number fork height = record {
   height = if is_block (node_prepared p) then Some height else None;
 }
 
+-- the unit that a prepared one becomes
 abbrev pub settled_from : UnitGraph → PreparedUnit → Option UnitNo → SettledUnit
 settled_from dag p fork = settled_as p (record { 0 = count_of dag }) fork (height_above dag fork)
 

@@ -45,12 +45,15 @@ stand_in = record {
 abbrev pub unit_at : UnitGraph → ℕ → SettledUnit
 unit_at dag n = slice_index_or dag.units n stand_in
 
+-- how many units there are
 abbrev pub count_of : UnitGraph → ℕ
 count_of dag = length dag.units
 
+-- who made the unit
 abbrev pub creator_of : SettledUnit → ℕ
 creator_of u = u.signed.unit.creator
 
+-- its sequence number
 abbrev pub seq_of : SettledUnit → ℕ
 seq_of u = u.signed.unit.seq
 
@@ -64,6 +67,7 @@ node_of u = record { digest = u.digest; unit = u.signed.unit }
 abbrev pub node_at : UnitGraph → ℕ → Node
 node_at dag n = node_of (unit_at dag n)
 
+-- the units in the order of their names
 unfoldable pub by_name_of : List SettledUnit → List Node
 by_name_of units = by_name (map node_of units)
 

@@ -9,6 +9,7 @@ pub record BackLinks : Type 0 where
   pub spare : ℕ
   pub backs : List (Option UnitNo)
 
+-- the step back from a number
 abbrev pub back_at : List (Option UnitNo) → ℕ → Option UnitNo
 back_at backs n = slice_index_or backs n None
 
@@ -27,9 +28,11 @@ pub record IsDepth (backs : List (Option UnitNo)) (n depth : ℕ) : Type 0 where
 abbrev pub backs_of : List (List UnitNo) → List (Option UnitNo)
 backs_of table = map (λ pointers. slice_get pointers 0) table
 
+-- the pointers that a number keeps
 abbrev pub pointers_at : List (List UnitNo) → ℕ → List UnitNo
 pointers_at table n = slice_index_or table n []
 
+-- one of them
 abbrev pub pointer_at : List UnitNo → ℕ → UnitNo
 pointer_at pointers i = slice_index_or pointers i (record { 0 = 0 })
 
@@ -45,6 +48,7 @@ pub record IsSkips (backs : List (Option UnitNo)) (n : ℕ) (pointers : List Uni
   pub length_is : length pointers ≡ pointer_count_of depth
   pub leads : (i : ℕ) → i < pointer_count_of depth → back_from backs (2 ^ i) n ≡ Some (pointer_at pointers i).0
 
+-- all pointers lead down, and each list of them is that of its number
 pub record IsSkipTable (table : List (List UnitNo)) : Type 0 where
   pub down : LeadsDown (backs_of table)
   pub skips : (n : ℕ) → n < length table → IsSkips (backs_of table) n (pointers_at table n)

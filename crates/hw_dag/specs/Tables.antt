@@ -21,12 +21,15 @@ number_of view.Faulty = None
 abbrev pub predecessor_of : SettledUnit → Option UnitNo
 predecessor_of u = number_of (view_at u.panorama (creator_of u))
 
+-- the names of the units, in the order of their numbers
 abbrev pub names_of : List SettledUnit → List Digest
 names_of units = map (λ (u : SettledUnit). u.digest) units
 
+-- the steps back along lanes
 abbrev pub lanes_of : List SettledUnit → List (Option UnitNo)
 lanes_of units = map predecessor_of units
 
+-- the steps back along parents
 abbrev pub chains_of : List SettledUnit → List (Option UnitNo)
 chains_of units = map (λ (u : SettledUnit). u.parent) units
 

@@ -4,6 +4,7 @@ use Rattle.hw_dag.specs.declared.numbers.UnitNo.{UnitNo}
 use Rattle.hw_dag.specs.declared.numbers.View.TheVariants as view
 use Rattle.hw_dag.specs.Dag.{UnitGraph, unit_at, view_at}
 
+-- the number is marked
 abbrev pub is_marked : List Bool → ℕ → Bool
 is_marked marked n = slice_index_or marked n false
 

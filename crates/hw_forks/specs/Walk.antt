@@ -13,6 +13,7 @@ unfoldable pub is_over_within : ℕ → UnitGraph → ℕ → ℕ → Bool
 is_over_within zero dag c b = c == b
 is_over_within (suc n) dag c b = (c == b) || is_some_and (λ (p : UnitNo). is_over_within n dag c p.0) (unit_at dag b).parent
 
+-- the one block is the other or an ancestor of it
 abbrev pub is_over : UnitGraph → ℕ → ℕ → Bool
 is_over dag c b = is_over_within (count_of dag) dag c b
 

@@ -7,21 +7,27 @@ use Rattle.hw_io.specs.declared.memory.Planned.{Planned}
 use Rattle.hw_io.specs.declared.memory.MemFiles.{MemFiles}
 use Rattle.hw_io.specs.declared.memory.MemSink.{MemSink}
 
+-- what files in memory hold
 abbrev pub mem_held : MemFiles → List ℕ → Option (List ℕ)
 mem_held files = held_in files.shelf.files.items
 
+-- which of them was begun
 abbrev pub mem_begun : MemFiles → Option (List ℕ)
 mem_begun files = begun_in files.shelf.files.items files.shelf.reading
 
+-- what of it is unread
 abbrev pub mem_unread : MemFiles → List ℕ
 mem_unread files = unread_in files.shelf.files.items files.shelf.reading
 
+-- how many bytes may still be given of it
 abbrev pub mem_allowance : MemFiles → ℕ
 mem_allowance files = allowance_of files.shelf.reading
 
+-- how many reads failed
 abbrev pub mem_read_faults : MemFiles → ℕ
 mem_read_faults files = files.read_faults
 
+-- how many appends failed
 abbrev pub mem_append_faults : MemFiles → ℕ
 mem_append_faults files = files.append_faults
 
@@ -39,9 +45,11 @@ pub record SameCounts (old new : MemFiles) : Type 0 where
   pub read_faults : new.read_faults ≡ old.read_faults
   pub append_faults : new.append_faults ≡ old.append_faults
 
+-- what a sink in memory took
 abbrev pub mem_taken : MemSink → Option (List ℕ)
 mem_taken sink = Some sink.bytes.items
 
+-- how many writes failed
 abbrev pub mem_faults : MemSink → ℕ
 mem_faults sink = sink.faults
 

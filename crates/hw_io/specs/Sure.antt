@@ -4,20 +4,26 @@ use Rattle.hw_io.specs.Shelves.{held_in, begun_in, unread_in, allowance_of}
 use Rattle.hw_io.specs.declared.sure.SureFiles.{SureFiles}
 use Rattle.hw_io.specs.declared.sure.SureSink.{SureSink}
 
+-- what sure files hold
 abbrev pub sure_held : SureFiles → List ℕ → Option (List ℕ)
 sure_held files = held_in files.shelf.files.items
 
+-- which of them was begun
 abbrev pub sure_begun : SureFiles → Option (List ℕ)
 sure_begun files = begun_in files.shelf.files.items files.shelf.reading
 
+-- what of it is unread
 abbrev pub sure_unread : SureFiles → List ℕ
 sure_unread files = unread_in files.shelf.files.items files.shelf.reading
 
+-- how many bytes may still be given of it
 abbrev pub sure_allowance : SureFiles → ℕ
 sure_allowance files = allowance_of files.shelf.reading
 
+-- how many reads failed
 abbrev pub sure_read_faults : SureFiles → ℕ
 sure_read_faults files = files.read_faults
 
+-- what a sure sink took
 abbrev pub sure_taken : SureSink → Option (List ℕ)
 sure_taken sink = Some sink.bytes.items

@@ -7,10 +7,12 @@ use Rattle.hw_types.specs.declared.answers.CodecError.TheVariants as codec
 use Rattle.hw_log.specs.declared.error.LogError.{LogError}
 use Rattle.hw_log.specs.declared.error.LogError.TheVariants.{BadConfig, BadVertex, ReadFault, WriteFault, OutOfMemory}
 
+-- the error that a failed read is
 abbrev pub error_of_read : IoFault → LogError
 error_of_read io.Failed = ReadFault
 error_of_read io.OutOfMemory = OutOfMemory
 
+-- the error that a failed append is
 abbrev pub error_of_append : IoFault → LogError
 error_of_append io.Failed = WriteFault
 error_of_append io.OutOfMemory = OutOfMemory

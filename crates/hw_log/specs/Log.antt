@@ -14,6 +14,7 @@ use Rattle.hw_log.specs.declared.head.EntryHead.{EntryHead}
 use Rattle.hw_log.specs.declared.error.LogError.{LogError}
 use Rattle.hw_log.specs.declared.error.LogError.TheVariants.{BadMagic, Version, Torn, TooLong, BadConfig, ConfigFault as Refused, BadEvent, BadVerdict, BadVertex}
 
+-- go on with what was read, or stop at the error
 infixl 10 ◌>>=◌
 abbrev pub ◌>>=◌ : {A B : Type 0} → Result A LogError → (A → Result B LogError) → Result B LogError
 (Ok x) >>= f = f x
@@ -48,6 +49,7 @@ config_length front =
     else if is_too_long (from_be_bytes w32 (drop 5 front)) then Err (TooLong 5)
     else Ok (from_be_bytes w32 (drop 5 front))
 
+-- the configuration, or the error for the limit that it breaks
 abbrev pub refuse : Config → Option ConfigFault → Result Config LogError
 refuse config None = Ok config
 refuse config (Some fault) = Err (Refused fault)
@@ -74,6 +76,7 @@ head_of at head =
     else if is_too_long (from_be_bytes w32 (drop 2 head)) then Err (TooLong at)
     else Ok (record { verdict = slice_index head 1 == 1; length = from_be_bytes w32 (drop 2 head) })
 
+-- the six bytes before a vertex
 unfoldable pub head_at : Rest → Result (EntryHead × Rest) LogError
 head_at r = do
   head ← bytes_at 6 (Torn r.place) r
@@ -105,6 +108,7 @@ pub record Entries : Type 0 where
   pub given : List LogEntry
   pub fault : Option LogError
 
+-- an entry before the others, or what ends them
 abbrev pub with_next : Result (Option LogEntry × Rest) LogError → (Rest → Entries) → Entries
 with_next (Ok (Some e, r)) others = record { given = e ∷ (others r).given; fault = (others r).fault }
 with_next (Ok (None, r)) others = record { given = []; fault = None }
@@ -125,8 +129,10 @@ log_of bytes = header_of bytes >>= λ header. Ok (header.0, entries_of header.1)
 
 -- ---- what is written
 
+-- the header of a log, as it is written
 abbrev pub header_bytes : Config → List ℕ
 header_bytes config = codes "HWLG" ++ (1 ∷ u32_bytes (length (config_bytes config))) ++ config_bytes config
 
+-- an entry of a log, as it is written
 abbrev pub entry_bytes : Bool → Vertex → List ℕ
 entry_bytes verdict vertex = (1 ∷ (if verdict then 1 else 0) ∷ u32_bytes (length (vertex_bytes vertex))) ++ vertex_bytes vertex

@@ -17,6 +17,7 @@ use Rattle.hw_summit.specs.Pruned.{or_zero, has_summit}
 abbrev pub quorum_of : ℕ → ℕ → ℕ → ℕ
 quorum_of total ftt level = (total * (2 ^ level - 1) + ftt * 2 ^ level) / (2 * (2 ^ level - 1)) + 1
 
+-- the weight that a committee of the level needs, by the configuration
 abbrev pub quorum_at : Config → ℕ → ℕ
 quorum_at config level = quorum_of (sum config.weights) config.ftt level
 
@@ -27,11 +28,13 @@ stands config received block level quorum =
 
 -- ---- what a moment shows
 
+-- the settled units and the panorama, and whether few are faulty
 pub record Moment : Type 0 where
   pub settled : List Node
   pub panorama : List Obs
   pub few_faulty : Bool
 
+-- what a journal leaves
 unfoldable pub moment_of : Config → Received → Moment
 moment_of config received = record { settled = settled_of config received; panorama = panorama_of config received; few_faulty = nat_le (faulty_weight config received) config.ftt }
 
@@ -58,14 +61,17 @@ decided_at s journal block = find (stood_at s journal block) (range_with_len 0 (
 unfoldable pub fresh_at : Setting → List Vertex → ℕ → Moment → List Node
 fresh_at s journal at m = filter (λ b. not (list_any (stood_at s journal b) (range_with_len 0 at))) (filter (λ b. is_some (least_level s.config m b)) m.settled)
 
+-- the record of a block that stands now
 abbrev pub decision_of : Config → Moment → ℕ → ℕ → Node → Decision
 decision_of config m at height b =
     let level = or_zero (least_level config m b) in record { block = b.digest; height = height; level = level; quorum = quorum_at config level; at = at }
 
+-- what is there, as a list
 abbrev pub as_list : {A : Type 0} → Option A → List A
 as_list None = []
 as_list (Some x) = x ∷ []
 
+-- the record of the block at a height, if one is fresh there
 abbrev pub decision_at : Config → Moment → ℕ → List Node → ℕ → List Decision
 decision_at config m at fresh height = elim (find (λ b. height_of config.weights m.settled b == height) fresh) [ None ↦ [] | Some b ↦ decision_of config m at height b ∷ [] ]
 
