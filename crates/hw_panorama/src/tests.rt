@@ -345,3 +345,13 @@ fn a_panorama_has_what_its_units_have_seen(rt: HostRuntime) -> Result<(), Fail> 
     }
     Ok(())
 }
+
+#[test]
+fn a_copied_panorama_has_the_same_slots(rt: HostRuntime) -> Result<(), Fail> {
+    let mut panorama = Panorama::new(rt.alloc(), 2)?;
+    panorama.set(1, View::Faulty);
+    let copy = panorama.copy()?;
+    assert_eq!(rt; copy.get(0), View::Absent);
+    assert_eq!(rt; copy.get(1), View::Faulty);
+    Ok(())
+}
