@@ -3,3 +3,4 @@ pub mod TipLaws
 pub mod ForkLaws
 pub mod RowLaws
 pub mod NotedLaws
+pub mod GrowLaws

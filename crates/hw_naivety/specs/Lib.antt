@@ -1,3 +1,4 @@
 pub mod Naivety
 pub mod Tips
 pub mod Forks
+pub mod Laws

@@ -7,9 +7,11 @@
 #![tactic(auto)]
 
 mod fork;
+mod laws;
 mod sight;
 mod tips;
 mod tracker;
 
 pub use fork::NaiveFork;
+pub use laws::noted_stays;
 pub use tracker::Naivety;
