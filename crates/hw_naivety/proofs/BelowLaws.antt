@@ -1,30 +1,29 @@
 -- What is below, and what is naive, by number and by name.
-use Rattle.std.proofs.Common.{◌≡◌, ℕ, ◌+◌, ◌<◌, ◌≤◌, ◌⊎◌, inl, inr, Bool, true, false, List, length, Option, Some, None, refl, sym, ap, subst, ◌∙◌, arith}
-use Rattle.std.specs.Prelude.{◌||◌, not}
-use Rattle.std.specs.List.{list_any, list_all}
+use Rattle.std.proofs.Common.{◌≡◌, ℕ, ◌<◌, ◌⊎◌, inl, inr, Bool, true, List, Option, refl, sym, ap, subst, ◌∙◌}
+use Rattle.std.specs.List.{list_any}
 use Rattle.hw_types.specs.declared.unit.Digest.{Digest}
 use Rattle.hw_types.specs.declared.unit.Obs.{Obs}
-use Rattle.hw_types.specs.Graph.{Node, digest_eq, node_eq, is_some_and, cites, unit_cites, past, find_node, is_below, are_comparable, lane_of}
+use Rattle.hw_types.specs.Graph.{Node, digest_eq, is_some_and, cites, unit_cites, past, find_node, is_below, are_comparable}
 use Rattle.hw_types.specs.Below.{Among}
 use Rattle.hw_types.specs.Rules.{has_digest, is_naive}
 use Rattle.hw_types.proofs.ClosureLaws.{Within}
-use Rattle.hw_types.proofs.PastLaws.{some_of, any_of, reach_first, reach_further, reach_keeps, reach_within, or_cases, or_left, or_right}
+use Rattle.hw_types.proofs.PastLaws.{some_of, any_of, reach_first, reach_further, reach_keeps, reach_within}
 use Rattle.hw_types.proofs.StableLaws.{OneName, is_below_same, comparable_same}
 use Rattle.hw_types.proofs.WordsLaws.{found_node, find_node_is, passes_some, not_true, never_both, either, all_of}
-use Rattle.hw_types.proofs.SettledLaws.{digest_same, digest_self}
+use Rattle.hw_types.proofs.SettledLaws.{digest_same}
 use Rattle.hw_types.proofs.LaneLaws as lanes
 use Rattle.hw_dag.specs.declared.numbers.UnitNo.{UnitNo}
 use Rattle.hw_dag.specs.declared.numbers.View.{View}
 use Rattle.hw_dag.specs.declared.numbers.View.TheVariants as view
-use Rattle.hw_dag.specs.Dag.{UnitGraph, unit_at, count_of, node_at, graph, creator_of, view_at, observations, IsPanorama}
+use Rattle.hw_dag.specs.Dag.{UnitGraph, unit_at, count_of, node_at, graph, creator_of, view_at, observations}
 use Rattle.hw_dag.specs.Admission.{IsGraph}
 use Rattle.hw_dag.specs.Lanes.{is_lane_below, is_seen}
 use Rattle.hw_dag.proofs.NodeLaws.{among_node, node_among, same_node, graph_one_name}
 use Rattle.hw_dag.proofs.SlotLaws.{number_cites, cited_number}
-use Rattle.hw_dag.proofs.LaneLaws.{history, seen_cases, past_seen, same_seen, on_lane_among, among_on_lane, on_own_lane, lane_is_seen, seen_on_lane, even_weights, all_faulty, lawful}
+use Rattle.hw_dag.proofs.LaneLaws.{seen_cases, past_seen, same_seen, on_lane_among, among_on_lane, on_own_lane, even_weights, all_faulty, lawful}
 use Rattle.hw_dag.proofs.MarkLaws.{past_within}
 use Rattle.hw_dag.proofs.ChainLaws as chain
-use Rattle.hw_naivety.specs.Tips.{IsBelow, IsBelowNamed, IsBelowEndorsed, IsNaive, HasLists}
+use Rattle.hw_naivety.specs.Tips.{IsBelow, IsBelowEndorsed, IsNaive, HasLists}
 use Rattle.hw_naivety.specs.Naivety.{IsNaiveOf, KeepsEndorsed}
 
 module _ (dag : UnitGraph) (g : IsGraph dag) where

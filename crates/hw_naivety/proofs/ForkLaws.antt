@@ -1,8 +1,7 @@
 -- Naive forks by number and by name.
-use Rattle.std.proofs.Common.{◌≡◌, ℕ, ◌<◌, ◌≤◌, ◌⊎◌, inl, inr, Bool, true, false, List, Option, Some, None, refl, sym, ap, subst, ◌∙◌, arith, eqb-true, eq-eqb}
-use Rattle.std.specs.Prelude.{◌||◌, ◌&&◌, not, ◌==◌, filter}
+use Rattle.std.proofs.Common.{◌≡◌, ℕ, ◌<◌, ◌≤◌, ◌⊎◌, inl, inr, Bool, true, false, List, refl, sym, subst, ◌∙◌, arith, eqb-true, eq-eqb}
+use Rattle.std.specs.Prelude.{◌||◌, ◌&&◌, not, ◌==◌}
 use Rattle.std.specs.List.{list_any}
-use Rattle.hw_types.specs.declared.unit.Digest.{Digest}
 use Rattle.hw_types.specs.declared.unit.Obs.{Obs}
 use Rattle.hw_types.specs.Graph.{Node, past, are_comparable}
 use Rattle.hw_types.specs.Below.{Among}
@@ -22,7 +21,7 @@ use Rattle.hw_naivety.specs.declared.fork.NaiveFork.{NaiveFork}
 use Rattle.hw_naivety.specs.Tips.{IsNaive, IsOnLaneOf, LanesAre}
 use Rattle.hw_naivety.specs.Forks.{IsNaiveFork, IsForkless}
 use Rattle.hw_naivety.specs.Naivety.{IsNaiveOf, HasNoNaiveFork, IsLeastNaiveFork}
-use Rattle.hw_naivety.proofs.BelowLaws.{under, under_within, comparable_under, number_of_naive, naive_of_number, lane_order}
+use Rattle.hw_naivety.proofs.BelowLaws.{under_within, comparable_under, number_of_naive, naive_of_number, lane_order}
 
 and_not : (a c : Bool) → (a ≡ true → c ≡ true) → (a && not c) ≡ false
 and_not true true f = refl

@@ -1,11 +1,11 @@
 -- What was noted, one unit more.
-use Rattle.std.proofs.Common.{◌≡◌, ◌≢◌, ℕ, ◌+◌, ◌<◌, ◌≤◌, ◌⊎◌, inl, inr, List, [], length, Option, refl, sym, ap, subst, ◌∙◌, arith, get_or, None}
+use Rattle.std.proofs.Common.{◌≡◌, ◌≢◌, ℕ, ◌+◌, ◌<◌, ◌≤◌, inl, inr, List, length, Option, sym, ap, subst, ◌∙◌, arith, get_or, None}
 use Rattle.std.proofs.lemmas.Bool.{cases_lt}
 use Rattle.hw_types.specs.declared.unit.Digest.{Digest}
 use Rattle.hw_dag.specs.declared.numbers.UnitNo.{UnitNo}
 use Rattle.hw_dag.specs.declared.numbers.View.{View}
 use Rattle.hw_dag.specs.declared.numbers.View.TheVariants as view
-use Rattle.hw_dag.specs.Dag.{UnitGraph, unit_at, count_of, node_at, graph, view_at, IsPanorama}
+use Rattle.hw_dag.specs.Dag.{UnitGraph, unit_at, count_of, node_at, graph, view_at}
 use Rattle.hw_naivety.specs.Tips.{IsTip, TipsAre, LanesAre, HasTips, IsGrown, tip_at}
 use Rattle.hw_naivety.specs.Naivety.{NaiveTips, IsNoted, KeepsEndorsed, HasNoNaiveFork}
 

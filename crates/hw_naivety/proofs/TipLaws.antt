@@ -1,24 +1,23 @@
 -- The tips of cited units lead to the tip of the unit that cites them.
-use Rattle.std.specs.Prelude.{◌==◌, if◌then◌else◌, slice_set, slice_index_or}
+use Rattle.std.specs.Prelude.{◌==◌, if◌then◌else◌, slice_set}
 use Rattle.std.proofs.lemmas.List.{get_or-set_same, get_or-set_other}
 use Rattle.std.proofs.lemmas.Bool.{cases_lt}
-use Rattle.std.proofs.Common.{Result, Ok, Err, IfOk, ◌≢◌, eqb-true, eq-eqb, [], ◌∷◌, ◌++◌, get_or, cond, ◌≡◌, ℕ, ◌+◌, ◌<◌, ◌≤◌, ◌⊎◌, inl, inr, Bool, true, false, List, length, Option, Some, None, refl, sym, ap, subst, ◌∙◌, arith}
+use Rattle.std.proofs.Common.{Result, Ok, Err, IfOk, ◌≢◌, eqb-true, eq-eqb, cond, ◌≡◌, ℕ, ◌+◌, ◌<◌, ◌⊎◌, inl, inr, Bool, true, false, List, length, Option, Some, None, refl, sym, ap, subst, ◌∙◌, arith}
 use Rattle.hw_types.specs.declared.unit.Digest.{Digest}
 use Rattle.hw_types.specs.declared.unit.Obs.{Obs}
-use Rattle.hw_types.specs.Graph.{Node, past}
+use Rattle.hw_types.specs.Graph.{past}
 use Rattle.hw_types.specs.Below.{Among}
 use Rattle.hw_types.proofs.WordsLaws.{either, never_both}
 use Rattle.hw_dag.specs.declared.numbers.UnitNo.{UnitNo}
 use Rattle.hw_dag.specs.declared.numbers.View.{View}
 use Rattle.hw_dag.specs.declared.numbers.View.TheVariants as view
-use Rattle.hw_dag.specs.Dag.{UnitGraph, unit_at, count_of, node_at, graph, creator_of, view_at, observations, IsPanorama}
+use Rattle.hw_dag.specs.Dag.{UnitGraph, unit_at, count_of, node_at, graph, creator_of, view_at, IsPanorama}
 use Rattle.hw_dag.specs.Admission.{IsGraph}
 use Rattle.hw_dag.specs.Lanes.{is_lane_below, is_seen}
-use Rattle.hw_dag.proofs.LaneLaws.{seen_cases, past_seen, same_seen, seen_itself, lane_is_seen, seen_on_lane, seen_entry}
-use Rattle.hw_naivety.specs.Tips.{IsBelow, IsBelowNamed, IsBelowEndorsed, IsNaive, IsUnder, IsNaiveTip, IsTip, HasLists, IsSight, IsSightOf, IsRaised, IsRaisedOver, IsOnLaneOf, LanesAre, HasTips, tip_at, IsGrown, AreRows}
-use Rattle.hw_naivety.specs.Forks.{IsNaiveFork}
+use Rattle.hw_dag.proofs.LaneLaws.{seen_cases, past_seen, seen_itself, lane_is_seen, seen_on_lane, seen_entry}
+use Rattle.hw_naivety.specs.Tips.{IsBelow, IsBelowEndorsed, IsNaive, IsUnder, IsNaiveTip, IsTip, HasLists, IsSightOf, IsRaised, IsRaisedOver, IsOnLaneOf, LanesAre, HasTips, tip_at}
 use Rattle.hw_naivety.specs.declared.fork.NaiveFork.{NaiveFork}
-use Rattle.hw_naivety.proofs.BelowLaws.{seen_trans, lane_trans, lane_order, lane_itself, lane_creator, below_lower, under_below, below_under}
+use Rattle.hw_naivety.proofs.BelowLaws.{seen_trans, lane_trans, lane_order, lane_itself, under_below, below_under}
 
 module _ (dag : UnitGraph) (g : IsGraph dag) where
   -- a unit below a unit of the list is there for all that is below it

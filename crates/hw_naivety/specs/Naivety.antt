@@ -1,5 +1,5 @@
 -- Naive units, over a graph in numbers.
-use Rattle.std.specs.Prelude.{◌≡◌, ℕ, ◌<◌, ◌≤◌, Bool, true, false, List, Option}
+use Rattle.std.specs.Prelude.{◌≡◌, ℕ, ◌<◌, ◌≤◌, true, false, List, Option}
 use Rattle.std.specs.List.{list_all}
 use Rattle.hw_types.specs.Graph.{Node, cites, past, are_comparable}
 use Rattle.hw_types.specs.Below.{Among}

@@ -1,4 +1,4 @@
-use Rattle.std.proofs.Common.{◌≡◌, ◌<◌, ◌≤◌, [], true, false, length, get_or, refl, sym, subst, arith}
+use Rattle.std.proofs.Common.{[], get_or, refl, sym, subst, arith}
 use Rattle.hw_types.specs.declared.unit.Digest.{Digest}
 use Rattle.hw_dag.proofs.PlaceLaws.{among_place, place_is_among}
 use Rattle.hw_naivety.specs.Tips.{IsBelowNamed}

@@ -1,4 +1,4 @@
-use Rattle.std.proofs.Common.{◌≡◌, ◌≤◌, ◌<◌, arith}
+use Rattle.std.proofs.Common.{arith}
 use Rattle.hw_dag.proofs.MarkLaws.{seen_earlier}
 use Rattle.hw_naivety.proofs.sight.Sight.is_below_named.Goals as goal
 

@@ -1,6 +1,5 @@
-use Rattle.std.proofs.Common.{◌≡◌, ◌<◌, ℕ, Option, Some, None, sym, subst, ◌∙◌, arith, true, false}
+use Rattle.std.proofs.Common.{◌≡◌, Option, sym, subst, ◌∙◌}
 use Rattle.hw_dag.specs.declared.numbers.UnitNo.{UnitNo}
-use Rattle.hw_dag.specs.Lanes.{is_lane_below}
 use Rattle.hw_types.proofs.WordsLaws.{never_both}
 use Rattle.hw_naivety.specs.Tips.{IsNaive, IsUnder}
 use Rattle.hw_naivety.proofs.BelowLaws.{lane_trans}

@@ -1,4 +1,4 @@
-use Rattle.std.proofs.Common.{◌≡◌, ap, sym, ◌∙◌, add-one}
+use Rattle.std.proofs.Common.{ap, sym, ◌∙◌, add-one}
 use Rattle.hw_naivety.specs.Tips.{tip_of}
 use Rattle.hw_naivety.proofs.RowLaws.{set_tip}
 use Rattle.hw_naivety.proofs.tips.Row.set.Goals.{in-Some, in-None}

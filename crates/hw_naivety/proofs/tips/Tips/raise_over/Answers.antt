@@ -1,6 +1,4 @@
-use Rattle.std.proofs.Common.{◌≡◌, ◌<◌, ℕ, Option, Some, None, sym, subst, ◌∙◌, arith}
-use Rattle.hw_dag.specs.declared.numbers.UnitNo.{UnitNo}
-use Rattle.hw_naivety.specs.Tips.{IsUnder}
+use Rattle.std.proofs.Common.{Some, sym, ◌∙◌}
 use Rattle.hw_naivety.proofs.TipLaws.{candidate_known, raised_result, raised_none}
 use Rattle.hw_naivety.proofs.tips.Tips.raise_over.Goals as goal
 

@@ -1,4 +1,4 @@
-use Rattle.std.proofs.Common.{◌≡◌, sym, ◌∙◌}
+use Rattle.std.proofs.Common.{sym, ◌∙◌}
 use Rattle.hw_types.proofs.WordsLaws.{never_both}
 use Rattle.hw_naivety.proofs.TipLaws.{absent_tip, endorsed_tip, last_tip}
 use Rattle.hw_naivety.proofs.tips.Tips.tip_of.Goals as goal

@@ -1,6 +1,5 @@
-use Rattle.std.proofs.Common.{IfOk, refl, ◌≡◌, ◌<◌, ◌≤◌, ◌+◌, ℕ, inl, inr, List, sym, ap, subst, ◌∙◌, arith}
+use Rattle.std.proofs.Common.{IfOk, refl, ◌≡◌, ◌<◌, ℕ, inl, inr, List, sym, ap, subst, ◌∙◌, arith}
 use Rattle.std.proofs.lemmas.Bool.{cases_lt}
-use Rattle.hw_types.specs.declared.unit.Digest.{Digest}
 use Rattle.hw_types.specs.declared.unit.SignedUnit.{SignedUnit}
 use Rattle.hw_dag.specs.declared.numbers.View.{View}
 use Rattle.hw_dag.specs.Admission.{node_prepared}
@@ -8,7 +7,7 @@ use Rattle.hw_naivety.specs.Tips.{IsTip, IsNaive, HasTips, HasLists}
 use Rattle.hw_naivety.specs.Forks.{IsNaiveFork}
 use Rattle.hw_naivety.specs.Naivety.{NaiveTips, IsNoted}
 use Rattle.hw_naivety.proofs.BelowLaws.{lists_kept}
-use Rattle.hw_naivety.proofs.ForkLaws.{IsOrdered, fork_unordered, forkless_ordered, ordered_forkless, least_fork, lane_ordered, beyond_ordered}
+use Rattle.hw_naivety.proofs.ForkLaws.{fork_unordered, forkless_ordered, ordered_forkless, least_fork, lane_ordered, beyond_ordered}
 use Rattle.hw_naivety.proofs.NotedLaws.{moved, has_tips}
 use Rattle.hw_naivety.proofs.TipLaws.{found_order}
 use Rattle.hw_naivety.proofs.tracker.Naivety.check.Goals.{in-Faulty+in_default-tip_over, in_default}

@@ -1,4 +1,4 @@
-use Rattle.std.proofs.Common.{refl, ◌≡◌, ◌<◌, ◌≤◌, ◌+◌, ℕ, List, sym, ap, subst, ◌∙◌, arith}
+use Rattle.std.proofs.Common.{refl, sym, ap, arith}
 use Rattle.hw_naivety.specs.Naivety.{NaiveTips}
 use Rattle.hw_naivety.proofs.NotedLaws.{noted_grown}
 use Rattle.hw_naivety.proofs.tracker.Naivety.reserve.Goals as goal
