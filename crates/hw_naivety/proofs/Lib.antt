@@ -4,3 +4,4 @@ pub mod ForkLaws
 pub mod RowLaws
 pub mod NotedLaws
 pub mod GrowLaws
+pub mod JudgedLaws

@@ -13,5 +13,5 @@ mod tips;
 mod tracker;
 
 pub use fork::NaiveFork;
-pub use laws::noted_stays;
+pub use laws::{judged_stays, noted_stays};
 pub use tracker::Naivety;
