@@ -1,4 +1,5 @@
-use Rattle.std.proofs.Common.{◌<◌, length, get_or, arith}
+use Rattle.std.proofs.Common.{◌<◌, ℕ, length, get_or, Option, ap, arith}
+use Rattle.std.specs.Prelude.{unwrap_or}
 use Rattle.hw_dag.specs.Lanes.{IsAncestor}
 use Rattle.hw_forks.specs.declared.votes.Vote.{Vote}
 use Rattle.hw_forks.proofs.LoopLaws.{no_vote, so_far_all, vote_is_among}
@@ -28,9 +29,12 @@ ancestor_at-requires-clause-within c =
     let le = c.requires.within (get_or c.args.votes.now c.loop-vote.vote-index no_vote) m in
     omega arith
 
-pub returns : goal.returns
-returns c = record {
+pub returns-clause-common : goal.returns-clause-common
+returns-clause-common c = record {
   known = c.ancestor_at-block.ensures.known;
   block = c.ancestor_at-block.ensures.block;
   over = so_far_all (λ (v : Vote). IsAncestor c.args.dag.now c.ancestor_at-block.result.0 v.block.0) c.args.votes.now c.loop-vote.vote-index (omega arith) c.loop-vote.invariant;
 }
+
+pub returns-clause-height : goal.returns-clause-height
+returns-clause-height c = ap (λ (o : Option ℕ). unwrap_or o 0) c.ancestor_at-block.ensures.height_is
