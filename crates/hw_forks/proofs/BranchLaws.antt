@@ -1,23 +1,24 @@
 -- The walk by the votes of one branch.
 use Rattle.std.proofs.Common.{◌≡◌, ℕ, ◌+◌, ◌<◌, ◌≤◌, inl, inr, Bool, true, false, cond, not, List, [], ◌∷◌, length, Option, Some, None, refl, sym, ap, subst, ◌∙◌, arith}
-use Rattle.std.specs.Prelude.{sum_by, filter, IfSome, if◌then◌else◌}
+use Rattle.std.specs.Prelude.{unwrap_or, sum_by, filter, IfSome, if◌then◌else◌}
+use Rattle.std.proofs.lemmas.Bool.{cases_lt}
 use Rattle.std.proofs.lemmas.List.Sums.{sum_by-cons}
-use Rattle.std.proofs.lemmas.List.Filters.{sum_by-filter_both}
+use Rattle.std.proofs.lemmas.List.Filters.{length-filter_both, sum_by-filter_both}
 use Rattle.hw_types.specs.Below.{Among}
 use Rattle.hw_types.specs.Votes.{is_block}
 use Rattle.hw_types.proofs.WordsLaws.{never_both}
 use Rattle.hw_dag.specs.declared.numbers.UnitNo.{UnitNo}
 use Rattle.hw_dag.specs.Dag.{UnitGraph, count_of, node_at}
 use Rattle.hw_dag.specs.Admission.{IsGraph, height_above}
-use Rattle.hw_dag.specs.Lanes.{IsAncestor, itself, further}
+use Rattle.hw_dag.specs.Lanes.{IsAncestor, IsAncestorAt, itself, further}
 use Rattle.hw_dag.proofs.PlaceLaws.{among_place}
 use Rattle.hw_forks.specs.declared.votes.Vote.{Vote}
-use Rattle.hw_forks.specs.Votes.{IsVote, AreVotes}
-use Rattle.hw_forks.specs.Walk.{is_over, score_in, votes_towards, Yields, IsBest, WalksTo, stops, goes, IsCommon, IsOnTheWay}
-use Rattle.hw_forks.proofs.AncestorLaws.{over_anc, anc_over, anc_trans, anc_height, anc_between}
+use Rattle.hw_forks.specs.Votes.{height_at, IsVote, AreVotes}
+use Rattle.hw_forks.specs.Walk.{is_over, score_in, votes_towards, Yields, IsBest, WalksTo, stops, goes, IsCommon, IsOnTheWay, HasNoCommonChild, IsChild}
+use Rattle.hw_forks.proofs.AncestorLaws.{over_anc, anc_over, anc_trans, anc_height, anc_line, anc_between, child_height}
 use Rattle.hw_forks.proofs.ScoreLaws.{share, score_some}
 use Rattle.hw_forks.proofs.LoopLaws.{no_vote}
-use Rattle.hw_forks.proofs.StartLaws.{on_way_down}
+use Rattle.hw_forks.proofs.StartLaws.{on_way_down, begins}
 
 -- what is kept is a vote towards the block
 pub towards_is : (dag : UnitGraph) (c : ℕ) (votes : List Vote) (vote : Vote) → Among vote (votes_towards dag c votes) → Among vote votes × (is_over dag c vote.block.0 ≡ true)
@@ -44,7 +45,26 @@ towards_has dag c (first ∷ votes) vote (inr m) t = go (is_over dag c first.blo
     go true k = inr k
     go false k = k
 
--- they weigh no more than all
+-- they are no more than all
+towards_few : (dag : UnitGraph) (c : ℕ) (votes : List Vote) → length (votes_towards dag c votes) ≤ length votes
+unfolding votes_towards
+towards_few dag c votes =
+    let both = length-filter_both (λ (v : Vote). is_over dag c v.block.0) (λ (v : Vote). not (is_over dag c v.block.0)) (λ v. refl) votes in
+    omega arith
+
+-- where they are as many as all, all are towards the block
+all_towards : (dag : UnitGraph) (c : ℕ) (votes : List Vote) → length votes ≤ length (votes_towards dag c votes) → (vote : Vote) → Among vote votes → is_over dag c vote.block.0 ≡ true
+unfolding votes_towards
+all_towards dag c [] many vote m = absurd m
+all_towards dag c (first ∷ votes) many vote m = go (is_over dag c first.block.0) refl many m (towards_few dag c votes) (λ h k. all_towards dag c votes h vote k)
+  where
+    go : (b : Bool) → is_over dag c first.block.0 ≡ b → length (first ∷ votes) ≤ length (cond b (first ∷ filter (λ (v : Vote). is_over dag c v.block.0) votes) (filter (λ (v : Vote). is_over dag c v.block.0) votes)) → Among vote (first ∷ votes)
+        → length (filter (λ (v : Vote). is_over dag c v.block.0) votes) ≤ length votes → (length votes ≤ length (filter (λ (v : Vote). is_over dag c v.block.0) votes) → Among vote votes → is_over dag c vote.block.0 ≡ true) → is_over dag c vote.block.0 ≡ true
+    go true e h (inl same) few later = subst (λ (v : Vote). is_over dag c v.block.0 ≡ true) same e
+    go true e h (inr k) few later = later (omega arith) k
+    go false e h k few later = absurd (omega arith)
+
+-- and they weigh no more than all
 towards_weigh : (dag : UnitGraph) (c : ℕ) (votes : List Vote) → sum_by (λ (v : Vote). v.weight) (votes_towards dag c votes) ≤ sum_by (λ (v : Vote). v.weight) votes
 unfolding votes_towards
 towards_weigh dag c votes =
@@ -72,6 +92,25 @@ module _ (dag : UnitGraph) (g : IsGraph dag) where
   common_lower votes None vote m is common = omega arith
   common_lower votes (Some number) vote m is common = let le = anc_height dag g number.0 vote.block.0 is.known (common.over vote m) in omega arith
 
+  -- a child of that of the highest vote isn't one
+  pub common_none : (votes : List Vote) (vote : Vote) → Among vote votes → IsVote dag vote → HasNoCommonChild dag votes (Some vote.block)
+  common_none votes vote m is c child common =
+      let height = child_height dag g (Some vote.block) c child in
+      let le = anc_height dag g c vote.block.0 is.known (common.over vote m) in
+      absurd (omega arith)
+
+  -- where two votes have no one ancestor of a height, all votes have none from there on
+  pub common_below : (votes : List Vote) → AreVotes dag votes → (height one two : ℕ) (first other : Vote) → Among first votes → Among other votes → IsAncestorAt dag first.block.0 height one → IsAncestorAt dag other.block.0 height two
+      → (two ≡ one → ⊥) → (c : ℕ) → IsCommon dag votes c → height_at dag c < height
+  common_below votes are height one two first other m n at_first at_other differ c common = elim (cases_lt (height_at dag c) height) [
+    | inl less ↦ less
+    | inr above ↦ absurd (
+        let reached : height_at dag one ≡ height = ap (λ (o : Option ℕ). unwrap_or o 0) at_first.height_is in
+        let other_reached : height_at dag two ≡ height = ap (λ (o : Option ℕ). unwrap_or o 0) at_other.height_is in
+        let over : IsAncestor dag one c = anc_between dag g one c first.block.0 (are.each first m).known at_first.ancestor (common.over first m) (omega arith) in
+        differ (anc_line dag g two one other.block.0 (are.each other n).known at_other.ancestor (anc_trans dag g one c other.block.0 over (common.over other n)) (other_reached ∙ sym reached)))
+  ]
+
   -- a vote that isn't kept is for no descendant of the block
   share_left : (c d : ℕ) (vote : Vote) → vote.block.0 < count_of dag → IsAncestor dag c d → is_over dag c vote.block.0 ≡ false → share dag d vote ≡ 0
   share_left c d vote lt h left = go (is_over dag d vote.block.0) refl
@@ -86,9 +125,6 @@ module _ (dag : UnitGraph) (g : IsGraph dag) where
   score_towards c d h [] known = refl
   score_towards c d h (vote ∷ votes) known = go (is_over dag c vote.block.0) refl (score_towards c d h votes (λ v m. known v (inr m)))
     where
-      kept : List Vote
-      kept = filter (λ (v : Vote). is_over dag c v.block.0) votes
-
       go : (b : Bool) → is_over dag c vote.block.0 ≡ b → sum_by (share dag d) (filter (λ (v : Vote). is_over dag c v.block.0) votes) ≡ sum_by (share dag d) votes
           → sum_by (share dag d) (cond b (vote ∷ filter (λ (v : Vote). is_over dag c v.block.0) votes) (filter (λ (v : Vote). is_over dag c v.block.0) votes)) ≡ sum_by (share dag d) (vote ∷ votes)
       go true e later = sum_by-cons (share dag d) vote (filter (λ (v : Vote). is_over dag c v.block.0) votes) ∙ ap (λ (n : ℕ). share dag d vote + n) later ∙ sym (sum_by-cons (share dag d) vote votes)
@@ -128,8 +164,19 @@ module _ (dag : UnitGraph) (g : IsGraph dag) where
         let lt = k.1 in
         omega arith
 
-    -- A walk by the votes that are kept, from where the votes towards the best child let it begin, is a walk by all votes.
-    pub next_round : (place next end : Option UnitNo) → IsBest dag votes place c → height_above dag (Some (record { 0 = c })) ≤ height_above dag next
+    -- and some vote isn't, where they don't all descend from the block
+    pub towards_fewer : (place : Option UnitNo) → IsChild dag place c → HasNoCommonChild dag votes place → length (votes_towards dag c votes) < length votes
+    towards_fewer place child none = elim (cases_lt (length (votes_towards dag c votes)) (length votes)) [
+      | inl less ↦ less
+      | inr above ↦ absurd (none c child (record {
+        known = child.known;
+        block = child.block;
+        over = λ vote m. over_anc dag g (count_of dag) c vote.block.0 (all_towards dag c votes above vote m);
+      }))
+    ]
+
+    -- A walk by the votes that are kept, from a block on their way that isn't below the best child, is a walk by all votes.
+    next_round : (place next end : Option UnitNo) → IsBest dag votes place c → height_above dag (Some (record { 0 = c })) ≤ height_above dag next
         → IfSome next (λ number. IsOnTheWay dag (votes_towards dag c votes) number.0) → WalksTo dag (votes_towards dag c votes) end next → WalksTo dag votes end place
     next_round place None end best up w h = absurd (omega arith)
     next_round place (Some s) end best up w h =
@@ -138,3 +185,31 @@ module _ (dag : UnitGraph) (g : IsGraph dag) where
         let above : IsAncestor dag c s.0 = anc_between dag g c s.0 w.some.0.block.0 known (common.over w.some.0 w.some.1) w.some.2 (omega arith) in
         goes place (record { 0 = c }) best
         (walk_within end (Some (record { 0 = c })) (record { 0 = c }) refl itself (on_way_down dag (votes_towards dag c votes) (towards_are dag c votes are) c s.0 above w end h))
+
+-- The walk by all votes passes through the place, and goes on from there as the walk by the votes that are kept.
+pub record IsUnderWay (dag : UnitGraph) (all kept : List Vote) (place : Option UnitNo) : Type 0 where
+  pub are : AreVotes dag kept
+  pub passed : IfSome place (λ number. IsOnTheWay dag kept number.0)
+  pub highest : HasNoCommonChild dag kept place
+  pub goes_on : (end : Option UnitNo) → WalksTo dag kept end place → WalksTo dag all end None
+
+-- It begins with all votes.
+pub under_way_first : (dag : UnitGraph) (all : List Vote) (place : Option UnitNo) → AreVotes dag all → IfSome place (λ number. IsOnTheWay dag all number.0) → HasNoCommonChild dag all place → IsUnderWay dag all all place
+under_way_first dag all place are passed highest = record {
+  are = are;
+  passed = passed;
+  highest = highest;
+  goes_on = (begins dag all are place passed).1;
+}
+
+-- At a branching it goes on with the votes towards the best child.
+pub under_way_more : (dag : UnitGraph) (all before kept : List Vote) (place next : Option UnitNo) (child : UnitNo) → IsUnderWay dag all before place → IsBest dag before place child.0 → kept ≡ votes_towards dag child.0 before
+    → IfSome next (λ number. IsOnTheWay dag kept number.0) → HasNoCommonChild dag kept next → height_above dag (Some child) ≤ height_above dag next → IsUnderWay dag all kept next
+under_way_more dag all before kept place next child w best same passed highest up = record {
+  are = subst (AreVotes dag) (sym same) (towards_are dag child.0 before w.are);
+  passed = passed;
+  highest = highest;
+  goes_on = λ end h. w.goes_on end (next_round dag w.are.graph child.0 before w.are place next end best up
+      (subst (λ (votes : List Vote). IfSome next (λ number. IsOnTheWay dag votes number.0)) same passed)
+      (subst (λ (votes : List Vote). WalksTo dag votes end next) same h));
+}

@@ -59,6 +59,10 @@ pub record IsCommon (dag : UnitGraph) (votes : List Vote) (c : ℕ) : Type 0 whe
   pub block : is_block (node_at dag c) ≡ true
   pub over : (vote : Vote) → Among vote votes → IsAncestor dag c vote.block.0
 
+-- no child of the place is one from which all votes descend
+abbrev pub HasNoCommonChild : UnitGraph → List Vote → Option UnitNo → Type 0
+HasNoCommonChild dag votes place = (c : ℕ) → IsChild dag place c → IsCommon dag votes c → ⊥
+
 -- some vote is for the block or a descendant of it, and each other for one of its ancestors
 pub record IsOnTheWay (dag : UnitGraph) (votes : List Vote) (c : ℕ) : Type 0 where
   pub known : c < count_of dag

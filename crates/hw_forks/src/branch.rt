@@ -1,8 +1,7 @@
 //! The votes of one branch.
 
-ghost use Rattle.std.specs.Prelude.{◌≡◌, ◌<◌, ◌≤◌, length, take, IsTrue};
-ghost use Rattle.hw_types.specs.Votes.{is_block};
-ghost use Rattle.hw_dag.specs.Dag.{count_of, node_at};
+ghost use Rattle.std.specs.Prelude.{◌≡◌, ◌<◌, ◌≤◌, length, take};
+ghost use Rattle.hw_dag.specs.Dag.{count_of};
 ghost use Rattle.hw_dag.specs.Admission.{IsGraph};
 ghost use Rattle.hw_forks.specs.Votes.{AreVotes, IsVote};
 ghost use Rattle.hw_forks.specs.Walk.{is_over, votes_towards};
@@ -11,7 +10,8 @@ use crate::ancestors::ancestor_at;
 use crate::votes::Vote;
 use hw_dag::{Dag, UnitNo};
 
-/// Puts the votes for the block or descendants of it first, in their order, and says how many there are.
+/// Puts the votes for the block or descendants of it first, in their order, and says how many there
+/// are. The others are lost.
 pub fn keep_towards(votes: &mut [Vote], dag: &Dag, block: UnitNo) -> usize
     requires votes { AreVotes dag.now votes.old }
     requires known { block.0 < count_of dag.now }

@@ -94,8 +94,8 @@ const NO_VOTE: Vote = Vote {
     weight: 0,
 };
 
-// The end of the walk by the first votes, as many as `count` says. It moves those that are still on its
-// way to the front, and leaves the others behind.
+// The end of the walk by the first votes, as many as `count` says. Each round loses one or more of
+// those that are kept: not all are towards one child of the highest block on the way to all.
 fn walk(votes: &mut [Vote], count: usize, tallies: &mut [u64], dag: &Dag) -> Option<UnitNo>
     requires room { count_of dag.now ≤ length tallies.old }
     requires some { 0 < count }
