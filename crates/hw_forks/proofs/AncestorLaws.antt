@@ -4,7 +4,7 @@ use Rattle.std.specs.Prelude.{◌==◌, unwrap_or}
 use Rattle.hw_types.specs.Graph.{is_some_and}
 use Rattle.hw_types.specs.Votes.{is_block}
 use Rattle.hw_types.proofs.PastLaws.{or_cases, or_left, or_right}
-use Rattle.hw_types.proofs.WordsLaws.{passes_some}
+use Rattle.hw_types.proofs.WordsLaws.{passes_some, never_both}
 use Rattle.hw_dag.specs.declared.numbers.UnitNo.{UnitNo}
 use Rattle.hw_dag.specs.Dag.{UnitGraph, unit_at, count_of, node_at}
 use Rattle.hw_dag.specs.Admission.{IsGraph, height_above}
@@ -71,6 +71,22 @@ module _ (dag : UnitGraph) (g : IsGraph dag) where
         anc_line a c parent.0 (omega arith) j (subst (λ (p : UnitNo). IsAncestor dag c p.0) one q.2) h
   ]
 
+  -- of two ancestors the one that isn't higher is an ancestor of the other
+  pub anc_between : (a c b : ℕ) → b < count_of dag → IsAncestor dag a b → IsAncestor dag c b → height_at dag a ≤ height_at dag c → IsAncestor dag a c
+  anc_between a c _ lt h itself le = h
+  anc_between a c _ lt h (further high parent e j) le = elim (anc_split a high h) [
+    | inl same ↦ absurd (
+        let less = parent_earlier dag g high parent lt e in
+        let next = height_next dag g high parent lt e in
+        let below = anc_height c parent.0 (omega arith) j in
+        let t = ap (λ (n : ℕ). height_at dag n) same in
+        omega arith)
+    | inr q ↦
+        let less = parent_earlier dag g high parent lt e in
+        let one : q.0 ≡ parent = (let s : Some q.0 ≡ Some parent = sym q.1 ∙ e in cc) in
+        anc_between a c parent.0 (omega arith) (subst (λ (p : UnitNo). IsAncestor dag a p.0) one q.2) j le
+  ]
+
   -- ---- the test
 
   pub over_anc : (n c b : ℕ) → is_over_within n dag c b ≡ true → IsAncestor dag c b
@@ -104,6 +120,18 @@ module _ (dag : UnitGraph) (g : IsGraph dag) where
       go : (t : Bool) → is_over dag c b ≡ t → t ≡ false
       go true e = absurd (never (over_anc (count_of dag) c b e))
       go false e = refl
+
+  -- so it can be read off the one ancestor of that height
+  pub over_test : (c found b : ℕ) → b < count_of dag → IsAncestor dag found b → height_at dag found ≡ height_at dag c → (found == c) ≡ is_over dag c b
+  over_test c found b lt h e = go (found == c) refl
+    where
+      go : (t : Bool) → (found == c) ≡ t → t ≡ is_over dag c b
+      go true same = sym (anc_over c b lt (subst (λ (n : ℕ). IsAncestor dag n b) (eqb-true found c same) h))
+      go false differ = sym (never_over c b (λ k. never_both (found == c) (eq-eqb found c (anc_line found c b lt h k e)) differ))
+
+  -- and a block above it isn't one
+  pub over_higher : (c b : ℕ) → b < count_of dag → height_at dag b < height_at dag c → false ≡ is_over dag c b
+  over_higher c b lt less = sym (never_over c b (λ k. let le = anc_height c b lt k in omega arith))
 
   -- ---- children
 

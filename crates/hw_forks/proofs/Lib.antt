@@ -5,5 +5,6 @@ pub mod BestLaws
 pub mod DefinedLaws
 pub mod TallyLaws
 pub mod LoopLaws
+pub mod BranchLaws
 pub mod GatherLaws
 pub mod ForkLaws

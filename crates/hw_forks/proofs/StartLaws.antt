@@ -52,6 +52,11 @@ module _ (dag : UnitGraph) (votes : List Vote) (are : AreVotes dag votes) where
       some : 0 < score_in dag votes c
       some = score_has dag are.graph votes c w.some.0 w.some.1 (are.each w.some.0 w.some.1) w.some.2
 
+  -- so a walk from there is a walk from each ancestor
+  pub on_way_down : (c s : ℕ) → IsAncestor dag c s → IsOnTheWay dag votes s → (end : Option UnitNo) → WalksTo dag votes end (Some (record { 0 = s })) → WalksTo dag votes end (Some (record { 0 = c }))
+  on_way_down c _ itself w end h = h
+  on_way_down c _ (further s p e k) w end h = on_way_down c p.0 k (parent_on_way s p e w) end (goes (Some p) (record { 0 = s }) (on_way_best s (Some p) e w) h)
+
   on_way_within : (fuel c : ℕ) → c < fuel → IsOnTheWay dag votes c → (end : Option UnitNo) → WalksTo dag votes end (Some (record { 0 = c })) → WalksTo dag votes end None
   on_way_within zero c less w end h = absurd (omega arith)
   on_way_within (suc fuel) c less w end h = go (unit_at dag c).parent refl (λ p lt v k. on_way_within fuel p lt v end k)
@@ -62,7 +67,7 @@ module _ (dag : UnitGraph) (votes : List Vote) (are : AreVotes dag votes) where
           let earlier = parent_earlier dag are.graph c p w.known e in
           later p.0 (omega arith) (parent_on_way c p e w) (goes (Some p) (record { 0 = c }) (on_way_best c (Some p) e w) h)
 
-  -- so a walk from there is a walk from above all blocks
+  -- and from above all blocks
   pub on_way_walk : (c : ℕ) → IsOnTheWay dag votes c → (end : Option UnitNo) → WalksTo dag votes end (Some (record { 0 = c })) → WalksTo dag votes end None
   on_way_walk c w end h = on_way_within (suc c) c (omega arith) w end h
 

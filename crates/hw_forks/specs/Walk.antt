@@ -1,5 +1,5 @@
 -- The walk of the fork choice, by number.
-use Rattle.std.specs.Prelude.{◌≡◌, ℕ, zero, suc, ◌<◌, ◌⊎◌, Bool, true, ◌||◌, ◌==◌, List, Option, Some, None, sum_by, slice_index, if◌then◌else◌}
+use Rattle.std.specs.Prelude.{◌≡◌, ℕ, zero, suc, ◌<◌, ◌⊎◌, Bool, true, ◌||◌, ◌==◌, List, Option, Some, None, sum_by, filter, slice_index, if◌then◌else◌}
 use Rattle.hw_types.specs.Graph.{is_some_and, digest_lt}
 use Rattle.hw_types.specs.Below.{Among}
 use Rattle.hw_types.specs.Votes.{is_block}
@@ -20,6 +20,10 @@ is_over dag c b = is_over_within (count_of dag) dag c b
 -- the weight of the votes for the block or a descendant of it
 unfoldable pub score_in : UnitGraph → List Vote → ℕ → ℕ
 score_in dag votes c = sum_by (λ (vote : Vote). if is_over dag c vote.block.0 then vote.weight else 0) votes
+
+-- the votes for the block or descendants of it
+unfoldable pub votes_towards : UnitGraph → ℕ → List Vote → List Vote
+votes_towards dag c votes = filter (λ (vote : Vote). is_over dag c vote.block.0) votes
 
 -- a block whose parent is this, or which has none
 pub record IsChild (dag : UnitGraph) (place : Option UnitNo) (c : ℕ) : Type 0 where
@@ -54,6 +58,10 @@ pub record IsCommon (dag : UnitGraph) (votes : List Vote) (c : ℕ) : Type 0 whe
   pub known : c < count_of dag
   pub block : is_block (node_at dag c) ≡ true
   pub over : (vote : Vote) → Among vote votes → IsAncestor dag c vote.block.0
+
+-- no child of the place is one from which all votes descend
+abbrev pub HasNoCommonChild : UnitGraph → List Vote → Option UnitNo → Type 0
+HasNoCommonChild dag votes place = (c : ℕ) → IsChild dag place c → IsCommon dag votes c → ⊥
 
 -- some vote is for the block or a descendant of it, and each other for one of its ancestors
 pub record IsOnTheWay (dag : UnitGraph) (votes : List Vote) (c : ℕ) : Type 0 where

@@ -1,14 +1,27 @@
-//! Ancestors of blocks, where nobody counts the jumps.
+//! Heights and ancestors of blocks, where nobody counts the jumps.
 
-ghost use Rattle.std.specs.Prelude.{◌≡◌, ◌<◌, ◌≤◌, IsTrue, unwrap_or};
+ghost use Rattle.std.specs.Prelude.{◌≡◌, ◌<◌, ◌≤◌, IsTrue, IfSome, unwrap_or};
 ghost use Rattle.hw_types.specs.Votes.{is_block};
 ghost use Rattle.hw_dag.specs.Dag.{unit_at, node_at, count_of};
+ghost use Rattle.hw_dag.specs.Admission.{IsGraph, height_above};
 ghost use Rattle.hw_dag.specs.Lanes.{IsAncestorAt};
 
 use hw_dag::{Dag, UnitNo};
 use hw_skip::Steps;
 use std::marker::Brand;
 use std::sync::ledger::{Blank, Ledger};
+
+/// The height of the children of a place.
+pub fn children_height(dag: &Dag, place: Option<UnitNo>) -> u64
+    requires graph { IsGraph dag.now }
+    requires known { IfSome place (λ no. no.0 < count_of dag.now) }
+    ensures { result ≡ height_above dag.now place }
+{
+    match place {
+        Some(block) => dag.unit(block).height().unwrap_or(0) + 1,
+        None => 0,
+    }
+}
 
 /// The ancestor of a block that has this height.
 pub fn ancestor_at(dag: &Dag, block: UnitNo, height: u64) -> UnitNo

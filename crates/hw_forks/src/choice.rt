@@ -1,15 +1,17 @@
 //! The fork choice.
 
-ghost use Rattle.std.specs.Prelude.{◌≡◌, ◌+◌, ◌<◌, ◌≤◌, length, None, OnOk, IfSome};
+ghost use Rattle.std.specs.Prelude.{◌≡◌, ◌+◌, ◌<◌, ◌≤◌, length, take, None, OnOk};
 ghost use Rattle.std.specs.Option.{option_map};
 ghost use Rattle.hw_types.specs.Votes.{fork_of};
 ghost use Rattle.hw_dag.specs.declared.numbers.UnitNo.{UnitNo as Number};
 ghost use Rattle.hw_dag.specs.Dag.{graph, observations, count_of, node_at, IsPanorama};
-ghost use Rattle.hw_dag.specs.Admission.{IsFork, IsGraph, height_above};
+ghost use Rattle.hw_dag.specs.Admission.{IsFork};
 ghost use Rattle.hw_dag.specs.Lanes.{AreWeights};
 ghost use Rattle.hw_forks.specs.Votes.{AreVotes};
 ghost use Rattle.hw_forks.specs.Walk.{WalksTo};
 
+use crate::ancestors::children_height;
+use crate::branch::keep_towards;
 use crate::start::start;
 use crate::tallies::best_child;
 use crate::votes::{Vote, gather};
@@ -81,7 +83,7 @@ impl Forks {
         if count == 0 {
             return None;
         }
-        walk(&self.votes[..count], self.tallies.as_mut_slice(), dag)
+        walk(votes, count, self.tallies.as_mut_slice(), dag)
     }
 }
 
@@ -92,30 +94,26 @@ const NO_VOTE: Vote = Vote {
     weight: 0,
 };
 
-// The end of the walk by these votes.
-fn walk(votes: &[Vote], tallies: &mut [u64], dag: &Dag) -> Option<UnitNo>
+// The end of the walk by the first votes, as many as `count` says. Each round loses one or more of
+// those that are kept: not all are towards one child of the highest block on the way to all.
+fn walk(votes: &mut [Vote], count: usize, tallies: &mut [u64], dag: &Dag) -> Option<UnitNo>
     requires room { count_of dag.now ≤ length tallies.old }
-    requires some { 0 < length votes.now }
-    requires votes { AreVotes dag.now votes.now }
-    ensures { WalksTo dag.now votes.now result None }
+    requires some { 0 < count }
+    requires within { count ≤ length votes.old }
+    requires votes { AreVotes dag.now (take count votes.old) }
+    ensures { WalksTo dag.now (take count votes.old) result None }
 {
-    let mut place = start(votes, dag);
-    let mut height = children_height(dag, place);
-    while let Some(child) = best_child(votes, tallies, dag, place, height) {
-        place = Some(child);
-        height += 1;
+    let mut kept = count;
+    let mut place = start(&votes[..kept], dag, None);
+    while let Some(child) = best_child(
+        &votes[..kept],
+        tallies,
+        dag,
+        place,
+        children_height(dag, place),
+    ) {
+        kept = keep_towards(&mut votes[..kept], dag, child);
+        place = start(&votes[..kept], dag, Some(child));
     }
     place
-}
-
-// The height of the children of a place.
-fn children_height(dag: &Dag, place: Option<UnitNo>) -> u64
-    requires graph { IsGraph dag.now }
-    requires known { IfSome place (λ no. no.0 < count_of dag.now) }
-    ensures { result ≡ height_above dag.now place }
-{
-    match place {
-        Some(block) => dag.unit(block).height().unwrap_or(0) + 1,
-        None => 0,
-    }
 }

@@ -2,14 +2,18 @@
 //! greatest score, where a child's score is the weight of the validators whose latest unit votes for it
 //! or a descendant of it. Ties go to the greater digest.
 //!
-//! The votes are gathered once, one for each Correct slot. Where all of them are on one chain, the walk
-//! goes to the highest, in one pass. Else it passes through the highest block from which all of them
-//! descend, which is found by bisection over heights. From there it goes up, one height after the
-//! other: the weights of the votes are added up at their ancestors of the next height, and the best
-//! child of the place is next. So no step is linear in the length of the chain below the votes.
+//! The votes are gathered once, one for each Correct slot. The walk jumps to the highest block on the
+//! way to all of them: where they are on one chain that is the block of the highest vote, found in one
+//! pass, else the highest block from which all descend, found by bisection over the heights above the
+//! place. At a branching the tallies decide: the weights of the votes are added up at their ancestors of
+//! the next height. Only the votes for the best child or descendants of it are kept, and from that child
+//! the walk jumps again. So each round ends the walk or loses a vote, a vote on an abandoned branch
+//! costs nothing further up, and no step is linear in the length of the chain or in how far the heights
+//! of the votes are apart.
 #![tactic(auto)]
 
 mod ancestors;
+mod branch;
 mod choice;
 mod laws;
 mod start;

@@ -1,27 +1,33 @@
-//! Where the walk can begin: a block that it passes through.
+//! Where the walk can go at once: a block that it passes through.
 
-ghost use Rattle.std.specs.Prelude.{◌≡◌, ◌<◌, ◌≤◌, length, IsTrue, IfSome};
+ghost use Rattle.std.specs.Prelude.{◌≡◌, ℕ, ◌<◌, ◌≤◌, length, IsTrue, IfSome, IfNone};
 ghost use Rattle.hw_types.specs.Below.{Among};
+ghost use Rattle.hw_dag.specs.Admission.{height_above};
 ghost use Rattle.hw_dag.specs.Lanes.{IsAncestor};
 ghost use Rattle.hw_forks.specs.declared.votes.Vote.{Vote as Voted};
-ghost use Rattle.hw_forks.specs.Votes.{AreVotes};
-ghost use Rattle.hw_forks.specs.Walk.{IsCommon, IsOnTheWay};
+ghost use Rattle.hw_forks.specs.Votes.{AreVotes, height_at};
+ghost use Rattle.hw_forks.specs.Walk.{IsCommon, IsOnTheWay, HasNoCommonChild};
 
-use crate::ancestors::ancestor_at;
+use crate::ancestors::{ancestor_at, children_height};
 use crate::votes::Vote;
 use hw_dag::{Dag, UnitNo};
 
-/// A block that the walk passes through, or None where it is to begin above all blocks.
-pub fn start(votes: &[Vote], dag: &Dag) -> Option<UnitNo>
+/// The highest block on the way to all votes, which descend from the place: where they are on one chain
+/// the block of the highest vote, else the highest block from which all descend, or None where there is
+/// no such block.
+pub fn start(votes: &[Vote], dag: &Dag, place: Option<UnitNo>) -> Option<UnitNo>
     requires some { 0 < length votes.now }
     requires votes { AreVotes dag.now votes.now }
-    ensures { IfSome result (λ no. IsOnTheWay dag.now votes.now no.0) }
+    requires place { IfSome place (λ no. IsCommon dag.now votes.now no.0) }
+    ensures passed { IfSome result (λ no. IsOnTheWay dag.now votes.now no.0) }
+    ensures highest { HasNoCommonChild dag.now votes.now result }
+    ensures up { height_above dag.now place ≤ height_above dag.now result }
 {
     let top = highest(votes);
     if are_on_one_chain(votes, dag, top) {
         return Some(top.block);
     }
-    common_ancestor(votes, dag, least_height(votes))
+    common_ancestor(votes, dag, place)
 }
 
 // A vote for a block that no other vote's is higher than.
@@ -67,17 +73,20 @@ fn are_on_one_chain(votes: &[Vote], dag: &Dag, top: Vote) -> bool
     true
 }
 
-// The highest block from which all votes descend. Where they have one ancestor at a height, they have
-// one at each lesser height too, so it is found by bisection.
-fn common_ancestor(votes: &[Vote], dag: &Dag, least: u64) -> Option<UnitNo>
+// The highest block from which all votes descend, as they do from the place. Where they have one
+// ancestor at a height, they have one at each lesser height too, so it is found by bisection over the
+// heights above the place.
+fn common_ancestor(votes: &[Vote], dag: &Dag, place: Option<UnitNo>) -> Option<UnitNo>
     requires some { 0 < length votes.now }
     requires votes { AreVotes dag.now votes.now }
-    requires least { (vote : Voted) → Among vote votes.now → least ≤ vote.height }
-    ensures { IfSome result (λ no. IsCommon dag.now votes.now no.0) }
+    requires place { IfSome place (λ no. IsCommon dag.now votes.now no.0) }
+    ensures common { IfSome result (λ no. IsCommon dag.now votes.now no.0) }
+    ensures highest { HasNoCommonChild dag.now votes.now result }
+    ensures up { height_above dag.now place ≤ height_above dag.now result }
 {
-    let mut found = None;
-    let mut low = 0;
-    let mut high = least;
+    let mut found = place;
+    let mut low = children_height(dag, place);
+    let mut high = least_height(votes);
     while low <= high {
         let middle = low + (high - low) / 2;
         match agreed(votes, dag, middle) {
@@ -97,7 +106,9 @@ fn agreed(votes: &[Vote], dag: &Dag, height: u64) -> Option<UnitNo>
     requires some { 0 < length votes.now }
     requires votes { AreVotes dag.now votes.now }
     requires within { (vote : Voted) → Among vote votes.now → height ≤ vote.height }
-    ensures { IfSome result (λ no. IsCommon dag.now votes.now no.0) }
+    ensures common { IfSome result (λ no. IsCommon dag.now votes.now no.0) }
+    ensures height { IfSome result (λ no. height_at dag.now no.0 ≡ height) }
+    ensures none { IfNone result ((c : ℕ) → IsCommon dag.now votes.now c → height_at dag.now c < height) }
 {
     let block = ancestor_at(dag, votes[0].block, height);
     for vote in votes {

@@ -1,7 +1,9 @@
-use Rattle.std.proofs.Common.{◌<◌, length, get_or, arith}
+use Rattle.std.proofs.Common.{◌<◌, ℕ, length, get_or, Option, true, false, not, sym, ap, ◌≡◌, ◌∙◌, arith, eq-eqb}
+use Rattle.std.specs.Prelude.{unwrap_or}
 use Rattle.hw_dag.specs.Lanes.{IsAncestor}
 use Rattle.hw_forks.specs.declared.votes.Vote.{Vote}
 use Rattle.hw_forks.proofs.LoopLaws.{no_vote, so_far_all, vote_is_among}
+use Rattle.hw_forks.proofs.BranchLaws.{common_below}
 use Rattle.hw_forks.proofs.start.agreed.Goals as goal
 
 pub ancestor_at-block-requires-clause-known : goal.ancestor_at-block-requires-clause-known
@@ -28,9 +30,19 @@ ancestor_at-requires-clause-within c =
     let le = c.requires.within (get_or c.args.votes.now c.loop-vote.vote-index no_vote) m in
     omega arith
 
-pub returns : goal.returns
-returns c = record {
+pub returns-clause-common : goal.returns-clause-common
+returns-clause-common c = record {
   known = c.ancestor_at-block.ensures.known;
   block = c.ancestor_at-block.ensures.block;
   over = so_far_all (λ (v : Vote). IsAncestor c.args.dag.now c.ancestor_at-block.result.0 v.block.0) c.args.votes.now c.loop-vote.vote-index (omega arith) c.loop-vote.invariant;
 }
+
+pub returns-clause-height : goal.returns-clause-height
+returns-clause-height c = ap (λ (o : Option ℕ). unwrap_or o 0) c.ancestor_at-block.ensures.height_is
+
+pub returns-then-ne-clause-none : goal.returns-then-ne-clause-none
+returns-then-ne-clause-none c =
+    let lt : c.loop-vote.vote-index < length c.args.votes.now = omega arith in
+    common_below c.args.dag.now c.requires.votes.graph c.args.votes.now c.requires.votes c.args.height c.ancestor_at-block.result.0 c.ancestor_at.result.0 (get_or c.args.votes.now 0 no_vote) (get_or c.args.votes.now c.loop-vote.vote-index no_vote)
+    (vote_is_among c.args.votes.now 0 c.requires.some) (vote_is_among c.args.votes.now c.loop-vote.vote-index lt) c.ancestor_at-block.ensures c.ancestor_at.ensures
+    (λ e. let same = eq-eqb c.ancestor_at.result.0 c.ancestor_at-block.result.0 e in let never : true ≡ false = sym c.if-ne.true ∙ c.ne.ensures ∙ ap not same in cc)

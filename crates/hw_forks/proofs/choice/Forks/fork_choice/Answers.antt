@@ -1,5 +1,4 @@
-use Rattle.std.proofs.Common.{◌≡◌, ℕ, List, [], None, take, sym, ap, subst, ◌∙◌, arith}
-use Rattle.std.proofs.lemmas.List.{with_items_is}
+use Rattle.std.proofs.Common.{◌≡◌, ℕ, List, [], None, take, sym, ap, subst, ◌∙◌}
 use Rattle.hw_forks.specs.declared.votes.Vote.{Vote}
 use Rattle.hw_forks.specs.Votes.{votes_of, AreVotes}
 use Rattle.hw_forks.specs.Walk.{WalksTo}
@@ -24,11 +23,11 @@ returns-then-count-eq0-clause-is_fork c =
 pub returns-clause-fork : goal.returns-clause-fork
 returns-clause-fork c =
     let votes : take c.gather-count.result c.gather-count.new.votes ≡ votes_of c.args.dag.now c.args.weights.now c.args.panorama.now c.args.dag.now.validators = c.gather-count.ensures.votes ∙ ap (λ (ws : List ℕ). votes_of c.args.dag.now ws c.args.panorama.now c.args.dag.now.validators) c.as_slice.ensures in
-    let walked : WalksTo c.args.dag.now (votes_of c.args.dag.now c.args.weights.now c.args.panorama.now c.args.dag.now.validators) c.walk.result None = subst (λ (vs : List Vote). WalksTo c.args.dag.now vs c.walk.result None) (ap (λ (vs : List Vote). take c.gather-count.result vs) (c.deref.ensures.value ∙ with_items_is c.self.inside.votes c.gather-count.new.votes (let kept = c.gather-count.auto.votes in let long = c.as_mut_slice-votes.ensures.len in omega arith)) ∙ votes) c.walk.ensures in
+    let walked : WalksTo c.args.dag.now (votes_of c.args.dag.now c.args.weights.now c.args.panorama.now c.args.dag.now.validators) c.walk.result None = subst (λ (vs : List Vote). WalksTo c.args.dag.now vs c.walk.result None) votes c.walk.ensures in
     walk_is_fork c.args.weights.now c.args.dag.now c.gather-count.ensures.are.graph c.requires.weights c.args.panorama.now c.requires.panorama c.walk.result walked
 
 pub returns-clause-is_fork : goal.returns-clause-is_fork
 returns-clause-is_fork c =
     let votes : take c.gather-count.result c.gather-count.new.votes ≡ votes_of c.args.dag.now c.args.weights.now c.args.panorama.now c.args.dag.now.validators = c.gather-count.ensures.votes ∙ ap (λ (ws : List ℕ). votes_of c.args.dag.now ws c.args.panorama.now c.args.dag.now.validators) c.as_slice.ensures in
-    let walked : WalksTo c.args.dag.now (votes_of c.args.dag.now c.args.weights.now c.args.panorama.now c.args.dag.now.validators) c.walk.result None = subst (λ (vs : List Vote). WalksTo c.args.dag.now vs c.walk.result None) (ap (λ (vs : List Vote). take c.gather-count.result vs) (c.deref.ensures.value ∙ with_items_is c.self.inside.votes c.gather-count.new.votes (let kept = c.gather-count.auto.votes in let long = c.as_mut_slice-votes.ensures.len in omega arith)) ∙ votes) c.walk.ensures in
+    let walked : WalksTo c.args.dag.now (votes_of c.args.dag.now c.args.weights.now c.args.panorama.now c.args.dag.now.validators) c.walk.result None = subst (λ (vs : List Vote). WalksTo c.args.dag.now vs c.walk.result None) votes c.walk.ensures in
     end_is_fork c.args.dag.now c.args.weights.now c.args.panorama.now c.gather-count.ensures.are.graph c.requires.panorama (subst (AreVotes c.args.dag.now) votes c.gather-count.ensures.are) c.walk.result walked

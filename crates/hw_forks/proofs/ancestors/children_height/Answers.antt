@@ -3,7 +3,7 @@ use Rattle.std.specs.Prelude.{unwrap_or, IfSome}
 use Rattle.hw_dag.specs.declared.numbers.UnitNo.{UnitNo}
 use Rattle.hw_dag.specs.Dag.{SettledUnit, count_of}
 use Rattle.hw_dag.proofs.KeptLaws.{height_bound}
-use Rattle.hw_forks.proofs.choice.children_height.Goals as goal
+use Rattle.hw_forks.proofs.ancestors.children_height.Goals as goal
 
 pub overflow_add-result : goal.overflow_add-result
 overflow_add-result c =
