@@ -5,7 +5,8 @@ use Rattle.std.specs.Prelude.{is_some}
 use Rattle.hw_types.specs.declared.unit.Obs.{Obs}
 use Rattle.hw_types.specs.declared.unit.Obs.TheVariants.{Absent}
 use Rattle.hw_types.specs.declared.unit.SignedUnit.{SignedUnit}
-use Rattle.hw_types.specs.Graph.{Node, is_faulty_mark, is_absent, slot, cites, observed, latest, is_consistent}
+use Rattle.std.specs.List.{list_any}
+use Rattle.hw_types.specs.Graph.{Node, is_correct, is_faulty_mark, is_absent, slot, cites, observed, latest, is_consistent}
 use Rattle.hw_types.specs.Below.{Among}
 use Rattle.hw_types.specs.Votes.{is_block}
 use Rattle.hw_types.proofs.WordsLaws.{never_both}
@@ -44,13 +45,13 @@ module _ (dag : UnitGraph) (g : IsGraph dag) (panorama : List View) (hp : IsPano
       go view.Faulty e = absurd (let q : None ≡ Some x = found view.Faulty e in cc)
       go (view.Correct number) e = (number, e, (let q : Some (node_at dag number.0) ≡ Some x = sym (observed_number dag g number (hp.known v number e)) ∙ found (view.Correct number) e in cc))
 
-  pub keeps_rules : (u : Node) → u.unit.panorama ≡ observations dag panorama → is_block u ≡ true → IsNextSeq dag (view_at panorama u.unit.creator) u.unit.seq
+  pub keeps_rules : (u : Node) → u.unit.panorama ≡ observations dag panorama → (is_block u ≡ false → list_any is_correct u.unit.panorama ≡ true) → IsNextSeq dag (view_at panorama u.unit.creator) u.unit.seq
       → is_consistent (graph dag) (observations dag panorama) ≡ true → ((w : Node) → Among w (graph dag) → cites (observations dag panorama) w ≡ true → w.unit.time ≤ u.unit.time)
       → KeepsRules (graph dag) u
-  keeps_rules u same block seq consistent timely = record {
+  keeps_rules u same sighted seq consistent timely = record {
     unmarked = unmarked (view_at panorama u.unit.creator) refl;
     first = λ t. first (view_at panorama u.unit.creator) refl t;
-    sighted = λ f. absurd (never_both (is_block u) block f);
+    sighted = sighted;
     creators = λ v x h. creator v x (subst (λ (os : List Obs). latest (graph dag) os v ≡ Some x) same h);
     next = λ p h. next p (latest_number u.unit.creator p (subst (λ (os : List Obs). latest (graph dag) os u.unit.creator ≡ Some p) same h));
     consistent = subst (λ (os : List Obs). is_consistent (graph dag) os ≡ true) (sym same) consistent;
@@ -124,4 +125,4 @@ pub prepared_keeps_rules : (dag : UnitGraph) → IsGraph dag → (panorama : Lis
     → is_consistent (graph dag) (observations dag panorama) ≡ true → ((w : Node) → Among w (graph dag) → cites (observations dag panorama) w ≡ true → w.unit.time ≤ signed.unit.time)
     → KeepsRules (graph dag) (node_prepared p)
 prepared_keeps_rules dag g panorama hp p signed e same block seq consistent timely =
-    subst (λ (s : SignedUnit). KeepsRules (graph dag) (record { digest = p.digest; unit = s.unit })) (sym e) (keeps_rules dag g panorama hp (record { digest = p.digest; unit = signed.unit }) same block seq consistent timely)
+    subst (λ (s : SignedUnit). KeepsRules (graph dag) (record { digest = p.digest; unit = s.unit })) (sym e) (keeps_rules dag g panorama hp (record { digest = p.digest; unit = signed.unit }) same (λ f. absurd (never_both (is_some signed.unit.value) block f)) seq consistent timely)
