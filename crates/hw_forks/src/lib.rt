@@ -18,8 +18,6 @@ mod choice;
 mod laws;
 mod start;
 mod tallies;
-#[cfg(test)]
-mod tests;
 mod votes;
 
 pub use choice::Forks;

@@ -15,9 +15,9 @@ use Rattle.hw_dag.specs.Admission.{PreparedUnit, IsFor, IsGraph, IsResolved, Kee
 use Rattle.hw_dag.proofs.NodeLaws.{among_node}
 use Rattle.hw_dag.proofs.SlotLaws.{length-observations, cited_number}
 use Rattle.hw_panorama.proofs.OrderLaws.{correct_inside}
-use Rattle.hw_panorama.proofs.KeptLaws.{IsNextSeq, keeps_rules}
 use Rattle.hw_naivety.specs.Naivety.{KeepsEndorsed}
-use Rattle.hw_graph_tests.specs.Kept.{FitsSlot, SlotsFit}
+use Rattle.hw_graph_tests.specs.Kept.{FitsSlot, SlotsFit, IsNextSeq}
+use Rattle.hw_graph_tests.proofs.RuleLaws.{keeps_rules}
 
 -- ---- slots that were tested one after the other
 

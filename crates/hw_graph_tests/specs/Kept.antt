@@ -3,8 +3,9 @@ use Rattle.std.specs.Prelude.{◌≡◌, ℕ, ◌+◌, ◌<◌, ◌≤◌, true,
 use Rattle.std.specs.List.{list_all}
 use Rattle.hw_types.specs.Rules.{has_digest}
 use Rattle.hw_dag.specs.declared.numbers.UnitNo.{UnitNo}
+use Rattle.hw_dag.specs.declared.numbers.View.{View}
 use Rattle.hw_dag.specs.declared.numbers.View.TheVariants as view
-use Rattle.hw_dag.specs.Dag.{UnitGraph, unit_at, count_of, graph, view_at, creator_of, IsPanorama}
+use Rattle.hw_dag.specs.Dag.{UnitGraph, unit_at, count_of, graph, view_at, creator_of, seq_of, IsPanorama}
 use Rattle.hw_dag.specs.Admission.{PreparedUnit, IsFor, IsNew, IsResolved, KeepsRules, node_prepared}
 use Rattle.hw_dag.specs.Lanes.{AreWeights}
 use Rattle.hw_naivety.specs.Naivety.{NaiveTips, KeepsEndorsed, IsNoted}
@@ -37,6 +38,12 @@ pub record FitsSlot (dag : UnitGraph) (p : PreparedUnit) (v : ℕ) (number : Uni
 -- the cited units of the first slots fit
 abbrev pub SlotsFit : UnitGraph → PreparedUnit → ℕ → Type 0
 SlotsFit dag p count = (v : ℕ) (number : UnitNo) → v < count → view_at p.panorama v ≡ view.Correct number → FitsSlot dag p v number
+
+-- the number of a unit that observes this of its own creator
+abbrev pub IsNextSeq : UnitGraph → View → ℕ → Type 0
+IsNextSeq dag view.Absent seq = seq ≡ 0
+IsNextSeq dag (view.Correct number) seq = seq ≡ seq_of (unit_at dag number.0) + 1
+IsNextSeq dag view.Faulty seq = ⊥
 
 -- a unit that may come in, unless it has a naive fork
 pub record MayComeIn (dag : UnitGraph) (p : PreparedUnit) : Type 0 where

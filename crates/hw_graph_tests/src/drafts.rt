@@ -29,6 +29,26 @@ pub struct Row<'a> {
     pub endorsed: &'a [&'a str],
 }
 
+/// A block.
+pub fn block<'a>(name: &'a str, creator: u32, time: u64, cites: &'a [&'a str]) -> Row<'a> {
+    Row {
+        name,
+        creator,
+        time,
+        cites,
+        is_block: true,
+        endorsed: &[],
+    }
+}
+
+/// A unit without a value.
+pub fn vote<'a>(name: &'a str, creator: u32, time: u64, cites: &'a [&'a str]) -> Row<'a> {
+    Row {
+        is_block: false,
+        ..block(name, creator, time, cites)
+    }
+}
+
 /// A short word as a name.
 pub fn named(word: &str) -> Digest {
     let mut bytes = [0; 32];

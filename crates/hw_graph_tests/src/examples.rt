@@ -1,54 +1,13 @@
 //! Examples that were worked by hand.
 
-use crate::drafts::{Row, named, observations};
+use crate::drafts::{Row, block, named, observations, vote};
 use crate::graph::{Graph, Outcome};
+use crate::settled::{assert_admitted, settle_all};
 use hw_dag::UnitNo;
 use hw_types::OutOfMemory;
 use std::alloc::Global;
 use std::process::Abort;
 use std::test::Fail;
-
-/// What becomes of each of the rows, in order.
-fn settle_all(
-    rt: &impl Abort,
-    alloc: Global,
-    graph: &mut Graph,
-    rows: &[Row<'_>],
-) -> Result<Vec<Outcome>, OutOfMemory> {
-    let mut outcomes = Vec::new(alloc);
-    for row in rows {
-        outcomes.push(graph.settle_row(rt, alloc, row)?)?;
-    }
-    Ok(outcomes)
-}
-
-/// Ends the test unless the units were admitted with these numbers.
-fn assert_admitted(rt: &impl Abort, outcomes: &[Outcome]) {
-    assert!(rt; outcomes.len() < 1_000);
-    for number in 0..outcomes.len() as u32 {
-        assert!(rt; outcomes[number as usize] == Outcome::Admitted(UnitNo(number)));
-    }
-}
-
-/// A block.
-fn block<'a>(name: &'a str, creator: u32, time: u64, cites: &'a [&'a str]) -> Row<'a> {
-    Row {
-        name,
-        creator,
-        time,
-        cites,
-        is_block: true,
-        endorsed: &[],
-    }
-}
-
-/// A unit without a value.
-fn vote<'a>(name: &'a str, creator: u32, time: u64, cites: &'a [&'a str]) -> Row<'a> {
-    Row {
-        is_block: false,
-        ..block(name, creator, time, cites)
-    }
-}
 
 // First 5 against 4 for a0, then 3 against 2 for x.
 #[test]

@@ -13,8 +13,12 @@ mod examples;
 #[cfg(test)]
 mod graph;
 #[cfg(test)]
+mod panoramas;
+#[cfg(test)]
 mod plain;
 #[cfg(test)]
 mod random;
+#[cfg(test)]
+mod settled;
 #[cfg(test)]
 mod tested;

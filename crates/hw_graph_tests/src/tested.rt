@@ -6,9 +6,8 @@ ghost use Rattle.hw_types.specs.Graph.{is_correct};
 ghost use Rattle.hw_types.specs.Rules.{has_digest};
 ghost use Rattle.hw_dag.specs.Dag.{graph, view_at, IsPanorama};
 ghost use Rattle.hw_dag.specs.Admission.{IsFor, IsResolved, KeepsRules, node_prepared};
-ghost use Rattle.hw_panorama.proofs.KeptLaws.{IsNextSeq};
 ghost use Rattle.hw_naivety.specs.Naivety.{KeepsEndorsed};
-ghost use Rattle.hw_graph_tests.specs.Kept.{SlotsFit};
+ghost use Rattle.hw_graph_tests.specs.Kept.{SlotsFit, IsNextSeq};
 
 use hw_dag::{Dag, Panorama, Prepared, View};
 use hw_panorama::consistent;

@@ -3,4 +3,3 @@ pub mod OrderLaws
 pub mod JoinLaws
 pub mod NewestLaws
 pub mod JoiningLaws
-pub mod KeptLaws

@@ -12,8 +12,6 @@
 mod consistency;
 mod joining;
 mod order;
-#[cfg(test)]
-mod tests;
 
 pub use consistency::consistent;
 pub use joining::join;

@@ -1,0 +1,157 @@
+//! Panoramas of a graph with a fork, joined and compared:
+//!
+//! ```text
+//! a0 <- a1 <- c0
+//! a0 <- a2        a1 and a2 are a fork
+//! a0 <- b0 <- c0
+//! ```
+
+ghost use Rattle.std.specs.Prelude.{◌≡◌, true, IfOk};
+ghost use Rattle.hw_types.specs.Graph.{is_consistent};
+ghost use Rattle.hw_dag.specs.Dag.{graph as graph_of, observations as observed_in, IsPanorama};
+
+use crate::drafts::{block, observations};
+use crate::graph::Graph;
+use crate::settled::{assert_admitted, settle_all};
+use hw_dag::{Panorama, View};
+use hw_panorama::{at_most, consistent, join};
+use hw_types::OutOfMemory;
+use std::alloc::Global;
+use std::process::Abort;
+use std::test::Fail;
+
+/// The graph of the picture.
+fn picture(rt: &impl Abort, alloc: Global) -> Result<Graph, OutOfMemory> {
+    let mut graph = Graph::new(rt, alloc, &[1, 1, 1])?;
+    let rows = [
+        block("a0", 0, 16, &["-", "-", "-"]),
+        block("a1", 0, 17, &["a0", "-", "-"]),
+        block("a2", 0, 18, &["a0", "-", "-"]),
+        block("b0", 1, 19, &["a0", "-", "-"]),
+        block("c0", 2, 20, &["a1", "b0", "-"]),
+    ];
+    let outcomes = settle_all(rt, alloc, &mut graph, &rows)?;
+    assert_admitted(rt, outcomes.as_slice());
+    Ok(graph)
+}
+
+/// The panorama of these words.
+fn panorama(
+    rt: &impl Abort,
+    alloc: Global,
+    graph: &Graph,
+    words: &[&str],
+) -> Result<Panorama, OutOfMemory>
+    ensures { IfOk result (λ panorama. IsPanorama graph.now.dag panorama) }
+{
+    let observed = observations(alloc, words)?;
+    graph.panorama(rt, alloc, observed.as_slice())
+}
+
+/// The panorama of these words, which is consistent.
+fn consistent_panorama(
+    rt: &impl Abort,
+    alloc: Global,
+    graph: &Graph,
+    words: &[&str],
+) -> Result<Panorama, OutOfMemory>
+    ensures panorama { IfOk result (λ panorama. IsPanorama graph.now.dag panorama) }
+    ensures consistent { IfOk result (λ panorama. is_consistent (graph_of graph.now.dag) (observed_in graph.now.dag panorama) ≡ true) }
+{
+    let panorama = panorama(rt, alloc, graph, words)?;
+    assert!(rt; consistent(graph.dag(), &panorama));
+    Ok(panorama)
+}
+
+/// Ends the test unless the two have the same slots.
+fn assert_same(rt: &impl Abort, graph: &Graph, left: &Panorama, right: &Panorama)
+    requires left { IsPanorama graph.now.dag left.now }
+    requires right { IsPanorama graph.now.dag right.now }
+{
+    for validator in 0..graph.dag().validators() {
+        assert_eq!(rt; left.get(validator), right.get(validator));
+    }
+}
+
+/// Ends the test unless the first two join to the third.
+fn assert_join(
+    rt: &impl Abort,
+    alloc: Global,
+    graph: &Graph,
+    left: [&str; 3],
+    right: [&str; 3],
+    want: [&str; 3],
+) -> Result<(), OutOfMemory> {
+    let mut joined = consistent_panorama(rt, alloc, graph, &left)?;
+    let other = consistent_panorama(rt, alloc, graph, &right)?;
+    join(graph.dag(), &mut joined, &other);
+    let want = panorama(rt, alloc, graph, &want)?;
+    assert_same(rt, graph, &joined, &want);
+    Ok(())
+}
+
+#[test]
+fn two_lanes_of_a_fork_join_to_a_fault(rt: HostRuntime) -> Result<(), Fail> {
+    let alloc = rt.alloc();
+    let graph = picture(&rt, alloc)?;
+    for (left, right, want) in [
+        (["a1", "-", "-"], ["a2", "b0", "-"], ["!", "b0", "-"]),
+        (["a2", "b0", "-"], ["a1", "b0", "-"], ["!", "b0", "-"]),
+        (["a0", "b0", "-"], ["a2", "-", "-"], ["a2", "b0", "-"]),
+        (["a1", "-", "-"], ["a0", "b0", "-"], ["a1", "b0", "-"]),
+        (["!", "-", "-"], ["a1", "b0", "-"], ["!", "b0", "-"]),
+        (["-", "-", "-"], ["a1", "-", "-"], ["a1", "-", "-"]),
+    ] {
+        assert_join(&rt, alloc, &graph, left, right, want)?;
+    }
+    Ok(())
+}
+
+#[test]
+fn a_fault_is_above_both_lanes(rt: HostRuntime) -> Result<(), Fail> {
+    let alloc = rt.alloc();
+    let graph = picture(&rt, alloc)?;
+    for (left, right, want) in [
+        (["a0", "-", "-"], ["a1", "-", "-"], true),
+        (["a1", "-", "-"], ["a0", "b0", "-"], false),
+        (["a1", "b0", "-"], ["a2", "b0", "-"], false),
+        (["a1", "b0", "-"], ["!", "b0", "-"], true),
+        (["!", "-", "-"], ["a1", "b0", "-"], false),
+        (["a1", "b0", "-"], ["a1", "-", "-"], false),
+    ] {
+        let left = panorama(&rt, alloc, &graph, &left)?;
+        let right = panorama(&rt, alloc, &graph, &right)?;
+        assert_eq!(rt; at_most(graph.dag(), &left, &right), want);
+    }
+    Ok(())
+}
+
+#[test]
+fn a_panorama_has_what_its_units_have_seen(rt: HostRuntime) -> Result<(), Fail> {
+    let alloc = rt.alloc();
+    let graph = picture(&rt, alloc)?;
+    for (words, want) in [
+        (["-", "-", "-"], true),
+        (["-", "b0", "-"], false),
+        (["a2", "b0", "-"], true),
+        (["a1", "b0", "c0"], true),
+        (["a0", "b0", "c0"], false),
+        (["a2", "b0", "c0"], false),
+        (["!", "b0", "c0"], true),
+        (["a1", "-", "c0"], false),
+    ] {
+        let panorama = panorama(&rt, alloc, &graph, &words)?;
+        assert_eq!(rt; consistent(graph.dag(), &panorama), want);
+    }
+    Ok(())
+}
+
+#[test]
+fn a_copied_panorama_has_the_same_slots(rt: HostRuntime) -> Result<(), Fail> {
+    let mut panorama = Panorama::new(rt.alloc(), 2)?;
+    panorama.set(1, View::Faulty);
+    let copy = panorama.copy()?;
+    assert_eq!(rt; copy.get(0), View::Absent);
+    assert_eq!(rt; copy.get(1), View::Faulty);
+    Ok(())
+}

@@ -1,6 +1,0 @@
--- Each slot fits.
-use Rattle.hw_panorama.proofs.KeptLaws.{IsFitting}
-use Rattle.hw_panorama.proofs.tests.seen.Given as goal
-
-abbrev pub invariant-loop-validator : goal.invariant-loop-validator
-invariant-loop-validator g l = IsFitting l.dag l.panorama
