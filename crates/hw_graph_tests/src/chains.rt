@@ -72,7 +72,24 @@ fn cast(
     Ok(())
 }
 
-/// The fork choice where validator 0 has made the chain and the others have cast these votes.
+/// The fork choice where validator 0 makes the chain and the others cast these votes.
+fn choice_in(
+    rt: &impl Abort,
+    alloc: Global,
+    graph: &mut Graph,
+    votes: [Vote; 3],
+) -> Result<Option<UnitNo>, OutOfMemory> {
+    grow_chain(rt, alloc, graph)?;
+    let mut observed = [Obs::Correct(numbered(LENGTH - 1)); 4];
+    for creator in 1..4 {
+        cast(rt, alloc, graph, creator, votes[creator as usize - 1])?;
+        observed[creator as usize] = Obs::Correct(numbered(VOTES + creator));
+    }
+    let panorama = graph.panorama(rt, alloc, &observed)?;
+    Ok(graph.fork_choice(&panorama))
+}
+
+/// The same with validators of these weights.
 fn choice(
     rt: &impl Abort,
     alloc: Global,
@@ -80,14 +97,7 @@ fn choice(
     votes: [Vote; 3],
 ) -> Result<Option<UnitNo>, OutOfMemory> {
     let mut graph = Graph::new(rt, alloc, &weights)?;
-    grow_chain(rt, alloc, &mut graph)?;
-    let mut observed = [Obs::Correct(numbered(LENGTH - 1)); 4];
-    for creator in 1..4 {
-        cast(rt, alloc, &mut graph, creator, votes[creator as usize - 1])?;
-        observed[creator as usize] = Obs::Correct(numbered(VOTES + creator));
-    }
-    let panorama = graph.panorama(rt, alloc, &observed)?;
-    Ok(graph.fork_choice(&panorama))
+    choice_in(rt, alloc, &mut graph, votes)
 }
 
 #[test]

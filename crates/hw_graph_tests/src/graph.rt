@@ -1,10 +1,10 @@
 //! Graphs that are built unit by unit, with all that a node keeps beside them.
 
-ghost use Rattle.std.specs.Prelude.{◌≡◌, ◌+◌, ◌*◌, ◌≤◌, ◌<◌, sum, All, length, IfOk, OnOk};
+ghost use Rattle.std.specs.Prelude.{◌≡◌, ◌+◌, ◌*◌, ◌≤◌, ◌<◌, [], sum, All, length, IfOk, OnOk};
 ghost use Rattle.hw_types.specs.Graph.{Node};
-ghost use Rattle.hw_dag.specs.Dag.{graph, count_of, IsPanorama};
+ghost use Rattle.hw_dag.specs.Dag.{UnitGraph, graph, count_of, IsPanorama};
 ghost use Rattle.hw_dag.specs.Admission.{IsGraph, node_prepared};
-ghost use Rattle.hw_naivety.specs.Naivety.{HasNoNaiveFork};
+ghost use Rattle.hw_naivety.specs.Naivety.{HasNoNaiveFork, IsNoted};
 ghost use Rattle.hw_panorama.specs.Views.{IsKnownView};
 ghost use Rattle.hw_graph_tests.specs.Kept.{MayComeIn};
 
@@ -59,17 +59,12 @@ impl Graph {
     pub fn new(rt: &impl Abort, alloc: Global, weights: &[u64]) -> Result<Graph, OutOfMemory> {
         assert!(rt; weights.len() < 100);
         let validators = weights.len() as u32;
-        let mut dag = Dag::new(alloc, validators)?;
-        dag.reserve(ROOM)?;
-        let mut forks = Forks::new(alloc);
-        forks.reserve(ROOM)?;
-        let mut naivety = Naivety::new(alloc, validators)?;
-        naivety.reserve(ROOM)?;
-        let mut marks = Marks::new(alloc);
-        marks.reserve(ROOM)?;
+        let weights = listed(rt, alloc, weights)?;
+        let (forks, marks) = scratch(alloc)?;
+        let naivety = no_tips(alloc, validators)?;
         Ok(Graph {
-            dag,
-            weights: listed(rt, alloc, weights)?,
+            dag: empty(alloc, validators)?,
+            weights,
             forks,
             naivety,
             marks,
@@ -212,6 +207,40 @@ impl Graph {
             Obs::Faulty => View::Faulty,
         }
     }
+}
+
+/// A graph without units, with room.
+fn empty(alloc: Global, validators: u32) -> Result<Dag, OutOfMemory>
+    ensures empty { IfOk result (λ dag. dag.units ≡ []) }
+    ensures validators { IfOk result (λ dag. dag.validators ≡ validators) }
+    ensures room { IfOk result (λ dag. 3_000 ≤ dag.spare) }
+{
+    let mut dag = Dag::new(alloc, validators)?;
+    dag.reserve(ROOM)?;
+    Ok(dag)
+}
+
+/// Scratch for fork choices and for walks.
+fn scratch(alloc: Global) -> Result<(Forks, Marks), OutOfMemory>
+    ensures forks { IfOk result (λ scratch. 3_000 ≤ scratch.0) }
+    ensures marks { IfOk result (λ scratch. 3_000 ≤ scratch.1) }
+{
+    let mut forks = Forks::new(alloc);
+    forks.reserve(ROOM)?;
+    let mut marks = Marks::new(alloc);
+    marks.reserve(ROOM)?;
+    Ok((forks, marks))
+}
+
+/// Nothing was noted so far, with room.
+fn no_tips(alloc: Global, validators: u32) -> Result<Naivety, OutOfMemory>
+    ensures none { IfOk result (λ naivety. naivety.count ≡ 0) }
+    ensures room { IfOk result (λ naivety. 3_000 ≤ naivety.spare) }
+    ensures noted { IfOk result (λ naivety. (dag : UnitGraph) → dag.validators ≡ validators → IsNoted naivety dag) }
+{
+    let mut naivety = Naivety::new(alloc, validators)?;
+    naivety.reserve(ROOM)?;
+    Ok(naivety)
 }
 
 /// The weights as a list. Each is from 1 to 999.

@@ -10,9 +10,9 @@ ghost use Rattle.std.specs.Prelude.{◌≡◌, true, IfOk};
 ghost use Rattle.hw_types.specs.Graph.{is_consistent};
 ghost use Rattle.hw_dag.specs.Dag.{graph as graph_of, observations as observed_in, IsPanorama};
 
-use crate::drafts::{block, observations};
+use crate::drafts::block;
 use crate::graph::Graph;
-use crate::settled::{assert_admitted, settle_all};
+use crate::settled::{admit_all, panorama_of};
 use hw_dag::{Panorama, View};
 use hw_panorama::{at_most, consistent, join};
 use hw_types::OutOfMemory;
@@ -20,9 +20,8 @@ use std::alloc::Global;
 use std::process::Abort;
 use std::test::Fail;
 
-/// The graph of the picture.
-fn picture(rt: &impl Abort, alloc: Global) -> Result<Graph, OutOfMemory> {
-    let mut graph = Graph::new(rt, alloc, &[1, 1, 1])?;
+/// The units of the picture.
+fn draw(rt: &impl Abort, alloc: Global, graph: &mut Graph) -> Result<(), OutOfMemory> {
     let rows = [
         block("a0", 0, 16, &["-", "-", "-"]),
         block("a1", 0, 17, &["a0", "-", "-"]),
@@ -30,22 +29,7 @@ fn picture(rt: &impl Abort, alloc: Global) -> Result<Graph, OutOfMemory> {
         block("b0", 1, 19, &["a0", "-", "-"]),
         block("c0", 2, 20, &["a1", "b0", "-"]),
     ];
-    let outcomes = settle_all(rt, alloc, &mut graph, &rows)?;
-    assert_admitted(rt, outcomes.as_slice());
-    Ok(graph)
-}
-
-/// The panorama of these words.
-fn panorama(
-    rt: &impl Abort,
-    alloc: Global,
-    graph: &Graph,
-    words: &[&str],
-) -> Result<Panorama, OutOfMemory>
-    ensures { IfOk result (λ panorama. IsPanorama graph.now.dag panorama) }
-{
-    let observed = observations(alloc, words)?;
-    graph.panorama(rt, alloc, observed.as_slice())
+    admit_all(rt, alloc, graph, &rows)
 }
 
 /// The panorama of these words, which is consistent.
@@ -58,7 +42,7 @@ fn consistent_panorama(
     ensures panorama { IfOk result (λ panorama. IsPanorama graph.now.dag panorama) }
     ensures consistent { IfOk result (λ panorama. is_consistent (graph_of graph.now.dag) (observed_in graph.now.dag panorama) ≡ true) }
 {
-    let panorama = panorama(rt, alloc, graph, words)?;
+    let panorama = panorama_of(rt, alloc, graph, words)?;
     assert!(rt; consistent(graph.dag(), &panorama));
     Ok(panorama)
 }
@@ -85,15 +69,12 @@ fn assert_join(
     let mut joined = consistent_panorama(rt, alloc, graph, &left)?;
     let other = consistent_panorama(rt, alloc, graph, &right)?;
     join(graph.dag(), &mut joined, &other);
-    let want = panorama(rt, alloc, graph, &want)?;
+    let want = panorama_of(rt, alloc, graph, &want)?;
     assert_same(rt, graph, &joined, &want);
     Ok(())
 }
 
-#[test]
-fn two_lanes_of_a_fork_join_to_a_fault(rt: HostRuntime) -> Result<(), Fail> {
-    let alloc = rt.alloc();
-    let graph = picture(&rt, alloc)?;
+fn test_joins(rt: &impl Abort, alloc: Global, graph: &Graph) -> Result<(), OutOfMemory> {
     for (left, right, want) in [
         (["a1", "-", "-"], ["a2", "b0", "-"], ["!", "b0", "-"]),
         (["a2", "b0", "-"], ["a1", "b0", "-"], ["!", "b0", "-"]),
@@ -102,15 +83,35 @@ fn two_lanes_of_a_fork_join_to_a_fault(rt: HostRuntime) -> Result<(), Fail> {
         (["!", "-", "-"], ["a1", "b0", "-"], ["!", "b0", "-"]),
         (["-", "-", "-"], ["a1", "-", "-"], ["a1", "-", "-"]),
     ] {
-        assert_join(&rt, alloc, &graph, left, right, want)?;
+        assert_join(rt, alloc, graph, left, right, want)?;
     }
     Ok(())
 }
 
 #[test]
-fn a_fault_is_above_both_lanes(rt: HostRuntime) -> Result<(), Fail> {
-    let alloc = rt.alloc();
-    let graph = picture(&rt, alloc)?;
+fn two_lanes_of_a_fork_join_to_a_fault(rt: HostRuntime) -> Result<(), Fail> {
+    let mut graph = Graph::new(&rt, rt.alloc(), &[1, 1, 1])?;
+    draw(&rt, rt.alloc(), &mut graph)?;
+    test_joins(&rt, rt.alloc(), &graph)?;
+    Ok(())
+}
+
+/// Ends the test unless it is as said whether the one is at most the other.
+fn assert_at_most(
+    rt: &impl Abort,
+    alloc: Global,
+    graph: &Graph,
+    left: [&str; 3],
+    right: [&str; 3],
+    want: bool,
+) -> Result<(), OutOfMemory> {
+    let left = panorama_of(rt, alloc, graph, &left)?;
+    let right = panorama_of(rt, alloc, graph, &right)?;
+    assert_eq!(rt; at_most(graph.dag(), &left, &right), want);
+    Ok(())
+}
+
+fn test_order(rt: &impl Abort, alloc: Global, graph: &Graph) -> Result<(), OutOfMemory> {
     for (left, right, want) in [
         (["a0", "-", "-"], ["a1", "-", "-"], true),
         (["a1", "-", "-"], ["a0", "b0", "-"], false),
@@ -119,17 +120,33 @@ fn a_fault_is_above_both_lanes(rt: HostRuntime) -> Result<(), Fail> {
         (["!", "-", "-"], ["a1", "b0", "-"], false),
         (["a1", "b0", "-"], ["a1", "-", "-"], false),
     ] {
-        let left = panorama(&rt, alloc, &graph, &left)?;
-        let right = panorama(&rt, alloc, &graph, &right)?;
-        assert_eq!(rt; at_most(graph.dag(), &left, &right), want);
+        assert_at_most(rt, alloc, graph, left, right, want)?;
     }
     Ok(())
 }
 
 #[test]
-fn a_panorama_has_what_its_units_have_seen(rt: HostRuntime) -> Result<(), Fail> {
-    let alloc = rt.alloc();
-    let graph = picture(&rt, alloc)?;
+fn a_fault_is_above_both_lanes(rt: HostRuntime) -> Result<(), Fail> {
+    let mut graph = Graph::new(&rt, rt.alloc(), &[1, 1, 1])?;
+    draw(&rt, rt.alloc(), &mut graph)?;
+    test_order(&rt, rt.alloc(), &graph)?;
+    Ok(())
+}
+
+/// Ends the test unless it is as said whether the panorama is consistent.
+fn assert_consistent(
+    rt: &impl Abort,
+    alloc: Global,
+    graph: &Graph,
+    words: [&str; 3],
+    want: bool,
+) -> Result<(), OutOfMemory> {
+    let panorama = panorama_of(rt, alloc, graph, &words)?;
+    assert_eq!(rt; consistent(graph.dag(), &panorama), want);
+    Ok(())
+}
+
+fn test_consistency(rt: &impl Abort, alloc: Global, graph: &Graph) -> Result<(), OutOfMemory> {
     for (words, want) in [
         (["-", "-", "-"], true),
         (["-", "b0", "-"], false),
@@ -140,9 +157,16 @@ fn a_panorama_has_what_its_units_have_seen(rt: HostRuntime) -> Result<(), Fail> 
         (["!", "b0", "c0"], true),
         (["a1", "-", "c0"], false),
     ] {
-        let panorama = panorama(&rt, alloc, &graph, &words)?;
-        assert_eq!(rt; consistent(graph.dag(), &panorama), want);
+        assert_consistent(rt, alloc, graph, words, want)?;
     }
+    Ok(())
+}
+
+#[test]
+fn a_panorama_has_what_its_units_have_seen(rt: HostRuntime) -> Result<(), Fail> {
+    let mut graph = Graph::new(&rt, rt.alloc(), &[1, 1, 1])?;
+    draw(&rt, rt.alloc(), &mut graph)?;
+    test_consistency(&rt, rt.alloc(), &graph)?;
     Ok(())
 }
 

@@ -1,30 +1,49 @@
-//! Rows of units taken into a graph, one after the other.
+//! Rows of units taken into a graph, and panoramas in words.
 
-use crate::drafts::Row;
+ghost use Rattle.std.specs.Prelude.{IfOk};
+ghost use Rattle.hw_dag.specs.Dag.{IsPanorama};
+
+use crate::drafts::{Row, observations};
 use crate::graph::{Graph, Outcome};
-use hw_dag::UnitNo;
+use hw_dag::{Panorama, UnitNo};
 use hw_types::OutOfMemory;
 use std::alloc::Global;
 use std::process::Abort;
 
-/// What becomes of each of the rows, in order.
-pub fn settle_all(
+/// Takes each of the rows in, in order. The test ends unless all are admitted.
+pub fn admit_all(
     rt: &impl Abort,
     alloc: Global,
     graph: &mut Graph,
     rows: &[Row<'_>],
-) -> Result<Vec<Outcome>, OutOfMemory> {
-    let mut outcomes = Vec::new(alloc);
+) -> Result<(), OutOfMemory> {
     for row in rows {
-        outcomes.push(graph.settle_row(rt, alloc, row)?)?;
+        let outcome = graph.settle_row(rt, alloc, row)?;
+        assert!(rt; matches!(outcome, Outcome::Admitted(_)));
     }
-    Ok(outcomes)
+    Ok(())
 }
 
-/// Ends the test unless the units were admitted, with the numbers from 0 on.
-pub fn assert_admitted(rt: &impl Abort, outcomes: &[Outcome]) {
-    assert!(rt; outcomes.len() < 1_000);
-    for number in 0..outcomes.len() as u32 {
-        assert!(rt; outcomes[number as usize] == Outcome::Admitted(UnitNo(number)));
-    }
+/// The panorama of these words.
+pub fn panorama_of(
+    rt: &impl Abort,
+    alloc: Global,
+    graph: &Graph,
+    words: &[&str],
+) -> Result<Panorama, OutOfMemory>
+    ensures { IfOk result (λ panorama. IsPanorama graph.now.dag panorama) }
+{
+    let observed = observations(alloc, words)?;
+    graph.panorama(rt, alloc, observed.as_slice())
+}
+
+/// The fork choice of the panorama of these words.
+pub fn choice_of(
+    rt: &impl Abort,
+    alloc: Global,
+    graph: &mut Graph,
+    words: &[&str],
+) -> Result<Option<UnitNo>, OutOfMemory> {
+    let panorama = panorama_of(rt, alloc, graph, words)?;
+    Ok(graph.fork_choice(&panorama))
 }
