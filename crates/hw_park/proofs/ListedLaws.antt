@@ -3,7 +3,7 @@ use Rattle.std.proofs.Common.{◌≡◌, ◌≢◌, ◌⊎◌, inl, inr, ℕ, ze
 use Rattle.std.specs.List.{find, count_by, sum_by}
 use Rattle.std.specs.Option.{option_map, option_map_or, option_to_list}
 use Rattle.std.proofs.lemmas.List.Sums.{sum_by-append, sum_by-cons, count_by-le-length}
-use Rattle.std.proofs.lemmas.Bool.{cases_eq}
+use Rattle.std.proofs.lemmas.Bool.{cases_eq, cases_lt}
 use Rattle.hw_park.specs.Kept.{listed}
 
 -- the same at each number below
@@ -44,7 +44,7 @@ abbrev pub worth : {W : Type 0} → (W → Bool) → Option W → ℕ
 worth p o = if option_map_or p o false then 1 else 0
 
 -- a count of one more
-count-optional : {W : Type 0} (p : W → Bool) (ws : List W) (o : Option W) → count_by p (ws ++ option_to_list o) ≡ count_by p ws + worth p o
+pub count-optional : {W : Type 0} (p : W → Bool) (ws : List W) (o : Option W) → count_by p (ws ++ option_to_list o) ≡ count_by p ws + worth p o
 count-optional p ws None = search (rules, sum_by-append)
 count-optional p ws (Some w) = sum_by-append (λ x. cond (p x) 1 0) ws (w ∷ []) ∙ search (rules, sum_by-cons)
 
@@ -66,3 +66,29 @@ count-changed {W} p f g (suc n) k below others = go (cases_eq k n) (λ low. coun
         let rest = less (omega arith) in
         let last = ap (worth p) (others n (λ e. ne (sym e))) in
         omega (arith, rest, last, count-optional p (listed g n) (g n), count-optional p (listed f n) (f n))
+
+-- the same, where the number may be none below
+pub count-step : {W : Type 0} (p : W → Bool) (f g : ℕ → Option W) (n k : ℕ) → ((j : ℕ) → j ≢ k → g j ≡ f j) → (n ≤ k → g k ≡ f k)
+    → count_by p (listed g n) + worth p (f k) ≡ count_by p (listed f n) + worth p (g k)
+count-step {W} p f g n k others beyond = go (cases_lt k n)
+  where
+    go : ((k < n) ⊎ (n ≤ k)) → count_by p (listed g n) + worth p (f k) ≡ count_by p (listed f n) + worth p (g k)
+    go (inl low) = count-changed p f g n k low others
+    go (inr high) =
+        let same = ap (count_by p) (listed-same g f n (λ j h. others j (λ e. absurd (omega arith)))) in
+        let here = ap (worth p) (beyond high) in
+        omega (arith, same, here)
+
+-- each of a list counts
+pub count-all : {W : Type 0} (ws : List W) → count_by (λ _. true) ws ≡ length ws
+count-all [] = refl
+count-all (w ∷ ws) = sum_by-cons (λ _. 1) w ws ∙ omega (arith, count-all ws)
+
+-- none below counts
+pub count-none : {W : Type 0} (p : W → Bool) (f : ℕ → Option W) (n : ℕ) → ((k : ℕ) → k < n → option_map_or p (f k) false ≡ false) → count_by p (listed f n) ≡ 0
+unfolding listed
+count-none p f zero none = refl
+count-none p f (suc n) none =
+    let rest = count-none p f n (λ k h. none k (omega arith)) in
+    let last = ap {B = ℕ} (λ (b : Bool). if b then 1 else 0) (none n (omega arith)) in
+    count-optional p (listed f n) (f n) ∙ omega (arith, rest, last)

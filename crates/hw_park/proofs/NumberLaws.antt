@@ -1,5 +1,5 @@
 -- Laws of the numbers that wait.
-use Rattle.std.proofs.Common.{◌≡◌, ℕ, ◌<◌, Bool, true, false, ◌||◌, nat_eq, cond, List, [], ◌∷◌, ◌++◌, take, get_or, Option, Some, None, refl, ap, sym, ◌∙◌, subst, rules, length, ◌+◌, if◌then◌else◌}
+use Rattle.std.proofs.Common.{◌≡◌, ℕ, ◌<◌, Bool, true, false, ◌||◌, nat_eq, cond, List, [], ◌∷◌, ◌++◌, take, get_or, Option, Some, None, refl, ap, sym, ◌∙◌, subst, rules, arith, length, ◌+◌, if◌then◌else◌}
 use Rattle.std.specs.List.{list_any}
 use Rattle.std.specs.Option.{option_map_or, unwrap_or}
 use Rattle.std.specs.Map.{lookup}
@@ -11,7 +11,7 @@ use Rattle.hw_types.specs.Settled.{need_eq}
 use Rattle.hw_park.specs.declared.key.NeedKey.{NeedKey}
 use Rattle.hw_park.specs.contracts.key.NeedKeyPartialEq.TheImpl as eq
 use Rattle.hw_park.specs.Keys.{key_of}
-use Rattle.hw_park.specs.Numbers.{numbers_at, has_number, KeepsNumbers}
+use Rattle.hw_park.specs.Numbers.{numbers_at, has_number, KeepsNumbers, WaitsForAll}
 use Rattle.hw_park.proofs.KeyLaws.{key_same, need_same, need_self}
 
 -- a table in which one key has other numbers
@@ -67,3 +67,13 @@ read-put old key n v d of e empty =
     go : (o : Option (Vec ℕ Global)) → v ≡ unwrap_or o d → numbers_in o ≡ v.items
     go None same = sym (ap (λ (w : Vec ℕ Global). w.items) same ∙ empty)
     go (Some w) same = sym (ap (λ (w : Vec ℕ Global). w.items) same)
+
+-- one need more for which the number waits
+pub waits-more : (old new : List (NeedKey × Vec ℕ Global)) (needs : List Need) (i k : ℕ) (d : Need) → i < length needs
+    → KeepsNumbers old new → WaitsForAll old (take i needs) k → has_number (numbers_at new (get_or needs i d)) k ≡ true
+    → WaitsForAll new (take (i + 1) needs) k
+waits-more old new needs i k d within kept before now = λ n there. go n (need_eq n (get_or needs i d)) refl (sym (list_any_more (need_eq n) needs i d within) ∙ there)
+  where
+    go : (n : Need) (b : Bool) → need_eq n (get_or needs i d) ≡ b → list_any (need_eq n) (take i needs) || need_eq n (get_or needs i d) ≡ true → has_number (numbers_at new n) k ≡ true
+    go n true same there = subst (λ (m : Need). has_number (numbers_at new m) k ≡ true) (sym (need_same n (get_or needs i d) same)) now
+    go n false apart there = kept n k (before n (grind (arith, apart, there)))

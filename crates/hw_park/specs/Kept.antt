@@ -45,11 +45,11 @@ tally_of ready k = count_by (λ r. r.0 == k) ready
 abbrev pub IsQueue : List (Reverse ℕ) → Type 0
 IsQueue ready = IsHeap (λ x y. nat_cmp y.0 x.0) ready
 
--- the ready numbers, with this much room, are those of the items below n without a need left
-pub record IsQueueOf {T : Type 0} (at : ℕ → Option (Waiting T)) (n : ℕ) (ready : List (Reverse ℕ)) (room : ℕ) : Type 0 where
+-- the ready numbers, so many and with this much room, are those of the items below n without a need left
+pub record IsQueueOf {T : Type 0} (at : ℕ → Option (Waiting T)) (n : ℕ) (ready : List (Reverse ℕ)) (len room : ℕ) : Type 0 where
   pub ordered : IsQueue ready
   pub once : (k : ℕ) → tally_of ready k ≡ (if is_ready_at (at k) then 1 else 0)
-  pub many : length ready ≡ count_by is_ready (listed at n)
+  pub many : len ≡ count_by is_ready (listed at n)
   pub fits : length (listed at n) ≤ room
   pub below : (k : ℕ) → n ≤ k → at k ≡ None
 
@@ -58,11 +58,11 @@ abbrev pub AreNoted : {T : Type 0} → (ℕ → Option (Waiting T)) → List (Ne
 AreNoted {T} at waits = (k : ℕ) (w : Waiting T) (n : Need) → at k ≡ Some w → list_any (need_eq n) w.needs ≡ true → has_number (numbers_at waits n) k ≡ true
 
 -- the tables belong together
-pub record IsKept {T : Type 0} (limit count n : ℕ) (at : ℕ → Option (Waiting T)) (waits : List (NeedKey × Vec ℕ Global)) (ready : List (Reverse ℕ)) (room : ℕ) : Type 0 where
+pub record IsKept {T : Type 0} (limit count n : ℕ) (at : ℕ → Option (Waiting T)) (waits : List (NeedKey × Vec ℕ Global)) (ready : List (Reverse ℕ)) (len room : ℕ) : Type 0 where
   pub counted : count ≡ length (listed at n)
   pub within : count ≤ limit
   pub noted : AreNoted at waits
-  pub queue : IsQueueOf at n ready room
+  pub queue : IsQueueOf at n ready len room
 
 -- what the tables stand for
 abbrev pub parked_by : {T : Type 0} → ℕ → ℕ → List (ℕ × Waiter T) → Parked T

@@ -51,12 +51,12 @@ impl<T> Model for Park<T> {
 
     ghost Value = { Parked T };
 
-    ghost use Rattle.std.specs.BinaryHeap.{heap_items, heap_capacity};
+    ghost use Rattle.std.specs.BinaryHeap.{heap_items, heap_len, heap_capacity};
     ghost use Rattle.hw_park.specs.Kept.{parked_by, waiting_at, IsKept};
 
     ghost view = { λ p. parked_by p.limit p.next p.waiters.entries };
 
-    ghost invariant = { λ p. IsKept p.limit p.count p.next (waiting_at p.waiters.entries) p.waits.entries (heap_items p.ready) (heap_capacity p.ready) };
+    ghost invariant = { λ p. IsKept p.limit p.count p.next (waiting_at p.waiters.entries) p.waits.entries (heap_items p.ready) (heap_len p.ready) (heap_capacity p.ready) };
 }
 
 impl<T: Drop> Park<T> {
@@ -163,6 +163,7 @@ fn prepare(
 ) -> Result<Vec<Need>, OutOfMemory>
     requires { heap_len ready.old ≤ count }
     ensures items { heap_items ready.new ≡ heap_items ready.old }
+    ensures len { heap_len ready.new ≡ heap_len ready.old }
     ensures capacity { heap_capacity ready.old ≤ heap_capacity ready.new }
     ensures room { OnOk result (count + 1 ≤ heap_capacity ready.new) }
     ensures kept { KeepsNumbers waits.old.entries waits.new.entries }
