@@ -1,11 +1,9 @@
 -- Laws of needs as keys.
-use Rattle.std.proofs.Common.{◌≡◌, ℕ, Bool, true, false, refl, ap, sym, subst, eqb-true, rules}
-use Rattle.hw_types.specs.declared.unit.Digest.{Digest}
+use Rattle.std.proofs.Common.{◌≡◌, true, refl, ap, eqb-true, rules}
 use Rattle.hw_types.specs.declared.unit.Need.{Need}
 use Rattle.hw_types.specs.declared.unit.Need.TheVariants as need
 use Rattle.hw_types.specs.Settled.{need_eq}
 use Rattle.hw_types.proofs.SettledLaws.{digest_same, digest_self}
-use Rattle.hw_park.specs.declared.key.NeedKey.{NeedKey}
 use Rattle.hw_park.specs.contracts.key.NeedKeyPartialEq.TheImpl as key
 use Rattle.hw_park.specs.Keys.{key_of}
 

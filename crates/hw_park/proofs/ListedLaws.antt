@@ -1,8 +1,8 @@
 -- Laws of the list that the numbers stand for.
-use Rattle.std.proofs.Common.{◌≡◌, ◌≢◌, ◌⊎◌, inl, inr, ℕ, zero, suc, ◌+◌, ◌<◌, ◌≤◌, Bool, true, false, cond, List, [], ◌∷◌, ◌++◌, map, filter, length, Option, Some, None, refl, ap, sym, ◌∙◌, subst, rules, arith, add-one, length-append, if◌then◌else◌}
-use Rattle.std.specs.List.{find, count_by, sum_by}
+use Rattle.std.proofs.Common.{◌≡◌, ◌≢◌, ◌⊎◌, inl, inr, ℕ, zero, suc, ◌+◌, ◌<◌, ◌≤◌, Bool, true, false, cond, List, [], ◌∷◌, ◌++◌, map, length, Option, Some, None, refl, ap, sym, ◌∙◌, rules, arith, add-one, if◌then◌else◌}
+use Rattle.std.specs.List.{count_by}
 use Rattle.std.specs.Option.{option_map, option_map_or, option_to_list}
-use Rattle.std.proofs.lemmas.List.Sums.{sum_by-append, sum_by-cons, count_by-le-length}
+use Rattle.std.proofs.lemmas.List.Sums.{sum_by-append, sum_by-cons}
 use Rattle.std.proofs.lemmas.Bool.{cases_eq, cases_lt}
 use Rattle.hw_park.specs.Kept.{listed}
 
@@ -56,7 +56,7 @@ count-changed p f g zero k below others = absurd (omega arith)
 count-changed {W} p f g (suc n) k below others = go (cases_eq k n) (λ low. count-changed p f g n k low others)
   where
     go : ((k ≡ n) ⊎ (k ≢ n)) → (k < n → count_by p (listed g n) + worth p (f k) ≡ count_by p (listed f n) + worth p (g k))
-      → count_by p (listed g n ++ option_to_list (g n)) + worth p (f k) ≡ count_by p (listed f n ++ option_to_list (f n)) + worth p (g k)
+        → count_by p (listed g n ++ option_to_list (g n)) + worth p (f k) ≡ count_by p (listed f n ++ option_to_list (f n)) + worth p (g k)
     go (inl e) less =
         let same = ap (count_by p) (listed-same g f n (λ j h. others j (omega arith))) in
         let ek = ap (λ (j : ℕ). worth p (f j)) e in

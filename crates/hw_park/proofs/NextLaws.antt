@@ -1,6 +1,6 @@
 -- Laws of handing out.
-use Rattle.std.proofs.Common.{◌≡◌, ◌≢◌, ◌⊎◌, inl, inr, ℕ, ◌+◌, ◌-◌, ◌<◌, ◌≤◌, Bool, true, false, cond, ◌==◌, nat_eq, List, [], ◌∷◌, ◌++◌, length, Option, Some, None, refl, ap, sym, ◌∙◌, subst, rules, arith, if◌then◌else◌, All}
-use Rattle.std.specs.List.{find, count_by, list_any}
+use Rattle.std.proofs.Common.{◌≡◌, ◌≢◌, ◌⊎◌, inl, inr, ℕ, ◌+◌, ◌-◌, ◌<◌, true, nat_eq, List, [], ◌∷◌, Option, Some, None, ap, sym, ◌∙◌, subst, arith, All}
+use Rattle.std.specs.List.{count_by, list_any}
 use Rattle.std.specs.List.Sorted.{IsPermutation}
 use Rattle.std.specs.Map.{lookup}
 use Rattle.std.specs.Option.{option_map}
@@ -16,10 +16,10 @@ use Rattle.hw_park.specs.declared.key.NeedKey.{NeedKey}
 use Rattle.hw_park.specs.declared.waiter.Waiter.{Waiter}
 use Rattle.hw_park.specs.Numbers.{numbers_at, has_number}
 use Rattle.hw_park.specs.Parked.{Waiting, is_ready, next_item, without_next}
-use Rattle.hw_park.specs.Kept.{seen, waiting_at, listed, is_ready_at, IsQueue, IsKept, AreNoted}
+use Rattle.hw_park.specs.Kept.{seen, waiting_at, listed, is_ready_at, IsQueue, IsKept}
 use Rattle.hw_park.proofs.ListedLaws.{worth, count-step, count-all}
 use Rattle.hw_park.proofs.ReadyLaws.{quiet, quiet-needs, needs-quiet, take_out}
-use Rattle.hw_park.proofs.QueueLaws.{first_ready, none_earlier, ready_below, ready_some, queue-popped}
+use Rattle.hw_park.proofs.QueueLaws.{first_ready, none_earlier, ready_below, queue-popped}
 use Rattle.hw_park.proofs.WaiterLaws.{IsSet, waiting-set, waiting-other}
 
 -- nothing is handed out where no number is ready

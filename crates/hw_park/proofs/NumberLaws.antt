@@ -1,5 +1,5 @@
 -- Laws of the numbers that wait.
-use Rattle.std.proofs.Common.{◌≡◌, ℕ, ◌<◌, Bool, true, false, ◌||◌, nat_eq, cond, List, [], ◌∷◌, ◌++◌, take, get_or, Option, Some, None, refl, ap, sym, ◌∙◌, subst, rules, arith, length, ◌+◌, if◌then◌else◌}
+use Rattle.std.proofs.Common.{◌≡◌, ℕ, ◌<◌, Bool, true, false, ◌||◌, nat_eq, cond, List, [], ◌∷◌, ◌++◌, take, get_or, Option, Some, None, refl, ap, sym, ◌∙◌, subst, rules, arith, length, ◌+◌}
 use Rattle.std.specs.List.{list_any}
 use Rattle.std.specs.Option.{option_map_or, unwrap_or}
 use Rattle.std.specs.Map.{lookup}
@@ -39,6 +39,7 @@ kept-put old new key n v of put_at more = λ m k there. go m k there (need_eq n 
   where
     put : IsPut old new (key_of n) v
     put = subst (λ (x : NeedKey). IsPut old new x v) of put_at
+
     go : (m : Need) (k : ℕ) → has_number (numbers_at old m) k ≡ true → (b : Bool) → need_eq n m ≡ b → has_number (numbers_at new m) k ≡ true
     go m k there true same =
         let e = need_same n m same in

@@ -1,19 +1,18 @@
 -- Laws of parking.
-use Rattle.std.proofs.Common.{◌≡◌, ◌≢◌, ◌⊎◌, inl, inr, ℕ, ◌+◌, ◌<◌, ◌≤◌, Bool, true, false, ◌==◌, List, [], ◌∷◌, ◌++◌, length, length-append, Option, Some, None, Result, Ok, Err, refl, ap, sym, ◌∙◌, subst, rules, arith, if◌then◌else◌}
+use Rattle.std.proofs.Common.{◌≡◌, ◌≢◌, ◌⊎◌, inl, inr, ℕ, ◌+◌, ◌<◌, ◌≤◌, Bool, true, false, ◌==◌, List, [], ◌∷◌, ◌++◌, length, length-append, Some, Result, Ok, Err, ap, sym, ◌∙◌, rules, arith, if◌then◌else◌}
 use Rattle.std.specs.List.{count_by, list_any}
 use Rattle.std.specs.Result.{OnOk, IsOk}
 use Rattle.std.specs.declared.cmp.Reverse.{Reverse}
 use Rattle.std.specs.declared.vec.Vec.{Vec}
 use Rattle.std.specs.declared.alloc.Global.{Global}
 use Rattle.std.proofs.lemmas.Bool.{cases_eq}
-use Rattle.std.proofs.lemmas.List.Sums.{sum_by-append, sum_by-cons}
 use Rattle.hw_types.specs.declared.unit.Need.{Need}
 use Rattle.hw_types.specs.Settled.{need_eq}
 use Rattle.hw_park.specs.declared.key.NeedKey.{NeedKey}
 use Rattle.hw_park.specs.declared.waiter.Waiter.{Waiter}
 use Rattle.hw_park.specs.Numbers.{numbers_at, has_number, KeepsNumbers, WaitsForAll}
 use Rattle.hw_park.specs.Parked.{Waiting, is_ready}
-use Rattle.hw_park.specs.Kept.{seen, waiting_at, listed, is_ready_at, tally_of, IsKept}
+use Rattle.hw_park.specs.Kept.{seen, waiting_at, listed, tally_of, IsKept}
 use Rattle.hw_park.proofs.ListedLaws.{worth, listed-push, count-optional}
 use Rattle.hw_park.proofs.WaiterLaws.{IsSet, waiting-set, waiting-other}
 
@@ -68,6 +67,7 @@ kept_parked {T} limit count n old new w waits more ready same len long room wide
         ∙ sym (ap (worth is_ready) (waiting-set old new n (Some w) added))
         ∙ sym (ap (λ (j : ℕ). worth is_ready (waiting_at new j)) e)
     once k (inr ne) = sym (ap (worth is_ready) (waiting-other old new n (Some w) added k ne))
+
     noted_at : (k : ℕ) (v : Waiting T) (m : Need) → waiting_at new k ≡ Some v → list_any (need_eq m) v.needs ≡ true → ((k ≡ n) ⊎ (k ≢ n)) → has_number (numbers_at more m) k ≡ true
     noted_at k v m there has (inl e) =
         let it : Some v ≡ Some (seen w) = sym there ∙ ap (waiting_at new) e ∙ waiting-set old new n (Some w) added in

@@ -1,19 +1,16 @@
 -- Laws of the ready numbers.
-use Rattle.std.proofs.Common.{◌≡◌, ◌≢◌, ◌⊎◌, inl, inr, ℕ, zero, suc, ◌+◌, ◌<◌, ◌≤◌, Bool, true, false, not, ◌&&◌, cond, ◌==◌, List, [], ◌∷◌, ◌++◌, map, filter, length, Option, Some, None, refl, ap, sym, ◌∙◌, subst, rules, arith, if◌then◌else◌, nat_lt, All}
-use Rattle.std.specs.List.{find, count_by, sum_by, list_any}
+use Rattle.std.proofs.Common.{◌≡◌, ◌≢◌, ◌⊎◌, inl, inr, ℕ, ◌+◌, ◌<◌, ◌≤◌, Bool, true, false, cond, ◌==◌, List, [], ◌∷◌, Option, Some, None, refl, ap, sym, ◌∙◌, subst, rules, arith, if◌then◌else◌}
 use Rattle.std.specs.List.Sorted.{IsPermutation}
-use Rattle.std.specs.Option.{option_map, option_map_or, option_to_list}
 use Rattle.std.specs.Ordering.{nat_cmp, is_lt}
-use Rattle.std.specs.BinaryHeap.{IsHeap, IsUpperBound}
+use Rattle.std.specs.BinaryHeap.{IsUpperBound}
 use Rattle.std.specs.declared.cmp.Reverse.{Reverse}
-use Rattle.std.proofs.lemmas.List.Sums.{sum_by-append, sum_by-cons, count_by-le-length}
+use Rattle.std.proofs.lemmas.List.Sums.{sum_by-cons}
 use Rattle.std.proofs.lemmas.List.Sorted.{sum_by-IsPermutation}
-use Rattle.std.proofs.lemmas.Bool.{cases_eq, cases_lt, cases_Bool}
+use Rattle.std.proofs.lemmas.Bool.{cases_eq, cases_lt}
 use Rattle.std.proofs.lemmas.Bool.Decides.{nat_tests}
-use Rattle.hw_types.specs.declared.unit.Need.{Need}
-use Rattle.hw_park.specs.Parked.{Waiting, is_ready, relieved, without_need}
-use Rattle.hw_park.specs.Kept.{listed, is_ready_at, relieved_at, tally_of, IsQueue, IsQueueOf}
-use Rattle.hw_park.proofs.ListedLaws.{worth, listed-same, count-none, count-step, count-all}
+use Rattle.hw_park.specs.Parked.{Waiting, is_ready}
+use Rattle.hw_park.specs.Kept.{listed, is_ready_at, tally_of, IsQueue, IsQueueOf}
+use Rattle.hw_park.proofs.ListedLaws.{worth, count-step, count-all}
 
 -- one of a number
 abbrev one_of : Reverse ℕ → ℕ → ℕ
@@ -122,6 +119,7 @@ queue-popped {T} at new n ready rest len less room r queue moved ordered fewer g
     at_each k (inr ne) =
         let same = ap (worth is_ready) (others k (λ e. ne (sym e))) in
         omega (arith, same, queue.once k, tally-less r ready rest moved k, one-other r k ne)
+
     beyond : (k : ℕ) → n ≤ k → ((k ≡ r.0) ⊎ (k ≢ r.0)) → new k ≡ None
     beyond k high (inl e) = subst (λ (j : ℕ). new j ≡ None) (sym e) gone
     beyond k high (inr ne) = others k ne ∙ queue.below k high

@@ -1,14 +1,13 @@
 -- Laws of striking a need.
-use Rattle.std.proofs.Common.{◌≡◌, ◌≢◌, ◌⊎◌, inl, inr, ℕ, ◌+◌, ◌-◌, ◌<◌, ◌≤◌, Bool, true, false, not, ◌&&◌, ◌||◌, cond, ◌==◌, nat_eq, List, [], ◌∷◌, ◌++◌, map, filter, length, take, get_or, Option, Some, None, refl, ap, sym, ◌∙◌, subst, rules, arith, if◌then◌else◌}
-use Rattle.std.specs.List.{find, count_by, list_any}
+use Rattle.std.proofs.Common.{◌≡◌, ◌≢◌, ◌⊎◌, inl, inr, ℕ, ◌+◌, ◌<◌, ◌≤◌, Bool, true, false, not, ◌&&◌, ◌||◌, cond, ◌==◌, nat_eq, List, [], ◌∷◌, length, take, get_or, Option, Some, None, refl, ap, sym, ◌∙◌, subst, arith, if◌then◌else◌}
+use Rattle.std.specs.List.{list_any}
 use Rattle.std.specs.List.Sorted.{IsPermutation}
 use Rattle.std.specs.Map.{lookup}
-use Rattle.std.specs.Option.{option_map}
 use Rattle.hw_park.specs.contracts.key.NeedKeyPartialEq.TheImpl as eq
 use Rattle.std.specs.declared.cmp.Reverse.{Reverse}
 use Rattle.std.specs.declared.vec.Vec.{Vec}
 use Rattle.std.specs.declared.alloc.Global.{Global}
-use Rattle.std.proofs.lemmas.Bool.{cases_eq, cases_lt}
+use Rattle.std.proofs.lemmas.Bool.{cases_eq}
 use Rattle.std.proofs.lemmas.Bool.Decides.{nat_tests}
 use Rattle.std.proofs.lemmas.List.Folds.{list_any_more}
 use Rattle.std.proofs.lemmas.List.{length-map}
@@ -47,8 +46,8 @@ without_need-has n k [] there = absurd cc
 without_need-has n k (m ∷ ms) there = go (need_eq n m) refl (need_eq k m) refl (without_need-has n k ms)
   where
     go : (b : Bool) → need_eq n m ≡ b → (a : Bool) → need_eq k m ≡ a
-      → (list_any (need_eq k) (without_need n ms) ≡ true → (need_eq n k ≡ false) × (list_any (need_eq k) ms ≡ true))
-      → (need_eq n k ≡ false) × ((need_eq k m || list_any (need_eq k) ms) ≡ true)
+        → (list_any (need_eq k) (without_need n ms) ≡ true → (need_eq n k ≡ false) × (list_any (need_eq k) ms ≡ true))
+        → (need_eq n k ≡ false) × ((need_eq k m || list_any (need_eq k) ms) ≡ true)
     go true e a f rest =
         let shorter : list_any (need_eq k) (without_need n ms) ≡ true = sym (ap (λ (b : Bool). list_any (need_eq k) (cond (not b) (m ∷ without_need n ms) (without_need n ms))) e) ∙ there in
         let both = rest shorter in
@@ -133,6 +132,7 @@ queue-same {T} old new m x n ready len room queue step last =
     ready_same true e b f = ap is_ready_at step.here ∙ ready_stays_at m (old x) e ∙ sym e
     ready_same false e true f = absurd (cc (sym last ∙ ap (λ (a : Bool). not a && is_ready_at (new x)) e ∙ f))
     ready_same false e false f = f ∙ sym e
+
     once : (k : ℕ) → ((k ≡ x) ⊎ (k ≢ x)) → is_ready_at (new x) ≡ is_ready_at (old x) → tally_of ready k ≡ (if is_ready_at (new k) then 1 else 0)
     once k (inl e) same = queue.once k ∙ ap {B = ℕ} (λ (b : Bool). if b then 1 else 0) (ap (λ (j : ℕ). is_ready_at (old j)) e ∙ sym same ∙ sym (ap (λ (j : ℕ). is_ready_at (new j)) e))
     once k (inr ne) same = queue.once k ∙ ap {B = ℕ} (λ (o : Option (Waiting T)). if is_ready_at o then 1 else 0) (sym (step.others k ne))
@@ -159,6 +159,7 @@ queue-pushed {T} old new m x n ready more len room wider r longer queue step las
     both true e b f = absurd (cc (sym last ∙ ap (λ (a : Bool). not a && is_ready_at (new x)) e))
     both false e true f = (e, f)
     both false e false f = absurd (cc (sym last ∙ ap (λ (a : Bool). not a && is_ready_at (new x)) e ∙ f))
+
     once : (k : ℕ) → ((r.0 ≡ k) ⊎ (r.0 ≢ k)) → tally_of more k ≡ (if is_ready_at (new k) then 1 else 0)
     once k (inl e) =
         let parts = both (is_ready_at (old x)) refl (is_ready_at (new x)) refl in
@@ -205,7 +206,7 @@ each_more {T} first now new m numbers i within before step k =
     ∙ sym (ap (λ (b : Bool). if b then relieved_at m (first k) else first k) (list_any_more (nat_eq k) numbers i 0 within))
   where
     go : (a : Bool) → has_number (take i numbers) k ≡ a → (b : Bool) → nat_eq k (get_or numbers i 0) ≡ b
-      → new k ≡ (if has_number (take i numbers) k || nat_eq k (get_or numbers i 0) then relieved_at m (first k) else first k)
+        → new k ≡ (if has_number (take i numbers) k || nat_eq k (get_or numbers i 0) then relieved_at m (first k) else first k)
     go true e true f =
         let was = before k ∙ ap (λ (b : Bool). if b then relieved_at m (first k) else first k) e in
         step k ∙ ap (λ (b : Bool). if b then relieved_at m (now k) else now k) f ∙ ap (relieved_at m) was ∙ relieved_twice m (first k)
@@ -228,10 +229,12 @@ struck_all {T} first new m numbers waits noted are each k = go (has_number numbe
     waits_not : (w : Waiting T) → first k ≡ Some w → has_number numbers k ≡ false → (b : Bool) → list_any (need_eq m) w.needs ≡ b → list_any (need_eq m) w.needs ≡ false
     waits_not w here absent true e = absurd (cc (absent, sym (ap (λ (ns : List ℕ). has_number ns k) are) ∙ noted k w m here e))
     waits_not w here absent false e = e
+
     same : has_number numbers k ≡ false → (o : Option (Waiting T)) → first k ≡ o → o ≡ relieved_at m o
     same absent None here = refl
     same absent (Some w) here =
         ap (λ (ns : List Need). Some (record { needs = ns; item = w.item })) (sym (without_need-absent m w.needs (waits_not w here absent (list_any (need_eq m) w.needs) refl)))
+
     go : (b : Bool) → has_number numbers k ≡ b → new k ≡ relieved_at m (first k)
     go true e = each k ∙ ap (λ (b : Bool). if b then relieved_at m (first k) else first k) e
     go false e = each k ∙ ap (λ (b : Bool). if b then relieved_at m (first k) else first k) e ∙ same e (first k) refl

@@ -1,5 +1,4 @@
 -- Needs as the keys of a table.
-use Rattle.std.specs.Prelude.{ℕ}
 use Rattle.hw_types.specs.declared.unit.Need.{Need}
 use Rattle.hw_types.specs.declared.unit.Need.TheVariants as need
 use Rattle.hw_park.specs.declared.key.NeedKey.{NeedKey}

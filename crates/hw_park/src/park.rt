@@ -130,13 +130,7 @@ impl<T: Drop> Park<T> {
         let Some(next) = number.checked_add(1) else {
             return Err(refused(ParkCause::OutOfMemory, item));
         };
-        let Ok(left) = prepare(
-            &mut self.waits,
-            &mut self.ready,
-            needs,
-            number,
-            self.count,
-        ) else {
+        let Ok(left) = prepare(&mut self.waits, &mut self.ready, needs, number, self.count) else {
             return Err(refused(ParkCause::OutOfMemory, item));
         };
         match self.waiters.insert(number, Waiter { needs: left, item }) {

@@ -1,4 +1,3 @@
-use Rattle.std.proofs.Common.{rules, ◌≡◌, true, ℕ}
 use Rattle.hw_park.proofs.NumberLaws.{waits-more}
 use Rattle.hw_park.proofs.waits.register.Goals as goal
 

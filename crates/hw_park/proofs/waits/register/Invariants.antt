@@ -1,5 +1,4 @@
-use Rattle.std.proofs.Common.{◌≡◌, true, take}
-use Rattle.std.specs.List.{list_any}
+use Rattle.std.proofs.Common.{take}
 use Rattle.hw_park.specs.Numbers.{KeepsNumbers, WaitsForAll}
 use Rattle.hw_park.proofs.waits.register.Given as goal
 
