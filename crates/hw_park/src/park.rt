@@ -127,6 +127,7 @@ impl<T: Drop> Park<T> {
             return Err(refused(ParkCause::Full, item));
         }
         let number = self.next;
+        // After 2^64 - 1 parkings there is no number left, which is answered as want of memory.
         let Some(next) = number.checked_add(1) else {
             return Err(refused(ParkCause::OutOfMemory, item));
         };
