@@ -1,0 +1,10 @@
+pub mod KeyLaws
+pub mod NumberLaws
+pub mod ListedLaws
+pub mod ReadyLaws
+pub mod QueueLaws
+pub mod WaiterLaws
+pub mod NextLaws
+pub mod StruckLaws
+pub mod StartLaws
+pub mod ParkLaws

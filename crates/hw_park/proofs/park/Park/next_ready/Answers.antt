@@ -1,0 +1,51 @@
+use Rattle.std.proofs.Common.{◌∙◌, sym, ap, List, heap_items, heap_len}
+use Rattle.std.specs.BinaryHeap.{heap_capacity}
+use Rattle.hw_park.specs.Parked.{Waiting}
+use Rattle.hw_park.proofs.NextLaws.{nothing_ready, handed_out, none_waits}
+use Rattle.hw_park.proofs.park.Park.next_ready.Goals as goal
+
+pub returns-in_err-number-clause-item : goal.returns-in_err-number-clause-item
+returns-in_err-number-clause-item g c =
+    let still = nothing_ready _ _ _ _ _ _ _ _ c.self.invariant c.in_err-number.ensures.none in
+    rw (← c.self.view_is) (c.from_residual.ensures ∙ sym still.none)
+
+pub returns-in_err-number-clause-others : goal.returns-in_err-number-clause-others
+returns-in_err-number-clause-others g c =
+    let still = nothing_ready _ _ _ _ _ _ _ _ c.self.invariant c.in_err-number.ensures.none in
+    rw (← c.self.view_is) (ap (λ (ws : List (Waiting g.row.T.Denot)). record { limit = c.self.inside.limit; waiting = ws }) (sym still.same))
+
+pub invariant_of-self-2 : goal.invariant_of-self-2
+invariant_of-self-2 g c =
+    rw c.pop.ensures.capacity
+    (handed_out c.self.inside.limit c.self.inside.count c.self.inside.next c.self.inside.waiters.entries c.swap_remove.new.self.entries c.self.inside.waits.entries
+    (heap_items c.self.inside.ready) (heap_items c.pop.new.self) (heap_len c.self.inside.ready) (heap_len c.pop.new.self) _ c.in_ok-number.field-0 c.in_ok-item.field-0
+    c.self.invariant c.in_ok-number.ensures.permutation (c.in_ok-number.ensures.below_top c.self.invariant.queue.ordered) (c.in_ok-number.ensures.heap_order c.self.invariant.queue.ordered).0
+    c.in_ok-number.ensures.len (sym c.in_ok-item.ensures.value) (record { at = c.in_ok-item.ensures.updates.0 })).kept
+
+pub returns-clause-item : goal.returns-clause-item
+returns-clause-item g c =
+    rw (← c.self.view_is)
+    (handed_out c.self.inside.limit c.self.inside.count c.self.inside.next c.self.inside.waiters.entries c.swap_remove.new.self.entries c.self.inside.waits.entries
+    (heap_items c.self.inside.ready) (heap_items c.pop.new.self) (heap_len c.self.inside.ready) (heap_len c.pop.new.self) _ c.in_ok-number.field-0 c.in_ok-item.field-0
+    c.self.invariant c.in_ok-number.ensures.permutation (c.in_ok-number.ensures.below_top c.self.invariant.queue.ordered) (c.in_ok-number.ensures.heap_order c.self.invariant.queue.ordered).0
+    c.in_ok-number.ensures.len (sym c.in_ok-item.ensures.value) (record { at = c.in_ok-item.ensures.updates.0 })).item_is
+
+pub returns-clause-others : goal.returns-clause-others
+returns-clause-others g c =
+    rw (← c.self.view_is)
+    (ap (λ (ws : List (Waiting g.row.T.Denot)). record { limit = c.self.inside.limit; waiting = ws })
+    (handed_out c.self.inside.limit c.self.inside.count c.self.inside.next c.self.inside.waiters.entries c.swap_remove.new.self.entries c.self.inside.waits.entries
+    (heap_items c.self.inside.ready) (heap_items c.pop.new.self) (heap_len c.self.inside.ready) (heap_len c.pop.new.self) (heap_capacity c.self.inside.ready) c.in_ok-number.field-0 c.in_ok-item.field-0
+    c.self.invariant c.in_ok-number.ensures.permutation (c.in_ok-number.ensures.below_top c.self.invariant.queue.ordered) (c.in_ok-number.ensures.heap_order c.self.invariant.queue.ordered).0
+    c.in_ok-number.ensures.len (sym c.in_ok-item.ensures.value) (record { at = c.in_ok-item.ensures.updates.0 })).others)
+
+pub returns-clause-none : goal.returns-clause-none
+returns-clause-none g c =
+    rw (← c.self.view_is) (
+      λ e. absurd cc,
+      λ all. absurd (none_waits _ all _
+          (handed_out c.self.inside.limit c.self.inside.count c.self.inside.next c.self.inside.waiters.entries c.swap_remove.new.self.entries c.self.inside.waits.entries
+          (heap_items c.self.inside.ready) (heap_items c.pop.new.self) (heap_len c.self.inside.ready) (heap_len c.pop.new.self) (heap_capacity c.self.inside.ready) c.in_ok-number.field-0 c.in_ok-item.field-0
+          c.self.invariant c.in_ok-number.ensures.permutation (c.in_ok-number.ensures.below_top c.self.invariant.queue.ordered) (c.in_ok-number.ensures.heap_order c.self.invariant.queue.ordered).0
+          c.in_ok-number.ensures.len (sym c.in_ok-item.ensures.value) (record { at = c.in_ok-item.ensures.updates.0 })).item_is),
+    )

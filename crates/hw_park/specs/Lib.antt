@@ -1,0 +1,4 @@
+pub mod Parked
+pub mod Keys
+pub mod Numbers
+pub mod Kept

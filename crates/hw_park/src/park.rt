@@ -1,0 +1,179 @@
+//! The parked items.
+
+ghost use Rattle.std.specs.Prelude.{◌≡◌, ◌+◌, ◌<◌, ◌≤◌, ◌++◌, ◌∷◌, [], ◌↔◌, ◌≢◌, length, All, OnOk, OnErr, IfOk, IfErr, IfNone, IsNone};
+ghost use Rattle.std.specs.BinaryHeap.{heap_items, heap_len, heap_capacity};
+ghost use Rattle.hw_park.specs.Numbers.{KeepsNumbers, WaitsForAll};
+ghost use Rattle.hw_park.specs.Parked.{struck, next_item, without_next};
+
+use crate::key::key_of;
+use crate::waiter::{Waiter, Waiters, strike};
+use crate::waits::{Waits, register};
+use hw_types::{Need, OutOfMemory};
+use indexmap::IndexMap;
+use std::alloc::Global;
+use std::cmp::Reverse;
+use std::collections::BinaryHeap;
+use std::marker::Model;
+
+/// Why an item wasn't parked.
+#[derive(Clone, Copy, Debug, PartialEq, Eq)]
+pub enum ParkCause {
+    /// As many items are parked as may be.
+    Full,
+    /// There was no memory.
+    OutOfMemory,
+}
+
+/// An item that wasn't parked, and why.
+#[derive(Drop)]
+pub struct ParkRefused<T> {
+    pub cause: ParkCause,
+    pub item: T,
+}
+
+// The numbers of the items without a need left. The least comes first.
+type Ready = BinaryHeap<Reverse<u64>>;
+
+/// The items that wait.
+#[derive(Drop)]
+pub struct Park<T> {
+    limit: u32,
+    count: u32,
+    // The number of the next item that is parked.
+    next: u64,
+    waiters: Waiters<T>,
+    waits: Waits,
+    ready: Ready,
+}
+
+impl<T> Model for Park<T> {
+    ghost use Rattle.hw_park.specs.Parked.{Parked};
+
+    ghost Value = { Parked T };
+
+    ghost use Rattle.std.specs.BinaryHeap.{heap_items, heap_len, heap_capacity};
+    ghost use Rattle.hw_park.specs.Kept.{parked_by, waiting_at, IsKept};
+
+    ghost view = { λ p. parked_by p.limit p.next p.waiters.entries };
+
+    ghost invariant = { λ p. IsKept p.limit p.count p.next (waiting_at p.waiters.entries) p.waits.entries (heap_items p.ready) (heap_len p.ready) (heap_capacity p.ready) };
+}
+
+impl<T: Drop> Park<T> {
+    /// Nothing is parked so far, and at most so many items may be.
+    pub fn new(alloc: Global, limit: u32) -> Result<Park<T>, OutOfMemory>
+        ensures { IfOk result (λ park. park ≡ record { limit = limit; waiting = [] }) }
+    {
+        Ok(Park {
+            limit,
+            count: 0,
+            next: 0,
+            waiters: IndexMap::new(alloc),
+            waits: IndexMap::new(alloc),
+            ready: BinaryHeap::new(alloc),
+        })
+    }
+
+    /// How many items are parked.
+    pub fn count(&self) -> u32
+        ensures { result ≡ length self.now.waiting }
+    {
+        self.count
+    }
+
+    /// Strikes a need from those of all items. It takes no memory.
+    pub fn met(&mut self, need: &Need)
+        ensures { self.new ≡ record self.old { waiting = struck need.now self.old.waiting } }
+    {
+        let Some(numbers) = self.waits.swap_remove(&key_of(need)) else {
+            return;
+        };
+        for number in &numbers {
+            if strike(&mut self.waiters, *number, need) {
+                // There is room, which was made when the item was parked.
+                let _ = self.ready.push(Reverse(*number));
+            }
+        }
+    }
+
+    /// Hands out the longest parked of the items that have no need left. It takes no memory.
+    pub fn next_ready(&mut self) -> Option<T>
+        ensures item { result ≡ next_item self.old.waiting }
+        ensures others { self.new ≡ record self.old { waiting = without_next self.old.waiting } }
+        ensures none { IsNone result ↔ All (λ w. w.needs ≢ []) self.old.waiting }
+        ensures unchanged { IfNone result (self.new ≡ self.old) }
+    {
+        let Reverse(number) = self.ready.pop()?;
+        let Waiter { item, .. } = self.waiters.swap_remove(&number)?;
+        self.count -= 1;
+        Some(item)
+    }
+
+    /// Parks an item until all of its needs are met. Where it is refused, it comes back and nothing has
+    /// changed.
+    pub fn park(&mut self, needs: &[Need], item: T) -> Result<(), ParkRefused<T>>
+        requires { 0 < length needs.now }
+
+        // The item goes last, with these needs.
+        ensures parked { OnOk result (self.new ≡ record self.old { waiting = self.old.waiting ++ record { needs = needs.now; item = item } ∷ [] }) }
+        ensures room { OnOk result (length self.old.waiting < self.old.limit) }
+
+        // A refusal changes nothing.
+        ensures unchanged { OnErr result (self.new ≡ self.old) }
+        ensures returned { IfErr result (λ refused. refused.item ≡ item) }
+        ensures full { IfErr result (λ refused. refused.cause ≡ ParkCause.Full → length self.old.waiting ≡ self.old.limit) }
+    {
+        if self.count == self.limit {
+            return Err(refused(ParkCause::Full, item));
+        }
+        let number = self.next;
+        // After 2^64 - 1 parkings there is no number left, which is answered as want of memory.
+        let Some(next) = number.checked_add(1) else {
+            return Err(refused(ParkCause::OutOfMemory, item));
+        };
+        let Ok(left) = prepare(&mut self.waits, &mut self.ready, needs, number, self.count) else {
+            return Err(refused(ParkCause::OutOfMemory, item));
+        };
+        match self.waiters.insert(number, Waiter { needs: left, item }) {
+            Ok(_) => {
+                self.count += 1;
+                self.next = next;
+                Ok(())
+            }
+            Err(failed) => {
+                let (_, waiter) = failed.value;
+                Err(refused(ParkCause::OutOfMemory, waiter.item))
+            }
+        }
+    }
+}
+
+// Takes the memory that one item more will need, but for its own place, and notes its needs.
+fn prepare(
+    waits: &mut Waits,
+    ready: &mut Ready,
+    needs: &[Need],
+    number: u64,
+    count: u32,
+) -> Result<Vec<Need>, OutOfMemory>
+    requires { heap_len ready.old ≤ count }
+    ensures items { heap_items ready.new ≡ heap_items ready.old }
+    ensures len { heap_len ready.new ≡ heap_len ready.old }
+    ensures capacity { heap_capacity ready.old ≤ heap_capacity ready.new }
+    ensures room { OnOk result (count + 1 ≤ heap_capacity ready.new) }
+    ensures kept { KeepsNumbers waits.old.entries waits.new.entries }
+    ensures noted { OnOk result (WaitsForAll waits.new.entries needs.now number) }
+    ensures left { IfOk result (λ left. left.items ≡ needs.now) }
+{
+    let alloc = *waits.allocator();
+    ready.reserve(count as usize + 1)?;
+    let left = Vec::from_slice(alloc, needs)?;
+    register(waits, alloc, needs, number)?;
+    Ok(left)
+}
+
+fn refused<T>(cause: ParkCause, item: T) -> ParkRefused<T>
+    ensures { result ≡ record { cause = cause; item = item } }
+{
+    ParkRefused { cause, item }
+}
