@@ -4,5 +4,9 @@
 #![tactic(auto)]
 
 mod alone;
+mod citations;
+mod endorsed;
+mod lookups;
+mod rounds;
 
 pub use alone::local;
