@@ -3,24 +3,30 @@ use Rattle.std.proofs.Common.{◌≡◌, ℕ, zero, suc, ◌+◌, ◌<◌, ◌�
 use Rattle.std.specs.Prelude.{◌&&◌, ◌==◌}
 use Rattle.std.specs.List.{list_any}
 use Rattle.std.specs.Option.{option_map}
+use Rattle.hw_types.specs.declared.unit.Digest.{Digest}
 use Rattle.hw_types.specs.declared.unit.Obs.{Obs}
 use Rattle.hw_types.specs.declared.unit.Obs.TheVariants.{Correct}
-use Rattle.hw_types.specs.Graph.{Node, is_some_and, slot, slots, cites, unit_cites, past, observed, latest, previous, is_consistent}
+use Rattle.hw_types.specs.Graph.{Node, digest_eq, is_some_and, slot, slots, cites, unit_cites, past, observed, latest, previous, is_consistent}
 use Rattle.hw_types.specs.Below.{Among}
 use Rattle.hw_types.specs.Rules.{some_cited}
 use Rattle.hw_types.proofs.ClosureLaws.{Within}
-use Rattle.hw_types.proofs.PastLaws.{any_of, reach_first, reach_further, reach_within}
+use Rattle.hw_types.proofs.PastLaws.{any_of, some_of, reach_first, reach_further, reach_within}
 use Rattle.hw_types.proofs.StableLaws.{OneName, and_whole}
-use Rattle.hw_types.proofs.WordsLaws.{any_none, none_any, found_node, slots_in, range_below, not_false}
+use Rattle.hw_types.proofs.WordsLaws.{any_none, none_any, and_none, either, found_node, slots_in, not_false}
+use Rattle.hw_types.proofs.SettledLaws.{digest_same, digest_self}
 use Rattle.hw_dag.specs.declared.numbers.UnitNo.{UnitNo}
 use Rattle.hw_dag.specs.declared.numbers.View.{View}
 use Rattle.hw_dag.specs.declared.numbers.View.TheVariants as view
 use Rattle.hw_dag.specs.Dag.{UnitGraph, unit_at, count_of, node_at, graph, creator_of, view_at, obs_of, observations, IsPanorama}
-use Rattle.hw_dag.specs.Admission.{PreparedUnit, node_prepared}
+use Rattle.hw_dag.specs.Admission.{PreparedUnit, IsNew, node_prepared}
+use Rattle.hw_dag.specs.Lanes.{is_seen}
 use Rattle.hw_dag.specs.Tables.{number_of, predecessor_of}
 use Rattle.hw_dag.proofs.NodeLaws.{among_node, node_among, graph_one_name}
 use Rattle.hw_dag.proofs.SlotLaws.{slot_of, slot_at, length-observations, number_cites, cited_number}
-use Rattle.hw_rules.specs.Judged.{IsCase, below_of, before_of, has_foreign_slot}
+use Rattle.hw_naivety.specs.Naivety.{KeepsEndorsed}
+use Rattle.hw_naivety.specs.Tips.{IsBelow}
+use Rattle.hw_naivety.proofs.BelowLaws.{below_under, under_below}
+use Rattle.hw_rules.specs.Judged.{IsCase, below_of, before_of, has_foreign_slot, has_named, drops_endorsed}
 use Rattle.hw_rules.proofs.ShrinkLaws.{consistent_same}
 
 -- a number as the definitions see it
@@ -149,3 +155,40 @@ module _ (dag : UnitGraph) (p : PreparedUnit) (case : IsCase dag p) where
   consistent_below = consistent_same below (graph dag) within (graph_one_name dag)
       (λ x y m n t. reach_further unit_cites (cites p.signed.unit.panorama) (graph dag) x y m n t)
       p.signed.unit.panorama (λ x m t. reach_first unit_cites (cites p.signed.unit.panorama) (graph dag) x m t)
+
+  -- ---- what is below, by number
+
+  pub seen_below : (n v : ℕ) (number : UnitNo) → n < count_of dag → view_at p.panorama v ≡ view.Correct number → is_seen dag n number.0 ≡ true → Among (node_at dag n) below
+  seen_below n v number lt e s = subst (λ (os : List Obs). Among (node_at dag n) (past (graph dag) os)) case.resolved.observes
+      (below_under dag case.graph_is p.panorama known n lt (record { slot = v; cited = number; observed = e; seen = s }))
+
+  pub below_seen : (n : ℕ) → n < count_of dag → Among (node_at dag n) below → IsBelow dag p.panorama n
+  below_seen n lt m = under_below dag case.graph_is p.panorama known n lt (subst (λ (os : List Obs). Among (node_at dag n) (past (graph dag) os)) (sym case.resolved.observes) m)
+
+  -- a unit of the name is below where the one of that name is
+  pub named_here : (n : ℕ) (d : Digest) → (unit_at dag n).digest ≡ d → Among (node_at dag n) below → has_named below d ≡ true
+  named_here n d e m = any_of (λ x. digest_eq x.digest d) (node_at dag n) below m (subst (λ (c : Digest). digest_eq (unit_at dag n).digest c ≡ true) e (digest_self (unit_at dag n).digest))
+
+  named_number : (d : Digest) → has_named below d ≡ true → (n : ℕ) × (n < count_of dag) × ((unit_at dag n).digest ≡ d) × Among (node_at dag n) below
+  named_number d t =
+      let x = some_of (λ x. digest_eq x.digest d) below t in
+      let n = among_node dag x.0 (within x.0 x.1) in
+      (n.0, n.1, ap (λ (y : Node). y.digest) n.2 ∙ digest_same x.0.digest d x.2, subst (λ (y : Node). Among y below) (sym n.2) x.1)
+
+  pub here_named : (n : ℕ) (d : Digest) → n < count_of dag → (unit_at dag n).digest ≡ d → has_named below d ≡ true → Among (node_at dag n) below
+  here_named n d lt e t =
+      let k = named_number d t in
+      subst (λ (i : ℕ). Among (node_at dag i) below) (case.graph_is.distinct k.0 n k.1 lt (k.2 ∙ sym e)) k.3
+
+  pub new_unnamed : (d : Digest) → IsNew dag d → has_named below d ≡ false
+  new_unnamed d new = elim (either (has_named below d)) [
+    | inl t ↦ absurd (let k = named_number d t in new k.0 k.1 k.2)
+    | inr f ↦ f
+  ]
+
+  -- ---- endorsed lists
+
+  pub keeps_endorsed : drops_endorsed below u ≡ false → KeepsEndorsed (graph dag) u
+  keeps_endorsed h w m t =
+      let here = reach_first unit_cites (cites p.signed.unit.panorama) (graph dag) w m t in
+      not_false _ (and_none (cites p.signed.unit.panorama w) _ (any_none _ below h w here) t)

@@ -1,0 +1,8 @@
+use Rattle.hw_rules.proofs.CaseLaws.{panorama_is, keeps_endorsed}
+use Rattle.hw_rules.proofs.endorsed.has_naive_fork.Goals as goal
+
+pub check-requires-clause-panorama : goal.check-requires-clause-panorama
+check-requires-clause-panorama c = panorama_is c.args.dag.now c.args.prepared.now c.requires.case c.requires.slots
+
+pub check-requires-clause-endorsed : goal.check-requires-clause-endorsed
+check-requires-clause-endorsed c = keeps_endorsed c.args.dag.now c.args.prepared.now c.requires.case c.requires.kept
