@@ -1,11 +1,9 @@
 -- The units below a unit on its way in, by number.
-use Rattle.std.proofs.Common.{◌≡◌, ℕ, zero, suc, ◌+◌, ◌<◌, ◌≤◌, ◌⊎◌, inl, inr, Bool, true, false, not, List, [], ◌∷◌, length, Option, Some, None, refl, sym, ap, subst, ◌∙◌, arith, eqb-true}
+use Rattle.std.proofs.Common.{◌≡◌, ℕ, zero, suc, ◌<◌, inl, inr, Bool, true, false, not, List, [], ◌∷◌, length, Option, Some, None, refl, sym, ap, subst, ◌∙◌, arith, eqb-true}
 use Rattle.std.specs.Prelude.{◌&&◌, ◌==◌}
-use Rattle.std.specs.List.{list_any}
 use Rattle.std.specs.Option.{option_map}
 use Rattle.hw_types.specs.declared.unit.Digest.{Digest}
 use Rattle.hw_types.specs.declared.unit.Obs.{Obs}
-use Rattle.hw_types.specs.declared.unit.Obs.TheVariants.{Correct}
 use Rattle.hw_types.specs.Graph.{Node, digest_eq, is_some_and, slot, slots, cites, unit_cites, past, observed, latest, previous, is_consistent}
 use Rattle.hw_types.specs.Below.{Among}
 use Rattle.hw_types.specs.Rules.{some_cited}
@@ -17,7 +15,7 @@ use Rattle.hw_types.proofs.SettledLaws.{digest_same, digest_self}
 use Rattle.hw_dag.specs.declared.numbers.UnitNo.{UnitNo}
 use Rattle.hw_dag.specs.declared.numbers.View.{View}
 use Rattle.hw_dag.specs.declared.numbers.View.TheVariants as view
-use Rattle.hw_dag.specs.Dag.{UnitGraph, unit_at, count_of, node_at, graph, creator_of, view_at, obs_of, observations, IsPanorama}
+use Rattle.hw_dag.specs.Dag.{UnitGraph, unit_at, count_of, node_at, graph, creator_of, view_at, obs_of, IsPanorama}
 use Rattle.hw_dag.specs.Admission.{PreparedUnit, IsNew, node_prepared}
 use Rattle.hw_dag.specs.Lanes.{is_seen}
 use Rattle.hw_dag.specs.Tables.{number_of, predecessor_of}

@@ -4,7 +4,7 @@ use Rattle.std.specs.Prelude.{◌||◌}
 use Rattle.hw_types.specs.declared.unit.Digest.{Digest}
 use Rattle.hw_types.specs.declared.unit.Obs.{Obs}
 use Rattle.hw_types.specs.declared.unit.Obs.TheVariants.{Absent, Correct, Faulty}
-use Rattle.hw_types.specs.Graph.{Node, node_eq, is_some_and, slot, slots, cites, follows, lane_of, is_on_lane, find_node, obs_at_most, is_at_most, is_consistent}
+use Rattle.hw_types.specs.Graph.{Node, node_eq, slot, slots, cites, follows, lane_of, is_on_lane, find_node, obs_at_most, is_at_most, is_consistent}
 use Rattle.hw_types.specs.Below.{Among}
 use Rattle.hw_types.proofs.ClosureLaws.{Within}
 use Rattle.hw_types.proofs.PastLaws.{any_within, reach_stays}
@@ -54,9 +54,9 @@ module _ (units more : List Node) (part : Within units more) (one_name : OneName
         go w m true e t =
             let met : is_at_most more w.unit.panorama panorama ≡ true = subst (λ b. (not b || is_at_most more w.unit.panorama panorama) ≡ true) e t in
             rw e (each_all _ (slots w.unit.panorama) (λ v n. met_shrinks (slot w.unit.panorama v) (slot panorama v)
-                (λ d x s f. slot_there w.unit.panorama v (λ y my c. closed y w m my c) d x s f)
-                (λ d x s f. slot_there panorama v own d x s f)
-                (all_of _ (slots w.unit.panorama) met v n)))
+            (λ d x s f. slot_there w.unit.panorama v (λ y my c. closed y w m my c) d x s f)
+            (λ d x s f. slot_there panorama v own d x s f)
+            (all_of _ (slots w.unit.panorama) met v n)))
 
     pub consistent_same : is_consistent units panorama ≡ is_consistent more panorama
     consistent_same = both_ways (is_consistent units panorama) (is_consistent more panorama) (consistent_grows units more part one_name panorama own) consistent_shrinks

@@ -1,6 +1,7 @@
 -- What is judged: a unit over the units below it, by groups of rules.
-use Rattle.std.specs.Prelude.{◌≡◌, ◌+◌, ◌&&◌, ◌||◌, ◌==◌, Bool, not, nat_lt, List, [], ◌∷◌, ◌<◌, ◌≤◌, ◌^◌, Option, None}
+use Rattle.std.specs.Prelude.{◌≡◌, ℕ, ◌+◌, ◌&&◌, ◌||◌, ◌==◌, Bool, not, nat_lt, List, [], ◌∷◌, Option, None}
 use Rattle.std.specs.List.{list_any, list_all}
+use Rattle.std.specs.Option.{option_map}
 use Rattle.hw_types.specs.declared.answers.Rule.{Rule}
 use Rattle.hw_types.specs.declared.answers.Rule.TheVariants.{SlotCreator, SequenceNumber, Inconsistent, TimeGoesBack, RoundChange, ThirdInRound, NotLeader, EndorsedShrinks, EndorsedUnseen, Naive, AfterTerminal}
 use Rattle.hw_types.specs.declared.config.Config.{Config}
@@ -8,11 +9,11 @@ use Rattle.hw_types.specs.declared.unit.Digest.{Digest}
 use Rattle.hw_types.specs.declared.unit.WireUnit.{WireUnit}
 use Rattle.hw_types.specs.Tests.{Tests}
 use Rattle.hw_types.specs.Graph.{Node, digest_eq, is_some_and, slots, latest, past, previous, is_consistent}
-use Rattle.hw_types.specs.Votes.{is_block}
+use Rattle.hw_types.specs.Votes.{is_block, height_of, fork_over, fork_of}
 use Rattle.hw_types.specs.Rounds.{round_id, changes_lawfully, leader_of}
 use Rattle.hw_types.specs.Rules.{local_rule, some_cited, has_digest, same_round, has_naive_fork, is_after_terminal}
 use Rattle.hw_dag.specs.declared.numbers.UnitNo.{UnitNo}
-use Rattle.hw_dag.specs.Dag.{UnitGraph, graph, view_at}
+use Rattle.hw_dag.specs.Dag.{UnitGraph, node_at, graph, view_at}
 use Rattle.hw_dag.specs.Tables.{number_of}
 use Rattle.hw_dag.specs.Admission.{PreparedUnit, IsFor, IsResolved, IsGraph}
 
@@ -64,8 +65,8 @@ repeats_time below u = is_some_and (λ p. p.unit.time == u.unit.time) (previous 
 abbrev pub is_unled : Config → List Node → Node → Bool
 is_unled config below u =
     is_block u && (not (u.unit.time == round_id u.unit.time u.unit.exponent)
-        || not (u.unit.creator == leader_of config (round_id u.unit.time u.unit.exponent))
-        || repeats_time below u)
+    || not (u.unit.creator == leader_of config (round_id u.unit.time u.unit.exponent))
+    || repeats_time below u)
 
 -- a cited unit's list has a digest that its own hasn't
 abbrev pub drops_endorsed : List Node → Node → Bool
@@ -78,6 +79,14 @@ has_named below d = list_any (λ x. digest_eq x.digest d) below
 -- its list has a digest of no unit below
 abbrev pub endorses_unseen : List Node → Node → Bool
 endorses_unseen below u = not (list_all (has_named below) u.unit.endorsed)
+
+-- the fork choice of its panorama has this height
+abbrev pub stands_at : List ℕ → List Node → Node → ℕ → Bool
+stands_at weights below u height = is_some_and (λ b. height_of weights below b == height) (fork_over weights below u.unit.panorama)
+
+-- the fork choice of the unit's panorama
+abbrev pub IsForkOf : List ℕ → UnitGraph → PreparedUnit → Option UnitNo → Type 0
+IsForkOf weights dag p fork = option_map (λ (no : UnitNo). node_at dag no.0) fork ≡ fork_of weights (graph dag) p.signed.unit.panorama
 
 -- ---- the rules in groups
 

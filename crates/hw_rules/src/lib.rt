@@ -6,7 +6,9 @@
 mod alone;
 mod citations;
 mod endorsed;
+mod judge;
 mod lookups;
 mod rounds;
 
 pub use alone::local;
+pub use judge::Judge;

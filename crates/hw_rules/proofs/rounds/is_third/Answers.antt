@@ -20,7 +20,7 @@ returns-in_default-previous_of c =
     let e = number_some (view_at p.panorama v) c.in-Some.no is in
     let own = λ (g : Node). same_round g (node_prepared p) in
     sym (before_some dag p c.requires.case (λ (q : Node). is_some_and own (previous (below_of dag p) q)) c.in-Some.no is
-        ∙ second_none dag p c.requires.case own c.in-Some.no.0 (c.requires.case.resolved.known v c.in-Some.no e) (cited_below dag p c.requires.case v c.in-Some.no e) (sym c.previous_of.ensures ∙ c.in_default-previous_of.is))
+    ∙ second_none dag p c.requires.case own c.in-Some.no.0 (c.requires.case.resolved.known v c.in-Some.no e) (cited_below dag p c.requires.case v c.in-Some.no e) (sym c.previous_of.ensures ∙ c.in_default-previous_of.is))
 
 pub returns : goal.returns
 returns c =
@@ -34,5 +34,5 @@ returns c =
     c.is_same_round.ensures ∙ ap (λ (w : WireUnit). w.time / 2 ^ c.signed.result.now.unit.exponent == c.signed.result.now.unit.time / 2 ^ c.signed.result.now.unit.exponent) c.wire_unit.ensures
     ∙ ap (λ (s : SignedUnit). first.time / 2 ^ s.unit.exponent == s.unit.time / 2 ^ s.unit.exponent) c.signed.ensures
     ∙ sym (before_some dag p c.requires.case (λ (q : Node). is_some_and own (previous (below_of dag p) q)) c.in-Some.no is
-        ∙ second_some dag p c.requires.case own c.in-Some.no.0 c.in-Some-previous_of.first (c.requires.case.resolved.known v c.in-Some.no e) (cited_below dag p c.requires.case v c.in-Some.no e)
-        (sym c.previous_of.ensures ∙ c.in-Some-previous_of.is))
+    ∙ second_some dag p c.requires.case own c.in-Some.no.0 c.in-Some-previous_of.first (c.requires.case.resolved.known v c.in-Some.no e) (cited_below dag p c.requires.case v c.in-Some.no e)
+    (sym c.previous_of.ensures ∙ c.in-Some-previous_of.is))
