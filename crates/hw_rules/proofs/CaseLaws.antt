@@ -10,7 +10,7 @@ use Rattle.hw_types.specs.Rules.{some_cited}
 use Rattle.hw_types.proofs.ClosureLaws.{Within}
 use Rattle.hw_types.proofs.PastLaws.{any_of, some_of, reach_first, reach_further, reach_within}
 use Rattle.hw_types.proofs.StableLaws.{OneName, and_whole}
-use Rattle.hw_types.proofs.WordsLaws.{any_none, none_any, and_none, either, found_node, slots_in, not_false}
+use Rattle.hw_types.proofs.WordsLaws.{any_none, none_any, either, found_node, slots_in, not_false}
 use Rattle.hw_types.proofs.SettledLaws.{digest_same, digest_self}
 use Rattle.hw_dag.specs.declared.numbers.UnitNo.{UnitNo}
 use Rattle.hw_dag.specs.declared.numbers.View.{View}
@@ -21,10 +21,9 @@ use Rattle.hw_dag.specs.Lanes.{is_seen}
 use Rattle.hw_dag.specs.Tables.{number_of, predecessor_of}
 use Rattle.hw_dag.proofs.NodeLaws.{among_node, node_among, graph_one_name}
 use Rattle.hw_dag.proofs.SlotLaws.{slot_of, slot_at, length-observations, number_cites, cited_number}
-use Rattle.hw_naivety.specs.Naivety.{KeepsEndorsed}
 use Rattle.hw_naivety.specs.Tips.{IsBelow}
 use Rattle.hw_naivety.proofs.BelowLaws.{below_under, under_below}
-use Rattle.hw_rules.specs.Judged.{IsCase, below_of, before_of, has_foreign_slot, has_named, drops_endorsed}
+use Rattle.hw_rules.specs.Judged.{IsCase, below_of, before_of, has_foreign_slot, has_named}
 use Rattle.hw_rules.proofs.ShrinkLaws.{consistent_same}
 
 -- a number as the definitions see it
@@ -183,10 +182,3 @@ module _ (dag : UnitGraph) (p : PreparedUnit) (case : IsCase dag p) where
     | inl t ↦ absurd (let k = named_number d t in new k.0 k.1 k.2)
     | inr f ↦ f
   ]
-
-  -- ---- endorsed lists
-
-  pub keeps_endorsed : drops_endorsed below u ≡ false → KeepsEndorsed (graph dag) u
-  keeps_endorsed h w m t =
-      let here = reach_first unit_cites (cites p.signed.unit.panorama) (graph dag) w m t in
-      not_false _ (and_none (cites p.signed.unit.panorama w) _ (any_none _ below h w here) t)

@@ -15,7 +15,7 @@ module _ (config : Config) (p : PreparedUnit) (alone : KeepsLocalRules config p.
   kept : AllFalse (local_tests config alone.0 p.signed.unit)
   kept = none_broken _ alone.1
 
-  fits : IsFor (length config.weights) p.signed
+  pub fits : IsFor (length config.weights) p.signed
   unfolding local_tests
   fits = record { creator_is = leb-false (length config.weights) p.signed.unit.creator kept.1.0; length_is = eqb-true _ _ (not_false _ kept.1.1.0) }
 

@@ -3,12 +3,17 @@ use Rattle.std.proofs.Common.{◌≡◌, ℕ, Bool, true, false, cond, List, [],
 use Rattle.std.specs.Prelude.{◌&&◌, Ok, Err}
 use Rattle.hw_types.specs.declared.answers.Rule.{Rule}
 use Rattle.hw_types.specs.declared.config.Config.{Config}
-use Rattle.hw_types.specs.Graph.{Node}
+use Rattle.hw_types.specs.Graph.{Node, cites, unit_cites, past}
 use Rattle.hw_types.specs.Tests.{Tests, first_broken}
 use Rattle.hw_types.specs.declared.answers.Rule.TheVariants.{AfterTerminal}
 use Rattle.hw_types.specs.Votes.{is_block}
 use Rattle.hw_types.specs.Rules.{state_tests, is_after_terminal}
-use Rattle.hw_rules.specs.Judged.{citation_tests, round_tests, endorsed_tests, terminal_tests, stands_at}
+use Rattle.hw_types.proofs.PastLaws.{reach_first}
+use Rattle.hw_types.proofs.WordsLaws.{any_none, and_none, not_false, none_broken}
+use Rattle.hw_dag.specs.Dag.{graph}
+use Rattle.hw_naivety.specs.Naivety.{KeepsEndorsed}
+use Rattle.hw_rules.specs.Laws.{EndorsedIsKept}
+use Rattle.hw_rules.specs.Judged.{drops_endorsed, citation_tests, round_tests, endorsed_tests, terminal_tests, stands_at}
 use Rattle.hw_rules.specs.Verdict.{verdict_of}
 
 pub err_broken : (o : Option Rule) (rule : Rule) → verdict_of o ≡ Err rule → o ≡ Some rule
@@ -97,3 +102,16 @@ module _ (config : Config) (below : List Node) (u : Node) where
 
   pub last_kept : is_after_terminal config below u ≡ false → first_broken last ≡ None
   last_kept f = rw f refl
+
+-- ---- endorsed lists and naive forks
+
+-- a unit whose list drops nothing has the lists of the units that it cites
+pub keeps_endorsed : (units : List Node) (u : Node) → drops_endorsed (past units u.unit.panorama) u ≡ false → KeepsEndorsed units u
+keeps_endorsed units u h w m t =
+    not_false _ (and_none (cites u.unit.panorama w) _ (any_none _ (past units u.unit.panorama) h w (reach_first unit_cites (cites u.unit.panorama) units w m t)) t)
+
+pub endorsed_is_kept : EndorsedIsKept
+unfolding state_tests
+endorsed_is_kept config dag u kept =
+    let all = none_broken (state_tests config (past (graph dag) u.unit.panorama) u) kept in
+    (keeps_endorsed (graph dag) u all.1.1.1.1.1.1.1.0, all.1.1.1.1.1.1.1.1.1.0)
