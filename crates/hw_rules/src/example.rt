@@ -28,9 +28,9 @@ pub struct Row<'a> {
     pub seq: u64,
     pub time: u64,
     pub exponent: u8,
-    pub cites: &'a [&'a str],
+    pub cites: &'a str,
     pub is_block: bool,
-    pub endorsed: &'a [&'a str],
+    pub endorsed: &'a str,
 }
 
 /// The instance of all units.
@@ -39,7 +39,7 @@ pub fn instance() -> Digest {
 }
 
 /// A short word as a name.
-pub fn named(word: &str) -> Digest {
+fn named(word: &str) -> Digest {
     let mut bytes = [0; 32];
     for (place, byte) in word.bytes().enumerate() {
         bytes[place % 32] = byte;
@@ -57,13 +57,13 @@ fn observed(word: &str) -> Obs {
 }
 
 /// The row as its creator signs it.
-fn signed(alloc: Global, row: &Row<'_>) -> Result<SignedUnit, OutOfMemory> {
+pub fn signed(alloc: Global, row: &Row<'_>) -> Result<SignedUnit, OutOfMemory> {
     let mut panorama = ObsList::new(alloc);
-    for word in row.cites {
+    for word in row.cites.split_whitespace() {
         panorama.push(observed(word))?;
     }
     let mut endorsed = DigestList::new(alloc);
-    for word in row.endorsed {
+    for word in row.endorsed.split_whitespace() {
         endorsed.push(named(word))?;
     }
     Ok(SignedUnit {

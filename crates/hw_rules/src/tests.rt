@@ -2,86 +2,14 @@
 //! example of the definitions.
 
 use crate::alone::local;
-use crate::example::{Example, Row, config_of, instance, named};
-use hw_types::{Bytes, Digest, DigestList, Obs, ObsList, OutOfMemory, Rule, WireUnit};
+use crate::example::{Example, Row, config_of, instance, signed};
+use hw_types::{Digest, OutOfMemory, Rule};
 use std::alloc::Global;
 use std::process::Abort;
 use std::test::Fail;
 
-/// Bob's first unit, which keeps all rules of the unit alone.
-fn lawful(alloc: Global) -> Result<WireUnit, OutOfMemory> {
-    let cites = [
-        Obs::Correct(named("a0")),
-        Obs::Absent,
-        Obs::Absent,
-        Obs::Absent,
-    ];
-    Ok(WireUnit {
-        instance: instance(),
-        creator: 1,
-        seq: 0,
-        time: 18,
-        exponent: 4,
-        panorama: ObsList::from_vec(Vec::from_slice(alloc, &cites)?),
-        value: None,
-        endorsed: DigestList::from_vec(Vec::from_slice(alloc, &[named("b1"), named("c1")])?),
-    })
-}
-
-/// The lawful unit, changed so that it breaks the rule and no other of the unit alone.
-fn breaking(alloc: Global, rule: Rule) -> Result<WireUnit, OutOfMemory> {
-    let mut unit = lawful(alloc)?;
-    match rule {
-        Rule::WrongInstance => unit.instance = Digest([9; 32]),
-        Rule::UnknownCreator => unit.creator = 4,
-        Rule::PanoramaLength => unit.panorama.push(Obs::Absent)?,
-        Rule::FaultySelf => {
-            let cites = [
-                Obs::Correct(named("a0")),
-                Obs::Faulty,
-                Obs::Absent,
-                Obs::Absent,
-            ];
-            unit.panorama = ObsList::from_vec(Vec::from_slice(alloc, &cites)?);
-        }
-        Rule::FirstSequence => unit.seq = 1,
-        Rule::RoundExponent => unit.exponent = 3,
-        Rule::EndorsedOrder => {
-            let endorsed = [named("c1"), named("b1")];
-            unit.endorsed = DigestList::from_vec(Vec::from_slice(alloc, &endorsed)?);
-        }
-        Rule::NoBlock => {
-            let cites = [Obs::Absent; 4];
-            unit.panorama = ObsList::from_vec(Vec::from_slice(alloc, &cites)?);
-        }
-        _ => unit.value = Some(Bytes::new(alloc)),
-    }
-    Ok(unit)
-}
-
-#[test]
-fn the_first_broken_rule_of_the_unit_alone_is_named(rt: HostRuntime) -> Result<(), Fail> {
-    let config = config_of(&rt, rt.alloc(), None)?;
-    let lawful = lawful(rt.alloc())?;
-    assert_eq!(rt; local(&config, &instance(), &lawful), Ok(()));
-    for rule in [
-        Rule::WrongInstance,
-        Rule::UnknownCreator,
-        Rule::PanoramaLength,
-        Rule::FaultySelf,
-        Rule::FirstSequence,
-        Rule::RoundExponent,
-        Rule::EndorsedOrder,
-        Rule::NoBlock,
-    ] {
-        let unit = breaking(rt.alloc(), rule)?;
-        assert_eq!(rt; local(&config, &instance(), &unit), Err(rule));
-    }
-    Ok(())
-}
-
 /// A unit without a value and without an endorsed list.
-fn unit<'a>(name: &'a str, creator: u32, seq: u64, time: u64, cites: &'a [&'a str]) -> Row<'a> {
+fn unit<'a>(name: &'a str, creator: u32, seq: u64, time: u64, cites: &'a str) -> Row<'a> {
     Row {
         name,
         creator,
@@ -90,35 +18,81 @@ fn unit<'a>(name: &'a str, creator: u32, seq: u64, time: u64, cites: &'a [&'a st
         exponent: 4,
         cites,
         is_block: false,
-        endorsed: &[],
+        endorsed: "",
     }
 }
 
 /// A block.
-fn block<'a>(name: &'a str, creator: u32, seq: u64, time: u64, cites: &'a [&'a str]) -> Row<'a> {
+fn block<'a>(name: &'a str, creator: u32, seq: u64, time: u64, cites: &'a str) -> Row<'a> {
     Row {
         is_block: true,
         ..unit(name, creator, seq, time, cites)
     }
 }
 
+#[test]
+fn the_first_broken_rule_of_the_unit_alone_is_named(rt: HostRuntime) -> Result<(), Fail> {
+    let alloc = rt.alloc();
+    let config = config_of(&rt, alloc, None)?;
+    let lawful = unit("x", 1, 0, 18, "a0 - - -");
+    for (row, verdict) in [
+        (lawful, Ok(())),
+        (unit("x", 4, 0, 18, "a0 - - -"), Err(Rule::UnknownCreator)),
+        (unit("x", 1, 0, 18, "a0 - -"), Err(Rule::PanoramaLength)),
+        (unit("x", 1, 0, 18, "a0 ! - -"), Err(Rule::FaultySelf)),
+        (unit("x", 1, 1, 18, "a0 - - -"), Err(Rule::FirstSequence)),
+        (unit("x", 1, 0, 18, "a0 b0 - -"), Err(Rule::FirstSequence)),
+        (
+            Row {
+                exponent: 3,
+                ..lawful
+            },
+            Err(Rule::RoundExponent),
+        ),
+        (
+            Row {
+                exponent: 9,
+                ..lawful
+            },
+            Err(Rule::RoundExponent),
+        ),
+        (
+            Row {
+                endorsed: "c1 b1",
+                ..lawful
+            },
+            Err(Rule::EndorsedOrder),
+        ),
+        (unit("x", 1, 0, 18, "- - - -"), Err(Rule::NoBlock)),
+    ] {
+        let signed = signed(alloc, &row)?;
+        assert_eq!(rt; local(&config, &instance(), &signed.unit), verdict);
+    }
+    let signed = signed(alloc, &lawful)?;
+    assert_eq!(rt;
+        local(&config, &Digest([9; 32]), &signed.unit),
+        Err(Rule::WrongInstance)
+    );
+    Ok(())
+}
+
 /// The eleven units of the running example, each of which is judged before it comes in.
 fn running_example(rt: &impl Abort, alloc: Global) -> Result<Example, OutOfMemory> {
     let mut example = Example::new(rt, alloc, None)?;
     for row in [
-        block("a0", 0, 0, 16, &["-", "-", "-", "-"]),
-        unit("b0", 1, 0, 18, &["a0", "-", "-", "-"]),
-        unit("c0", 2, 0, 18, &["a0", "-", "-", "-"]),
-        unit("d0", 3, 0, 19, &["a0", "-", "-", "-"]),
-        unit("f0", 3, 0, 20, &["a0", "-", "-", "-"]),
-        unit("b1", 1, 1, 27, &["a0", "b0", "c0", "-"]),
-        unit("c1", 2, 1, 27, &["a0", "b0", "c0", "-"]),
-        block("b2", 1, 2, 32, &["a0", "b1", "c1", "d0"]),
-        unit("c2", 2, 2, 43, &["a0", "b1", "c1", "f0"]),
-        block("c3", 2, 3, 48, &["a0", "b1", "c2", "f0"]),
+        block("a0", 0, 0, 16, "- - - -"),
+        unit("b0", 1, 0, 18, "a0 - - -"),
+        unit("c0", 2, 0, 18, "a0 - - -"),
+        unit("d0", 3, 0, 19, "a0 - - -"),
+        unit("f0", 3, 0, 20, "a0 - - -"),
+        unit("b1", 1, 1, 27, "a0 b0 c0 -"),
+        unit("c1", 2, 1, 27, "a0 b0 c0 -"),
+        block("b2", 1, 2, 32, "a0 b1 c1 d0"),
+        unit("c2", 2, 2, 43, "a0 b1 c1 f0"),
+        block("c3", 2, 3, 48, "a0 b1 c2 f0"),
         Row {
-            endorsed: &["b2"],
-            ..unit("a1", 0, 1, 58, &["a0", "b2", "c2", "!"])
+            endorsed: "b2",
+            ..unit("a1", 0, 1, 58, "a0 b2 c2 !")
         },
     ] {
         assert_eq!(rt; example.settle(rt, alloc, &row)?, Ok(()), "{}", row.name);
@@ -130,18 +104,30 @@ fn running_example(rt: &impl Abort, alloc: Global) -> Result<Example, OutOfMemor
 fn the_first_broken_rule_over_the_units_below_is_named(rt: HostRuntime) -> Result<(), Fail> {
     let alloc = rt.alloc();
     let mut example = running_example(&rt, alloc)?;
-    let cites = &["a0", "b2", "c1", "d0"];
+    let cites = "a0 b2 c1 d0";
     for (rule, row) in [
-        (Rule::SlotCreator, unit("x", 1, 3, 58, &["b2", "b2", "c1", "d0"])),
+        (Rule::SlotCreator, unit("x", 1, 3, 58, "b2 b2 c1 d0")),
         (Rule::SequenceNumber, unit("x", 1, 4, 58, cites)),
-        (Rule::Inconsistent, unit("x", 1, 3, 58, &["a0", "b2", "c0", "d0"])),
+        (Rule::Inconsistent, unit("x", 1, 3, 58, "a0 b2 c0 d0")),
         (Rule::TimeGoesBack, unit("x", 1, 3, 31, cites)),
-        (Rule::RoundChange, Row { exponent: 5, ..unit("x", 1, 3, 58, cites) }),
-        (Rule::ThirdInRound, unit("x", 1, 2, 30, &["a0", "b1", "c1", "-"])),
+        (
+            Rule::RoundChange,
+            Row {
+                exponent: 5,
+                ..unit("x", 1, 3, 58, cites)
+            },
+        ),
+        (Rule::ThirdInRound, unit("x", 1, 2, 30, "a0 b1 c1 -")),
         (Rule::NotLeader, block("x", 1, 3, 64, cites)),
-        (Rule::EndorsedShrinks, unit("x", 0, 2, 64, &["a1", "b2", "c2", "!"])),
-        (Rule::EndorsedUnseen, Row { endorsed: &["b2"], ..unit("x", 2, 4, 64, &["a0", "b1", "c3", "f0"]) }),
-        (Rule::Naive, unit("x", 0, 1, 58, &["a0", "b2", "c2", "!"])),
+        (Rule::EndorsedShrinks, unit("x", 0, 2, 64, "a1 b2 c2 !")),
+        (
+            Rule::EndorsedUnseen,
+            Row {
+                endorsed: "b2",
+                ..unit("x", 2, 4, 64, "a0 b1 c3 f0")
+            },
+        ),
+        (Rule::Naive, unit("x", 0, 1, 58, "a0 b2 c2 !")),
     ] {
         assert_eq!(rt; example.settle(&rt, alloc, &row)?, Err(rule));
     }
@@ -153,11 +139,14 @@ fn the_first_broken_rule_over_the_units_below_is_named(rt: HostRuntime) -> Resul
 fn no_block_stands_on_the_last_one(rt: HostRuntime) -> Result<(), Fail> {
     let alloc = rt.alloc();
     let mut example = Example::new(&rt, alloc, Some(0))?;
-    let first = block("a0", 0, 0, 16, &["-", "-", "-", "-"]);
+    let first = block("a0", 0, 0, 16, "- - - -");
     assert_eq!(rt; example.settle(&rt, alloc, &first)?, Ok(()));
-    let vote = unit("b0", 1, 0, 32, &["a0", "-", "-", "-"]);
-    let second = block("x", 1, 0, 32, &["a0", "-", "-", "-"]);
-    assert_eq!(rt; example.settle(&rt, alloc, &second)?, Err(Rule::AfterTerminal));
+    let vote = unit("b0", 1, 0, 32, "a0 - - -");
+    let second = block("x", 1, 0, 32, "a0 - - -");
+    assert_eq!(rt;
+        example.settle(&rt, alloc, &second)?,
+        Err(Rule::AfterTerminal)
+    );
     assert_eq!(rt; example.settle(&rt, alloc, &vote)?, Ok(()));
     Ok(())
 }
