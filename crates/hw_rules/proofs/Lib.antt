@@ -4,4 +4,3 @@ pub mod RoundLaws
 pub mod HeightLaws
 pub mod StateLaws
 pub mod LocalLaws
-pub mod TestedLaws

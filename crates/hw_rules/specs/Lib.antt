@@ -1,4 +1,3 @@
 pub mod Verdict
 pub mod Judged
 pub mod Laws
-pub mod Tested

@@ -10,8 +10,6 @@
 mod alone;
 mod citations;
 mod endorsed;
-#[cfg(test)]
-mod example;
 mod judge;
 mod laws;
 mod lookups;
