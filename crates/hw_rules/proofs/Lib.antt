@@ -1,0 +1,6 @@
+pub mod CaseLaws
+pub mod ShrinkLaws
+pub mod RoundLaws
+pub mod HeightLaws
+pub mod StateLaws
+pub mod LocalLaws

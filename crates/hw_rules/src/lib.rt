@@ -1,0 +1,22 @@
+//! The rules that a unit keeps, tested in their order: the first that is broken is answered.
+//!
+//! `local` tests the rules of the unit alone, and a [`Judge`] those over the units below it. A unit that
+//! breaks none is answered with the fork choice of its panorama, with which it is admitted to the graph.
+//!
+//! The definitions state each rule as a test over the units below, by name. The graph answers it by
+//! number: units in slots, steps back along a lane, a walk over what is cited. Nothing here takes memory.
+#![tactic(auto)]
+
+mod alone;
+mod citations;
+mod endorsed;
+mod judge;
+mod laws;
+mod lookups;
+mod rounds;
+#[cfg(test)]
+mod tests;
+
+pub use alone::local;
+pub use judge::Judge;
+pub use laws::endorsed_is_kept;
