@@ -1,0 +1,75 @@
+//! Level 0: from where on each validator votes for the block or descendants of it.
+
+ghost use Rattle.std.specs.Prelude.{◌≡◌, ℕ, ◌<◌, length, true, IfNone, IfSome};
+ghost use Rattle.hw_forks.specs.Walk.{is_over};
+ghost use Rattle.hw_dag.specs.Dag.{unit_at, count_of, IsPanorama, view_at};
+ghost use Rattle.hw_dag.specs.Tables.{predecessor_of};
+ghost use Rattle.hw_dag.specs.Admission.{IsGraph};
+ghost use Rattle.hw_horizon.specs.Tables.{entry};
+ghost use Rattle.hw_horizon.specs.Starts.{IsStart, IsSlotStart, IsEarlierVote, votes_over};
+
+use crate::jumps::ancestor_at;
+use crate::table::Table;
+use hw_dag::{Dag, Panorama, UnitNo, View};
+
+/// Puts into the table from where on the lane of each Correct slot votes for the block or descendants
+/// of it.
+pub fn put_vote_starts(table: &mut Table, dag: &Dag, panorama: &Panorama, block: UnitNo)
+    requires graph { IsGraph dag.now }
+    requires panorama { IsPanorama dag.now panorama.now }
+    requires known { block.0 < count_of dag.now }
+    requires length { length table.old ≡ dag.now.validators }
+    ensures length { length table.new ≡ dag.now.validators }
+    ensures starts { (v : ℕ) → v < dag.now.validators → IsSlotStart dag.now (view_at panorama.now v) 0 (votes_over dag.now block.0) (entry table.new v) }
+{
+    for v in 0..dag.validators() {
+        let start = match panorama.get(v) {
+            View::Correct(tip) => vote_start(dag, tip, block),
+            View::Absent | View::Faulty => None,
+        };
+        table.set(v, start);
+    }
+}
+
+// The number from which on each unit of the lane votes for the block or a descendant of it.
+fn vote_start(dag: &Dag, tip: UnitNo, block: UnitNo) -> Option<u64>
+    requires graph { IsGraph dag.now }
+    requires known { tip.0 < count_of dag.now }
+    requires block_known { block.0 < count_of dag.now }
+    ensures { IsStart dag.now tip.0 0 (votes_over dag.now block.0) result }
+{
+    if !votes_for(dag, tip, block) {
+        return None;
+    }
+    let mut first = tip;
+    while let Some(before) = earlier_vote(dag, first, block) {
+        first = before;
+    }
+    Some(dag.unit(first).signed().unit.seq)
+}
+
+// The unit that comes before it on its lane, where that votes for the block or a descendant of it.
+fn earlier_vote(dag: &Dag, no: UnitNo, block: UnitNo) -> Option<UnitNo>
+    requires graph { IsGraph dag.now }
+    requires known { no.0 < count_of dag.now }
+    requires block_known { block.0 < count_of dag.now }
+    ensures { IsEarlierVote dag.now no.0 block.0 result }
+{
+    let unit = dag.unit(no);
+    match unit.panorama().get(unit.signed().unit.creator) {
+        View::Correct(before) if votes_for(dag, before, block) => Some(before),
+        _ => None,
+    }
+}
+
+// Whether the unit votes for the block or a descendant of it.
+fn votes_for(dag: &Dag, no: UnitNo, block: UnitNo) -> bool
+    requires graph { IsGraph dag.now }
+    requires known { no.0 < count_of dag.now }
+    requires block_known { block.0 < count_of dag.now }
+    ensures { result ≡ votes_over dag.now block.0 no.0 }
+{
+    let vote = dag.unit(no).vote();
+    let height = dag.unit(block).height().unwrap_or(0);
+    height <= dag.unit(vote).height().unwrap_or(0) && ancestor_at(dag, vote, height) == block
+}
