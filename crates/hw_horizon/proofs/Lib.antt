@@ -1,0 +1,6 @@
+pub mod TableLaws
+pub mod KeptLaws
+pub mod LaneLaws
+pub mod VoteLaws
+pub mod SightLaws
+pub mod RoundLaws
