@@ -4,3 +4,5 @@ pub mod LaneLaws
 pub mod VoteLaws
 pub mod SightLaws
 pub mod RoundLaws
+pub mod SearchLaws
+pub mod WeightLaws

@@ -1,5 +1,5 @@
 -- Votes by number are those of the definitions, and the walk down a lane finds where they begin.
-use Rattle.std.proofs.Common.{◌≡◌, ℕ, zero, suc, ◌+◌, ◌≤◌, ◌<◌, ◌⊎◌, inl, inr, Bool, true, false, List, length, Option, Some, None, refl, sym, ap, subst, ◌∙◌, arith}
+use Rattle.std.proofs.Common.{◌≡◌, ℕ, zero, suc, ◌+◌, ◌≤◌, ◌<◌, ◌⊎◌, inl, inr, Bool, true, false, cond, List, length, Option, Some, None, refl, sym, ap, subst, ◌∙◌, arith}
 use Rattle.std.specs.Option.{option_map}
 use Rattle.std.proofs.lemmas.Bool.{cases_lt}
 use Rattle.hw_types.specs.Graph.{Node, node_eq, is_some_and, unit_cites, cites, past}
@@ -90,6 +90,14 @@ module _ (weights : List ℕ) (dag : UnitGraph) (g : IsGraph dag) (aw : AreWeigh
       ∙ both_ways (is_ancestor_within (length units) fork_at (node_at dag block) (node_at dag (unit_at dag n).vote.0)) (is_over dag block (unit_at dag n).vote.0)
       (λ h. anc_over dag g block (unit_at dag n).vote.0 vote.known (defined_anc (length units) block (unit_at dag n).vote.0 lb vote.known vote.block h))
       (λ h. anc_defined block (length units) (unit_at dag n).vote.0 vote.known vote.block (size_most (unit_at dag n).vote.0) (over_anc dag g (count_of dag) block (unit_at dag n).vote.0 h))
+
+-- what a unit votes for is in the graph
+pub vote_known : (dag : UnitGraph) → IsGraph dag → (n : ℕ) → n < count_of dag → (unit_at dag n).vote.0 < count_of dag
+vote_known dag g n lt = go (is_block (node_at dag n)) refl
+  where
+    go : (b : Bool) → is_block (node_at dag n) ≡ b → (unit_at dag n).vote.0 < count_of dag
+    go true t = let own = (g.settled n lt).own_vote t in omega arith
+    go false f = (g.settled n lt).fork.known (unit_at dag n).vote (ap (λ (b : Bool). cond b (unit_at dag n).parent (Some (unit_at dag n).vote)) f)
 
 -- ---- the walk down a lane
 

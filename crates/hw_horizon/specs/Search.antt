@@ -1,5 +1,5 @@
 -- What a search for summits keeps.
-use Rattle.std.specs.Prelude.{◌≡◌, ℕ, ◌+◌, ◌<◌, nat_le, List, [], length, Option, Some, None, is_some, slice_index_or, if◌then◌else◌}
+use Rattle.std.specs.Prelude.{◌≡◌, ℕ, ◌+◌, ◌<◌, ◌≤◌, nat_le, List, [], length, Option, Some, None, is_some, slice_index_or, if◌then◌else◌}
 use Rattle.hw_horizon.specs.declared.horizons.Scratch.{Scratch}
 use Rattle.hw_types.specs.Summit.{Committees}
 use Rattle.hw_summit.specs.Pruned.{or_zero}
@@ -36,3 +36,8 @@ pub record IsScratch (validators : ℕ) (scratch : Scratch) : Type 0 where
   pub lower : length scratch.lower ≡ validators
   pub present : length scratch.present ≡ validators
   pub next : length scratch.next ≡ validators
+
+-- the level is one of these, where there is one
+abbrev pub IsWithin : ℕ → Option ℕ → Type 0
+IsWithin levels None = Unit {0}
+IsWithin levels (Some top) = top ≤ levels

@@ -49,9 +49,9 @@ impl Model for Horizons {
       tables = h.tables.items;
     } };
 
-    ghost use Rattle.hw_horizon.specs.Search.{AreTables, IsScratch};
+    ghost use Rattle.hw_horizon.specs.Search.{AreTables, IsScratch, IsWithin};
 
-    ghost invariant = { λ h. AreTables h.validators h.levels h.tables.items × IsScratch h.validators h.scratch };
+    ghost invariant = { λ h. AreTables h.validators h.levels h.tables.items × IsScratch h.validators h.scratch × IsWithin h.levels h.found };
 }
 
 impl Horizons {

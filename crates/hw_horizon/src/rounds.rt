@@ -1,6 +1,6 @@
 //! One level out of the level below it: members fall until no more do.
 
-ghost use Rattle.std.specs.Prelude.{◌≡◌, ℕ, suc, ◌<◌, length, false, None, IsTrue, is_some, if◌then◌else◌};
+ghost use Rattle.std.specs.Prelude.{◌≡◌, ℕ, suc, ◌<◌, length, ◌&&◌, not, false, None, IsTrue, is_some, if◌then◌else◌};
 ghost use Rattle.hw_types.specs.Graph.{is_consistent};
 ghost use Rattle.hw_dag.specs.Dag.{graph, observations, IsPanorama};
 ghost use Rattle.hw_dag.specs.Admission.{IsGraph};
@@ -22,7 +22,6 @@ pub fn settle(
     quorum: u64,
     lower: &Table,
 )
-    requires graph { IsGraph dag.now }
     requires panorama { IsPanorama dag.now panorama.now }
     requires consistent { IsTrue (is_consistent (graph dag.now) (observations dag.now panorama.now)) }
     requires weights { AreWeights weights.now dag.now }
@@ -53,7 +52,6 @@ fn put_next(
     lower: &Table,
     present: &Table,
 ) -> bool
-    requires graph { IsGraph dag.now }
     requires panorama { IsPanorama dag.now panorama.now }
     requires consistent { IsTrue (is_consistent (graph dag.now) (observations dag.now panorama.now)) }
     requires weights { AreWeights weights.now dag.now }
@@ -65,12 +63,19 @@ fn put_next(
     let mut fell = false;
     for v in 0..dag.validators() {
         let start = start_over(dag, weights, panorama, quorum, lower, present, v);
-        if start.is_none() && present.get(v).is_some() {
+        if falls(present, v, start) {
             fell = true;
         }
         next.set(v, start);
     }
     fell
+}
+
+// Whether the validator is present, and has no start any more.
+fn falls(present: &Table, validator: u32, start: Option<u64>) -> bool
+    ensures { result ≡ (is_some (entry present.now validator) && not (is_some start)) }
+{
+    present.get(validator).is_some() && start.is_none()
 }
 
 // The start of the validator over those present, where it is one of them.

@@ -15,10 +15,10 @@ use hw_dag::{Dag, Panorama, UnitNo, View};
 /// Puts into the table from where on the lane of each Correct slot votes for the block or descendants
 /// of it.
 pub fn put_vote_starts(table: &mut Table, dag: &Dag, panorama: &Panorama, block: UnitNo)
-    requires graph { IsGraph dag.now }
     requires panorama { IsPanorama dag.now panorama.now }
     requires known { block.0 < count_of dag.now }
     requires length { length table.old ≡ dag.now.validators }
+    ensures graph { IsGraph dag.now }
     ensures length { length table.new ≡ dag.now.validators }
     ensures starts { (v : ℕ) → v < dag.now.validators → IsSlotStart dag.now (view_at panorama.now v) 0 (votes_over dag.now block.0) (entry table.new v) }
 {
