@@ -1,5 +1,5 @@
 -- Tables that are those of the levels are the greatest summit, where somebody is left.
-use Rattle.std.proofs.Common.{◌≡◌, ℕ, zero, suc, ◌-◌, ◌+◌, ◌≤◌, inl, inr, Bool, true, false, cond, List, [], ◌∷◌, length, Option, Some, None, refl, sym, ap, subst, ◌∙◌, arith}
+use Rattle.std.proofs.Common.{◌≡◌, ℕ, zero, suc, ◌-◌, ◌+◌, ◌≤◌, Bool, true, cond, List, [], ◌∷◌, Option, Some, None, refl, sym, ap, subst, ◌∙◌, arith}
 use Rattle.std.specs.Prelude.{◌&&◌, nat_le, is_some, ◌↔◌}
 use Rattle.std.specs.List.{list_any}
 use Rattle.std.proofs.lemmas.Bool.{le-leb}
@@ -63,7 +63,7 @@ module _ (weights : List ℕ) (units : List Node) (panorama : List Obs) (block :
   left_where_summit level = (
     λ h. let v = some_entry (pruned_table weights units panorama block quorum level) h in (true_levels, pruned_is_summit weights units panorama block quorum level v.0 (sym (ap is_some (entry_is level v.0)) ∙ v.1)),
     λ h. let b = pruned_least weights units panorama block quorum level h.0 h.1 level (omega arith) h.1.not_empty.0 h.1.not_empty.1 in
-    entry_some (pruned_table weights units panorama block quorum level) h.1.not_empty.0 (ap is_some (entry_is level h.1.not_empty.0 ∙ b.1)),
+        entry_some (pruned_table weights units panorama block quorum level) h.1.not_empty.0 (ap is_some (entry_is level h.1.not_empty.0 ∙ b.1)),
   )
 
   -- and then tables that are those of the levels are the greatest

@@ -20,7 +20,7 @@ use Rattle.hw_dag.proofs.LaneLaws.{even_weights, all_faulty, lawful, lane, lane_
 use Rattle.hw_dag.proofs.ChainLaws as chain
 use Rattle.hw_summit.specs.Pruned.{least_from, begun}
 use Rattle.hw_summit.proofs.PrunedLaws.{from_passes, from_least}
-use Rattle.hw_horizon.specs.Starts.{IsStart, IsLeastStart, IsSlotStart}
+use Rattle.hw_horizon.specs.Starts.{IsStart, IsSlotStart}
 
 -- ---- what a start of pruning is
 

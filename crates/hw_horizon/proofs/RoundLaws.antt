@@ -1,8 +1,9 @@
 -- Rounds of pruning over tables.
-use Rattle.std.proofs.Common.{◌≡◌, ℕ, zero, suc, ◌+◌, ◌-◌, ◌≤◌, ◌<◌, inl, inr, Bool, true, false, cond, List, length, map, Option, Some, None, get_or-set_other, get_or-set_same, ◌≢◌, set, refl, sym, ap, subst, ◌∙◌, arith}
+use Rattle.std.proofs.Common.{◌≡◌, ℕ, zero, suc, ◌+◌, ◌-◌, ◌≤◌, ◌<◌, inl, inr, Bool, true, false, cond, List, length, map, Option, None, get_or-set_other, get_or-set_same, ◌≢◌, set, refl, sym, ap, ◌∙◌, arith}
+use Rattle.std.proofs.Math.ListN.{length-set}
 use Rattle.std.specs.Prelude.{◌&&◌, not, ◌==◌, nat_le, is_some}
 use Rattle.std.specs.List.{list_any, range_with_len}
-use Rattle.std.proofs.lemmas.Bool.{cases_lt}
+use Rattle.std.proofs.lemmas.Bool.{cases_lt, cases_eq}
 use Rattle.std.proofs.lemmas.List.{ext_get_or}
 use Rattle.std.proofs.lemmas.List.FromFn.{length-map-range_with_len}
 use Rattle.hw_types.specs.declared.unit.Obs.{Obs}
@@ -11,9 +12,9 @@ use Rattle.hw_types.specs.Votes.{weight_of}
 use Rattle.hw_types.proofs.WordsLaws.{not_false}
 use Rattle.hw_summit.specs.Pruned.{begun, or_zero, vote_start}
 use Rattle.hw_dag.specs.declared.numbers.View.{View}
-use Rattle.hw_dag.specs.Dag.{UnitGraph}
-use Rattle.hw_horizon.specs.Tables.{Starts, entry, is_seen, start_over, next_table, table_after, pruned_table}
+use Rattle.hw_horizon.specs.Tables.{Starts, entry, start_over, next_table, table_after, pruned_table}
 use Rattle.hw_horizon.specs.Starts.{HasSlots}
+use Rattle.hw_horizon.specs.Search.{table_of}
 use Rattle.hw_horizon.proofs.TableLaws.{past_end, made_entry, made_beyond}
 
 -- a table by its entries
@@ -26,6 +27,23 @@ put_entry before after at v o e lt = ap (λ (t : Starts). entry t v) e ∙ (let 
 
 pub put_same : (before after : Starts) (at : ℕ) (o : Option ℕ) → after ≡ set before at o → at < length before → entry after at ≡ o
 put_same before after at o e lt = ap (λ (t : Starts). entry t at) e ∙ (rw get_or-set_same refl)
+
+-- the table of a level that is put
+pub other_table : (tables : List Starts) (at k : ℕ) (t : Starts) → (k ≡ at → ⊥) → table_of (set tables at t) k ≡ table_of tables k
+other_table tables at k t other = rw get_or-set_other refl
+
+pub this_table : (tables : List Starts) (at : ℕ) (t : Starts) → at < length tables → table_of (set tables at t) at ≡ t
+this_table tables at t lt = rw get_or-set_same refl
+
+-- it has the length of the others
+pub lengths_more : (tables : List Starts) (at n : ℕ) (t : Starts) → at < length tables → length t ≡ n → ((k : ℕ) → k < length tables → length (table_of tables k) ≡ n)
+    → (k : ℕ) → k < length (set tables at t) → length (table_of (set tables at t) k) ≡ n
+lengths_more tables at n t lt len each k less =
+    let same : length (set tables at t) ≡ length tables = length-set tables at t in
+    elim (cases_eq k at) [
+      | inl e ↦ ap (λ (i : ℕ). length (table_of (set tables at t) i)) e ∙ ap length (this_table tables at t lt) ∙ len
+      | inr other ↦ ap length (other_table tables at k t other) ∙ each k (omega arith)
+    ]
 
 -- who doesn't fall stays
 pub stays_one : (present falls : Bool) (o start : Option ℕ) → falls ≡ (present && not (is_some start)) → falls ≡ false → start ≡ cond present o None → is_some start ≡ present
@@ -142,6 +160,22 @@ module _ (weights : List ℕ) (units : List Node) (panorama : List Obs) (quorum 
   above : (block : Node) (i : ℕ) → pruned_table weights units panorama block quorum (suc i) ≡ table_after (suc n) weights units panorama quorum (pruned_table weights units panorama block quorum i)
   unfolding pruned_table
   above block i = refl
+
+  -- the tables up to a level, with one more
+  pub tables_more : (block : Node) (tables : List Starts) (at : ℕ) (t : Starts) → at < length tables → t ≡ pruned_table weights units panorama block quorum at
+      → ((k : ℕ) → k < at → table_of tables k ≡ pruned_table weights units panorama block quorum k) → (k : ℕ) → k ≤ at → table_of (set tables at t) k ≡ pruned_table weights units panorama block quorum k
+  tables_more block tables at t lt e each k le = elim (cases_eq k at) [
+    | inl same ↦ ap (λ (i : ℕ). table_of (set tables at t) i) same ∙ this_table tables at t lt ∙ e ∙ ap (pruned_table weights units panorama block quorum) (sym same)
+    | inr other ↦ other_table tables at k t other ∙ each k (let less : k < at = omega arith in less)
+  ]
+
+  pub after_slots : (views : List View) (k : ℕ) (lower : Starts) → HasSlots views lower → HasSlots views (table_after k weights units panorama quorum lower)
+  unfolding table_after
+  after_slots views zero lower slots = slots
+  after_slots views (suc k) lower slots = slots_stay views lower (table_after k weights units panorama quorum lower) (after_slots views k lower slots)
+
+  pub after_length : (k : ℕ) (lower : Starts) → length (table_after (suc k) weights units panorama quorum lower) ≡ n
+  after_length k lower = ap length (after_next k lower) ∙ next_length lower (table_after k weights units panorama quorum lower)
 
   pub level_table : (block : Node) (k j : ℕ) (lower t : Starts) → lower ≡ pruned_table weights units panorama block quorum k → t ≡ table_after (suc n) weights units panorama quorum lower → j ≡ k + 1
       → t ≡ pruned_table weights units panorama block quorum j

@@ -1,10 +1,10 @@
 -- The bisection for the start of a lane.
-use Rattle.std.proofs.Common.{◌≡◌, ℕ, ◌+◌, ◌≤◌, ◌<◌, ◌⊎◌, inl, inr, Bool, true, false, Some, refl, sym, ap, subst, ◌∙◌, arith}
+use Rattle.std.proofs.Common.{◌≡◌, ℕ, ◌+◌, ◌≤◌, ◌<◌, ◌⊎◌, inl, inr, Bool, true, false, Some, arith}
 use Rattle.hw_dag.specs.Dag.{UnitGraph, unit_at, count_of, seq_of}
 use Rattle.hw_dag.specs.Admission.{IsGraph}
 use Rattle.hw_dag.specs.Lanes.{is_lane_below, IsLaneAt}
 use Rattle.hw_horizon.specs.Starts.{IsStart, IsSuffix}
-use Rattle.hw_horizon.proofs.LaneLaws.{lane_self, lane_most}
+use Rattle.hw_horizon.proofs.LaneLaws.{lane_self}
 
 -- the start is between these two
 pub record IsNarrowed (dag : UnitGraph) (tip floor : ℕ) (passes : ℕ → Bool) (low high : ℕ) : Type 0 where

@@ -1,8 +1,8 @@
 -- What a unit sees by its panorama in numbers is what it has below it.
-use Rattle.std.proofs.Common.{◌≡◌, ℕ, ◌≤◌, ◌<◌, ◌⊎◌, inl, inr, Bool, true, false, not, List, length, Option, Some, None, refl, sym, ap, subst, ◌∙◌, arith, eqb-true, eq-eqb}
+use Rattle.std.proofs.Common.{◌≡◌, ℕ, ◌≤◌, ◌<◌, inl, inr, Bool, true, false, not, List, length, Option, refl, sym, ap, subst, ◌∙◌, arith, eqb-true, eq-eqb}
 use Rattle.std.specs.Prelude.{◌&&◌, ◌||◌, ◌==◌, nat_le, is_some}
 use Rattle.std.specs.List.{list_any}
-use Rattle.std.proofs.lemmas.Bool.{leb-true, le-leb}
+use Rattle.std.proofs.lemmas.Bool.{cases_lt, leb-true, le-leb}
 use Rattle.hw_types.specs.declared.unit.Obs.{Obs}
 use Rattle.hw_types.specs.declared.unit.Obs.TheVariants.{Absent, Correct, Faulty}
 use Rattle.hw_types.specs.Graph.{Node, slot, slots, cites, unit_cites, past, lane_of, is_faulty_mark, obs_at_most, is_at_most, is_consistent}
@@ -27,9 +27,10 @@ use Rattle.hw_dag.proofs.ChainLaws as chain
 use Rattle.hw_summit.specs.Pruned.{or_zero, vote_start}
 use Rattle.hw_summit.proofs.SuffixLaws.{lane_past}
 use Rattle.hw_horizon.specs.Tables.{Starts, entry, is_seen, start_over}
-use Rattle.hw_horizon.specs.Starts.{IsSlotStart, votes_over, is_from, sees, weight_seen, sees_quorum, IsSuffix, HasSlots}
+use Rattle.hw_horizon.specs.Starts.{IsSlotStart, votes_over, is_from, sees, sees_quorum, IsSuffix, HasSlots}
 use Rattle.hw_horizon.proofs.LaneLaws.{lane_most, slot_start_is_begun}
 use Rattle.hw_horizon.proofs.VoteLaws.{votes_are}
+use Rattle.hw_horizon.proofs.TableLaws.{past_end}
 
 module _ (dag : UnitGraph) (g : IsGraph dag) where
   abbrev seen_test : ℕ → ℕ → Node → Bool
@@ -167,3 +168,15 @@ module _ (dag : UnitGraph) (g : IsGraph dag) where
       → IsSlotStart dag (view_at panorama v) 0 (votes_over dag block) o → vote_start weights (graph dag) (observations dag panorama) (node_at dag block) v ≡ o
   vote_start_is weights aw panorama ip block lb v o s = slot_start_is_begun dag g panorama ip v 0 (votes_over dag block) (votes_for (length (graph dag)) (unit_fork weights (graph dag)) (node_at dag block))
       (λ tip e n ln t. votes_are weights dag g aw block n lb ln) o s
+
+-- only a Correct slot has a start
+pub slot_correct : (dag : UnitGraph) (w : View) (floor : ℕ) (passes : ℕ → Bool) (o : Option ℕ) → IsSlotStart dag w floor passes o → is_some o ≡ true → (number : UnitNo) × (w ≡ view.Correct number)
+slot_correct dag view.Absent floor passes o e h = absurd (let bad : false ≡ true = ap is_some (sym e) ∙ h in cc)
+slot_correct dag view.Faulty floor passes o e h = absurd (let bad : false ≡ true = ap is_some (sym e) ∙ h in cc)
+slot_correct dag (view.Correct number) floor passes o s h = (number, refl)
+
+pub slots_first : (dag : UnitGraph) (panorama : List View) (block n : ℕ) (t : Starts) → length t ≡ n → ((v : ℕ) → v < n → IsSlotStart dag (view_at panorama v) 0 (votes_over dag block) (entry t v)) → HasSlots panorama t
+slots_first dag panorama block n t len each v h = elim (cases_lt v n) [
+  | inl lt ↦ slot_correct dag (view_at panorama v) 0 (votes_over dag block) (entry t v) (each v lt) h
+  | inr le ↦ absurd (let bad : false ≡ true = ap is_some (sym (past_end t v (omega arith))) ∙ h in cc)
+]

@@ -1,10 +1,9 @@
 -- Votes by number are those of the definitions, and the walk down a lane finds where they begin.
-use Rattle.std.proofs.Common.{◌≡◌, ℕ, zero, suc, ◌+◌, ◌≤◌, ◌<◌, ◌⊎◌, inl, inr, Bool, true, false, cond, List, length, Option, Some, None, refl, sym, ap, subst, ◌∙◌, arith}
-use Rattle.std.specs.Option.{option_map}
+use Rattle.std.proofs.Common.{◌≡◌, ℕ, zero, suc, ◌≤◌, ◌<◌, inl, inr, Bool, true, false, cond, List, length, Option, Some, None, refl, sym, ap, subst, ◌∙◌, arith}
 use Rattle.std.proofs.lemmas.Bool.{cases_lt}
 use Rattle.hw_types.specs.Graph.{Node, node_eq, is_some_and, unit_cites, cites, past}
 use Rattle.hw_types.specs.Below.{Among}
-use Rattle.hw_types.specs.Votes.{ForkAt, is_block, vote_of, is_ancestor_within, votes_for, unit_fork, choice_of, choices_after, fork_over}
+use Rattle.hw_types.specs.Votes.{ForkAt, is_block, is_ancestor_within, votes_for, unit_fork, choice_of, choices_after, fork_over}
 use Rattle.hw_types.proofs.PastLaws.{or_cases, or_left, or_right, reach_within}
 use Rattle.hw_types.proofs.StableLaws.{both_ways}
 use Rattle.hw_types.proofs.SettledLaws.{digest_self}
@@ -14,9 +13,8 @@ use Rattle.hw_types.proofs.BoundLaws.{rising_length}
 use Rattle.hw_dag.specs.declared.numbers.UnitNo.{UnitNo}
 use Rattle.hw_dag.specs.Dag.{UnitGraph, unit_at, count_of, node_at, graph, seq_of}
 use Rattle.hw_dag.specs.Admission.{IsGraph}
-use Rattle.hw_dag.specs.Tables.{predecessor_of}
 use Rattle.hw_dag.specs.Lanes.{IsAncestor, itself, further, AreWeights, is_lane_below}
-use Rattle.hw_dag.proofs.NodeLaws.{same_number, node_among}
+use Rattle.hw_dag.proofs.NodeLaws.{same_number}
 use Rattle.hw_dag.proofs.DepthLaws.{parent_earlier, parent_is_block}
 use Rattle.hw_forks.specs.Walk.{is_over}
 use Rattle.hw_forks.proofs.AncestorLaws.{over_anc, anc_over}

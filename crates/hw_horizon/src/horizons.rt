@@ -1,8 +1,7 @@
 //! The search.
 
-ghost use Rattle.std.specs.Prelude.{◌≡◌, ℕ, ◌+◌, ◌<◌, ◌≤◌, ◌↔◌, ◌^◌, length, None, false, IsTrue, IfOk};
+ghost use Rattle.std.specs.Prelude.{◌≡◌, ℕ, ◌<◌, ◌≤◌, ◌↔◌, length, Some, None, false, IsTrue, IfOk};
 ghost use Rattle.hw_types.specs.Graph.{is_consistent};
-ghost use Rattle.hw_types.specs.Votes.{is_block};
 ghost use Rattle.hw_types.specs.Summit.{HasSummit, IsGreatest};
 ghost use Rattle.hw_dag.specs.Dag.{graph, observations, count_of, node_at, IsPanorama};
 ghost use Rattle.hw_dag.specs.Admission.{IsGraph};
@@ -57,7 +56,6 @@ impl Model for Horizons {
 impl Horizons {
     /// Scratch for so many validators and levels. All its memory is taken here.
     pub fn new(alloc: Global, validators: u32, levels: u32) -> Result<Horizons, OutOfMemory>
-        requires { levels + 1 < 2 ^ 32 }
         ensures validators { IfOk result (λ horizons. horizons.validators ≡ validators) }
         ensures levels { IfOk result (λ horizons. horizons.levels ≡ levels) }
         ensures found { IfOk result (λ horizons. horizons.found ≡ None) }
@@ -95,18 +93,26 @@ impl Horizons {
         requires consistent { IsTrue (is_consistent (graph dag.now) (observations dag.now panorama.now)) }
         requires weights { AreWeights weights.now dag.now }
         requires known { block.0 < count_of dag.now }
-        requires block { IsTrue (is_block (node_at dag.now block.0)) }
-        requires positive { 1 ≤ level }
         requires level { level ≤ self.old.levels }
         requires validators { self.old.validators ≡ dag.now.validators }
         ensures exact { IsTrue result ↔ HasSummit weights.now (graph dag.now) (observations dag.now panorama.now) (node_at dag.now block.0) level quorum }
         ensures kept { IsTrue result → IsGreatest weights.now (graph dag.now) (observations dag.now panorama.now) (node_at dag.now block.0) level quorum (committees_of self.new) }
+        ensures found { IsTrue result → self.new.found ≡ Some level }
         ensures none { result ≡ false → self.new.found ≡ None }
         ensures validators { self.new.validators ≡ self.old.validators }
         ensures levels { self.new.levels ≡ self.old.levels }
     {
         let tables = self.tables.as_mut_slice();
-        put_tables(tables, &mut self.scratch, dag, weights.as_slice(), panorama, block, level, quorum);
+        put_tables(
+            tables,
+            &mut self.scratch,
+            dag,
+            weights.as_slice(),
+            panorama,
+            block,
+            level,
+            quorum,
+        );
         let found = self.scratch.lower.has_member();
         self.found = if found { Some(level) } else { None };
         found

@@ -16,4 +16,3 @@ mod table;
 mod votes;
 
 pub use horizons::Horizons;
-pub use table::Table;

@@ -1,4 +1,4 @@
-use Rattle.std.proofs.Common.{refl, sym, ap, ◌∙◌, arith}
+use Rattle.std.proofs.Common.{refl, sym, ap, ◌∙◌}
 use Rattle.hw_dag.specs.Dag.{SettledUnit}
 use Rattle.hw_horizon.specs.Starts.{sees_quorum}
 use Rattle.hw_horizon.proofs.SearchLaws.{narrowed_first}

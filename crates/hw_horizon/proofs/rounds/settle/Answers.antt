@@ -1,7 +1,6 @@
-use Rattle.std.proofs.Common.{◌≡◌, ℕ, true, length, sym, ap, subst, ◌∙◌, arith}
-use Rattle.std.specs.Prelude.{is_some}
+use Rattle.std.proofs.Common.{◌≡◌, length, sym, ap, subst, ◌∙◌, arith}
 use Rattle.hw_dag.specs.Dag.{graph, observations}
-use Rattle.hw_horizon.specs.Tables.{Starts, entry, next_table}
+use Rattle.hw_horizon.specs.Tables.{Starts, next_table}
 use Rattle.hw_horizon.specs.Starts.{HasSlots}
 use Rattle.hw_horizon.proofs.RoundLaws.{after_first, after_more, next_length, slots_stay, same_members, stopped}
 use Rattle.hw_horizon.proofs.rounds.settle.Goals as goal
