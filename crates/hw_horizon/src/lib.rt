@@ -13,6 +13,8 @@ mod jumps;
 mod quorums;
 mod rounds;
 mod table;
+#[cfg(test)]
+mod tests;
 mod votes;
 
 pub use horizons::Horizons;
