@@ -4,6 +4,7 @@ ghost use Rattle.std.specs.Prelude.{◌≡◌, ◌+◌, ◌*◌, ◌≤◌, ◌<
 ghost use Rattle.hw_types.specs.Graph.{Node, is_consistent};
 ghost use Rattle.hw_dag.specs.Dag.{graph, observations, count_of, IsPanorama};
 ghost use Rattle.hw_dag.specs.Admission.{IsGraph, node_prepared};
+ghost use Rattle.hw_horizon.specs.Kept.{AreKept};
 ghost use Rattle.hw_naivety.specs.Naivety.{HasNoNaiveFork};
 ghost use Rattle.hw_panorama.specs.Views.{IsKnownView};
 ghost use Rattle.hw_graph_tests.specs.Kept.{MayComeIn};
@@ -195,6 +196,8 @@ impl Graph {
         requires known { block.0 < count_of self.now.dag }
         requires level { level ≤ horizons.old.levels }
         requires validators { horizons.old.validators ≡ self.now.dag.validators }
+        requires walks { AreKept self.now.dag horizons.old.walks }
+        ensures walks { AreKept self.now.dag horizons.new.walks }
         ensures levels { horizons.new.levels ≡ horizons.old.levels }
         ensures validators { horizons.new.validators ≡ horizons.old.validators }
     {

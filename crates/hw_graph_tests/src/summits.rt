@@ -1,6 +1,7 @@
 //! Summits of an example that was worked by hand.
 
 ghost use Rattle.std.specs.Prelude.{◌≡◌, ◌≤◌};
+ghost use Rattle.hw_horizon.specs.Kept.{AreKept};
 
 use crate::drafts::{Row, named, observations};
 use crate::graph::Graph;
@@ -53,6 +54,8 @@ fn search(
 ) -> Result<bool, OutOfMemory>
     requires level { level ≤ horizons.old.levels }
     requires validators { horizons.old.validators ≡ graph.now.dag.validators }
+    requires walks { AreKept graph.now.dag horizons.old.walks }
+    ensures walks { AreKept graph.now.dag horizons.new.walks }
     ensures levels { horizons.new.levels ≡ horizons.old.levels }
     ensures validators { horizons.new.validators ≡ horizons.old.validators }
 {
@@ -79,8 +82,12 @@ fn the_example_has_its_summits(rt: HostRuntime) -> Result<(), Fail> {
     let graph = worked(&rt, alloc)?;
     assert!(rt; graph.dag().validators() == 4);
     let mut horizons = Horizons::new(alloc, 4, 3)?;
-    let cites = &["a0", "b2", "c2", "!"];
+    // Nobody sees anybody yet. The walks to b0 and c0 are kept.
+    let cites = &["a0", "b0", "c0", "-"];
+    let found = search(&rt, alloc, &graph, &mut horizons, cites, "a0", 1, 3)?;
+    assert!(rt; !found);
 
+    let cites = &["a0", "b2", "c2", "!"];
     let found = search(&rt, alloc, &graph, &mut horizons, cites, "a0", 2, 9)?;
     assert!(rt; found);
     assert_starts(&rt, &horizons, 0, &[Some(0), Some(0), Some(0), None]);

@@ -77,6 +77,19 @@ module _ (dag : UnitGraph) (g : IsGraph dag) where
     | inr less ↦ omega arith
   ]
 
+  -- of two units of a lane the one of the lesser number is on the lane of the other
+  pub lane_lower : (tip m n : ℕ) → tip < count_of dag → m < count_of dag → n < count_of dag → is_lane_below dag m tip ≡ true → is_lane_below dag n tip ≡ true
+      → seq_of (unit_at dag m) ≤ seq_of (unit_at dag n) → is_lane_below dag m n ≡ true
+  lane_lower tip m n lt lm ln s t le = among_on_lane dag g m n
+      (chain.lane_chain (even_weights dag) all_faulty (graph dag) (lawful dag g) (node_at dag tip) (node_at dag m) (node_at dag n) (node_among dag g tip lt)
+      (on_lane_among dag g m tip lm s) (on_lane_among dag g n tip ln t) le)
+
+  -- what is on the lane of a unit of a lane is on that lane
+  pub lane_above : (tip m n : ℕ) → m < count_of dag → n < count_of dag → is_lane_below dag m n ≡ true → is_lane_below dag n tip ≡ true → is_lane_below dag m tip ≡ true
+  lane_above tip m n lm ln s t = among_on_lane dag g m tip
+      (lanes.lane_trans (even_weights dag) all_faulty (graph dag) (lawful dag g) (node_at dag m) (node_at dag n) (node_at dag tip) (node_among dag g n ln)
+      (on_lane_among dag g m n lm s) (on_lane_among dag g n tip ln t))
+
   -- the unit before it
   pub record IsBefore (tip n before : ℕ) : Type 0 where
     pub known : before < count_of dag

@@ -6,3 +6,4 @@ pub mod SightLaws
 pub mod RoundLaws
 pub mod SearchLaws
 pub mod WeightLaws
+pub mod WalkLaws

@@ -19,8 +19,8 @@ use Rattle.hw_dag.proofs.DepthLaws.{parent_earlier, parent_is_block}
 use Rattle.hw_forks.specs.Walk.{is_over}
 use Rattle.hw_forks.proofs.AncestorLaws.{over_anc, anc_over}
 use Rattle.hw_forks.proofs.DefinedLaws.{node_for, acyclic, parent_at, vote_at}
-use Rattle.hw_horizon.specs.Starts.{IsStart, IsEarlierVote, votes_over}
-use Rattle.hw_horizon.proofs.LaneLaws.{lane_self, lane_same, lane_most, before_is, first_is}
+use Rattle.hw_horizon.specs.Starts.{IsStart, IsLeastStart, IsEarlierVote, votes_over}
+use Rattle.hw_horizon.proofs.LaneLaws.{lane_self, lane_same, lane_most, lane_lower, lane_above, before_is, first_is}
 
 node_for_some : (dag : UnitGraph) (o : Option UnitNo) (x : Node) → node_for dag o ≡ Some x → (p : UnitNo) × (o ≡ Some p) × (node_at dag p.0 ≡ x)
 node_for_some dag None x e = absurd cc
@@ -154,3 +154,21 @@ module _ (dag : UnitGraph) (g : IsGraph dag) (tip : ℕ) (lt : tip < count_of da
       | inr b ↦ (let k = before_is dag g tip first b.0 w.known w.on_lane b.1 in inr (b.0.0, k.known, k.on_lane, b.2, sym k.next))
     ];
   }
+
+  -- where it comes to a unit from which the start is known, that is the start
+  pub walked_known : (first start : ℕ) → IsWalked dag tip passes first → IsLeastStart dag first 0 passes start → IsLeastStart dag tip 0 passes start
+  walked_known first start w k =
+      let low = k.reached in
+      let up = w.up_to in
+      record {
+        above = omega arith;
+        reached = omega arith;
+        each = λ n ln t le. elim (cases_lt (seq_of (unit_at dag n)) (seq_of (unit_at dag first))) [
+          | inl less ↦ k.each n ln (lane_lower dag g tip n first lt ln w.known t w.on_lane (omega arith)) le
+          | inr ge ↦ w.each n ln t ge
+        ];
+        least = elim k.least [
+          | inl e ↦ inl e
+          | inr n ↦ inr (n.0, n.1, lane_above dag g tip n.0 first n.1 w.known n.2 w.on_lane, n.3, n.4)
+        ];
+      }

@@ -4,13 +4,15 @@ use Rattle.hw_horizon.specs.declared.horizons.Scratch.{Scratch}
 use Rattle.hw_types.specs.Summit.{Committees}
 use Rattle.hw_summit.specs.Pruned.{or_zero}
 use Rattle.hw_horizon.specs.Tables.{Starts, entry}
+use Rattle.hw_horizon.specs.Kept.{KeptWalks}
 
--- how many validators and levels there are, the level of the summit that the last search found, and the table of each level
+-- how many validators and levels there are, the level of the summit that the last search found, the table of each level, and what is kept of the walks
 pub record Search : Type 0 where
   pub validators : ℕ
   pub levels : ℕ
   pub found : Option ℕ
   pub tables : List Starts
+  pub walks : KeptWalks
 
 -- the table of a level
 abbrev pub table_of : List Starts → ℕ → Starts

@@ -3,12 +3,14 @@
 ghost use Rattle.std.specs.Prelude.{◌≡◌, ℕ, ◌<◌, ◌≤◌, ◌↔◌, length, Some, None, false, IsTrue, IfOk};
 ghost use Rattle.hw_types.specs.Graph.{is_consistent};
 ghost use Rattle.hw_types.specs.Summit.{HasSummit, IsGreatest};
-ghost use Rattle.hw_dag.specs.Dag.{graph, observations, count_of, node_at, IsPanorama};
+ghost use Rattle.hw_dag.specs.Dag.{UnitGraph, graph, observations, count_of, node_at, IsPanorama};
 ghost use Rattle.hw_dag.specs.Admission.{IsGraph};
 ghost use Rattle.hw_dag.specs.Lanes.{AreWeights};
+ghost use Rattle.hw_horizon.specs.Kept.{AreKept};
 ghost use Rattle.hw_horizon.specs.Tables.{pruned_table};
 ghost use Rattle.hw_horizon.specs.Search.{table_of, start_of, committees_of, AreTables, IsScratch};
 
+use crate::kept::Walks;
 use crate::rounds::settle;
 use crate::table::Table;
 use crate::votes::put_vote_starts;
@@ -24,6 +26,7 @@ pub struct Horizons {
     levels: u32,
     found: Option<u32>,
     tables: Vec<Table>,
+    walks: Walks,
     scratch: Scratch,
 }
 
@@ -46,11 +49,13 @@ impl Model for Horizons {
       levels = h.levels;
       found = h.found;
       tables = h.tables.items;
+      walks = h.walks;
     } };
 
+    ghost use Rattle.std.specs.Prelude.{◌≡◌, length};
     ghost use Rattle.hw_horizon.specs.Search.{AreTables, IsScratch, IsWithin};
 
-    ghost invariant = { λ h. AreTables h.validators h.levels h.tables.items × IsScratch h.validators h.scratch × IsWithin h.levels h.found };
+    ghost invariant = { λ h. AreTables h.validators h.levels h.tables.items × IsScratch h.validators h.scratch × IsWithin h.levels h.found × (length h.walks.walks ≡ h.validators) };
 }
 
 impl Horizons {
@@ -59,6 +64,7 @@ impl Horizons {
         ensures validators { IfOk result (λ horizons. horizons.validators ≡ validators) }
         ensures levels { IfOk result (λ horizons. horizons.levels ≡ levels) }
         ensures found { IfOk result (λ horizons. horizons.found ≡ None) }
+        ensures walks { IfOk result (λ horizons. (dag : UnitGraph) → AreKept dag horizons.walks) }
     {
         let mut tables = Vec::with_capacity(alloc, levels as usize + 1)?;
         for _ in 0..levels as usize + 1 {
@@ -74,6 +80,7 @@ impl Horizons {
             levels,
             found: None,
             tables,
+            walks: Walks::new(alloc, validators)?,
             scratch,
         })
     }
@@ -95,10 +102,12 @@ impl Horizons {
         requires known { block.0 < count_of dag.now }
         requires level { level ≤ self.old.levels }
         requires validators { self.old.validators ≡ dag.now.validators }
+        requires walks { AreKept dag.now self.old.walks }
         ensures exact { IsTrue result ↔ HasSummit weights.now (graph dag.now) (observations dag.now panorama.now) (node_at dag.now block.0) level quorum }
         ensures kept { IsTrue result → IsGreatest weights.now (graph dag.now) (observations dag.now panorama.now) (node_at dag.now block.0) level quorum (committees_of self.new) }
         ensures found { IsTrue result → self.new.found ≡ Some level }
         ensures none { result ≡ false → self.new.found ≡ None }
+        ensures walks { AreKept dag.now self.new.walks }
         ensures validators { self.new.validators ≡ self.old.validators }
         ensures levels { self.new.levels ≡ self.old.levels }
     {
@@ -106,6 +115,7 @@ impl Horizons {
         put_tables(
             tables,
             &mut self.scratch,
+            &mut self.walks,
             dag,
             weights.as_slice(),
             panorama,
@@ -134,6 +144,7 @@ impl Horizons {
 fn put_tables(
     tables: &mut [Table],
     scratch: &mut Scratch,
+    walks: &mut Walks,
     dag: &Dag,
     weights: &[u64],
     panorama: &Panorama,
@@ -148,12 +159,16 @@ fn put_tables(
     requires tables { (k : ℕ) → k < length tables.old → length (table_of tables.old k) ≡ dag.now.validators }
     requires levels { level < length tables.old }
     requires scratch { IsScratch dag.now.validators scratch.old }
+    requires walk_count { length walks.old.walks ≡ dag.now.validators }
+    requires walks { AreKept dag.now walks.old }
     ensures tables { (k : ℕ) → k ≤ level → table_of tables.new k ≡ pruned_table weights.now (graph dag.now) (observations dag.now panorama.now) (node_at dag.now block.0) quorum k }
     ensures lower { scratch.new.lower ≡ pruned_table weights.now (graph dag.now) (observations dag.now panorama.now) (node_at dag.now block.0) quorum level }
     ensures lengths { (k : ℕ) → k < length tables.new → length (table_of tables.new k) ≡ dag.now.validators }
     ensures scratch { IsScratch dag.now.validators scratch.new }
+    ensures walk_count { length walks.new.walks ≡ dag.now.validators }
+    ensures walks { AreKept dag.now walks.new }
 {
-    put_vote_starts(&mut scratch.lower, dag, panorama, block);
+    put_vote_starts(&mut scratch.lower, walks, dag, panorama, block);
     tables[0].copy_from(&scratch.lower);
     for below in 0..level as usize {
         let Scratch {

@@ -16,4 +16,5 @@ invariant_of-result c =
         next = ap length c.in_ok-new-4.ensures ∙ length-replicate c.args.validators none;
       },
       tt,
+      c.in_ok-new-5.ensures.length,
     )
