@@ -1,9 +1,10 @@
 //! Graphs that are built unit by unit, with all that a node keeps beside them.
 
-ghost use Rattle.std.specs.Prelude.{◌≡◌, ◌+◌, ◌*◌, ◌≤◌, ◌<◌, [], sum, All, length, IfOk, OnOk};
-ghost use Rattle.hw_types.specs.Graph.{Node};
-ghost use Rattle.hw_dag.specs.Dag.{UnitGraph, graph, count_of, IsPanorama};
+ghost use Rattle.std.specs.Prelude.{◌≡◌, ◌+◌, ◌*◌, ◌≤◌, ◌<◌, [], sum, All, length, IsTrue, IfOk, OnOk};
+ghost use Rattle.hw_types.specs.Graph.{Node, is_consistent};
+ghost use Rattle.hw_dag.specs.Dag.{UnitGraph, graph, observations, count_of, IsPanorama};
 ghost use Rattle.hw_dag.specs.Admission.{IsGraph, node_prepared};
+ghost use Rattle.hw_horizon.specs.Kept.{AreKept};
 ghost use Rattle.hw_naivety.specs.Naivety.{HasNoNaiveFork, IsNoted};
 ghost use Rattle.hw_panorama.specs.Views.{IsKnownView};
 ghost use Rattle.hw_graph_tests.specs.Kept.{MayComeIn};
@@ -12,6 +13,7 @@ use crate::drafts::{Draft, Row, named, names, observations, signed};
 use crate::tested::{test_panorama, test_rules};
 use hw_dag::{Dag, Marks, Panorama, Prepared, UnitNo, View};
 use hw_forks::Forks;
+use hw_horizon::Horizons;
 use hw_naivety::{NaiveFork, Naivety};
 use hw_types::{Obs, OutOfMemory, WeightList};
 use std::alloc::Global;
@@ -173,6 +175,28 @@ impl Graph {
         ensures { self.new.dag ≡ self.old.dag }
     {
         self.forks.fork_choice(&self.dag, &self.weights, panorama)
+    }
+
+    /// Whether the block has a summit of this level and quorum in the panorama.
+    pub fn greatest(
+        &self,
+        horizons: &mut Horizons,
+        panorama: &Panorama,
+        block: UnitNo,
+        level: u32,
+        quorum: u64,
+    ) -> bool
+        requires panorama { IsPanorama self.now.dag panorama.now }
+        requires consistent { IsTrue (is_consistent (graph self.now.dag) (observations self.now.dag panorama.now)) }
+        requires known { block.0 < count_of self.now.dag }
+        requires level { level ≤ horizons.old.levels }
+        requires validators { horizons.old.validators ≡ self.now.dag.validators }
+        requires walks { AreKept self.now.dag horizons.old.walks }
+        ensures walks { AreKept self.now.dag horizons.new.walks }
+        ensures levels { horizons.new.levels ≡ horizons.old.levels }
+        ensures validators { horizons.new.validators ≡ horizons.old.validators }
+    {
+        horizons.greatest(&self.dag, &self.weights, panorama, block, level, quorum)
     }
 
     /// The panorama of these observations.

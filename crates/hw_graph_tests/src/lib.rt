@@ -1,7 +1,8 @@
 //! The layers of the graph together, on graphs that are built in tests: a unit is prepared, resolved and
 //! compared with what it cites, its fork choice is found, the naivety criterion judges it, and it is
-//! admitted and noted. Expected answers are those of examples that were worked by hand, and those of a
-//! plain fork choice that sums the score of each child anew. There is nothing here but tests.
+//! admitted and noted. Summits are searched for. Expected answers are those of examples that were worked
+//! by hand, and those of a plain fork choice that sums the score of each child anew. There is nothing
+//! here but tests.
 #![tactic(auto)]
 
 #[cfg(test)]
@@ -20,5 +21,7 @@ mod plain;
 mod random;
 #[cfg(test)]
 mod settled;
+#[cfg(test)]
+mod summits;
 #[cfg(test)]
 mod tested;

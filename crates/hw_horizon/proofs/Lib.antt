@@ -1,0 +1,9 @@
+pub mod TableLaws
+pub mod KeptLaws
+pub mod LaneLaws
+pub mod VoteLaws
+pub mod SightLaws
+pub mod RoundLaws
+pub mod SearchLaws
+pub mod WeightLaws
+pub mod WalkLaws

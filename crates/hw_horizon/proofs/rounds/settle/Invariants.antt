@@ -1,0 +1,13 @@
+use Rattle.std.proofs.Common.{◌≡◌, length}
+use Rattle.hw_dag.specs.Dag.{graph, observations}
+use Rattle.hw_horizon.specs.Tables.{table_after}
+use Rattle.hw_horizon.specs.Starts.{HasSlots}
+use Rattle.hw_horizon.proofs.rounds.settle.Given as goal
+
+abbrev pub invariant-loop : goal.invariant-loop
+invariant-loop l = record {
+  present : l.present ≡ table_after l.counter l.weights (graph l.dag) (observations l.dag l.panorama) l.quorum l.lower;
+  slots : HasSlots l.panorama l.present;
+  present_length : length l.present ≡ l.dag.validators;
+  next_length : length l.next ≡ l.dag.validators;
+}

@@ -1,0 +1,182 @@
+//! The search.
+
+ghost use Rattle.std.specs.Prelude.{◌≡◌, ℕ, ◌<◌, ◌≤◌, ◌↔◌, length, Some, None, false, IsTrue, IfOk};
+ghost use Rattle.hw_types.specs.Graph.{is_consistent};
+ghost use Rattle.hw_types.specs.Summit.{HasSummit, IsGreatest};
+ghost use Rattle.hw_dag.specs.Dag.{UnitGraph, graph, observations, count_of, node_at, IsPanorama};
+ghost use Rattle.hw_dag.specs.Lanes.{AreWeights};
+ghost use Rattle.hw_horizon.specs.Kept.{AreKept};
+ghost use Rattle.hw_horizon.specs.Tables.{pruned_table};
+ghost use Rattle.hw_horizon.specs.Search.{table_of, start_of, committees_of, AreTables, IsScratch};
+
+use crate::kept::Walks;
+use crate::rounds::settle;
+use crate::table::Table;
+use crate::votes::put_vote_starts;
+use hw_dag::{Dag, Panorama, UnitNo};
+use hw_types::{OutOfMemory, WeightList};
+use std::alloc::Global;
+use std::marker::Model;
+
+/// Scratch for searches of summits, for so many validators and levels, and what the last search found.
+#[derive(Drop)]
+pub struct Horizons {
+    validators: u32,
+    levels: u32,
+    found: Option<u32>,
+    tables: Vec<Table>,
+    walks: Walks,
+    scratch: Scratch,
+}
+
+// What one search works on: the table of the level below, of the level that is pruned, and the next
+// one of it.
+#[derive(Drop)]
+struct Scratch {
+    lower: Table,
+    present: Table,
+    next: Table,
+}
+
+impl Model for Horizons {
+    ghost use Rattle.hw_horizon.specs.Search.{Search};
+
+    ghost Value = { Search };
+
+    ghost view = { λ h. record {
+      validators = h.validators;
+      levels = h.levels;
+      found = h.found;
+      tables = h.tables.items;
+      walks = h.walks;
+    } };
+
+    ghost use Rattle.std.specs.Prelude.{◌≡◌, length};
+    ghost use Rattle.hw_horizon.specs.Search.{AreTables, IsScratch, IsWithin};
+
+    ghost invariant = { λ h. AreTables h.validators h.levels h.tables.items × IsScratch h.validators h.scratch × IsWithin h.levels h.found × (length h.walks.walks ≡ h.validators) };
+}
+
+impl Horizons {
+    /// Scratch for so many validators and levels. All its memory is taken here.
+    pub fn new(alloc: Global, validators: u32, levels: u32) -> Result<Horizons, OutOfMemory>
+        ensures validators { IfOk result (λ horizons. horizons.validators ≡ validators) }
+        ensures levels { IfOk result (λ horizons. horizons.levels ≡ levels) }
+        ensures found { IfOk result (λ horizons. horizons.found ≡ None) }
+        ensures walks { IfOk result (λ horizons. (dag : UnitGraph) → AreKept dag horizons.walks) }
+    {
+        let mut tables = Vec::with_capacity(alloc, levels as usize + 1)?;
+        for _ in 0..levels as usize + 1 {
+            tables.push(Table::new(alloc, validators)?)?;
+        }
+        let scratch = Scratch {
+            lower: Table::new(alloc, validators)?,
+            present: Table::new(alloc, validators)?,
+            next: Table::new(alloc, validators)?,
+        };
+        Ok(Horizons {
+            validators,
+            levels,
+            found: None,
+            tables,
+            walks: Walks::new(alloc, validators)?,
+            scratch,
+        })
+    }
+
+    /// Whether a summit for the block exists, of this level and quorum, in this panorama. The
+    /// committees and starts of the greatest are then kept.
+    pub fn greatest(
+        &mut self,
+        dag: &Dag,
+        weights: &WeightList,
+        panorama: &Panorama,
+        block: UnitNo,
+        level: u32,
+        quorum: u64,
+    ) -> bool
+        requires panorama { IsPanorama dag.now panorama.now }
+        requires consistent { IsTrue (is_consistent (graph dag.now) (observations dag.now panorama.now)) }
+        requires weights { AreWeights weights.now dag.now }
+        requires known { block.0 < count_of dag.now }
+        requires level { level ≤ self.old.levels }
+        requires validators { self.old.validators ≡ dag.now.validators }
+        requires walks { AreKept dag.now self.old.walks }
+        ensures exact { IsTrue result ↔ HasSummit weights.now (graph dag.now) (observations dag.now panorama.now) (node_at dag.now block.0) level quorum }
+        ensures kept { IsTrue result → IsGreatest weights.now (graph dag.now) (observations dag.now panorama.now) (node_at dag.now block.0) level quorum (committees_of self.new) }
+        ensures found { IsTrue result → self.new.found ≡ Some level }
+        ensures none { result ≡ false → self.new.found ≡ None }
+        ensures walks { AreKept dag.now self.new.walks }
+        ensures validators { self.new.validators ≡ self.old.validators }
+        ensures levels { self.new.levels ≡ self.old.levels }
+    {
+        let tables = self.tables.as_mut_slice();
+        put_tables(
+            tables,
+            &mut self.scratch,
+            &mut self.walks,
+            dag,
+            weights.as_slice(),
+            panorama,
+            block,
+            level,
+            quorum,
+        );
+        let found = self.scratch.lower.has_member();
+        self.found = if found { Some(level) } else { None };
+        found
+    }
+
+    /// The start of a validator in the committee of a level, of the summit that the last search found.
+    /// None for a validator outside the committee, and where the last search found none.
+    pub fn start(&self, level: u32, validator: u32) -> Option<u64>
+        ensures { result ≡ start_of self.now level validator }
+    {
+        match self.found {
+            Some(top) if level <= top => self.tables[level as usize].get(validator),
+            _ => None,
+        }
+    }
+}
+
+// Puts the table of each level up to this one.
+fn put_tables(
+    tables: &mut [Table],
+    scratch: &mut Scratch,
+    walks: &mut Walks,
+    dag: &Dag,
+    weights: &[u64],
+    panorama: &Panorama,
+    block: UnitNo,
+    level: u32,
+    quorum: u64,
+)
+    requires panorama { IsPanorama dag.now panorama.now }
+    requires consistent { IsTrue (is_consistent (graph dag.now) (observations dag.now panorama.now)) }
+    requires weights { AreWeights weights.now dag.now }
+    requires known { block.0 < count_of dag.now }
+    requires tables { (k : ℕ) → k < length tables.old → length (table_of tables.old k) ≡ dag.now.validators }
+    requires levels { level < length tables.old }
+    requires scratch { IsScratch dag.now.validators scratch.old }
+    requires walk_count { length walks.old.walks ≡ dag.now.validators }
+    requires walks { AreKept dag.now walks.old }
+    ensures tables { (k : ℕ) → k ≤ level → table_of tables.new k ≡ pruned_table weights.now (graph dag.now) (observations dag.now panorama.now) (node_at dag.now block.0) quorum k }
+    ensures lower { scratch.new.lower ≡ pruned_table weights.now (graph dag.now) (observations dag.now panorama.now) (node_at dag.now block.0) quorum level }
+    ensures lengths { (k : ℕ) → k < length tables.new → length (table_of tables.new k) ≡ dag.now.validators }
+    ensures scratch { IsScratch dag.now.validators scratch.new }
+    ensures walk_count { length walks.new.walks ≡ dag.now.validators }
+    ensures walks { AreKept dag.now walks.new }
+{
+    put_vote_starts(&mut scratch.lower, walks, dag, panorama, block);
+    tables[0].copy_from(&scratch.lower);
+    for below in 0..level as usize {
+        let Scratch {
+            lower,
+            present,
+            next,
+        } = scratch;
+        settle(present, next, dag, weights, panorama, quorum, lower);
+        lower.copy_from(present);
+        tables[below + 1].copy_from(lower);
+    }
+}

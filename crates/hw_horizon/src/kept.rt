@@ -1,0 +1,97 @@
+//! What is kept of the walks down the lanes for one block, so that only new units are looked at when
+//! the same block is asked again.
+
+ghost use Rattle.std.specs.Prelude.{◌≡◌, ℕ, ◌<◌, length, Some, None, slice_set, slice_index_or, IsTrue, IfOk};
+ghost use Rattle.hw_horizon.specs.declared.kept.Walk.{Walk as Walked};
+ghost use Rattle.hw_horizon.specs.Kept.{walk_of, walk_from};
+
+use hw_dag::UnitNo;
+use hw_types::OutOfMemory;
+use std::alloc::Global;
+use std::marker::Model;
+
+/// From `start` on each unit of the lane up to `tip` votes for the block.
+#[derive(Clone, Copy, Debug, PartialEq, Eq)]
+pub struct Walk {
+    pub tip: UnitNo,
+    pub start: u64,
+}
+
+/// The block that was asked last, and a walk for each validator.
+#[derive(Drop)]
+pub struct Walks {
+    block: Option<UnitNo>,
+    walks: Vec<Option<Walk>>,
+}
+
+impl Model for Walks {
+    ghost use Rattle.hw_horizon.specs.Kept.{KeptWalks};
+
+    ghost Value = { KeptWalks };
+
+    ghost view = { λ w. record { block = w.block; walks = w.walks.items } };
+}
+
+impl Walks {
+    /// No block was asked.
+    pub fn new(alloc: Global, validators: u32) -> Result<Walks, OutOfMemory>
+        ensures block { IfOk result (λ walks. walks.block ≡ None) }
+        ensures length { IfOk result (λ walks. length walks.walks ≡ validators) }
+    {
+        let mut walks = Vec::with_capacity(alloc, validators as usize)?;
+        walks.resize(validators as usize, None)?;
+        Ok(Walks { block: None, walks })
+    }
+
+    /// Forgets all walks, unless they are for this block.
+    pub fn ask(&mut self, block: UnitNo)
+        ensures block { self.new.block ≡ Some block }
+        ensures length { length self.new.walks ≡ length self.old.walks }
+        ensures before { (v : ℕ) (walk : Walked) → walk_of self.new v ≡ Some walk → self.old.block ≡ Some block }
+        ensures same { (v : ℕ) (walk : Walked) → walk_of self.new v ≡ Some walk → walk_of self.old v ≡ Some walk }
+    {
+        if !is_asked(self.block, block) {
+            forget(self.walks.as_mut_slice());
+            self.block = Some(block);
+        }
+    }
+
+    /// The walk of the validator.
+    pub fn get(&self, validator: u32) -> Option<Walk>
+        requires { validator < length self.now.walks }
+        ensures { result ≡ walk_of self.now validator }
+    {
+        self.walks[validator as usize]
+    }
+
+    /// Keeps where the lane of this tip begins to vote for the block, if it does.
+    pub fn keep(&mut self, validator: u32, tip: UnitNo, start: Option<u64>)
+        requires { validator < length self.old.walks }
+        ensures block { self.new.block ≡ self.old.block }
+        ensures walks { self.new.walks ≡ slice_set self.old.walks validator (walk_from tip start) }
+    {
+        self.walks[validator as usize] = match start {
+            Some(start) => Some(Walk { tip, start }),
+            None => None,
+        };
+    }
+}
+
+// Whether that block was asked.
+fn is_asked(asked: Option<UnitNo>, block: UnitNo) -> bool
+    ensures { IsTrue result → asked ≡ Some block }
+{
+    match asked {
+        Some(asked) => asked == block,
+        None => false,
+    }
+}
+
+// No walk is left.
+fn forget(walks: &mut [Option<Walk>])
+    ensures { (v : ℕ) → slice_index_or walks.new v None ≡ None }
+{
+    for walk in walks.iter_mut() {
+        *walk = None;
+    }
+}
