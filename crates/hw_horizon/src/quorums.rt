@@ -1,7 +1,7 @@
 //! From where on a lane sees a quorum of those who are present.
 
 ghost use Rattle.std.specs.Prelude.{◌≡◌, ◌<◌};
-ghost use Rattle.hw_dag.specs.Dag.{unit_at, count_of, view_at};
+ghost use Rattle.hw_dag.specs.Dag.{count_of};
 ghost use Rattle.hw_dag.specs.declared.numbers.UnitNo.{UnitNo as Number};
 ghost use Rattle.hw_dag.specs.Admission.{IsGraph};
 ghost use Rattle.hw_dag.specs.Lanes.{AreWeights};

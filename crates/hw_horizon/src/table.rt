@@ -1,6 +1,6 @@
 //! The starts of the members of a committee.
 
-ghost use Rattle.std.specs.Prelude.{◌≡◌, ◌<◌, None, length, replicate, slice_set, IfOk, IsTrue, ◌↔◌, is_some};
+ghost use Rattle.std.specs.Prelude.{◌≡◌, ◌<◌, None, length, replicate, slice_set, IfOk, is_some};
 ghost use Rattle.std.specs.List.{list_any};
 ghost use Rattle.hw_horizon.specs.Tables.{entry};
 

@@ -1,9 +1,7 @@
 //! Level 0: from where on each validator votes for the block or descendants of it.
 
-ghost use Rattle.std.specs.Prelude.{Some, ◌≡◌, ℕ, ◌<◌, length, true, IfNone, IfSome};
-ghost use Rattle.hw_forks.specs.Walk.{is_over};
-ghost use Rattle.hw_dag.specs.Dag.{unit_at, count_of, IsPanorama, view_at};
-ghost use Rattle.hw_dag.specs.Tables.{predecessor_of};
+ghost use Rattle.std.specs.Prelude.{Some, ◌≡◌, ℕ, ◌<◌, length, IfSome};
+ghost use Rattle.hw_dag.specs.Dag.{count_of, IsPanorama, view_at};
 ghost use Rattle.hw_dag.specs.Admission.{IsGraph};
 ghost use Rattle.hw_dag.specs.declared.numbers.UnitNo.{UnitNo as Number};
 ghost use Rattle.hw_horizon.specs.declared.kept.Walk.{Walk as Walked};
