@@ -1,0 +1,6 @@
+pub mod FaultyLaws
+pub mod StateLaws
+pub mod SpareLaws
+pub mod StartLaws
+pub mod RuleLaws
+pub mod AdmitLaws
