@@ -146,12 +146,12 @@ module _ (dag : UnitGraph) (g : IsGraph dag) (p : PreparedUnit) (fork : Option U
       ]
 
       -- a creator that isn't faulty has put its unit over what is known of it,
-      good_same : h c ≡ false → view_at p.panorama c ≡ view_at panorama c
+      pub good_same : h c ≡ false → view_at p.panorama c ≡ view_at panorama c
       good_same good = same_view (view_at p.panorama c) (view_at panorama c) (λ n e. ready.resolved.known c n e) (λ n e. is_panorama.known c n e)
           (sym own_is ∙ good_seen (still_good good) good ready.rules.unmarked ∙ known_is)
 
       -- and one that has done so isn't
-      same_good : view_at p.panorama c ≡ view_at panorama c → h c ≡ false
+      pub same_good : view_at p.panorama c ≡ view_at panorama c → h c ≡ false
       same_good e =
           let alike : own ≡ known = own_is ∙ ap (obs_of dag) e ∙ sym known_is in
           seen_good (sym known_mark ∙ ap is_faulty_mark (sym alike) ∙ ready.rules.unmarked) alike
@@ -217,3 +217,15 @@ is_state_later s is g p fork ready met choice w number is_last on_same on_other 
       panorama_is = panorama_later s.dag g p fork ready s.marked is.met met s.config is.weights_are.length_is s.panorama is.panorama_is is.observed w number is_last on_same on_other;
       observed = observed_later s.dag g p fork ready s.marked is.met met s.config is.weights_are.length_is s.panorama is.panorama_is is.observed w number is_last on_same on_other;
     }
+
+-- Its creator isn't faulty exactly where the unit has seen of itself what the state had.
+pub seen_later : (s : NodeState) (is : IsState s) (g : IsGraph s.dag) (p : PreparedUnit) (fork : Option UnitNo) (ready : IsReady s.dag p fork) (met : MarksAreMet s.marked (graph s.dag) p.signed.unit.panorama)
+    (dag : UnitGraph) → dag ≡ with_unit s.dag (settled_from s.dag p fork)
+    → (is_faulty_in s.marked (graph dag) p.signed.unit.creator ≡ false → view_at p.panorama p.signed.unit.creator ≡ view_at s.panorama p.signed.unit.creator)
+    × (view_at p.panorama p.signed.unit.creator ≡ view_at s.panorama p.signed.unit.creator → is_faulty_in s.marked (graph dag) p.signed.unit.creator ≡ false)
+seen_later s is g p fork ready met dag ed =
+    subst (λ (d : UnitGraph). (is_faulty_in s.marked (graph d) p.signed.unit.creator ≡ false → view_at p.panorama p.signed.unit.creator ≡ view_at s.panorama p.signed.unit.creator)
+    × (view_at p.panorama p.signed.unit.creator ≡ view_at s.panorama p.signed.unit.creator → is_faulty_in s.marked (graph d) p.signed.unit.creator ≡ false)) (sym ed) (
+      good_same s.dag g p fork ready s.marked is.met met s.config is.weights_are.length_is s.panorama is.panorama_is is.observed,
+      same_good s.dag g p fork ready s.marked is.met met s.config is.weights_are.length_is s.panorama is.panorama_is is.observed,
+    )

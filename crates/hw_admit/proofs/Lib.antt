@@ -1,4 +1,5 @@
 pub mod FaultyLaws
+pub mod WeightLaws
 pub mod StateLaws
 pub mod SpareLaws
 pub mod StartLaws

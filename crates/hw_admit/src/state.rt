@@ -2,18 +2,19 @@
 
 ghost use Rattle.std.specs.Prelude.{◌≡◌, ◌+◌, ◌^◌, ◌<◌, ◌≤◌, ◌↔◌, [], true, false, length, replicate, slice_set, Some, None, IfOk, IfErr, IfSome, OnOk, OnErr, IsNone};
 ghost use Rattle.std.specs.Option.{option_map};
-ghost use Rattle.hw_types.specs.Graph.{is_consistent};
+ghost use Rattle.hw_types.specs.Graph.{Node, is_consistent};
 ghost use Rattle.hw_types.specs.Lawful.{IsLawful};
 ghost use Rattle.hw_types.specs.Limits.{config_fault};
 ghost use Rattle.hw_types.specs.Rules.{state_rule};
-ghost use Rattle.hw_types.specs.Votes.{fork_of};
+ghost use Rattle.hw_types.specs.Votes.{fork_of, weight_of};
 ghost use Rattle.hw_dag.specs.declared.numbers.UnitNo.{UnitNo as Number};
 ghost use Rattle.hw_dag.specs.declared.numbers.View.TheVariants as view;
-ghost use Rattle.hw_dag.specs.Dag.{UnitGraph, graph, count_of, node_at, observations, IsPanorama};
-ghost use Rattle.hw_dag.specs.Admission.{IsGraph, IsNew, IsResolved, node_prepared};
+ghost use Rattle.hw_dag.specs.Dag.{UnitGraph, graph, count_of, node_at, view_at, observations, IsPanorama};
+ghost use Rattle.hw_dag.specs.Admission.{IsGraph, IsNew, IsResolved, IsFork, node_prepared};
 ghost use Rattle.hw_dag.specs.Lanes.{AreWeights};
-ghost use Rattle.hw_endorse.specs.Told.{added_of, with_pair, has_majority};
-ghost use Rattle.hw_naivety.specs.Naivety.{KeepsEndorsed, IsNoted, HasNoNaiveFork, IsLeastNaiveFork};
+ghost use Rattle.hw_endorse.specs.Told.{added_of, is_told, with_pair, has_majority, HaveMajority};
+ghost use Rattle.hw_naivety.specs.Naivety.{KeepsEndorsed, IsNoted, HasNoNaiveFork, HasSight, IsLeastNaiveFork};
+ghost use Rattle.hw_naivety.specs.Tips.{HasLists};
 ghost use Rattle.hw_rules.specs.Judged.{KeepsLocalRules};
 ghost use Rattle.hw_admit.specs.State.{NodeState, IsState, IsStartFault, IsAdmitted, MarksAreMet, is_faulty_in, is_marked, observed_in, told_in};
 
@@ -24,7 +25,7 @@ use hw_forks::Forks;
 use hw_leaders::LeaderTable;
 use hw_naivety::{NaiveFork, Naivety};
 use hw_rules::Judge;
-use hw_types::{Config, Digest, OutOfMemory, Rule};
+use hw_types::{Config, Digest, DigestList, OutOfMemory, Rule};
 use std::alloc::Global;
 use std::marker::Model;
 
@@ -131,11 +132,40 @@ impl State {
         matches!(self.panorama.get(validator), View::Faulty)
     }
 
+    /// The weight of the faulty validators.
+    pub fn faulty_weight(&self) -> u64
+        ensures { result ≡ weight_of self.now.config.weights (is_faulty_in self.now.marked (graph self.now.dag)) }
+    {
+        let weights = self.config.weights.as_slice();
+        let mut total = 0;
+        for validator in 0..weights.len() as u32 {
+            if self.is_faulty(validator) {
+                total += weights[validator as usize];
+            }
+        }
+        total
+    }
+
+    /// Whether the validator's endorsement of the unit of this digest is known.
+    pub fn is_told(&self, unit: &Digest, endorser: u32) -> bool
+        requires { endorser < length self.now.config.weights }
+        ensures { result ≡ is_told self.now.pairs unit.now endorser }
+    {
+        self.endorsements.has(unit, endorser)
+    }
+
     /// Whether more than half of the total weight endorses the unit of this digest.
     pub fn endorsed(&self, unit: &Digest) -> bool
         ensures { result ≡ has_majority (told_in self.now) unit.now }
     {
         self.endorsements.endorsed(unit)
+    }
+
+    /// The units that more than half of the total weight endorses, settled or not.
+    pub fn endorsed_units(&self, alloc: Global) -> Result<DigestList, OutOfMemory>
+        ensures { IfOk result (HaveMajority (told_in self.now)) }
+    {
+        self.endorsements.endorsed_units(alloc)
     }
 
     /// None where any two naive units of one creator are comparable, else two of the least creator that
@@ -152,10 +182,45 @@ impl State {
         self.naivety.check(&self.dag, prepared, marks)
     }
 
+    /// What `naive` answers for each unit with this panorama and this endorsed list. The list has those of
+    /// the units that the panorama cites.
+    pub fn naive_over(
+        &self,
+        panorama: &Panorama,
+        endorsed: &[Digest],
+        marks: &mut Marks,
+    ) -> Option<NaiveFork>
+        requires panorama { IsPanorama self.now.dag panorama.now }
+        requires lists { HasLists self.now.dag panorama.now endorsed.now }
+        requires room { count_of self.now.dag ≤ marks.old }
+        ensures none { (u : Node) → HasSight self.now.dag panorama.now endorsed.now u → (IsNone result ↔ HasNoNaiveFork (graph self.now.dag) u) }
+        ensures least { (u : Node) → HasSight self.now.dag panorama.now endorsed.now u → IfSome result (λ fork. IsLeastNaiveFork self.now.dag u fork) }
+        ensures room { marks.new ≡ marks.old }
+    {
+        self.naivety
+            .check_over(&self.dag, panorama, endorsed, marks)
+    }
+
+    /// What is noted of the settled units to find naive forks.
+    pub fn naivety(&self) -> &Naivety
+        ensures noted { IsNoted result.now self.now.dag }
+        ensures all { result.now.count ≡ count_of self.now.dag }
+    {
+        &self.naivety
+    }
+
+    /// The leaders of its rounds.
+    pub fn leaders(&self) -> &LeaderTable
+        ensures leaders { result.now ≡ self.now.config }
+    {
+        &self.leaders
+    }
+
     /// The fork choice of its panorama.
     pub fn fork(&mut self) -> Option<UnitNo>
         ensures fork { option_map (λ (no : Number). node_at self.old.dag no.0) result ≡ fork_of self.old.config.weights (graph self.old.dag) (observations self.old.dag self.old.panorama) }
         ensures known { IfSome result (λ no. no.0 < count_of self.old.dag) }
+        ensures is_fork { IsFork self.old.dag (observations self.old.dag self.old.panorama) result }
         ensures unchanged { self.new ≡ self.old }
     {
         self.forks
@@ -217,7 +282,12 @@ impl State {
         ensures room { self.new.spare + 1 ≡ self.old.spare }
 
         // The panorama is that of the definitions for the graph that it is now. All else stays.
+        ensures panorama { IsPanorama self.new.dag self.new.panorama }
+        ensures observed { observations self.new.dag self.new.panorama ≡ observed_in self.old.config self.old.marked (graph self.new.dag) }
         ensures rest { self.new ≡ record self.old { spare = self.new.spare; dag = self.new.dag; panorama = self.new.panorama } }
+
+        // Its creator isn't faulty exactly where the unit has seen of itself what the state had.
+        ensures seen { (is_faulty_in self.old.marked (graph self.new.dag) prepared.signed.unit.creator ≡ false) ↔ (view_at prepared.panorama prepared.signed.unit.creator ≡ view_at self.old.panorama prepared.signed.unit.creator) }
     {
         let _count = self.dag.count();
         let creator = prepared.signed().unit.creator;
@@ -236,7 +306,10 @@ impl State {
     /// There is evidence against this validator from now on.
     pub fn mark(&mut self, validator: u32)
         requires { validator < length self.old.config.weights }
-        ensures { self.new ≡ record self.old { marked = slice_set self.old.marked validator true; panorama = slice_set self.old.panorama validator view.Faulty } }
+        ensures panorama { IsPanorama self.new.dag self.new.panorama }
+        ensures observed { observations self.new.dag self.new.panorama ≡ observed_in self.new.config self.new.marked (graph self.new.dag) }
+        ensures told { is_marked self.new.marked validator ≡ true }
+        ensures marked { self.new ≡ record self.old { marked = slice_set self.old.marked validator true; panorama = slice_set self.old.panorama validator view.Faulty } }
     {
         self.marked[validator as usize] = true;
         self.panorama.set(validator, View::Faulty);
@@ -248,6 +321,7 @@ impl State {
         requires { endorser < length self.old.config.weights }
         ensures added { IfOk result (λ added. added ≡ added_of self.old.pairs unit.now endorser) }
         ensures told { OnOk result (self.new ≡ record self.old { pairs = with_pair self.old.pairs unit.now endorser }) }
+        ensures repeat { IfOk result (λ added. added ≡ Added.Repeat → self.new ≡ self.old) }
         ensures unchanged { OnErr result (self.new ≡ self.old) }
     {
         self.endorsements.add(unit, endorser)

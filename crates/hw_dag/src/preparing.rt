@@ -137,6 +137,14 @@ impl Prepared {
         &self.signed
     }
 
+    /// Gives the unit back as its creator signed it, and its room up.
+    pub fn into_signed(self) -> SignedUnit
+        ensures { result ≡ self.signed }
+    {
+        let Prepared { signed, .. } = self;
+        signed
+    }
+
     /// What it observes, in numbers. It means something once the unit is resolved.
     pub fn panorama(&self) -> &Panorama
         ensures { result.now ≡ self.now.panorama }

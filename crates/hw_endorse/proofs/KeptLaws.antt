@@ -11,9 +11,9 @@ use Rattle.hw_types.proofs.SettledLaws.{digest_same}
 use Rattle.std.specs.List.{flat_map, range_with_len}
 use Rattle.hw_endorse.specs.declared.Added.TheVariants.{New, Repeat}
 use Rattle.hw_endorse.specs.declared.tally.Tally.{Tally}
-use Rattle.hw_endorse.specs.Told.{in_order, with_pair, added_of, has_majority}
+use Rattle.hw_endorse.specs.Told.{in_order, is_told, with_pair, added_of, has_majority}
 use Rattle.hw_endorse.specs.Kept.{tally_at, counts, weight_in, pairs_at, told_by, IsKept, IsCounted}
-use Rattle.hw_endorse.proofs.PairLaws.{told_by_tallies, told-append, order_same, told_in_order}
+use Rattle.hw_endorse.proofs.PairLaws.{told_by_tallies, told-append, told_again, order_same, told_in_order}
 use Rattle.hw_endorse.proofs.WeightLaws.{weight_more, weight_most, weight_one, weight_none}
 
 -- nothing is kept at first
@@ -71,6 +71,17 @@ told_counted weights old new unit e w counted =
 pub added_is : (weights : List ℕ) (tallies : List (Digest × Tally)) (unit : Digest) (e : ℕ)
     → (if counts (tally_at tallies unit) e then Repeat else New) ≡ added_of (told_by weights tallies).pairs unit e
 added_is weights tallies unit e = ap (λ (b : Bool). if b then Repeat else New) (sym (told_by_tallies tallies unit e))
+
+-- a pair that is a repeat changes nothing
+pub told_repeat : (weights : List ℕ) (tallies : List (Digest × Tally)) (unit : Digest) (e : ℕ) → added_of (told_by weights tallies).pairs unit e ≡ Repeat
+    → record (told_by weights tallies) { pairs = with_pair (told_by weights tallies).pairs unit e } ≡ told_by weights tallies
+told_repeat weights tallies unit e repeat =
+    let same = told_again (flat_map (λ x. pairs_at tallies x.0) tallies) unit e (was (is_told (told_by weights tallies).pairs unit e) repeat) in
+    λ i. record { weights = weights; pairs = same i }
+  where
+    was : (b : Bool) → (if b then Repeat else New) ≡ Repeat → b ≡ true
+    was true h = refl
+    was false h = absurd cc
 
 -- whether the kept weight is a majority
 pub majority_is : (weights : List ℕ) (total : ℕ) (tallies : List (Digest × Tally)) (d : Digest) → IsKept weights total tallies

@@ -3,3 +3,4 @@ pub mod CountLaws
 pub mod PairLaws
 pub mod WeightLaws
 pub mod KeptLaws
+pub mod HeavyLaws

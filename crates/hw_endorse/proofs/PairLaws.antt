@@ -66,6 +66,19 @@ told_turn pairs d v =
     order_same (in_order pairs ++ (d, v) ∷ []) (pairs ++ (d, v) ∷ [])
     (λ e w. told-append (in_order pairs) d v e w ∙ ap (λ (b : Bool). b || (digest_eq d e && eqb v w)) (told_in_order pairs e w) ∙ sym (told-append pairs d v e w))
 
+-- a pair that is there changes nothing
+pub told_again : (pairs : List (Digest × ℕ)) (d : Digest) (v : ℕ) → is_told (in_order pairs) d v ≡ true → with_pair (in_order pairs) d v ≡ in_order pairs
+told_again pairs d v there = order_same (in_order pairs ++ (d, v) ∷ []) pairs (λ e w. told-append (in_order pairs) d v e w ∙ absorbed e w (digest_eq d e && eqb v w) refl ∙ told_in_order pairs e w)
+  where
+    absorbed : (e : Digest) (w : ℕ) (b : Bool) → digest_eq d e && eqb v w ≡ b → is_told (in_order pairs) e w || b ≡ is_told (in_order pairs) e w
+    absorbed e w false same = or_false (is_told (in_order pairs) e w)
+    absorbed e w true same =
+        let parts = and_parts (digest_eq d e) (eqb v w) same in
+        let P : Digest → Type 0 = λ x. is_told (in_order pairs) x v ≡ true in
+        let Q : ℕ → Type 0 = λ x. is_told (in_order pairs) e x ≡ true in
+        let here : is_told (in_order pairs) e w ≡ true = subst Q (eqb-true v w parts.1) (subst P (digest_same d e parts.0) there) in
+        ap (λ (b : Bool). b || true) here ∙ sym here
+
 -- ---- pairs of tallies
 
 range_any : (a n v : ℕ) → a ≤ v → list_any (λ w. eqb w v) (range_with_len a n) ≡ nat_lt v (a + n)

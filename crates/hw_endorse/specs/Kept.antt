@@ -1,9 +1,10 @@
 -- What is kept for each unit, and the pairs that it stands for.
-use Rattle.std.specs.Prelude.{◌≡◌, ℕ, ◌+◌, ◌^◌, ◌<◌, ◌≤◌, Bool, false, ◌&&◌, ◌||◌, not, nat_lt, ◌==◌, List, map, filter, length, sum, Option, Some, None, if◌then◌else◌}
+use Rattle.std.specs.Prelude.{◌≡◌, ℕ, ◌+◌, ◌*◌, ◌^◌, ◌<◌, ◌≤◌, Bool, true, false, ◌&&◌, ◌||◌, not, nat_lt, ◌==◌, List, map, filter, length, sum, Option, Some, None, if◌then◌else◌}
 use Rattle.std.specs.List.{range_with_len, flat_map}
 use Rattle.std.specs.Map.{lookup}
 use Rattle.hw_types.specs.declared.unit.Digest.{Digest}
 use Rattle.hw_types.specs.Graph.{digest_eq}
+use Rattle.hw_types.specs.Below.{Among}
 use Rattle.hw_types.specs.Votes.{weight_of}
 use Rattle.hw_endorse.specs.declared.tally.Tally.{Tally}
 use Rattle.hw_endorse.specs.Endorsers.{has_endorser}
@@ -43,3 +44,12 @@ pub record IsCounted (old new : List (Digest × Tally)) (unit : Digest) (endorse
   pub endorsers : (d : Digest) (v : ℕ) → counts (tally_at new d) v ≡ counts (tally_at old d) v || (digest_eq unit d && (endorser == v))
   pub weights : (d : Digest) → weight_in (tally_at new d)
       ≡ weight_in (tally_at old d) + (if digest_eq unit d && not (counts (tally_at old unit) endorser) then weight else 0)
+
+-- the endorsers of the unit weigh more than half of the total
+abbrev pub is_heavy : ℕ → List (Digest × Tally) → Digest → Bool
+is_heavy total tallies d = nat_lt total (2 * weight_in (tally_at tallies d))
+
+-- the units among the looked at tallies whose endorsers weigh more than half of the total
+pub record AreHeavy (total : ℕ) (tallies looked : List (Digest × Tally)) (units : List Digest) : Type 0 where
+  pub right : (d : Digest) → Among d units → is_heavy total tallies d ≡ true
+  pub all : (e : Digest × Tally) → Among e looked → is_heavy total tallies e.0 ≡ true → Among e.0 units

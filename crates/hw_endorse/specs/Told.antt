@@ -1,8 +1,9 @@
 -- What is known of endorsements: pairs of a unit's digest and an endorser.
-use Rattle.std.specs.Prelude.{ℕ, ◌*◌, Bool, ◌&&◌, nat_lt, ◌==◌, List, [], ◌∷◌, ◌++◌, map, sum, if◌then◌else◌}
+use Rattle.std.specs.Prelude.{◌≡◌, ℕ, ◌*◌, Bool, true, ◌&&◌, nat_lt, ◌==◌, List, [], ◌∷◌, ◌++◌, map, sum, if◌then◌else◌}
 use Rattle.std.specs.List.{list_any}
 use Rattle.hw_types.specs.declared.unit.Digest.{Digest}
 use Rattle.hw_types.specs.Graph.{digest_eq}
+use Rattle.hw_types.specs.Below.{Among}
 use Rattle.hw_types.specs.Votes.{weight_of}
 use Rattle.hw_types.specs.Journal.{pairs_of}
 use Rattle.hw_endorse.specs.declared.Added.{Added}
@@ -32,3 +33,8 @@ with_pair pairs d v = in_order (pairs ++ (d, v) ∷ [])
 -- twice the weight of a unit's endorsers is more than the total
 abbrev pub has_majority : Told → Digest → Bool
 has_majority told d = nat_lt (sum told.weights) (2 * weight_of told.weights (is_told told.pairs d))
+
+-- these are the units with a majority
+pub record HaveMajority (told : Told) (units : List Digest) : Type 0 where
+  pub right : (d : Digest) → Among d units → has_majority told d ≡ true
+  pub all : (d : Digest) → has_majority told d ≡ true → Among d units

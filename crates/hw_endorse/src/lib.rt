@@ -10,17 +10,17 @@
 
 ghost use Rattle.std.specs.Prelude.{◌≡◌, ◌<◌, [], length, None, IfOk, OnOk, OnErr};
 ghost use Rattle.hw_types.specs.Limits.{config_fault};
-ghost use Rattle.hw_endorse.specs.Told.{added_of, with_pair, has_majority};
+ghost use Rattle.hw_endorse.specs.Told.{added_of, is_told, with_pair, has_majority, HaveMajority};
 
 mod laws;
 mod tally;
 
-use hw_types::{Config, Digest, OutOfMemory, WeightList};
+use hw_types::{Config, Digest, DigestList, OutOfMemory, WeightList};
 use indexmap::IndexMap;
 pub use laws::{majority_is_endorsed, told_in_turn};
 use std::alloc::Global;
 use std::marker::Model;
-use tally::{Tally, count, total_weight};
+use tally::{Tally, count, heavy_units, total_weight};
 
 /// What became of an endorsement.
 #[derive(Clone, Copy, Debug, PartialEq, Eq)]
@@ -70,11 +70,23 @@ impl Endorsements {
         requires { endorser < length self.old.weights }
         ensures added { IfOk result (λ added. added ≡ added_of self.old.pairs unit.now endorser) }
         ensures told { OnOk result (self.new ≡ record self.old { pairs = with_pair self.old.pairs unit.now endorser }) }
+        ensures repeat { IfOk result (λ added. added ≡ Added.Repeat → self.new ≡ self.old) }
         ensures err { OnErr result (self.new ≡ self.old) }
     {
         let weight = self.weights.as_slice()[endorser as usize];
         let added = count(&mut self.tallies, unit, endorser, weight)?;
         Ok(added)
+    }
+
+    /// Whether the validator's endorsement of the unit of this digest is known.
+    pub fn has(&self, unit: &Digest, endorser: u32) -> bool
+        requires { endorser < length self.now.weights }
+        ensures { result ≡ is_told self.now.pairs unit.now endorser }
+    {
+        match self.tallies.get(unit) {
+            None => false,
+            Some(tally) => tally.has(endorser),
+        }
     }
 
     /// Whether more than half of the total weight endorses the unit of this digest: twice the weight of
@@ -86,6 +98,14 @@ impl Endorsements {
             None => false,
             Some(tally) => 2 * tally.weight() > self.total,
         }
+    }
+
+    /// The units that more than half of the total weight endorses, in the order in which they were first
+    /// endorsed.
+    pub fn endorsed_units(&self, alloc: Global) -> Result<DigestList, OutOfMemory>
+        ensures { IfOk result (HaveMajority self.now) }
+    {
+        heavy_units(alloc, &self.tallies, self.total)
     }
 }
 

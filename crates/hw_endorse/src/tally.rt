@@ -3,11 +3,13 @@
 ghost use Rattle.std.specs.Prelude.{◌≡◌, ℕ, ◌+◌, ◌^◌, ◌<◌, ◌||◌, ◌==◌, false, sum, Some, IfOk, OnOk, OnErr, if◌then◌else◌};
 ghost use Rattle.indexmap.specs.IndexMap.{IsUnchanged};
 ghost use Rattle.hw_endorse.specs.Endorsers.{has_endorser};
-ghost use Rattle.hw_endorse.specs.Kept.{tally_at, counts, weight_in, IsCounted};
+ghost use Rattle.hw_endorse.specs.Kept.{tally_at, counts, weight_in, IsCounted, AreHeavy};
+ghost use Rattle.hw_types.specs.declared.unit.Digest.{Digest as Named};
 
 use crate::Added;
-use hw_types::{Digest, OutOfMemory};
+use hw_types::{Digest, DigestList, OutOfMemory};
 use indexmap::IndexMap;
+use std::alloc::Global;
 
 /// The endorsers of a unit, and what they weigh together.
 #[derive(Clone, Copy)]
@@ -81,6 +83,22 @@ pub fn count(
     }
     *tally = tally.with(endorser, weight);
     Ok(Added::New)
+}
+
+/// The units whose endorsers weigh more than half of the total, in the order of the tallies.
+pub fn heavy_units(alloc: Global, tallies: &Tallies, total: u64) -> Result<DigestList, OutOfMemory>
+    requires { (d : Named) → weight_in (tally_at tallies.now.entries d) < 2 ^ 63 }
+    ensures { IfOk result (AreHeavy total tallies.now.entries tallies.now.entries) }
+{
+    let mut units = DigestList::new(alloc);
+    for index in 0..tallies.len() {
+        if let Some((unit, tally)) = tallies.get_index(index) {
+            if 2 * tally.weight() > total {
+                units.push(*unit)?;
+            }
+        }
+    }
+    Ok(units)
 }
 
 /// The sum of all weights.

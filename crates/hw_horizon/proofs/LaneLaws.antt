@@ -1,6 +1,6 @@
 -- Lanes by number, and the starts of lanes as pruning has them.
 use Rattle.std.proofs.Common.{◌≡◌, ℕ, ◌+◌, ◌≤◌, ◌<◌, ◌⊎◌, inl, inr, Bool, true, false, cond, max, List, Option, Some, None, refl, sym, ap, subst, ◌∙◌, arith}
-use Rattle.std.specs.Prelude.{nat_le}
+use Rattle.std.specs.Prelude.{nat_le, is_some}
 use Rattle.std.proofs.lemmas.Bool.{cases_lt, le-leb, lt-leb}
 use Rattle.hw_types.specs.Graph.{Node, latest, observed, lane_of}
 use Rattle.hw_types.specs.Below.{Among}
@@ -53,6 +53,14 @@ begun_none units floor test u m why =
     ] in
     let no : nat_le (max floor (least_from test (lane_of units u))) u.unit.seq ≡ false = lt-leb _ _ beyond in
     ap (λ (b : Bool). cond b (Some (max floor (least_from test (lane_of units u)))) None) no
+
+begun_is_some : (units : List Node) (floor : ℕ) (test : Node → Bool) (u : Node) → floor ≤ u.unit.seq → ((x : Node) → Among x (lane_of units u) → u.unit.seq ≤ x.unit.seq → test x ≡ true)
+    → is_some (begun units floor test (Some u)) ≡ true
+unfolding begun
+begun_is_some units floor test u low each =
+    let most = from_least test (lane_of units u) u.unit.seq each in
+    let fits : nat_le (max floor (least_from test (lane_of units u))) u.unit.seq ≡ true = le-leb _ _ (omega arith) in
+    ap (λ (b : Bool). is_some (cond b (Some (max floor (least_from test (lane_of units u)))) None)) fits
 
 begun_nowhere : (units : List Node) (floor : ℕ) (test : Node → Bool) → begun units floor test None ≡ None
 unfolding begun
@@ -132,6 +140,18 @@ module _ (dag : UnitGraph) (g : IsGraph dag) where
         | inl e ↦ inl e
         | inr n ↦ inr (node_at dag n.0, on_lane_among dag g n.0 tip n.1 n.2, same n.0 n.1 n.2 ∙ n.3, n.4)
       ])
+
+  -- a lane has a start where its last unit passes and doesn't come before the floor
+  pub tip_begins : (tip floor : ℕ) (passes : ℕ → Bool) (test : Node → Bool) → tip < count_of dag → SameOn tip test passes → floor ≤ seq_of (unit_at dag tip) → passes tip ≡ true
+      → is_some (begun (graph dag) floor test (Some (node_at dag tip))) ≡ true
+  tip_begins tip floor passes test lt same low p = begun_is_some (graph dag) floor test (node_at dag tip) low
+      (λ x m le.
+      let n = among_node dag x (lane_in dag g tip x m) in
+      let t = among_on_lane dag g n.0 tip (subst (λ (z : Node). Among z (lane dag g tip)) (sym n.2) m) in
+      let there : seq_of (unit_at dag tip) ≤ seq_of (unit_at dag n.0) = subst (λ (z : Node). seq_of (unit_at dag tip) ≤ z.unit.seq) (sym n.2) le in
+      let most = lane_most tip n.0 lt n.1 t in
+      let last : n.0 ≡ tip = lane_same tip n.0 tip lt n.1 lt t (lane_self tip lt) (omega arith) in
+      subst (λ (z : Node). test z ≡ true) n.2 (same n.0 n.1 t ∙ ap passes last ∙ p))
 
   -- and so is that of a slot
   pub slot_start_is_begun : (panorama : List View) → IsPanorama dag panorama → (v floor : ℕ) (passes : ℕ → Bool) (test : Node → Bool)

@@ -3,7 +3,10 @@ pub mod KeptLaws
 pub mod LaneLaws
 pub mod VoteLaws
 pub mod SightLaws
+pub mod FirstLaws
 pub mod RoundLaws
 pub mod SearchLaws
 pub mod WeightLaws
 pub mod WalkLaws
+pub mod LesserLaws
+pub mod BoundLaws

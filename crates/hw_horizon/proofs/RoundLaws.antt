@@ -2,6 +2,7 @@
 use Rattle.std.proofs.Common.{◌≡◌, ℕ, zero, suc, ◌+◌, ◌-◌, ◌≤◌, ◌<◌, inl, inr, Bool, true, false, cond, List, length, map, Option, None, get_or-set_other, get_or-set_same, ◌≢◌, set, refl, sym, ap, ◌∙◌, arith}
 use Rattle.std.proofs.Math.ListN.{length-set}
 use Rattle.std.specs.Prelude.{◌&&◌, not, ◌==◌, nat_le, is_some}
+use Rattle.std.specs.Bool.{then_some}
 use Rattle.std.specs.List.{list_any, range_with_len}
 use Rattle.std.proofs.lemmas.Bool.{cases_lt, cases_eq}
 use Rattle.std.proofs.lemmas.List.{ext_get_or}
@@ -9,10 +10,11 @@ use Rattle.std.proofs.lemmas.List.FromFn.{length-map-range_with_len}
 use Rattle.hw_types.specs.declared.unit.Obs.{Obs}
 use Rattle.hw_types.specs.Graph.{Node, past, latest}
 use Rattle.hw_types.specs.Votes.{weight_of}
+use Rattle.hw_types.proofs.StableLaws.{both_ways}
 use Rattle.hw_types.proofs.WordsLaws.{not_false}
 use Rattle.hw_summit.specs.Pruned.{begun, or_zero, vote_start}
 use Rattle.hw_dag.specs.declared.numbers.View.{View}
-use Rattle.hw_horizon.specs.Tables.{Starts, entry, start_over, next_table, table_after, pruned_table}
+use Rattle.hw_horizon.specs.Tables.{Starts, entry, SameMembers, start_over, next_table, table_after, pruned_table}
 use Rattle.hw_horizon.specs.Starts.{HasSlots}
 use Rattle.hw_horizon.specs.Search.{table_of}
 use Rattle.hw_horizon.proofs.TableLaws.{past_end, made_entry, made_beyond}
@@ -46,13 +48,23 @@ lengths_more tables at n t lt len each k less =
     ]
 
 -- who doesn't fall stays
-pub stays_one : (present falls : Bool) (o start : Option ℕ) → falls ≡ (present && not (is_some start)) → falls ≡ false → start ≡ cond present o None → is_some start ≡ present
-stays_one true falls o start e f s = not_false (is_some start) (sym e ∙ f)
-stays_one false falls o start e f s = ap is_some s
+pub stays_one : (present falls stays new : Bool) → falls ≡ (present && not stays) → falls ≡ false → new ≡ stays → (stays ≡ true → present ≡ true) → new ≡ present
+stays_one true falls stays new e f s within = s ∙ not_false stays (sym e ∙ f)
+stays_one false falls stays new e f s within = s ∙ both_ways stays false within (λ h. absurd cc)
 
--- who is present
-abbrev pub SameMembers : Starts → Starts → Type 0
-SameMembers s t = (v : ℕ) → is_some (entry s v) ≡ is_some (entry t v)
+-- who has a start over those present is present
+pub start_present : (present : Bool) (o : Option ℕ) → is_some (cond present o None) ≡ true → present ≡ true
+start_present true o h = refl
+start_present false o h = absurd cc
+
+-- a mark for who stays
+pub marked_some : (stays : Bool) (o : Option ℕ) → o ≡ then_some stays 0 → is_some o ≡ stays
+marked_some true o e = ap is_some e
+marked_some false o e = ap is_some e
+
+-- only who has a Correct slot is in a table with the same members
+pub slots_same : (views : List View) (s t : Starts) → SameMembers s t → HasSlots views t → HasSlots views s
+slots_same views s t same slots v h = slots v (sym (same v) ∙ h)
 
 pub same_members : (s t : Starts) (n : ℕ) → length s ≡ n → length t ≡ n → ((v : ℕ) → v < n → is_some (entry s v) ≡ is_some (entry t v)) → SameMembers s t
 same_members s t n ls lt each v = elim (cases_lt v n) [
@@ -75,7 +87,7 @@ module _ (weights : List ℕ) (units : List Node) (panorama : List Obs) (quorum 
   unfolding next_table
   next_length lower present = length-map-range_with_len (new_start lower present) 0 n
 
-  next_entry : (lower present : Starts) (v : ℕ) → v < n → entry (next_table weights units panorama quorum lower present) v ≡ new_start lower present v
+  pub next_entry : (lower present : Starts) (v : ℕ) → v < n → entry (next_table weights units panorama quorum lower present) v ≡ new_start lower present v
   unfolding next_table
   next_entry lower present v lt = made_entry (new_start lower present) n v lt
 
@@ -118,12 +130,6 @@ module _ (weights : List ℕ) (units : List Node) (panorama : List Obs) (quorum 
   unfolding table_after
   after_next k lower = refl
 
-  pub after_more : (k j : ℕ) (lower present t : Starts) → present ≡ table_after k weights units panorama quorum lower → t ≡ next_table weights units panorama quorum lower present → j ≡ k + 1
-      → t ≡ table_after j weights units panorama quorum lower
-  after_more k j lower present t e now one =
-      let same : suc k ≡ j = omega arith in
-      now ∙ ap (next_table weights units panorama quorum lower) e ∙ sym (after_next k lower) ∙ ap (λ (i : ℕ). table_after i weights units panorama quorum lower) same
-
   -- once nobody falls, nothing changes any more
   pub after_settled : (k : ℕ) (lower : Starts) → SameMembers (table_after (suc k) weights units panorama quorum lower) (table_after k weights units panorama quorum lower)
       → (m : ℕ) → table_after (suc (k + m)) weights units panorama quorum lower ≡ table_after (suc k) weights units panorama quorum lower
@@ -136,20 +142,74 @@ module _ (weights : List ℕ) (units : List Node) (panorama : List Obs) (quorum 
       ∙ next_same lower (table_after (suc k) weights units panorama quorum lower) (table_after k weights units panorama quorum lower) same
       ∙ sym (after_next k lower)
 
-  -- so a search may stop there
-  pub stopped : (k : ℕ) (lower present t : Starts) → present ≡ table_after k weights units panorama quorum lower → t ≡ next_table weights units panorama quorum lower present → SameMembers t present → k < n + 1
-      → t ≡ table_after (suc n) weights units panorama quorum lower
-  stopped k lower present t e now same lt =
-      let m : (d : ℕ) × (k + d ≡ n) = (n - k, omega arith) in
-      let i : suc (k + m.0) ≡ suc n = ap suc m.1 in
-      let is : t ≡ table_after (suc k) weights units panorama quorum lower = now ∙ ap (next_table weights units panorama quorum lower) e ∙ sym (after_next k lower) in
-      let settled : SameMembers (table_after (suc k) weights units panorama quorum lower) (table_after k weights units panorama quorum lower) =
-      λ v. ap (λ (s : Starts). is_some (entry s v)) (sym is) ∙ same v ∙ ap (λ (s : Starts). is_some (entry s v)) e in
-      is ∙ sym (after_settled k lower settled m.0) ∙ ap (λ (j : ℕ). table_after j weights units panorama quorum lower) i
+  -- ---- members alone
 
-  -- the last of so many rounds
-  pub run_out : (k : ℕ) (lower t : Starts) → t ≡ table_after k weights units panorama quorum lower → k ≡ n + 1 → t ≡ table_after (suc n) weights units panorama quorum lower
-  run_out k lower t e all = let same : k ≡ suc n = omega arith in e ∙ ap (λ (j : ℕ). table_after j weights units panorama quorum lower) same
+  pub members_first : (lower t : Starts) → t ≡ lower → SameMembers t (table_after 0 weights units panorama quorum lower)
+  members_first lower t e v = ap (λ (s : Starts). is_some (entry s v)) (after_first lower t e)
+
+  -- who has a start over those present is left
+  pub next_members : (lower present t : Starts) → length t ≡ n → ((v : ℕ) → v < n → is_some (entry t v) ≡ is_some (new_start lower present v))
+      → SameMembers t (next_table weights units panorama quorum lower present)
+  next_members lower present t len each = same_members t (next_table weights units panorama quorum lower present) n len (next_length lower present) (λ v lt. each v lt ∙ ap is_some (sym (next_entry lower present v lt)))
+
+  -- who is left after one more round
+  pub members_more : (k j : ℕ) (lower present next : Starts) → SameMembers present (table_after k weights units panorama quorum lower)
+      → SameMembers next (next_table weights units panorama quorum lower present) → j ≡ k + 1 → SameMembers next (table_after j weights units panorama quorum lower)
+  members_more k j lower present next p e one v =
+      let same : suc k ≡ j = omega arith in
+      e v
+      ∙ ap (λ (t : Starts). is_some (entry t v)) (next_same lower present (table_after k weights units panorama quorum lower) p
+      ∙ sym (after_next k lower) ∙ ap (λ (i : ℕ). table_after i weights units panorama quorum lower) same)
+
+  -- once nobody falls, they stay
+  pub members_settled : (k : ℕ) (lower present next : Starts) → SameMembers present (table_after k weights units panorama quorum lower)
+      → SameMembers next (next_table weights units panorama quorum lower present) → SameMembers next present → k < n → SameMembers next (table_after n weights units panorama quorum lower)
+  members_settled k lower present next p e stays lt v =
+      let m : (d : ℕ) × (suc (k + d) ≡ n) = (n - suc k, omega arith) in
+      let now : SameMembers next (table_after (suc k) weights units panorama quorum lower) = members_more k (suc k) lower present next p e (omega arith) in
+      let settled : SameMembers (table_after (suc k) weights units panorama quorum lower) (table_after k weights units panorama quorum lower) = λ w. sym (now w) ∙ stays w ∙ p w in
+      now v ∙ ap (λ (t : Starts). is_some (entry t v)) (sym (after_settled k lower settled m.0) ∙ ap (λ (i : ℕ). table_after i weights units panorama quorum lower) m.1)
+
+  -- once nobody has a start, nobody is left
+  abbrev pub NoStart : Starts → Starts → Type 0
+  NoStart lower present = (v : ℕ) → start_over weights units panorama quorum lower present v ≡ None
+
+  cond_none : (b : Bool) (o : Option ℕ) → o ≡ None → is_some (cond b o None) ≡ false
+  cond_none true o e = ap is_some e
+  cond_none false o e = refl
+
+  none_next : (lower present : Starts) → NoStart lower present → (v : ℕ) → is_some (entry (next_table weights units panorama quorum lower present) v) ≡ false
+  none_next lower present none v = elim (cases_lt v n) [
+    | inl lt ↦ ap is_some (next_entry lower present v lt) ∙ cond_none (is_some (entry present v)) (start_over weights units panorama quorum lower present v) (none v)
+    | inr le ↦ ap is_some (next_beyond lower present v le)
+  ]
+
+  none_stays : (k : ℕ) (lower : Starts) → ((v : ℕ) → is_some (entry (table_after k weights units panorama quorum lower) v) ≡ false)
+      → (m v : ℕ) → is_some (entry (table_after (m + k) weights units panorama quorum lower) v) ≡ false
+  none_stays k lower none zero v = let e : k ≡ zero + k = omega arith in ap (λ (i : ℕ). is_some (entry (table_after i weights units panorama quorum lower) v)) (sym e) ∙ none v
+  none_stays k lower none (suc m) v =
+      let e : suc m + k ≡ suc (m + k) = omega arith in
+      ap (λ (i : ℕ). is_some (entry (table_after i weights units panorama quorum lower) v)) e
+      ∙ ap (λ (t : Starts). is_some (entry t v)) (after_next (m + k) lower)
+      ∙ both_ways (is_some (entry (next_table weights units panorama quorum lower (table_after (m + k) weights units panorama quorum lower)) v)) false
+      (λ h. sym (none_stays k lower none m v) ∙ next_within lower (table_after (m + k) weights units panorama quorum lower) v h) (λ h. absurd cc)
+
+  pub members_none : (k : ℕ) (lower present t : Starts) → SameMembers present (table_after k weights units panorama quorum lower) → NoStart lower present → k < n
+      → ((v : ℕ) → entry t v ≡ None) → SameMembers t (table_after n weights units panorama quorum lower)
+  members_none k lower present t p none lt cleared v =
+      let m : (d : ℕ) × (d + suc k ≡ n) = (n - suc k, omega arith) in
+      let empty : (w : ℕ) → is_some (entry (table_after (suc k) weights units panorama quorum lower) w) ≡ false =
+      λ w. ap (λ (s : Starts). is_some (entry s w)) (after_next k lower ∙ sym (next_same lower present (table_after k weights units panorama quorum lower) p)) ∙ none_next lower present none w in
+      ap is_some (cleared v) ∙ sym (none_stays (suc k) lower empty m.0 v) ∙ ap (λ (i : ℕ). is_some (entry (table_after i weights units panorama quorum lower) v)) m.1
+
+  -- over the members that are left, the starts are those of the level
+  pub from_members : (lower present t : Starts) → SameMembers present (table_after n weights units panorama quorum lower) → t ≡ next_table weights units panorama quorum lower present
+      → t ≡ table_after (suc n) weights units panorama quorum lower
+  from_members lower present t p e = e ∙ next_same lower present (table_after n weights units panorama quorum lower) p ∙ sym (after_next n lower)
+
+  -- so many rounds are enough
+  pub members_run_out : (k : ℕ) (lower t : Starts) → SameMembers t (table_after k weights units panorama quorum lower) → k ≡ n → SameMembers t (table_after n weights units panorama quorum lower)
+  members_run_out k lower t e all v = e v ∙ ap (λ (i : ℕ). is_some (entry (table_after i weights units panorama quorum lower) v)) all
 
   -- ---- levels
 

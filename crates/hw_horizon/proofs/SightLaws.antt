@@ -1,8 +1,8 @@
 -- What a unit sees by its panorama in numbers is what it has below it.
-use Rattle.std.proofs.Common.{◌≡◌, ℕ, ◌≤◌, ◌<◌, inl, inr, Bool, true, false, not, List, length, Option, refl, sym, ap, subst, ◌∙◌, arith, eqb-true, eq-eqb}
+use Rattle.std.proofs.Common.{◌≡◌, ℕ, ◌≤◌, ◌<◌, inl, inr, Bool, true, false, not, List, length, Option, None, refl, sym, ap, subst, ◌∙◌, arith, eqb-true, eq-eqb}
 use Rattle.std.specs.Prelude.{◌&&◌, ◌||◌, ◌==◌, nat_le, is_some}
 use Rattle.std.specs.List.{list_any}
-use Rattle.std.proofs.lemmas.Bool.{cases_lt, leb-true, le-leb}
+use Rattle.std.proofs.lemmas.Bool.{cases_lt, leb-true, leb-false, le-leb, lt-leb}
 use Rattle.hw_types.specs.declared.unit.Obs.{Obs}
 use Rattle.hw_types.specs.declared.unit.Obs.TheVariants.{Absent, Correct, Faulty}
 use Rattle.hw_types.specs.Graph.{Node, slot, slots, cites, unit_cites, past, lane_of, is_faulty_mark, obs_at_most, is_at_most, is_consistent}
@@ -21,14 +21,14 @@ use Rattle.hw_dag.specs.Dag.{UnitGraph, unit_at, count_of, node_at, graph, creat
 use Rattle.hw_dag.specs.Admission.{IsGraph}
 use Rattle.hw_dag.specs.Lanes.{is_lane_below, AreWeights}
 use Rattle.hw_dag.proofs.NodeLaws.{among_node, node_among, graph_one_name}
-use Rattle.hw_dag.proofs.SlotLaws.{slot_of, slot_at, number_cites}
+use Rattle.hw_dag.proofs.SlotLaws.{slot_of, slot_at, latest_of, number_cites}
 use Rattle.hw_dag.proofs.LaneLaws.{even_weights, all_faulty, lawful, history, on_lane_among, seen_entry}
 use Rattle.hw_dag.proofs.ChainLaws as chain
-use Rattle.hw_summit.specs.Pruned.{or_zero, vote_start}
+use Rattle.hw_summit.specs.Pruned.{begun, or_zero, vote_start}
 use Rattle.hw_summit.proofs.SuffixLaws.{lane_past}
-use Rattle.hw_horizon.specs.Tables.{Starts, entry, is_seen, start_over}
+use Rattle.hw_horizon.specs.Tables.{Starts, entry, is_member, is_seen, start_over}
 use Rattle.hw_horizon.specs.Starts.{IsSlotStart, votes_over, is_from, sees, sees_quorum, IsSuffix, HasSlots}
-use Rattle.hw_horizon.proofs.LaneLaws.{lane_most, slot_start_is_begun}
+use Rattle.hw_horizon.proofs.LaneLaws.{lane_most, slot_start_is_begun, tip_begins}
 use Rattle.hw_horizon.proofs.VoteLaws.{votes_are}
 use Rattle.hw_horizon.proofs.TableLaws.{past_end}
 
@@ -133,10 +133,10 @@ module _ (dag : UnitGraph) (g : IsGraph dag) where
         is_marked (Correct d) h = absurd cc
 
     module _ (weights : List ℕ) (quorum : ℕ) (lower present : Starts) (has_slots : HasSlots panorama present) where
-      abbrev enough : List Node → Bool
+      abbrev pub enough : List Node → Bool
       enough below = nat_le quorum (weight_of weights (is_seen below lower present))
 
-      quorum_on_lane : (t : ℕ) (tip : UnitNo) → view_at panorama t ≡ view.Correct tip → (n : ℕ) → n < count_of dag → is_lane_below dag n tip.0 ≡ true → sees_quorum weights dag quorum lower present n ≡ enough (history dag g n)
+      pub quorum_on_lane : (t : ℕ) (tip : UnitNo) → view_at panorama t ≡ view.Correct tip → (n : ℕ) → n < count_of dag → is_lane_below dag n tip.0 ≡ true → sees_quorum weights dag quorum lower present n ≡ enough (history dag g n)
       quorum_on_lane t tip e n ln lane_test = quorum_is weights n quorum ln lower present (λ v h. let s = has_slots v h in unmarked_on_lane t tip e n ln lane_test v s.0 s.1)
 
       more_seen : (some more : List Node) → Within some more → enough some ≡ true → enough more ≡ true
@@ -162,6 +162,37 @@ module _ (dag : UnitGraph) (g : IsGraph dag) where
           → start_over weights (graph dag) (observations dag panorama) quorum lower present v ≡ o
       start_over_is v o s = slot_start_is_begun dag g panorama ip v (or_zero (entry lower v)) (sees_quorum weights dag quorum lower present) (λ x. enough (past (graph dag) x.unit.panorama))
           (λ tip e n ln t. sym (quorum_on_lane v tip e n ln t)) o s
+
+      -- nobody sees a quorum of those who weigh less than one
+      pub light_none : weight_of weights (is_member present) < quorum → (v : ℕ) → start_over weights (graph dag) (observations dag panorama) quorum lower present v ≡ None
+      light_none light v = start_over_is v None (go (view_at panorama v))
+        where
+          blind : (n : ℕ) → sees_quorum weights dag quorum lower present n ≡ false
+          blind n =
+              let most = weight_le weights (sees dag n lower present) (is_member present) (λ w h. (and_parts (is_some (entry present w)) (is_from dag (or_zero (entry lower w)) (view_at (unit_at dag n).panorama w)) h).0) in
+              lt-leb quorum (weight_of weights (sees dag n lower present)) (omega arith)
+
+          go : (w : View) → IsSlotStart dag w (or_zero (entry lower v)) (sees_quorum weights dag quorum lower present) None
+          go view.Absent = refl
+          go (view.Correct tip) = inr (blind tip.0)
+          go view.Faulty = refl
+
+      -- there is a start exactly where the latest unit sees a quorum, and isn't before the one of the level below
+      pub tip_decides : (t : ℕ) (tip : UnitNo) → view_at panorama t ≡ view.Correct tip
+          → is_some (start_over weights (graph dag) (observations dag panorama) quorum lower present t) ≡ (nat_le (or_zero (entry lower t)) (seq_of (unit_at dag tip.0)) && sees_quorum weights dag quorum lower present tip.0)
+      tip_decides t tip e = go (nat_le (or_zero (entry lower t)) (seq_of (unit_at dag tip.0))) refl (sees_quorum weights dag quorum lower present tip.0) refl
+        where
+          none : IsSlotStart dag (view.Correct tip) (or_zero (entry lower t)) (sees_quorum weights dag quorum lower present) None → is_some (start_over weights (graph dag) (observations dag panorama) quorum lower present t) ≡ false
+          none s = ap is_some (start_over_is t None (subst (λ (w : View). IsSlotStart dag w (or_zero (entry lower t)) (sees_quorum weights dag quorum lower present) None) (sym e) s))
+
+          go : (a : Bool) → nat_le (or_zero (entry lower t)) (seq_of (unit_at dag tip.0)) ≡ a → (b : Bool) → sees_quorum weights dag quorum lower present tip.0 ≡ b
+              → is_some (start_over weights (graph dag) (observations dag panorama) quorum lower present t) ≡ (a && b)
+          go true low true p =
+              ap (λ (u : Option Node). is_some (begun (graph dag) (or_zero (entry lower t)) (λ x. enough (past (graph dag) x.unit.panorama)) u)) (latest_of dag g panorama t tip e (ip.known t tip e))
+              ∙ tip_begins dag g tip.0 (or_zero (entry lower t)) (sees_quorum weights dag quorum lower present) (λ x. enough (past (graph dag) x.unit.panorama)) (ip.known t tip e)
+              (λ n ln on. sym (quorum_on_lane t tip e n ln on)) (leb-true _ _ low) p
+          go true low false p = none (inr p)
+          go false low b p = none (inl (leb-false _ _ low))
 
   -- and so is that of level 0
   pub vote_start_is : (weights : List ℕ) → AreWeights weights dag → (panorama : List View) → IsPanorama dag panorama → (block : ℕ) → block < count_of dag → (v : ℕ) (o : Option ℕ)

@@ -33,11 +33,12 @@ pub record AreTables (validators levels : ℕ) (tables : List Starts) : Type 0 w
   pub length_is : length tables ≡ levels + 1
   pub each : (k : ℕ) → k < length tables → length (table_of tables k) ≡ validators
 
--- the tables that a search works on have an entry for each validator
+-- what a search works on has an entry for each validator
 pub record IsScratch (validators : ℕ) (scratch : Scratch) : Type 0 where
   pub lower : length scratch.lower ≡ validators
   pub present : length scratch.present ≡ validators
   pub next : length scratch.next ≡ validators
+  pub firsts : length scratch.firsts ≡ validators
 
 -- the level is one of these, where there is one
 abbrev pub IsWithin : ℕ → Option ℕ → Type 0

@@ -9,6 +9,7 @@ ghost use Rattle.hw_horizon.specs.Kept.{AreKept};
 ghost use Rattle.hw_horizon.specs.Tables.{pruned_table};
 ghost use Rattle.hw_horizon.specs.Search.{table_of, start_of, committees_of, AreTables, IsScratch};
 
+use crate::firsts::Firsts;
 use crate::kept::Walks;
 use crate::rounds::settle;
 use crate::table::Table;
@@ -29,13 +30,14 @@ pub struct Horizons {
     scratch: Scratch,
 }
 
-// What one search works on: the table of the level below, of the level that is pruned, and the next
-// one of it.
+// What one search works on: the table of the level below, of the level that is pruned, the next one of
+// it, and the first units of those present.
 #[derive(Drop)]
 struct Scratch {
     lower: Table,
     present: Table,
     next: Table,
+    firsts: Firsts,
 }
 
 impl Model for Horizons {
@@ -73,6 +75,7 @@ impl Horizons {
             lower: Table::new(alloc, validators)?,
             present: Table::new(alloc, validators)?,
             next: Table::new(alloc, validators)?,
+            firsts: Firsts::new(alloc, validators)?,
         };
         Ok(Horizons {
             validators,
@@ -174,8 +177,9 @@ fn put_tables(
             lower,
             present,
             next,
+            firsts,
         } = scratch;
-        settle(present, next, dag, weights, panorama, quorum, lower);
+        settle(present, next, firsts, dag, weights, panorama, quorum, lower);
         lower.copy_from(present);
         tables[below + 1].copy_from(lower);
     }

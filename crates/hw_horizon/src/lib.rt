@@ -4,11 +4,12 @@
 //! A table has the start of each member of a committee. That of level 0 is found by a walk down each
 //! lane for as long as its units vote for the block. What it found is kept, so when the same block is
 //! asked again only new units of a lane are looked at. From there each level is pruned out of the one
-//! below it: a member's start is found by bisection, since the units of a lane that see a quorum are
-//! its last ones, and members whose latest unit sees none fall, until no more do. The tables of all
-//! levels stay as they are until the next search.
+//! below it: members whose latest unit sees no quorum fall, until no more do or those who are left weigh
+//! less than one. Then their starts are found by bisection, since the units of a lane that see a quorum
+//! are its last ones. The tables of all levels stay as they are until the next search.
 #![tactic(auto)]
 
+mod firsts;
 mod horizons;
 mod jumps;
 mod kept;
@@ -21,4 +22,4 @@ mod tests;
 mod votes;
 
 pub use horizons::Horizons;
-pub use laws::walks_stay;
+pub use laws::{bounds_rule_out, lesser_summits, sums_stay, walks_stay};

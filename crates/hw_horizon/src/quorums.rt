@@ -1,14 +1,14 @@
 //! From where on a lane sees a quorum of those who are present.
 
-ghost use Rattle.std.specs.Prelude.{◌≡◌, ◌<◌};
-ghost use Rattle.hw_dag.specs.Dag.{count_of};
-ghost use Rattle.hw_dag.specs.declared.numbers.UnitNo.{UnitNo as Number};
+ghost use Rattle.std.specs.Prelude.{◌≡◌, ◌<◌, ◌&&◌, length, nat_le};
+ghost use Rattle.hw_dag.specs.Dag.{count_of, unit_at, seq_of};
 ghost use Rattle.hw_dag.specs.Admission.{IsGraph};
 ghost use Rattle.hw_dag.specs.Lanes.{AreWeights};
-ghost use Rattle.hw_horizon.specs.Starts.{IsStart, IsSuffix, is_from, sees, weight_seen, sees_quorum as sees_quorum_lem};
+ghost use Rattle.hw_horizon.specs.Starts.{IsStart, IsSuffix};
+ghost use Rattle.hw_horizon.specs.Firsts.{is_after, weight_after, has_quorum as has_quorum_lem};
 
+use crate::firsts::Firsts;
 use crate::jumps::lane_at;
-use crate::table::Table;
 use hw_dag::{Dag, UnitNo, View};
 
 /// The number, not below the floor, from which on each unit of the lane sees a quorum. It is found by
@@ -19,88 +19,94 @@ pub fn quorum_start(
     tip: UnitNo,
     floor: u64,
     quorum: u64,
-    lower: &Table,
-    present: &Table,
+    firsts: &Firsts,
 ) -> Option<u64>
     requires graph { IsGraph dag.now }
     requires weights { AreWeights weights.now dag.now }
+    requires firsts { length firsts.now ≡ dag.now.validators }
     requires known { tip.0 < count_of dag.now }
-    requires suffix { IsSuffix dag.now tip.0 (sees_quorum_lem weights.now dag.now quorum lower.now present.now) }
-    ensures { IsStart dag.now tip.0 floor (sees_quorum_lem weights.now dag.now quorum lower.now present.now) result }
+    requires suffix { IsSuffix dag.now tip.0 (has_quorum_lem weights.now dag.now quorum firsts.now) }
+    ensures { IsStart dag.now tip.0 floor (has_quorum_lem weights.now dag.now quorum firsts.now) result }
 {
-    let mut high = dag.unit(tip).signed().unit.seq;
-    if high < floor || !sees_quorum(dag, weights, tip, quorum, lower, present) {
+    let last = dag.unit(tip).signed().unit.seq;
+    if last < floor {
         return None;
     }
     let mut low = floor;
+    let mut high = last;
     while low < high {
         let middle = low + (high - low) / 2;
         let no = lane_at(dag, tip, middle);
-        if sees_quorum(dag, weights, no, quorum, lower, present) {
+        if has_quorum(dag, weights, no, quorum, firsts) {
             high = middle;
         } else {
             low = middle + 1;
         }
     }
+    // Where an earlier unit sees a quorum, the latest one does.
+    if high == last && !has_quorum(dag, weights, tip, quorum, firsts) {
+        return None;
+    }
     Some(low)
 }
 
-// Whether the unit sees a quorum of those present.
-fn sees_quorum(
+/// Whether there is such a number: the latest unit has one not below the floor, and sees a quorum.
+pub fn has_start(
     dag: &Dag,
     weights: &[u64],
-    no: UnitNo,
+    tip: UnitNo,
+    floor: u64,
     quorum: u64,
-    lower: &Table,
-    present: &Table,
+    firsts: &Firsts,
 ) -> bool
     requires graph { IsGraph dag.now }
     requires weights { AreWeights weights.now dag.now }
-    requires known { no.0 < count_of dag.now }
-    ensures { result ≡ sees_quorum_lem weights.now dag.now quorum lower.now present.now no.0 }
+    requires firsts { length firsts.now ≡ dag.now.validators }
+    requires known { tip.0 < count_of dag.now }
+    ensures { result ≡ (nat_le floor (seq_of (unit_at dag.now tip.0)) && has_quorum_lem weights.now dag.now quorum firsts.now tip.0) }
 {
-    quorum <= weight_seen(dag, weights, no, lower, present)
+    floor <= dag.unit(tip).signed().unit.seq && has_quorum(dag, weights, tip, quorum, firsts)
+}
+
+// Whether the unit sees a quorum of those present.
+fn has_quorum(dag: &Dag, weights: &[u64], no: UnitNo, quorum: u64, firsts: &Firsts) -> bool
+    requires graph { IsGraph dag.now }
+    requires weights { AreWeights weights.now dag.now }
+    requires firsts { length firsts.now ≡ dag.now.validators }
+    requires known { no.0 < count_of dag.now }
+    ensures { result ≡ has_quorum_lem weights.now dag.now quorum firsts.now no.0 }
+{
+    quorum <= weight_after(dag, weights, no, firsts)
 }
 
 // The weight of those present that the unit sees.
-fn weight_seen(dag: &Dag, weights: &[u64], no: UnitNo, lower: &Table, present: &Table) -> u64
+fn weight_after(dag: &Dag, weights: &[u64], no: UnitNo, firsts: &Firsts) -> u64
     requires graph { IsGraph dag.now }
     requires weights { AreWeights weights.now dag.now }
+    requires firsts { length firsts.now ≡ dag.now.validators }
     requires known { no.0 < count_of dag.now }
-    ensures { result ≡ weight_seen weights.now dag.now lower.now present.now no.0 }
+    ensures { result ≡ weight_after weights.now dag.now firsts.now no.0 }
 {
+    let panorama = dag.unit(no).panorama();
     let mut total = 0;
     for v in 0..dag.validators() {
-        if sees(dag, no, lower, present, v) {
-            total += weights[v as usize];
-        }
+        // No branch is taken on what is seen, since that can't be foretold.
+        let weight = weights[v as usize];
+        total += if is_after(firsts.get(v), panorama.get(v)) {
+            weight
+        } else {
+            0
+        };
     }
     total
 }
 
-// Whether the validator is present, and the unit has below it one of it from its start of the level
-// below on.
-fn sees(dag: &Dag, no: UnitNo, lower: &Table, present: &Table, validator: u32) -> bool
-    requires graph { IsGraph dag.now }
-    requires known { no.0 < count_of dag.now }
-    requires within { validator < dag.now.validators }
-    ensures { result ≡ sees dag.now no.0 lower.now present.now validator }
-{
-    present.get(validator).is_some()
-        && is_from(
-            dag,
-            dag.unit(no).panorama().get(validator),
-            lower.get(validator).unwrap_or(0),
-        )
-}
-
-// Whether the slot names a unit of that number or a later one.
-fn is_from(dag: &Dag, view: View, from: u64) -> bool
-    requires { (number : Number) → view ≡ View.Correct number → number.0 < count_of dag.now }
-    ensures { result ≡ is_from dag.now from view }
+// Whether the slot names that unit or a later one of its lane.
+fn is_after(first: u32, view: View) -> bool
+    ensures { result ≡ is_after first view }
 {
     match view {
-        View::Correct(no) => from <= dag.unit(no).signed().unit.seq,
+        View::Correct(no) => first <= no.0,
         View::Absent | View::Faulty => false,
     }
 }

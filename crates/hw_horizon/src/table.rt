@@ -1,6 +1,6 @@
 //! The starts of the members of a committee.
 
-ghost use Rattle.std.specs.Prelude.{◌≡◌, ◌<◌, None, length, replicate, slice_set, IfOk, is_some};
+ghost use Rattle.std.specs.Prelude.{◌≡◌, ℕ, ◌<◌, None, length, replicate, slice_set, IfOk, is_some};
 ghost use Rattle.std.specs.List.{list_any};
 ghost use Rattle.hw_horizon.specs.Tables.{entry};
 
@@ -56,6 +56,16 @@ impl Table {
         ensures { self.new ≡ slice_set self.old validator start }
     {
         self.starts[validator as usize] = start;
+    }
+
+    /// Takes everybody out of the committee.
+    pub(crate) fn clear(&mut self)
+        ensures length { length self.new ≡ length self.old }
+        ensures nobody { (v : ℕ) → entry self.new v ≡ None }
+    {
+        for start in self.starts.iter_mut() {
+            *start = None;
+        }
     }
 
     /// Makes it the same as the other, which has as many validators.

@@ -71,6 +71,9 @@ fn vote_start(dag: &Dag, tip: UnitNo, block: UnitNo, kept: Option<Walk>) -> Opti
     requires kept { (walk : Walked) → kept ≡ Some walk → IsWalk dag.now block.0 walk }
     ensures { IsStart dag.now tip.0 0 (votes_over dag.now block.0) result }
 {
+    if let Some(start) = start_at(kept, tip) {
+        return Some(start);
+    }
     if !votes_for(dag, tip, block) {
         return None;
     }

@@ -1,7 +1,8 @@
 -- Naive forks by number and by name.
-use Rattle.std.proofs.Common.{◌≡◌, ℕ, ◌<◌, ◌≤◌, ◌⊎◌, inl, inr, Bool, true, false, List, refl, sym, subst, ◌∙◌, arith, eqb-true, eq-eqb}
+use Rattle.std.proofs.Common.{◌≡◌, ℕ, ◌<◌, ◌≤◌, ◌⊎◌, inl, inr, Bool, true, false, List, [], None, refl, sym, subst, ◌∙◌, arith, eqb-true, eq-eqb}
 use Rattle.std.specs.Prelude.{◌||◌, ◌&&◌, not, ◌==◌}
 use Rattle.std.specs.List.{list_any}
+use Rattle.hw_types.specs.declared.unit.Digest.{Digest}
 use Rattle.hw_types.specs.declared.unit.Obs.{Obs}
 use Rattle.hw_types.specs.Graph.{Node, past, are_comparable}
 use Rattle.hw_types.specs.Below.{Among}
@@ -32,6 +33,13 @@ or_false : (a b : Bool) → a ≡ false → b ≡ false → (a || b) ≡ false
 or_false false false e f = refl
 or_false true b e f = absurd cc
 or_false false true e f = absurd cc
+
+-- a unit with this panorama and this endorsed list
+abbrev pub with_list : UnitGraph → List View → List Digest → Node
+with_list dag panorama endorsed = record {
+  digest = record { 0 = [] };
+  unit = record { instance = record { 0 = [] }; creator = 0; seq = 0; time = 0; exponent = 0; panorama = observations dag panorama; value = None; endorsed = endorsed };
+}
 
 module _ (dag : UnitGraph) (g : IsGraph dag) (panorama : List View) (panorama_is : IsPanorama dag panorama) (u : Node) (observes : observations dag panorama ≡ u.unit.panorama) where
   abbrev Naive : ℕ → ℕ → Type 0

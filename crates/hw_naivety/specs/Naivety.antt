@@ -1,12 +1,13 @@
 -- Naive units, over a graph in numbers.
 use Rattle.std.specs.Prelude.{◌≡◌, ℕ, ◌<◌, ◌≤◌, true, false, List, Option}
 use Rattle.std.specs.List.{list_all}
+use Rattle.hw_types.specs.declared.unit.Digest.{Digest}
 use Rattle.hw_types.specs.Graph.{Node, cites, past, are_comparable}
 use Rattle.hw_types.specs.Below.{Among}
 use Rattle.hw_types.specs.Rules.{has_digest, has_naive_fork, is_naive}
 use Rattle.hw_dag.specs.declared.numbers.UnitNo.{UnitNo}
 use Rattle.hw_dag.specs.declared.numbers.View.{View}
-use Rattle.hw_dag.specs.Dag.{UnitGraph, count_of, node_at, graph}
+use Rattle.hw_dag.specs.Dag.{UnitGraph, count_of, node_at, graph, observations}
 use Rattle.hw_naivety.specs.Tips.{TipsAre, LanesAre}
 use Rattle.hw_naivety.specs.declared.fork.NaiveFork.{NaiveFork}
 
@@ -17,6 +18,11 @@ KeepsEndorsed units u = (w : Node) → Among w units → cites u.unit.panorama w
 -- any two units of one creator that are naive for it are comparable
 abbrev pub HasNoNaiveFork : List Node → Node → Type 0
 HasNoNaiveFork units u = has_naive_fork (past units u.unit.panorama) u.unit.endorsed ≡ false
+
+-- the unit has this panorama and this endorsed list
+pub record HasSight (dag : UnitGraph) (panorama : List View) (endorsed : List Digest) (u : Node) : Type 0 where
+  pub observes : observations dag panorama ≡ u.unit.panorama
+  pub endorsed_is : endorsed ≡ u.unit.endorsed
 
 -- x is a unit of the creator that is naive for u
 pub record IsNaiveOf (units : List Node) (u : Node) (creator : ℕ) (x : Node) : Type 0 where

@@ -14,4 +14,5 @@ mod tracker;
 
 pub use fork::NaiveFork;
 pub use laws::{judged_stays, noted_stays};
+pub use sight::Sight;
 pub use tracker::Naivety;

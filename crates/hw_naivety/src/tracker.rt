@@ -1,16 +1,17 @@
 //! What is kept of settled units to find naive forks.
 
 ghost use Rattle.std.specs.Prelude.{◌≡◌, ℕ, ◌+◌, ◌<◌, ◌≤◌, ◌↔◌, length, OnOk, IfOk, IfSome, IsNone};
+ghost use Rattle.hw_types.specs.Graph.{Node};
 ghost use Rattle.hw_dag.specs.Dag.{UnitGraph, graph, count_of, node_at, IsPanorama};
 ghost use Rattle.hw_dag.specs.Admission.{IsGraph, IsResolved, node_prepared};
-ghost use Rattle.hw_naivety.specs.Naivety.{KeepsEndorsed, HasNoNaiveFork, IsLeastNaiveFork, IsNoted};
-ghost use Rattle.hw_naivety.specs.Tips.{LanesAre};
+ghost use Rattle.hw_naivety.specs.Naivety.{KeepsEndorsed, HasNoNaiveFork, HasSight, IsLeastNaiveFork, IsNoted};
+ghost use Rattle.hw_naivety.specs.Tips.{HasLists, LanesAre};
 
 use crate::fork::NaiveFork;
 use crate::sight::Sight;
 use crate::tips::Tips;
 use hw_dag::{Dag, Marks, Panorama, Prepared, UnitNo, View};
-use hw_types::OutOfMemory;
+use hw_types::{Digest, OutOfMemory};
 use std::alloc::Global;
 use std::marker::Model;
 
@@ -74,8 +75,7 @@ impl Naivety {
     }
 
     /// None where any two naive units of one creator are comparable, else two of the least creator that
-    /// aren't. The unit's endorsed list has those of the units that it cites. Only creators whose noted units
-    /// aren't on one lane are looked at.
+    /// aren't. The unit's endorsed list has those of the units that it cites.
     pub fn check(&self, dag: &Dag, prepared: &Prepared, marks: &mut Marks) -> Option<NaiveFork>
         requires noted { IsNoted self.now dag.now }
         requires all { self.now.count ≡ count_of dag.now }
@@ -88,10 +88,33 @@ impl Naivety {
         ensures room { marks.new ≡ marks.old }
     {
         let _count = dag.count();
+        let endorsed = prepared.signed().unit.endorsed.as_slice();
+        self.check_over(dag, prepared.panorama(), endorsed, marks)
+    }
+
+    /// What `check` answers for each unit with this panorama and this endorsed list. The list has those of
+    /// the units that the panorama cites. Only creators whose noted units aren't on one lane are looked at.
+    pub fn check_over(
+        &self,
+        dag: &Dag,
+        panorama: &Panorama,
+        endorsed: &[Digest],
+        marks: &mut Marks,
+    ) -> Option<NaiveFork>
+        requires noted { IsNoted self.now dag.now }
+        requires all { self.now.count ≡ count_of dag.now }
+        requires panorama { IsPanorama dag.now panorama.now }
+        requires lists { HasLists dag.now panorama.now endorsed.now }
+        requires room { count_of dag.now ≤ marks.old }
+        ensures none { (u : Node) → HasSight dag.now panorama.now endorsed.now u → (IsNone result ↔ HasNoNaiveFork (graph dag.now) u) }
+        ensures least { (u : Node) → HasSight dag.now panorama.now endorsed.now u → IfSome result (λ fork. IsLeastNaiveFork dag.now u fork) }
+        ensures room { marks.new ≡ marks.old }
+    {
+        let _count = dag.count();
         let sight = Sight {
             dag,
-            panorama: prepared.panorama(),
-            endorsed: prepared.signed().unit.endorsed.as_slice(),
+            panorama,
+            endorsed,
             validators: self.validators,
         };
         for creator in 0..self.validators {

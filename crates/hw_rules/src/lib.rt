@@ -20,3 +20,5 @@ mod tests;
 pub use alone::local;
 pub use judge::Judge;
 pub use laws::endorsed_is_kept;
+pub use lookups::{previous_of, wire_unit};
+pub use rounds::may_follow;

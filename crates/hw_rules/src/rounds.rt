@@ -46,7 +46,7 @@ fn changes_round(dag: &Dag, prepared: &Prepared) -> bool
 }
 
 /// `changes_lawfully` for whatever exponent the unit before has.
-fn may_follow(before: u64, before_exponent: u8, time: u64, exponent: u8) -> bool
+pub fn may_follow(before: u64, before_exponent: u8, time: u64, exponent: u8) -> bool
     requires { exponent ≤ MAX_EXPONENT }
     ensures { result ≡ changes_lawfully before before_exponent time exponent }
 {

@@ -1,7 +1,8 @@
-use Rattle.std.proofs.Common.{ℕ, ◌+◌, ◌^◌, ◌<◌, List, length, slice_index, arith, ap, sym, ◌∙◌, subst}
+use Rattle.std.proofs.Common.{◌≡◌, ℕ, ◌+◌, ◌^◌, ◌<◌, List, length, slice_index, arith, ap, sym, ◌∙◌, subst}
+use Rattle.hw_endorse.specs.declared.Added.TheVariants.{Repeat}
 use Rattle.hw_endorse.specs.Told.{Told, added_of, with_pair}
 use Rattle.hw_endorse.specs.Kept.{weight_in, tally_at, IsCounted}
-use Rattle.hw_endorse.proofs.KeptLaws.{kept_counted, counted_fits, told_counted, added_is}
+use Rattle.hw_endorse.proofs.KeptLaws.{kept_counted, counted_fits, told_counted, told_repeat, added_is}
 use Rattle.hw_endorse.proofs.Endorsements.add.Goals as goal
 
 pub count-requires-clause-fits : goal.count-requires-clause-fits
@@ -28,3 +29,10 @@ pub returns-clause-told : goal.returns-clause-told
 returns-clause-told c =
     told_counted c.self.inside.weights c.self.inside.tallies.entries c.count.new.tallies.entries c.args.unit.now c.args.endorser _ c.in_ok-added.ensures.counted
     ∙ ap (λ (t : Told). record t { pairs = with_pair t.pairs c.args.unit.now c.args.endorser }) c.self.view_is
+
+pub returns-clause-repeat : goal.returns-clause-repeat
+returns-clause-repeat c repeat =
+    let there = sym (added_is c.self.inside.weights c.self.inside.tallies.entries c.args.unit.now c.args.endorser) ∙ sym c.in_ok-added.ensures.answer ∙ repeat in
+    told_counted c.self.inside.weights c.self.inside.tallies.entries c.count.new.tallies.entries c.args.unit.now c.args.endorser _ c.in_ok-added.ensures.counted
+    ∙ told_repeat c.self.inside.weights c.self.inside.tallies.entries c.args.unit.now c.args.endorser there
+    ∙ c.self.view_is

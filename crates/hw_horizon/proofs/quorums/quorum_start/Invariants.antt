@@ -1,10 +1,10 @@
 use Rattle.std.proofs.Common.{◌-◌}
-use Rattle.hw_horizon.specs.Starts.{sees_quorum}
-use Rattle.hw_horizon.proofs.SearchLaws.{IsNarrowed}
+use Rattle.hw_horizon.specs.Firsts.{has_quorum}
+use Rattle.hw_horizon.proofs.SearchLaws.{IsSearched}
 use Rattle.hw_horizon.proofs.quorums.quorum_start.Given as goal
 
 abbrev pub invariant-loop-low : goal.invariant-loop-low
-invariant-loop-low l = IsNarrowed l.dag l.tip.0 l.floor (sees_quorum l.weights l.dag l.quorum l.lower l.present) l.low l.high
+invariant-loop-low l = IsSearched l.dag l.tip.0 l.floor (has_quorum l.weights l.dag l.quorum l.firsts) l.low l.high
 
 abbrev pub decreases-loop-low : goal.decreases-loop-low
 decreases-loop-low l = l.high - l.low

@@ -1,11 +1,9 @@
-use Rattle.std.proofs.Common.{◌≡◌, true, false, length, below_more, sym, ap, ◌∙◌, arith}
+use Rattle.std.proofs.Common.{◌≡◌, length, below_more, ap, ◌∙◌, arith}
 use Rattle.std.proofs.Math.ListN.{length-set}
-use Rattle.std.specs.Prelude.{is_some}
 use Rattle.hw_dag.specs.Dag.{graph, observations}
-use Rattle.hw_horizon.specs.Tables.{entry, start_over}
-use Rattle.hw_horizon.proofs.RoundLaws.{put_entry, put_same, stays_one, next_by_entries}
+use Rattle.hw_horizon.specs.Tables.{entry}
+use Rattle.hw_horizon.proofs.RoundLaws.{put_entry, put_same, next_by_entries}
 use Rattle.hw_horizon.proofs.rounds.put_next.Goals as goal
-use Rattle.hw_horizon.proofs.rounds.put_next.Goals.{then-falls, else-falls}
 
 pub loop-v-preserved : goal.loop-v-preserved
 loop-v-preserved c =
@@ -18,18 +16,10 @@ loop-v-preserved c =
       starts = below_more _ _
           (λ v lt. put_entry c.loop-v.next c.set.new.self c.loop-v.v v c.start_over-start.result c.set.ensures lt ∙ i.starts v lt)
           (last ∙ c.start_over-start.ensures);
-      stays = λ none. elim c.if-falls.branch [
-        | then-falls w ↦ absurd (let bad : false ≡ true = sym none ∙ w.fell-is in cc)
-        | else-falls w ↦ below_more _ _
-            (λ v lt. ap is_some (put_entry c.loop-v.next c.set.new.self c.loop-v.v v c.start_over-start.result c.set.ensures lt) ∙ i.stays (sym w.fell-is ∙ none) v lt)
-            (ap is_some last ∙ stays_one (is_some (entry c.args.present.now c.loop-v.v)) c.falls.result
-            (start_over c.args.weights.now (graph c.args.dag.now) (observations c.args.dag.now c.args.panorama.now) c.args.quorum c.args.lower.now c.args.present.now c.loop-v.v) c.start_over-start.result
-            c.falls.ensures w.if-falls.false c.start_over-start.ensures)
-      ];
     }
 
-pub returns-clause-next : goal.returns-clause-next
-returns-clause-next c =
+pub returns : goal.returns
+returns c =
     let i = c.loop-v.invariant in
     let many = c.validators-v-end.ensures.validators in
     let width = c.requires.weights.length_is in

@@ -10,15 +10,15 @@ pub loop-before-init : goal.loop-before-init
 loop-before-init c = walked_first c.args.dag.now c.requires.graph c.args.tip.0 c.requires.known c.args.block.0 (sym c.votes_for.ensures ∙ c.if-not-votes_for.false)
 
 pub loop-before-smaller : goal.loop-before-smaller
-loop-before-smaller c = walked_down c.args.dag.now c.requires.graph c.args.tip.0 c.requires.known c.args.block.0 c.loop-before.first.0 c.in-Some.before c.loop-before.invariant c.in-Some.ensures
+loop-before-smaller c = walked_down c.args.dag.now c.requires.graph c.args.tip.0 c.requires.known c.args.block.0 c.loop-before.first.0 c.in-Some-earlier_vote.before c.loop-before.invariant c.in-Some-earlier_vote.ensures
 
 pub loop-before-preserved : goal.loop-before-preserved
-loop-before-preserved c = walked_more c.args.dag.now c.requires.graph c.args.tip.0 c.requires.known c.args.block.0 c.loop-before.first.0 c.in-Some.before c.loop-before.invariant c.in-Some.ensures
+loop-before-preserved c = walked_more c.args.dag.now c.requires.graph c.args.tip.0 c.requires.known c.args.block.0 c.loop-before.first.0 c.in-Some-earlier_vote.before c.loop-before.invariant c.in-Some-earlier_vote.ensures
 
 pub returns : goal.returns
 returns c =
     let last : c.signed.result.now.unit.seq ≡ seq_of (unit_at c.args.dag.now c.loop-before.first.0) = ap (λ (s : SignedUnit). s.unit.seq) (c.signed.ensures ∙ ap (λ (u : SettledUnit). u.signed) c.unit.ensures) in
-    let none : IsEarlierVote c.args.dag.now c.loop-before.first.0 c.args.block.0 None = subst (λ (o : Option UnitNo). IsEarlierVote c.args.dag.now c.loop-before.first.0 c.args.block.0 o) c.in_default.is c.earlier_vote.ensures in
+    let none : IsEarlierVote c.args.dag.now c.loop-before.first.0 c.args.block.0 None = subst (λ (o : Option UnitNo). IsEarlierVote c.args.dag.now c.loop-before.first.0 c.args.block.0 o) c.in_default-earlier_vote.is c.earlier_vote.ensures in
     let start : IsLeastStart c.args.dag.now c.args.tip.0 0 (votes_over c.args.dag.now c.args.block.0) (seq_of (unit_at c.args.dag.now c.loop-before.first.0)) =
     walked_start c.args.dag.now c.requires.graph c.args.tip.0 c.requires.known c.args.block.0 c.loop-before.first.0 c.loop-before.invariant none in
     subst (λ (n : ℕ). IsLeastStart c.args.dag.now c.args.tip.0 0 (votes_over c.args.dag.now c.args.block.0) n) (sym last) start
@@ -27,3 +27,6 @@ pub returns-in-Some-start_at : goal.returns-in-Some-start_at
 returns-in-Some-start_at c =
     let known = c.requires.kept _ c.in-Some-start_at.ensures in
     walked_known c.args.dag.now c.requires.graph c.args.tip.0 c.requires.known c.args.block.0 c.loop-before.first.0 c.in-Some-start_at.start c.loop-before.invariant known.start_is
+
+pub returns-in-Some : goal.returns-in-Some
+returns-in-Some c = (c.requires.kept _ c.in-Some.ensures).start_is

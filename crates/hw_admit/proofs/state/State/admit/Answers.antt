@@ -1,4 +1,4 @@
-use Rattle.std.proofs.Common.{◌≡◌, ◌<◌, ◌≤◌, List, length, None, Option, set, sym, ap, subst, ◌∙◌, arith}
+use Rattle.std.proofs.Common.{◌≡◌, ◌<◌, ◌≤◌, false, List, length, None, Option, set, sym, ap, subst, ◌∙◌, arith}
 use Rattle.std.specs.Option.{option_map}
 use Rattle.hw_types.specs.declared.unit.Obs.{Obs}
 use Rattle.hw_types.specs.declared.unit.SignedUnit.{SignedUnit}
@@ -10,9 +10,9 @@ use Rattle.hw_dag.specs.Dag.{UnitGraph, graph, count_of, node_at, view_at, obser
 use Rattle.hw_dag.specs.Admission.{IsFork, IsNew, IsResolved, node_prepared}
 use Rattle.hw_dag.proofs.AdmitLaws.{count_later}
 use Rattle.hw_rules.specs.Judged.{KeepsLocalRules}
-use Rattle.hw_admit.specs.State.{NodeState, MarksAreMet}
+use Rattle.hw_admit.specs.State.{NodeState, MarksAreMet, is_faulty_in, observed_in}
 use Rattle.hw_admit.proofs.RuleLaws.{fits, keeps, sound, is_ready, noted_later, endorses_later, forkless_later}
-use Rattle.hw_admit.proofs.AdmitLaws.{is_state_later}
+use Rattle.hw_admit.proofs.AdmitLaws.{is_state_later, seen_later}
 use Rattle.hw_admit.proofs.state.State.admit.Goals as goal
 
 pub get-seen-requires : goal.get-seen-requires
@@ -198,3 +198,79 @@ invariant_of-self c =
         marks_serve = omega arith;
       },
     )
+
+pub returns-clause-panorama : goal.returns-clause-panorama
+returns-clause-panorama c =
+    let p = c.args.prepared in
+    let config = c.self.inside.config in
+    let dag = c.self.inside.dag in
+    let g = c.count-count.ensures.graph in
+    let many = c.self.invariant.0.weights_are.length_is in
+    let alone = subst (λ (s : NodeState). KeepsLocalRules s.config c.args.prepared.signed.unit) (sym c.self.view_is) c.requires.alone in
+    let resolved = subst (λ (s : NodeState). IsResolved s.dag c.args.prepared) (sym c.self.view_is) c.requires.resolved in
+    let rules = subst (λ (s : NodeState). state_rule s.config (graph s.dag) (node_prepared c.args.prepared) ≡ None) (sym c.self.view_is) c.requires.rules in
+    let fresh = subst (λ (s : NodeState). IsNew s.dag c.args.prepared.digest) (sym c.self.view_is) c.requires.fresh in
+    let room = subst (λ (s : NodeState). 1 ≤ s.spare) (sym c.self.view_is) c.requires.room in
+    let serves = c.self.invariant.1.dag_serves in
+    let fork = c.fork_choice-fork.result in
+    let ready = is_ready config dag g many p alone resolved rules (omega arith) fresh fork
+    (subst (λ (ws : List View). IsFork c.self.inside.dag (observations c.self.inside.dag ws) c.fork_choice-fork.result) c.panorama-2.ensures c.fork_choice-fork.ensures.is_fork) in
+    let met = subst (λ (s : NodeState). MarksAreMet s.marked (graph s.dag) c.args.prepared.signed.unit.panorama) (sym c.self.view_is) c.requires.met in
+    let choice = subst (λ (os : List Obs). option_map (λ (number : UnitNo). node_at c.self.inside.dag number.0) c.fork_choice-fork.result ≡ fork_of c.self.inside.config.weights (graph c.self.inside.dag) os) resolved.observes
+    (subst (λ (ws : List View). option_map (λ (number : UnitNo). node_at c.self.inside.dag number.0) c.fork_choice-fork.result ≡ fork_of c.self.inside.config.weights (graph c.self.inside.dag) (observations c.self.inside.dag ws)) c.panorama-2.ensures c.fork_choice-fork.ensures.fork) in
+    let seen : c.get-seen.result ≡ view_at c.args.prepared.panorama c.args.prepared.signed.unit.creator =
+    c.get-seen.ensures ∙ ap (λ (ws : List View). view_at ws c.signed.result.now.unit.creator) c.panorama.ensures ∙ ap (λ (u : SignedUnit). view_at c.args.prepared.panorama u.unit.creator) c.signed.ensures in
+    let known : c.get.result ≡ view_at c.self.inside.panorama c.args.prepared.signed.unit.creator = c.get.ensures ∙ ap (λ (u : SignedUnit). view_at c.self.inside.panorama u.unit.creator) c.signed.ensures in
+    let moved : c.set.new.self ≡ set c.self.inside.panorama c.args.prepared.signed.unit.creator c.next_view-view.result = c.set.ensures ∙ ap (λ (u : SignedUnit). set c.self.inside.panorama u.unit.creator c.next_view-view.result) c.signed.ensures in
+    (is_state_later _ c.self.invariant.0 g p fork ready met choice c.next_view-view.result c.admit-no.result c.admit-no.ensures.last
+    (λ e. c.next_view-view.ensures.same (seen ∙ e ∙ sym known)) (λ ne. c.next_view-view.ensures.other (λ e. ne (sym seen ∙ e ∙ known)))
+    c.admit-no.new.self c.admit-no.ensures.admitted c.set.new.self moved c.self.inside.spare).panorama_is
+
+pub returns-clause-observed : goal.returns-clause-observed
+returns-clause-observed c =
+    let p = c.args.prepared in
+    let config = c.self.inside.config in
+    let dag = c.self.inside.dag in
+    let g = c.count-count.ensures.graph in
+    let many = c.self.invariant.0.weights_are.length_is in
+    let alone = subst (λ (s : NodeState). KeepsLocalRules s.config c.args.prepared.signed.unit) (sym c.self.view_is) c.requires.alone in
+    let resolved = subst (λ (s : NodeState). IsResolved s.dag c.args.prepared) (sym c.self.view_is) c.requires.resolved in
+    let rules = subst (λ (s : NodeState). state_rule s.config (graph s.dag) (node_prepared c.args.prepared) ≡ None) (sym c.self.view_is) c.requires.rules in
+    let fresh = subst (λ (s : NodeState). IsNew s.dag c.args.prepared.digest) (sym c.self.view_is) c.requires.fresh in
+    let room = subst (λ (s : NodeState). 1 ≤ s.spare) (sym c.self.view_is) c.requires.room in
+    let serves = c.self.invariant.1.dag_serves in
+    let fork = c.fork_choice-fork.result in
+    let ready = is_ready config dag g many p alone resolved rules (omega arith) fresh fork
+    (subst (λ (ws : List View). IsFork c.self.inside.dag (observations c.self.inside.dag ws) c.fork_choice-fork.result) c.panorama-2.ensures c.fork_choice-fork.ensures.is_fork) in
+    let met = subst (λ (s : NodeState). MarksAreMet s.marked (graph s.dag) c.args.prepared.signed.unit.panorama) (sym c.self.view_is) c.requires.met in
+    let choice = subst (λ (os : List Obs). option_map (λ (number : UnitNo). node_at c.self.inside.dag number.0) c.fork_choice-fork.result ≡ fork_of c.self.inside.config.weights (graph c.self.inside.dag) os) resolved.observes
+    (subst (λ (ws : List View). option_map (λ (number : UnitNo). node_at c.self.inside.dag number.0) c.fork_choice-fork.result ≡ fork_of c.self.inside.config.weights (graph c.self.inside.dag) (observations c.self.inside.dag ws)) c.panorama-2.ensures c.fork_choice-fork.ensures.fork) in
+    let seen : c.get-seen.result ≡ view_at c.args.prepared.panorama c.args.prepared.signed.unit.creator =
+    c.get-seen.ensures ∙ ap (λ (ws : List View). view_at ws c.signed.result.now.unit.creator) c.panorama.ensures ∙ ap (λ (u : SignedUnit). view_at c.args.prepared.panorama u.unit.creator) c.signed.ensures in
+    let known : c.get.result ≡ view_at c.self.inside.panorama c.args.prepared.signed.unit.creator = c.get.ensures ∙ ap (λ (u : SignedUnit). view_at c.self.inside.panorama u.unit.creator) c.signed.ensures in
+    let moved : c.set.new.self ≡ set c.self.inside.panorama c.args.prepared.signed.unit.creator c.next_view-view.result = c.set.ensures ∙ ap (λ (u : SignedUnit). set c.self.inside.panorama u.unit.creator c.next_view-view.result) c.signed.ensures in
+    subst (λ (s : NodeState). observations c.admit-no.new.self c.set.new.self ≡ observed_in s.config s.marked (graph c.admit-no.new.self)) c.self.view_is
+    (is_state_later _ c.self.invariant.0 g p fork ready met choice c.next_view-view.result c.admit-no.result c.admit-no.ensures.last
+    (λ e. c.next_view-view.ensures.same (seen ∙ e ∙ sym known)) (λ ne. c.next_view-view.ensures.other (λ e. ne (sym seen ∙ e ∙ known)))
+    c.admit-no.new.self c.admit-no.ensures.admitted c.set.new.self moved c.self.inside.spare).observed
+
+pub returns-clause-seen : goal.returns-clause-seen
+returns-clause-seen c =
+    let p = c.args.prepared in
+    let config = c.self.inside.config in
+    let dag = c.self.inside.dag in
+    let g = c.count-count.ensures.graph in
+    let many = c.self.invariant.0.weights_are.length_is in
+    let alone = subst (λ (s : NodeState). KeepsLocalRules s.config c.args.prepared.signed.unit) (sym c.self.view_is) c.requires.alone in
+    let resolved = subst (λ (s : NodeState). IsResolved s.dag c.args.prepared) (sym c.self.view_is) c.requires.resolved in
+    let rules = subst (λ (s : NodeState). state_rule s.config (graph s.dag) (node_prepared c.args.prepared) ≡ None) (sym c.self.view_is) c.requires.rules in
+    let fresh = subst (λ (s : NodeState). IsNew s.dag c.args.prepared.digest) (sym c.self.view_is) c.requires.fresh in
+    let room = subst (λ (s : NodeState). 1 ≤ s.spare) (sym c.self.view_is) c.requires.room in
+    let serves = c.self.invariant.1.dag_serves in
+    let fork = c.fork_choice-fork.result in
+    let ready = is_ready config dag g many p alone resolved rules (omega arith) fresh fork
+    (subst (λ (ws : List View). IsFork c.self.inside.dag (observations c.self.inside.dag ws) c.fork_choice-fork.result) c.panorama-2.ensures c.fork_choice-fork.ensures.is_fork) in
+    let met = subst (λ (s : NodeState). MarksAreMet s.marked (graph s.dag) c.args.prepared.signed.unit.panorama) (sym c.self.view_is) c.requires.met in
+    subst (λ (s : NodeState). (is_faulty_in s.marked (graph c.admit-no.new.self) c.args.prepared.signed.unit.creator ≡ false → view_at c.args.prepared.panorama c.args.prepared.signed.unit.creator ≡ view_at s.panorama c.args.prepared.signed.unit.creator)
+    × (view_at c.args.prepared.panorama c.args.prepared.signed.unit.creator ≡ view_at s.panorama c.args.prepared.signed.unit.creator → is_faulty_in s.marked (graph c.admit-no.new.self) c.args.prepared.signed.unit.creator ≡ false)) c.self.view_is
+    (seen_later _ c.self.invariant.0 g p fork ready met c.admit-no.new.self c.admit-no.ensures.admitted)

@@ -14,7 +14,8 @@ invariant_of-result c =
         lower = ap length c.in_ok-new-2.ensures ∙ length-replicate c.args.validators none;
         present = ap length c.in_ok-new-3.ensures ∙ length-replicate c.args.validators none;
         next = ap length c.in_ok-new-4.ensures ∙ length-replicate c.args.validators none;
+        firsts = c.in_ok-new-5.ensures;
       },
       tt,
-      c.in_ok-new-5.ensures.length,
+      c.in_ok-new-6.ensures.length,
     )

@@ -1,0 +1,13 @@
+use Rattle.std.proofs.Common.{◌≡◌, ℕ, ◌<◌, false, cond, None, length}
+use Rattle.std.specs.Prelude.{is_some}
+use Rattle.hw_dag.specs.Dag.{graph, observations}
+use Rattle.hw_horizon.specs.Tables.{entry, start_over}
+use Rattle.hw_horizon.proofs.rounds.put_left.Given as goal
+
+abbrev pub invariant-loop-v : goal.invariant-loop-v
+invariant-loop-v l = record {
+  long : length l.next ≡ l.dag.validators;
+  left : (v : ℕ) → v < l.v
+      → is_some (entry l.next v) ≡ is_some (cond (is_some (entry l.present v)) (start_over l.weights (graph l.dag) (observations l.dag l.panorama) l.quorum l.lower l.present v) None);
+  stays : l.fell ≡ false → (v : ℕ) → v < l.v → is_some (entry l.next v) ≡ is_some (entry l.present v);
+}

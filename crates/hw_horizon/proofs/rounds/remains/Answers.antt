@@ -1,0 +1,23 @@
+use Rattle.std.proofs.Common.{◌≡◌, ℕ, Bool, true, cond, Option, Some, None, refl, sym, ap, ◌∙◌}
+use Rattle.std.specs.Prelude.{is_some, not, nat_le, ◌&&◌, unwrap_or}
+use Rattle.hw_summit.specs.Pruned.{or_zero}
+use Rattle.hw_dag.specs.declared.numbers.View.TheVariants as view
+use Rattle.hw_dag.specs.Dag.{graph, observations, view_at, unit_at, seq_of}
+use Rattle.hw_horizon.specs.Tables.{entry, start_over}
+use Rattle.hw_horizon.specs.Firsts.{has_quorum}
+use Rattle.hw_horizon.proofs.FirstLaws.{tip_decides_after}
+use Rattle.hw_horizon.proofs.rounds.remains.Goals as goal
+
+zero_where_none : (o : Option ℕ) → unwrap_or o 0 ≡ or_zero o
+zero_where_none None = refl
+zero_where_none (Some n) = refl
+
+pub returns-in-Correct : goal.returns-in-Correct
+returns-in-Correct c =
+    let slot : view_at c.args.panorama.now c.args.validator ≡ view.Correct c.in-Correct.tip = sym c.get-2.ensures ∙ c.in-Correct.is in
+    let floor : c.unwrap_or-floor.result ≡ or_zero (entry c.args.lower.now c.args.validator) = c.unwrap_or-floor.ensures ∙ zero_where_none c.get-in-Correct.result ∙ ap or_zero c.get-in-Correct.ensures in
+    let present : is_some (entry c.args.present.now c.args.validator) ≡ true = ap is_some (sym c.get.ensures) ∙ c.is_none.ensures ∙ ap not c.if-is_none.false in
+    c.has_start.ensures
+    ∙ ap (λ (n : ℕ). nat_le n (seq_of (unit_at c.args.dag.now c.in-Correct.tip.0)) && has_quorum c.args.weights.now c.args.dag.now c.args.quorum c.args.firsts.now c.in-Correct.tip.0) floor
+    ∙ sym (tip_decides_after c.args.dag.now c.requires.graph c.args.panorama.now c.requires.panorama c.requires.consistent c.args.weights.now c.args.quorum c.args.lower.now c.args.present.now c.requires.slots c.args.firsts.now c.requires.firsts c.args.validator c.in-Correct.tip slot)
+    ∙ sym (ap (λ (b : Bool). is_some (cond b (start_over c.args.weights.now (graph c.args.dag.now) (observations c.args.dag.now c.args.panorama.now) c.args.quorum c.args.lower.now c.args.present.now c.args.validator) None)) present)

@@ -1,0 +1,42 @@
+-- What a unit sees of a committee, by numbers of units alone.
+use Rattle.std.specs.Prelude.{◌≡◌, ℕ, ◌<◌, Bool, true, false, nat_le, List, is_some, slice_index_or}
+use Rattle.hw_types.specs.Votes.{weight_of}
+use Rattle.hw_dag.specs.declared.numbers.View.{View}
+use Rattle.hw_dag.specs.declared.numbers.View.TheVariants as view
+use Rattle.hw_dag.specs.Dag.{UnitGraph, unit_at, count_of, seq_of, view_at}
+use Rattle.hw_dag.specs.Lanes.{is_lane_below}
+use Rattle.hw_summit.specs.Pruned.{or_zero}
+use Rattle.hw_horizon.specs.Tables.{Starts, entry}
+
+-- the slot names the unit of that number or one of a greater number
+abbrev pub is_after : ℕ → View → Bool
+is_after first view.Absent = false
+is_after first (view.Correct number) = nat_le first number.0
+is_after first view.Faulty = false
+
+-- the unit observes the validator's first unit or one of a greater number
+abbrev pub sees_after : UnitGraph → List ℕ → ℕ → ℕ → Bool
+sees_after dag firsts n v = is_after (slice_index_or firsts v 0) (view_at (unit_at dag n).panorama v)
+
+-- the weight of those of whom it does
+abbrev pub weight_after : List ℕ → UnitGraph → List ℕ → ℕ → ℕ
+weight_after weights dag firsts n = weight_of weights (sees_after dag firsts n)
+
+-- it is a quorum
+abbrev pub has_quorum : List ℕ → UnitGraph → ℕ → List ℕ → ℕ → Bool
+has_quorum weights dag quorum firsts n = nat_le quorum (weight_after weights dag firsts n)
+
+-- the units of the slot's lane from that number on are those from the first unit on
+abbrev pub IsLaneFrom : UnitGraph → View → ℕ → ℕ → Type 0
+IsLaneFrom dag view.Absent from first = Unit {0}
+IsLaneFrom dag (view.Correct tip) from first = (n : ℕ) → n < count_of dag → is_lane_below dag n tip.0 ≡ true → nat_le first n ≡ nat_le from (seq_of (unit_at dag n))
+IsLaneFrom dag view.Faulty from first = Unit {0}
+
+-- From the first unit on, the units of a member's lane are those from its start of the level below on. No unit comes after that of a validator that isn't present.
+pub record IsFirst (dag : UnitGraph) (slot : View) (lower present : Starts) (v first : ℕ) : Type 0 where
+  pub absent : is_some (entry present v) ≡ false → (n : ℕ) → n < count_of dag → nat_le first n ≡ false
+  pub in_lane : is_some (entry present v) ≡ true → IsLaneFrom dag slot (or_zero (entry lower v)) first
+
+-- the first unit of each validator
+abbrev pub AreFirsts : UnitGraph → List View → Starts → Starts → List ℕ → Type 0
+AreFirsts dag panorama lower present firsts = (v : ℕ) → v < dag.validators → IsFirst dag (view_at panorama v) lower present v (slice_index_or firsts v 0)
