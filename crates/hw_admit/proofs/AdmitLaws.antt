@@ -11,7 +11,7 @@ use Rattle.hw_types.specs.Below.{Among}
 use Rattle.hw_types.specs.Lawful.{IsLawful}
 use Rattle.hw_types.specs.Rules.{state_rule}
 use Rattle.hw_types.specs.Settled.{is_faulty, panorama_over}
-use Rattle.hw_types.specs.StateLaws.{HasOneMore}
+use Rattle.hw_types.specs.laws.StateLaws.{HasOneMore}
 use Rattle.hw_types.specs.Votes.{fork_of}
 use Rattle.hw_types.proofs.ClosureLaws.{Within}
 use Rattle.hw_types.proofs.TipStepLaws.{seen_no_fork, no_fork_seen, panorama_set}

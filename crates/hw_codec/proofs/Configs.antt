@@ -121,7 +121,7 @@ pub config_reading : IsReading config_at Any config_bytes IsConfig
 unfolding config_at
 config_reading = said
     (seq_from {Known = Any} (λ (c : Config). end_version c.end) version_reading (λ c k. tt) λ _ version from right.
-    seq (λ (c : Config). c.weights) (counted_reading 256 (omega arith) u64_reading) λ _ weights.
+    seq (λ (c : Config). c.weights) (counted_reading 1024 (omega arith) u64_reading) λ _ weights.
     seq (λ (c : Config). c.ftt) u64_reading λ _ ftt.
     seq (λ (c : Config). c.levels) byte_reading λ _ levels.
     seq (λ (c : Config). c.min_exponent) byte_reading λ _ least.

@@ -171,7 +171,7 @@ unit_reading = said
     seq (λ (u : WireUnit). u.seq) u64_reading λ _ number.
     seq (λ (u : WireUnit). u.time) time_reading λ _ time.
     seq (λ (u : WireUnit). u.exponent) byte_reading λ _ exponent.
-    seq (λ (u : WireUnit). u.panorama) (counted_reading 256 (omega arith) obs_reading) λ _ panorama.
+    seq (λ (u : WireUnit). u.panorama) (counted_reading 1024 (omega arith) obs_reading) λ _ panorama.
     seq (λ (u : WireUnit). u.value) value_reading λ _ value.
     seq (λ (u : WireUnit). u.endorsed) (counted_reading 256 (omega arith) digest_reading) λ _ endorsed.
     end (record { instance = instance; creator = creator; seq = number; time = time; exponent = exponent; panorama = panorama; value = value; endorsed = endorsed }) _

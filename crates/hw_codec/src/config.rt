@@ -10,7 +10,7 @@ use hw_types::{CodecError, Config, Leaders, OutOfMemory};
 use std::alloc::Global;
 
 /// The most weights, one for each validator.
-const MAX_WEIGHTS: u32 = 256;
+const MAX_WEIGHTS: u32 = 1_024;
 
 /// The most entries of a table of leaders.
 const MAX_ENTRIES: u32 = 4_096;

@@ -41,7 +41,7 @@ pub fn encode_vertex(alloc: Global, vertex: &Vertex) -> Result<Bytes, OutOfMemor
     Ok(Bytes::from_vec(out))
 }
 
-/// The one spelling of a configuration with at most 256 weights and 4,096 entries of its table.
+/// The one spelling of a configuration with at most 1,024 weights and 4,096 entries of its table.
 pub fn encode_config(alloc: Global, config: &Config) -> Result<Bytes, OutOfMemory>
     requires { ConfigFits config.now }
     ensures { IfOk result (λ bytes. SpellsConfig bytes config.now) }
@@ -52,7 +52,7 @@ pub fn encode_config(alloc: Global, config: &Config) -> Result<Bytes, OutOfMemor
 }
 
 /// The instance of a configuration: the SHA-256 digest of its spelling. The configuration has at
-/// most 256 weights and 4,096 entries of its table.
+/// most 1,024 weights and 4,096 entries of its table.
 #[tactic(auto, unfolding(hw_types::specs::Spelling::instance_of))]
 pub fn instance_of(alloc: Global, config: &Config) -> Result<Digest, OutOfMemory>
     requires { ConfigFits config.now }

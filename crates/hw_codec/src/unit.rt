@@ -11,7 +11,7 @@ use hw_types::{Bytes, CodecError, Obs, OutOfMemory, WireUnit};
 use std::alloc::Global;
 
 /// The most observations of a unit, one for each validator.
-const MAX_OBSERVATIONS: u32 = 256;
+const MAX_OBSERVATIONS: u32 = 1_024;
 
 /// The most bytes of a block's value.
 const MAX_VALUE: u32 = 4_096;
@@ -22,7 +22,7 @@ const MAX_ENDORSED: u32 = 256;
 /// Times are below this number of milliseconds.
 const END_OF_TIME: u64 = 1 << 63;
 
-/// Whether the unit keeps the limits of its format: 256 observations, a value of 4,096 bytes, 256
+/// Whether the unit keeps the limits of its format: 1,024 observations, a value of 4,096 bytes, 256
 /// endorsed digests, and a time below 2^63.
 pub fn fits(unit: &WireUnit) -> bool
     ensures { IsTrue result ↔ Fits unit.now }

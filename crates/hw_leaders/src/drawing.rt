@@ -55,7 +55,7 @@ pub fn drawn_number(seed: [u8; 32], round: u64) -> u64
 /// The validator that the number picks: its share of the total weight is below the weights up to that
 /// validator, and not below those up to the one before.
 pub fn drawn_place(running: &[u64], number: u64) -> u32
-    requires { length running.now ≤ 256 }
+    requires { length running.now ≤ 1024 }
     ensures exact { (weights : List ℕ) → IsRunning weights running.now → result ≡ first_above weights (number * sum weights / 2 ^ 64) }
     ensures within { (weights : List ℕ) → IsRunning weights running.now → 0 < sum weights → result < length weights }
 {

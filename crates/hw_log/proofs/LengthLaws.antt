@@ -44,7 +44,7 @@ value_short (Some bytes) fits = omega (arith, length-append (u32_bytes (length b
 unit_short : (u : WireUnit) → UnitInRange u → Fits u → length (unit_bytes u) ≤ 20802
 unit_short u range fits =
     let instance = range.instance.size in
-    let panorama = counted_short obs_bytes ObsInRange 33 256 obs_short u.panorama range.panorama fits.panorama in
+    let panorama = counted_short obs_bytes ObsInRange 33 1024 obs_short u.panorama range.panorama fits.panorama in
     let value = value_short u.value fits.value in
     let endorsed = counted_short (λ (d : Digest). d.0) DigestInRange 32 256 digest_short u.endorsed range.endorsed fits.endorsed in
     simp length-append (omega (arith, instance, panorama, value, endorsed))
@@ -67,7 +67,7 @@ end_short (Some n) = omega arith
 
 pub config_short : (c : Config) → ConfigInRange c → ConfigFits c → length (config_bytes c) ≤ 1048576
 config_short c range fits =
-    let weights = counted_short u64_bytes (λ (w : ℕ). w < 2 ^ 64) 8 256 (λ w good. omega arith) c.weights range.weights fits.weights in
+    let weights = counted_short u64_bytes (λ (w : ℕ). w < 2 ^ 64) 8 1024 (λ w good. omega arith) c.weights range.weights fits.weights in
     let leaders = leaders_short c.leaders range.leaders fits.leaders in
     let end = end_short c.end in
     simp length-append (omega (arith, weights, leaders, end))

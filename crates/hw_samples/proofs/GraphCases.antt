@@ -25,8 +25,8 @@ use Rattle.hw_types.specs.ByName.{by_name}
 use Rattle.hw_types.specs.Settled.{settles}
 use Rattle.hw_types.specs.Journal.{named, received_of}
 use Rattle.hw_types.specs.Lawful.{settled_in_either}
-use Rattle.hw_types.specs.Laws.{IsAcyclic}
-use Rattle.hw_types.specs.StateLaws.{units_in, SaysTheSame, NamesApart, begin, HasOneMore}
+use Rattle.hw_types.specs.laws.GraphLaws.{IsAcyclic}
+use Rattle.hw_types.specs.laws.StateLaws.{units_in, SaysTheSame, NamesApart, begin, HasOneMore}
 use Rattle.hw_samples.specs.Words.{equal_three, three, sent, deliver, after, settled_in, is_faulty_in, panorama_in, unfold_answers}
 use Rattle.hw_samples.specs.FourUnits.{a0, b0, b1, in_order, last_first}
 use Rattle.hw_samples.specs.Forks.{fork, with_fork}

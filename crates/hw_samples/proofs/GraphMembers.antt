@@ -9,7 +9,7 @@ use Rattle.hw_samples.proofs.Members.{each_member}
 use Rattle.hw_types.specs.Graph.{Node, cites, unit_cites}
 use Rattle.hw_types.specs.Below.{Among, LeadsTo, begin, further}
 use Rattle.hw_types.specs.Journal.{named, received_of}
-use Rattle.hw_types.specs.Laws.{IsExtension, CitesOld}
+use Rattle.hw_types.specs.laws.GraphLaws.{IsExtension, CitesOld}
 use Rattle.hw_samples.specs.Words.{equal_three, three, sent, settled_in, unfold_answers}
 use Rattle.hw_samples.specs.FourUnits.{a0, b0, a1, b1, in_order}
 use Rattle.hw_samples.specs.Forks.{with_fork}

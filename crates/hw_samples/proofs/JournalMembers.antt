@@ -12,7 +12,7 @@ use Rattle.hw_types.specs.Below.{Among}
 use Rattle.hw_types.specs.Settled.{Received, parked_of, dropped_of}
 use Rattle.hw_types.specs.Journal.{named, received_of}
 use Rattle.hw_types.specs.Lawful.{NoClash}
-use Rattle.hw_types.specs.StateLaws.{units_in, HasSame, SaysTheSame, NamesApart}
+use Rattle.hw_types.specs.laws.StateLaws.{units_in, HasSame, SaysTheSame, NamesApart}
 use Rattle.hw_samples.specs.Words.{equal_three, three, sent, settled_in, unfold_answers}
 use Rattle.hw_samples.specs.FourUnits.{a0, b0, a1, b1, in_order, last_first, without_last, second, third}
 use Rattle.hw_samples.specs.Relations.{one_of_each, against, JournalsRelate}

@@ -12,7 +12,7 @@ use Rattle.hw_types.specs.Graph.{Node}
 use Rattle.hw_types.specs.Below.{Among}
 use Rattle.hw_types.specs.ByName.{by_name}
 use Rattle.hw_types.specs.Journal.{named, received_of, answer, is_accepted, receipt_of}
-use Rattle.hw_types.specs.StateLaws.{units_in, NamesApart, Admits, begin, admit, LeadsToSettled, candidates, IsStep, HasOneMore, IsLawfulRun, IsOneChange}
+use Rattle.hw_types.specs.laws.StateLaws.{units_in, NamesApart, Admits, begin, admit, LeadsToSettled, candidates, IsStep, HasOneMore, IsLawfulRun, IsOneChange}
 use Rattle.hw_samples.specs.Words.{equal_three, three, unsigned_as, sent, both, endorses, settled_in, unfold_answers}
 use Rattle.hw_samples.specs.FourUnits.{a0, b0, a1, second, third}
 use Rattle.hw_samples.specs.Forks.{fork}

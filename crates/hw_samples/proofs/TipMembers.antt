@@ -13,7 +13,7 @@ use Rattle.hw_types.specs.Below.{Among}
 use Rattle.hw_types.specs.Settled.{Received, is_faulty}
 use Rattle.hw_types.specs.Journal.{named, received_of}
 use Rattle.hw_types.specs.Lawful.{IsLawful}
-use Rattle.hw_types.specs.StateLaws.{HasOneMore, IsSeenStep}
+use Rattle.hw_types.specs.laws.StateLaws.{HasOneMore, IsSeenStep}
 use Rattle.hw_samples.specs.Words.{equal_three, three, after, settled_in, is_faulty_in, panorama_in, unfold_answers}
 use Rattle.hw_samples.specs.FourUnits.{a0, b0, a1, b1, in_order, without_last}
 use Rattle.hw_samples.specs.Forks.{fork, with_fork}

@@ -15,8 +15,8 @@ use Rattle.hw_types.specs.Journal.{named, received_of, answer, is_accepted}
 use Rattle.hw_types.specs.Decisions.{received_at, StoodAt, AreDecisions}
 use Rattle.hw_types.specs.Culprits.{culprits_of}
 use Rattle.hw_types.specs.Lawful.{settled_in_either, faulty_in_either, joint_panorama, keeps, NoClash}
-use Rattle.hw_types.specs.Laws.{IsAcyclic, IsExtension, CitesOld}
-use Rattle.hw_types.specs.StateLaws.{units_in, SaysTheSame, NamesApart, HasSameState, Admits, candidates, HasOneMore}
+use Rattle.hw_types.specs.laws.GraphLaws.{IsAcyclic, IsExtension, CitesOld}
+use Rattle.hw_types.specs.laws.StateLaws.{units_in, SaysTheSame, NamesApart, HasSameState, Admits, candidates, HasOneMore}
 use Rattle.hw_safety.specs.Safety.{HasPairs, OnOneChain}
 use Rattle.hw_summit.specs.Pruned.{Starts, seen_in}
 use Rattle.hw_summit.specs.Decided.{decisions_of, OneBlockEach}

@@ -18,8 +18,8 @@ use Rattle.hw_types.specs.Journal.{named, received_of, receipt_of}
 use Rattle.hw_types.specs.Decisions.{StoodAt, IsRecord, ComesBefore, AreDecisions}
 use Rattle.hw_types.specs.Culprits.{SignedAs, IsShown, AreCulprits}
 use Rattle.hw_types.specs.Lawful.{NoClash, IsLawful}
-use Rattle.hw_types.specs.Laws.{IsAcyclic, IsExtension, CitesOld}
-use Rattle.hw_types.specs.StateLaws.{units_in, HasSame, SaysTheSame, NamesApart, HasSameState, Grows, IsLawfulUnion, Admits, LeadsToSettled, candidates, IsSplit, IsStep, IsTip, OneTip, OtherSlots, HasOneMore, MovesOwnSlot, IsLawfulRun, IsSeenStep, IsOverAll, IsOneChange, TellsWhere}
+use Rattle.hw_types.specs.laws.GraphLaws.{IsAcyclic, IsExtension, CitesOld}
+use Rattle.hw_types.specs.laws.StateLaws.{units_in, HasSame, SaysTheSame, NamesApart, HasSameState, Grows, IsLawfulUnion, Admits, LeadsToSettled, candidates, IsSplit, IsStep, IsTip, OneTip, OtherSlots, HasOneMore, MovesOwnSlot, IsLawfulRun, IsSeenStep, IsOverAll, IsOneChange, TellsWhere}
 use Rattle.hw_summit.specs.Pruned.{pruned_committees}
 use Rattle.hw_summit.specs.Decided.{OneBlockEach}
 use Rattle.hw_samples.specs.Words.{equal_three, three, unsigned_as, sent, both, endorses, settled_in, is_faulty_in, panorama_in, decided}

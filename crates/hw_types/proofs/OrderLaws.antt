@@ -25,7 +25,7 @@ use Rattle.hw_types.specs.Rules.{local_rule}
 use Rattle.hw_types.specs.Settled.{Received, validators, has_evidence, settled_of, is_faulty, panorama_of, fork_choice, faulty_weight}
 use Rattle.hw_types.specs.Summit.{Stands}
 use Rattle.hw_types.specs.Journal.{Setting, named, unit_of_vertex, evidence_in, endorsement_in, pairs_of, received_of, refusal, is_repeat, clashes, is_park_full, receipt_of, answer, is_accepted, journal_after, journal_of}
-use Rattle.hw_types.specs.StateLaws.{units_in, SaysTheSame, NamesApart, HasSameState}
+use Rattle.hw_types.specs.laws.StateLaws.{units_in, SaysTheSame, NamesApart, HasSameState}
 use Rattle.hw_types.proofs.ClosureLaws.{Within}
 use Rattle.hw_types.proofs.PastLaws.{any_within}
 use Rattle.hw_types.proofs.StableLaws.{OneName, and_parts, both_ways}

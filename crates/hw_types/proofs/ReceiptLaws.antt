@@ -18,7 +18,7 @@ use Rattle.hw_types.specs.Settled.{Received, settles, settled_of, parked_of, dro
 use Rattle.hw_types.specs.Journal.{Setting, named, unit_of_vertex, received_of, refusal, clash_among, receipt_of, newly_settled}
 use Rattle.hw_types.specs.declared.answers.Cause.{Cause}
 use Rattle.hw_types.specs.declared.answers.Cause.TheVariants as cause
-use Rattle.hw_types.specs.StateLaws.{units_in, NamesApart, begin, TellsWhere}
+use Rattle.hw_types.specs.laws.StateLaws.{units_in, NamesApart, begin, TellsWhere}
 use Rattle.hw_types.proofs.StableLaws.{and_parts, and_whole}
 use Rattle.hw_types.proofs.WordsLaws.{never_both}
 use Rattle.hw_types.proofs.LawfulLaws.{settled_part, settled_has}

@@ -19,6 +19,5 @@ pub mod Culprits
 pub mod Step
 pub mod Real
 pub mod Lawful
-pub mod Laws
-pub mod StateLaws
+pub mod laws
 pub mod SomeBlock

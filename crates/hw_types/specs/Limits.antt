@@ -1,6 +1,6 @@
 -- The limits of a configuration.
 -- Source: ours.
-use Rattle.std.specs.Prelude.{ℕ, ◌-◌, ◌^◌, Bool, false, ◌&&◌, ◌||◌, not, nat_le, ◌==◌, List, [], ◌∷◌, length, position, unwrap_or, Option, is_some, sum}
+use Rattle.std.specs.Prelude.{ℕ, ◌-◌, ◌^◌, Bool, false, ◌&&◌, ◌||◌, not, nat_le, ◌==◌, List, [], ◌∷◌, length, position, unwrap_or, Option, is_some, sum, if◌then◌else◌}
 use Rattle.std.specs.List.{list_any}
 use Rattle.std.specs.Option.{option_or}
 use Rattle.hw_types.specs.declared.config.Config.{Config}
@@ -32,7 +32,7 @@ is_bad_table validators (Drawn key) = false
 -- the limits on validators and weights
 abbrev pub weight_tests : Config → Tests ConfigFault
 weight_tests c =
-    (Validators, not (is_within 1 256 (length c.weights)))
+    (Validators, not (is_within 1 1024 (length c.weights)))
     ∷ (ZeroWeight (first_zero c.weights), is_some (position is_zero c.weights))
     ∷ (Total, not (nat_le (sum c.weights) (2 ^ 62 - 1)))
     ∷ (Threshold, nat_le (sum c.weights) c.ftt)
@@ -46,10 +46,14 @@ round_tests c =
     ∷ (LeaderTable, is_bad_table (length c.weights) c.leaders)
     ∷ []
 
+-- the most vertices that a journal may be allowed to have: a quarter where there are more than 256 validators
+abbrev pub most_records : ℕ → ℕ
+most_records validators = if nat_le validators 256 then 131072 else 32768
+
 -- the limits on what is kept
 abbrev pub room_tests : Config → Tests ConfigFault
 room_tests c =
-    (Records, not (is_within 1 131072 c.max_records))
+    (Records, not (is_within 1 (most_records (length c.weights)) c.max_records))
     ∷ (Parked, not (is_within 1 16384 c.max_parked))
     ∷ []
 

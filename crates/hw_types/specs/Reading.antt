@@ -112,7 +112,7 @@ unit_at r = do
   seq ← number_at w64 creator.1
   time ← time_at seq.1
   exponent ← number_at w8 time.1
-  panorama ← counted_at obs_at 256 exponent.1
+  panorama ← counted_at obs_at 1024 exponent.1
   value ← value_at panorama.1
   endorsed ← counted_at digest_at 256 value.1
   Ok (record { instance = instance.0; creator = creator.0; seq = seq.0; time = time.0; exponent = exponent.0; panorama = panorama.0; value = value.0; endorsed = endorsed.0 }, endorsed.1)
@@ -161,7 +161,7 @@ end_behind version r = if version == 2 then (number_at w64 r >>= λ e. Ok (Some 
 unfoldable pub config_at : Rest → Read Config
 config_at r = do
   version ← version_at r
-  weights ← counted_at (number_at w64) 256 version.1
+  weights ← counted_at (number_at w64) 1024 version.1
   ftt ← number_at w64 weights.1
   levels ← number_at w8 ftt.1
   least ← number_at w8 levels.1

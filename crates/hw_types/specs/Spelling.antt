@@ -100,7 +100,7 @@ frame_bytes (frame.Missing n) = 6 ∷ need_bytes n
 -- the unit keeps the limits of its format
 pub record Fits (u : WireUnit) : Type 0 where
   pub time : u.time < 2 ^ 63
-  pub panorama : length u.panorama ≤ 256
+  pub panorama : length u.panorama ≤ 1024
   pub value : IfSome u.value (λ value. length value ≤ 4096)
   pub endorsed : length u.endorsed ≤ 256
 
@@ -117,7 +117,7 @@ LeadersFit (Drawn key) = Unit {0}
 
 -- the lists of the configuration are no longer than their format allows
 pub record ConfigFits (c : Config) : Type 0 where
-  pub weights : length c.weights ≤ 256
+  pub weights : length c.weights ≤ 1024
   pub leaders : LeadersFit c.leaders
 
 -- the content of the frame keeps the limits of its format

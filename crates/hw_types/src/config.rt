@@ -1,14 +1,14 @@
 //! The configuration of an instance, and its limits.
 
-ghost use Rattle.std.specs.Prelude.{◌≡◌, Some, None, IfOk, MatchResult, ◌&&◌, not, nat_le, position, sum};
+ghost use Rattle.std.specs.Prelude.{◌≡◌, ◌<◌, ◌^◌, Some, None, IfOk, MatchResult, ◌&&◌, not, nat_le, position, sum};
 ghost use Rattle.std.specs.List.{list_any};
 ghost use Rattle.hw_types.specs.Tests.{first_broken};
-ghost use Rattle.hw_types.specs.Limits.{config_fault, weight_tests, round_tests, room_tests, is_within, is_zero, is_bad_table};
+ghost use Rattle.hw_types.specs.Limits.{config_fault, weight_tests, round_tests, room_tests, most_records, is_within, is_zero, is_bad_table};
 
 use crate::items::{IndexList, OutOfMemory, WeightList};
 
 /// The most validators that an instance may have.
-pub const MAX_VALIDATORS: usize = 256;
+pub const MAX_VALIDATORS: usize = 1_024;
 
 /// The greatest total weight, one below 2^62, so that twice a weight is a u64.
 pub const MAX_TOTAL: u64 = (1 << 62) - 1;
@@ -25,8 +25,17 @@ pub const MAX_EXPONENT: u8 = 40;
 /// The most entries of a table of leaders.
 pub const MAX_LEADERS: usize = 4_096;
 
-/// The most vertices that a journal may be allowed to have.
+/// The most vertices that a journal may be allowed to have, with at most [`FEW_VALIDATORS`] of
+/// them.
 pub const MAX_RECORDS: usize = 131_072;
+
+/// With more validators than these a journal may be allowed only [`MAX_RECORDS_OF_MANY`] vertices,
+/// since each unit holds an observation of each validator.
+pub const FEW_VALIDATORS: usize = 256;
+
+/// The most vertices that a journal may be allowed to have with more validators than
+/// [`FEW_VALIDATORS`].
+pub const MAX_RECORDS_OF_MANY: usize = 32_768;
 
 /// The most units that may be allowed to wait at a time.
 pub const MAX_PARKED: usize = 16_384;
@@ -64,7 +73,7 @@ pub struct Config {
 /// The limits of a configuration, in the order in which they are tested.
 #[derive(Clone, Copy, Debug, PartialEq, Eq)]
 pub enum ConfigFault {
-    /// There are 1 to 256 validators.
+    /// There are 1 to 1,024 validators.
     Validators,
     /// Each weighs at least 1. The first that doesn't is named.
     ZeroWeight(u32),
@@ -78,7 +87,7 @@ pub enum ConfigFault {
     Exponents,
     /// A table has 1 to 4,096 entries, each a validator.
     LeaderTable,
-    /// A journal has 1 to 131,072 entries.
+    /// A journal has 1 to 131,072 entries, and at most 32,768 with more than 256 validators.
     Records,
     /// 1 to 16,384 units may be parked.
     Parked,
@@ -114,6 +123,14 @@ impl Config {
             max_parked: self.max_parked,
             end: self.end,
         })
+    }
+
+    /// The weight of all validators together, of a configuration that keeps its limits.
+    pub fn total(&self) -> u64
+        requires { config_fault self.now ≡ None }
+        ensures { result ≡ sum self.now.weights }
+    {
+        total_of(self.weights.as_slice())
     }
 
     /// Whether the configuration keeps all limits. If not, the first that is broken is answered,
@@ -167,7 +184,8 @@ impl Config {
     fn check_room(&self) -> Result<(), ConfigFault>
         ensures { MatchResult result (λ _. first_broken (room_tests self.now) ≡ None) (λ fault. first_broken (room_tests self.now) ≡ Some fault) }
     {
-        if !is_within(1, MAX_RECORDS, self.max_records as usize) {
+        let most = most_records(self.weights.len());
+        if !is_within(1, most, self.max_records as usize) {
             return Err(ConfigFault::Records);
         }
         if !is_within(1, MAX_PARKED, self.max_parked as usize) {
@@ -184,11 +202,30 @@ fn is_within(low: usize, high: usize, number: usize) -> bool
     low <= number && number <= high
 }
 
+/// The most vertices that a journal of so many validators may be allowed to have.
+fn most_records(validators: usize) -> usize
+    ensures { result ≡ most_records validators }
+{
+    if validators <= FEW_VALIDATORS {
+        MAX_RECORDS
+    } else {
+        MAX_RECORDS_OF_MANY
+    }
+}
+
 /// The first validator that weighs nothing.
 fn first_zero_weight(weights: &[u64]) -> Option<usize>
     ensures { result ≡ position is_zero weights.now }
 {
     weights.iter().position(|w| *w == 0)
+}
+
+/// The sum of weights that fit together.
+fn total_of(weights: &[u64]) -> u64
+    requires { sum weights.now < 2 ^ 64 }
+    ensures { result ≡ sum weights.now }
+{
+    weights.iter().sum()
 }
 
 /// The sum of all weights.

@@ -20,8 +20,8 @@ pub use answers::{
 };
 pub use committee::quorum;
 pub use config::{
-    Config, ConfigFault, Leaders, MAX_EXPONENT, MAX_LEADERS, MAX_LEVELS, MAX_PARKED, MAX_RECORDS,
-    MAX_TOTAL, MAX_VALIDATORS, MIN_EXPONENT,
+    Config, ConfigFault, FEW_VALIDATORS, Leaders, MAX_EXPONENT, MAX_LEADERS, MAX_LEVELS,
+    MAX_PARKED, MAX_RECORDS, MAX_RECORDS_OF_MANY, MAX_TOTAL, MAX_VALIDATORS, MIN_EXPONENT,
 };
 pub use items::{
     Bytes, CulpritList, DigestList, IndexList, Items, NeedList, ObsList, OutOfMemory, WeightList,

@@ -74,11 +74,11 @@ fn weights_have_limits(rt: HostRuntime) -> Result<(), Fail> {
     assert_eq!(rt; config.check(), Ok(()));
     config.weights = list(alloc, &[1 << 61, 1 << 61])?;
     assert_eq!(rt; config.check(), Err(ConfigFault::Total));
-    config.weights = list(alloc, &[u64::MAX; 256])?;
+    config.weights = list(alloc, &[u64::MAX; 1_024])?;
     assert_eq!(rt; config.check(), Err(ConfigFault::Total));
     config.weights = list(alloc, &[4; 256])?;
     assert_eq!(rt; config.check(), Ok(()));
-    config.weights = list(alloc, &[0; 257])?;
+    config.weights = list(alloc, &[0; 1_025])?;
     assert_eq!(rt; config.check(), Err(ConfigFault::Validators));
     config.weights = Items::new(alloc);
     assert_eq!(rt; config.check(), Err(ConfigFault::Validators));

@@ -1,12 +1,40 @@
 //! Units and vertices, as validators sign and exchange them.
 
 ghost use Rattle.std.specs.Prelude.{◌≡◌, IfOk};
+ghost use Rattle.hw_types.specs.Graph.{digest_lt};
 
 use crate::items::{Bytes, DigestList, ObsList, OutOfMemory};
+use std::hash::{Hash, Hasher};
 
 /// A SHA-256 digest: the name of a unit, or of an instance. Digests are ordered by their bytes.
-#[derive(Clone, Copy, Debug, PartialEq, Eq, PartialOrd, Ord, Hash)]
+#[derive(Clone, Copy, Debug, PartialEq, Eq, PartialOrd, Ord)]
 pub struct Digest(pub [u8; 32]);
+
+// The 32 bytes go to the hasher in one piece; derived code would hand them over one by one.
+impl Hash for Digest {
+    ghost use Rattle.std.specs.Prelude.{[], ◌∷◌};
+
+    ghost use Rattle.std.proofs.Common.{ap};
+
+    ghost use lib.Pointwise.{bytes_decides};
+
+    ghost hash_input = { λ d. d.0 ∷ [] };
+
+    ghost respects_eq = { λ x y e. ap (λ bytes. bytes ∷ []) ((bytes_decides x.0 y.0).0 e) };
+
+    fn hash<H: Hasher>(&self, state: &mut H) {
+        state.write(&self.0);
+    }
+}
+
+impl Digest {
+    /// Whether this digest is the lesser one by its bytes.
+    pub fn comes_before(&self, other: &Digest) -> bool
+        ensures { result ≡ digest_lt self.now other.now }
+    {
+        self.0.cmp(&other.0).is_lt()
+    }
+}
 
 /// A signature. What it proves is the caller's verdict.
 #[derive(Clone, Copy, Debug, PartialEq, Eq)]

@@ -14,7 +14,7 @@ use Rattle.hw_types.specs.Below.{Among}
 use Rattle.hw_types.specs.Settled.{Received, settled_of, parked_of, dropped_of, missing_of, is_faulty, panorama_of, fork_choice, faulty_weight, settles, tip_of, panorama_over, has_evidence, is_endorsed}
 use Rattle.hw_types.specs.Rules.{state_rule}
 use Rattle.hw_types.specs.declared.unit.Need.{Need}
-use Rattle.hw_types.specs.Laws.{IsAcyclic}
+use Rattle.hw_types.specs.laws.GraphLaws.{IsAcyclic}
 use Rattle.hw_types.specs.Votes.{unit_fork, ghost_walk}
 use Rattle.hw_types.specs.Summit.{Stands}
 use Rattle.hw_types.specs.declared.answers.Decision.{Decision}

@@ -1,0 +1,50 @@
+-- A vertex that was taken.
+use Rattle.std.proofs.Common.{◌≡◌, ◌≢◌, ℕ, ◌+◌, ◌<◌, true, List, [], ◌∷◌, ◌++◌, length, sym, ap, subst, ◌∙◌, arith, All}
+use Rattle.std.proofs.lemmas.Bool.Decides.{nat_tests}
+use Rattle.std.proofs.lemmas.List.{length-append}
+use Rattle.hw_types.specs.declared.unit.Vertex.{Vertex}
+use Rattle.hw_types.specs.declared.config.Config.{Config}
+use Rattle.hw_types.specs.Graph.{Node}
+use Rattle.hw_types.specs.laws.StateLaws.{NamesApart, units_in}
+use Rattle.hw_types.specs.Journal.{Setting, newly_settled}
+use Rattle.hw_types.specs.Real.{setting_of}
+use Rattle.hw_types.proofs.OrderLaws.{Accepted, accepted, apart_after}
+use Rattle.hw_dag.specs.Dag.{graph}
+use Rattle.hw_dag.specs.Admission.{PreparedUnit}
+use Rattle.hw_admit.specs.State.{NodeState}
+use Rattle.hw_park.specs.Parked.{Parked, Waiting}
+use Rattle.hw_core.specs.Settle.{CanSettle, HasSettled}
+use Rattle.hw_core.specs.Keeps.{IsOf, HasTaken, IsNode}
+use Rattle.hw_core.specs.Deliver.{IsTaken}
+use Rattle.hw_core.proofs.EndLaws.{settling_ended}
+
+pub was_accepted : (config : Config) (journal : List Vertex) (v : Vertex) → IsTaken config journal v → Accepted (setting_of config) journal v
+was_accepted config journal v taken = accepted (setting_of config) journal v true taken
+
+module _ (journal : List Vertex) (park : Parked PreparedUnit) (state : NodeState) (node : IsNode journal park state) (v : Vertex) (ok : IsTaken state.config journal v) (between : NodeState)
+    (waiting : List (Waiting PreparedUnit)) (taken : HasTaken (setting_of state.config) journal v between waiting) (later : NodeState) (after : Parked PreparedUnit) (limit : after.limit ≡ park.limit)
+    (settled : HasSettled between waiting later after.waiting) (can : CanSettle later after.waiting) (none : All (λ w. w.needs ≢ []) after.waiting) where
+  abbrev s : Setting
+  s = setting_of state.config
+
+  ended : IsOf s (journal ++ v ∷ []) later after.waiting
+  ended = settling_ended s journal v true between later waiting after.waiting node.apart ok taken settled can none
+
+  room : length journal < state.config.max_records
+  room = let full = (was_accepted state.config journal v ok).room in grind (arith, nat_tests)
+
+  -- the node is one of the longer journal
+  pub node_after : IsNode (journal ++ v ∷ []) after later
+  node_after = record {
+    bounded = let long = length-append journal (v ∷ []) in let most = ap (λ (c : Config). c.max_records) ended.config in let lt = room in omega arith;
+    limit = limit ∙ node.limit ∙ ap (λ (c : Config). c.max_parked) (sym ended.config);
+    apart = subst (λ (c : Config). NamesApart (units_in (setting_of c) (journal ++ v ∷ []))) (sym ended.config) (apart_after s journal v node.apart (was_accepted state.config journal v ok));
+    is_of = subst (λ (c : Config). IsOf (setting_of c) (journal ++ v ∷ []) later after.waiting) (sym ended.config) ended;
+  }
+
+  -- and so many more units settled
+  pub newly_is : (n : ℕ) → length (graph between.dag) + n ≡ length (graph later.dag) → newly_settled s journal v ≡ n
+  newly_is n count =
+      let was = ap (λ (xs : List Node). length xs) taken.settled in
+      let is = ap (λ (xs : List Node). length xs) ended.settled in
+      omega arith

@@ -1,0 +1,57 @@
+-- What a node keeps beside its journal, and how it stands to the journal.
+use Rattle.std.specs.Prelude.{◌≡◌, ◌≢◌, ℕ, ◌≤◌, List, [], ◌∷◌, ◌++◌, length, Some, None, slice_get}
+use Rattle.std.specs.Map.{lookup}
+use Rattle.hw_types.specs.declared.unit.Digest.{Digest}
+use Rattle.hw_types.specs.declared.unit.SignedUnit.{SignedUnit}
+use Rattle.hw_types.specs.declared.unit.Vertex.{Vertex}
+use Rattle.hw_types.specs.declared.unit.Vertex.TheVariants as vertex
+use Rattle.hw_types.specs.Graph.{Node, digest_eq}
+use Rattle.hw_types.specs.Below.{Among}
+use Rattle.hw_types.specs.Spelling.{instance_of}
+use Rattle.hw_types.specs.Settled.{Received, has_evidence, settled_of, parked_of}
+use Rattle.hw_types.specs.laws.StateLaws.{HasSame, NamesApart, units_in, candidates}
+use Rattle.hw_types.specs.Journal.{Setting, named, received_of}
+use Rattle.hw_types.specs.Real.{setting_of}
+use Rattle.hw_dag.specs.Dag.{graph}
+use Rattle.hw_dag.specs.Admission.{PreparedUnit}
+use Rattle.hw_admit.specs.State.{NodeState, is_marked}
+use Rattle.hw_park.specs.Parked.{Waiting, Parked}
+use Rattle.hw_core.specs.Settle.{CanSettle, waiting_nodes}
+
+-- the state knows of evidence and endorsements what was received
+pub record KnowsOf (received : Received) (state : NodeState) : Type 0 where
+  pub evidence : (v : ℕ) → is_marked state.marked v ≡ has_evidence received.with_evidence v
+  pub endorsements : state.pairs ≡ received.endorsements
+
+-- The settled units are those of the journal, and its parked units wait for what they miss.
+pub record IsOf (s : Setting) (journal : List Vertex) (state : NodeState) (waiting : List (Waiting PreparedUnit)) : Type 0 where
+  pub config : state.config ≡ s.config
+  pub settled : graph state.dag ≡ settled_of s.config (received_of s journal)
+  pub knows : KnowsOf (received_of s journal) state
+  pub can : CanSettle state waiting
+  pub parked : HasSame (waiting_nodes waiting) (parked_of s.config (received_of s journal))
+
+-- The state knows what one vertex more says, and all that may settle now waits.
+pub record HasTaken (s : Setting) (journal : List Vertex) (v : Vertex) (state : NodeState) (waiting : List (Waiting PreparedUnit)) : Type 0 where
+  pub config : state.config ≡ s.config
+  pub settled : graph state.dag ≡ settled_of s.config (received_of s journal)
+  pub knows : KnowsOf (received_of s (journal ++ v ∷ [])) state
+  pub waits : HasSame (waiting_nodes waiting) (candidates s journal v)
+
+-- A journal within its bound whose names are apart, with what is kept beside it.
+pub record IsNode (journal : List Vertex) (park : Parked PreparedUnit) (state : NodeState) : Type 0 where
+  pub bounded : length journal ≤ state.config.max_records
+  pub limit : park.limit ≡ state.config.max_parked
+  pub apart : NamesApart (units_in (setting_of state.config) journal)
+  pub is_of : IsOf (setting_of state.config) journal state park.waiting
+
+-- The table has the place of each unit of the journal by its name, and no other name.
+pub record IsTable (s : Setting) (journal : List Vertex) (names : List (Digest × ℕ)) : Type 0 where
+  pub known : (d : Digest) (n : ℕ) → lookup (digest_eq d) names ≡ Some n → (u : SignedUnit) × (slice_get journal n ≡ Some (vertex.Unit u)) × (s.name u.unit ≡ d) × Among (named s u.unit) (units_in s journal)
+  pub unknown : (d : Digest) → lookup (digest_eq d) names ≡ None → (x : Node) → Among x (units_in s journal) → x.digest ≢ d
+
+-- what a node keeps stands to its journal as the definitions say
+pub record IsKept (instance : Digest) (journal : List Vertex) (names : List (Digest × ℕ)) (park : Parked PreparedUnit) (state : NodeState) : Type 0 where
+  pub instance_is : instance ≡ instance_of state.config
+  pub table : IsTable (setting_of state.config) journal names
+  pub node : IsNode journal park state

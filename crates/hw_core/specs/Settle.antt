@@ -1,0 +1,93 @@
+-- What waits at a node, and what becomes of it as units settle.
+use Rattle.std.specs.Prelude.{◌≡◌, ◌≢◌, ◌+◌, ◌≤◌, ◌⊎◌, List, [], ◌∷◌, length, map, filter, Some}
+use Rattle.std.specs.List.{range_with_len}
+use Rattle.hw_types.specs.declared.unit.Digest.{Digest}
+use Rattle.hw_types.specs.declared.answers.Rule.{Rule}
+use Rattle.hw_types.specs.declared.config.Config.{Config}
+use Rattle.hw_types.specs.Graph.{Node}
+use Rattle.hw_types.specs.Below.{Among}
+use Rattle.hw_types.specs.ByName.{by_name}
+use Rattle.hw_types.specs.Rules.{state_rule}
+use Rattle.hw_types.specs.Settled.{Received, missing_of}
+use Rattle.hw_types.specs.laws.StateLaws.{Admits}
+use Rattle.hw_dag.specs.Dag.{node_of, graph}
+use Rattle.hw_dag.specs.Admission.{PreparedUnit, node_prepared}
+use Rattle.hw_rules.specs.Judged.{KeepsLocalRules}
+use Rattle.hw_admit.specs.State.{NodeState, is_marked}
+use Rattle.hw_park.specs.Parked.{Waiting}
+
+-- ---- what a state knows
+
+-- whom a state has evidence against, and what was endorsed
+abbrev pub known_in : NodeState → Received
+known_in s = record { units = []; with_evidence = filter (is_marked s.marked) (range_with_len 0 (length s.marked)); endorsements = s.pairs }
+
+-- the settled units in the order of their admission
+abbrev pub admitted_in : NodeState → List Node
+admitted_in s = map node_of s.dag.units
+
+-- the units that wait, in the order of parking
+abbrev pub waiting_nodes : List (Waiting PreparedUnit) → List Node
+waiting_nodes waiting = map (λ w. node_prepared w.item) waiting
+
+-- ---- what may wait
+
+-- none of these units has this name
+abbrev pub IsUnknown : List Node → Digest → Type 0
+IsUnknown units d = (y : Node) → Among y units → y.digest ≢ d
+
+-- none of those that wait has this name
+abbrev pub IsUnawaited : Digest → List (Waiting PreparedUnit) → Type 0
+IsUnawaited d waiting = (w : Waiting PreparedUnit) → Among w waiting → w.item.digest ≢ d
+
+-- no two that wait have one name
+abbrev pub AreApart : List (Waiting PreparedUnit) → Type 0
+AreApart [] = Unit {0}
+AreApart (w ∷ ws) = IsUnawaited w.item.digest ws × AreApart ws
+
+-- a unit waits for what it misses, breaks no rule of the unit alone, and isn't settled
+pub record Awaits (config : Config) (known : Received) (units : List Node) (w : Waiting PreparedUnit) : Type 0 where
+  pub needs_are : w.needs ≡ missing_of config known units (node_prepared w.item)
+  pub local : KeepsLocalRules config w.item.signed.unit
+  pub unknown : IsUnknown units w.item.digest
+
+-- each unit waits for what it misses, and no two have one name
+pub record AreWaiting (config : Config) (known : Received) (units : List Node) (waiting : List (Waiting PreparedUnit)) : Type 0 where
+  pub each : (w : Waiting PreparedUnit) → Among w waiting → Awaits config known units w
+  pub apart : AreApart waiting
+
+-- what waits at a node, for which the state has room
+pub record CanSettle (s : NodeState) (waiting : List (Waiting PreparedUnit)) : Type 0 where
+  pub room : length waiting ≤ s.spare
+  pub are : AreWaiting s.config (known_in s) (graph s.dag) waiting
+
+-- a unit that misses nothing any more, and no longer waits
+pub record IsDue (s : NodeState) (waiting : List (Waiting PreparedUnit)) (p : PreparedUnit) : Type 0 where
+  pub room : length waiting + 1 ≤ s.spare
+  pub met : missing_of s.config (known_in s) (graph s.dag) (node_prepared p) ≡ []
+  pub local : KeepsLocalRules s.config p.signed.unit
+  pub unknown : IsUnknown (graph s.dag) p.digest
+  pub unawaited : IsUnawaited p.digest waiting
+
+-- ---- what becomes of it
+
+-- the state knows the same of evidence and endorsements
+pub record KnowsTheSame (s later : NodeState) : Type 0 where
+  pub config : later.config ≡ s.config
+  pub marked : later.marked ≡ s.marked
+  pub pairs : later.pairs ≡ s.pairs
+
+-- at some moment of such a run the unit missed nothing, and broke this rule
+pub record IsDropped (config : Config) (known : Received) (from start : List Node) (x : Node) (rule : Rule) : Type 0 where
+  pub found : List Node
+  pub run : Admits config known from start found
+  pub met : missing_of config known (by_name found) x ≡ []
+  pub broken : state_rule config (by_name found) x ≡ Some rule
+
+-- Of the units that waited some settled one after the other, and each of the others waits as before or was dropped.
+pub record HasSettled (s : NodeState) (waiting : List (Waiting PreparedUnit)) (later : NodeState) (left : List (Waiting PreparedUnit)) : Type 0 where
+  pub same : KnowsTheSame s later
+  pub run : Admits s.config (known_in s) (waiting_nodes waiting) (admitted_in s) (admitted_in later)
+  pub still : (x : Node) → Among x (waiting_nodes left) → Among x (waiting_nodes waiting)
+  pub placed : (x : Node) → Among x (waiting_nodes waiting)
+      → Among x (admitted_in later) ⊎ (Among x (waiting_nodes left) ⊎ ((rule : Rule) × IsDropped s.config (known_in s) (waiting_nodes waiting) (admitted_in s) x rule))
