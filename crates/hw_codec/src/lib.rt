@@ -32,6 +32,3 @@ pub use laws::{
 };
 pub use ranges::{config_is_in_range, frame_is_in_range, unit_is_in_range, vertex_is_in_range};
 pub use unit::fits;
-
-#[cfg(test)]
-mod tests;

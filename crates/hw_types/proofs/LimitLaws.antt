@@ -52,9 +52,9 @@ denied false e = absurd cc
 -- nowhere are more than 131,072 allowed
 within_most : (validators records : ℕ) → records ≤ most_records validators → records ≤ 131072
 within_most validators records most = go (nat_le validators 256) most where
-    go : (few : Bool) → records ≤ (if few then 131072 else 32768) → records ≤ 131072
-    go true at_most = at_most
-    go false at_most = omega (arith, at_most)
+  go : (few : Bool) → records ≤ (if few then 131072 else 32768) → records ≤ 131072
+  go true at_most = at_most
+  go false at_most = omega (arith, at_most)
 
 pub within_limits : (config : Config) → config_fault config ≡ None → IsWithinLimits config
 unfolding config_fault AreUnbroken

@@ -13,9 +13,7 @@ pub struct Digest(pub [u8; 32]);
 // The 32 bytes go to the hasher in one piece; derived code would hand them over one by one.
 impl Hash for Digest {
     ghost use Rattle.std.specs.Prelude.{[], ◌∷◌};
-
     ghost use Rattle.std.proofs.Common.{ap};
-
     ghost use lib.Pointwise.{bytes_decides};
 
     ghost hash_input = { λ d. d.0 ∷ [] };
