@@ -40,8 +40,8 @@ value_short : (value : Option (List ℕ)) → IfSome value (λ bytes. length byt
 value_short None fits = omega arith
 value_short (Some bytes) fits = omega (arith, length-append (u32_bytes (length bytes)) bytes)
 
--- a unit has at most 20,802 bytes
-unit_short : (u : WireUnit) → UnitInRange u → Fits u → length (unit_bytes u) ≤ 20802
+-- a unit has at most 46,146 bytes
+unit_short : (u : WireUnit) → UnitInRange u → Fits u → length (unit_bytes u) ≤ 46146
 unit_short u range fits =
     let instance = range.instance.size in
     let panorama = counted_short obs_bytes ObsInRange 33 1024 obs_short u.panorama range.panorama fits.panorama in
@@ -49,7 +49,7 @@ unit_short u range fits =
     let endorsed = counted_short (λ (d : Digest). d.0) DigestInRange 32 256 digest_short u.endorsed range.endorsed fits.endorsed in
     simp length-append (omega (arith, instance, panorama, value, endorsed))
 
-signed_short : (s : SignedUnit) → SignedInRange s → Fits s.unit → length (signed_bytes s) ≤ 20834
+signed_short : (s : SignedUnit) → SignedInRange s → Fits s.unit → length (signed_bytes s) ≤ 46178
 signed_short s range fits = omega (arith, length-append (unit_bytes s.unit) s.signature.0, unit_short s.unit range.unit fits, range.signature.size)
 
 pub vertex_short : (v : Vertex) → VertexInRange v → VertexFits v → length (vertex_bytes v) ≤ 1048576

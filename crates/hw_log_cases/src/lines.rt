@@ -1,0 +1,37 @@
+//! Lines of words.
+
+use crate::logs::{copied, counted, cuts, faults, missing};
+use crate::outside::{buffered, clock_text, door_text, files_text, sink_text};
+use hw_types::OutOfMemory;
+use std::alloc::Global;
+
+/// The answer to a line.
+pub fn answer(alloc: Global, line: &str) -> Result<String, OutOfMemory> {
+    let words: Vec<&str> = line.split(' ').collect(alloc)?;
+    match words.as_slice() {
+        ["count", piece, call, patches, parts] => {
+            counted(alloc, number(piece), call.parse().ok(), patches, parts)
+        }
+        ["copy", piece, call, left, parts] => copied(
+            alloc,
+            number(piece),
+            call.parse().ok(),
+            number(left),
+            parts,
+        ),
+        ["cuts", parts] => cuts(alloc, parts),
+        ["faults", parts] => faults(alloc, parts),
+        ["other", parts] => missing(alloc, parts),
+        ["files", kind] => files_text(alloc, kind),
+        ["sink", call] => sink_text(alloc, call.parse().ok()),
+        ["buffer", piece] => buffered(alloc, number(piece)),
+        ["door"] => door_text(alloc),
+        ["clock", moments] => clock_text(alloc, moments),
+        _ => Ok(String::new(alloc)),
+    }
+}
+
+/// The number that the word spells, or 0.
+pub fn number(word: &str) -> usize {
+    word.parse().unwrap_or(0)
+}

@@ -1,0 +1,31 @@
+//! What the log reader, the log writer and the outside in memory answer for the lines of its input.
+//!
+//! PARTS are letters, one for each part of a log: `H` a header of three validators of weight 1, `A` their first
+//! block, `B` a unit that cites it, `C` and `D` two units that cite both, `0` a byte 0. PIECE is how many bytes a
+//! read gives at most. CALL is the number of the call of the files that fails, or `-`.
+//!
+//! | Line | Answer |
+//! |---|---|
+//! | `count PIECE CALL PATCHES PARTS` | how many entries the log has, or its first error, and the faults counted; PATCHES are `-` or bytes put at places, as `74:2,75:2` |
+//! | `copy PIECE CALL LEFT PARTS` | the places of the entries copied, or the error; the length of the copy, and whether the log begins with it; a failing append takes LEFT bytes |
+//! | `cuts PARTS` | each length from which a cut log is answered in another way |
+//! | `faults PARTS` | how many calls a reading takes, and how many of them, failing alone, end as a read fault |
+//! | `other PARTS` | what reading a file that isn't there answers |
+//! | `files KIND`, `sink CALL`, `buffer PIECE`, `door`, `clock MOMENTS` | what the outside in memory answers |
+#![tactic(auto)]
+
+mod lines;
+mod logs;
+mod outside;
+
+use std::io;
+
+fn main(rt: HostRuntime) -> io::Result<()> {
+    for line in rt.lines(rt.alloc()) {
+        let Ok(text) = lines::answer(rt.alloc(), line?.as_str()) else {
+            return Err(io::ErrorKind::OutOfMemory.into());
+        };
+        println!(rt; "{text}")?;
+    }
+    Ok(())
+}
