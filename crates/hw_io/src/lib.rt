@@ -14,8 +14,6 @@ mod outside;
 mod pieces;
 mod shelf;
 mod sure;
-#[cfg(test)]
-mod tests;
 
 pub use buffer::{MOST_AT_ONCE, ReadBuffer};
 pub use host::{HostFiles, HostSink};

@@ -19,6 +19,3 @@ pub use laws::{a_header_is_an_empty_log, an_append_adds_the_entry};
 pub use reader::LogReader;
 pub use whole::{Log, read_log};
 pub use writer::{append_entry, append_header, entry_bytes};
-
-#[cfg(test)]
-mod tests;

@@ -1,6 +1,6 @@
 use Rattle.hw_io.specs.Memory.{mem_allowance}
 use Rattle.hw_log.specs.Reader.{PlacesFit, ahead_of}
-use Rattle.hw_log.proofs.tests.copy_log.Given as goal
+use Rattle.hw_log_cases.proofs.logs.copy_log.Given as goal
 
 abbrev pub invariant-loop-places : goal.invariant-loop-places
 invariant-loop-places l = PlacesFit l.reader (mem_allowance l.files)
