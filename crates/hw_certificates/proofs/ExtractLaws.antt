@@ -28,11 +28,10 @@ use Rattle.hw_types.proofs.WordsLaws.{none_any, slot_in, range_in}
 use Rattle.hw_types.proofs.EntryLaws.{append_cases, mapped_among}
 use Rattle.hw_types.proofs.UnionLaws.{from_left}
 use Rattle.hw_types.proofs.JournalLaws.{received_local, longer_extends}
-use Rattle.hw_types.proofs.OrderLaws.{in_known, received_in, received_same, journal_apart}
+use Rattle.hw_types.proofs.OrderLaws.{in_known, received_in, received_same, journal_apart, unit_self}
 use Rattle.hw_safety.proofs.AccountLaws.{lawful_journal, in_journal}
 use Rattle.hw_summit.proofs.StandLaws.{summit_block}
 use Rattle.hw_chain.proofs.StoodLaws.{settled_in, graph_in, summit_named}
-use Rattle.hw_verdicts.proofs.ClashLaws.{unit_self}
 use Rattle.hw_chain.specs.Taken.{taken, NoneRefused}
 use Rattle.hw_chain.proofs.TakenLaws.{taken_says}
 use Rattle.hw_certificates.specs.Certificates.{IsClosedPart, HasItsNeeds, ComesNext, ComeInTurn}

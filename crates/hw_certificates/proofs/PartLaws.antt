@@ -1,5 +1,5 @@
 -- What says enough of a journal makes the block stand.
-use Rattle.std.proofs.Common.{◌≡◌, ℕ, zero, suc, ◌⊎◌, ◌-◌, ◌≤◌, ◌<◌, inl, inr, Bool, true, false, cond, not, List, [], ◌∷◌, ◌++◌, length, map, Some, refl, sym, ap, subst, ◌∙◌, arith}
+use Rattle.std.proofs.Common.{◌≡◌, ℕ, zero, suc, ◌⊎◌, ◌-◌, ◌≤◌, ◌<◌, inl, inr, Bool, true, false, cond, List, ◌++◌, length, map, Some, refl, sym, ap, subst, ◌∙◌, arith}
 use Rattle.std.specs.Prelude.{filter, ◌&&◌, ◌==◌, nat_le, is_none}
 use Rattle.std.specs.List.{list_any}
 use Rattle.hw_types.specs.declared.unit.Digest.{Digest}
@@ -12,7 +12,7 @@ use Rattle.hw_types.specs.Graph.{Node, digest_eq, node_eq, slot, slots, latest, 
 use Rattle.hw_types.specs.Below.{Among}
 use Rattle.hw_types.specs.Rules.{state_rule}
 use Rattle.hw_types.specs.Votes.{weight_of, is_block, unit_fork, fork_over, votes_for}
-use Rattle.hw_types.specs.Settled.{Received, panorama_of, settles, missing_of, needs_of, unit_need, unit_needs, evidence_needs, distinct, need_eq, is_need_met, is_faulty, has_evidence, equivocates, is_endorsed, correct_or_absent, tip_of, faulty_weight}
+use Rattle.hw_types.specs.Settled.{Received, panorama_of, settles, missing_of, needs_of, unit_need, unit_needs, evidence_needs, is_need_met, is_faulty, has_evidence, equivocates, is_endorsed, correct_or_absent, tip_of, faulty_weight}
 use Rattle.hw_types.specs.Summit.{Committees, IsSummit}
 use Rattle.hw_types.specs.Journal.{Setting, received_of}
 use Rattle.hw_types.specs.Lawful.{IsLawful}
@@ -20,7 +20,7 @@ use Rattle.hw_types.specs.laws.StateLaws.{IsTip}
 use Rattle.hw_types.proofs.ClosureLaws.{Within, Among-filter}
 use Rattle.hw_types.proofs.PastLaws.{any_of, or_cases, or_left, or_right, reach_stays}
 use Rattle.hw_types.proofs.StableLaws.{and_parts, and_whole}
-use Rattle.hw_types.proofs.SettledLaws.{digest_self, none_left, more_equivocate}
+use Rattle.hw_types.proofs.SettledLaws.{digest_self, none_left, more_equivocate, distinct_from}
 use Rattle.hw_types.proofs.WordsLaws.{among_slot, slot_cites, among_is, named_among, named_eq, never_both, find_node_is, found_node, reach_more, latest_is}
 use Rattle.hw_types.proofs.EntryLaws.{append_cases, mapped_among, map_among}
 use Rattle.hw_types.proofs.GraphLaws.{rising_one_name}
@@ -41,11 +41,6 @@ use Rattle.hw_certificates.specs.Certificates.{IsClosedPart}
 use Rattle.hw_certificates.specs.Laws.{EnoughIsEnough}
 
 -- ---- the needs of a unit, one by one
-
-distinct_in : (n : Need) (ns : List Need) → Among n (distinct ns) → Among n ns
-distinct_in n [] m = m
-distinct_in n (x ∷ xs) (inl e) = inl e
-distinct_in n (x ∷ xs) (inr m) = inr (distinct_in n xs (Among-filter (λ y. not (need_eq x y)) n (distinct xs) m).0)
 
 unit_need_is : (o : Obs) (n : Need) → unit_need o ≡ Some n → (d : Digest) × (o ≡ Correct d) × (n ≡ need.Unit d)
 unit_need_is Absent n e = absurd cc
@@ -93,7 +88,7 @@ module _ (s : Setting) (whole part : List Vertex) (is_part : IsClosedPart s.conf
       (marked : (v : ℕ) → is_faulty_mark (slot x.unit.panorama v) ≡ true → has_evidence l.with_evidence v ≡ true) (listed : (d : Digest) → Among d x.unit.endorsed → is_endorsed s.config l d ≡ true) where
     need_met : (n : Need) → Among n (needs_of x) → is_need_met s.config l small n ≡ true
     unfolding needs_of
-    need_met n h = elim (one_of_three n (unit_needs x.unit.panorama) (evidence_needs x.unit.panorama) (map need.Endorsed x.unit.endorsed) (distinct_in n _ h)) [
+    need_met n h = elim (one_of_three n (unit_needs x.unit.panorama) (evidence_needs x.unit.panorama) (map need.Endorsed x.unit.endorsed) (distinct_from n _ h)) [
       | inl a ↦ (
           let o = mapped_among unit_need n x.unit.panorama a in
           let d = unit_need_is o.0 n o.2 in

@@ -242,7 +242,7 @@ clash_or_none s left right = go (list_any (λ x. list_any (in_clash x) (received
           in_left = received_in s left x.0 x.1;
           in_right = received_in s right y.0 y.1;
           one_name = digest_same x.0.digest y.0.digest p.0;
-          differ = λ same. never_both (unit_eq x.0.unit y.0.unit) (subst (λ (z : Node). unit_eq x.0.unit z.unit ≡ true) same (Rattle.hw_verdicts.proofs.ClashLaws.unit_self x.0.unit)) (not_true (unit_eq x.0.unit y.0.unit) p.1);
+          differ = λ same. never_both (unit_eq x.0.unit y.0.unit) (subst (λ (z : Node). unit_eq x.0.unit z.unit ≡ true) same (Rattle.hw_types.proofs.OrderLaws.unit_self x.0.unit)) (not_true (unit_eq x.0.unit y.0.unit) p.1);
         })
     go false e = inl (λ x y m n name.
         let no = any_none (in_clash x) (received_of s right).units (any_none (λ x. list_any (in_clash x) (received_of s right).units) (received_of s left).units e x m) y n in

@@ -9,7 +9,7 @@ use Rattle.hw_types.specs.Settled.{Received}
 use Rattle.hw_types.specs.laws.StateLaws.{Admits}
 use Rattle.hw_types.proofs.ClosureLaws.{Within}
 use Rattle.hw_types.proofs.EntryLaws.{by_name_in, by_name_more}
-use Rattle.hw_types.proofs.BoundLaws.{Without, rising_length}
+use Rattle.hw_types.proofs.BoundLaws.{rising_length}
 use Rattle.hw_dag.specs.Dag.{UnitGraph, by_name_of, graph, node_of, node_at, count_of}
 use Rattle.hw_dag.specs.Admission.{IsGraph}
 use Rattle.hw_dag.proofs.NodeLaws.{graph_rising, node_among}
@@ -18,18 +18,7 @@ use Rattle.hw_park.specs.Parked.{Waiting}
 use Rattle.hw_dag.specs.Admission.{PreparedUnit}
 use Rattle.hw_core.specs.Settle.{admitted_in, HasSettled}
 use Rattle.hw_core.proofs.SettleLaws.{graph_is}
-
-pub without : (x : Node) (xs : List Node) → Among x xs → Without x xs
-without x [] m = absurd m
-without x (y ∷ ys) (inl e) = record { rest = ys; fewer = refl; kept = λ z m. elim m [ inl f ↦ inl (sym e ∙ f) | inr n ↦ inr n ] }
-without x (y ∷ ys) (inr m) = go (without x ys m)
-  where
-    go : Without x ys → Without x (y ∷ ys)
-    go w = record {
-      rest = y ∷ w.rest;
-      fewer = ap suc w.fewer;
-      kept = λ z n. elim n [ inl f ↦ inr (inl f) | inr k ↦ elim (w.kept z k) [ inl e ↦ inl e | inr l ↦ inr (inr l) ] ];
-    }
+use Rattle.hw_types.proofs.DistinctLaws.{without}
 
 -- as many different members as there are numbers
 numbered_length : (f : ℕ → Node) (n : ℕ) (ys : List Node) → ((i j : ℕ) → i < n → j < n → f i ≡ f j → i ≡ j) → ((i : ℕ) → i < n → Among (f i) ys) → n ≤ length ys

@@ -43,9 +43,10 @@ use Rattle.hw_core.specs.Keeps.{IsNode}
 use Rattle.hw_core.specs.Deliver.{answer_to, IsTaken}
 use Rattle.hw_core.specs.Units.{IsNewUnit}
 use Rattle.hw_core.proofs.AnswerLaws.{answer_parked, answer_taken}
-use Rattle.hw_core.proofs.CountLaws.{without, graph_length}
+use Rattle.hw_core.proofs.CountLaws.{graph_length}
 use Rattle.hw_core.proofs.EndLaws.{same_missing}
 use Rattle.hw_core.proofs.WaitLaws.{no_needs}
+use Rattle.hw_types.proofs.DistinctLaws.{without}
 
 -- ---- lengths
 

@@ -31,8 +31,9 @@ use Rattle.hw_honest.specs.OneLine.{OneLine, units_by}
 use Rattle.hw_honest.specs.Laws.{IsPossible, IsRun}
 use Rattle.hw_honest.proofs.PlanLaws.{plan_is}
 use Rattle.hw_honest.proofs.ReplayLaws.{journal_more, after_accepted}
-use Rattle.hw_honest.proofs.OneLineLaws.{begins, by_has, delivery_keeps, unit_stands, Settles}
+use Rattle.hw_honest.proofs.OneLineLaws.{begins, by_has, delivery_keeps, Settles}
 use Rattle.hw_honest.proofs.OwnUnitLaws.{step_keeps, settled_answer, plan_settles}
+use Rattle.hw_types.proofs.ReceiptLaws.{local_none}
 
 -- ---- a journal that deliveries made
 
@@ -52,7 +53,7 @@ local_from s journal (d ∷ ds) h = local_from s (journal_after s journal d) ds 
     go false e = h
     go true e = λ u m. elim (append_cases (vertex.Unit u) journal (d.0 ∷ []) m) [
       | inl old ↦ h u old
-      | inr new ↦ unit_stands s journal u (subst (λ w. refusal s journal w ≡ None) (one_among (vertex.Unit u) d.0 new) (accepted s journal d.0 d.1 e).not_refused)
+      | inr new ↦ local_none s journal u (subst (λ w. refusal s journal w ≡ None) (one_among (vertex.Unit u) d.0 new) (accepted s journal d.0 d.1 e).not_refused)
     ]
 
 -- so each of them is known

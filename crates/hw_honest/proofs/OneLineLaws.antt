@@ -5,16 +5,13 @@ use Rattle.std.specs.List.{list_any, range_with_len}
 use Rattle.std.proofs.lemmas.List.{length-map}
 use Rattle.std.proofs.lemmas.List.Elements.{filter_map-append}
 use Rattle.std.proofs.lemmas.List.FromFn.{length-range_with_len}
-use lib.Pointwise.{pointwise, bytes_decides}
-use Rattle.hw_types.specs.declared.unit.Obs.{Obs}
-use Rattle.hw_types.specs.declared.unit.Obs.TheVariants.{Absent, Correct, Faulty}
+use Rattle.hw_types.specs.declared.unit.Obs.TheVariants.{Faulty}
 use Rattle.hw_types.specs.declared.unit.Need.{Need}
 use Rattle.hw_types.specs.declared.unit.WireUnit.{WireUnit}
 use Rattle.hw_types.specs.declared.unit.SignedUnit.{SignedUnit}
 use Rattle.hw_types.specs.declared.unit.Evidence.{Evidence}
 use Rattle.hw_types.specs.declared.unit.Vertex.{Vertex}
 use Rattle.hw_types.specs.declared.unit.Vertex.TheVariants as vertex
-use Rattle.hw_types.specs.declared.answers.Rule.{Rule}
 use Rattle.hw_types.specs.declared.answers.PairFault.TheVariants as fault
 use Rattle.hw_types.specs.declared.answers.Receipt.{Receipt}
 use Rattle.hw_types.specs.declared.answers.Receipt.TheVariants as receipt
@@ -22,9 +19,9 @@ use Rattle.hw_types.specs.declared.answers.Cause.{Cause}
 use Rattle.hw_types.specs.declared.answers.Cause.TheVariants as cause
 use Rattle.hw_types.specs.Graph.{Node, node_eq, digest_eq, latest, observed, follows, lane_of, are_different}
 use Rattle.hw_types.specs.Below.{Among}
-use Rattle.hw_types.specs.Same.{obs_eq, value_eq, unit_eq}
+use Rattle.hw_types.specs.Same.{unit_eq}
 use Rattle.hw_types.specs.Lawful.{IsLawful}
-use Rattle.hw_types.specs.Rules.{local_rule, state_rule}
+use Rattle.hw_types.specs.Rules.{state_rule}
 use Rattle.hw_types.specs.Settled.{Received, settled_of, panorama_of, missing_of, is_faulty, has_evidence, equivocates, validators, tip_of, correct_or_absent}
 use Rattle.hw_types.specs.Journal.{Setting, named, unit_of_vertex, evidence_in, received_of, refusal, clash_among, is_repeat, is_park_full, receipt_of, answer, is_accepted, journal_after}
 use Rattle.hw_types.specs.Culprits.{signed_in}
@@ -35,50 +32,25 @@ use Rattle.hw_types.proofs.PastLaws.{some_of, or_cases}
 use Rattle.hw_types.proofs.StableLaws.{and_parts, and_whole}
 use Rattle.hw_types.proofs.GraphLaws.{rising_one_name}
 use Rattle.hw_types.proofs.RisingLaws.{rising_filter}
-use Rattle.hw_types.proofs.SettledLaws.{digest_self}
 use Rattle.hw_types.proofs.WordsLaws.{either, never_both, not_true, not_false, or_none, named_among, named_eq, found_node, latest_is, reach_more, range_in, range_below}
 use Rattle.hw_types.proofs.LawfulLaws.{settled_part, settled_has, settled_lawful}
 use Rattle.hw_types.proofs.EntryLaws.{map_among, among_map, append_cases, among_mapped}
 use Rattle.hw_types.proofs.JournalLaws.{received_rising, received_local, longer_extends}
 use Rattle.hw_types.proofs.GrowsLaws.{received_grows, settled_grows}
-use Rattle.hw_types.proofs.OrderLaws.{Accepted, accepted, apart_after, unit_vertex, one_vertex, received_in}
+use Rattle.hw_types.proofs.OrderLaws.{Accepted, accepted, apart_after, unit_vertex, one_vertex, received_in, unit_self}
 use Rattle.hw_types.proofs.LaneLaws.{lane_within, lane_creator, lane_number}
 use Rattle.hw_types.proofs.TipLaws.{tip_top, top_is_tip, tip_or_none, slot_over, other_slots}
 use Rattle.hw_types.proofs.StepLaws.{new_known, old_or_new}
 use Rattle.hw_honest.specs.OneLine.{OneLine, BringsNoNew, units_by, settled_by}
 use Rattle.hw_honest.proofs.LineLaws.{one_on_lane}
-use Rattle.hw_honest.proofs.CountLaws.{distinct_length, rising_distinct, map_distinct, range_distinct}
+use Rattle.hw_types.proofs.DistinctLaws.{distinct_length, rising_distinct, map_distinct, range_distinct}
+use Rattle.hw_types.proofs.ReceiptLaws.{local_none}
 
 -- ---- small facts
 
 pub empty_of : {A : Type 0} (xs : List A) → Within xs [] → xs ≡ []
 empty_of [] w = refl
 empty_of (x ∷ xs) w = absurd (w x (inl refl))
-
-each_self : {A : Type 0} (same : A → A → Bool) → ((x : A) → same x x ≡ true) → (xs : List A) → pointwise same xs xs ≡ true
-each_self same self [] = refl
-each_self same self (x ∷ xs) = and_whole (same x x) (pointwise same xs xs) (self x) (each_self same self xs)
-
-obs_self : (o : Obs) → obs_eq o o ≡ true
-obs_self Absent = refl
-obs_self Faulty = refl
-obs_self (Correct d) = digest_self d
-
-value_self : (x : Option (List ℕ)) → value_eq x x ≡ true
-value_self None = refl
-value_self (Some x) = (bytes_decides x x).1 refl
-
-pub unit_self : (u : WireUnit) → unit_eq u u ≡ true
-unit_self u =
-    and_whole _ _ (and_whole _ _ (and_whole _ _ (and_whole _ _ (and_whole _ _ (and_whole _ _ (and_whole _ _
-    (digest_self u.instance)
-    (eq-eqb u.creator u.creator refl))
-    (eq-eqb u.seq u.seq refl))
-    (eq-eqb u.time u.time refl))
-    (eq-eqb u.exponent u.exponent refl))
-    (each_self obs_eq obs_self u.panorama))
-    (value_self u.value))
-    (each_self digest_eq (λ d. digest_self d) u.endorsed)
 
 -- two different settled units of one number, where a validator equivocates
 pub record IsFork (units : List Node) (v : ℕ) : Type 0 where
@@ -117,14 +89,6 @@ evidence_stands s journal v h =
     let p = Among-filter (has_evidence (filter_map evidence_in journal)) w.0 (validators s.config) w.1 in
     let z = some_of (λ u. u == w.0) (filter_map evidence_in journal) p.1 in
     subst (λ a. Among a (filter_map evidence_in journal)) (eqb-true _ _ z.2 ∙ eqb-true _ _ w.2) z.1
-
--- a unit that isn't refused keeps the rules of the unit alone
-pub unit_stands : (s : Setting) (journal : List Vertex) (u : SignedUnit) → refusal s journal (vertex.Unit u) ≡ None → unit_of_vertex s (vertex.Unit u) ≡ Some (named s u.unit)
-unit_stands s journal u h = go (local_rule s.config s.instance u.unit) (elim (clash_among s (received_of s journal).units u.unit) as (λ z. Option Cause) [ Some d ↦ Some (cause.Clash d) | None ↦ None ]) h
-  where
-    go : (o : Option Rule) (c : Option Cause) → elim o as (λ z. Option Cause) [ Some rule ↦ Some (cause.Local rule) | None ↦ c ] ≡ None → cond (is_none o) (Some (named s u.unit)) None ≡ Some (named s u.unit)
-    go None c k = refl
-    go (Some r) c k = absurd cc
 
 -- evidence that isn't refused is two different units of one creator and one number
 pub record IsPair (e : Evidence) : Type 0 where
@@ -399,7 +363,7 @@ settles_later s journal u apart ok h =
     let none = ap (λ (ns : List Need). length ns) h.0 in
     let more = received_grows s.config (received_of s journal) (received_of s later) (received_rising s journal) (received_rising s later) (longer_extends s journal (vertex.Unit u ∷ [])) in
     settled_has s.config (received_of s later) (received_rising s later) (named s u.unit)
-    (new_known s journal (vertex.Unit u) apart ok (named s u.unit) (among_mapped (unit_of_vertex s) (vertex.Unit u) (named s u.unit) (vertex.Unit u ∷ []) (inl refl) (unit_stands s journal u ok.not_refused)))
+    (new_known s journal (vertex.Unit u) apart ok (named s u.unit) (among_mapped (unit_of_vertex s) (vertex.Unit u) (named s u.unit) (vertex.Unit u ∷ []) (inl refl) (local_none s journal u ok.not_refused)))
     (and_whole _ _ (eq-eqb _ _ (more.ready (named s u.unit) none)) (ap is_none (more.verdict_stays (named s u.unit) none ∙ h.1)))
 
 -- what is answered of an accepted vertex is what became of it

@@ -42,22 +42,14 @@ use Rattle.hw_types.proofs.ReceiptLaws.{tells_where}
 use Rattle.hw_types.proofs.BoundLaws.{rising_length}
 use Rattle.hw_plans.proofs.KeptLaws.{graph_of, known, settled, faulty, lawful}
 use Rattle.hw_plans.proofs.PlanLaws.{planned_is_over_settled, plan_keeps_rules, step_fits, plan_number, plan_creator, on_last_lane}
+use Rattle.hw_types.proofs.ChoiceLaws.{misses}
 
 -- ---- one that fails a test shortens the filtered list
-
-shorter : (q : Node → Bool) (y : Node) (ys : List Node) → Among y ys → q y ≡ false → length (filter q ys) < length ys
-shorter q y [] m e = absurd m
-shorter q y (z ∷ zs) m e = go (q z) refl m (λ h. shorter q y zs h e)
-  where
-    go : (b : Bool) → q z ≡ b → ((z ≡ y) ⊎ Among y zs) → (Among y zs → length (filter q zs) < length zs) → length (cond b (z ∷ filter q zs) (filter q zs)) < suc (length zs)
-    go true t (inl h) later = absurd (never_both _ (sym (ap q h) ∙ t) e)
-    go true t (inr h) later = let lt = later h in omega arith
-    go false t h later = let le = length-filter q zs in omega arith
 
 one_longer : (units more : List Node) (x : Node) → IsRising units → IsRising more → Within units more → Among x more → (Among x units → ⊥) → length units < length more
 one_longer units more x r t w m new =
     let others = λ (y : Node). not (node_eq y x) in
-    let lt = shorter others x more m (ap not (digest_self x.digest)) in
+    let lt = misses others x more m (ap not (digest_self x.digest)) in
     let le = rising_length units (filter others more) r (λ y n. filter-Among others y more (w y n) (ap not (apart y n (either (node_eq y x))))) in
     omega (arith, lt, le)
   where

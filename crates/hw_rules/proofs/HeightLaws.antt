@@ -4,19 +4,15 @@ use Rattle.std.specs.Prelude.{unwrap_or}
 use Rattle.hw_types.specs.declared.unit.Obs.{Obs}
 use Rattle.hw_types.specs.Graph.{Node, past}
 use Rattle.hw_types.specs.Below.{Among}
-use Rattle.hw_types.specs.Votes.{is_block, height_within, height_of, choice_of, choices_after, fork_over, fork_of, unit_fork}
-use Rattle.hw_types.proofs.ChoiceLaws.{past_fewer, past_below, ghost_walk_in, own_below}
+use Rattle.hw_types.specs.Votes.{is_block, height_within, height_of, unit_fork}
+use Rattle.hw_types.proofs.ChoiceLaws.{past_fewer, past_below, own_below}
 use Rattle.hw_dag.specs.declared.numbers.UnitNo.{UnitNo}
 use Rattle.hw_dag.specs.Dag.{UnitGraph, unit_at, count_of, node_at, graph}
 use Rattle.hw_dag.specs.Admission.{IsGraph, height_above}
 use Rattle.hw_dag.specs.Lanes.{AreWeights}
 use Rattle.hw_dag.proofs.DepthLaws.{height_at, parent_earlier, parent_is_block, height_is, height_next}
 use Rattle.hw_forks.proofs.DefinedLaws.{node_for, acyclic, parent_at}
-
--- a fork choice is below its panorama
-pub chosen_below : (weights : List ℕ) (units : List Node) (panorama : List Obs) (x : Node) → fork_of weights units panorama ≡ Some x → Among x (past units panorama)
-unfolding fork_over
-chosen_below weights units panorama x e = ghost_walk_in weights (past units panorama) (choice_of (choices_after (length (past units panorama)) weights (past units panorama))) panorama x e
+use Rattle.hw_types.proofs.HeightLaws.{chosen_below}
 
 module _ (weights : List ℕ) (dag : UnitGraph) (g : IsGraph dag) (aw : AreWeights weights dag) where
   -- the parent of a block is below it

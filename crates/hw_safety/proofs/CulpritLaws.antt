@@ -1,12 +1,8 @@
 -- Each validator that is faulty over two journals is a culprit: two of its units show it.
-use Rattle.std.proofs.Common.{◌≡◌, ℕ, ◌≤◌, ◌<◌, inl, inr, Bool, true, false, cond, List, [], ◌∷◌, ◌++◌, length, Option, Some, None, refl, sym, ap, subst, ◌∙◌, arith}
+use Rattle.std.proofs.Common.{◌≡◌, ℕ, ◌≤◌, ◌<◌, inl, inr, Bool, true, false, cond, List, [], ◌∷◌, ◌++◌, length, Some, None, refl, sym, ap, subst, ◌∙◌, arith}
 use Rattle.std.specs.Prelude.{◌&&◌, ◌||◌, not, filter, filter_map, is_none, nat_le, ◌==◌}
 use Rattle.std.specs.List.{list_any}
 use Rattle.std.proofs.lemmas.Bool.{eqb-true, eq-eqb}
-use lib.Pointwise.{pointwise, pointwise_decides, bytes_decides}
-use Rattle.hw_types.specs.declared.unit.Digest.{Digest}
-use Rattle.hw_types.specs.declared.unit.Obs.{Obs}
-use Rattle.hw_types.specs.declared.unit.Obs.TheVariants.{Absent, Correct, Faulty}
 use Rattle.hw_types.specs.declared.unit.WireUnit.{WireUnit}
 use Rattle.hw_types.specs.declared.unit.Evidence.{Evidence}
 use Rattle.hw_types.specs.declared.unit.Vertex.{Vertex}
@@ -15,7 +11,7 @@ use Rattle.hw_types.specs.declared.answers.PairFault.TheVariants as fault
 use Rattle.hw_types.specs.Graph.{Node, digest_eq, node_eq, are_different}
 use Rattle.hw_types.specs.Below.{Among}
 use Rattle.hw_types.specs.Votes.{weight_of}
-use Rattle.hw_types.specs.Same.{obs_eq, value_eq, unit_eq}
+use Rattle.hw_types.specs.Same.{unit_eq}
 use Rattle.hw_types.specs.Settled.{validators, has_evidence, equivocates, settled_of}
 use Rattle.hw_types.specs.Journal.{Setting, named, unit_of_vertex, evidence_in, received_of, evidence_fault}
 use Rattle.hw_types.specs.Culprits.{evidence_units, shown_in, shown_in_either, equivocations_of, culprits_of}
@@ -25,54 +21,14 @@ use Rattle.hw_safety.specs.Safety.{HasPairs, CulpritsSafety}
 use Rattle.hw_types.proofs.ClosureLaws.{Within, Among-filter, filter-Among}
 use Rattle.hw_types.proofs.PastLaws.{some_of, any_of, or_cases}
 use Rattle.hw_types.proofs.StableLaws.{and_parts, and_whole}
-use Rattle.hw_types.proofs.SettledLaws.{digest_self, digest_same}
+use Rattle.hw_types.proofs.SettledLaws.{digest_self}
 use Rattle.hw_safety.proofs.WeightLaws.{weight_within}
 use Rattle.hw_types.proofs.EntryLaws.{by_name_in, append_cases, mapped_among}
 use Rattle.hw_types.proofs.UnionLaws.{from_left, from_right}
 use Rattle.hw_types.proofs.WordsLaws.{range_in, not_false}
 use Rattle.hw_safety.proofs.AccountLaws.{either_part, in_journal}
 use Rattle.hw_safety.proofs.ConflictLaws.{conflict_safety}
-
--- ---- units that pass the test of equality are equal
-
-obs_same : (o p : Obs) → (obs_eq o p ≡ true → o ≡ p) × (o ≡ p → obs_eq o p ≡ true)
-obs_same Absent Absent = (λ e. refl, λ e. refl)
-obs_same Faulty Faulty = (λ e. refl, λ e. refl)
-obs_same (Correct d) (Correct e) = (λ h. ap Correct (digest_same d e h), λ h. let same : d ≡ e = cc in subst (λ z. digest_eq d z ≡ true) same (digest_self d))
-obs_same Absent (Correct e) = (λ h. absurd cc, λ h. absurd cc)
-obs_same Absent Faulty = (λ h. absurd cc, λ h. absurd cc)
-obs_same Faulty Absent = (λ h. absurd cc, λ h. absurd cc)
-obs_same Faulty (Correct e) = (λ h. absurd cc, λ h. absurd cc)
-obs_same (Correct d) Absent = (λ h. absurd cc, λ h. absurd cc)
-obs_same (Correct d) Faulty = (λ h. absurd cc, λ h. absurd cc)
-
-digest_both : (d e : Digest) → (digest_eq d e ≡ true → d ≡ e) × (d ≡ e → digest_eq d e ≡ true)
-digest_both d e = (λ h. digest_same d e h, λ h. subst (λ z. digest_eq d z ≡ true) h (digest_self d))
-
-value_same : (x y : Option (List ℕ)) → value_eq x y ≡ true → x ≡ y
-value_same None None h = refl
-value_same (Some x) (Some y) h = ap Some ((bytes_decides x y).0 h)
-value_same None (Some y) h = absurd cc
-value_same (Some x) None h = absurd cc
-
-pub unit_same : (u v : WireUnit) → unit_eq u v ≡ true → u ≡ v
-unit_same u v h =
-    let p8 = and_parts _ (pointwise digest_eq u.endorsed v.endorsed) h in
-    let p7 = and_parts _ (value_eq u.value v.value) p8.0 in
-    let p6 = and_parts _ (pointwise obs_eq u.panorama v.panorama) p7.0 in
-    let p5 = and_parts _ (u.exponent == v.exponent) p6.0 in
-    let p4 = and_parts _ (u.time == v.time) p5.0 in
-    let p3 = and_parts _ (u.seq == v.seq) p4.0 in
-    let p2 = and_parts (digest_eq u.instance v.instance) (u.creator == v.creator) p3.0 in
-    let e1 = digest_same u.instance v.instance p2.0 in
-    let e2 = eqb-true u.creator v.creator p2.1 in
-    let e3 = eqb-true u.seq v.seq p3.1 in
-    let e4 = eqb-true u.time v.time p4.1 in
-    let e5 = eqb-true u.exponent v.exponent p5.1 in
-    let e6 = (pointwise_decides obs_same u.panorama v.panorama).0 p6.1 in
-    let e7 = value_same u.value v.value p7.1 in
-    let e8 = (pointwise_decides digest_both u.endorsed v.endorsed).0 p8.1 in
-    λ i. record { instance = e1 i; creator = e2 i; seq = e3 i; time = e4 i; exponent = e5 i; panorama = e6 i; value = e7 i; endorsed = e8 i }
+use Rattle.hw_types.proofs.OrderLaws.{unit_same}
 
 -- ---- two units show a culprit
 

@@ -8,7 +8,7 @@ use Rattle.hw_types.specs.Lawful.{NoClash}
 use Rattle.hw_types.specs.Same.{unit_eq}
 use Rattle.hw_types.proofs.SettledLaws.{digest_self}
 use Rattle.hw_types.proofs.WordsLaws.{all_of}
-use Rattle.hw_safety.proofs.CulpritLaws.{unit_same}
+use Rattle.hw_types.proofs.OrderLaws.{unit_same}
 
 abbrev pub Each : {A : Type 0} → (A → Type 0) → List A → Type 0
 Each P [] = Unit {0}

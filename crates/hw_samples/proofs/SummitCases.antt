@@ -44,7 +44,7 @@ quorums_stay = record {
   second = second_on;
   third = third_on;
   then = then;
-  now = leb-true _ _ (settled_suffix at_two_levels nine_units equal_four.weights from_the_first (0 ∷ 1 ∷ 2 ∷ []) 3 (named at_two_levels p2) last_in (named at_two_levels p1) (named at_two_levels p2) second_on third_on (omega arith) (le-leb _ _ then));
+  now = settled_suffix at_two_levels nine_units equal_four.weights from_the_first (0 ∷ 1 ∷ 2 ∷ []) 3 (named at_two_levels p2) (named at_two_levels p1) (named at_two_levels p2) last_in second_on third_on (omega arith) then;
   not_before = not_before;
 }
 

@@ -1,5 +1,5 @@
 -- The decisions that are worked out are those of the definition, where no two blocks of one height stand at one moment.
-use Rattle.std.proofs.Common.{◌≡◌, ℕ, zero, suc, ◌⊎◌, ◌+◌, ◌≤◌, ◌<◌, inl, inr, Bool, true, false, cond, List, [], ◌∷◌, ◌++◌, length, Option, Some, None, refl, sym, ap, subst, ◌∙◌, arith}
+use Rattle.std.proofs.Common.{◌≡◌, ℕ, zero, suc, ◌⊎◌, ◌+◌, ◌≤◌, ◌<◌, inl, inr, Bool, true, false, cond, List, [], ◌∷◌, length, Option, Some, None, refl, sym, ap, subst, ◌∙◌, arith}
 use Rattle.std.specs.Prelude.{◌==◌, nat_le, not, find, filter, is_some, All, Any, slice_index_or}
 use Rattle.std.specs.List.{list_any, range_with_len, flat_map, AllAdjacentBelow}
 use Rattle.std.proofs.lemmas.Bool.{cases_lt, leb-true, le-leb, eqb-true, eq-eqb}
@@ -16,13 +16,16 @@ use Rattle.hw_summit.specs.Decided.{quorum_at, moment_of, moment, least_level, s
 use Rattle.hw_types.proofs.ClosureLaws.{Among-filter, filter-Among}
 use Rattle.hw_types.proofs.PastLaws.{some_of, any_of}
 use Rattle.hw_types.proofs.StableLaws.{find_one, found_one}
-use Rattle.hw_types.proofs.SettledLaws.{digest_self, digest_same}
+use Rattle.hw_types.proofs.SettledLaws.{digest_self, digest_same, append_left}
 use Rattle.hw_types.proofs.ChoiceLaws.{IsGraph}
 use Rattle.hw_types.proofs.WalkLaws.{settled_graph}
 use Rattle.hw_types.proofs.JournalLaws.{received_rising}
 use Rattle.hw_types.proofs.QuorumLaws.{quotient_is_quorum}
 use Rattle.hw_summit.proofs.PrunedLaws.{among_range, range_among, summit_is_left}
 use Rattle.hw_summit.proofs.StandLaws.{quorum_is_one, pruned_by_name, summit_block}
+use Rattle.hw_types.proofs.OrderedLaws.{IsOrdered, ordered_append, adjacent_of, place_in, any_among}
+use Rattle.hw_types.proofs.EntryLaws.{append_cases}
+use Rattle.hw_types.proofs.UnionLaws.{from_right}
 
 -- ---- the first number of a range that passes
 
@@ -72,35 +75,10 @@ some_is (Some x) h = (x, refl)
 
 -- ---- lists in order
 
-abbrev pub IsLater : {A : Type 0} → (A → A → Type 0) → List A → Type 0
-IsLater R [] = Unit {0}
-IsLater {A} R (x ∷ xs) = ((y : A) → Among y xs → R x y) × IsLater R xs
-
-among_append : {A : Type 0} (x : A) (xs ys : List A) → Among x (xs ++ ys) → Among x xs ⊎ Among x ys
-among_append x [] ys h = inr h
-among_append x (z ∷ xs) ys (inl e) = inl (inl e)
-among_append x (z ∷ xs) ys (inr h) = elim (among_append x xs ys h) [ inl l ↦ inl (inr l) | inr r ↦ inr r ]
-
-append_left : {A : Type 0} (x : A) (xs ys : List A) → Among x xs → Among x (xs ++ ys)
-append_left x [] ys h = absurd h
-append_left x (z ∷ xs) ys (inl e) = inl e
-append_left x (z ∷ xs) ys (inr h) = inr (append_left x xs ys h)
-
-append_right : {A : Type 0} (x : A) (xs ys : List A) → Among x ys → Among x (xs ++ ys)
-append_right x [] ys h = h
-append_right x (z ∷ xs) ys h = inr (append_right x xs ys h)
-
-later_append : {A : Type 0} (R : A → A → Type 0) (xs ys : List A) → IsLater R xs → IsLater R ys → ((x y : A) → Among x xs → Among y ys → R x y) → IsLater R (xs ++ ys)
-later_append R [] ys l m f = m
-later_append R (x ∷ xs) ys l m f = (
-  λ y h. elim (among_append y xs ys h) [ inl a ↦ l.0 y a | inr b ↦ f x y (inl refl) b ],
-  later_append R xs ys l.1 m (λ a b g h. f a b (inr g) h),
-)
-
 module _ {A : Type 0} (g : ℕ → List A) where
   among_flat : (a n : ℕ) (x : A) → Among x (flat_map g (range_with_len a n)) → (i : ℕ) × (a ≤ i) × (i < a + n) × Among x (g i)
   among_flat a zero x h = absurd h
-  among_flat a (suc n) x h = elim (among_append x (g a) (flat_map g (range_with_len (a + 1) n)) h) [
+  among_flat a (suc n) x h = elim (append_cases x (g a) (flat_map g (range_with_len (a + 1) n)) h) [
     | inl here ↦ (a, omega arith, omega arith, here)
     | inr there ↦ let rest = among_flat (a + 1) n x there in let low = rest.1 in let high = rest.2 in (rest.0, omega arith, omega arith, rest.3)
   ]
@@ -108,34 +86,15 @@ module _ {A : Type 0} (g : ℕ → List A) where
   flat_among : (a n i : ℕ) (x : A) → a ≤ i → i < a + n → Among x (g i) → Among x (flat_map g (range_with_len a n))
   flat_among a zero i x low high m = absurd (omega arith)
   flat_among a (suc n) i x low high m = elim (cases_lt a i) [
-    | inl lt ↦ append_right x (g a) (flat_map g (range_with_len (a + 1) n)) (flat_among (a + 1) n i x (omega arith) (omega arith) m)
+    | inl lt ↦ from_right x (g a) (flat_map g (range_with_len (a + 1) n)) (flat_among (a + 1) n i x (omega arith) (omega arith) m)
     | inr ge ↦ (let same : i ≡ a = omega arith in append_left x (g a) (flat_map g (range_with_len (a + 1) n)) (subst (λ j. Among x (g j)) same m))
   ]
 
   -- pieces in order, one after the other
-  later_flat : (R : A → A → Type 0) → ((i : ℕ) → IsLater R (g i)) → ((i j : ℕ) (x y : A) → i < j → Among x (g i) → Among y (g j) → R x y) → (a n : ℕ) → IsLater R (flat_map g (range_with_len a n))
+  later_flat : (R : A → A → Type 0) → ((i : ℕ) → IsOrdered R (g i)) → ((i j : ℕ) (x y : A) → i < j → Among x (g i) → Among y (g j) → R x y) → (a n : ℕ) → IsOrdered R (flat_map g (range_with_len a n))
   later_flat R each cross a zero = tt
-  later_flat R each cross a (suc n) = later_append R (g a) (flat_map g (range_with_len (a + 1) n)) (each a) (later_flat R each cross (a + 1) n)
+  later_flat R each cross a (suc n) = ordered_append R (g a) (flat_map g (range_with_len (a + 1) n)) (each a) (later_flat R each cross (a + 1) n)
       (λ x y h k. let there = among_flat (a + 1) n y k in let low = there.1 in cross a there.0 x y (omega arith) h there.3)
-
--- the same by places
-adjacent_of : {A : Type 0} (R : A → A → Type 0) (xs : List A) → IsLater R xs → (k : ℕ) (d : A) → k + 1 < length xs → R (slice_index_or xs k d) (slice_index_or xs (k + 1) d)
-adjacent_of R [] l k d lt = absurd (omega arith)
-adjacent_of R (x ∷ []) l k d lt = absurd (omega arith)
-adjacent_of R (x ∷ y ∷ ys) l zero d lt = l.0 y (inl refl)
-adjacent_of R (x ∷ y ∷ ys) l (suc k) d lt =
-    let e : suc k + 1 ≡ suc (k + 1) = omega arith in
-    subst (λ i. R (slice_index_or (y ∷ ys) k d) (slice_index_or (x ∷ y ∷ ys) i d)) (sym e) (adjacent_of R (y ∷ ys) l.1 k d (omega arith))
-
-place_among : {A : Type 0} (xs : List A) (k : ℕ) (d : A) → k < length xs → Among (slice_index_or xs k d) xs
-place_among [] k d lt = absurd (omega arith)
-place_among (x ∷ xs) zero d lt = inl refl
-place_among (x ∷ xs) (suc k) d lt = inr (place_among xs k d (omega arith))
-
-any_among : {A : Type 0} (P : A → Type 0) (xs : List A) (x : A) → Among x xs → P x → Any P xs
-any_among P [] x m p = absurd m
-any_among P (y ∷ ys) x (inl e) p = (0, x, omega arith, e, p)
-any_among P (y ∷ ys) x (inr m) p = let rest = any_among P ys x m p in let lt = rest.2 in (suc rest.0, rest.1, omega arith, rest.3, rest.4)
 
 -- ---- heights
 
@@ -325,15 +284,15 @@ module _ (s : Setting) (journal : List Vertex) where
   at_is : (at : ℕ) (d : Decision) → ComesFrom at d → d.at ≡ at
   at_is at d c = ap (λ (e : Decision). e.at) (sym c.same)
 
-  one_height : (at height : ℕ) → IsLater ComesBefore (decision_at s.config (moment s journal at) at (fresh at) height)
+  one_height : (at height : ℕ) → IsOrdered ComesBefore (decision_at s.config (moment s journal at) at (fresh at) height)
   unfolding moment_of
   one_height at height = go (find (λ b. height_of s.config.weights (S at) b == height) (fresh at))
     where
-      go : (o : Option Node) → IsLater ComesBefore (elim o as (λ z. List Decision) [ None ↦ [] | Some b ↦ decision_of s.config (moment s journal at) at height b ∷ [] ])
+      go : (o : Option Node) → IsOrdered ComesBefore (elim o as (λ z. List Decision) [ None ↦ [] | Some b ↦ decision_of s.config (moment s journal at) at height b ∷ [] ])
       go None = tt
       go (Some b) = (λ y m. absurd m, tt)
 
-  rising_in : (at : ℕ) → IsLater ComesBefore (decided_in s journal at)
+  rising_in : (at : ℕ) → IsOrdered ComesBefore (decided_in s journal at)
   unfolding decided_in
   rising_in at = later_flat (decision_at s.config (moment s journal at) at (fresh at)) ComesBefore (one_height at)
       (λ i j x y lt m n.
@@ -341,7 +300,7 @@ module _ (s : Setting) (journal : List Vertex) where
       let ha = a.1 in let hb = b.1 in
       inr (at_is at x a.0 ∙ sym (at_is at y b.0), omega arith)) 0 _
 
-  in_order : IsLater ComesBefore (decisions_of s journal)
+  in_order : IsOrdered ComesBefore (decisions_of s journal)
   unfolding decisions_of
   in_order = later_flat (decided_in s journal) ComesBefore rising_in
       (λ i j x y lt m n.
@@ -392,7 +351,7 @@ module _ (s : Setting) (journal : List Vertex) where
   -- The decisions that are worked out are those of the definition, where no two blocks of one height stand at one moment.
   pub decisions_are : OneBlockEach s journal → AreDecisions s journal (decisions_of s journal)
   decisions_are one = record {
-    each = λ k d lt. let p = all_from (slice_index_or (decisions_of s journal) k d) (place_among (decisions_of s journal) k d lt) in each_record p.0 (slice_index_or (decisions_of s journal) k d) p.1 p.2;
+    each = λ k d lt. let p = all_from (slice_index_or (decisions_of s journal) k d) (place_in (decisions_of s journal) k d lt) in each_record p.0 (slice_index_or (decisions_of s journal) k d) p.1 p.2;
     ordered = adjacent_of ComesBefore (decisions_of s journal) in_order;
     complete = λ block level quorum at t. let d = complete one block level quorum at t in any_among (λ (e : Decision). e.block ≡ block.digest) (decisions_of s journal) d.0 d.1 d.2;
   }

@@ -1,5 +1,5 @@
 -- A journal's decisions are one list.
-use Rattle.std.proofs.Common.{◌≡◌, ℕ, suc, ◌+◌, ◌⊎◌, inl, inr, true, List, [], ◌∷◌, length, get_or, take, drop, All, refl, sym, ap, subst, ◌∙◌, arith, le_antisymm, take-append-drop}
+use Rattle.std.proofs.Common.{◌≡◌, ℕ, suc, ◌⊎◌, inl, inr, true, List, [], ◌∷◌, length, take, drop, All, refl, sym, ap, subst, ◌∙◌, arith, le_antisymm, take-append-drop}
 use Rattle.std.specs.Prelude.{sum}
 use Rattle.std.specs.List.{AllAdjacentBelow}
 use Rattle.hw_types.specs.declared.unit.Vertex.{Vertex}
@@ -18,14 +18,11 @@ use Rattle.hw_types.proofs.SettledLaws.{digest_self}
 use Rattle.hw_types.proofs.WordsLaws.{place_among, find_node_is}
 use Rattle.hw_types.proofs.LawfulLaws.{settled_part}
 use Rattle.hw_types.proofs.JournalLaws.{received_rising, longer_extends}
+use Rattle.hw_types.proofs.OrderedLaws.{IsOrdered, ordered_of}
 
 -- ---- ordered lists with the same members
 
 module _ {A : Type 0} (R : A → A → Type 0) (never : (x : A) → R x x → ⊥) (trans : (x y z : A) → R x y → R y z → R x z) where
-  abbrev Ordered : List A → Type 0
-  Ordered [] = Unit {0}
-  Ordered (x ∷ xs) = ((y : A) → Among y xs → R x y) × Ordered xs
-
   head_same : (x y : A) (xs ys : List A) → ((z : A) → Among z xs → R x z) → ((z : A) → Among z ys → R y z) → ((y ≡ x) ⊎ Among x ys) → ((x ≡ y) ⊎ Among y xs) → x ≡ y
   head_same x y xs ys bx by (inl e) q = sym e
   head_same x y xs ys bx by (inr m) (inl e) = e
@@ -38,7 +35,7 @@ module _ {A : Type 0} (R : A → A → Type 0) (never : (x : A) → R x x → �
       go (inl e) = absurd (never x (subst (λ v. R x v) (sym (same ∙ e)) (bx z m)))
       go (inr n) = n
 
-  ordered_same : (xs ys : List A) → Ordered xs → Ordered ys → Within xs ys → Within ys xs → xs ≡ ys
+  ordered_same : (xs ys : List A) → IsOrdered R xs → IsOrdered R ys → Within xs ys → Within ys xs → xs ≡ ys
   ordered_same [] [] r s w v = refl
   ordered_same [] (y ∷ ys) r s w v = absurd (v y (inl refl))
   ordered_same (x ∷ xs) [] r s w v = absurd (w x (inl refl))
@@ -47,29 +44,16 @@ module _ {A : Type 0} (R : A → A → Type 0) (never : (x : A) → R x x → �
       let tails = ordered_same xs ys r.1 s.1 (tail_within x y xs ys same r.0 w) (tail_within y x ys xs (sym same) s.0 v) in
       λ i. same i ∷ tails i
 
-  next_only : (x : A) (xs : List A) → AllAdjacentBelow R (x ∷ xs) (length (x ∷ xs)) → AllAdjacentBelow R xs (length xs)
-  next_only x xs h k d lt =
-      let e : suc k + 1 ≡ suc (k + 1) = omega arith in
-      let step : R (get_or xs k d) (get_or (x ∷ xs) (suc k + 1) d) = h (suc k) d (omega arith) in
-      subst (λ j. R (get_or xs k d) (get_or (x ∷ xs) j d)) e step
-
-  before_rest : (x : A) (xs : List A) → AllAdjacentBelow R (x ∷ xs) (length (x ∷ xs)) → (y : A) → Among y xs → R x y
-  before_rest x [] h y m = absurd m
-  before_rest x (z ∷ zs) h y (inl e) = subst (λ w. R x w) e (h 0 x (omega arith))
-  before_rest x (z ∷ zs) h y (inr m) = trans x z y (h 0 x (omega arith)) (before_rest z zs (next_only x (z ∷ zs) h) y m)
-
-  in_order : (xs : List A) → AllAdjacentBelow R xs (length xs) → Ordered xs
-  in_order [] h = tt
-  in_order (x ∷ xs) h = (before_rest x xs h, in_order xs (next_only x xs h))
-
   pub adjacent_same : (xs ys : List A) → AllAdjacentBelow R xs (length xs) → AllAdjacentBelow R ys (length ys) → Within xs ys → Within ys xs → xs ≡ ys
-  adjacent_same xs ys r s = ordered_same xs ys (in_order xs r) (in_order ys s)
+  adjacent_same xs ys r s = ordered_same xs ys (ordered_of R trans xs r) (ordered_of R trans ys s)
 
-never_before : (d : Decision) → ComesBefore d d → ⊥
+-- ---- the order of records
+
+pub never_before : (d : Decision) → ComesBefore d d → ⊥
 never_before d (inl h) = absurd (omega arith)
 never_before d (inr h) = let lt = h.1 in absurd (omega arith)
 
-before_trans : (d e f : Decision) → ComesBefore d e → ComesBefore e f → ComesBefore d f
+pub before_trans : (d e f : Decision) → ComesBefore d e → ComesBefore e f → ComesBefore d f
 before_trans d e f (inl h) (inl k) = inl (omega arith)
 before_trans d e f (inl h) (inr k) = let same = k.0 in inl (omega arith)
 before_trans d e f (inr h) (inl k) = let same = h.0 in inl (omega arith)

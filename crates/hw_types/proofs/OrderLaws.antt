@@ -1,5 +1,5 @@
 -- Journals that say the same make the same known.
-use Rattle.std.proofs.Common.{◌≡◌, ℕ, ◌⊎◌, inl, inr, Bool, true, false, cond, not, List, [], ◌∷◌, ◌++◌, Option, Some, None, Result, Ok, Err, refl, sym, ap, subst, ◌∙◌, eqb-true}
+use Rattle.std.proofs.Common.{◌≡◌, ℕ, ◌⊎◌, inl, inr, Bool, true, false, cond, not, List, [], ◌∷◌, ◌++◌, Option, Some, None, Result, Ok, Err, refl, sym, ap, subst, ◌∙◌, eqb-true, eq-eqb}
 use Rattle.std.specs.Prelude.{map, filter, filter_map, fold, is_none, ◌==◌, nat_le, length}
 use Rattle.std.specs.List.{list_any}
 use Rattle.std.proofs.lemmas.List.Elements.{filter_map-append}
@@ -28,7 +28,7 @@ use Rattle.hw_types.specs.Journal.{Setting, named, unit_of_vertex, evidence_in, 
 use Rattle.hw_types.specs.laws.StateLaws.{units_in, SaysTheSame, NamesApart, HasSameState}
 use Rattle.hw_types.proofs.ClosureLaws.{Within}
 use Rattle.hw_types.proofs.PastLaws.{any_within}
-use Rattle.hw_types.proofs.StableLaws.{OneName, and_parts, both_ways}
+use Rattle.hw_types.proofs.StableLaws.{OneName, and_parts, and_whole, both_ways}
 use Rattle.hw_types.proofs.SettledLaws.{digest_same, digest_self}
 use Rattle.hw_types.proofs.WordsLaws.{any_none, not_false, and_none}
 use Rattle.hw_types.proofs.EntryLaws.{entries_same, append_cases, in_by_name, by_name_in, name_of, unit_of, entries_are, mapped_among}
@@ -108,6 +108,16 @@ unit_same u v h =
     let endorsed = (pointwise_decides digest_exact u.endorsed v.endorsed).0 g7.1 in
     λ i. record { instance = instance i; creator = creator i; seq = seq i; time = time i; exponent = exponent i; panorama = panorama i; value = value i; endorsed = endorsed i }
 
+pub unit_self : (u : WireUnit) → unit_eq u u ≡ true
+unit_self u =
+    and_whole _ _ (and_whole _ _ (and_whole _ _ (and_whole _ _ (and_whole _ _ (and_whole _ _ (and_whole _ _ (digest_self u.instance) (eq-eqb u.creator u.creator refl))
+    (eq-eqb u.seq u.seq refl)) (eq-eqb u.time u.time refl)) (eq-eqb u.exponent u.exponent refl))
+    ((pointwise_decides obs_exact u.panorama u.panorama).1 refl)) (value_self u.value)) ((pointwise_decides digest_exact u.endorsed u.endorsed).1 refl)
+  where
+    value_self : (value : Option (List ℕ)) → value_eq value value ≡ true
+    value_self None = refl
+    value_self (Some bytes) = (bytes_decides bytes bytes).1 refl
+
 -- ---- a journal that deliveries made
 
 names_one : (xs : List Node) → NamesApart xs → OneName xs
@@ -129,6 +139,12 @@ pub record Accepted (s : Setting) (journal : List Vertex) (v : Vertex) : Type 0 
   pub not_repeat : is_repeat s journal v ≡ false
   pub room : nat_le s.config.max_records (length journal) ≡ false
   pub park_room : is_park_full s journal v ≡ false
+
+-- what is accepted has a true verdict
+pub verdict_is : (s : Setting) (journal : List Vertex) (v : Vertex) (verdict : Bool) → is_accepted (answer s journal v verdict) ≡ true → verdict ≡ true
+unfolding answer
+verdict_is s journal v true h = refl
+verdict_is s journal v false h = h
 
 -- what is accepted isn't refused, and isn't there yet
 pub accepted : (s : Setting) (journal : List Vertex) (v : Vertex) (verdict : Bool) → is_accepted (answer s journal v verdict) ≡ true → Accepted s journal v

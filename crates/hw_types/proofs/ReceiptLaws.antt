@@ -31,7 +31,7 @@ use Rattle.hw_types.proofs.RunLaws.{by_name_rising}
 use Rattle.hw_types.proofs.VertexLaws.{faulty_evidence_but, endorsed_but}
 
 -- a unit that isn't refused keeps the rules of the unit alone
-local_none : (s : Setting) (journal : List Vertex) (u : SignedUnit) → refusal s journal (vertex.Unit u) ≡ None → unit_of_vertex s (vertex.Unit u) ≡ Some (named s u.unit)
+pub local_none : (s : Setting) (journal : List Vertex) (u : SignedUnit) → refusal s journal (vertex.Unit u) ≡ None → unit_of_vertex s (vertex.Unit u) ≡ Some (named s u.unit)
 local_none s journal u h = go (local_rule s.config s.instance u.unit) (elim (clash_among s (received_of s journal).units u.unit) as (λ z. Option Cause) [ Some d ↦ Some (cause.Clash d) | None ↦ None ]) h
   where
     go : (o : Option Rule) (c : Option Cause) → elim o as (λ z. Option Cause) [ Some rule ↦ Some (cause.Local rule) | None ↦ c ] ≡ None → cond (is_none o) (Some (named s u.unit)) None ≡ Some (named s u.unit)

@@ -80,6 +80,11 @@ none_broken (t ∷ ts) h = go t.1 refl h (none_broken ts)
     go true e k later = absurd cc
     go false e k later = (e, later k)
 
+-- and where no test is true, no rule is broken
+pub none_broken_of : {A : Type 0} (ts : Tests A) → AllFalse ts → first_broken ts ≡ None
+none_broken_of [] h = refl
+none_broken_of (t ∷ ts) h = ap (λ b. cond b (Some t.0) (first_broken ts)) h.0 ∙ none_broken_of ts h.1
+
 -- ---- names
 
 pub among_is : (x : Node) (xs : List Node) → Among x xs → is_among xs x ≡ true

@@ -5,9 +5,10 @@ use Rattle.hw_types.specs.Votes.{height_of}
 use Rattle.hw_dag.specs.declared.numbers.UnitNo.{UnitNo}
 use Rattle.hw_dag.specs.Dag.{SettledUnit, node_at, graph}
 use Rattle.hw_rules.specs.Judged.{below_of}
-use Rattle.hw_rules.proofs.HeightLaws.{chosen_below, kept_height}
+use Rattle.hw_rules.proofs.HeightLaws.{kept_height}
 use Rattle.hw_rules.proofs.CaseLaws.{node_for}
 use Rattle.hw_rules.proofs.judge.stands_at.Goals as goal
+use Rattle.hw_types.proofs.HeightLaws.{chosen_below}
 
 pub returns-in-Some : goal.returns-in-Some
 returns-in-Some c =
