@@ -2,10 +2,12 @@
 
 ghost use Rattle.std.specs.Prelude.{◌≡◌, ◌+◌, ◌^◌, ◌<◌, ◌≤◌, ◌↔◌, [], true, false, length, replicate, slice_set, Some, None, IfOk, IfErr, IfSome, OnOk, OnErr, IsNone};
 ghost use Rattle.std.specs.Option.{option_map};
+ghost use Rattle.std.specs.Map.Iter.{ShowsInOrder, deref};
+ghost use Rattle.hw_types.specs.declared.unit.Digest.{Digest as Named};
 ghost use Rattle.hw_types.specs.Graph.{Node, is_consistent};
 ghost use Rattle.hw_types.specs.Lawful.{IsLawful};
 ghost use Rattle.hw_types.specs.Limits.{config_fault};
-ghost use Rattle.hw_types.specs.Rules.{state_rule};
+ghost use Rattle.hw_types.specs.Rules.{is_rising, state_rule};
 ghost use Rattle.hw_types.specs.Votes.{fork_of, weight_of};
 ghost use Rattle.hw_dag.specs.declared.numbers.UnitNo.{UnitNo as Number};
 ghost use Rattle.hw_dag.specs.declared.numbers.View.TheVariants as view;
@@ -20,12 +22,12 @@ ghost use Rattle.hw_admit.specs.State.{NodeState, IsState, IsStartFault, IsAdmit
 
 use crate::start::StateStart;
 use hw_dag::{Dag, Marks, Panorama, Prepared, UnitNo, View};
-use hw_endorse::{Added, Endorsements};
+use hw_endorse::{Added, EndorsedUnits, Endorsements};
 use hw_forks::Forks;
 use hw_leaders::LeaderTable;
 use hw_naivety::{NaiveFork, Naivety};
 use hw_rules::Judge;
-use hw_types::{Config, Digest, DigestList, OutOfMemory, Rule};
+use hw_types::{Config, Digest, OutOfMemory, Rule};
 use std::alloc::Global;
 use std::marker::Model;
 
@@ -161,11 +163,14 @@ impl State {
         self.endorsements.endorsed(unit)
     }
 
-    /// The units that more than half of the total weight endorses, settled or not.
-    pub fn endorsed_units(&self, alloc: Global) -> Result<DigestList, OutOfMemory>
-        ensures { IfOk result (HaveMajority (told_in self.now)) }
+    /// The units that more than half of the total weight endorses, settled or not, each once and rising by
+    /// their digests. It takes no memory.
+    pub fn endorsed_units(&self) -> EndorsedUnits<'_>
+        ensures majority { HaveMajority (told_in self.now) result }
+        ensures rising { is_rising result ≡ true }
+        ensures runs { ShowsInOrder (deref {X = Named}) }
     {
-        self.endorsements.endorsed_units(alloc)
+        self.endorsements.endorsed_units()
     }
 
     /// None where any two naive units of one creator are comparable, else two of the least creator that

@@ -1,104 +1,241 @@
 -- Laws of what is kept.
-use Rattle.std.proofs.Common.{◌≡◌, ℕ, ◌+◌, ◌*◌, ◌^◌, ◌<◌, Bool, true, false, not, ◌||◌, ◌&&◌, nat_lt, ◌==◌, List, [], ◌∷◌, ◌++◌, length, sum, slice_index, None, refl, sym, ap, ◌∙◌, arith, if◌then◌else◌}
-use Rattle.std.proofs.lemmas.Bool.Decides.{nat_tests}
+use Rattle.std.proofs.Common.{◌≡◌, ℕ, ◌+◌, ◌*◌, ◌^◌, ◌<◌, ◌≤◌, Bool, true, false, cond, not, ◌||◌, ◌&&◌, nat_lt, eqb, List, [], ◌∷◌, ◌++◌, length, sum, slice_index, Some, None, Result, Ok, Err, OnErr, refl, sym, ap, ◌∙◌, subst, arith, eqb-true, lt-ltb, if◌then◌else◌}
+use Rattle.std.specs.Ordering.{is_eq, is_lt}
+use Rattle.std.specs.List.{list_any, range_with_len}
+use Rattle.std.specs.List.Sorted.{IsStrictlySortedBy}
+use Rattle.std.specs.Map.{lookup}
+use Rattle.std.specs.Option.{unwrap_or}
+use Rattle.std.proofs.lemmas.Bool.{le-ltb}
 use Rattle.hw_types.specs.declared.unit.Digest.{Digest}
 use Rattle.hw_types.specs.declared.config.Config.{Config}
+use Rattle.hw_types.specs.Below.{Among}
 use Rattle.hw_types.specs.Graph.{digest_eq}
-use Rattle.hw_types.specs.Votes.{weight_of}
 use Rattle.hw_types.specs.Limits.{config_fault}
+use Rattle.hw_types.specs.Rules.{is_rising, is_rising_after}
+use Rattle.hw_types.specs.Votes.{weight_of}
 use Rattle.hw_types.proofs.LimitLaws.{within_limits}
-use Rattle.hw_types.proofs.SettledLaws.{digest_same}
-use Rattle.std.specs.List.{flat_map, range_with_len}
-use Rattle.hw_endorse.specs.declared.Added.TheVariants.{New, Repeat}
-use Rattle.hw_endorse.specs.declared.tally.Tally.{Tally}
-use Rattle.hw_endorse.specs.Told.{in_order, is_told, with_pair, added_of, has_majority}
-use Rattle.hw_endorse.specs.Kept.{tally_at, counts, weight_in, pairs_at, told_by, IsKept, IsCounted}
-use Rattle.hw_endorse.proofs.PairLaws.{told_by_tallies, told-append, told_again, order_same, told_in_order}
+use Rattle.hw_types.proofs.PastLaws.{some_of, any_of}
+use Rattle.hw_types.proofs.SettledLaws.{digest_same, digest_self}
+use Rattle.hw_endorse.specs.Told.{in_order, is_told, with_pair, has_majority, HaveMajority}
+use Rattle.hw_endorse.specs.Kept.{told_by, weight_in, is_heavy, is_listed, AreListed, IsKept}
+use Rattle.hw_endorse.proofs.KeyLaws.{order, tie, looked_up, listed_found}
+use Rattle.hw_endorse.proofs.PairLaws.{told-append, told_again, order_same, told_in_order}
 use Rattle.hw_endorse.proofs.WeightLaws.{weight_more, weight_most, weight_one, weight_none}
 
+-- ---- weights of units, and the list
+
+-- a unit weighs more than before, and each other what it did
+abbrev pub Weighs : List (Digest × ℕ) → List (Digest × ℕ) → Digest → ℕ → Type 0
+Weighs old new unit w = (d : Digest) → weight_in new d ≡ weight_in old d + (if digest_eq unit d then w else 0)
+
+-- what an entry that is written makes of the weights
+pub written : (old new : List (Digest × ℕ)) (unit : Digest) (was w : ℕ) → was ≡ weight_in old unit
+    → ((d : Digest) → lookup (λ e. is_eq (order d e)) new ≡ cond (is_eq (order unit d)) (Some (was + w)) (lookup (λ e. is_eq (order d e)) old)) → Weighs old new unit w
+written old new unit was w is puts d =
+    ap (λ o. unwrap_or o 0) (sym (looked_up new d) ∙ puts d ∙ ap (cond (is_eq (order unit d)) (Some (was + w))) (looked_up old d) ∙ ap (λ b. cond b (Some (was + w)) (lookup (digest_eq d) old)) (tie unit d))
+    ∙ go (digest_eq unit d) refl
+  where
+    go : (b : Bool) → digest_eq unit d ≡ b → unwrap_or (cond b (Some (was + w)) (lookup (digest_eq d) old)) 0 ≡ weight_in old d + (if b then w else 0)
+    go true same = ap (λ n. n + w) (is ∙ ap (weight_in old) (digest_same unit d same))
+    go false apart = omega arith
+
+-- an entry that is written as it was changes no weight
+pub written_same : (old new : List (Digest × ℕ)) (unit : Digest) (was : ℕ) → was ≡ weight_in old unit
+    → ((d : Digest) → lookup (λ e. is_eq (order d e)) new ≡ cond (is_eq (order unit d)) (Some was) (lookup (λ e. is_eq (order d e)) old)) → (d : Digest) → weight_in new d ≡ weight_in old d
+written_same old new unit was is puts d =
+    let zero_more : was ≡ was + 0 = omega arith in
+    let more = written old new unit was 0 is (λ e. puts e ∙ ap (λ n. cond (is_eq (order unit e)) (Some n) (lookup (λ k. is_eq (order e k)) old)) zero_more) d in
+    more ∙ nothing (digest_eq unit d)
+  where
+    nothing : (b : Bool) → weight_in old d + (if b then 0 else 0) ≡ weight_in old d
+    nothing true = omega arith
+    nothing false = omega arith
+
+-- the list stays where the weights do
+listed_same : (total : ℕ) (old new : List (Digest × ℕ)) (units : List Digest) → ((d : Digest) → weight_in new d ≡ weight_in old d) → AreListed total old units → AreListed total new units
+listed_same total old new units same listed d = listed d ∙ ap (λ n. nat_lt total (2 * n)) (sym (same d))
+
+-- the unit has become heavy, and is put in
+listed_more : (total : ℕ) (old new : List (Digest × ℕ)) (units longer : List Digest) (unit : Digest) (w : ℕ) → total < 2 * (weight_in old unit + w) → Weighs old new unit w → AreListed total old units
+    → ((d : Digest) → list_any (λ e. is_eq (order d e)) longer ≡ cond (is_eq (order unit d)) true (list_any (λ e. is_eq (order d e)) units)) → AreListed total new longer
+listed_more total old new units longer unit w heavy weighs listed puts d =
+    sym (listed_found longer d) ∙ puts d ∙ ap (cond (is_eq (order unit d)) true) (listed_found units d) ∙ ap (λ b. cond b true (is_listed units d)) (tie unit d)
+    ∙ go (digest_eq unit d) refl ∙ ap (λ n. nat_lt total (2 * n)) (sym (weighs d))
+  where
+    go : (b : Bool) → digest_eq unit d ≡ b → cond b true (is_listed units d) ≡ nat_lt total (2 * (weight_in old d + (if digest_eq unit d then w else 0)))
+    go true same = rw same (subst (λ x. true ≡ nat_lt total (2 * (weight_in old x + w))) (digest_same unit d same) (sym (lt-ltb total _ heavy)))
+    go false apart = rw apart (let zero_more : weight_in old d ≡ weight_in old d + 0 = omega arith in listed d ∙ ap (λ n. nat_lt total (2 * n)) zero_more)
+
+-- the unit is still not heavy
+listed_light : (total : ℕ) (old new : List (Digest × ℕ)) (units : List Digest) (unit : Digest) (w : ℕ) → 2 * (weight_in old unit + w) ≤ total → Weighs old new unit w → AreListed total old units → AreListed total new units
+listed_light total old new units unit w light weighs listed d = listed d ∙ go (digest_eq unit d) refl ∙ ap (λ n. nat_lt total (2 * n)) (sym (weighs d))
+  where
+    go : (b : Bool) → digest_eq unit d ≡ b → is_heavy total old d ≡ nat_lt total (2 * (weight_in old d + (if digest_eq unit d then w else 0)))
+    go true same = rw same (subst (λ x. nat_lt total (2 * weight_in old x) ≡ nat_lt total (2 * (weight_in old x + w))) (digest_same unit d same)
+        (let low : 2 * weight_in old unit ≤ total = omega arith in le-ltb total _ low ∙ sym (le-ltb total _ light)))
+    go false apart = rw apart (let zero_more : weight_in old d ≡ weight_in old d + 0 = omega arith in ap (λ n. nat_lt total (2 * n)) zero_more)
+
+-- the same, as an entry is written: nothing was added,
+pub listed_unwritten : (total : ℕ) (old new : List (Digest × ℕ)) (units again : List Digest) (unit : Digest) (was : ℕ) → AreListed total old units → again ≡ units → was ≡ weight_in old unit
+    → ((d : Digest) → lookup (λ e. is_eq (order d e)) new ≡ cond (is_eq (order unit d)) (Some was) (lookup (λ e. is_eq (order d e)) old)) → AreListed total new again
+listed_unwritten total old new units again unit was listed stays is puts = subst (AreListed total new) (sym stays) (listed_same total old new units (written_same old new unit was is puts) listed)
+
+-- so much that the unit is heavy,
+pub listed_heavy : (total : ℕ) (old new : List (Digest × ℕ)) (units longer again : List Digest) (unit : Digest) (was w : ℕ) → AreListed total old units → again ≡ longer → was ≡ weight_in old unit → total < 2 * (was + w)
+    → ((d : Digest) → list_any (λ e. is_eq (order d e)) longer ≡ cond (is_eq (order unit d)) true (list_any (λ e. is_eq (order d e)) units))
+    → ((d : Digest) → lookup (λ e. is_eq (order d e)) new ≡ cond (is_eq (order unit d)) (Some (was + w)) (lookup (λ e. is_eq (order d e)) old)) → AreListed total new again
+listed_heavy total old new units longer again unit was w listed becomes is heavy adds puts =
+    subst (AreListed total new) (sym becomes) (listed_more total old new units longer unit w (omega (arith, is, heavy)) (written old new unit was w is puts) listed adds)
+
+-- or so little that it isn't
+pub listed_not_heavy : (total : ℕ) (old new : List (Digest × ℕ)) (units again : List Digest) (unit : Digest) (was w : ℕ) → AreListed total old units → again ≡ units → was ≡ weight_in old unit → 2 * (was + w) ≤ total
+    → ((d : Digest) → lookup (λ e. is_eq (order d e)) new ≡ cond (is_eq (order unit d)) (Some (was + w)) (lookup (λ e. is_eq (order d e)) old)) → AreListed total new again
+listed_not_heavy total old new units again unit was w listed stays is light puts =
+    subst (AreListed total new) (sym stays) (listed_light total old new units unit w (omega (arith, is, light)) (written old new unit was w is puts) listed)
+
+-- what holds holds where there is an error
+pub on_err : {T E P : Type 0} (r : Result T E) → P → OnErr r P
+on_err (Ok x) p = tt
+on_err (Err e) p = p
+
+-- what a test that was turned says
+pub turned_false : (b : Bool) → not b ≡ false → b ≡ true
+turned_false true h = refl
+turned_false false h = absurd cc
+
+pub turned_true : (b : Bool) → not b ≡ true → b ≡ false
+turned_true true h = absurd cc
+turned_true false h = refl
+
+-- ---- what is kept
+
 -- nothing is kept at first
-pub kept_none : (config : Config) (total : ℕ) → config_fault config ≡ None → total ≡ sum config.weights → IsKept config.weights total []
+pub kept_none : (config : Config) (total : ℕ) → config_fault config ≡ None → total ≡ sum config.weights → IsKept config.weights total [] [] []
 kept_none config total lawful total_is =
     let limits = within_limits config lawful in
     record {
-      few = limits.few;
       total_is = total_is;
       total_fits = omega (arith, limits.total, total_is);
       weighed = λ d. sym (weight_none config.weights (range_with_len 0 (length config.weights)));
+      listed = λ d. sym (le-ltb total 0 (omega arith));
     }
 
--- the weight that is counted is that of the unit itself
-own_weight : (old : List (Digest × Tally)) (unit d : Digest) (e w : ℕ) (b : Bool) → digest_eq unit d ≡ b
-    → (if b && not (counts (tally_at old unit) e) then w else 0) ≡ (if b && not (counts (tally_at old d) e) then w else 0)
-own_weight old unit d e w true same = ap (λ (x : Digest). if not (counts (tally_at old x) e) then w else 0) (digest_same unit d same)
-own_weight old unit d e w false apart = refl
+-- one pair more, which is new
+abbrev pub HasOneMore : List (Digest × ℕ) → List (Digest × ℕ) → Digest → ℕ → Type 0
+HasOneMore old new unit e = (d : Digest) (v : ℕ) → is_told new d v ≡ is_told old d v || (digest_eq unit d && eqb e v)
 
--- what was kept, after one endorser was counted
-pub kept_counted : (weights : List ℕ) (total : ℕ) (old new : List (Digest × Tally)) (unit : Digest) (e : ℕ)
-    → IsKept weights total old → e < length weights → IsCounted old new unit e (slice_index weights e) → IsKept weights total new
-kept_counted weights total old new unit e kept within counted = record {
-  few = kept.few;
+-- what was kept, after a new pair was put in and its endorser's weight added
+pub kept_more : (weights : List ℕ) (total : ℕ) (pairs more tallies raised : List (Digest × ℕ)) (units longer : List Digest) (unit : Digest) (e : ℕ)
+    → IsKept weights total pairs tallies units → e < length weights → is_told pairs unit e ≡ false → HasOneMore pairs more unit e → Weighs tallies raised unit (slice_index weights e) → AreListed total raised longer
+    → IsKept weights total more raised longer
+kept_more weights total pairs more tallies raised units longer unit e kept within new puts weighs listed = record {
   total_is = kept.total_is;
   total_fits = kept.total_fits;
   weighed = λ d.
-      counted.weights d
-      ∙ ap (λ (n : ℕ). n + (if digest_eq unit d && not (counts (tally_at old unit) e) then slice_index weights e else 0)) (kept.weighed d)
-      ∙ ap (λ (n : ℕ). weight_of weights (counts (tally_at old d)) + n) (own_weight old unit d e (slice_index weights e) (digest_eq unit d) refl)
-      ∙ sym (weight_more weights (counts (tally_at old d)) (digest_eq unit d) e within)
-      ∙ sym (ap (weight_of weights) (λ i v. counted.endorsers d v i));
+      weighs d
+      ∙ ap (λ (n : ℕ). n + (if digest_eq unit d then slice_index weights e else 0)) (kept.weighed d)
+      ∙ ap (λ (n : ℕ). weight_of weights (is_told pairs d) + n) (own_weight d (digest_eq unit d) refl)
+      ∙ sym (weight_more weights (is_told pairs d) (digest_eq unit d) e within)
+      ∙ sym (ap (weight_of weights) (λ i v. puts d v i));
+  listed = listed;
+}
+  where
+    own_weight : (d : Digest) (b : Bool) → digest_eq unit d ≡ b → (if b then slice_index weights e else 0) ≡ (if b && not (is_told pairs d e) then slice_index weights e else 0)
+    own_weight d true same = ap (λ (b : Bool). if not b then slice_index weights e else 0) (sym new ∙ ap (λ (x : Digest). is_told pairs x e) (digest_same unit d same))
+    own_weight d false apart = refl
+
+-- what was kept, where pairs, weights and list are what they were
+pub kept_same : (weights : List ℕ) (total : ℕ) (pairs again tallies after : List (Digest × ℕ)) (units listed : List Digest)
+    → IsKept weights total pairs tallies units → ((d : Digest) (v : ℕ) → is_told again d v ≡ is_told pairs d v) → ((d : Digest) → weight_in after d ≡ weight_in tallies d) → AreListed total after listed
+    → IsKept weights total again after listed
+kept_same weights total pairs again tallies after units listed kept told same are = record {
+  total_is = kept.total_is;
+  total_fits = kept.total_fits;
+  weighed = λ d. same d ∙ kept.weighed d ∙ sym (ap (weight_of weights) (λ i v. told d v i));
+  listed = are;
 }
 
--- the weight that is counted fits
-pub counted_fits : (weights : List ℕ) (total : ℕ) (tallies : List (Digest × Tally)) (unit : Digest) (e : ℕ)
-    → IsKept weights total tallies → e < length weights → weight_in (tally_at tallies unit) + slice_index weights e < 2 ^ 64
-counted_fits weights total tallies unit e kept within =
-    omega (arith, kept.weighed unit, weight_most weights (counts (tally_at tallies unit)), weight_one weights e within, kept.total_is, kept.total_fits)
-
--- the pairs, after one endorser was counted
-pub told_counted : (weights : List ℕ) (old new : List (Digest × Tally)) (unit : Digest) (e w : ℕ) → IsCounted old new unit e w
-    → told_by weights new ≡ record (told_by weights old) { pairs = with_pair (told_by weights old).pairs unit e }
-told_counted weights old new unit e w counted =
-    let same : in_order (flat_map (λ x. pairs_at new x.0) new) ≡ with_pair (told_by weights old).pairs unit e =
-    order_same (flat_map (λ x. pairs_at new x.0) new) ((told_by weights old).pairs ++ (unit, e) ∷ []) (λ d v.
-    sym (told_in_order (flat_map (λ x. pairs_at new x.0) new) d v)
-    ∙ told_by_tallies new d v
-    ∙ counted.endorsers d v
-    ∙ ap (λ (b : Bool). b || (digest_eq unit d && (e == v))) (sym (told_by_tallies old d v))
-    ∙ sym (told-append (told_by weights old).pairs unit e d v)) in
-    λ i. record { weights = weights; pairs = same i }
-
--- whether the pair is there
-pub added_is : (weights : List ℕ) (tallies : List (Digest × Tally)) (unit : Digest) (e : ℕ)
-    → (if counts (tally_at tallies unit) e then Repeat else New) ≡ added_of (told_by weights tallies).pairs unit e
-added_is weights tallies unit e = ap (λ (b : Bool). if b then Repeat else New) (sym (told_by_tallies tallies unit e))
-
--- a pair that is a repeat changes nothing
-pub told_repeat : (weights : List ℕ) (tallies : List (Digest × Tally)) (unit : Digest) (e : ℕ) → added_of (told_by weights tallies).pairs unit e ≡ Repeat
-    → record (told_by weights tallies) { pairs = with_pair (told_by weights tallies).pairs unit e } ≡ told_by weights tallies
-told_repeat weights tallies unit e repeat =
-    let same = told_again (flat_map (λ x. pairs_at tallies x.0) tallies) unit e (was (is_told (told_by weights tallies).pairs unit e) repeat) in
-    λ i. record { weights = weights; pairs = same i }
+-- the pair was put in and taken out
+pub told_back : (old more back : List (Digest × ℕ)) (unit : Digest) (e : ℕ) → is_told old unit e ≡ false → HasOneMore old more unit e
+    → ((d : Digest) (v : ℕ) → is_told back d v ≡ is_told more d v && not (digest_eq unit d && eqb e v)) → (d : Digest) (v : ℕ) → is_told back d v ≡ is_told old d v
+told_back old more back unit e new puts takes d v =
+    takes d v ∙ ap (λ b. b && not (digest_eq unit d && eqb e v)) (puts d v) ∙ go (digest_eq unit d) (eqb e v) refl refl
   where
-    was : (b : Bool) → (if b then Repeat else New) ≡ Repeat → b ≡ true
-    was true h = refl
-    was false h = absurd cc
+    plain : (b : Bool) → (b || false) && true ≡ b
+    plain true = refl
+    plain false = refl
+
+    gone : (b : Bool) → (b || true) && false ≡ false
+    gone true = refl
+    gone false = refl
+
+    go : (a b : Bool) → digest_eq unit d ≡ a → eqb e v ≡ b → (is_told old d v || (a && b)) && not (a && b) ≡ is_told old d v
+    go true true same number = gone (is_told old d v) ∙ sym (subst (λ w. is_told old d w ≡ false) (eqb-true e v number) (subst (λ x. is_told old x e ≡ false) (digest_same unit d same) new))
+    go true false same number = plain (is_told old d v)
+    go false b same number = plain (is_told old d v)
+
+-- the weight that is added fits
+pub added_fits : (weights : List ℕ) (total : ℕ) (pairs tallies : List (Digest × ℕ)) (units : List Digest) (unit : Digest) (e : ℕ)
+    → IsKept weights total pairs tallies units → e < length weights → weight_in tallies unit + slice_index weights e < 2 ^ 63
+added_fits weights total pairs tallies units unit e kept within =
+    omega (arith, kept.weighed unit, weight_most weights (is_told pairs unit), weight_one weights e within, kept.total_is, kept.total_fits)
+
+-- ---- what the pairs stand for
+
+-- one pair more
+pub told_one_more : (weights : List ℕ) (old new : List (Digest × ℕ)) (unit : Digest) (e : ℕ) → HasOneMore old new unit e
+    → told_by weights new ≡ record (told_by weights old) { pairs = with_pair (told_by weights old).pairs unit e }
+told_one_more weights old new unit e puts =
+    let same : in_order new ≡ with_pair (in_order old) unit e =
+    order_same new (in_order old ++ (unit, e) ∷ []) (λ d v.
+    puts d v
+    ∙ ap (λ (b : Bool). b || (digest_eq unit d && eqb e v)) (sym (told_in_order old d v))
+    ∙ sym (told-append (in_order old) unit e d v)) in
+    λ i. record { weights = weights; pairs = same i }
+
+-- the same pairs
+pub told_same : (weights : List ℕ) (old new : List (Digest × ℕ)) → ((d : Digest) (v : ℕ) → is_told new d v ≡ is_told old d v) → told_by weights new ≡ told_by weights old
+told_same weights old new told = let same = order_same new old told in λ i. record { weights = weights; pairs = same i }
+
+-- a pair that is there changes nothing
+pub told_repeat : (weights : List ℕ) (pairs : List (Digest × ℕ)) (unit : Digest) (e : ℕ) → is_told pairs unit e ≡ true
+    → record (told_by weights pairs) { pairs = with_pair (told_by weights pairs).pairs unit e } ≡ told_by weights pairs
+told_repeat weights pairs unit e there =
+    let same = told_again pairs unit e (told_in_order pairs unit e ∙ there) in
+    λ i. record { weights = weights; pairs = same i }
 
 -- whether the kept weight is a majority
-pub majority_is : (weights : List ℕ) (total : ℕ) (tallies : List (Digest × Tally)) (d : Digest) → IsKept weights total tallies
-    → nat_lt total (2 * weight_in (tally_at tallies d)) ≡ has_majority (told_by weights tallies) d
-majority_is weights total tallies d kept =
-    let weighed = kept.weighed d ∙ ap (weight_of weights) (λ i v. sym (told_by_tallies tallies d v) i) in
+pub majority_is : (weights : List ℕ) (total : ℕ) (pairs tallies : List (Digest × ℕ)) (units : List Digest) (d : Digest) → IsKept weights total pairs tallies units
+    → is_heavy total tallies d ≡ has_majority (told_by weights pairs) d
+majority_is weights total pairs tallies units d kept =
+    let weighed = kept.weighed d ∙ ap (weight_of weights) (λ i v. sym (told_in_order pairs d v) i) in
     λ i. nat_lt (kept.total_is i) (2 * weighed i)
 
 -- twice the kept weight fits
-pub weight_fits : (weights : List ℕ) (total : ℕ) (tallies : List (Digest × Tally)) (d : Digest) → IsKept weights total tallies → weight_in (tally_at tallies d) < 2 ^ 62
-weight_fits weights total tallies d kept =
-    omega (arith, kept.weighed d, weight_most weights (counts (tally_at tallies d)), kept.total_is, kept.total_fits)
+pub weight_fits : (weights : List ℕ) (total : ℕ) (pairs tallies : List (Digest × ℕ)) (units : List Digest) (d : Digest) → IsKept weights total pairs tallies units → weight_in tallies d < 2 ^ 62
+weight_fits weights total pairs tallies units d kept =
+    omega (arith, kept.weighed d, weight_most weights (is_told pairs d), kept.total_is, kept.total_fits)
 
--- without endorsers there is no majority
-pub none_exceeds : (total : ℕ) → nat_lt total (2 * 0) ≡ false
-none_exceeds total = grind (arith, nat_tests)
+-- the listed units have a majority
+pub listed_majority : (weights : List ℕ) (total : ℕ) (pairs tallies : List (Digest × ℕ)) (units : List Digest) → IsKept weights total pairs tallies units → HaveMajority (told_by weights pairs) units
+listed_majority weights total pairs tallies units kept = record {
+  right = λ d m. sym (majority_is weights total pairs tallies units d kept) ∙ sym (kept.listed d) ∙ any_of (digest_eq d) d units m (digest_self d);
+  all = λ d h.
+      let found = some_of (digest_eq d) units (kept.listed d ∙ majority_is weights total pairs tallies units d kept ∙ h) in
+      subst (λ x. Among x units) (sym (digest_same d found.0 found.2)) found.1;
+}
 
-pub empty_of : (tallies : List (Digest × Tally)) → length tallies ≡ 0 → tallies ≡ []
-empty_of [] none = refl
-empty_of (t ∷ ts) none = absurd (omega arith)
+-- keys that ascend are digests that rise
+rise_after : (d : Digest) (units : List Digest) → IsStrictlySortedBy order (d ∷ units) → is_rising_after d units ≡ true
+unfolding IsStrictlySortedBy
+rise_after d [] sorted = refl
+rise_after d (e ∷ units) sorted = both (is_lt (order d e)) (is_rising_after e units) (ap is_lt sorted.0.0) (rise_after e units sorted.1)
+  where
+    both : (a b : Bool) → a ≡ true → b ≡ true → a && b ≡ true
+    both true true p q = refl
+    both true false p q = q
+    both false b p q = p
+
+pub keys_rise : (units : List Digest) → IsStrictlySortedBy order units → is_rising units ≡ true
+keys_rise [] sorted = refl
+keys_rise (d ∷ units) sorted = rise_after d units sorted

@@ -1,6 +1,4 @@
-pub mod EndorserLaws
-pub mod CountLaws
-pub mod PairLaws
 pub mod WeightLaws
+pub mod PairLaws
+pub mod KeyLaws
 pub mod KeptLaws
-pub mod HeavyLaws

@@ -5,7 +5,10 @@ use Rattle.std.proofs.lemmas.Bool.{cases_eq, ne_eqb}
 use Rattle.std.proofs.lemmas.List.Sums.{sum_by-cons, get_or-le-sum_by}
 use Rattle.hw_types.specs.Votes.{weight_of}
 use Rattle.hw_types.proofs.SummitLaws.{weight_le}
-use Rattle.hw_endorse.proofs.EndorserLaws.{or_false}
+
+pub or_false : (b : Bool) → b || false ≡ b
+or_false true = refl
+or_false false = refl
 
 sum_from : (xs : List ℕ) (a : ℕ) (g : ℕ → ℕ) → ((i : ℕ) → g (a + i) ≡ get_or xs i 0) → sum_by g (range_with_len a (length xs)) ≡ sum_by (λ x. x) xs
 sum_from [] a g same = refl

@@ -1,55 +1,36 @@
--- What is kept for each unit, and the pairs that it stands for.
-use Rattle.std.specs.Prelude.{◌≡◌, ℕ, ◌+◌, ◌*◌, ◌^◌, ◌<◌, ◌≤◌, Bool, true, false, ◌&&◌, ◌||◌, not, nat_lt, ◌==◌, List, map, filter, length, sum, Option, Some, None, if◌then◌else◌}
-use Rattle.std.specs.List.{range_with_len, flat_map}
+-- What is kept: what the endorsers of each unit weigh, and the units for which that is enough.
+use Rattle.std.specs.Prelude.{◌≡◌, ℕ, ◌*◌, ◌^◌, ◌<◌, Bool, nat_lt, List, sum}
+use Rattle.std.specs.List.{list_any}
 use Rattle.std.specs.Map.{lookup}
+use Rattle.std.specs.Option.{unwrap_or}
 use Rattle.hw_types.specs.declared.unit.Digest.{Digest}
 use Rattle.hw_types.specs.Graph.{digest_eq}
-use Rattle.hw_types.specs.Below.{Among}
 use Rattle.hw_types.specs.Votes.{weight_of}
-use Rattle.hw_endorse.specs.declared.tally.Tally.{Tally}
-use Rattle.hw_endorse.specs.Endorsers.{has_endorser}
-use Rattle.hw_endorse.specs.Told.{Told, in_order}
+use Rattle.hw_endorse.specs.Told.{Told, in_order, is_told}
 
--- the tally of a unit
-abbrev pub tally_at : List (Digest × Tally) → Digest → Option Tally
-tally_at tallies d = lookup (digest_eq d) tallies
+-- what the pairs stand for
+abbrev pub told_by : List ℕ → List (Digest × ℕ) → Told
+told_by weights pairs = record { weights = weights; pairs = in_order pairs }
 
--- a validator is among the endorsers
-abbrev pub counts : Option Tally → ℕ → Bool
-counts None v = false
-counts (Some tally) v = nat_lt v 256 && has_endorser tally.endorsers v
+-- the weight of a unit's endorsers
+abbrev pub weight_in : List (Digest × ℕ) → Digest → ℕ
+weight_in tallies d = unwrap_or (lookup (digest_eq d) tallies) 0
 
--- the weight of the endorsers
-abbrev pub weight_in : Option Tally → ℕ
-weight_in None = 0
-weight_in (Some tally) = tally.weight
+-- the endorsers of a unit weigh more than half of the total
+abbrev pub is_heavy : ℕ → List (Digest × ℕ) → Digest → Bool
+is_heavy total tallies d = nat_lt total (2 * weight_in tallies d)
 
--- the pairs of a unit and its endorsers
-abbrev pub pairs_at : List (Digest × Tally) → Digest → List (Digest × ℕ)
-pairs_at tallies d = map (λ v. (d, v)) (filter (counts (tally_at tallies d)) (range_with_len 0 256))
+-- the unit is listed
+abbrev pub is_listed : List Digest → Digest → Bool
+is_listed units d = list_any (digest_eq d) units
 
--- what the tallies stand for
-abbrev pub told_by : List ℕ → List (Digest × Tally) → Told
-told_by weights tallies = record { weights = weights; pairs = in_order (flat_map (λ e. pairs_at tallies e.0) tallies) }
+-- exactly the units are listed whose endorsers weigh more than half of the total
+abbrev pub AreListed : ℕ → List (Digest × ℕ) → List Digest → Type 0
+AreListed total tallies units = (d : Digest) → is_listed units d ≡ is_heavy total tallies d
 
--- the tallies are those of these weights
-pub record IsKept (weights : List ℕ) (total : ℕ) (tallies : List (Digest × Tally)) : Type 0 where
-  pub few : length weights ≤ 256
+-- the weights of units are those of the pairs, and the list is that of these weights
+pub record IsKept (weights : List ℕ) (total : ℕ) (pairs tallies : List (Digest × ℕ)) (endorsed : List Digest) : Type 0 where
   pub total_is : total ≡ sum weights
   pub total_fits : total < 2 ^ 62
-  pub weighed : (d : Digest) → weight_in (tally_at tallies d) ≡ weight_of weights (counts (tally_at tallies d))
-
--- one endorser more of a unit, with its weight, unless it was there
-pub record IsCounted (old new : List (Digest × Tally)) (unit : Digest) (endorser weight : ℕ) : Type 0 where
-  pub endorsers : (d : Digest) (v : ℕ) → counts (tally_at new d) v ≡ counts (tally_at old d) v || (digest_eq unit d && (endorser == v))
-  pub weights : (d : Digest) → weight_in (tally_at new d)
-      ≡ weight_in (tally_at old d) + (if digest_eq unit d && not (counts (tally_at old unit) endorser) then weight else 0)
-
--- the endorsers of the unit weigh more than half of the total
-abbrev pub is_heavy : ℕ → List (Digest × Tally) → Digest → Bool
-is_heavy total tallies d = nat_lt total (2 * weight_in (tally_at tallies d))
-
--- the units among the looked at tallies whose endorsers weigh more than half of the total
-pub record AreHeavy (total : ℕ) (tallies looked : List (Digest × Tally)) (units : List Digest) : Type 0 where
-  pub right : (d : Digest) → Among d units → is_heavy total tallies d ≡ true
-  pub all : (e : Digest × Tally) → Among e looked → is_heavy total tallies e.0 ≡ true → Among e.0 units
+  pub weighed : (d : Digest) → weight_in tallies d ≡ weight_of weights (is_told pairs d)
+  pub listed : AreListed total tallies endorsed

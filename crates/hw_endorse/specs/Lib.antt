@@ -1,4 +1,3 @@
-pub mod Endorsers
 pub mod Told
 pub mod Kept
 pub mod Laws

@@ -1,26 +1,34 @@
 //! Endorsements: which validators stand for which units, and which units have more than half of the
 //! weight behind them.
 //!
-//! For each unit's digest a running weight is kept, and a binary digit for each endorser. So asking
-//! whether a unit is endorsed takes one look-up, and so does adding an endorsement.
+//! The pairs of a unit's digest and an endorser stand in an ordered set, what a unit's endorsers weigh in an
+//! ordered map, and the units with more than half of the weight in an ordered set of their own. Peers choose
+//! the digests, so nothing here costs more for one digest than for another. An endorsement takes memory for
+//! itself alone, whatever the number of validators.
 //!
 //! Contracts see the weights, and the pairs of a unit's digest and an endorser that were told, each once
 //! and in one order whatever the order in which they came.
 #![tactic(auto)]
 
-ghost use Rattle.std.specs.Prelude.{◌≡◌, ◌<◌, [], length, None, IfOk, OnOk, OnErr};
+ghost use Rattle.std.specs.Prelude.{◌≡◌, ◌<◌, [], true, length, None, IfOk, OnOk, OnErr};
+ghost use Rattle.std.specs.Map.Iter.{ShowsInOrder, deref};
+ghost use Rattle.hw_types.specs.declared.unit.Digest.{Digest as Named};
 ghost use Rattle.hw_types.specs.Limits.{config_fault};
+ghost use Rattle.hw_types.specs.Rules.{is_rising};
 ghost use Rattle.hw_endorse.specs.Told.{added_of, is_told, with_pair, has_majority, HaveMajority};
 
 mod laws;
 mod tally;
 
-use hw_types::{Config, Digest, DigestList, OutOfMemory, WeightList};
-use indexmap::IndexMap;
+use hw_types::{Config, Digest, OutOfMemory, WeightList};
 pub use laws::{majority_is_endorsed, told_in_turn};
 use std::alloc::Global;
+use std::collections::{BTreeMap, BTreeSet, btree_set};
 use std::marker::Model;
-use tally::{Tally, count, heavy_units, total_weight};
+use tally::{Pairs, Tallies, has, put, take_back, weigh, weight};
+
+/// Digests of units, which rise by their bytes.
+pub type EndorsedUnits<'a> = btree_set::Iter<'a, Digest>;
 
 /// What became of an endorsement.
 #[derive(Clone, Copy, Debug, PartialEq, Eq)]
@@ -36,7 +44,9 @@ pub enum Added {
 pub struct Endorsements {
     weights: WeightList,
     total: u64,
-    tallies: IndexMap<Digest, Tally>,
+    pairs: Pairs,
+    tallies: Tallies,
+    endorsed: BTreeSet<Digest>,
 }
 
 impl Model for Endorsements {
@@ -46,9 +56,9 @@ impl Model for Endorsements {
 
     ghost use Rattle.hw_endorse.specs.Kept.{told_by, IsKept};
 
-    ghost view = { λ e. told_by e.weights e.tallies.entries };
+    ghost view = { λ e. told_by e.weights e.pairs.keys };
 
-    ghost invariant = { λ e. IsKept e.weights e.total e.tallies.entries };
+    ghost invariant = { λ e. IsKept e.weights e.total e.pairs.keys e.tallies.entries e.endorsed.keys };
 }
 
 impl Endorsements {
@@ -59,8 +69,10 @@ impl Endorsements {
     {
         Ok(Endorsements {
             weights: config.weights.copy()?,
-            total: total_weight(config.weights.as_slice()),
-            tallies: IndexMap::new(alloc),
+            total: config.total(),
+            pairs: BTreeSet::new(alloc),
+            tallies: BTreeMap::new(alloc),
+            endorsed: BTreeSet::new(alloc),
         })
     }
 
@@ -74,8 +86,22 @@ impl Endorsements {
         ensures err { OnErr result (self.new ≡ self.old) }
     {
         let weight = self.weights.as_slice()[endorser as usize];
-        let added = count(&mut self.tallies, unit, endorser, weight)?;
-        Ok(added)
+        if !put(&mut self.pairs, unit, endorser)? {
+            return Ok(Added::Repeat);
+        }
+        match weigh(
+            &mut self.tallies,
+            &mut self.endorsed,
+            self.total,
+            unit,
+            weight,
+        ) {
+            Ok(()) => Ok(Added::New),
+            Err(error) => {
+                take_back(&mut self.pairs, unit, endorser);
+                Err(error)
+            }
+        }
     }
 
     /// Whether the validator's endorsement of the unit of this digest is known.
@@ -83,10 +109,7 @@ impl Endorsements {
         requires { endorser < length self.now.weights }
         ensures { result ≡ is_told self.now.pairs unit.now endorser }
     {
-        match self.tallies.get(unit) {
-            None => false,
-            Some(tally) => tally.has(endorser),
-        }
+        has(&self.pairs, unit, endorser)
     }
 
     /// Whether more than half of the total weight endorses the unit of this digest: twice the weight of
@@ -94,20 +117,16 @@ impl Endorsements {
     pub fn endorsed(&self, unit: &Digest) -> bool
         ensures { result ≡ has_majority self.now unit.now }
     {
-        match self.tallies.get(unit) {
-            None => false,
-            Some(tally) => 2 * tally.weight() > self.total,
-        }
+        2 * weight(&self.tallies, unit) > self.total
     }
 
-    /// The units that more than half of the total weight endorses, in the order in which they were first
-    /// endorsed.
-    pub fn endorsed_units(&self, alloc: Global) -> Result<DigestList, OutOfMemory>
-        ensures { IfOk result (HaveMajority self.now) }
+    /// The units that more than half of the total weight endorses, each once, rising by their digests. It
+    /// takes no memory.
+    pub fn endorsed_units(&self) -> EndorsedUnits<'_>
+        ensures majority { HaveMajority self.now result }
+        ensures rising { is_rising result ≡ true }
+        ensures runs { ShowsInOrder (deref {X = Named}) }
     {
-        heavy_units(alloc, &self.tallies, self.total)
+        self.endorsed.iter()
     }
 }
-
-#[cfg(test)]
-mod tests;

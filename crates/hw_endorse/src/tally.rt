@@ -1,110 +1,73 @@
-//! What is kept for each unit.
+//! What the endorsers of each unit weigh, and which pairs of a unit and an endorser are known.
 
-ghost use Rattle.std.specs.Prelude.{◌≡◌, ℕ, ◌+◌, ◌^◌, ◌<◌, ◌||◌, ◌==◌, false, sum, Some, IfOk, OnOk, OnErr, if◌then◌else◌};
-ghost use Rattle.indexmap.specs.IndexMap.{IsUnchanged};
-ghost use Rattle.hw_endorse.specs.Endorsers.{has_endorser};
-ghost use Rattle.hw_endorse.specs.Kept.{tally_at, counts, weight_in, IsCounted, AreHeavy};
+ghost use Rattle.std.specs.Prelude.{◌≡◌, ℕ, ◌+◌, ◌^◌, ◌<◌, ◌&&◌, ◌||◌, ◌==◌, not, IfOk, OnOk, OnErr, if◌then◌else◌};
+ghost use Rattle.hw_types.specs.Graph.{digest_eq};
 ghost use Rattle.hw_types.specs.declared.unit.Digest.{Digest as Named};
+ghost use Rattle.hw_endorse.specs.Told.{is_told};
+ghost use Rattle.hw_endorse.specs.Kept.{weight_in, AreListed};
 
-use crate::Added;
-use hw_types::{Digest, DigestList, OutOfMemory};
-use indexmap::IndexMap;
-use std::alloc::Global;
+use hw_types::{Digest, OutOfMemory};
+use std::collections::{BTreeMap, BTreeSet};
 
-/// The endorsers of a unit, and what they weigh together.
-#[derive(Clone, Copy)]
-pub struct Tally {
-    weight: u64,
-    endorsers: [u64; 4],
+/// The units' digests, each with an endorser of it.
+pub type Pairs = BTreeSet<(Digest, u32)>;
+
+/// What the endorsers of each unit weigh together.
+pub type Tallies = BTreeMap<Digest, u64>;
+
+/// Puts a pair in, and answers whether it is new.
+pub fn put(pairs: &mut Pairs, unit: &Digest, endorser: u32) -> Result<bool, OutOfMemory>
+    ensures new { IfOk result (λ new. new ≡ not (is_told pairs.old.keys unit.now endorser)) }
+    ensures told { OnOk result ((d : Named) (v : ℕ) → is_told pairs.new.keys d v ≡ is_told pairs.old.keys d v || (digest_eq unit.now d && (endorser == v))) }
+    ensures err { OnErr result (pairs.new.keys ≡ pairs.old.keys) }
+{
+    Ok(pairs.insert((*unit, endorser))?)
 }
 
-/// The tallies by the units' digests.
-pub type Tallies = IndexMap<Digest, Tally>;
+/// Takes a pair out.
+pub fn take_back(pairs: &mut Pairs, unit: &Digest, endorser: u32)
+    ensures { (d : Named) (v : ℕ) → is_told pairs.new.keys d v ≡ is_told pairs.old.keys d v && not (digest_eq unit.now d && (endorser == v)) }
+{
+    pairs.remove(&(*unit, endorser));
+}
 
-impl Tally {
-    /// Nobody so far.
-    pub fn none() -> Tally
-        ensures weight { result.weight ≡ 0 }
-        ensures endorsers { (v : ℕ) → v < 256 → has_endorser result.endorsers v ≡ false }
-    {
-        Tally {
-            weight: 0,
-            endorsers: [0; 4],
-        }
-    }
+/// Whether a pair is there.
+pub fn has(pairs: &Pairs, unit: &Digest, endorser: u32) -> bool
+    ensures { result ≡ is_told pairs.now.keys unit.now endorser }
+{
+    pairs.contains(&(*unit, endorser))
+}
 
-    /// What the endorsers weigh.
-    pub fn weight(&self) -> u64
-        ensures { result ≡ self.now.weight }
-    {
-        self.weight
-    }
-
-    /// Whether the validator is among the endorsers.
-    pub fn has(&self, endorser: u32) -> bool
-        requires { endorser < 256 }
-        ensures { result ≡ has_endorser self.now.endorsers endorser }
-    {
-        self.endorsers[(endorser / 64) as usize] >> (endorser % 64) & 1 == 1
-    }
-
-    /// The tally with one endorser more, of this weight.
-    pub fn with(self, endorser: u32, weight: u64) -> Tally
-        requires endorser { endorser < 256 }
-        requires fits { self.weight + weight < 2 ^ 64 }
-        ensures weight { result.weight ≡ self.weight + weight }
-        ensures endorsers { (v : ℕ) → v < 256 → has_endorser result.endorsers v ≡ has_endorser self.endorsers v || (endorser == v) }
-    {
-        let mut endorsers = self.endorsers;
-        endorsers[(endorser / 64) as usize] |= 1 << (endorser % 64);
-        Tally {
-            weight: self.weight + weight,
-            endorsers,
-        }
+/// What the endorsers of a unit weigh.
+pub fn weight(tallies: &Tallies, unit: &Digest) -> u64
+    ensures { result ≡ weight_in tallies.now.entries unit.now }
+{
+    match tallies.get(unit) {
+        None => 0,
+        Some(weight) => *weight,
     }
 }
 
-/// Counts an endorser of this weight for a unit.
-pub fn count(
+/// Adds an endorser's weight to that of a unit, and lists the unit where this is now more than half of the
+/// total. Where there is no memory, all units weigh what they did.
+pub fn weigh(
     tallies: &mut Tallies,
+    endorsed: &mut BTreeSet<Digest>,
+    total: u64,
     unit: &Digest,
-    endorser: u32,
     weight: u64,
-) -> Result<Added, OutOfMemory>
-    requires endorser { endorser < 256 }
-    requires fits { weight_in (tally_at tallies.old.entries unit.now) + weight < 2 ^ 64 }
-    ensures answer { IfOk result (λ added. added ≡ (if counts (tally_at tallies.old.entries unit.now) endorser then Added.Repeat else Added.New)) }
-    ensures counted { OnOk result (IsCounted tallies.old.entries tallies.new.entries unit.now endorser weight) }
-    ensures err { OnErr result (tallies.new.entries ≡ tallies.old.entries) }
+) -> Result<(), OutOfMemory>
+    requires fits { weight_in tallies.old.entries unit.now + weight < 2 ^ 63 }
+    requires listed { AreListed total tallies.old.entries endorsed.old.keys }
+    ensures weighed { OnOk result ((d : Named) → weight_in tallies.new.entries d ≡ weight_in tallies.old.entries d + (if digest_eq unit.now d then weight else 0)) }
+    ensures listed { AreListed total tallies.new.entries endorsed.new.keys }
+    ensures err { OnErr result ((d : Named) → weight_in tallies.new.entries d ≡ weight_in tallies.old.entries d) }
 {
-    let tally = tallies.entry(*unit)?.or_insert(Tally::none());
-    if tally.has(endorser) {
-        return Ok(Added::Repeat);
+    let tally = tallies.entry(*unit)?.or_insert(0);
+    let sum = *tally + weight;
+    if 2 * sum > total {
+        endorsed.insert(*unit)?;
     }
-    *tally = tally.with(endorser, weight);
-    Ok(Added::New)
-}
-
-/// The units whose endorsers weigh more than half of the total, in the order of the tallies.
-pub fn heavy_units(alloc: Global, tallies: &Tallies, total: u64) -> Result<DigestList, OutOfMemory>
-    requires { (d : Named) → weight_in (tally_at tallies.now.entries d) < 2 ^ 63 }
-    ensures { IfOk result (AreHeavy total tallies.now.entries tallies.now.entries) }
-{
-    let mut units = DigestList::new(alloc);
-    for index in 0..tallies.len() {
-        if let Some((unit, tally)) = tallies.get_index(index) {
-            if 2 * tally.weight() > total {
-                units.push(*unit)?;
-            }
-        }
-    }
-    Ok(units)
-}
-
-/// The sum of all weights.
-pub fn total_weight(weights: &[u64]) -> u64
-    requires { sum weights.now < 2 ^ 64 }
-    ensures { result ≡ sum weights.now }
-{
-    weights.iter().sum()
+    *tally = sum;
+    Ok(())
 }

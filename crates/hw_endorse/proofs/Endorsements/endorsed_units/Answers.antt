@@ -1,13 +1,17 @@
-use Rattle.std.proofs.Common.{subst, arith}
-use Rattle.std.proofs.lemmas.Result.{IfOk-weaker}
+use Rattle.std.proofs.Common.{List, sym, subst}
+use Rattle.hw_types.specs.declared.unit.Digest.{Digest}
 use Rattle.hw_endorse.specs.Told.{Told, HaveMajority}
-use Rattle.hw_endorse.proofs.KeptLaws.{weight_fits}
-use Rattle.hw_endorse.proofs.HeavyLaws.{heavy_majority}
+use Rattle.std.specs.List.Sorted.{IsStrictlySortedBy}
+use Rattle.hw_endorse.specs.Kept.{told_by}
+use Rattle.hw_endorse.proofs.KeyLaws.{order}
+use Rattle.hw_endorse.proofs.KeptLaws.{listed_majority, keys_rise}
 use Rattle.hw_endorse.proofs.Endorsements.endorsed_units.Goals as goal
 
-pub heavy_units-requires : goal.heavy_units-requires
-heavy_units-requires c = λ d. let fits = weight_fits c.self.inside.weights c.self.inside.total c.self.inside.tallies.entries d c.self.invariant in omega arith
+pub returns-clause-majority : goal.returns-clause-majority
+returns-clause-majority c =
+    subst (λ (t : Told). HaveMajority t c.iter.result) c.self.view_is
+    (subst (λ (units : List Digest). HaveMajority (told_by c.self.inside.weights c.self.inside.pairs.keys) units) (sym c.iter.ensures.rest)
+    (listed_majority c.self.inside.weights c.self.inside.total c.self.inside.pairs.keys c.self.inside.tallies.entries c.self.inside.endorsed.keys c.self.invariant))
 
-pub returns : goal.returns
-returns c = IfOk-weaker c.heavy_units.result _ (HaveMajority c.args.self.now) (λ units h.
-    subst (λ (t : Told). HaveMajority t units) c.self.view_is (heavy_majority c.self.inside.weights c.self.inside.total c.self.inside.tallies.entries units c.self.invariant h)) c.heavy_units.ensures
+pub returns-clause-rising : goal.returns-clause-rising
+returns-clause-rising c = keys_rise c.iter.result (subst (IsStrictlySortedBy order) (sym c.iter.ensures.rest) c.iter.ensures.ordered)
