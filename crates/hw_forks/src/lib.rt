@@ -20,5 +20,6 @@ mod start;
 mod tallies;
 mod votes;
 
+pub use ancestors::ancestor_at;
 pub use choice::Forks;
 pub use laws::tally_is_score;

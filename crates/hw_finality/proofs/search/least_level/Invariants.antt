@@ -1,0 +1,12 @@
+use Rattle.std.proofs.Common.{◌≡◌}
+use Rattle.hw_horizon.specs.Kept.{AreKept}
+use Rattle.hw_finality.proofs.LevelLaws.{NoneUpTo}
+use Rattle.hw_finality.proofs.search.least_level.Given as goal
+
+abbrev pub invariant-loop-below : goal.invariant-loop-below
+invariant-loop-below l = record {
+  none : NoneUpTo l.config l.dag l.panorama l.block.0 l.below;
+  walks : AreKept l.dag l.horizons.walks;
+  validators : l.horizons.validators ≡ l.fn.horizons.validators;
+  levels : l.horizons.levels ≡ l.fn.horizons.levels;
+}
