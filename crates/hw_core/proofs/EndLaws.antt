@@ -1,5 +1,5 @@
 -- Where settling ends.
-use Rattle.std.proofs.Common.{◌≡◌, ◌≢◌, inl, inr, ℕ, suc, Bool, true, false, not, List, [], ◌∷◌, ◌++◌, length, Option, Some, None, refl, sym, ap, subst, ◌∙◌, arith, All, eqb-true}
+use Rattle.std.proofs.Common.{◌≡◌, ◌≢◌, inl, inr, ℕ, suc, Bool, true, false, not, List, [], ◌∷◌, ◌++◌, length, Option, Some, None, refl, sym, ap, subst, ◌∙◌, arith, All, eqb-true, eq-eqb}
 use Rattle.std.specs.Prelude.{◌&&◌, ◌||◌, ◌==◌, is_none}
 use Rattle.hw_types.specs.declared.unit.Digest.{Digest}
 use Rattle.hw_types.specs.declared.unit.Need.{Need}
@@ -9,9 +9,9 @@ use Rattle.hw_types.specs.declared.answers.Rule.{Rule}
 use Rattle.hw_types.specs.declared.config.Config.{Config}
 use Rattle.hw_types.specs.Graph.{Node, digest_eq}
 use Rattle.hw_types.specs.Below.{Among}
-use Rattle.hw_types.specs.ByName.{by_name}
+use Rattle.hw_types.specs.ByName.{by_name, IsRising}
 use Rattle.hw_types.specs.Rules.{state_rule}
-use Rattle.hw_types.specs.Settled.{Received, equivocates, is_endorsed, is_need_met, needs_of, missing_of, settles, settled_of, parked_of}
+use Rattle.hw_types.specs.Settled.{Received, equivocates, is_endorsed, is_need_met, needs_of, missing_of, settles, settled_of, parked_of, dropped_of}
 use Rattle.hw_types.specs.laws.StateLaws.{Admits, LeadsToSettled, NamesApart, units_in, candidates}
 use Rattle.hw_types.specs.Journal.{Setting, received_of, answer, is_accepted}
 use Rattle.hw_types.proofs.ClosureLaws.{Within}
@@ -24,13 +24,14 @@ use Rattle.hw_types.proofs.GraphLaws.{rising_one_name}
 use Rattle.hw_types.proofs.SettledLaws.{digest_self}
 use Rattle.hw_types.proofs.LawfulLaws.{settled_admits}
 use Rattle.hw_types.proofs.OrderLaws.{Accepted, accepted}
-use Rattle.hw_types.proofs.StepLaws.{parked_has, parked_is, new_known, accepted_step, accepted_leads}
+use Rattle.hw_types.proofs.StepLaws.{parked_has, parked_is, dropped_has, is_split, new_known, accepted_step, accepted_leads}
+use Rattle.hw_types.proofs.GrowsLaws.{received_grows}
 use Rattle.hw_dag.specs.Admission.{PreparedUnit, node_prepared}
 use Rattle.hw_admit.specs.State.{NodeState, is_marked}
 use Rattle.hw_admit.proofs.FaultyLaws.{faulty_same}
 use Rattle.hw_park.specs.Parked.{Waiting}
-use Rattle.hw_core.specs.Settle.{known_in, admitted_in, waiting_nodes, CanSettle, IsDropped, HasSettled}
-use Rattle.hw_core.specs.Keeps.{KnowsOf, IsOf, HasTaken}
+use Rattle.hw_core.specs.Settle.{known_in, admitted_in, waiting_nodes, CanSettle, IsDropped, HasSettled, HasNoted, rule_in}
+use Rattle.hw_core.specs.Keeps.{KnowsOf, IsOf, HasTaken, AreRules}
 use Rattle.hw_core.proofs.SettleLaws.{graph_is}
 
 pub all_at : {A : Type 0} (P : A → Type 0) (xs : List A) → All P xs → (x : A) → Among x xs → P x
@@ -185,6 +186,37 @@ module _ (s : Setting) (journal : List Vertex) (v : Vertex) (verdict : Bool) (st
         | inr rest ↦ elim rest [
           | inl waits ↦ waits
           | inr gone ↦ absurd (is.1 (ap (λ (n : ℕ). n == 0) (dropped_at_last x gone.0 gone.1).0))
+        ]
+      ]
+
+  -- ---- the rules of what was dropped
+
+  rising_l : IsRising l.units
+  rising_l = received_rising s (journal ++ v ∷ [])
+
+  pub rules_ended : (rules noted : List (Digest × Rule)) → AreRules s journal rules → HasNoted state waiting rules later left noted → AreRules s (journal ++ v ∷ []) noted
+  rules_ended rules noted are notes = record {
+    known = λ d rule e. elim (notes.only d rule e) [
+      | inl old ↦
+          let x = are.known d rule old in
+          let still = (received_grows s.config k l (received_rising s journal) rising_l (longer_extends s journal (v ∷ []))).dropped x.0 x.1 in
+          (x.0, still.0, x.2, still.1 ∙ x.3)
+      | inr new ↦
+          let last = dropped_at_last new.0 rule new.3 in
+          (new.0, dropped_has s.config l rising_l new.0 (known_candidate new.0 (taken.waits.to new.0 new.1)) (eq-eqb (length (missing_of s.config l (settled_of s.config l) new.0)) 0 last.0) (ap (λ (o : Option Rule). is_none o) last.1), new.2, last.1)
+    ];
+    all = λ x m. elim ((accepted_step s journal v apart was).dropped x m) [
+      | inl old ↦ (let rule = are.all x old in notes.kept x.digest rule.0 rule.1)
+      | inr rest ↦ placed x m (elim rest [ inl parked ↦ from_left x (parked_of s.config k) (units_in s (v ∷ [])) parked | inr fresh ↦ from_right x (parked_of s.config k) (units_in s (v ∷ [])) fresh ])
+    ];
+  }
+    where
+      placed : (x : Node) → Among x (dropped_of s.config l) → Among x (candidates s journal v) → (rule : Rule) × (rule_in noted x.digest ≡ Some rule)
+      placed x m candidate = elim (notes.placed x (taken.waits.back x candidate)) [
+        | inl there ↦ absurd ((is_split s.config l rising_l).settled_dropped x (found_settled x (known_candidate x candidate) there) m)
+        | inr rest ↦ elim rest [
+          | inl waits ↦ absurd ((is_split s.config l rising_l).parked_dropped x (to_parked x waits) m)
+          | inr gone ↦ gone
         ]
       ]
 

@@ -168,7 +168,7 @@ module _ (s : NodeState) (start : List (Waiting PreparedUnit)) (t : NodeState) (
   abbrev y : Node
   y = node_prepared p
 
-  from_start : Among y (waiting_nodes start)
+  pub from_start : Among y (waiting_nodes start)
   from_start = so_far.still y (out_among t waiting left p can out)
 
   missing_then : missing_of s.config (known_in s) (by_name (admitted_in t)) y ≡ []
@@ -199,6 +199,9 @@ module _ (s : NodeState) (start : List (Waiting PreparedUnit)) (t : NodeState) (
     ];
   }
 
+  pub dropped_here : (rule : Rule) → state_rule t.config (graph t.dag) y ≡ Some rule → IsDropped s.config (known_in s) (waiting_nodes start) (admitted_in s) y rule
+  dropped_here rule broken = record { found = admitted_in t; run = so_far.run; met = missing_then; broken = rule_then (Some rule) broken }
+
   -- it was dropped
   pub settled_dropped : (later : NodeState) (after : List (Waiting PreparedUnit)) (rule : Rule) → state_rule t.config (graph t.dag) y ≡ Some rule → later ≡ t → after ≡ left → HasSettled s start later after
   settled_dropped later after rule broken e f = subst₂ (λ (l : NodeState) (ws : List (Waiting PreparedUnit)). HasSettled s start l ws) (sym e) (sym f) record {
@@ -211,8 +214,7 @@ module _ (s : NodeState) (start : List (Waiting PreparedUnit)) (t : NodeState) (
         | inl waits ↦ elim (out_or_left t waiting left p can out x waits) [
           | inl g ↦ inr (inr (
             rule,
-            subst (λ (z : Node). IsDropped s.config (known_in s) (waiting_nodes start) (admitted_in s) z rule) (sym g)
-                record { found = admitted_in t; run = so_far.run; met = missing_then; broken = rule_then (Some rule) broken },
+            subst (λ (z : Node). IsDropped s.config (known_in s) (waiting_nodes start) (admitted_in s) z rule) (sym g) (dropped_here rule broken),
           ))
           | inr n ↦ inr (inl n)
         ]
@@ -238,7 +240,7 @@ run_then : (config : Config) (known : Received) (from start between found : List
 run_then config known from start between found first Admits.begin = first
 run_then config known from start between found first (Admits.admit y before run m t) = Admits.admit y before (run_then config known from start between before first run) m t
 
-run_keeps : (config : Config) (known : Received) (from start found : List Node) → Admits config known from start found → (x : Node) → Among x start → Among x found
+pub run_keeps : (config : Config) (known : Received) (from start found : List Node) → Admits config known from start found → (x : Node) → Among x start → Among x found
 run_keeps config known from start found Admits.begin x m = m
 run_keeps config known from start found (Admits.admit y before run n t) x m = from_left x before (y ∷ []) (run_keeps config known from start before run x m)
 
@@ -248,7 +250,7 @@ module _ (s t u : NodeState) (waiting between left : List (Waiting PreparedUnit)
       (run_within s.config (known_in s) (waiting_nodes between) (waiting_nodes waiting) (admitted_in t) found first.still
       (subst₂ (λ (c : Config) (k : Received). Admits c k (waiting_nodes between) (admitted_in t) found) first.same.config (known_same s t first.same) run))
 
-  dropped_on : (x : Node) (rule : Rule) → IsDropped t.config (known_in t) (waiting_nodes between) (admitted_in t) x rule → IsDropped s.config (known_in s) (waiting_nodes waiting) (admitted_in s) x rule
+  pub dropped_on : (x : Node) (rule : Rule) → IsDropped t.config (known_in t) (waiting_nodes between) (admitted_in t) x rule → IsDropped s.config (known_in s) (waiting_nodes waiting) (admitted_in s) x rule
   dropped_on x rule gone = record {
     found = gone.found;
     run = carried_on gone.found gone.run;

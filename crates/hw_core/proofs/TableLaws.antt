@@ -18,14 +18,14 @@ use Rattle.hw_types.proofs.UnionLaws.{from_left, from_right}
 use Rattle.hw_types.proofs.EntryLaws.{append_cases}
 use Rattle.hw_types.proofs.WordsLaws.{either, never_both}
 use Rattle.hw_core.specs.Keeps.{IsTable}
-use Rattle.hw_core.proofs.KeptLaws.{get_append}
+use Rattle.hw_core.proofs.KeptLaws.{get_append, get_last_or}
 
 module _ (eq : Digest → Digest → Bool) (same : (a b : Digest) → eq a b ≡ true → a ≡ b) (self : (a : Digest) → eq a a ≡ true) where
   alike : (a b : Digest) → a ≡ b → eq a b ≡ true
   alike a b e = subst (λ (c : Digest). eq a c ≡ true) e (self a)
 
   -- the new name has the new place, and each other name what it had
-  pub lookup_inserted : (k : Digest) (v : ℕ) (d : Digest) (es : List (Digest × ℕ)) → lookup (eq d) (insert_entry eq es k v) ≡ cond (eq d k) (Some v) (lookup (eq d) es)
+  pub lookup_inserted : {V : Type 0} (k : Digest) (v : V) (d : Digest) (es : List (Digest × V)) → lookup (eq d) (insert_entry eq es k v) ≡ cond (eq d k) (Some v) (lookup (eq d) es)
   lookup_inserted k v d [] = refl
   lookup_inserted k v d (e ∷ es) = go (eq k e.0) (eq d e.0) (eq d k) refl refl refl (lookup_inserted k v d es)
     where
@@ -48,8 +48,9 @@ unit_in s u none = rw none refl
 
 -- a new unit has the last place by its name
 pub table_unit : (s : Setting) (journal : List Vertex) (names : List (Digest × ℕ)) (u : SignedUnit) (name : Digest) → name ≡ s.name u.unit → local_rule s.config s.instance u.unit ≡ None
-    → IsTable s journal names → IsTable s (journal ++ vertex.Unit u ∷ []) (insert_entry digest_eq names name (length journal))
-table_unit s journal names u name is none table = record {
+    → ((x : Node) → Among x (units_in s journal) → x.digest ≢ name) → IsTable s journal names → IsTable s (journal ++ vertex.Unit u ∷ []) (insert_entry digest_eq names name (length journal))
+table_unit s journal names u name is none fresh table = record {
+  placed = λ n w h. placed n w h;
   known = λ d n h. known d n (either (digest_eq d name)) (sym (looked d) ∙ h);
   unknown = λ d h x m. unknown d (either (digest_eq d name)) (sym (looked d) ∙ h) x (append_cases x (units_in s journal) (units_in s (vertex.Unit u ∷ [])) (subst (λ (xs : List Node). Among x xs) units m));
 }
@@ -62,6 +63,21 @@ table_unit s journal names u name is none table = record {
 
     last : Among (named s u.unit) (units_in s (journal ++ vertex.Unit u ∷ []))
     last = subst (λ (xs : List Node). Among (named s u.unit) xs) (sym units) (from_right (named s u.unit) (units_in s journal) (units_in s (vertex.Unit u ∷ [])) (subst (λ (xs : List Node). Among (named s u.unit) xs) (sym (unit_in s u none)) (inl refl)))
+
+    placed : (n : ℕ) (w : SignedUnit) → slice_get (journal ++ vertex.Unit u ∷ []) n ≡ Some (vertex.Unit w) → lookup (digest_eq (s.name w.unit)) (insert_entry digest_eq names name (length journal)) ≡ Some n
+    placed n w h = elim (get_last_or journal (vertex.Unit u) n (vertex.Unit w) h) [
+      | inl old ↦
+          let at = table.placed n w old in
+          let k = table.known (s.name w.unit) n at in
+          elim (either (digest_eq (s.name w.unit) name)) [
+            | inl t ↦ absurd (fresh (named s k.0.unit) k.3 (k.2 ∙ digest_same (s.name w.unit) name t))
+            | inr f ↦ looked (s.name w.unit) ∙ ap (λ (b : Bool). cond b (Some (length journal)) (lookup (digest_eq (s.name w.unit)) names)) f ∙ at
+          ]
+      | inr new ↦
+          let same : u ≡ w = (let e : vertex.Unit u ≡ vertex.Unit w = new.1 in cc) in
+          let here : digest_eq (s.name w.unit) name ≡ true = subst (λ (d : Digest). digest_eq (s.name w.unit) d ≡ true) (ap (λ (z : SignedUnit). s.name z.unit) (sym same) ∙ sym is) (digest_self (s.name w.unit)) in
+          looked (s.name w.unit) ∙ ap (λ (b : Bool). cond b (Some (length journal)) (lookup (digest_eq (s.name w.unit)) names)) here ∙ ap Some (sym new.0)
+    ]
 
     known : (d : Digest) (n : ℕ) → ((digest_eq d name ≡ true) ⊎ (digest_eq d name ≡ false)) → cond (digest_eq d name) (Some (length journal)) (lookup (digest_eq d) names) ≡ Some n
         → (w : SignedUnit) × (slice_get (journal ++ vertex.Unit u ∷ []) n ≡ Some (vertex.Unit w)) × (s.name w.unit ≡ d) × Among (named s w.unit) (units_in s (journal ++ vertex.Unit u ∷ []))

@@ -2,6 +2,8 @@
 use Rattle.std.proofs.Common.{◌≡◌, ◌≢◌, ℕ, ◌+◌, ◌<◌, true, List, [], ◌∷◌, ◌++◌, length, sym, ap, subst, ◌∙◌, arith, All}
 use Rattle.std.proofs.lemmas.Bool.Decides.{nat_tests}
 use Rattle.std.proofs.lemmas.List.{length-append}
+use Rattle.hw_types.specs.declared.unit.Digest.{Digest}
+use Rattle.hw_types.specs.declared.answers.Rule.{Rule}
 use Rattle.hw_types.specs.declared.unit.Vertex.{Vertex}
 use Rattle.hw_types.specs.declared.config.Config.{Config}
 use Rattle.hw_types.specs.Graph.{Node}
@@ -13,10 +15,10 @@ use Rattle.hw_dag.specs.Dag.{graph}
 use Rattle.hw_dag.specs.Admission.{PreparedUnit}
 use Rattle.hw_admit.specs.State.{NodeState}
 use Rattle.hw_park.specs.Parked.{Parked, Waiting}
-use Rattle.hw_core.specs.Settle.{CanSettle, HasSettled}
-use Rattle.hw_core.specs.Keeps.{IsOf, HasTaken, IsNode}
+use Rattle.hw_core.specs.Settle.{CanSettle, HasSettled, HasNoted}
+use Rattle.hw_core.specs.Keeps.{IsOf, HasTaken, IsNode, AreRules}
 use Rattle.hw_core.specs.Deliver.{IsTaken}
-use Rattle.hw_core.proofs.EndLaws.{settling_ended}
+use Rattle.hw_core.proofs.EndLaws.{settling_ended, rules_ended}
 
 pub was_accepted : (config : Config) (journal : List Vertex) (v : Vertex) → IsTaken config journal v → Accepted (setting_of config) journal v
 was_accepted config journal v taken = accepted (setting_of config) journal v true taken
@@ -41,6 +43,10 @@ module _ (journal : List Vertex) (park : Parked PreparedUnit) (state : NodeState
     apart = subst (λ (c : Config). NamesApart (units_in (setting_of c) (journal ++ v ∷ []))) (sym ended.config) (apart_after s journal v node.apart (was_accepted state.config journal v ok));
     is_of = subst (λ (c : Config). IsOf (setting_of c) (journal ++ v ∷ []) later after.waiting) (sym ended.config) ended;
   }
+
+  -- and the rules are those of its dropped units
+  pub rules_after : (rules noted : List (Digest × Rule)) → AreRules s journal rules → HasNoted between waiting rules later after.waiting noted → AreRules s (journal ++ v ∷ []) noted
+  rules_after rules noted are notes = rules_ended s journal v true between later waiting after.waiting node.apart ok taken settled can none rules noted are notes
 
   -- and so many more units settled
   pub newly_is : (n : ℕ) → length (graph between.dag) + n ≡ length (graph later.dag) → newly_settled s journal v ≡ n

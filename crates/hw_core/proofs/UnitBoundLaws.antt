@@ -79,7 +79,7 @@ distinct_length [] = omega arith
 distinct_length (n ∷ ns) = let le = filter_length (λ m. not (need_eq n m)) (distinct ns) in let rest = distinct_length ns in omega arith
 
 -- a unit that keeps the limits of its format misses no more than these
-pub few_missing : (config : Config) (known : Received) (units : List Node) (u : Node) → Fits u.unit → length (missing_of config known units u) ≤ 768
+pub few_missing : (config : Config) (known : Received) (units : List Node) (u : Node) → Fits u.unit → length (missing_of config known units u) ≤ 2304
 unfolding missing_of needs_of
 few_missing config known units u fits =
     let cited = unit_needs u.unit.panorama in

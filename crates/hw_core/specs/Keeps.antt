@@ -1,22 +1,27 @@
 -- What a node keeps beside its journal, and how it stands to the journal.
-use Rattle.std.specs.Prelude.{◌≡◌, ◌≢◌, ℕ, ◌≤◌, List, [], ◌∷◌, ◌++◌, length, Some, None, slice_get}
+use Rattle.std.specs.Prelude.{◌≡◌, ◌≢◌, ℕ, ◌<◌, ◌≤◌, List, [], ◌∷◌, ◌++◌, length, Option, Some, None, IfSome, slice_get}
+use Rattle.std.specs.Option.{option_map}
 use Rattle.std.specs.Map.{lookup}
 use Rattle.hw_types.specs.declared.unit.Digest.{Digest}
 use Rattle.hw_types.specs.declared.unit.SignedUnit.{SignedUnit}
 use Rattle.hw_types.specs.declared.unit.Vertex.{Vertex}
 use Rattle.hw_types.specs.declared.unit.Vertex.TheVariants as vertex
+use Rattle.hw_types.specs.declared.answers.Rule.{Rule}
 use Rattle.hw_types.specs.Graph.{Node, digest_eq}
 use Rattle.hw_types.specs.Below.{Among}
 use Rattle.hw_types.specs.Spelling.{instance_of}
-use Rattle.hw_types.specs.Settled.{Received, has_evidence, settled_of, parked_of}
+use Rattle.hw_types.specs.Rules.{state_rule}
+use Rattle.hw_types.specs.Settled.{Received, has_evidence, settled_of, parked_of, dropped_of}
 use Rattle.hw_types.specs.laws.StateLaws.{HasSame, NamesApart, units_in, candidates}
 use Rattle.hw_types.specs.Journal.{Setting, named, received_of}
 use Rattle.hw_types.specs.Real.{setting_of}
-use Rattle.hw_dag.specs.Dag.{graph}
+use Rattle.hw_types.specs.Votes.{fork_of}
+use Rattle.hw_dag.specs.declared.numbers.UnitNo.{UnitNo}
+use Rattle.hw_dag.specs.Dag.{graph, count_of, node_at, observations}
 use Rattle.hw_dag.specs.Admission.{PreparedUnit}
 use Rattle.hw_admit.specs.State.{NodeState, is_marked}
 use Rattle.hw_park.specs.Parked.{Waiting, Parked}
-use Rattle.hw_core.specs.Settle.{CanSettle, waiting_nodes}
+use Rattle.hw_core.specs.Settle.{CanSettle, waiting_nodes, rule_in}
 
 -- the state knows of evidence and endorsements what was received
 pub record KnowsOf (received : Received) (state : NodeState) : Type 0 where
@@ -49,9 +54,24 @@ pub record IsNode (journal : List Vertex) (park : Parked PreparedUnit) (state : 
 pub record IsTable (s : Setting) (journal : List Vertex) (names : List (Digest × ℕ)) : Type 0 where
   pub known : (d : Digest) (n : ℕ) → lookup (digest_eq d) names ≡ Some n → (u : SignedUnit) × (slice_get journal n ≡ Some (vertex.Unit u)) × (s.name u.unit ≡ d) × Among (named s u.unit) (units_in s journal)
   pub unknown : (d : Digest) → lookup (digest_eq d) names ≡ None → (x : Node) → Among x (units_in s journal) → x.digest ≢ d
+  pub placed : (n : ℕ) (u : SignedUnit) → slice_get journal n ≡ Some (vertex.Unit u) → lookup (digest_eq (s.name u.unit)) names ≡ Some n
 
--- what a node keeps stands to its journal as the definitions say
-pub record IsKept (instance : Digest) (journal : List Vertex) (names : List (Digest × ℕ)) (park : Parked PreparedUnit) (state : NodeState) : Type 0 where
+-- The table has the rule of each dropped unit of the journal by its name, and no other name.
+pub record AreRules (s : Setting) (journal : List Vertex) (rules : List (Digest × Rule)) : Type 0 where
+  pub known : (d : Digest) (rule : Rule) → rule_in rules d ≡ Some rule
+      → (x : Node) × Among x (dropped_of s.config (received_of s journal)) × (x.digest ≡ d) × (state_rule s.config (settled_of s.config (received_of s journal)) x ≡ Some rule)
+  pub all : (x : Node) → Among x (dropped_of s.config (received_of s journal)) → (rule : Rule) × (rule_in rules x.digest ≡ Some rule)
+
+-- the number is that of the fork choice of the state's panorama
+pub record IsChoice (state : NodeState) (fork : Option UnitNo) : Type 0 where
+  pub choice : option_map (λ (no : UnitNo). node_at state.dag no.0) fork ≡ fork_of state.config.weights (graph state.dag) (observations state.dag state.panorama)
+  pub known : IfSome fork (λ no. no.0 < count_of state.dag)
+
+-- What a node keeps stands to its journal as the definitions say, and there is room for the rule of each unit that waits.
+pub record IsKept (instance : Digest) (journal : List Vertex) (names : List (Digest × ℕ)) (park : Parked PreparedUnit) (rules : List (Digest × Rule)) (room : ℕ) (state : NodeState) (fork : Option UnitNo) : Type 0 where
   pub instance_is : instance ≡ instance_of state.config
   pub table : IsTable (setting_of state.config) journal names
+  pub rules_are : AreRules (setting_of state.config) journal rules
+  pub places : length park.waiting ≤ room
   pub node : IsNode journal park state
+  pub fork_is : IsChoice state fork

@@ -1,10 +1,11 @@
 -- What waits at a node, and what becomes of it as units settle.
-use Rattle.std.specs.Prelude.{◌≡◌, ◌≢◌, ◌+◌, ◌≤◌, ◌⊎◌, List, [], ◌∷◌, length, map, filter, Some}
+use Rattle.std.specs.Prelude.{◌≡◌, ◌≢◌, ◌+◌, ◌≤◌, ◌⊎◌, List, [], ◌∷◌, length, map, filter, Option, Some}
 use Rattle.std.specs.List.{range_with_len}
+use Rattle.std.specs.Map.{lookup}
 use Rattle.hw_types.specs.declared.unit.Digest.{Digest}
 use Rattle.hw_types.specs.declared.answers.Rule.{Rule}
 use Rattle.hw_types.specs.declared.config.Config.{Config}
-use Rattle.hw_types.specs.Graph.{Node}
+use Rattle.hw_types.specs.Graph.{Node, digest_eq}
 use Rattle.hw_types.specs.Below.{Among}
 use Rattle.hw_types.specs.ByName.{by_name}
 use Rattle.hw_types.specs.Rules.{state_rule}
@@ -91,3 +92,22 @@ pub record HasSettled (s : NodeState) (waiting : List (Waiting PreparedUnit)) (l
   pub still : (x : Node) → Among x (waiting_nodes left) → Among x (waiting_nodes waiting)
   pub placed : (x : Node) → Among x (waiting_nodes waiting)
       → Among x (admitted_in later) ⊎ (Among x (waiting_nodes left) ⊎ ((rule : Rule) × IsDropped s.config (known_in s) (waiting_nodes waiting) (admitted_in s) x rule))
+
+-- the state has more room, or as much, and of it nothing else changed
+pub record HasMoreRoom (s later : NodeState) : Type 0 where
+  pub kept : s.spare ≤ later.spare
+  pub unchanged : later ≡ record s { spare = later.spare; dag = record s.dag { spare = later.dag.spare } }
+
+-- ---- the rules of dropped units
+
+-- the rule that is kept under this name
+abbrev pub rule_in : List (Digest × Rule) → Digest → Option Rule
+rule_in rules d = lookup (digest_eq d) rules
+
+-- While these units waited, the rules by name grew: a name that had a rule has one; what is new is the rule of a unit
+-- that waited and was dropped; and a unit that neither settled nor waits has a rule.
+pub record HasNoted (s : NodeState) (waiting : List (Waiting PreparedUnit)) (rules : List (Digest × Rule)) (later : NodeState) (left : List (Waiting PreparedUnit)) (noted : List (Digest × Rule)) : Type 0 where
+  pub kept : (d : Digest) (rule : Rule) → rule_in rules d ≡ Some rule → (now : Rule) × (rule_in noted d ≡ Some now)
+  pub only : (d : Digest) (rule : Rule) → rule_in noted d ≡ Some rule
+      → (rule_in rules d ≡ Some rule) ⊎ ((x : Node) × Among x (waiting_nodes waiting) × (x.digest ≡ d) × IsDropped s.config (known_in s) (waiting_nodes waiting) (admitted_in s) x rule)
+  pub placed : (x : Node) → Among x (waiting_nodes waiting) → Among x (admitted_in later) ⊎ (Among x (waiting_nodes left) ⊎ ((rule : Rule) × (rule_in noted x.digest ≡ Some rule)))
