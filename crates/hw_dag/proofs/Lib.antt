@@ -15,3 +15,4 @@ pub mod MarkLaws
 pub mod SoloLaws
 pub mod VoteLaws
 pub mod RuleLaws
+pub mod LatestLaws

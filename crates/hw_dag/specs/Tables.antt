@@ -1,5 +1,5 @@
 -- What is kept beside the units of a graph to find them.
-use Rattle.std.specs.Prelude.{◌≡◌, ℕ, ◌^◌, ◌<◌, ◌≤◌, true, List, [], length, map, Option, Some, None, is_some}
+use Rattle.std.specs.Prelude.{◌≡◌, ℕ, ◌^◌, ◌<◌, ◌≤◌, ◌⊎◌, true, List, [], length, map, Option, Some, None, is_some}
 use Rattle.hw_types.specs.declared.unit.Digest.{Digest}
 use Rattle.hw_types.specs.declared.unit.SignedUnit.{SignedUnit}
 use Rattle.hw_skip.specs.Skip.{pointer_count_of}
@@ -8,8 +8,9 @@ use Rattle.hw_dag.specs.declared.numbers.View.{View}
 use Rattle.hw_dag.specs.declared.numbers.View.TheVariants as view
 use Rattle.hw_types.specs.declared.unit.Obs.{Obs}
 use Rattle.hw_types.specs.declared.unit.Obs.TheVariants.{Correct}
-use Rattle.hw_dag.specs.Dag.{SettledUnit, UnitGraph, count_of, creator_of, view_at, obs_of}
+use Rattle.hw_dag.specs.Dag.{SettledUnit, UnitGraph, unit_at, count_of, creator_of, view_at, obs_of}
 use Rattle.hw_dag.specs.Admission.{IsGraph, IsNew}
+use Rattle.hw_dag.specs.Lanes.{is_lane_below}
 
 -- the unit that a slot names
 abbrev pub number_of : View → Option UnitNo
@@ -39,6 +40,23 @@ pub record IsKept (dag : UnitGraph) (names : List Digest) (lanes chains : List (
   pub names_are : names ≡ names_of dag.units
   pub lanes_are : lanes ≡ lanes_of dag.units
   pub chains_are : chains ≡ chains_of dag.units
+
+-- the unit is on the lane of the latest one; Faulty is for a validator whose units aren't known to be on one lane
+abbrev pub LeadsUpTo : UnitGraph → ℕ → View → Type 0
+LeadsUpTo dag n view.Absent = ⊥
+LeadsUpTo dag n (view.Correct last) = is_lane_below dag n last.0 ≡ true
+LeadsUpTo dag n view.Faulty = Unit {0}
+
+-- of each validator the unit that all its units lead up to
+pub record AreLatest (dag : UnitGraph) (latest : List View) : Type 0 where
+  pub length_is : length latest ≡ dag.validators
+  pub known : (v : ℕ) (last : UnitNo) → view_at latest v ≡ view.Correct last → last.0 < count_of dag
+  pub each : (n : ℕ) → n < count_of dag → LeadsUpTo dag n (view_at latest (creator_of (unit_at dag n)))
+
+-- the new unit is the latest where it is the first of its creator or follows the latest one
+abbrev pub IsLatestAfter : View → Option UnitNo → UnitNo → View → Type 0
+IsLatestAfter latest before number next = (next ≡ view.Faulty)
+    ⊎ ((next ≡ view.Correct number) × ((latest ≡ view.Absent) ⊎ ((last : UnitNo) × (latest ≡ view.Correct last) × (before ≡ Some last))))
 
 -- each table has room for so many more units
 pub record HasSpare (spare units names lanes chains : ℕ) : Type 0 where

@@ -4,10 +4,11 @@ ghost use Rattle.std.specs.Prelude.{◌≡◌, ℕ, ◌+◌, ◌-◌, ◌^◌, �
 ghost use Rattle.std.specs.List.{list_any};
 ghost use Rattle.indexmap.specs.IndexSet.{spare as room_of};
 ghost use Rattle.hw_types.specs.Graph.{digest_eq};
+ghost use Rattle.hw_types.specs.declared.unit.Obs.TheVariants as Obs;
 ghost use Rattle.hw_skip.specs.Skip.{pointer_count_of};
 ghost use Rattle.hw_dag.specs.Dag.{unit_at, count_of, graph, observations, seq_of};
 ghost use Rattle.hw_dag.specs.Admission.{IsFor, IsNew, IsResolved, IsFork, IsGraph, KeepsRules, AllKnown, node_prepared, height_above, settled_from, with_unit};
-ghost use Rattle.hw_dag.specs.Tables.{StandsFor, IsUnknown, IsKnown};
+ghost use Rattle.hw_dag.specs.Tables.{StandsFor, IsUnknown, IsKnown, IsLatestAfter};
 
 use crate::numbers::{Panorama, UnitNo, View};
 use crate::preparing::{NoRoom, Prepared, Settling};
@@ -29,6 +30,8 @@ pub struct Dag {
     names: IndexSet<Digest>,
     lanes: SkipTable,
     chains: SkipTable,
+    /// Of each validator the unit that all its units lead up to, Faulty where they may be on two lanes.
+    latest: Panorama,
 }
 
 impl Model for Dag {
@@ -44,10 +47,11 @@ impl Model for Dag {
       units = d.units.items;
     } };
 
-    ghost use Rattle.hw_dag.specs.Tables.{IsKept, HasSpare};
+    ghost use Rattle.hw_dag.specs.Tables.{IsKept, HasSpare, AreLatest};
 
     ghost invariant = { λ d. IsKept (record { validators = d.validators; spare = d.spare; units = d.units.items }) d.names.keys d.lanes.backs d.chains.backs
-        × HasSpare d.spare (vec_capacity d.units - vec_len d.units) (room_of d.names) d.lanes.spare d.chains.spare };
+        × HasSpare d.spare (vec_capacity d.units - vec_len d.units) (room_of d.names) d.lanes.spare d.chains.spare
+        × AreLatest (record { validators = d.validators; spare = d.spare; units = d.units.items }) d.latest };
 }
 
 impl Dag {
@@ -63,6 +67,7 @@ impl Dag {
             names: IndexSet::new(alloc),
             lanes: SkipTable::new(alloc),
             chains: SkipTable::new(alloc),
+            latest: Panorama::new(alloc, validators)?,
         })
     }
 
@@ -156,15 +161,66 @@ impl Dag {
         &self.units[no.0 as usize]
     }
 
-    /// What an observation is in numbers, where its unit is there.
-    fn view_of(&self, obs: &Obs) -> Option<View>
+    /// What an observation is in numbers, where its unit is there. `seen` is what another unit observes.
+    fn view_of(&self, seen: &[View], slot: usize, obs: &Obs) -> Option<View>
         ensures known { IfSome result (StandsFor self.now obs.now) }
         ensures unknown { IfNone result (IsUnknown self.now obs.now) }
     {
         match obs {
             Obs::Absent => Some(View::Absent),
-            Obs::Correct(digest) => self.find(digest).map(View::Correct),
+            Obs::Correct(digest) => self.find_near(seen, slot, digest),
             Obs::Faulty => Some(View::Faulty),
+        }
+    }
+
+    /// The unit of this name as a slot. Most units observe what the one before them does, or the latest
+    /// unit of a validator or the one before that. Only a name that is none of these is looked up.
+    fn find_near(&self, seen: &[View], slot: usize, name: &Digest) -> Option<View>
+        ensures known { IfSome result (StandsFor self.now (Obs.Correct name.now)) }
+        ensures unknown { IfNone result (IsNew self.now name.now) }
+    {
+        let hint = hint_at(seen, slot);
+        if self.is_named(hint, name) {
+            return Some(hint);
+        }
+        let latest = hint_at(self.latest.views(), slot);
+        if self.is_named(latest, name) {
+            return Some(latest);
+        }
+        let before = self.hint_before(latest, slot);
+        if self.is_named(before, name) {
+            return Some(before);
+        }
+        self.find(name).map(View::Correct)
+    }
+
+    /// Whether the slot names the unit of this name.
+    fn is_named(&self, hint: View, name: &Digest) -> bool
+        ensures { IsTrue result → StandsFor self.now (Obs.Correct name.now) hint }
+    {
+        match hint {
+            View::Correct(no) => {
+                (no.0 as usize) < self.units.len() && *self.units[no.0 as usize].digest() == *name
+            }
+            View::Absent | View::Faulty => false,
+        }
+    }
+
+    /// What the unit in a slot observes in that slot.
+    fn hint_before(&self, view: View, slot: usize) -> View {
+        match view {
+            View::Correct(no) if (no.0 as usize) < self.units.len() => {
+                hint_at(self.units[no.0 as usize].panorama().views(), slot)
+            }
+            _ => View::Absent,
+        }
+    }
+
+    /// What the newest unit observes.
+    fn newest_views(&self) -> &[View] {
+        match self.units.last() {
+            Some(unit) => unit.panorama().views(),
+            None => &[],
         }
     }
 
@@ -178,8 +234,9 @@ impl Dag {
         ensures known { IsTrue result → IsKnown self.now panorama.new }
     {
         let _ = &self.names;
+        let seen = self.newest_views();
         for (slot, obs) in observed.iter().enumerate() {
-            let Some(view) = self.view_of(obs) else {
+            let Some(view) = self.view_of(seen, slot, obs) else {
                 return false;
             };
             panorama.set(slot as u32, view);
@@ -210,15 +267,38 @@ impl Dag {
         ensures { self.new ≡ with_unit self.old settling.unit }
     {
         let Settling { unit, lane, chain } = settling;
+        let before = unit.predecessor();
+        let creator = unit.signed().unit.creator;
+        let no = UnitNo(self.units.len() as u32);
+        let next = latest_after(self.latest.get(creator), before, no);
+        self.latest.set(creator, next);
         self.spare -= 1;
-        self.lanes
-            .push(lane, unit.predecessor(), unit.signed().unit.seq);
+        self.lanes.push(lane, before, unit.signed().unit.seq);
         self.chains
             .push(chain, unit.parent(), unit.height().unwrap_or(0));
         add_name(&mut self.names, *unit.digest());
         if self.units.push(unit).is_err() {
             unreachable!()
         }
+    }
+}
+
+// A slot that is compared before it is taken, so that any will do.
+fn hint_at(views: &[View], slot: usize) -> View {
+    match views.get(slot) {
+        Some(view) => *view,
+        None => View::Absent,
+    }
+}
+
+// The latest unit of a creator after one more unit.
+fn latest_after(latest: View, before: Option<UnitNo>, no: UnitNo) -> View
+    ensures { IsLatestAfter latest before no result }
+{
+    match (latest, before) {
+        (View::Absent, _) => View::Correct(no),
+        (View::Correct(last), Some(before)) if last == before => View::Correct(no),
+        _ => View::Faulty,
     }
 }
 

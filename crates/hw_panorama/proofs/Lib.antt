@@ -1,5 +1,5 @@
 pub mod ViewLaws
 pub mod OrderLaws
+pub mod SharedLaws
 pub mod JoinLaws
-pub mod NewestLaws
 pub mod JoiningLaws

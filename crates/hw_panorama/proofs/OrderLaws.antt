@@ -74,11 +74,6 @@ pub unmet_step : (dag : UnitGraph) (low high : List View) (v : ℕ) (a b : View)
     → false ≡ is_below_all dag low high
 unmet_step dag low high v a b answer lt ea eb e unmet = sym (one_not_met dag low high v lt (sym (met_step dag low high v a b answer ea eb e) ∙ unmet))
 
--- a slot that a panorama below shares
-pub shared_met : (dag : UnitGraph) (known low high : List View) (v : ℕ) (a b : View) → v < length known → is_below_all dag known high ≡ true → a ≡ view_at low v → b ≡ view_at known v → a ≡ b
-    → is_met dag (view_at low v) (view_at high v) ≡ true
-shared_met dag known low high v a b lt below ea eb e = ap (λ (w : View). is_met dag w (view_at high v)) (sym ea ∙ e ∙ eb) ∙ each_met dag known high below v lt
-
 module _ (dag : UnitGraph) (g : IsGraph dag) where
   pub below_trans : (a b c : List View) → IsPanorama dag a → IsPanorama dag b → IsPanorama dag c → is_below_all dag a b ≡ true → is_below_all dag b c ≡ true → is_below_all dag a c ≡ true
   below_trans a b c ha hb hc h k =
@@ -127,21 +122,3 @@ module _ (dag : UnitGraph) (g : IsGraph dag) where
 
   pub unit_consistent : (n : ℕ) → n < count_of dag → is_consistent (graph dag) (observations dag (unit_at dag n).panorama) ≡ true
   unit_consistent n lt = subst (λ (os : List Obs). is_consistent (graph dag) os ≡ true) (sym (g.settled n lt).observes) (g.settled n lt).rules.consistent
-
-  -- what a unit cites is at most each panorama that the unit's is at most
-  pub cited_by_below : (first : UnitNo) (panorama : List View) → first.0 < count_of dag → IsPanorama dag panorama → is_below_all dag (unit_at dag first.0).panorama panorama ≡ true
-      → (v : ℕ) (number : UnitNo) → view_at (unit_at dag first.0).panorama v ≡ view.Correct number → is_below_all dag (unit_at dag number.0).panorama panorama ≡ true
-  cited_by_below first panorama lt hp below v number e =
-      let hf = (g.settled first.0 lt).panorama_is in
-      below_trans (unit_at dag number.0).panorama (unit_at dag first.0).panorama panorama (g.settled number.0 (hf.known v number e)).panorama_is hf hp
-      (consistent_cited_below (unit_at dag first.0).panorama hf (unit_consistent first.0 lt) v number e) below
-
-  -- so a slot is met that a cited unit shares, or that has that unit
-  pub shared_below : (first : UnitNo) (panorama : List View) (v : ℕ) (a b : View) → first.0 < count_of dag → IsPanorama dag panorama → is_below_all dag (unit_at dag first.0).panorama panorama ≡ true
-      → a ≡ view_at panorama v → b ≡ view_at (unit_at dag first.0).panorama v → a ≡ b → IsCitedBelow dag panorama v
-  shared_below first panorama v a b lt hp below ea eb e number h = cited_by_below first panorama lt hp below v number (sym eb ∙ sym e ∙ ea ∙ h)
-
-  pub first_below : (first : UnitNo) (panorama : List View) (v : ℕ) (a : View) → is_below_all dag (unit_at dag first.0).panorama panorama ≡ true → a ≡ view_at panorama v → a ≡ view.Correct first → IsCitedBelow dag panorama v
-  first_below first panorama v a below ea e number h =
-      let same : first ≡ number = (let q : view.Correct first ≡ view.Correct number = sym e ∙ ea ∙ h in cc) in
-      subst (λ (n : UnitNo). is_below_all dag (unit_at dag n.0).panorama panorama ≡ true) same below

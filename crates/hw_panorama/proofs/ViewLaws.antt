@@ -9,7 +9,7 @@ use Rattle.hw_dag.specs.Admission.{IsGraph}
 use Rattle.hw_dag.specs.Lanes.{is_lane_below}
 use Rattle.hw_dag.proofs.NodeLaws.{node_among, node_found}
 use Rattle.hw_dag.proofs.LaneLaws.{even_weights, all_faulty, lawful, on_lane_among, among_on_lane, on_own_lane}
-use Rattle.hw_panorama.specs.Views.{IsKnownView, is_met, Cites}
+use Rattle.hw_panorama.specs.Views.{IsKnownView, is_met}
 
 -- each slot of a panorama is known
 pub known_view : (dag : UnitGraph) (panorama : List View) → IsPanorama dag panorama → (v : ℕ) → IsKnownView dag (view_at panorama v)
@@ -19,10 +19,6 @@ known_view dag panorama h v = go (view_at panorama v) refl
     go view.Absent e = tt
     go view.Faulty e = tt
     go (view.Correct number) e = h.known v number e
-
--- and so is each unit that it cites
-pub cited_known : (dag : UnitGraph) (panorama : List View) (number : UnitNo) → IsPanorama dag panorama → Cites panorama number → number.0 < count_of dag
-cited_known dag panorama number h c = h.known c.0 number c.1
 
 -- everything is at most the mark of a fault
 pub met_faulty : (dag : UnitGraph) (low : View) → is_met dag low view.Faulty ≡ true

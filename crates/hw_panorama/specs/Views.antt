@@ -1,10 +1,10 @@
 -- Slots in numbers.
-use Rattle.std.specs.Prelude.{◌≡◌, ℕ, ◌<◌, ◌≤◌, Bool, List}
-use Rattle.hw_types.specs.Graph.{obs_at_most}
+use Rattle.std.specs.Prelude.{◌≡◌, ℕ, ◌<◌, Bool, true, List}
+use Rattle.hw_types.specs.Graph.{obs_at_most, is_at_most}
 use Rattle.hw_dag.specs.declared.numbers.UnitNo.{UnitNo}
 use Rattle.hw_dag.specs.declared.numbers.View.{View}
 use Rattle.hw_dag.specs.declared.numbers.View.TheVariants as view
-use Rattle.hw_dag.specs.Dag.{UnitGraph, count_of, graph, obs_of, view_at}
+use Rattle.hw_dag.specs.Dag.{UnitGraph, unit_at, count_of, creator_of, graph, obs_of, observations, view_at}
 
 -- a number in the slot is a unit of the graph
 abbrev pub IsKnownView : UnitGraph → View → Type 0
@@ -12,19 +12,30 @@ IsKnownView dag view.Absent = Unit {0}
 IsKnownView dag (view.Correct number) = number.0 < count_of dag
 IsKnownView dag view.Faulty = Unit {0}
 
+-- a number in the slot is a unit of the validator
+abbrev pub IsViewOf : UnitGraph → ℕ → View → Type 0
+IsViewOf dag v view.Absent = Unit {0}
+IsViewOf dag v (view.Correct number) = (number.0 < count_of dag) × (creator_of (unit_at dag number.0) ≡ v)
+IsViewOf dag v view.Faulty = Unit {0}
+
 -- the one slot is at most the other
 abbrev pub is_met : UnitGraph → View → View → Bool
 is_met dag low high = obs_at_most (graph dag) (obs_of dag low) (obs_of dag high)
 
--- some slot has this unit
-abbrev pub Cites : List View → UnitNo → Type 0
-Cites panorama number = (v : ℕ) × (view_at panorama v ≡ view.Correct number)
+-- both panoramas have the unit in the slot of the validator
+pub record IsShared (known panorama : List View) (v : ℕ) (number : UnitNo) : Type 0 where
+  pub here : view_at panorama v ≡ view.Correct number
+  pub there : view_at known v ≡ view.Correct number
 
--- no slot has a unit
-abbrev pub CitesNone : List View → Type 0
-CitesNone panorama = (number : UnitNo) → Cites panorama number → ⊥
+-- what the units that both have observe of one validator is at most what the panorama does
+abbrev pub IsColumnMet : UnitGraph → List View → List View → ℕ → Type 0
+IsColumnMet dag known panorama of = (v : ℕ) (number : UnitNo) → IsShared known panorama v number → is_met dag (view_at (unit_at dag number.0).panorama of) (view_at panorama of) ≡ true
 
--- of the units in the slots the one with the greatest number
-pub record IsNewest (panorama : List View) (number : UnitNo) : Type 0 where
-  pub cited : Cites panorama number
-  pub greatest : (other : UnitNo) → Cites panorama other → other.0 ≤ number.0
+-- what the units that both have observe is at most the panorama
+abbrev pub AreSharedMet : UnitGraph → List View → List View → Type 0
+AreSharedMet dag known panorama = (of : ℕ) → of < dag.validators → IsColumnMet dag known panorama of
+
+-- and so is what the others observe
+abbrev pub AreOthersMet : UnitGraph → List View → List View → Type 0
+AreOthersMet dag known panorama = (v : ℕ) (number : UnitNo) → view_at panorama v ≡ view.Correct number → (view_at known v ≡ view.Correct number → ⊥)
+    → is_at_most (graph dag) (observations dag (unit_at dag number.0).panorama) (observations dag panorama) ≡ true

@@ -1,10 +1,9 @@
 //! Whether a panorama is above those of the units that it cites.
 
-ghost use Rattle.std.specs.Prelude.{◌≡◌, ◌⊎◌, ◌≤◌, Some, IsTrue, IfSome, MatchOption};
-ghost use Rattle.hw_types.specs.Graph.{is_at_most, is_consistent};
-ghost use Rattle.hw_dag.specs.Dag.{graph, observations, unit_at, IsPanorama};
-ghost use Rattle.hw_dag.specs.Admission.{IsGraph};
-ghost use Rattle.hw_panorama.specs.Views.{Cites, CitesNone, IsNewest};
+ghost use Rattle.std.specs.Prelude.{◌≡◌, ◌<◌, false, IsTrue};
+ghost use Rattle.hw_types.specs.Graph.{is_consistent};
+ghost use Rattle.hw_dag.specs.Dag.{graph, observations, IsPanorama};
+ghost use Rattle.hw_panorama.specs.Views.{IsColumnMet, AreSharedMet, AreOthersMet};
 
 use crate::order::{at_most, meets};
 use hw_dag::{Dag, Panorama, UnitNo, View};
@@ -14,58 +13,50 @@ pub fn consistent(dag: &Dag, panorama: &Panorama) -> bool
     requires { IsPanorama dag.now panorama.now }
     ensures { result ≡ is_consistent (graph dag.now) (observations dag.now panorama.now) }
 {
-    match newest(dag, panorama) {
-        None => true,
-        Some(no) => {
-            at_most(dag, dag.unit(no).panorama(), panorama) && rest_is_met(dag, no, panorama)
-        }
+    let count = dag.count();
+    if count == 0 {
+        return true;
     }
+    // Most units observe nearly what the newest one does.
+    let known = dag.unit(UnitNo(count - 1)).panorama();
+    are_shared_met(dag, known, panorama) && are_others_met(dag, known, panorama)
 }
 
-/// The cited unit that came into the graph last.
-fn newest(dag: &Dag, panorama: &Panorama) -> Option<UnitNo>
-    requires { IsPanorama dag.now panorama.now }
-    ensures newest { MatchOption result (CitesNone panorama.now) (λ no. IsNewest panorama.now no) }
-    ensures graph { IsGraph dag.now }
-{
-    let mut newest: Option<UnitNo> = None;
-    for validator in 0..dag.validators() {
-        if let View::Correct(no) = panorama.get(validator) {
-            newest = Some(later(newest, no));
-        }
-    }
-    newest
-}
-
-/// The greater of two numbers.
-fn later(before: Option<UnitNo>, no: UnitNo) -> UnitNo
-    ensures one { (result ≡ no) ⊎ (before ≡ Some result) }
-    ensures new_within { no.0 ≤ result.0 }
-    ensures old_within { IfSome before (λ other. other.0 ≤ result.0) }
-{
-    match before {
-        Some(other) if no.0 < other.0 => other,
-        _ => no,
-    }
-}
-
-/// Whether the panorama is consistent, where that of one cited unit, the first, is at most it. What the
-/// first cites too is met.
-fn rest_is_met(dag: &Dag, first: UnitNo, panorama: &Panorama) -> bool
+/// Whether what each unit observes that both panoramas have is met. It is at most the known panorama,
+/// which is consistent, so only validators are looked at of whom that observes more.
+fn are_shared_met(dag: &Dag, known: &Panorama, panorama: &Panorama) -> bool
     requires panorama { IsPanorama dag.now panorama.now }
-    requires first { Cites panorama.now first }
-    requires below { let seen = observations dag.now (unit_at dag.now first.0).panorama in
-        IsTrue (is_at_most (graph dag.now) seen (observations dag.now panorama.now)) }
-    ensures { result ≡ is_consistent (graph dag.now) (observations dag.now panorama.now) }
+    requires known { IsPanorama dag.now known.now }
+    requires consistent { IsTrue (is_consistent (graph dag.now) (observations dag.now known.now)) }
+    ensures met { IsTrue result → AreSharedMet dag.now known.now panorama.now }
+    ensures unmet { result ≡ false → is_consistent (graph dag.now) (observations dag.now panorama.now) ≡ false }
 {
-    let seen = dag.unit(first).panorama();
+    for validator in 0..dag.validators() {
+        let low = known.get(validator);
+        let high = panorama.get(validator);
+        if !meets(dag, validator, low, high) && !is_column_met(dag, known, panorama, validator) {
+            return false;
+        }
+    }
+    true
+}
+
+/// Whether what each unit that both panoramas have observes of one validator is met.
+fn is_column_met(dag: &Dag, known: &Panorama, panorama: &Panorama, of: u32) -> bool
+    requires panorama { IsPanorama dag.now panorama.now }
+    requires known { IsPanorama dag.now known.now }
+    requires of { of < dag.now.validators }
+    ensures met { IsTrue result → IsColumnMet dag.now known.now panorama.now of }
+    ensures unmet { result ≡ false → is_consistent (graph dag.now) (observations dag.now panorama.now) ≡ false }
+{
+    let high = panorama.get(of);
     for validator in 0..dag.validators() {
         let view = panorama.get(validator);
-        if view == seen.get(validator) || view == View::Correct(first) {
+        if view != known.get(validator) {
             continue;
         }
         if let View::Correct(no) = view {
-            if !at_most_beside(dag, seen, dag.unit(no).panorama(), panorama) {
+            if !meets(dag, of, dag.unit(no).panorama().get(of), high) {
                 return false;
             }
         }
@@ -73,18 +64,22 @@ fn rest_is_met(dag: &Dag, first: UnitNo, panorama: &Panorama) -> bool
     true
 }
 
-/// Whether `left` is at most `right`, where `known` is. Slots that it shares with `known` need no look.
-fn at_most_beside(dag: &Dag, known: &Panorama, left: &Panorama, right: &Panorama) -> bool
+/// Whether the panorama of each unit that only the one panorama has is at most it.
+fn are_others_met(dag: &Dag, known: &Panorama, panorama: &Panorama) -> bool
+    requires panorama { IsPanorama dag.now panorama.now }
     requires known { IsPanorama dag.now known.now }
-    requires left { IsPanorama dag.now left.now }
-    requires right { IsPanorama dag.now right.now }
-    requires below { IsTrue (is_at_most (graph dag.now) (observations dag.now known.now) (observations dag.now right.now)) }
-    ensures { result ≡ is_at_most (graph dag.now) (observations dag.now left.now) (observations dag.now right.now) }
+    ensures met { IsTrue result → AreOthersMet dag.now known.now panorama.now }
+    ensures unmet { result ≡ false → is_consistent (graph dag.now) (observations dag.now panorama.now) ≡ false }
 {
     for validator in 0..dag.validators() {
-        let low = left.get(validator);
-        if low != known.get(validator) && !meets(dag, low, right.get(validator)) {
-            return false;
+        let view = panorama.get(validator);
+        if view == known.get(validator) {
+            continue;
+        }
+        if let View::Correct(no) = view {
+            if !at_most(dag, dag.unit(no).panorama(), panorama) {
+                return false;
+            }
         }
     }
     true

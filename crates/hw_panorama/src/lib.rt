@@ -4,9 +4,10 @@
 //! `at_most` decides the order, `join` makes the least panorama that two are at most, and `consistent`
 //! asks whether the panorama of each cited unit is at most the panorama that cites it.
 //!
-//! Nothing here takes memory. Slots that are equal cost one comparison; only those that differ are
-//! looked at by lanes. `consistent` begins with the newest cited unit: whatever that cites too is at
-//! most its panorama already, so it asks only of the units that differ.
+//! Nothing here takes memory. Two slots are compared by their numbers, unless their validator has units
+//! on two lanes. `consistent` begins with what the newest unit of the graph observes, which is consistent:
+//! a unit that it observes too is looked at only where the panorama is behind it. So a unit that observes
+//! what the one before it did costs one pass over the slots.
 #![tactic(auto)]
 
 mod consistency;

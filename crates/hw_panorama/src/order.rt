@@ -4,7 +4,7 @@ ghost use Rattle.std.specs.Prelude.{◌≡◌};
 ghost use Rattle.hw_types.specs.Graph.{is_at_most};
 ghost use Rattle.hw_dag.specs.Dag.{graph, observations, IsPanorama};
 ghost use Rattle.hw_dag.specs.Admission.{IsGraph};
-ghost use Rattle.hw_panorama.specs.Views.{IsKnownView, is_met};
+ghost use Rattle.hw_panorama.specs.Views.{IsViewOf, is_met};
 
 use hw_dag::{Dag, Panorama, View};
 
@@ -15,7 +15,7 @@ pub fn at_most(dag: &Dag, left: &Panorama, right: &Panorama) -> bool
     ensures { result ≡ is_at_most (graph dag.now) (observations dag.now left.now) (observations dag.now right.now) }
 {
     for validator in 0..dag.validators() {
-        if !meets(dag, left.get(validator), right.get(validator)) {
+        if !meets(dag, validator, left.get(validator), right.get(validator)) {
             return false;
         }
     }
@@ -23,10 +23,10 @@ pub fn at_most(dag: &Dag, left: &Panorama, right: &Panorama) -> bool
 }
 
 /// Whether the one slot is at most the other.
-pub(crate) fn meets(dag: &Dag, low: View, high: View) -> bool
+pub(crate) fn meets(dag: &Dag, validator: u32, low: View, high: View) -> bool
     requires graph { IsGraph dag.now }
-    requires low { IsKnownView dag.now low }
-    requires high { IsKnownView dag.now high }
+    requires low { IsViewOf dag.now validator low }
+    requires high { IsViewOf dag.now validator high }
     ensures { result ≡ is_met dag.now low high }
 {
     if low == high {
@@ -34,7 +34,7 @@ pub(crate) fn meets(dag: &Dag, low: View, high: View) -> bool
     }
     match (low, high) {
         (View::Absent, _) | (_, View::Faulty) => true,
-        (View::Correct(low), View::Correct(high)) => dag.on_lane(low, high),
+        (View::Correct(low), View::Correct(high)) => dag.on_lane_of(validator, low, high),
         _ => false,
     }
 }

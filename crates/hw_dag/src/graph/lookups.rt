@@ -3,7 +3,7 @@
 ghost use Rattle.std.specs.Prelude.{◌≡◌, ℕ, ◌+◌, ◌<◌, ◌≤◌, ◌⊎◌, true, false, length, Some, unwrap_or, IsTrue};
 ghost use Rattle.hw_types.specs.Votes.{is_block};
 ghost use Rattle.hw_skip.specs.Skip.{jump_count};
-ghost use Rattle.hw_dag.specs.Dag.{unit_at, node_at, count_of, seq_of};
+ghost use Rattle.hw_dag.specs.Dag.{unit_at, node_at, count_of, creator_of, seq_of};
 ghost use Rattle.hw_dag.specs.Lanes.{is_lane_below, is_seen, IsLaneAt, IsAncestorAt};
 ghost use Rattle.hw_dag.specs.declared.numbers.UnitNo.{UnitNo as Number};
 ghost use Rattle.hw_dag.specs.Walks.{is_marked, Cites};
@@ -41,6 +41,39 @@ impl Dag {
 
     /// Whether a unit is another one or on its lane.
     pub fn on_lane(&self, low: UnitNo, high: UnitNo) -> bool
+        requires low_known { low.0 < count_of self.now }
+        requires high_known { high.0 < count_of self.now }
+        ensures { result ≡ is_lane_below self.now low.0 high.0 }
+    {
+        let creator = self.units[low.0 as usize].signed().unit.creator;
+        self.units[high.0 as usize].signed().unit.creator == creator
+            && self.on_lane_of(creator, low, high)
+    }
+
+    /// `on_lane` for two units of this creator.
+    #[inline(always)]
+    pub fn on_lane_of(&self, creator: u32, low: UnitNo, high: UnitNo) -> bool
+        requires low_known { low.0 < count_of self.now }
+        requires high_known { high.0 < count_of self.now }
+        requires low_creator { creator_of (unit_at self.now low.0) ≡ creator }
+        requires high_creator { creator_of (unit_at self.now high.0) ≡ creator }
+        ensures { result ≡ is_lane_below self.now low.0 high.0 }
+    {
+        let latest = self.latest.get(creator);
+        // A later unit isn't on an earlier one's lane.
+        if high.0 <= low.0 {
+            return high.0 == low.0;
+        }
+        match latest {
+            // All units of the creator are on one lane, in the order of their numbers.
+            View::Correct(_) => true,
+            View::Absent | View::Faulty => self.leads_to(low, high),
+        }
+    }
+
+    /// `on_lane` by a look-up along the lane.
+    #[inline(never)]
+    fn leads_to(&self, low: UnitNo, high: UnitNo) -> bool
         requires low_known { low.0 < count_of self.now }
         requires high_known { high.0 < count_of self.now }
         ensures { result ≡ is_lane_below self.now low.0 high.0 }

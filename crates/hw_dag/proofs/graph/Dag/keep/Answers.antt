@@ -1,4 +1,4 @@
-use Rattle.std.proofs.Common.{◌-◌, ◌≤◌, ℕ, [], ◌∷◌, ◌++◌, Option, sym, ap, subst, ◌∙◌, arith}
+use Rattle.std.proofs.Common.{rules, ◌-◌, ◌≤◌, ℕ, [], ◌∷◌, ◌++◌, Option, sym, ap, subst, ◌∙◌, arith}
 use Rattle.std.specs.Prelude.{unwrap_or}
 use Rattle.hw_types.specs.declared.unit.SignedUnit.{SignedUnit}
 use Rattle.hw_types.specs.declared.unit.Digest.{Digest}
@@ -6,21 +6,37 @@ use Rattle.hw_dag.specs.declared.numbers.UnitNo.{UnitNo}
 use Rattle.hw_dag.specs.Dag.{UnitGraph}
 use Rattle.hw_dag.specs.Admission.{IsNew, IsGraph, with_unit}
 use Rattle.hw_dag.specs.Skips.{IsDepth}
-use Rattle.hw_dag.specs.Tables.{IsKept}
-use Rattle.hw_dag.proofs.KeepLaws.{lane_first, lane_next, chain_known, chain_first, chain_next, kept_more, kept_as, name_fresh}
+use Rattle.hw_dag.specs.Tables.{IsKept, AreLatest}
+use Rattle.hw_dag.proofs.KeepLaws.{lane_known, lane_first, lane_next, chain_known, chain_first, chain_next, kept_more, kept_as, name_fresh}
 use Rattle.hw_dag.proofs.SkipLaws.{pushed}
+use Rattle.hw_dag.proofs.LatestLaws.{last_creator, latest_kept}
 use Rattle.hw_dag.proofs.graph.Dag.keep.Goals as goal
+
+pub get-requires : goal.get-requires
+get-requires c =
+    let latest = subst (λ (d : UnitGraph). AreLatest d c.self.inside.latest) c.self.view_is c.self.invariant.2 in
+    last_creator c.args.self.now c.args.settling.unit c.requires.graph c.self.inside.latest latest c.signed.result.now.unit.creator (ap (λ (s : SignedUnit). s.unit.creator) c.signed.ensures)
+
+pub set-requires : goal.set-requires
+set-requires c =
+    let latest = subst (λ (d : UnitGraph). AreLatest d c.self.inside.latest) c.self.view_is c.self.invariant.2 in
+    last_creator c.args.self.now c.args.settling.unit c.requires.graph c.self.inside.latest latest c.signed.result.now.unit.creator (ap (λ (s : SignedUnit). s.unit.creator) c.signed.ensures)
+
+pub push-requires-clause-known : goal.push-requires-clause-known
+push-requires-clause-known c = λ p e.
+    let kept = subst (λ (d : UnitGraph). IsKept d c.self.inside.names.keys c.self.inside.lanes.backs c.self.inside.chains.backs) c.self.view_is c.self.invariant.0 in
+    lane_known c.args.self.now c.args.settling.unit _ _ _ kept c.requires.graph p (sym c.predecessor-before.ensures ∙ e)
 
 pub push-requires-clause-first : goal.push-requires-clause-first
 push-requires-clause-first c = λ e.
     let kept = subst (λ (d : UnitGraph). IsKept d c.self.inside.names.keys c.self.inside.lanes.backs c.self.inside.chains.backs) c.self.view_is c.self.invariant.0 in
-    ap (λ (s : SignedUnit). s.unit.seq) c.signed.ensures ∙ lane_first c.args.self.now c.args.settling.unit _ _ _ kept c.requires.graph (sym c.predecessor.ensures ∙ e)
+    ap (λ (s : SignedUnit). s.unit.seq) c.signed-2.ensures ∙ lane_first c.args.self.now c.args.settling.unit _ _ _ kept c.requires.graph (sym c.predecessor-before.ensures ∙ e)
 
 pub push-requires-clause-next : goal.push-requires-clause-next
 push-requires-clause-next c = λ p e.
     let kept = subst (λ (d : UnitGraph). IsKept d c.self.inside.names.keys c.self.inside.lanes.backs c.self.inside.chains.backs) c.self.view_is c.self.invariant.0 in
-    subst (λ (n : ℕ). (1 ≤ n) × IsDepth c.self.inside.lanes.backs p.0 (n - 1)) (sym (ap (λ (s : SignedUnit). s.unit.seq) c.signed.ensures))
-    (lane_next c.args.self.now c.args.settling.unit _ _ _ kept c.requires.graph p (sym c.predecessor.ensures ∙ e))
+    subst (λ (n : ℕ). (1 ≤ n) × IsDepth c.self.inside.lanes.backs p.0 (n - 1)) (sym (ap (λ (s : SignedUnit). s.unit.seq) c.signed-2.ensures))
+    (lane_next c.args.self.now c.args.settling.unit _ _ _ kept c.requires.graph p (sym c.predecessor-before.ensures ∙ e))
 
 pub push-requires-2-clause-known : goal.push-requires-2-clause-known
 push-requires-2-clause-known c = λ p e.
@@ -49,7 +65,7 @@ invariant_of-self c =
     let more = kept_more _ c.args.settling.unit _ _ _ c.self.invariant.0 graph in
     let units = pushed _ c.self.inside.units.items c.push-3.new.self.items c.args.settling.unit c.push-3.ensures.items c.if-is_err.ensures.negation in
     let names = c.add_name.ensures.keys ∙ ap (λ (d : Digest). c.self.inside.names.keys ++ d ∷ []) c.digest.ensures in
-    let lanes = c.push.ensures.backs ∙ ap (λ (o : Option UnitNo). c.self.inside.lanes.backs ++ o ∷ []) c.predecessor.ensures in
+    let lanes = c.push.ensures.backs ∙ ap (λ (o : Option UnitNo). c.self.inside.lanes.backs ++ o ∷ []) c.predecessor-before.ensures in
     let chains = c.push-2.ensures.backs ∙ ap (λ (o : Option UnitNo). c.self.inside.chains.backs ++ o ∷ []) c.parent.ensures in
     let i = c.self.invariant.1 in
     let in_units = i.in_units in let in_names = i.in_names in let in_lanes = i.in_lanes in let in_chains = i.in_chains in
@@ -57,4 +73,7 @@ invariant_of-self c =
     let a = c.add_name.ensures.room in let b = c.push.ensures.spare in let d = c.push-2.ensures.spare in (
       kept_as c.self.inside.validators (c.self.inside.spare - 1) _ _ _ _ _ _ _ _ more units names lanes chains,
       record { in_units = omega arith; in_names = omega arith; in_lanes = omega arith; in_chains = omega arith },
+      latest_kept _ c.self.invariant.0.graph_is c.args.settling.unit graph c.self.inside.latest c.self.invariant.2
+          c.signed.result.now.unit.creator c.get.result c.predecessor-before.result _ c.latest_after-next.result c.set.new.self c.push-3.new.self.items
+          (ap (λ (s : SignedUnit). s.unit.creator) c.signed.ensures) c.get.ensures c.predecessor-before.ensures (search rules) c.latest_after-next.ensures c.set.ensures units,
     )
