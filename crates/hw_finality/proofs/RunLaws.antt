@@ -14,7 +14,7 @@ use Rattle.hw_types.specs.Decisions.{AreDecisions}
 use Rattle.hw_chain.specs.Chain.{AreOnFork}
 use Rattle.hw_chain.specs.Records.{AreNewRecords}
 use Rattle.hw_chain.specs.Laws.{AddsDecisions}
-use Rattle.hw_chain.proofs.ListLaws.{any_is}
+use Rattle.hw_types.proofs.OrderedLaws.{any_is}
 use Rattle.hw_chain.proofs.DetectorLaws.{decides, fork, over_of, of_over, last_stood}
 use Rattle.hw_dag.specs.declared.numbers.UnitNo.{UnitNo}
 use Rattle.hw_dag.specs.declared.numbers.View.{View}
