@@ -1,8 +1,10 @@
 //! The lines of a report.
 
-ghost use Rattle.std.specs.Prelude.{◌≡◌, ◌++◌, OnOk};
+ghost use Rattle.std.specs.Prelude.{◌≡◌, ◌∷◌, ◌++◌, map, OnOk};
+ghost use Rattle.std.specs.List.{flat_map, join_with_byte};
+ghost use Rattle.hw_text.specs.Text.{number_text};
+ghost use Rattle.hw_text.specs.Lines.{spaced, or_dash};
 ghost use Rattle.hw_explain.specs.Report.{counts_line, faulty_line, fork_line, final_words, final_line, exceeded_line};
-ghost use Rattle.std.specs.List.{join_with_byte};
 
 use hw_text::{end_line, put_digest, put_number, put_numbered, put_word};
 use hw_types::{Bytes, Decision, Digest, OutOfMemory};
@@ -31,17 +33,34 @@ pub fn put_counts(out: &mut Bytes, counts: &Counts) -> Result<(), OutOfMemory>
 }
 
 /// Puts the line of the faulty validators last.
+#[tactic(auto, using(crate::proofs::LineLaws::faulty_parts))]
 pub fn put_faulty(out: &mut Bytes, faulty: &[u32]) -> Result<(), OutOfMemory>
     ensures { OnOk result (out.new ≡ out.old ++ faulty_line faulty.now) }
 {
     put_word(out, "faulty")?;
-    if faulty.is_empty() {
-        put_word(out, " -")?;
-    }
-    for validator in faulty {
-        put_numbered(out, " ", u64::from(*validator))?;
-    }
+    put_or_dash(out, faulty)?;
     end_line(out)
+}
+
+/// Puts these numbers last, a space before each, or a dash where there is none.
+#[tactic(auto, using(crate::proofs::LineLaws::some_numbers))]
+fn put_or_dash(out: &mut Bytes, numbers: &[u32]) -> Result<(), OutOfMemory>
+    ensures { OnOk result (out.new ≡ out.old ++ flat_map spaced (or_dash (map number_text numbers.now))) }
+{
+    match numbers {
+        [] => put_word(out, " -"),
+        _ => put_each(out, numbers),
+    }
+}
+
+/// Puts these numbers last, a space before each.
+fn put_each(out: &mut Bytes, numbers: &[u32]) -> Result<(), OutOfMemory>
+    ensures { OnOk result (out.new ≡ out.old ++ flat_map (λ n. 32 ∷ number_text n) numbers.now) }
+{
+    for number in numbers {
+        put_numbered(out, " ", u64::from(*number))?;
+    }
+    Ok(())
 }
 
 /// Puts the line of the fork choice last.

@@ -1,11 +1,7 @@
 -- Lines, word by word.
 use Rattle.std.proofs.Common.{◌≡◌, ℕ, List, [], ◌∷◌, ◌++◌, refl, sym, ap, ◌∙◌, append-nil, append_assoc}
 use Rattle.std.specs.List.{join_with_byte, flat_map}
-use Rattle.hw_text.specs.Lines.{line_of, line_feed}
-
--- a further word, behind a space
-abbrev pub spaced : List ℕ → List ℕ
-spaced w = 32 ∷ w
+use Rattle.hw_text.specs.Lines.{line_of, line_feed, spaced}
 
 joined-words : (w : List ℕ) (ws : List (List ℕ)) → join_with_byte 32 (w ∷ ws) ≡ w ++ flat_map spaced ws
 joined-words w [] = sym (append-nil w)
