@@ -1,0 +1,3 @@
+pub mod TakeLaws
+pub mod AheadLaws
+pub mod CauseLaws
