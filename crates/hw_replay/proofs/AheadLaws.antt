@@ -1,24 +1,19 @@
 -- What a replay will have taken, one entry after the other.
-use Rattle.std.proofs.Common.{◌≡◌, ◌⊎◌, ℕ, false, List, Option, Some, None, Result, Ok, Err, inl, inr, refl, sym, ap, subst, ◌∙◌}
-use Rattle.std.specs.Prelude.{if◌then◌else◌}
-use Rattle.hw_types.specs.declared.config.Config.{Config}
+use Rattle.std.proofs.Common.{◌≡◌, ◌⊎◌, Option, Some, None, Result, Ok, Err, inl, inr, refl, sym, ap, subst, ◌∙◌}
 use Rattle.hw_types.specs.Reading.{Rest}
 use Rattle.hw_log.specs.declared.entry.LogEntry.{LogEntry}
 use Rattle.hw_log.specs.declared.error.LogError.{LogError}
 use Rattle.hw_log.specs.declared.error.LogError.TheVariants as log
 use Rattle.hw_log.specs.Causes as of_log
-use Rattle.hw_log.specs.Reader.{Reading, left_of, Opens}
-use Rattle.hw_log.specs.Log.{Entries, next_at, with_next, header_of, entries_of, log_of}
-use Rattle.hw_log.specs.Log as the_log
+use Rattle.hw_log.specs.Log.{next_at, with_next, entries_of}
 use Rattle.hw_log.proofs.EntryLaws.{entries_next}
 use Rattle.hw_replay.specs.declared.fault.StartFault.{StartFault}
 use Rattle.hw_replay.specs.declared.fault.StartFault.TheVariants as fault
-use Rattle.hw_replay.specs.declared.replay.Replay.{Replay}
 use Rattle.hw_replay.specs.Faults.{fault_of}
-use Rattle.hw_replay.specs.Replay.{is_wanted, said_replayed, replay_of, taken_in, ahead_in, IsOutside, Stops, Begins}
-use Rattle.hw_replay.specs.Steps.{IsBegun, IsStop}
+use Rattle.hw_replay.specs.Replay.{IsOutside, Stops}
+use Rattle.hw_replay.specs.Steps.{IsStop}
 use Rattle.hw_replay.proofs.CauseLaws.{is_outside}
-use Rattle.hw_replay.specs.Taken.{Taken, nothing_taken, ◌>>=◌, entry_taken, entries_taken, or_fault, rest_taken}
+use Rattle.hw_replay.specs.Taken.{Taken, ◌>>=◌, entry_taken, entries_taken, or_fault, rest_taken}
 
 -- what is left of a log, by what comes next
 entries_at : (r : Rest) (n : Result (Option LogEntry × Rest) LogError) → next_at r ≡ n → entries_of r ≡ with_next n entries_of
@@ -52,7 +47,7 @@ ahead_error t r e is = ap (rest_taken t) (entries_at r (Err e) is)
 -- ---- stops
 
 -- want of memory is of the outside
-wants : (e : StartFault) (said : Result Taken StartFault) → e ≡ fault.OutOfMemory → Stops e said
+pub wants : (e : StartFault) (said : Result Taken StartFault) → e ≡ fault.OutOfMemory → Stops e said
 wants e said is = inl (subst IsOutside (sym is) tt)
 
 -- an entry at which it stops
@@ -76,7 +71,7 @@ fault_is (log.BadVerdict at) = inr refl
 fault_is (log.BadVertex at f) = inr refl
 
 -- where the log's error ends what is said
-stops_by : (e : LogError) (said : Result Taken StartFault) → said ≡ Err (fault.Log e) → Stops (fault_of e) said
+pub stops_by : (e : LogError) (said : Result Taken StartFault) → said ≡ Err (fault.Log e) → Stops (fault_of e) said
 stops_by e said is = go (fault_is e)
   where
     go : (IsOutside (fault_of e) ⊎ (fault_of e ≡ fault.Log e)) → Stops (fault_of e) said
@@ -87,34 +82,3 @@ stops_by e said is = go (fault_is e)
 pub stops_at_error : (t : Taken) (r : Rest) (e : LogError) → of_log.Fails e (next_at r) → Stops (fault_of e) (rest_taken t (entries_of r))
 stops_at_error t r e (inl out) = inl (is_outside e out)
 stops_at_error t r e (inr is) = stops_by e (rest_taken t (entries_of r)) (ahead_error t r e is)
-
--- ---- the begin
-
--- what a log says behind its header
-behind_header : (bytes : List ℕ) (config : Config) (rest : Rest) → header_of bytes ≡ Ok (config, rest) → log_of bytes ≡ Ok (config, entries_of rest)
-behind_header bytes config rest is = ap (λ h. h the_log.>>= λ header. Ok (header.0, entries_of header.1)) is
-
-pub begins_ok : (wanted : Option Config) (file : Option (List ℕ)) (unread : List ℕ) (reader : Reading) (r : Replay) → Opens file unread (Ok reader) → IsBegun r reader wanted → Begins wanted file unread (Ok r)
-unfolding replay_of
-begins_ok wanted (Some bytes) unread reader r opens begun =
-    ap (said_replayed wanted) (behind_header bytes reader.config (left_of reader unread) opens)
-    ∙ ap (λ b. if b then rest_taken (nothing_taken reader.config) (entries_of (left_of reader unread)) else Err fault.OtherConfig) begun.is_wanted
-    ∙ ap (λ t. rest_taken t (entries_of (left_of reader unread))) (sym begun.empty)
-    ∙ ap (λ q. rest_taken (taken_in r) (entries_of (left_of q unread))) (sym begun.reader_is)
-begins_ok wanted None unread reader r opens begun = opens
-
-pub begins_other : (wanted : Option Config) (file : Option (List ℕ)) (unread : List ℕ) (reader : Reading) (e : StartFault) → Opens file unread (Ok reader)
-    → (e ≡ fault.OutOfMemory) ⊎ ((e ≡ fault.OtherConfig) × (is_wanted wanted reader.config ≡ false)) → Begins wanted file unread (Err e)
-unfolding replay_of
-begins_other wanted (Some bytes) unread reader e opens (inl want) = wants e (replay_of wanted bytes) want
-begins_other wanted (Some bytes) unread reader e opens (inr other) =
-    inr (ap (said_replayed wanted) (behind_header bytes reader.config (left_of reader unread) opens)
-    ∙ ap (λ b. if b then rest_taken (nothing_taken reader.config) (entries_of (left_of reader unread)) else Err fault.OtherConfig) other.1
-    ∙ ap Err (sym other.0))
-begins_other wanted None unread reader e opens why = absurd opens
-
-pub begins_not : (wanted : Option Config) (file : Option (List ℕ)) (unread : List ℕ) (e : LogError) → Opens file unread (Err e) → Begins wanted file unread (Err (fault_of e))
-unfolding replay_of
-begins_not wanted (Some bytes) unread e (inl out) = inl (is_outside e out)
-begins_not wanted (Some bytes) unread e (inr is) = stops_by e (replay_of wanted bytes) (ap (said_replayed wanted) (ap (λ h. h the_log.>>= λ header. Ok (header.0, entries_of header.1)) is))
-begins_not wanted None unread e out = is_outside e out

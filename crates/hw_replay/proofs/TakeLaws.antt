@@ -11,7 +11,7 @@ use Rattle.hw_types.specs.declared.answers.Cause.TheVariants as cause
 use Rattle.hw_types.specs.Journal.{is_accepted}
 use Rattle.hw_types.specs.Real.{CoreState, answer_in, after_in}
 use Rattle.hw_log.specs.declared.entry.LogEntry.{LogEntry}
-use Rattle.hw_replay.specs.Stub.{IsRefusal}
+use Rattle.hw_core.specs.Deliver.{IsRefusal}
 use Rattle.hw_replay.specs.declared.fault.StartFault.{StartFault}
 use Rattle.hw_replay.specs.declared.fault.StartFault.TheVariants as fault
 use Rattle.hw_replay.specs.Taken.{Taken, clash_with, stop_of, counted_or_stopped, taken_or_stopped, entry_taken}
@@ -32,26 +32,27 @@ is_answer cause.OutOfMemory given is known = absurd (known refl)
 abbrev pub core_by : CoreState → Vertex → Result Receipt Cause → CoreState
 core_by c v given = record c { journal = if is_accepted given then c.journal ++ v ∷ [] else c.journal }
 
+-- what is taken with this node, and so many repeats
+abbrev pub with_repeats : Taken → CoreState → ℕ → Result Taken StartFault
+with_repeats t core n = Ok (record { core = core; refused = t.refused; repeats = n })
+
 -- no repeat more
-not_repeated : (t : Taken) (e : LogEntry) (r : Receipt)
-    → Ok (record { core = core_by t.core e.vertex (Ok r); refused = t.refused; repeats = t.repeats })
-    ≡ Ok (record { core = core_by t.core e.vertex (Ok r); refused = t.refused; repeats = t.repeats + 0 })
-not_repeated t e r = let none : t.repeats ≡ t.repeats + 0 = omega arith in ap (λ n. Ok (record { core = core_by t.core e.vertex (Ok r); refused = t.refused; repeats = n })) none
+not_repeated : (t : Taken) (core : CoreState) → with_repeats t core t.repeats ≡ with_repeats t core (t.repeats + 0)
+not_repeated t core = let none : t.repeats ≡ t.repeats + 0 = omega arith in ap (with_repeats t core) none
 
 -- a receipt is what is taken
-by_receipt : (t : Taken) (e : LogEntry) (r : Receipt)
-    → taken_or_stopped t e (Ok r) ≡ Ok (record { core = core_by t.core e.vertex (Ok r); refused = t.refused; repeats = t.repeats + repeats_in r })
+by_receipt : (t : Taken) (e : LogEntry) (r : Receipt) → taken_or_stopped t e (Ok r) ≡ with_repeats t (core_by t.core e.vertex (Ok r)) (t.repeats + repeats_in r)
 by_receipt t e receipt.Repeat = refl
-by_receipt t e (receipt.Admitted n) = not_repeated t e (receipt.Admitted n)
-by_receipt t e (receipt.Parked n) = not_repeated t e (receipt.Parked n)
-by_receipt t e (receipt.Dropped r) = not_repeated t e (receipt.Dropped r)
+by_receipt t e (receipt.Admitted n) = not_repeated t (core_by t.core e.vertex (Ok (receipt.Admitted n)))
+by_receipt t e (receipt.Parked n) = not_repeated t (core_by t.core e.vertex (Ok (receipt.Parked n)))
+by_receipt t e (receipt.Dropped r) = not_repeated t (core_by t.core e.vertex (Ok (receipt.Dropped r)))
 
 pub taken_answered : (t : Taken) (e : LogEntry) (r : Receipt) → answer_in t.core e.vertex e.verdict ≡ Ok r
-    → entry_taken t e ≡ Ok (record { core = after_in t.core e.vertex e.verdict; refused = t.refused; repeats = t.repeats + repeats_in r })
+    → entry_taken t e ≡ with_repeats t (after_in t.core e.vertex e.verdict) (t.repeats + repeats_in r)
 unfolding entry_taken
 taken_answered t e r is =
     ap (taken_or_stopped t e) is ∙ by_receipt t e r
-    ∙ ap (λ given. Ok (record { core = core_by t.core e.vertex given; refused = t.refused; repeats = t.repeats + repeats_in r })) (sym is)
+    ∙ ap (λ given. with_repeats t (core_by t.core e.vertex given) (t.repeats + repeats_in r)) (sym is)
 
 -- a delivery leaves the node as it was, or the vertex goes last
 grown : (c : CoreState) (v : Vertex) (b : Bool) → GrowsByOne c (record c { journal = if b then c.journal ++ v ∷ [] else c.journal })

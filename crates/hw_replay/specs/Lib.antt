@@ -1,6 +1,6 @@
 pub mod Taken
 pub mod Replay
 pub mod Causes
-pub mod Stub
 pub mod Faults
 pub mod Steps
+pub mod Stub

@@ -1,10 +1,8 @@
 -- The steps of a replay.
-use Rattle.std.specs.Prelude.{◌≡◌, ℕ, ◌+◌, ◌≤◌, ◌^◌, ◌⊎◌, true, List, [], Option, Some, None, Result, Err}
+use Rattle.std.specs.Prelude.{◌≡◌, ℕ, ◌+◌, ◌≤◌, ◌^◌, ◌⊎◌, true, Option, Result, Err}
 use Rattle.hw_types.specs.declared.config.Config.{Config}
-use Rattle.hw_types.specs.declared.unit.SignedUnit.{SignedUnit}
 use Rattle.hw_types.specs.declared.answers.Receipt.{Receipt}
 use Rattle.hw_types.specs.declared.answers.Receipt.TheVariants as receipt
-use Rattle.hw_types.specs.Spelling.{unit_bytes}
 use Rattle.hw_log.specs.Reader.{Reading, ahead_of, PlacesFit}
 use Rattle.hw_replay.specs.declared.fault.StartFault.{StartFault}
 use Rattle.hw_replay.specs.declared.fault.StartFault.TheVariants as fault
@@ -26,11 +24,6 @@ pub record IsBegun (r : Replay) (reader : Reading) (wanted : Option Config) : Ty
 -- it is want of memory, or what the definition stops with
 abbrev pub IsStop : StartFault → Result Taken StartFault → Type 0
 IsStop e said = (e ≡ fault.OutOfMemory) ⊎ (said ≡ Err e)
-
--- the spelling of a unit, if there is one
-abbrev pub spelled : Option SignedUnit → List ℕ
-spelled None = []
-spelled (Some s) = unit_bytes s.unit
 
 -- it is of one entry, and no error of the log
 abbrev pub IsOfEntry : StartFault → Type 0

@@ -1,23 +1,16 @@
-use Rattle.std.specs.Prelude.{◌≡◌, Result, Ok, Err}
-use Rattle.hw_types.specs.declared.answers.Receipt.{Receipt}
-use Rattle.hw_types.specs.declared.answers.Cause.{Cause}
-use Rattle.hw_types.specs.declared.answers.Cause.TheVariants as cause
+use Rattle.std.specs.Prelude.{List, find, filter_map, Option, Some, None}
+use Rattle.hw_types.specs.declared.unit.Digest.{Digest}
+use Rattle.hw_types.specs.declared.unit.SignedUnit.{SignedUnit}
+use Rattle.hw_types.specs.declared.unit.Vertex.{Vertex}
+use Rattle.hw_types.specs.declared.unit.Vertex.TheVariants as vertex
+use Rattle.hw_types.specs.Graph.{digest_eq}
+use Rattle.hw_types.specs.Spelling.{digest_of}
+use Rattle.hw_types.specs.Real.{CoreState}
 
-abbrev pub MayWantMemory : Result Receipt Cause → Type 0
-MayWantMemory (Ok r) = Unit {0}
-MayWantMemory (Err cause.BadSignature) = ⊥
-MayWantMemory (Err (cause.Local rule)) = ⊥
-MayWantMemory (Err (cause.Pair fault)) = ⊥
-MayWantMemory (Err (cause.Clash d)) = Unit {0}
-MayWantMemory (Err cause.RecordsFull) = Unit {0}
-MayWantMemory (Err cause.ParkFull) = Unit {0}
-MayWantMemory (Err cause.OutOfMemory) = Unit {0}
+abbrev pub signed_unit : Vertex → Option SignedUnit
+signed_unit (vertex.Unit u) = Some u
+signed_unit (vertex.Evidence e) = None
+signed_unit (vertex.Endorsement e) = None
 
-abbrev pub IsRefusal : Cause → Result Receipt Cause → Type 0
-IsRefusal cause.OutOfMemory given = MayWantMemory given
-IsRefusal cause.BadSignature given = given ≡ Err cause.BadSignature
-IsRefusal (cause.Local rule) given = given ≡ Err (cause.Local rule)
-IsRefusal (cause.Pair fault) given = given ≡ Err (cause.Pair fault)
-IsRefusal (cause.Clash d) given = given ≡ Err (cause.Clash d)
-IsRefusal cause.RecordsFull given = given ≡ Err cause.RecordsFull
-IsRefusal cause.ParkFull given = given ≡ Err cause.ParkFull
+unfoldable pub unit_in : CoreState → Digest → Option SignedUnit
+unit_in c d = find (λ u. digest_eq d (digest_of u.unit)) (filter_map signed_unit c.journal)

@@ -1,6 +1,7 @@
 -- What the entries of a log leave of a node, one after the other.
 use Rattle.std.specs.Prelude.{ℕ, ◌+◌, List, [], ◌∷◌, ◌++◌, Option, Some, None, Result, Ok, Err}
 use Rattle.hw_types.specs.declared.unit.Digest.{Digest}
+use Rattle.hw_types.specs.declared.unit.SignedUnit.{SignedUnit}
 use Rattle.hw_types.specs.declared.unit.Vertex.{Vertex}
 use Rattle.hw_types.specs.declared.unit.Vertex.TheVariants as vertex
 use Rattle.hw_types.specs.declared.config.Config.{Config}
@@ -8,9 +9,9 @@ use Rattle.hw_types.specs.declared.answers.Receipt.{Receipt}
 use Rattle.hw_types.specs.declared.answers.Receipt.TheVariants as receipt
 use Rattle.hw_types.specs.declared.answers.Cause.{Cause}
 use Rattle.hw_types.specs.declared.answers.Cause.TheVariants as cause
-use Rattle.hw_types.specs.Graph.{Node, find_node}
 use Rattle.hw_types.specs.Spelling.{unit_bytes}
-use Rattle.hw_types.specs.Real.{CoreState, received_in, answer_in}
+use Rattle.hw_types.specs.Real.{CoreState, answer_in}
+use Rattle.hw_replay.specs.Stub.{unit_in}
 use Rattle.hw_log.specs.declared.entry.LogEntry.{LogEntry}
 use Rattle.hw_log.specs.declared.error.LogError.{LogError}
 use Rattle.hw_log.specs.Log.{Entries}
@@ -39,14 +40,14 @@ with_vertex t v = record t { core = record t.core { journal = t.core.journal ++ 
 
 -- ---- two different units of one digest
 
--- the spelling of a unit, if it is there
-abbrev pub spelling_of : Option Node → List ℕ
+-- the spelling of a unit, if there is one
+abbrev pub spelling_of : Option SignedUnit → List ℕ
 spelling_of None = []
-spelling_of (Some x) = unit_bytes x.unit
+spelling_of (Some s) = unit_bytes s.unit
 
 -- A unit clashes with the journal's unit of that digest, the two units of an evidence with each other. The known one is named first.
 abbrev pub clash_with : CoreState → Vertex → Digest → StartFault
-clash_with c (vertex.Unit u) d = fault.Clash (spelling_of (find_node (received_in c).units d)) (unit_bytes u.unit)
+clash_with c (vertex.Unit u) d = fault.Clash (spelling_of (unit_in c d)) (unit_bytes u.unit)
 clash_with c (vertex.Evidence e) d = fault.Clash (unit_bytes e.left.unit) (unit_bytes e.right.unit)
 clash_with c (vertex.Endorsement e) d = fault.Clash [] []
 

@@ -4,9 +4,9 @@
 //! clash stops it; other refusals are counted.
 #![tactic(auto)]
 
-mod core_stub;
 mod fault;
 mod replay;
+mod stub;
 
 pub use fault::StartFault;
 pub use replay::{Replay, replay_log};

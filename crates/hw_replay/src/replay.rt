@@ -8,14 +8,15 @@ ghost use Rattle.hw_types.specs.Spelling.{Fits, VertexFits, ConfigFits};
 ghost use Rattle.hw_log.specs.Reader.{ahead_of, PlacesFit};
 ghost use Rattle.hw_types.specs.declared.answers.Cause.TheVariants as Causes;
 ghost use Rattle.hw_replay.specs.declared.fault.StartFault.TheVariants as Faults;
-ghost use Rattle.hw_replay.specs.Taken.{nothing_taken, entry_taken, stop_of, clash_with};
+ghost use Rattle.hw_replay.specs.Taken.{nothing_taken, entry_taken, spelling_of, stop_of, clash_with};
 ghost use Rattle.hw_replay.specs.Replay.{is_wanted, taken_in, ahead_in, Begins, Leads, GrowsByOne, Replays};
 ghost use Rattle.hw_replay.specs.Causes.{HasReplayCause};
-ghost use Rattle.hw_replay.specs.Steps.{HasRoom, IsBegun, IsStop, IsOfEntry, repeats_in, spelled};
+ghost use Rattle.hw_replay.specs.Steps.{HasRoom, IsBegun, IsStop, IsOfEntry, repeats_in};
 
-use crate::core_stub::{Core, Refused};
+use crate::stub::unit_of;
 use crate::fault::{StartFault, fault_of};
 use hw_codec::{encode_config, encode_unit};
+use hw_core::{Core, Refused};
 use hw_io::Files;
 use hw_log::{LogEntry, LogReader};
 use hw_types::{Bytes, Cause, Config, Digest, OutOfMemory, Receipt, SignedUnit, Vertex};
@@ -161,7 +162,7 @@ fn clash(
 {
     match vertex {
         Vertex::Unit(other) => Ok(StartFault::Clash {
-            known: spelling_of(alloc, core.unit_of(known))?,
+            known: spelling_of(alloc, unit_of(core, known))?,
             other: encode_unit(alloc, &other.unit)?,
         }),
         Vertex::Evidence(evidence) => Ok(StartFault::Clash {
@@ -178,7 +179,7 @@ fn clash(
 /// The spelling of a unit, if there is one.
 fn spelling_of(alloc: Global, unit: Option<&SignedUnit>) -> Result<Bytes, OutOfMemory>
     requires { IfSome unit (λ u. Fits u.now.unit) }
-    ensures { IfOk result (λ bytes. bytes ≡ spelled (option_copied unit.entry)) }
+    ensures { IfOk result (λ bytes. bytes ≡ spelling_of (option_copied unit.entry)) }
 {
     match unit {
         Some(signed) => encode_unit(alloc, &signed.unit),

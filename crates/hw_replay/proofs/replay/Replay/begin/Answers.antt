@@ -1,5 +1,5 @@
 use Rattle.std.proofs.lemmas.Result.{err_from_is_err_and}
-use Rattle.hw_replay.proofs.AheadLaws.{begins_ok, begins_other, begins_not}
+use Rattle.hw_replay.proofs.BeginLaws.{begins_ok, begins_other, begins_not}
 use Rattle.hw_replay.proofs.replay.Replay.begin.Goals as goal
 
 pub returns-in_err-begun-in-Ok-clause-said : goal.returns-in_err-begun-in-Ok-clause-said
