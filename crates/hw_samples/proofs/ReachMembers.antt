@@ -48,6 +48,7 @@ use Rattle.hw_samples.specs.Reach.{CertificatesAreMade, ending, in_naming, first
 use Rattle.hw_samples.proofs.Members.{Each, each_member, all_one, no_clash, are_same_where_named}
 use Rattle.hw_samples.proofs.SummitMembers.{four_stands}
 use Rattle.hw_types.proofs.OrderedLaws.{among_all}
+use Rattle.hw_eras.proofs.EraLaws.{node_chain}
 
 -- ---- certificates
 
@@ -222,6 +223,7 @@ eras_follow = record {
   no_weight = no_weight;
   no_spelling = no_spelling;
   two_eras = two_eras;
+  chain = node_chain in_naming ending (first_era ∷ empty_era ∷ []) two_eras;
   agree = (1, 0, (same_no_clash, record { begins = inl ([], refl); shorter = refl }), refl, refl);
   differ = (
     ending,

@@ -8,7 +8,7 @@ use Rattle.hw_verdicts.specs.declared.verdict.Verdict.TheVariants as verdict
 use Rattle.hw_certificates.specs.Certificates.{IsEnough, IsExtract, Certifies}
 use Rattle.hw_summit.specs.Pruned.{pruned_committees}
 use Rattle.hw_types.specs.Journal.{named, received_of}
-use Rattle.hw_eras.specs.Eras.{next_config, Naming, Era, AreEras, IsEraVerdict}
+use Rattle.hw_eras.specs.Eras.{next_config, Naming, Era, AreEras, IsEraVerdict, AreOneChain}
 use Rattle.hw_eras.specs.declared.verdict.EraVerdict.TheVariants as eras
 use Rattle.hw_converge.specs.declared.summary.LaneSummary.TheVariants.{Nothing, Line}
 use Rattle.hw_chain.specs.Taken.{taken, NoneRefused}
@@ -59,6 +59,7 @@ pub record ErasFollow : Type 0 where
   pub no_weight : next_config ending (short_name a0) zero_weight ≡ record ending { leaders = Drawn (short_name a0).0 }
   pub no_spelling : next_config ending (short_name a0) (120 ∷ []) ≡ record ending { leaders = Drawn (short_name a0).0 }
   pub two_eras : AreEras in_naming (Some ending) (first_era ∷ empty_era ∷ [])
+  pub chain : AreOneChain in_naming ending (first_era ∷ empty_era ∷ [])
   pub agree : IsEraVerdict in_naming ending (first_era ∷ empty_era ∷ []) (first_era ∷ []) (eras.Agree 1)
   pub differ : IsEraVerdict in_naming ending (first_era ∷ []) (rival_era ∷ []) (eras.At 0 (verdict.Conflict 0 (short_name a0) (short_name c0) (the_culprit ∷ []) 1))
 
