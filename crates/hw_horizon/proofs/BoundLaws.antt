@@ -1,12 +1,11 @@
 -- What is kept of each level rules out summits, and stays true while the graph grows.
-use Rattle.std.proofs.Common.{◌≡◌, ℕ, zero, suc, ◌+◌, ◌-◌, ◌≤◌, ◌<◌, inl, inr, Bool, true, false, List, length, get_or, Option, Some, None, refl, sym, ap, subst, ◌∙◌, arith, eqb-true}
+use Rattle.std.proofs.Common.{◌≡◌, ℕ, zero, suc, ◌+◌, ◌-◌, ◌≤◌, ◌<◌, inl, inr, true, false, List, length, get_or, Some, None, refl, sym, ap, subst, ◌∙◌, arith, eqb-true}
 use Rattle.std.specs.Prelude.{◌&&◌, ◌==◌, nat_le}
-use Rattle.std.proofs.lemmas.Bool.{cases_lt, le-leb, leb-true, leb-false}
-use Rattle.hw_types.specs.declared.unit.Obs.{Obs}
-use Rattle.hw_types.specs.Graph.{Node, latest, observed, past, unit_cites, cites, is_consistent, lane_of}
+use Rattle.std.proofs.lemmas.Bool.{cases_lt, le-leb, leb-true}
+use Rattle.hw_types.specs.Graph.{Node, latest, observed, unit_cites, cites, is_consistent}
 use Rattle.hw_types.specs.Below.{Among}
-use Rattle.hw_types.specs.Votes.{weight_of, votes_for, unit_fork}
-use Rattle.hw_types.specs.Summit.{Committees, IsSummit, sees_from, seen_weight}
+use Rattle.hw_types.specs.Votes.{weight_of}
+use Rattle.hw_types.specs.Summit.{Committees, IsSummit, sees_from}
 use Rattle.hw_types.proofs.PastLaws.{some_of, reach_within}
 use Rattle.hw_types.proofs.StableLaws.{and_parts}
 use Rattle.hw_types.proofs.SummitLaws.{weight_le}
@@ -16,14 +15,13 @@ use Rattle.hw_dag.specs.declared.numbers.View.TheVariants as view
 use Rattle.hw_dag.specs.Dag.{SettledUnit, UnitGraph, unit_at, count_of, node_at, graph, creator_of, seq_of, view_at, obs_of, observations, IsPanorama, GrowsTo}
 use Rattle.hw_dag.specs.Admission.{IsGraph}
 use Rattle.hw_dag.specs.Lanes.{is_lane_below, AreWeights}
-use Rattle.hw_dag.proofs.NodeLaws.{among_node, node_among}
+use Rattle.hw_dag.proofs.NodeLaws.{among_node}
 use Rattle.hw_dag.proofs.SlotLaws.{slot_of, latest_of}
 use Rattle.hw_dag.proofs.LaneLaws.{history, on_lane_among, seen_entry, lane_is_seen}
 use Rattle.hw_dag.proofs.MarkLaws.{seen_earlier}
 use Rattle.hw_dag.proofs.GrowthLaws.{count_grows, unit_stays, is_lane_below_stays}
-use Rattle.hw_horizon.specs.Starts.{votes_over}
-use Rattle.hw_horizon.specs.Firsts.{is_after, sees_after, weight_after, has_quorum}
-use Rattle.hw_horizon.specs.Bounds.{LevelBound, KeptBounds, tip_of, bound_of, first_of, support_of, counts_at, IsFirstOf, IsBounded, AreBounds, tip_in, AreTips}
+use Rattle.hw_horizon.specs.Firsts.{is_after, sees_after, weight_after}
+use Rattle.hw_horizon.specs.Bounds.{LevelBound, KeptBounds, tip_of, bound_of, first_of, support_of, counts_at, IsBounded, tip_in, AreTips}
 use Rattle.hw_horizon.specs.Laws.{BoundsRuleOut, BoundsStay, SumsStay}
 use Rattle.hw_horizon.proofs.LaneLaws.{lane_self, lane_lower, lane_above}
 use Rattle.hw_horizon.proofs.VoteLaws.{votes_are}
