@@ -41,7 +41,6 @@ pub fn check_pair(evidence: &Evidence, instance: &Digest, validators: u32) -> Re
     Ok(left.creator)
 }
 
-#[cfg(test)]
 mod tests {
     use super::*;
     use hw_types::{Items, Signature, SignedUnit, WireUnit};

@@ -40,7 +40,6 @@ pub fn changes_lawfully(before: u64, before_exponent: u8, time: u64, exponent: u
     before_exponent == exponent || before >> greater < time >> greater
 }
 
-#[cfg(test)]
 mod tests {
     use super::*;
 

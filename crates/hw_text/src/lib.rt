@@ -9,6 +9,3 @@ mod rules;
 
 pub use parts::{put_digest, put_number, put_word};
 pub use rules::rule_name;
-
-#[cfg(test)]
-mod tests;
