@@ -1,15 +1,13 @@
 -- A unit that is admitted, and what becomes of the state.
-use Rattle.std.proofs.Common.{◌≡◌, ◌≢◌, ℕ, ◌+◌, ◌<◌, ◌≤◌, ◌⊎◌, inl, inr, Bool, true, false, cond, List, length, Option, Some, None, set, refl, sym, ap, subst, subst₂, ◌∙◌, arith}
+use Rattle.std.proofs.Common.{◌≡◌, ℕ, ◌<◌, ◌⊎◌, inl, inr, Bool, true, false, cond, List, length, Option, set, refl, sym, ap, subst, subst₂, ◌∙◌, arith}
 use Rattle.std.specs.Option.{option_map}
 use Rattle.std.proofs.lemmas.Bool.{cases_lt}
-use Rattle.hw_types.specs.declared.unit.Digest.{Digest}
 use Rattle.hw_types.specs.declared.unit.Obs.{Obs}
-use Rattle.hw_types.specs.declared.unit.Obs.TheVariants.{Absent, Correct, Faulty}
+use Rattle.hw_types.specs.declared.unit.Obs.TheVariants.{Correct, Faulty}
 use Rattle.hw_types.specs.declared.config.Config.{Config}
 use Rattle.hw_types.specs.Graph.{Node, slot, is_faulty_mark}
 use Rattle.hw_types.specs.Below.{Among}
 use Rattle.hw_types.specs.Lawful.{IsLawful}
-use Rattle.hw_types.specs.Rules.{state_rule}
 use Rattle.hw_types.specs.Settled.{is_faulty, panorama_over}
 use Rattle.hw_types.specs.laws.StateLaws.{HasOneMore}
 use Rattle.hw_types.specs.Votes.{fork_of}
@@ -19,7 +17,7 @@ use Rattle.hw_types.proofs.WordsLaws.{either, never_both}
 use Rattle.hw_dag.specs.declared.numbers.UnitNo.{UnitNo}
 use Rattle.hw_dag.specs.declared.numbers.View.{View}
 use Rattle.hw_dag.specs.declared.numbers.View.TheVariants as view
-use Rattle.hw_dag.specs.Dag.{SettledUnit, UnitGraph, unit_at, count_of, node_at, node_of, graph, view_at, obs_of, creator_of, observations, IsPanorama, GrowsTo}
+use Rattle.hw_dag.specs.Dag.{SettledUnit, UnitGraph, unit_at, count_of, node_at, node_of, graph, view_at, obs_of, creator_of, observations, IsPanorama}
 use Rattle.hw_dag.specs.Admission.{PreparedUnit, IsGraph, IsReady, node_prepared, settled_from, with_unit}
 use Rattle.hw_dag.specs.Lanes.{AreWeights}
 use Rattle.hw_dag.proofs.AdmitLaws.{grows, last_at, count_later, later_apart, graph_more, panorama_stays}
@@ -27,7 +25,6 @@ use Rattle.hw_dag.proofs.GrowthLaws.{observations_stay, graph_part, node_stays}
 use Rattle.hw_dag.proofs.NodeLaws.{among_node, node_among}
 use Rattle.hw_dag.proofs.SlotLaws.{slot_of}
 use Rattle.hw_dag.proofs.VoteLaws.{votes_more}
-use Rattle.hw_naivety.specs.Naivety.{NaiveTips, KeepsEndorsed, HasNoNaiveFork, IsNoted}
 use Rattle.hw_admit.specs.State.{NodeState, IsState, MarksAreMet, is_faulty_in, observed_in}
 use Rattle.hw_admit.proofs.FaultyLaws.{evidence_in, faulty_same, more_faulty, lawful_in, over_faulty, observations_set, panorama_with}
 

@@ -1,13 +1,12 @@
 -- Who is faulty, and the panorama that it makes.
-use Rattle.std.proofs.Common.{◌≡◌, ◌≢◌, ℕ, ◌<◌, ◌≤◌, inl, inr, Bool, true, false, cond, List, [], length, set, filter, Option, Some, None, refl, sym, ap, subst, ◌∙◌, arith, eqb-true, eq-eqb, get_or-set_other, get_or-set_same, ext_get_or, length-set}
+use Rattle.std.proofs.Common.{◌≡◌, ℕ, ◌<◌, inl, inr, Bool, true, false, cond, List, [], length, set, filter, Option, Some, None, refl, sym, ap, subst, ◌∙◌, arith, eqb-true, eq-eqb, get_or-set_other, get_or-set_same, length-set}
 use Rattle.std.proofs.Math.ListN.{get_or-eq_default}
 use Rattle.std.specs.Prelude.{◌||◌, ◌==◌}
-use Rattle.std.specs.List.{list_any, range_with_len}
+use Rattle.std.specs.List.{range_with_len}
 use Rattle.std.proofs.lemmas.Bool.{cases_lt}
 use Rattle.std.proofs.lemmas.List.{map-set}
 use Rattle.std.proofs.lemmas.List.FromFn.{length-map-range_with_len}
-use Rattle.hw_types.specs.declared.unit.Obs.{Obs}
-use Rattle.hw_types.specs.declared.unit.Obs.TheVariants.{Absent, Correct, Faulty}
+use Rattle.hw_types.specs.declared.unit.Obs.TheVariants.{Faulty}
 use Rattle.hw_types.specs.declared.config.Config.{Config}
 use Rattle.hw_types.specs.Graph.{Node, slot, is_faulty_mark}
 use Rattle.hw_types.specs.Below.{Among}
@@ -24,8 +23,7 @@ use Rattle.hw_dag.specs.declared.numbers.View.TheVariants as view
 use Rattle.hw_dag.specs.Dag.{UnitGraph, unit_at, count_of, graph, view_at, obs_of, creator_of, observations, IsPanorama}
 use Rattle.hw_dag.specs.Admission.{IsGraph}
 use Rattle.hw_dag.proofs.LawfulLaws.{graph_is_lawful}
-use Rattle.hw_dag.proofs.SlotLaws.{slot_of}
-use Rattle.hw_admit.specs.State.{is_marked, is_faulty_in, observed_in, MarksAreMet}
+use Rattle.hw_admit.specs.State.{is_marked, is_faulty_in, MarksAreMet}
 
 -- ---- marks as evidence that was received
 

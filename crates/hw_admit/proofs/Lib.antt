@@ -4,4 +4,6 @@ pub mod StateLaws
 pub mod SpareLaws
 pub mod StartLaws
 pub mod RuleLaws
+pub mod KeptSlots
+pub mod KeptLaws
 pub mod AdmitLaws

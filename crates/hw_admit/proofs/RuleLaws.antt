@@ -1,10 +1,8 @@
 -- What the rules give of a unit that is to be admitted.
-use Rattle.std.proofs.Common.{◌≡◌, ℕ, ◌+◌, ◌<◌, ◌≤◌, false, List, length, Option, None, refl, sym, ap, subst, ◌∙◌, arith}
-use Rattle.std.specs.Option.{option_map}
+use Rattle.std.proofs.Common.{◌≡◌, ℕ, ◌≤◌, List, length, Option, None, sym, subst}
 use Rattle.hw_types.specs.declared.unit.Obs.{Obs}
 use Rattle.hw_types.specs.declared.config.Config.{Config}
 use Rattle.hw_types.specs.Rules.{state_rule, state_tests}
-use Rattle.hw_types.specs.Tests.{first_broken}
 use Rattle.hw_types.proofs.WordsLaws.{AllFalse, none_broken}
 use Rattle.hw_dag.specs.declared.numbers.UnitNo.{UnitNo}
 use Rattle.hw_dag.specs.Dag.{UnitGraph, count_of, node_at, graph, observations, IsPanorama}

@@ -1,17 +1,18 @@
 -- More room changes nothing that a definition sees.
-use Rattle.std.proofs.Common.{◌≡◌, ℕ, ◌<◌, ◌≤◌, ◌+◌, Bool, List, [], ◌++◌, length, refl, sym, ap, subst, ◌∙◌, arith}
+use Rattle.std.proofs.Common.{◌≡◌, ℕ, List, [], sym, ap, subst, ◌∙◌}
 use Rattle.std.proofs.lemmas.List.{append-nil}
-use Rattle.hw_types.specs.declared.config.Config.{Config}
-use Rattle.hw_types.specs.declared.unit.Obs.{Obs}
 use Rattle.hw_types.specs.Graph.{Node}
 use Rattle.hw_types.specs.Below.{Among}
-use Rattle.hw_dag.specs.Dag.{SettledUnit, UnitGraph, graph, count_of, by_name_of, observations, GrowsTo}
+use Rattle.hw_dag.specs.Dag.{SettledUnit, UnitGraph, graph, by_name_of, GrowsTo}
 use Rattle.hw_dag.specs.Admission.{IsGraph}
 use Rattle.hw_dag.specs.Lanes.{AreWeights, VotesAre}
 use Rattle.hw_dag.proofs.AdmitLaws.{panorama_stays}
 use Rattle.hw_dag.proofs.GrowthLaws.{observations_stay}
 use Rattle.hw_naivety.specs.Naivety.{NaiveTips, IsNoted}
 use Rattle.hw_naivety.proofs.GrowLaws.{noted_stays}
+use Rattle.hw_admit.specs.declared.kept.KeptFork.{KeptFork}
+use Rattle.hw_admit.specs.Kept.{IsKept}
+use Rattle.hw_admit.proofs.KeptLaws.{kept_stays}
 use Rattle.hw_admit.specs.State.{NodeState, IsState, MarksAreMet, observed_in}
 
 -- a graph with more room, as one
@@ -27,6 +28,9 @@ module _ (dag later : UnitGraph) (g : IsGraph dag) (h : IsGraph later) (units : 
 
   pub noted_respaced : (tips : NaiveTips) → IsNoted tips dag → IsNoted tips later
   noted_respaced tips noted = noted_stays dag later g h grows_none tips noted
+
+  pub kept_respaced : (weights : List ℕ) (kept : KeptFork) → IsKept weights dag kept → IsKept weights later kept
+  kept_respaced weights kept is = kept_stays weights dag later grows_none g h.distinct kept is
 
   weights_respaced : (weights : List ℕ) → AreWeights weights dag → AreWeights weights later
   weights_respaced weights are = record {

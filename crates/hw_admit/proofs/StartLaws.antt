@@ -1,13 +1,12 @@
 -- The state before anything came.
-use Rattle.std.proofs.Common.{◌≡◌, ℕ, zero, suc, ◌<◌, ◌≤◌, inl, inr, Bool, true, false, not, List, [], length, Some, None, refl, sym, ap, subst, ◌∙◌, arith, ext_get_or}
+use Rattle.std.proofs.Common.{◌≡◌, ℕ, zero, suc, ◌<◌, inl, inr, Bool, true, false, List, [], length, Some, None, refl, sym, ap, subst, ◌∙◌, arith, ext_get_or}
 use Rattle.std.proofs.Math.ListN.{get_or-eq_default}
-use Rattle.std.specs.Prelude.{◌||◌, ◌==◌, nat_lt, replicate, position, sum, All, slice_index_or, if◌then◌else◌}
+use Rattle.std.specs.Prelude.{◌||◌, nat_lt, replicate, position, All, slice_index_or, if◌then◌else◌}
 use Rattle.std.proofs.lemmas.Bool.{cases_lt, lt-ltb}
 use Rattle.std.proofs.lemmas.List.{get_or-replicate, length-replicate}
 use Rattle.std.proofs.lemmas.List.Sums.{fails_before_first}
 use Rattle.hw_types.specs.declared.config.Config.{Config}
 use Rattle.hw_types.specs.declared.unit.Digest.{Digest}
-use Rattle.hw_types.specs.declared.unit.Obs.{Obs}
 use Rattle.hw_types.specs.declared.unit.Obs.TheVariants.{Absent}
 use Rattle.hw_types.specs.Graph.{Node}
 use Rattle.hw_types.specs.Below.{Among}
@@ -24,7 +23,7 @@ use Rattle.hw_dag.specs.Admission.{IsGraph}
 use Rattle.hw_dag.specs.Lanes.{AreWeights}
 use Rattle.hw_dag.proofs.NodeLaws.{among_node}
 use Rattle.hw_dag.proofs.SlotLaws.{slot_of, length-observations}
-use Rattle.hw_admit.specs.State.{NodeState, IsState, MarksAreMet, is_marked, is_faulty_in, observed_in}
+use Rattle.hw_admit.specs.State.{IsState, MarksAreMet, is_marked, is_faulty_in, observed_in}
 use Rattle.hw_admit.proofs.FaultyLaws.{lawful_in, length_over}
 
 -- ---- weights

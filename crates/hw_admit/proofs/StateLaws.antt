@@ -2,25 +2,24 @@
 use Rattle.std.proofs.Common.{◌≡◌, ◌≢◌, ℕ, ◌<◌, inl, inr, Bool, true, false, cond, List, length, set, refl, sym, ap, subst, ◌∙◌, arith, eqb-true, eq-eqb, get_or-set_other, get_or-set_same, ext_get_or, length-set}
 use Rattle.std.specs.Prelude.{◌||◌, ◌==◌}
 use Rattle.hw_types.specs.declared.unit.Obs.{Obs}
-use Rattle.hw_types.specs.declared.unit.Obs.TheVariants.{Absent, Correct, Faulty}
-use Rattle.hw_types.specs.Graph.{Node, slot, is_faulty_mark, is_consistent}
-use Rattle.hw_types.specs.Below.{Among}
+use Rattle.hw_types.specs.declared.unit.Obs.TheVariants.{Absent, Faulty}
+use Rattle.hw_types.specs.Graph.{slot, is_faulty_mark, is_consistent}
 use Rattle.hw_types.specs.Lawful.{IsLawful}
 use Rattle.hw_types.specs.Settled.{equivocates, correct_or_absent, tip_of}
-use Rattle.hw_types.proofs.PastLaws.{or_cases, or_left, or_right}
+use Rattle.hw_types.proofs.PastLaws.{or_left}
 use Rattle.hw_types.proofs.PanoramaLaws.{panorama_consistent}
 use Rattle.hw_types.proofs.TipLaws.{slot_over}
 use Rattle.hw_types.proofs.WordsLaws.{either, never_both}
-use Rattle.hw_dag.specs.declared.numbers.UnitNo.{UnitNo}
 use Rattle.hw_dag.specs.declared.numbers.View.{View}
 use Rattle.hw_dag.specs.declared.numbers.View.TheVariants as view
-use Rattle.hw_dag.specs.Dag.{UnitGraph, graph, view_at, obs_of, observations, IsPanorama}
+use Rattle.hw_dag.specs.Dag.{graph, view_at, obs_of, observations}
 use Rattle.hw_dag.specs.Admission.{IsGraph}
 use Rattle.hw_dag.proofs.SlotLaws.{slot_of}
 use Rattle.hw_types.specs.declared.config.Config.{Config}
 use Rattle.hw_endorse.specs.Told.{Told}
 use Rattle.hw_naivety.specs.Naivety.{NaiveTips}
-use Rattle.hw_admit.specs.State.{NodeState, IsState, IsBeside, is_marked, is_faulty_in, observed_in, MarksAreMet}
+use Rattle.hw_admit.specs.declared.kept.KeptFork.{KeptFork}
+use Rattle.hw_admit.specs.State.{NodeState, IsState, IsBeside, is_marked, is_faulty_in, observed_in}
 use Rattle.hw_admit.proofs.FaultyLaws.{lawful_in, over_faulty, length_over, observations_set, panorama_with}
 
 module _ (s : NodeState) (is : IsState s) where
@@ -106,8 +105,8 @@ module _ (s : NodeState) (is : IsState s) where
     }
 
 -- what is kept beside doesn't read the marks
-pub is_beside_marked : (s : NodeState) {leaders : Config} {told : Told} {naivety : NaiveTips} {forks marks : ℕ} → IsBeside s leaders told naivety forks marks → {marked : List Bool} {panorama : List View}
-    → IsBeside (record s { marked = marked; panorama = panorama }) leaders told naivety forks marks
+pub is_beside_marked : (s : NodeState) {leaders : Config} {told : Told} {naivety : NaiveTips} {forks marks : ℕ} {own judged : KeptFork} → IsBeside s leaders told naivety forks marks own judged → {marked : List Bool} {panorama : List View}
+    → IsBeside (record s { marked = marked; panorama = panorama }) leaders told naivety forks marks own judged
 is_beside_marked s b = record {
   leaders_are = b.leaders_are;
   weights_are = b.weights_are;
@@ -117,4 +116,6 @@ is_beside_marked s b = record {
   naivety_serves = b.naivety_serves;
   forks_serve = b.forks_serve;
   marks_serve = b.marks_serve;
+  own_kept = b.own_kept;
+  judged_kept = b.judged_kept;
 }

@@ -1,5 +1,5 @@
 -- The state of one node, and what holds of each.
-use Rattle.std.specs.Prelude.{◌≡◌, ℕ, ◌<◌, ◌≤◌, ◌+◌, Bool, true, false, ◌||◌, List, length, Option, Some, None, slice_index_or}
+use Rattle.std.specs.Prelude.{◌≡◌, ℕ, ◌≤◌, ◌+◌, Bool, true, false, ◌||◌, List, length, Option, Some, None, slice_index_or}
 use Rattle.hw_types.specs.declared.unit.Digest.{Digest}
 use Rattle.hw_types.specs.declared.unit.Obs.{Obs}
 use Rattle.hw_types.specs.declared.config.Config.{Config}
@@ -16,6 +16,8 @@ use Rattle.hw_dag.specs.Lanes.{AreWeights}
 use Rattle.hw_endorse.specs.Told.{Told}
 use Rattle.hw_naivety.specs.Naivety.{NaiveTips, IsNoted}
 use Rattle.hw_rules.specs.Judged.{IsForkOf}
+use Rattle.hw_admit.specs.declared.kept.KeptFork.{KeptFork}
+use Rattle.hw_admit.specs.Kept.{IsKept}
 use Rattle.hw_admit.specs.declared.start.StateStart.{StateStart}
 use Rattle.hw_admit.specs.declared.start.StateStart.TheVariants as start
 
@@ -65,7 +67,7 @@ pub record IsState (s : NodeState) : Type 0 where
   pub observed : observations s.dag s.panorama ≡ observed_in s.config s.marked (graph s.dag)
 
 -- what is kept beside the state is of the same configuration and graph, and serves for as many units as there is room for
-pub record IsBeside (s : NodeState) (leaders : Config) (told : Told) (naivety : NaiveTips) (forks marks : ℕ) : Type 0 where
+pub record IsBeside (s : NodeState) (leaders : Config) (told : Told) (naivety : NaiveTips) (forks marks : ℕ) (own judged : KeptFork) : Type 0 where
   pub leaders_are : leaders ≡ s.config
   pub weights_are : told.weights ≡ s.config.weights
   pub noted : IsNoted naivety s.dag
@@ -74,6 +76,8 @@ pub record IsBeside (s : NodeState) (leaders : Config) (told : Told) (naivety : 
   pub naivety_serves : s.spare ≤ naivety.spare
   pub forks_serve : count_of s.dag + s.spare ≤ forks
   pub marks_serve : count_of s.dag + s.spare ≤ marks
+  pub own_kept : IsKept s.config.weights s.dag own
+  pub judged_kept : IsKept s.config.weights s.dag judged
 
 -- ---- how it begins and grows
 

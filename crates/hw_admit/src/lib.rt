@@ -9,6 +9,7 @@
 //! `reserve` takes the memory for units ahead, so that admission needs none.
 #![tactic(auto)]
 
+mod kept;
 mod start;
 mod state;
 

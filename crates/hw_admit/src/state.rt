@@ -1,6 +1,6 @@
 //! The state and what moves it.
 
-ghost use Rattle.std.specs.Prelude.{◌≡◌, ◌+◌, ◌^◌, ◌<◌, ◌≤◌, ◌↔◌, [], true, false, length, replicate, slice_set, Some, None, IfOk, IfErr, IfSome, OnOk, OnErr, IsNone};
+ghost use Rattle.std.specs.Prelude.{◌≡◌, ◌+◌, ◌^◌, ◌<◌, ◌≤◌, ◌↔◌, [], true, false, length, ℕ, List, replicate, slice_set, Some, None, IfOk, IfErr, IfSome, OnOk, OnErr, IsNone};
 ghost use Rattle.std.specs.Option.{option_map};
 ghost use Rattle.std.specs.Map.Iter.{ShowsInOrder, deref};
 ghost use Rattle.hw_types.specs.declared.unit.Digest.{Digest as Named};
@@ -18,8 +18,10 @@ ghost use Rattle.hw_endorse.specs.Told.{added_of, is_told, with_pair, has_majori
 ghost use Rattle.hw_naivety.specs.Naivety.{KeepsEndorsed, IsNoted, HasNoNaiveFork, HasSight, IsLeastNaiveFork};
 ghost use Rattle.hw_naivety.specs.Tips.{HasLists};
 ghost use Rattle.hw_rules.specs.Judged.{KeepsLocalRules};
+ghost use Rattle.hw_admit.specs.Kept.{IsKept};
 ghost use Rattle.hw_admit.specs.State.{NodeState, IsState, IsStartFault, IsAdmitted, MarksAreMet, is_faulty_in, is_marked, observed_in, told_in};
 
+use crate::kept::KeptFork;
 use crate::start::StateStart;
 use hw_dag::{Dag, Marks, Panorama, Prepared, UnitNo, View};
 use hw_endorse::{Added, EndorsedUnits, Endorsements};
@@ -46,6 +48,10 @@ pub struct State {
     marked: Vec<bool>,
     endorsements: Endorsements,
     panorama: Panorama,
+    /// The fork choice of its panorama.
+    own_fork: KeptFork,
+    /// The fork choice of the unit that was judged last.
+    judged_fork: KeptFork,
 }
 
 impl Model for State {
@@ -63,7 +69,7 @@ impl Model for State {
     } };
 
     ghost invariant = { λ s. IsState (record { config = s.config; spare = s.spare; dag = s.dag; marked = s.marked.items; pairs = s.endorsements.pairs; panorama = s.panorama })
-        × IsBeside (record { config = s.config; spare = s.spare; dag = s.dag; marked = s.marked.items; pairs = s.endorsements.pairs; panorama = s.panorama }) s.leaders s.endorsements s.naivety s.forks s.marks };
+        × IsBeside (record { config = s.config; spare = s.spare; dag = s.dag; marked = s.marked.items; pairs = s.endorsements.pairs; panorama = s.panorama }) s.leaders s.endorsements s.naivety s.forks s.marks s.own_fork s.judged_fork };
 }
 
 impl State {
@@ -221,15 +227,19 @@ impl State {
         &self.leaders
     }
 
-    /// The fork choice of its panorama.
+    /// The fork choice of its panorama. It is kept until a slot of the panorama changes.
     pub fn fork(&mut self) -> Option<UnitNo>
         ensures fork { option_map (λ (no : Number). node_at self.old.dag no.0) result ≡ fork_of self.old.config.weights (graph self.old.dag) (observations self.old.dag self.old.panorama) }
         ensures known { IfSome result (λ no. no.0 < count_of self.old.dag) }
         ensures is_fork { IsFork self.old.dag (observations self.old.dag self.old.panorama) result }
         ensures unchanged { self.new ≡ self.old }
     {
-        self.forks
-            .fork_choice(&self.dag, &self.config.weights, &self.panorama)
+        self.own_fork.fork_choice(
+            &mut self.forks,
+            &self.dag,
+            &self.config.weights,
+            &self.panorama,
+        )
     }
 
     /// Makes room for at least `count` more units. The room never shrinks, and of the state nothing else
@@ -268,7 +278,9 @@ impl State {
             dag: &self.dag,
             naivety: &self.naivety,
         };
-        let _fork = judge.judge(prepared, &mut self.forks, &mut self.marks)?;
+        let fork = judge.judge(prepared, &mut self.forks, &mut self.marks)?;
+        self.judged_fork
+            .keep(prepared.panorama(), fork, self.dag.validators());
         Ok(())
     }
 
@@ -297,9 +309,12 @@ impl State {
         let _count = self.dag.count();
         let creator = prepared.signed().unit.creator;
         let seen = prepared.panorama().get(creator);
-        let fork = self
-            .forks
-            .fork_choice(&self.dag, &self.config.weights, prepared.panorama());
+        let fork = self.judged_fork.fork_choice(
+            &mut self.forks,
+            &self.dag,
+            &self.config.weights,
+            prepared.panorama(),
+        );
         let no = self.dag.admit(prepared, fork);
         self.naivety.note(&self.dag, no);
         self.spare -= 1;
@@ -346,6 +361,7 @@ fn begin(alloc: Global, config: Config) -> Result<State, OutOfMemory>
     let validators = config.weights.len() as u32;
     let (dag, panorama, marked) = nothing_seen(alloc, validators)?;
     let (leaders, naivety, endorsements) = nothing_told(alloc, &config, validators)?;
+    let (own_fork, judged_fork) = nothing_kept(alloc, validators)?;
     Ok(State {
         leaders,
         spare: 0,
@@ -356,6 +372,8 @@ fn begin(alloc: Global, config: Config) -> Result<State, OutOfMemory>
         marked,
         endorsements,
         panorama,
+        own_fork,
+        judged_fork,
         config,
     })
 }
@@ -388,6 +406,15 @@ fn nothing_told(
     let leaders = LeaderTable::new(alloc, config)?;
     let naivety = Naivety::new(alloc, validators)?;
     Ok((leaders, naivety, Endorsements::new(alloc, config)?))
+}
+
+/// No fork choice, neither of the state nor of a unit.
+fn nothing_kept(alloc: Global, validators: u32) -> Result<(KeptFork, KeptFork), OutOfMemory>
+    ensures own { IfOk result (λ kept. (weights : List ℕ) (dag : UnitGraph) → dag.validators ≡ validators → IsKept weights dag kept.0) }
+    ensures judged { IfOk result (λ kept. (weights : List ℕ) (dag : UnitGraph) → dag.validators ≡ validators → IsKept weights dag kept.1) }
+{
+    let own = KeptFork::new(alloc, validators)?;
+    Ok((own, KeptFork::new(alloc, validators)?))
 }
 
 /// A graph without units.

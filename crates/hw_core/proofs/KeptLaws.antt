@@ -1,7 +1,6 @@
 -- What a node keeps as its journal grows.
 use Rattle.std.proofs.Common.{◌≡◌, ◌⊎◌, inl, inr, ℕ, zero, suc, List, [], ◌∷◌, ◌++◌, ◌≤◌, length, Option, Some, None, refl, sym, ap, subst, ◌∙◌, arith}
-use Rattle.std.specs.Prelude.{◌||◌, slice_get, Result, Ok, Err, OnOk, OnErr}
-use Rattle.std.specs.Map.{lookup}
+use Rattle.std.specs.Prelude.{◌||◌, slice_get}
 use Rattle.std.proofs.lemmas.Option.{slice_get_past}
 use Rattle.std.proofs.lemmas.List.Elements.{filter_map-append}
 use Rattle.hw_types.specs.declared.unit.Digest.{Digest}
@@ -10,14 +9,14 @@ use Rattle.hw_types.specs.declared.unit.Vertex.{Vertex}
 use Rattle.hw_types.specs.declared.unit.Vertex.TheVariants as vertex
 use Rattle.hw_types.specs.declared.answers.Rule.{Rule}
 use Rattle.hw_types.specs.declared.config.Config.{Config}
-use Rattle.hw_types.specs.Graph.{Node, digest_eq}
+use Rattle.hw_types.specs.Graph.{Node}
 use Rattle.hw_types.specs.Below.{Among}
 use Rattle.hw_types.specs.Settled.{Received, faulty_weight, settled_of, equivocates}
 use Rattle.hw_types.specs.laws.StateLaws.{units_in}
 use Rattle.hw_types.specs.Votes.{weight_of}
 use Rattle.hw_types.specs.Journal.{Setting, named, received_of, unit_of_vertex}
 use Rattle.hw_types.specs.Real.{setting_of}
-use Rattle.hw_types.specs.Spelling.{instance_of}
+use Rattle.hw_types.specs.Spelling.{instance_of, VertexFits}
 use Rattle.hw_types.proofs.UnionLaws.{from_left}
 use Rattle.hw_types.proofs.EntryLaws.{append_cases}
 use Rattle.hw_dag.specs.declared.numbers.UnitNo.{UnitNo}
@@ -25,7 +24,6 @@ use Rattle.hw_dag.specs.Dag.{graph}
 use Rattle.hw_dag.specs.Admission.{PreparedUnit}
 use Rattle.hw_admit.specs.State.{NodeState, is_faulty_in}
 use Rattle.hw_park.specs.Parked.{Parked}
-use Rattle.hw_core.specs.Settle.{HasMoreRoom}
 use Rattle.hw_core.specs.Keeps.{IsNode, IsTable, AreRules, IsChoice, IsKept}
 
 pub get_append : {A : Type 0} (xs ys : List A) (n : ℕ) (x : A) → slice_get xs n ≡ Some x → slice_get (xs ++ ys) n ≡ Some x
@@ -59,16 +57,24 @@ module _ (instance : Digest) (journal : List Vertex) (names : List (Digest × �
     (kept : IsKept instance journal names park rules room state fork) where
   -- what a node keeps after a delivery, of the same configuration
   pub kept_with : (vs : List Vertex) (names' : List (Digest × ℕ)) (after : Parked PreparedUnit) (rules' : List (Digest × Rule)) (room' : ℕ) (later : NodeState) (fork' : Option UnitNo)
-      → later.config ≡ state.config → IsTable (setting_of state.config) vs names' → AreRules (setting_of state.config) vs rules' → length after.waiting ≤ room' → IsNode vs after later → IsChoice later fork'
+      → later.config ≡ state.config → IsTable (setting_of state.config) vs names' → AreRules (setting_of state.config) vs rules' → length after.waiting ≤ room' → ((v : Vertex) → Among v vs → VertexFits v) → IsNode vs after later → IsChoice later fork'
       → IsKept instance vs names' after rules' room' later fork'
-  kept_with vs names' after rules' room' later fork' same table rules_are places node choice = record {
+  kept_with vs names' after rules' room' later fork' same table rules_are places fit node choice = record {
     instance_is = kept.instance_is ∙ ap (λ (c : Config). instance_of c) (sym same);
     table = subst (λ (c : Config). IsTable (setting_of c) vs names') (sym same) table;
     rules_are = subst (λ (c : Config). AreRules (setting_of c) vs rules') (sym same) rules_are;
     places = places;
+    fit = fit;
     node = node;
     fork_is = choice;
   }
+
+  -- one vertex more that fits
+  pub fit_more : (v : Vertex) → VertexFits v → (w : Vertex) → Among w (journal ++ v ∷ []) → VertexFits w
+  fit_more v fits w m = elim (append_cases w journal (v ∷ []) m) [
+    | inl old ↦ kept.fit w old
+    | inr new ↦ elim new [ inl e ↦ subst VertexFits e fits | inr none ↦ absurd none ]
+  ]
 
   abbrev k : Received
   k = received_of (setting_of state.config) journal

@@ -1,7 +1,6 @@
 -- The rules of dropped units, by name.
-use Rattle.std.proofs.Common.{◌≡◌, ◌⊎◌, inl, inr, Bool, true, false, cond, List, [], ◌∷◌, ◌++◌, Option, Some, None, refl, sym, ap, subst, ◌∙◌}
+use Rattle.std.proofs.Common.{◌≡◌, inl, inr, Bool, true, false, cond, List, [], ◌∷◌, ◌++◌, Some, sym, ap, subst, ◌∙◌}
 use Rattle.std.specs.Prelude.{Result, Ok, Err, OnOk, OnErr, IfErr}
-use Rattle.std.specs.Map.{lookup}
 use Rattle.indexmap.specs.IndexMap.{insert_entry}
 use Rattle.hw_types.specs.declared.unit.Digest.{Digest}
 use Rattle.hw_types.specs.declared.answers.Rule.{Rule}
@@ -15,7 +14,7 @@ use Rattle.hw_dag.specs.Dag.{graph}
 use Rattle.hw_dag.specs.Admission.{PreparedUnit, node_prepared}
 use Rattle.hw_admit.specs.State.{NodeState}
 use Rattle.hw_park.specs.Parked.{Waiting}
-use Rattle.hw_core.specs.Settle.{known_in, admitted_in, waiting_nodes, CanSettle, KnowsTheSame, IsDropped, HasSettled, HasNoted, rule_in}
+use Rattle.hw_core.specs.Settle.{known_in, admitted_in, waiting_nodes, CanSettle, IsDropped, HasSettled, HasNoted, rule_in}
 use Rattle.hw_core.proofs.SettleLaws.{from_start, dropped_here, dropped_on, out_or_left, run_keeps}
 use Rattle.hw_core.proofs.TableLaws.{lookup_inserted}
 use Rattle.hw_core.proofs.WaitLaws.{IsHandedOut}

@@ -154,7 +154,7 @@ module _ (journal : List Vertex) (park : Parked PreparedUnit) (state : NodeState
   k = received_of s journal
 
   -- the units are no more than the journal is long
-  units_few : length k.units ≤ length journal
+  pub units_few : length k.units ≤ length journal
   units_few =
       let some = rising_length k.units (units_in s journal) (received_rising s journal) (λ x m. received_in s journal x m) in
       let most = mapped_length (unit_of_vertex s) journal in

@@ -9,7 +9,7 @@ use Rattle.hw_types.specs.declared.unit.Vertex.TheVariants as vertex
 use Rattle.hw_types.specs.declared.answers.Rule.{Rule}
 use Rattle.hw_types.specs.Graph.{Node, digest_eq}
 use Rattle.hw_types.specs.Below.{Among}
-use Rattle.hw_types.specs.Spelling.{instance_of}
+use Rattle.hw_types.specs.Spelling.{instance_of, VertexFits}
 use Rattle.hw_types.specs.Rules.{state_rule}
 use Rattle.hw_types.specs.Settled.{Received, has_evidence, settled_of, parked_of, dropped_of}
 use Rattle.hw_types.specs.laws.StateLaws.{HasSame, NamesApart, units_in, candidates}
@@ -73,5 +73,6 @@ pub record IsKept (instance : Digest) (journal : List Vertex) (names : List (Dig
   pub table : IsTable (setting_of state.config) journal names
   pub rules_are : AreRules (setting_of state.config) journal rules
   pub places : length park.waiting ≤ room
+  pub fit : (v : Vertex) → Among v journal → VertexFits v
   pub node : IsNode journal park state
   pub fork_is : IsChoice state fork

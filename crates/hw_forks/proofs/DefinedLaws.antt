@@ -7,7 +7,7 @@ use Rattle.std.proofs.lemmas.List.Sums.{sum_by-cons, sum_by-append}
 use Rattle.hw_types.specs.declared.unit.Obs.{Obs}
 use Rattle.hw_types.specs.Graph.{Node, node_eq, is_some_and, observed, latest, cites, unit_cites, past}
 use Rattle.hw_types.specs.Below.{Among}
-use Rattle.hw_types.specs.Votes.{ForkAt, is_block, vote_of, is_ancestor_within, votes_for, score_of, is_at, children_of, best_child, walk, choice_of, choices_after, fork_over, fork_of, unit_fork}
+use Rattle.hw_types.specs.Votes.{ForkAt, is_block, vote_of, is_ancestor_within, votes_for, score_of, is_at, children_of, best_child, walk, fork_of, unit_fork}
 use Rattle.hw_types.proofs.ClosureLaws.{Within, Among-filter, filter-Among}
 use Rattle.hw_types.proofs.PastLaws.{or_cases, or_left, or_right, reach_first, reach_within}
 use Rattle.hw_types.proofs.StableLaws.{OneName, both_ways, and_parts, and_whole}
@@ -33,12 +33,13 @@ use Rattle.hw_forks.specs.Walk.{is_over, score_in, IsChild, IsBest, HasNoSupport
 use Rattle.hw_forks.proofs.AncestorLaws.{over_anc, anc_over}
 use Rattle.hw_forks.proofs.ScoreLaws.{share, score_some}
 use Rattle.hw_forks.proofs.BestLaws.{Falls, best_is, none_is, walk_goes, walk_stops, walk_whole}
+use Rattle.hw_types.proofs.HeightLaws.{chosen_below}
 
 -- a number as the definitions see it
 abbrev pub node_for : UnitGraph → Option UnitNo → Option Node
 node_for dag o = option_map (λ (number : UnitNo). node_at dag number.0) o
 
-node_for_some : (dag : UnitGraph) (o : Option UnitNo) (x : Node) → node_for dag o ≡ Some x → (p : UnitNo) × (o ≡ Some p) × (node_at dag p.0 ≡ x)
+pub node_for_some : (dag : UnitGraph) (o : Option UnitNo) (x : Node) → node_for dag o ≡ Some x → (p : UnitNo) × (o ≡ Some p) × (node_at dag p.0 ≡ x)
 node_for_some dag None x e = absurd cc
 node_for_some dag (Some p) x e = (p, refl, cc)
 
@@ -60,7 +61,7 @@ module _ (weights : List ℕ) (dag : UnitGraph) (g : IsGraph dag) (aw : AreWeigh
   pub acyclic : choice.IsGraph units
   acyclic = record { in_order = graph_rising dag; one_name = graph_one_name dag; no_cycle = no_cycle (even_weights dag) all_faulty units (lawful dag g) }
 
-  abbrev size : ℕ → ℕ
+  abbrev pub size : ℕ → ℕ
   size n = length (past units (unit_at dag n).signed.unit.panorama)
 
   -- ---- parents and votes
@@ -102,16 +103,15 @@ module _ (weights : List ℕ) (dag : UnitGraph) (g : IsGraph dag) (aw : AreWeigh
           }
 
   -- a unit's own choice is below it
-  own_below : (y p : Node) → fork_at y ≡ Some p → Among p (past units y.unit.panorama)
-  unfolding fork_over
-  own_below y p e = ghost_walk_in weights (past units y.unit.panorama) (choice_of (choices_after (length (past units y.unit.panorama)) weights (past units y.unit.panorama))) y.unit.panorama p e
+  pub own_below : (y p : Node) → fork_at y ≡ Some p → Among p (past units y.unit.panorama)
+  own_below y p e = chosen_below weights units y.unit.panorama p e
 
-  parent_below : (n : ℕ) (p : UnitNo) → n < count_of dag → is_block (node_at dag n) ≡ true → (unit_at dag n).parent ≡ Some p → Among (node_at dag p.0) (past units (unit_at dag n).signed.unit.panorama)
+  pub parent_below : (n : ℕ) (p : UnitNo) → n < count_of dag → is_block (node_at dag n) ≡ true → (unit_at dag n).parent ≡ Some p → Among (node_at dag p.0) (past units (unit_at dag n).signed.unit.panorama)
   parent_below n p lt t e = own_below (node_at dag n) (node_at dag p.0) (parent_at n lt t ∙ ap (node_for dag) e)
 
   -- ---- the test of ancestors
 
-  defined_anc : (n c b : ℕ) → c < count_of dag → b < count_of dag → is_block (node_at dag b) ≡ true → is_ancestor_within n fork_at (node_at dag c) (node_at dag b) ≡ true → IsAncestor dag c b
+  pub defined_anc : (n c b : ℕ) → c < count_of dag → b < count_of dag → is_block (node_at dag b) ≡ true → is_ancestor_within n fork_at (node_at dag c) (node_at dag b) ≡ true → IsAncestor dag c b
   unfolding is_ancestor_within
   defined_anc zero c b lc lb t h = subst (λ (x : ℕ). IsAncestor dag c x) (same_number dag g c b lc lb h) itself
   defined_anc (suc n) c b lc lb t h = elim (or_cases (node_eq (node_at dag c) (node_at dag b)) (is_some_and (is_ancestor_within n fork_at (node_at dag c)) (fork_at (node_at dag b))) h) [
@@ -124,12 +124,12 @@ module _ (weights : List ℕ) (dag : UnitGraph) (g : IsGraph dag) (aw : AreWeigh
         further b p.0 p.1 (defined_anc n c p.0.0 lc (omega arith) (parent_is_block dag g b p.0 lb p.1) test))
   ]
 
-  defined_self : (n c : ℕ) → is_ancestor_within n fork_at (node_at dag c) (node_at dag c) ≡ true
+  pub defined_self : (n c : ℕ) → is_ancestor_within n fork_at (node_at dag c) (node_at dag c) ≡ true
   unfolding is_ancestor_within
   defined_self zero c = digest_self (unit_at dag c).digest
   defined_self (suc n) c = or_left (node_eq (node_at dag c) (node_at dag c)) (is_some_and (is_ancestor_within n fork_at (node_at dag c)) (fork_at (node_at dag c))) (digest_self (unit_at dag c).digest)
 
-  anc_defined : (c n b : ℕ) → b < count_of dag → is_block (node_at dag b) ≡ true → size b ≤ n → IsAncestor dag c b → is_ancestor_within n fork_at (node_at dag c) (node_at dag b) ≡ true
+  pub anc_defined : (c n b : ℕ) → b < count_of dag → is_block (node_at dag b) ≡ true → size b ≤ n → IsAncestor dag c b → is_ancestor_within n fork_at (node_at dag c) (node_at dag b) ≡ true
   unfolding is_ancestor_within
   anc_defined c n _ lb t le itself = defined_self n c
   anc_defined c zero _ lb t le (further high parent e k) =

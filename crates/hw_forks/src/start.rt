@@ -2,6 +2,8 @@
 
 ghost use Rattle.std.specs.Prelude.{◌≡◌, ℕ, ◌<◌, ◌≤◌, length, IsTrue, IfSome, IfNone};
 ghost use Rattle.hw_types.specs.Below.{Among};
+ghost use Rattle.hw_types.specs.Votes.{is_block};
+ghost use Rattle.hw_dag.specs.Dag.{count_of, node_at};
 ghost use Rattle.hw_dag.specs.Admission.{height_above};
 ghost use Rattle.hw_dag.specs.Lanes.{IsAncestor};
 ghost use Rattle.hw_forks.specs.declared.votes.Vote.{Vote as Voted};
@@ -66,11 +68,21 @@ fn are_on_one_chain(votes: &[Vote], dag: &Dag, top: Vote) -> bool
     ensures { IsTrue result → (vote : Voted) → Among vote votes.now → IsAncestor dag.now vote.block.0 top.block.0 }
 {
     for vote in votes {
-        if ancestor_at(dag, top.block, vote.height) != vote.block {
+        if !leads_up(dag, vote, top.block) {
             return false;
         }
     }
     true
+}
+
+// Whether the vote is for the block or an ancestor of it.
+fn leads_up(dag: &Dag, vote: &Vote, top: UnitNo) -> bool
+    requires known { top.0 < count_of dag.now }
+    requires block { IsTrue (is_block (node_at dag.now top.0)) }
+    requires within { vote.now.height ≤ height_at dag.now top.0 }
+    ensures { IsTrue result → IsAncestor dag.now vote.now.block.0 top.0 }
+{
+    vote.block == top || ancestor_at(dag, top, vote.height) == vote.block
 }
 
 // The highest block from which all votes descend, as they do from the place. Where they have one

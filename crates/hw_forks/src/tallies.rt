@@ -1,6 +1,8 @@
 //! The best child of a place, by tallies.
 
-ghost use Rattle.std.specs.Prelude.{◌≡◌, ℕ, ◌<◌, ◌≤◌, length, slice_index, IfSome, IfNone};
+ghost use Rattle.std.specs.Prelude.{◌≡◌, ℕ, ◌<◌, ◌≤◌, length, slice_index, IsTrue, IfSome, IfNone};
+ghost use Rattle.hw_types.specs.Below.{Among};
+ghost use Rattle.hw_forks.specs.declared.votes.Vote.{Vote as Voted};
 ghost use Rattle.hw_types.specs.Graph.{digest_lt};
 ghost use Rattle.hw_dag.specs.Dag.{unit_at, count_of};
 ghost use Rattle.hw_dag.specs.Admission.{IsGraph, height_above};
@@ -26,9 +28,24 @@ pub fn best_child(
     ensures best { IfSome result (λ no. IsBest dag.now votes.now place no.0) }
     ensures none { IfNone result (HasNoSupport dag.now votes.now place) }
 {
+    if are_all_lower(votes, height) {
+        return None;
+    }
     clear(votes, tallies, dag, place, height);
     add_up(votes, tallies, dag, place, height);
     heaviest(votes, tallies, dag, place, height)
+}
+
+// Whether no vote is for a block of this height or above it.
+fn are_all_lower(votes: &[Vote], height: u64) -> bool
+    ensures { IsTrue result → (vote : Voted) → Among vote votes.now → vote.height < height }
+{
+    for vote in votes {
+        if height <= vote.height {
+            return false;
+        }
+    }
+    true
 }
 
 // The child of the place that the vote is for or descends from.
@@ -129,7 +146,7 @@ fn comes_before(dag: &Dag, left: UnitNo, right: UnitNo) -> bool
     requires right_known { right.0 < count_of dag.now }
     ensures { result ≡ digest_lt (unit_at dag.now left.0).digest (unit_at dag.now right.0).digest }
 {
-    let left = dag.unit(left).digest();
-    let right = dag.unit(right).digest();
-    left.0.cmp(&right.0).is_lt()
+    dag.unit(left)
+        .digest()
+        .comes_before(dag.unit(right).digest())
 }

@@ -27,7 +27,7 @@ use Rattle.hw_horizon.proofs.LaneLaws.{lane_self, lane_most, lane_lower, lane_ab
 use Rattle.hw_horizon.proofs.SightLaws.{quorum_on_lane, enough, suffix_is, tip_decides}
 
 -- a slot with a number is one of the panorama's
-correct_inside : (panorama : List View) (v : ℕ) (number : UnitNo) → view_at panorama v ≡ view.Correct number → v < length panorama
+pub correct_inside : (panorama : List View) (v : ℕ) (number : UnitNo) → view_at panorama v ≡ view.Correct number → v < length panorama
 correct_inside [] v number e = absurd cc
 correct_inside (w ∷ ws) zero number e = omega arith
 correct_inside (w ∷ ws) (suc v) number e = let rest = correct_inside ws v number e in omega arith
@@ -125,7 +125,7 @@ module _ (dag : UnitGraph) (g : IsGraph dag) where
         subst (λ (b : Bool). (not b || is_at_most (graph dag) (unit_at dag tip.0).signed.unit.panorama (observations dag panorama)) ≡ true) (number_cites dag g panorama t tip e) all
 
     -- what a unit of a slot's lane observes of another validator is on the lane of that one's slot
-    view_on_lane : (t : ℕ) (tip : UnitNo) → view_at panorama t ≡ view.Correct tip → (n : ℕ) → n < count_of dag → is_lane_below dag n tip.0 ≡ true
+    pub view_on_lane : (t : ℕ) (tip : UnitNo) → view_at panorama t ≡ view.Correct tip → (n : ℕ) → n < count_of dag → is_lane_below dag n tip.0 ≡ true
         → (v : ℕ) (number other : UnitNo) → view_at (unit_at dag n).panorama v ≡ view.Correct number → view_at panorama v ≡ view.Correct other → is_lane_below dag number.0 other.0 ≡ true
     view_on_lane t tip e n ln on v number other en eo =
         let lt = ip.known t tip e in

@@ -57,7 +57,7 @@ module _ (dag later : UnitGraph) (g : IsGraph dag) (h : IsGraph later) (grows : 
       (λ t. anc_over dag g c b lt (anc_was c b lt (over_anc later h (count_of later) c b t)))
       (λ t. anc_over later h c b (omega arith) (anc_stays c b lt (over_anc dag g (count_of dag) c b t)))
 
-  votes_stay : (block n : ℕ) → n < count_of dag → votes_over later block n ≡ votes_over dag block n
+  pub votes_stay : (block n : ℕ) → n < count_of dag → votes_over later block n ≡ votes_over dag block n
   votes_stay block n lt =
       ap (λ (u : SettledUnit). is_over later block u.vote.0) (unit_stays dag later grows n lt) ∙ over_stays block (unit_at dag n).vote.0 (vote_known dag g n lt)
 
@@ -65,7 +65,7 @@ module _ (dag later : UnitGraph) (g : IsGraph dag) (h : IsGraph later) (grows : 
   seq_stays n lt = ap (λ (u : SettledUnit). seq_of u) (unit_stays dag later grows n lt)
 
   -- what is on the lane of a unit was there when it came in
-  lane_was : (tip n : ℕ) → tip < count_of dag → n < count_of later → is_lane_below later n tip ≡ true → n < count_of dag
+  pub lane_was : (tip n : ℕ) → tip < count_of dag → n < count_of later → is_lane_below later n tip ≡ true → n < count_of dag
   lane_was tip n lt ln t =
       let on : Among (node_at later n) (lane_of (graph later) (node_at later tip)) = on_lane_among later h n tip ln t in
       let there : Among (node_at later n) (lane_of (graph dag) (node_at dag tip)) =

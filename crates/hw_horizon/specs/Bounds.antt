@@ -1,11 +1,68 @@
--- Starts without pruning, which bound those of each summit.
-use Rattle.std.specs.Prelude.{ℕ, zero, suc, List}
-use Rattle.hw_types.specs.declared.unit.Obs.{Obs}
-use Rattle.hw_types.specs.Graph.{Node}
-use Rattle.hw_horizon.specs.Tables.{Starts, next_table, pruned_table}
+-- What is kept to say early that a block has no summit: for each level, before which unit of its lane nobody is in a committee, and what
+-- each latest unit sees of those who may be.
+use Rattle.std.specs.Prelude.{◌≡◌, ℕ, zero, suc, ◌<◌, ◌≤◌, Bool, false, true, List, [], length, Option, Some, None, slice_index_or}
+use Rattle.hw_dag.specs.declared.numbers.UnitNo.{UnitNo}
+use Rattle.hw_dag.specs.declared.numbers.View.{View}
+use Rattle.hw_dag.specs.declared.numbers.View.TheVariants as view
+use Rattle.hw_dag.specs.Dag.{UnitGraph, count_of, view_at}
+use Rattle.hw_dag.specs.Lanes.{is_lane_below}
+use Rattle.hw_horizon.specs.Firsts.{weight_after, has_quorum}
+use Rattle.hw_horizon.specs.Starts.{votes_over}
 
--- the bound of level 0 is its table, and of each level above the starts over all of the bound below, for the least quorum
-unfoldable pub bound_table : List ℕ → List Node → List Obs → Node → ℕ → ℕ → Starts
-bound_table weights units panorama block least zero = pruned_table weights units panorama block least zero
-bound_table weights units panorama block least (suc j) =
-    next_table weights units panorama least (bound_table weights units panorama block least j) (bound_table weights units panorama block least j)
+-- of one level: for each validator the number of the first unit that may count, and at least the weight that its latest unit sees of them
+pub record LevelBound : Type 0 where
+  pub firsts : List ℕ
+  pub support : List ℕ
+
+-- the block, the least quorum that they are for, the latest unit of each validator, and the bound of each level from 0 on
+pub record KeptBounds : Type 0 where
+  pub block : Option UnitNo
+  pub least : ℕ
+  pub tips : List (Option UnitNo)
+  pub levels : List LevelBound
+
+-- the latest unit of a validator
+abbrev pub tip_of : KeptBounds → ℕ → Option UnitNo
+tip_of kept v = slice_index_or kept.tips v None
+
+-- the bound of a level
+abbrev pub bound_of : List LevelBound → ℕ → LevelBound
+bound_of levels j = slice_index_or levels j (record { firsts = []; support = [] })
+
+-- its first unit of a validator
+abbrev pub first_of : LevelBound → ℕ → ℕ
+first_of bound v = slice_index_or bound.firsts v 0
+
+-- the weight of a validator's latest unit
+abbrev pub support_of : LevelBound → ℕ → ℕ
+support_of bound v = slice_index_or bound.support v 0
+
+-- the units that may count at a level: at level 0 those that vote for the block or a descendant of it, above those that see the least quorum of the level below
+abbrev pub counts_at : List ℕ → UnitGraph → ℕ → ℕ → List LevelBound → ℕ → ℕ → Bool
+counts_at weights dag block least levels zero = votes_over dag block
+counts_at weights dag block least levels (suc j) = has_quorum weights dag least (bound_of levels j).firsts
+
+-- before that number each unit of the lane is followed by one that doesn't count
+abbrev pub IsFirstOf : UnitGraph → ℕ → (ℕ → Bool) → ℕ → Type 0
+IsFirstOf dag tip counts first = (n : ℕ) → n < count_of dag → is_lane_below dag n tip ≡ true → n < first
+    → (m : ℕ) × (m < count_of dag) × (is_lane_below dag m tip ≡ true) × (n ≤ m) × (m < first) × (counts m ≡ false)
+
+-- the bounds of a validator with this latest unit
+pub record IsBounded (weights : List ℕ) (dag : UnitGraph) (block least : ℕ) (levels : List LevelBound) (v tip : ℕ) : Type 0 where
+  pub known : tip < count_of dag
+  pub first : (j : ℕ) → j < length levels → IsFirstOf dag tip (counts_at weights dag block least levels j) (first_of (bound_of levels j) v)
+  pub support : (j : ℕ) → j < length levels → weight_after weights dag (bound_of levels j).firsts tip ≤ support_of (bound_of levels j) v
+
+-- what is kept is true of the graph
+abbrev pub AreBounds : List ℕ → UnitGraph → KeptBounds → Type 0
+AreBounds weights dag kept = (block : UnitNo) → kept.block ≡ Some block → (v : ℕ) (tip : UnitNo) → tip_of kept v ≡ Some tip → IsBounded weights dag block.0 kept.least kept.levels v tip.0
+
+-- the unit of a slot
+abbrev pub tip_in : View → Option UnitNo
+tip_in view.Absent = None
+tip_in (view.Correct number) = Some number
+tip_in view.Faulty = None
+
+-- the latest units that are kept are those of the panorama
+abbrev pub AreTips : List View → KeptBounds → Type 0
+AreTips panorama kept = (v : ℕ) → v < length panorama → tip_of kept v ≡ tip_in (view_at panorama v)

@@ -1,6 +1,6 @@
 //! The laws of what is kept, and of which questions need be asked.
 
-ghost use Rattle.hw_horizon.specs.Laws.{WalksStay, SumsStay, LesserSummits, BoundsRuleOut};
+ghost use Rattle.hw_horizon.specs.Laws.{WalksStay, SumsStay, LesserSummits, BoundsRuleOut, BoundsStay};
 
 /// What is kept of a graph stays true while the graph grows.
 pub fn walks_stay()
@@ -12,9 +12,11 @@ pub fn lesser_summits()
     ensures { LesserSummits }
 {}
 
-/// Where those who see a quorum of a bound weigh less than one, no level above has a summit.
+/// Where those whose latest unit may see a quorum at some lesser level weigh less than one, there is no
+/// summit. What is kept to say so stays true while the graph grows.
 pub fn bounds_rule_out()
-    ensures { BoundsRuleOut }
+    ensures none { BoundsRuleOut }
+    ensures stay { BoundsStay }
 {}
 
 /// What a unit sees of a committee stays the same while the graph grows.

@@ -17,8 +17,6 @@ mod laws;
 mod quorums;
 mod rounds;
 mod table;
-#[cfg(test)]
-mod tests;
 mod votes;
 
 pub use horizons::Horizons;

@@ -9,10 +9,10 @@ ghost use Rattle.hw_horizon.specs.Kept.{AreKept, AreWalks, IsWalk};
 ghost use Rattle.hw_horizon.specs.Tables.{entry};
 ghost use Rattle.hw_horizon.specs.Starts.{IsStart, IsSlotStart, IsEarlierVote, votes_over};
 
-use crate::jumps::ancestor_at;
 use crate::kept::{Walk, Walks};
 use crate::table::Table;
 use hw_dag::{Dag, Panorama, UnitNo, View};
+use hw_forks::ancestor_at;
 
 /// Puts into the table from where on the lane of each Correct slot votes for the block or descendants
 /// of it.

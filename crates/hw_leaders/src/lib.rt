@@ -70,6 +70,3 @@ impl LeaderTable {
         }
     }
 }
-
-#[cfg(test)]
-mod tests;

@@ -1,23 +1,41 @@
 -- Laws of needs as keys.
-use Rattle.std.proofs.Common.{◌≡◌, true, refl, ap, eqb-true, rules}
+use Rattle.std.proofs.Common.{◌≡◌, ℕ, true, eqb, refl, ap, eqb-true, rules, arith}
+use Rattle.std.specs.Ordering.{is_eq, nat_cmp}
+use Rattle.std.proofs.lemmas.Bool.Decides.{nat_tests}
+use Rattle.std.proofs.lemmas.Map.Text.{is_eq-slice_cmp}
 use Rattle.hw_types.specs.declared.unit.Need.{Need}
 use Rattle.hw_types.specs.declared.unit.Need.TheVariants as need
 use Rattle.hw_types.specs.Settled.{need_eq}
 use Rattle.hw_types.proofs.SettledLaws.{digest_same, digest_self}
-use Rattle.hw_park.specs.contracts.key.NeedKeyPartialEq.TheImpl as key
-use Rattle.hw_park.specs.Keys.{key_of}
+use Rattle.hw_park.specs.declared.key.NeedKey.{NeedKey}
+use Rattle.hw_park.specs.declared.key.NeedKey.TheVariants as key
+use Rattle.hw_park.specs.Keys.{key_of, ties}
 
--- equal keys are those of equal needs
-pub key_same : (m n : Need) → key.eq-value.it (key_of m) (key_of n) ≡ need_eq m n
-key_same (need.Unit d) (need.Unit e) = refl
-key_same (need.Evidence v) (need.Evidence w) = refl
-key_same (need.Endorsed d) (need.Endorsed e) = refl
+number_tie : (v w : ℕ) → is_eq (nat_cmp v w) ≡ eqb v w
+number_tie v w = grind (arith, nat_tests)
+
+-- the keys of two needs tie where the needs are equal
+pub key_same : (m n : Need) → ties (key_of m) (key_of n) ≡ need_eq m n
+key_same (need.Unit d) (need.Unit e) = is_eq-slice_cmp d.0 e.0
+key_same (need.Evidence v) (need.Evidence w) = number_tie v w
+key_same (need.Endorsed d) (need.Endorsed e) = is_eq-slice_cmp d.0 e.0
 key_same (need.Unit d) (need.Evidence w) = refl
 key_same (need.Unit d) (need.Endorsed e) = refl
 key_same (need.Evidence v) (need.Unit e) = refl
 key_same (need.Evidence v) (need.Endorsed e) = refl
 key_same (need.Endorsed d) (need.Unit e) = refl
 key_same (need.Endorsed d) (need.Evidence w) = refl
+
+-- each key is that of a need
+abbrev pub need_of : NeedKey → Need
+need_of (key.Unit d) = need.Unit d
+need_of (key.Evidence v) = need.Evidence v
+need_of (key.Endorsed d) = need.Endorsed d
+
+pub key_of_need : (k : NeedKey) → key_of (need_of k) ≡ k
+key_of_need (key.Unit d) = refl
+key_of_need (key.Evidence v) = refl
+key_of_need (key.Endorsed d) = refl
 
 -- equal needs are one
 pub need_same : (m n : Need) → need_eq m n ≡ true → m ≡ n

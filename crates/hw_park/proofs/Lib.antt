@@ -1,9 +1,11 @@
 pub mod KeyLaws
 pub mod NumberLaws
+pub mod LeftLaws
 pub mod ListedLaws
 pub mod ReadyLaws
 pub mod QueueLaws
 pub mod WaiterLaws
+pub mod HeldLaws
 pub mod NextLaws
 pub mod StruckLaws
 pub mod StartLaws

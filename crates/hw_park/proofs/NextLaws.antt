@@ -1,8 +1,7 @@
 -- Laws of handing out.
-use Rattle.std.proofs.Common.{◌≡◌, ◌≢◌, ◌⊎◌, inl, inr, ℕ, ◌+◌, ◌-◌, ◌<◌, true, nat_eq, List, [], ◌∷◌, Option, Some, None, ap, sym, ◌∙◌, subst, arith, All}
+use Rattle.std.proofs.Common.{◌≡◌, ◌≢◌, ◌⊎◌, inl, inr, ℕ, ◌+◌, ◌-◌, ◌<◌, true, List, [], ◌∷◌, Option, Some, None, ap, sym, ◌∙◌, subst, arith, All}
 use Rattle.std.specs.List.{count_by, list_any}
 use Rattle.std.specs.List.Sorted.{IsPermutation}
-use Rattle.std.specs.Map.{lookup}
 use Rattle.std.specs.Option.{option_map}
 use Rattle.std.specs.Ordering.{nat_cmp}
 use Rattle.std.specs.BinaryHeap.{IsUpperBound}
@@ -13,10 +12,9 @@ use Rattle.std.proofs.lemmas.Bool.{cases_eq}
 use Rattle.hw_types.specs.declared.unit.Need.{Need}
 use Rattle.hw_types.specs.Settled.{need_eq}
 use Rattle.hw_park.specs.declared.key.NeedKey.{NeedKey}
-use Rattle.hw_park.specs.declared.waiter.Waiter.{Waiter}
 use Rattle.hw_park.specs.Numbers.{numbers_at, has_number}
 use Rattle.hw_park.specs.Parked.{Waiting, is_ready, next_item, without_next}
-use Rattle.hw_park.specs.Kept.{seen, waiting_at, listed, is_ready_at, IsQueue, IsKept}
+use Rattle.hw_park.specs.Kept.{listed, is_ready_at, IsQueue, IsKept}
 use Rattle.hw_park.proofs.ListedLaws.{worth, count-step, count-all}
 use Rattle.hw_park.proofs.ReadyLaws.{quiet, quiet-needs, needs-quiet, take_out}
 use Rattle.hw_park.proofs.QueueLaws.{first_ready, none_earlier, ready_below, queue-popped}
@@ -39,42 +37,41 @@ nothing_ready {T} limit count n at waits ready len room kept empty =
     }
 
 -- what is handed out, and what is left
-pub record IsHandedOut {T : Type 0} (limit count n : ℕ) (old new : List (ℕ × Waiter T)) (waits : List (NeedKey × Vec ℕ Global)) (rest : List (Reverse ℕ)) (less room : ℕ) (item : T) : Type 0 where
-  pub kept : IsKept limit (count - 1) n (waiting_at new) waits rest less room
-  pub item_is : Some item ≡ next_item (listed (waiting_at old) n)
-  pub others : listed (waiting_at new) n ≡ without_next (listed (waiting_at old) n)
+pub record IsHandedOut {T : Type 0} (limit count n : ℕ) (old new : ℕ → Option (Waiting T)) (waits : List (NeedKey × Vec ℕ Global)) (rest : List (Reverse ℕ)) (less room : ℕ) (item : T) : Type 0 where
+  pub kept : IsKept limit (count - 1) n new waits rest less room
+  pub item_is : Some item ≡ next_item (listed old n)
+  pub others : listed new n ≡ without_next (listed old n)
   pub counted : 0 < count
 
-pub handed_out : {T : Type 0} (limit count n : ℕ) (old new : List (ℕ × Waiter T)) (waits : List (NeedKey × Vec ℕ Global)) (ready rest : List (Reverse ℕ)) (len less room : ℕ) (r : Reverse ℕ) (w : Waiter T)
-    → IsKept limit count n (waiting_at old) waits ready len room → IsPermutation ready (r ∷ rest) → IsUpperBound (λ x y. nat_cmp y.0 x.0) r rest → IsQueue rest → less + 1 ≡ len
-    → lookup (nat_eq r.0) old ≡ Some w → IsSet old new r.0 None
+pub handed_out : {T : Type 0} (limit count n : ℕ) (old new : ℕ → Option (Waiting T)) (waits : List (NeedKey × Vec ℕ Global)) (ready rest : List (Reverse ℕ)) (len less room : ℕ) (r : Reverse ℕ) (w : Waiting T)
+    → IsKept limit count n old waits ready len room → IsPermutation ready (r ∷ rest) → IsUpperBound (λ x y. nat_cmp y.0 x.0) r rest → IsQueue rest → less + 1 ≡ len
+    → old r.0 ≡ Some w → IsSet old new r.0 None
     → IsHandedOut limit count n old new waits rest less room w.item
 handed_out {T} limit count n old new waits ready rest len less room r w kept moved bound ordered fewer here taken =
-    let at = waiting_at old in
-    let said = first_ready (waiting_at old) n ready rest len room r kept.queue moved in
-    let now : waiting_at old r.0 ≡ Some (seen w) = ap (λ (o : Option (Waiter T)). option_map seen o) here in
-    let is : is_ready (seen w) ≡ true = sym (ap is_ready_at now) ∙ said in
-    let low = ready_below (waiting_at old) n ready len room r.0 kept.queue said in
+    let said = first_ready old n ready rest len room r kept.queue moved in
+    let now : old r.0 ≡ Some w = here in
+    let is : is_ready w ≡ true = sym (ap is_ready_at now) ∙ said in
+    let low = ready_below old n ready len room r.0 kept.queue said in
     let gone = waiting-set old new r.0 None taken in
     let others = waiting-other old new r.0 None taken in
-    let out = take_out (waiting_at old) (waiting_at new) n r.0 (seen w) low now is (none_earlier (waiting_at old) n ready rest len room r kept.queue moved bound) gone others in
-    let step = count-step (λ _. true) (waiting_at old) (waiting_at new) n r.0 others (λ high. absurd (omega arith)) in
+    let out = take_out old new n r.0 w low now is (none_earlier old n ready rest len room r kept.queue moved bound) gone others in
+    let step = count-step (λ _. true) old new n r.0 others (λ high. absurd (omega arith)) in
     let one = ap (worth (λ _. true)) now in
     let none = ap (worth (λ _. true)) gone in
     record {
       kept = record {
-        counted = omega (arith, kept.counted, step, one, none, count-all (listed (waiting_at old) n), count-all (listed (waiting_at new) n));
+        counted = omega (arith, kept.counted, step, one, none, count-all (listed old n), count-all (listed new n));
         within = omega (arith, kept.within);
         noted = λ k v n there has. noted k v n there has (cases_eq k r.0);
-        queue = queue-popped (waiting_at old) (waiting_at new) n ready rest len less room r kept.queue moved ordered fewer gone others;
+        queue = queue-popped old new n ready rest len less room r kept.queue moved ordered fewer gone others;
       };
       item_is = sym (ap (λ (o : Option (Waiting T)). option_map (λ v. v.item) o) out.0);
       others = out.1;
-      counted = omega (arith, kept.counted, step, one, none, count-all (listed (waiting_at old) n), count-all (listed (waiting_at new) n));
+      counted = omega (arith, kept.counted, step, one, none, count-all (listed old n), count-all (listed new n));
     }
   where
-    noted : (k : ℕ) (v : Waiting T) (m : Need) → waiting_at new k ≡ Some v → list_any (need_eq m) v.needs ≡ true → ((k ≡ r.0) ⊎ (k ≢ r.0)) → has_number (numbers_at waits m) k ≡ true
-    noted k v m there has (inl e) = absurd (cc (there, subst (λ (j : ℕ). waiting_at new j ≡ None) (sym e) (waiting-set old new r.0 None taken)))
+    noted : (k : ℕ) (v : Waiting T) (m : Need) → new k ≡ Some v → list_any (need_eq m) v.needs ≡ true → ((k ≡ r.0) ⊎ (k ≢ r.0)) → has_number (numbers_at waits m) k ≡ true
+    noted k v m there has (inl e) = absurd (cc (there, subst (λ (j : ℕ). new j ≡ None) (sym e) (waiting-set old new r.0 None taken)))
     noted k v m there has (inr ne) = kept.noted k v m (sym (waiting-other old new r.0 None taken k ne) ∙ there) has
 
 -- what is handed out doesn't have a need left

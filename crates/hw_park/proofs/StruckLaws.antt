@@ -2,8 +2,6 @@
 use Rattle.std.proofs.Common.{◌≡◌, ◌≢◌, ◌⊎◌, inl, inr, ℕ, ◌+◌, ◌<◌, ◌≤◌, Bool, true, false, not, ◌&&◌, ◌||◌, cond, ◌==◌, nat_eq, List, [], ◌∷◌, length, take, get_or, Option, Some, None, refl, ap, sym, ◌∙◌, subst, arith, if◌then◌else◌}
 use Rattle.std.specs.List.{list_any}
 use Rattle.std.specs.List.Sorted.{IsPermutation}
-use Rattle.std.specs.Map.{lookup}
-use Rattle.hw_park.specs.contracts.key.NeedKeyPartialEq.TheImpl as eq
 use Rattle.std.specs.declared.cmp.Reverse.{Reverse}
 use Rattle.std.specs.declared.vec.Vec.{Vec}
 use Rattle.std.specs.declared.alloc.Global.{Global}
@@ -20,7 +18,7 @@ use Rattle.hw_park.specs.Numbers.{numbers_at, has_number}
 use Rattle.hw_park.specs.Parked.{Waiting, is_ready, relieved, without_need, struck}
 use Rattle.hw_park.specs.Kept.{listed, is_ready_at, relieved_at, IsQueue, IsQueueOf, IsKept, AreNoted, tally_of}
 use Rattle.hw_park.proofs.KeyLaws.{need_same, need_self}
-use Rattle.hw_park.proofs.NumberLaws.{IsPut, numbers-other, numbers_in}
+use Rattle.hw_park.proofs.NumberLaws.{IsPut, numbers-other}
 use Rattle.hw_park.proofs.ListedLaws.{worth, listed-map, count-step, count-all}
 use Rattle.hw_park.proofs.QueueLaws.{worth-ready, tally-more, one-self, one-other}
 
@@ -261,7 +259,3 @@ kept_struck {T} limit count n first new m waits rest ready more len room longer 
         let needs : list_any (need_eq q) (without_need m v.needs) ≡ true = ap (λ (u : Waiting T). list_any (need_eq q) u.needs) same ∙ has in
         let parts = without_need-has m q v.needs needs in
         ap (λ (ns : List ℕ). has_number ns k) (numbers-other waits rest m q None put parts.0) ∙ kept.noted k v q here parts.1
-
--- the numbers that were found
-pub numbers_found : (waits : List (NeedKey × Vec ℕ Global)) (key : NeedKey) (m : Need) (o : Option (Vec ℕ Global)) → key ≡ key_of m → o ≡ lookup (eq.eq-value.it key) waits → numbers_at waits m ≡ numbers_in o
-numbers_found waits key m o of found = ap (λ (k : NeedKey). numbers_in (lookup (eq.eq-value.it k) waits)) (sym of) ∙ ap numbers_in (sym found)

@@ -1,29 +1,24 @@
--- Laws of the table of items.
-use Rattle.std.proofs.Common.{◌≡◌, ◌≢◌, ℕ, Bool, true, false, cond, nat_eq, List, Option, ap, ◌∙◌, arith}
-use Rattle.std.specs.Map.{lookup}
-use Rattle.std.specs.Option.{option_map}
+-- Laws of items by their numbers.
+use Rattle.std.proofs.Common.{◌≡◌, ◌≢◌, ℕ, Bool, true, false, nat_eq, ◌==◌, Option, ap, ◌∙◌, arith, if◌then◌else◌}
 use Rattle.std.proofs.lemmas.Bool.Decides.{nat_tests}
-use Rattle.hw_park.specs.declared.waiter.Waiter.{Waiter}
-use Rattle.hw_park.specs.Kept.{seen, waiting_at}
+use Rattle.hw_park.specs.Parked.{Waiting}
 
--- a table in which one number has this
-pub record IsSet {T : Type 0} (old new : List (ℕ × Waiter T)) (k : ℕ) (w : Option (Waiter T)) : Type 0 where
-  pub at : (q : ℕ) → lookup (nat_eq q) new ≡ cond (nat_eq k q) w (lookup (nat_eq q) old)
+-- one number has this item, or none, and each other what it had
+pub record IsSet {T : Type 0} (old new : ℕ → Option (Waiting T)) (k : ℕ) (w : Option (Waiting T)) : Type 0 where
+  pub at : (j : ℕ) → new j ≡ (if j == k then w else old j)
 
 -- a number is itself
 pub same_number : (k : ℕ) → nat_eq k k ≡ true
 same_number k = grind (arith, nat_tests)
 
 -- another number isn't
-pub other_number : (k j : ℕ) → j ≢ k → nat_eq k j ≡ false
+pub other_number : (k j : ℕ) → j ≢ k → nat_eq j k ≡ false
 other_number k j apart = grind (arith, nat_tests)
 
 -- what is at that number
-pub waiting-set : {T : Type 0} (old new : List (ℕ × Waiter T)) (k : ℕ) (w : Option (Waiter T)) → IsSet old new k w → waiting_at new k ≡ option_map seen w
-waiting-set {T} old new k w put =
-    ap (λ (o : Option (Waiter T)). option_map seen o) (put.at k ∙ ap (λ (b : Bool). cond b w (lookup (nat_eq k) old)) (same_number k))
+pub waiting-set : {T : Type 0} (old new : ℕ → Option (Waiting T)) (k : ℕ) (w : Option (Waiting T)) → IsSet old new k w → new k ≡ w
+waiting-set {T} old new k w put = put.at k ∙ ap (λ (b : Bool). if b then w else old k) (same_number k)
 
 -- what is at the others
-pub waiting-other : {T : Type 0} (old new : List (ℕ × Waiter T)) (k : ℕ) (w : Option (Waiter T)) → IsSet old new k w → (j : ℕ) → j ≢ k → waiting_at new j ≡ waiting_at old j
-waiting-other {T} old new k w put j apart =
-    ap (λ (o : Option (Waiter T)). option_map seen o) (put.at j ∙ ap (λ (b : Bool). cond b w (lookup (nat_eq j) old)) (other_number k j apart))
+pub waiting-other : {T : Type 0} (old new : ℕ → Option (Waiting T)) (k : ℕ) (w : Option (Waiting T)) → IsSet old new k w → (j : ℕ) → j ≢ k → new j ≡ old j
+waiting-other {T} old new k w put j apart = put.at j ∙ ap (λ (b : Bool). if b then w else old j) (other_number k j apart)

@@ -1,7 +1,6 @@
 -- What is kept for the parked items, by their numbers, and the list that it stands for.
-use Rattle.std.specs.Prelude.{◌≡◌, ℕ, zero, suc, ◌≤◌, Bool, true, false, ◌==◌, nat_eq, List, [], ◌++◌, length, count_by, Option, None, Some, if◌then◌else◌}
+use Rattle.std.specs.Prelude.{◌≡◌, ℕ, zero, suc, ◌≤◌, Bool, true, false, ◌==◌, List, [], ◌++◌, length, count_by, Option, None, Some, if◌then◌else◌}
 use Rattle.std.specs.List.{list_any}
-use Rattle.std.specs.Map.{lookup}
 use Rattle.std.specs.Option.{option_map, option_map_or, option_to_list}
 use Rattle.std.specs.declared.vec.Vec.{Vec}
 use Rattle.std.specs.declared.alloc.Global.{Global}
@@ -11,17 +10,9 @@ use Rattle.std.specs.BinaryHeap.{IsHeap}
 use Rattle.hw_types.specs.declared.unit.Need.{Need}
 use Rattle.hw_types.specs.Settled.{need_eq}
 use Rattle.hw_park.specs.declared.key.NeedKey.{NeedKey}
-use Rattle.hw_park.specs.declared.waiter.Waiter.{Waiter}
 use Rattle.hw_park.specs.Numbers.{numbers_at, has_number}
+use Rattle.hw_park.specs.Held.{Held, held}
 use Rattle.hw_park.specs.Parked.{Waiting, Parked, is_ready, relieved}
-
--- what a waiter stands for
-abbrev pub seen : {T : Type 0} → Waiter T → Waiting T
-seen w = record { needs = w.needs.items; item = w.item }
-
--- the item of a number, where it is parked
-abbrev pub waiting_at : {T : Type 0} → List (ℕ × Waiter T) → ℕ → Option (Waiting T)
-waiting_at waiters k = option_map seen (lookup (nat_eq k) waiters)
 
 -- the item, if there is one, which doesn't wait for this need
 abbrev pub relieved_at : {T : Type 0} → Need → Option (Waiting T) → Option (Waiting T)
@@ -64,5 +55,5 @@ pub record IsKept {T : Type 0} (limit count n : ℕ) (at : ℕ → Option (Waiti
   pub queue : IsQueueOf at n ready len room
 
 -- what the tables stand for
-abbrev pub parked_by : {T : Type 0} → ℕ → ℕ → List (ℕ × Waiter T) → Parked T
-parked_by limit n waiters = record { limit = limit; waiting = listed (waiting_at waiters) n }
+abbrev pub parked_by : {T : Type 0} → ℕ → ℕ → Held T → Parked T
+parked_by limit n waiters = record { limit = limit; waiting = listed (held waiters) n }

@@ -1,4 +1,6 @@
 pub mod Parked
 pub mod Keys
+pub mod Left
+pub mod Held
 pub mod Numbers
 pub mod Kept

@@ -2,17 +2,17 @@
 
 ghost use Rattle.std.specs.Prelude.{◌≡◌, ◌+◌, ◌<◌, ◌≤◌, ◌++◌, ◌∷◌, [], ◌↔◌, ◌≢◌, length, All, OnOk, OnErr, IfOk, IfErr, IfNone, IsNone};
 ghost use Rattle.std.specs.BinaryHeap.{heap_items, heap_len, heap_capacity};
-ghost use Rattle.hw_park.specs.Numbers.{KeepsNumbers, WaitsForAll};
+ghost use Rattle.hw_park.specs.Numbers.{SameNumbers, HasRegistered};
 ghost use Rattle.hw_park.specs.Parked.{struck, next_item, without_next};
 
 use crate::key::key_of;
-use crate::waiter::{Waiter, Waiters, strike};
-use crate::waits::{Waits, register};
+use crate::left::NeedsLeft;
+use crate::waiter::{Waiter, Waiters};
+use crate::waits::{Waits, register, withdraw};
 use hw_types::{Need, OutOfMemory};
-use indexmap::IndexMap;
 use std::alloc::Global;
 use std::cmp::Reverse;
-use std::collections::BinaryHeap;
+use std::collections::{BTreeMap, BinaryHeap};
 use std::marker::Model;
 
 /// Why an item wasn't parked.
@@ -37,6 +37,7 @@ type Ready = BinaryHeap<Reverse<u64>>;
 /// The items that wait.
 #[derive(Drop)]
 pub struct Park<T> {
+    alloc: Global,
     limit: u32,
     count: u32,
     // The number of the next item that is parked.
@@ -52,11 +53,12 @@ impl<T> Model for Park<T> {
     ghost Value = { Parked T };
 
     ghost use Rattle.std.specs.BinaryHeap.{heap_items, heap_len, heap_capacity};
-    ghost use Rattle.hw_park.specs.Kept.{parked_by, waiting_at, IsKept};
+    ghost use Rattle.hw_park.specs.Held.{held};
+    ghost use Rattle.hw_park.specs.Kept.{parked_by, IsKept};
 
-    ghost view = { λ p. parked_by p.limit p.next p.waiters.entries };
+    ghost view = { λ p. parked_by p.limit p.next p.waiters };
 
-    ghost invariant = { λ p. IsKept p.limit p.count p.next (waiting_at p.waiters.entries) p.waits.entries (heap_items p.ready) (heap_len p.ready) (heap_capacity p.ready) };
+    ghost invariant = { λ p. IsKept p.limit p.count p.next (held p.waiters) p.waits.entries (heap_items p.ready) (heap_len p.ready) (heap_capacity p.ready) };
 }
 
 impl<T: Drop> Park<T> {
@@ -65,11 +67,12 @@ impl<T: Drop> Park<T> {
         ensures { IfOk result (λ park. park ≡ record { limit = limit; waiting = [] }) }
     {
         Ok(Park {
+            alloc,
             limit,
             count: 0,
             next: 0,
-            waiters: IndexMap::new(alloc),
-            waits: IndexMap::new(alloc),
+            waiters: Waiters::new(alloc),
+            waits: BTreeMap::new(alloc),
             ready: BinaryHeap::new(alloc),
         })
     }
@@ -85,11 +88,11 @@ impl<T: Drop> Park<T> {
     pub fn met(&mut self, need: &Need)
         ensures { self.new ≡ record self.old { waiting = struck need.now self.old.waiting } }
     {
-        let Some(numbers) = self.waits.swap_remove(&key_of(need)) else {
+        let Some(numbers) = self.waits.remove(&key_of(need)) else {
             return;
         };
         for number in &numbers {
-            if strike(&mut self.waiters, *number, need) {
+            if self.waiters.strike(*number, need) {
                 // There is room, which was made when the item was parked.
                 let _ = self.ready.push(Reverse(*number));
             }
@@ -104,7 +107,7 @@ impl<T: Drop> Park<T> {
         ensures unchanged { IfNone result (self.new ≡ self.old) }
     {
         let Reverse(number) = self.ready.pop()?;
-        let Waiter { item, .. } = self.waiters.swap_remove(&number)?;
+        let Waiter { item, .. } = self.waiters.remove(number)?;
         self.count -= 1;
         Some(item)
     }
@@ -131,43 +134,51 @@ impl<T: Drop> Park<T> {
         let Some(next) = number.checked_add(1) else {
             return Err(refused(ParkCause::OutOfMemory, item));
         };
-        let Ok(left) = prepare(&mut self.waits, &mut self.ready, needs, number, self.count) else {
+        let Ok(left) = prepare(
+            &mut self.waits,
+            &mut self.ready,
+            self.alloc,
+            needs,
+            number,
+            self.count,
+        ) else {
             return Err(refused(ParkCause::OutOfMemory, item));
         };
         match self.waiters.insert(number, Waiter { needs: left, item }) {
-            Ok(_) => {
+            Ok(()) => {
                 self.count += 1;
                 self.next = next;
                 Ok(())
             }
-            Err(failed) => {
-                let (_, waiter) = failed.value;
+            Err(waiter) => {
+                withdraw(&mut self.waits, needs);
                 Err(refused(ParkCause::OutOfMemory, waiter.item))
             }
         }
     }
 }
 
-// Takes the memory that one item more will need, but for its own place, and notes its needs.
+// Takes the memory that one item more will need, but for its own place, and notes its needs. Where there
+// is not enough, none are noted.
 fn prepare(
     waits: &mut Waits,
     ready: &mut Ready,
+    alloc: Global,
     needs: &[Need],
     number: u64,
     count: u32,
-) -> Result<Vec<Need>, OutOfMemory>
+) -> Result<NeedsLeft, OutOfMemory>
     requires { heap_len ready.old ≤ count }
     ensures items { heap_items ready.new ≡ heap_items ready.old }
     ensures len { heap_len ready.new ≡ heap_len ready.old }
     ensures capacity { heap_capacity ready.old ≤ heap_capacity ready.new }
     ensures room { OnOk result (count + 1 ≤ heap_capacity ready.new) }
-    ensures kept { KeepsNumbers waits.old.entries waits.new.entries }
-    ensures noted { OnOk result (WaitsForAll waits.new.entries needs.now number) }
-    ensures left { IfOk result (λ left. left.items ≡ needs.now) }
+    ensures noted { OnOk result (HasRegistered waits.old.entries waits.new.entries needs.now number) }
+    ensures err { OnErr result (SameNumbers waits.old.entries waits.new.entries) }
+    ensures left { IfOk result (λ left. left ≡ needs.now) }
 {
-    let alloc = *waits.allocator();
     ready.reserve(count as usize + 1)?;
-    let left = Vec::from_slice(alloc, needs)?;
+    let left = NeedsLeft::new(alloc, needs)?;
     register(waits, alloc, needs, number)?;
     Ok(left)
 }

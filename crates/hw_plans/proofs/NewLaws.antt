@@ -1,5 +1,5 @@
 -- The unit of a plan is new, and its delivery is admitted.
-use Rattle.std.proofs.Common.{◌≡◌, ◌≢◌, ℕ, suc, ◌+◌, ◌≤◌, ◌<◌, ◌⊎◌, inl, inr, Bool, true, false, cond, not, List, [], ◌∷◌, ◌++◌, length, Option, Some, None, refl, sym, ap, subst, ◌∙◌, arith}
+use Rattle.std.proofs.Common.{◌≡◌, ◌≢◌, ℕ, ◌+◌, ◌≤◌, ◌<◌, ◌⊎◌, inl, inr, Bool, true, false, cond, not, List, [], ◌∷◌, ◌++◌, length, Option, Some, None, refl, sym, ap, subst, ◌∙◌, arith}
 use Rattle.std.specs.Prelude.{◌&&◌, ◌==◌, nat_lt, nat_le, filter, is_none, Ok, Err, Result, fold}
 use Rattle.std.specs.List.{list_any}
 use Rattle.std.proofs.lemmas.Bool.{lt-leb, le-leb}
@@ -26,7 +26,7 @@ use Rattle.hw_types.specs.laws.StateLaws.{units_in, NamesApart, Grows}
 use Rattle.hw_types.specs.Spelling.{Fits, VertexFits}
 use Rattle.hw_types.specs.Step.{next_seq}
 use Rattle.hw_plans.specs.Plans.{settled_in, observed_over, own_unit, JournalFits, PlanFits, IsPlannedOver, IsPlanned, HasNamesake, delivered, IsAnswered, PlanIsNew, PlanIsAnswered, PlanIsAdmitted}
-use Rattle.hw_types.proofs.ClosureLaws.{Within, filter-Among, length-filter}
+use Rattle.hw_types.proofs.ClosureLaws.{Within, filter-Among}
 use Rattle.hw_types.proofs.PastLaws.{some_of, any_of}
 use Rattle.hw_types.proofs.StableLaws.{and_parts, and_whole}
 use Rattle.hw_types.proofs.SettledLaws.{digest_same, digest_self}

@@ -39,26 +39,3 @@ pub fn changes_lawfully(before: u64, before_exponent: u8, time: u64, exponent: u
     let greater = before_exponent.max(exponent);
     before_exponent == exponent || before >> greater < time >> greater
 }
-
-#[cfg(test)]
-mod tests {
-    use super::*;
-
-    #[test]
-    fn rounds_begin_at_multiples_of_their_length(rt: HostRuntime) {
-        assert_eq!(rt; round_id(27, 4), 16);
-        assert_eq!(rt; round_id((1 << 63) - 1, 40), 9223370937343148032);
-        assert_eq!(rt; witness_time(16, 4), 26);
-        assert_eq!(rt; witness_time(0, 2), 2);
-        assert_eq!(rt; witness_time(0, 40), 733007751850);
-    }
-
-    #[test]
-    fn the_length_changes_between_rounds_alone(rt: HostRuntime) {
-        assert!(rt; changes_lawfully(17, 4, 18, 4));
-        assert!(rt; !changes_lawfully(17, 4, 26, 5));
-        assert!(rt; !changes_lawfully(33, 5, 48, 4));
-        assert!(rt; changes_lawfully(17, 4, 32, 5));
-        assert!(rt; changes_lawfully(40, 5, 64, 4));
-    }
-}

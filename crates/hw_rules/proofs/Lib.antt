@@ -4,3 +4,4 @@ pub mod RoundLaws
 pub mod HeightLaws
 pub mod StateLaws
 pub mod LocalLaws
+pub mod ListLaws

@@ -2,10 +2,11 @@
 
 ghost use Rattle.std.specs.Prelude.{◌≡◌};
 ghost use Rattle.std.specs.List.{list_any};
-ghost use Rattle.hw_types.specs.Graph.{slot, is_correct, digest_lt};
-ghost use Rattle.hw_types.specs.Rules.{local_rule, is_rising, is_rising_after};
+ghost use Rattle.hw_types.specs.Graph.{slot, is_correct};
+ghost use Rattle.hw_types.specs.Rules.{local_rule};
 ghost use Rattle.hw_rules.specs.Verdict.{verdict_of};
 
+use crate::lists::rises;
 use hw_types::{Config, Digest, Obs, Rule, WireUnit};
 
 /// The first rule of the unit alone that it breaks.
@@ -56,30 +57,4 @@ fn has_correct(panorama: &[Obs]) -> bool
     ensures { result ≡ list_any is_correct panorama.now }
 {
     panorama.iter().any(|obs| matches!(obs, Obs::Correct(_)))
-}
-
-/// Whether the one digest is the lesser one by its bytes.
-fn comes_before(left: &Digest, right: &Digest) -> bool
-    ensures { result ≡ digest_lt left.now right.now }
-{
-    left.0.cmp(&right.0).is_lt()
-}
-
-fn rises_after(first: &Digest, rest: &[Digest]) -> bool
-    ensures { result ≡ is_rising_after first.now rest.now }
-{
-    match rest {
-        [] => true,
-        [next, rest @ ..] => comes_before(first, next) && rises_after(next, rest),
-    }
-}
-
-/// Whether each digest is above the one before.
-fn rises(digests: &[Digest]) -> bool
-    ensures { result ≡ is_rising digests.now }
-{
-    match digests {
-        [] => true,
-        [first, rest @ ..] => rises_after(first, rest),
-    }
 }

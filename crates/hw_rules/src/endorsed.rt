@@ -1,9 +1,8 @@
 //! The rules of a unit's endorsed list.
 
 ghost use Rattle.std.specs.Prelude.{◌≡◌, ◌<◌, ◌≤◌, ◌↔◌, IsTrue, false};
-ghost use Rattle.std.specs.List.{list_all};
 ghost use Rattle.hw_types.specs.Below.{Among};
-ghost use Rattle.hw_types.specs.Rules.{has_digest, has_naive_fork};
+ghost use Rattle.hw_types.specs.Rules.{has_naive_fork};
 ghost use Rattle.hw_types.specs.Tests.{first_broken};
 ghost use Rattle.hw_dag.specs.Dag.{count_of, node_at};
 ghost use Rattle.hw_dag.specs.Admission.{node_prepared};
@@ -11,6 +10,7 @@ ghost use Rattle.hw_naivety.specs.Naivety.{IsNoted};
 ghost use Rattle.hw_rules.specs.Judged.{IsCase, below_of, endorsed_tests, has_foreign_slot, drops_endorsed, endorses_unseen, has_named};
 ghost use Rattle.hw_rules.specs.Verdict.{verdict_of};
 
+use crate::lists::has_all;
 use crate::lookups::{cited, wire_unit};
 use hw_dag::{Dag, Marks, Prepared, UnitNo};
 use hw_naivety::Naivety;
@@ -59,20 +59,6 @@ fn drops_endorsed(dag: &Dag, prepared: &Prepared) -> bool
     false
 }
 
-/// Whether each of the other digests is among the own ones.
-fn has_all(own: &[Digest], others: &[Digest]) -> bool
-    ensures { result ≡ list_all (has_digest own.now) others.now }
-{
-    others.iter().all(|digest| has(own, digest))
-}
-
-/// Whether the digest is among the own ones.
-fn has(own: &[Digest], digest: &Digest) -> bool
-    ensures { result ≡ has_digest own.now digest.now }
-{
-    own.iter().any(|other| *digest == *other)
-}
-
 /// Whether its list has a digest of no unit below it.
 fn endorses_unseen(dag: &Dag, prepared: &Prepared, marks: &mut Marks) -> bool
     requires case { IsCase dag.now prepared.now }
@@ -109,6 +95,9 @@ fn has_below(dag: &Dag, prepared: &Prepared, no: UnitNo, marks: &mut Marks) -> b
     ensures below { IsTrue result ↔ Among (node_at dag.now no.0) (below_of dag.now prepared.now) }
     ensures room { marks.new ≡ marks.old }
 {
+    if is_on_cited_lane(dag, prepared, no) {
+        return true;
+    }
     for validator in 0..dag.validators() {
         if let Some(high) = cited(prepared, validator) {
             if dag.sees(high, no, marks) {
@@ -117,6 +106,19 @@ fn has_below(dag: &Dag, prepared: &Prepared, no: UnitNo, marks: &mut Marks) -> b
         }
     }
     false
+}
+
+/// Whether the unit is on the lane of the one that it cites of the same creator, as units below mostly
+/// are.
+fn is_on_cited_lane(dag: &Dag, prepared: &Prepared, no: UnitNo) -> bool
+    requires case { IsCase dag.now prepared.now }
+    requires known { no.0 < count_of dag.now }
+    ensures { IsTrue result → Among (node_at dag.now no.0) (below_of dag.now prepared.now) }
+{
+    match cited(prepared, wire_unit(dag, no).creator) {
+        Some(high) => dag.on_lane(no, high),
+        None => false,
+    }
 }
 
 /// Whether two units of one creator that are naive for it aren't comparable.

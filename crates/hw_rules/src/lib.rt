@@ -12,6 +12,7 @@ mod citations;
 mod endorsed;
 mod judge;
 mod laws;
+mod lists;
 mod lookups;
 mod rounds;
 #[cfg(test)]

@@ -1,6 +1,5 @@
 -- The laws of summits say something: their premises are met.
 use Rattle.std.proofs.Common.{◌≡◌, ◌≤◌, inl, inr, true, [], ◌∷◌, refl, arith}
-use Rattle.std.proofs.lemmas.Bool.{leb-true, le-leb}
 use Rattle.hw_summit.proofs.SuffixLaws.{settled_suffix}
 use Rattle.hw_summit.proofs.AncestorLaws.{ancestor_stands}
 use Rattle.hw_summit.proofs.HeightLaws.{stood_is_kept, one_block_each}

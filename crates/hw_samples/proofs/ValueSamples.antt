@@ -10,7 +10,7 @@ use Rattle.hw_samples.specs.Formulas.{Quorums, Rounds}
 
 pub unit_is_spelled : UnitIsSpelled
 unfolding unfold_reading
-unit_is_spelled = record { spelled = refl; count = refl; read = refl; cut = refl; trailing = refl; late = refl; panorama = refl; observation = refl; flag = refl; value = refl; endorsed = refl; first = refl }
+unit_is_spelled = record { spelled = refl; count = refl; read = refl; cut = refl; trailing = refl; late = refl; many = refl; panorama = refl; observation = refl; flag = refl; value = refl; endorsed = refl; first = refl }
 
 pub vertices_are_spelled : VerticesAreSpelled
 unfolding unfold_reading
@@ -18,7 +18,7 @@ vertices_are_spelled = record { unit = refl; evidence = refl; endorses = refl; c
 
 pub config_is_spelled : ConfigIsSpelled
 unfolding unfold_reading
-config_is_spelled = record { spelled = refl; count = refl; read = refl; end_spelled = refl; end_read = refl; key_read = refl; cut = refl; cut_key = refl; cut_end = refl; trailing = refl; version = refl; weights = refl; leaders = refl; table = refl }
+config_is_spelled = record { spelled = refl; count = refl; read = refl; end_spelled = refl; end_read = refl; key_read = refl; cut = refl; cut_key = refl; cut_end = refl; trailing = refl; version = refl; many = refl; weights = refl; leaders = refl; table = refl }
 
 pub frames_are_spelled : FramesAreSpelled
 unfolding unfold_reading

@@ -44,7 +44,9 @@ pub record UnitIsSpelled : Type 0 where
       ≡ cut_in 32 0 ++ cut_in 4 32 ++ cut_in 8 36 ++ cut_in 8 44 ++ cut_in 1 52 ++ cut_in 4 53 ++ cut_in 1 57 ++ cut_in 1 58 ++ cut_in 1 59 ++ cut_in 4 60 ++ cut_in 1 64 ++ cut_in 4 65
   pub trailing : unit_of (small_unit_bytes ++ 0 ∷ []) ≡ Err (error.Trailing 69)
   pub late : unit_of (with_byte 44 128 small_unit_bytes) ≡ Err (error.OutOfRange 44)
-  pub panorama : unit_of (with_byte 55 1 (with_byte 56 1 small_unit_bytes)) ≡ Err (error.TooLong 53)
+  -- 257 observations may come, and the third one's digest is cut; 1,025 may not
+  pub many : unit_of (with_byte 55 1 (with_byte 56 1 small_unit_bytes)) ≡ Err (error.Truncated 60)
+  pub panorama : unit_of (with_byte 55 4 (with_byte 56 1 small_unit_bytes)) ≡ Err (error.TooLong 53)
   pub observation : unit_of (with_byte 57 3 small_unit_bytes) ≡ Err (error.BadTag 57)
   pub flag : unit_of (with_byte 59 2 small_unit_bytes) ≡ Err (error.BadTag 59)
   pub value : unit_of (with_byte 62 16 (with_byte 63 1 small_unit_bytes)) ≡ Err (error.TooLong 60)
@@ -110,7 +112,8 @@ pub record ConfigIsSpelled : Type 0 where
   pub cut_end : config_of (with_byte 0 2 equal_three_bytes) ∷ config_of (take 72 (config_bytes with_end)) ∷ [] ≡ Err (error.Truncated 65) ∷ Err (error.Truncated 65) ∷ []
   pub trailing : config_of (equal_three_bytes ++ 0 ∷ []) ∷ config_of (config_bytes with_end ++ 0 ∷ []) ∷ [] ≡ Err (error.Trailing 65) ∷ Err (error.Trailing 73) ∷ []
   pub version : config_of (with_byte 0 0 equal_three_bytes) ∷ config_of (with_byte 0 3 equal_three_bytes) ∷ [] ≡ Err (error.BadTag 0) ∷ Err (error.BadTag 0) ∷ []
-  pub weights : config_of (with_byte 3 1 (with_byte 4 1 equal_three_bytes)) ≡ Err (error.TooLong 1)
+  pub many : config_of (with_byte 3 1 (with_byte 4 1 equal_three_bytes)) ≡ Err (error.Truncated 61)
+  pub weights : config_of (with_byte 3 4 (with_byte 4 1 equal_three_bytes)) ≡ Err (error.TooLong 1)
   pub leaders : config_of (with_byte 40 2 equal_three_bytes) ≡ Err (error.BadTag 40)
   pub table : config_of (with_byte 43 16 (with_byte 44 1 equal_three_bytes)) ≡ Err (error.TooLong 41)
 

@@ -48,6 +48,3 @@ pub fn jump(s: u64, r: u64) -> u32
 {
     (s - r).ilog2().min(s.trailing_zeros())
 }
-
-#[cfg(test)]
-mod tests;

@@ -9,6 +9,3 @@ mod rules;
 
 pub use parts::{end_line, put_digest, put_number, put_numbered, put_word};
 pub use rules::rule_name;
-
-#[cfg(test)]
-mod tests;

@@ -11,8 +11,6 @@ mod config;
 mod items;
 mod laws;
 mod same;
-#[cfg(test)]
-mod tests;
 mod unit;
 
 pub use answers::{

@@ -24,5 +24,7 @@ invariant_of-result c =
         naivety_serves = omega arith;
         forks_serve = omega arith;
         marks_serve = omega arith;
+        own_kept = c.in_ok-own_fork.ensures.own c.args.config.weights c.in_ok-dag.dag c.in_ok-dag.ensures.validators;
+        judged_kept = c.in_ok-own_fork.ensures.judged c.args.config.weights c.in_ok-dag.dag c.in_ok-dag.ensures.validators;
       },
     )

@@ -4,11 +4,11 @@ use Rattle.hw_forks.specs.declared.votes.Vote.{Vote}
 use Rattle.hw_forks.proofs.LoopLaws.{no_vote, so_far_all, vote_is_among}
 use Rattle.hw_forks.proofs.start.are_on_one_chain.Goals as goal
 
-pub ancestor_at-requires-clause-known : goal.ancestor_at-requires-clause-known
-ancestor_at-requires-clause-known c = (c.requires.votes.each c.args.top c.requires.top).known
+pub leads_up-requires-clause-known : goal.leads_up-requires-clause-known
+leads_up-requires-clause-known c = (c.requires.votes.each c.args.top c.requires.top).known
 
-pub ancestor_at-requires-clause-within : goal.ancestor_at-requires-clause-within
-ancestor_at-requires-clause-within c =
+pub leads_up-requires-clause-within : goal.leads_up-requires-clause-within
+leads_up-requires-clause-within c =
     let lt : c.loop-vote.vote-index < length c.args.votes.now = omega arith in
     let height = (c.requires.votes.each c.args.top c.requires.top).height_is in
     let le = c.requires.highest (get_or c.args.votes.now c.loop-vote.vote-index no_vote) (vote_is_among c.args.votes.now c.loop-vote.vote-index lt) in

@@ -1,8 +1,15 @@
-use Rattle.hw_park.proofs.NumberLaws.{waits-more}
+use Rattle.std.proofs.Common.{take, sym, ◌∙◌}
+use Rattle.hw_park.proofs.NumberLaws.{registered-more, registered-same}
+use Rattle.hw_park.proofs.ParkLaws.{not_err, so_err}
 use Rattle.hw_park.proofs.waits.register.Goals as goal
 
-pub loop-need-preserved : goal.loop-need-preserved
-loop-need-preserved c = record {
-  kept = λ n k there. c.in_ok-note.ensures.kept n k (c.loop-need.invariant.kept n k there);
-  noted = waits-more c.loop-need.waits.entries c.note.new.waits.entries c.args.needs.now c.loop-need.need-index c.args.number _ c.loop-need-test.true c.in_ok-note.ensures.kept c.loop-need.invariant.noted c.in_ok-note.ensures.noted;
-}
+pub loop-index-preserved : goal.loop-index-preserved
+loop-index-preserved c =
+    registered-more c.args.waits.now.entries c.loop-index.waits.entries c.note.new.waits.entries c.args.needs.now c.loop-index.index c.args.number _ c.loop-index-test.true c.loop-index.invariant
+    (not_err c.note.result (sym c.is_err.ensures.value ∙ c.if-is_err.false) c.note.ensures.noted)
+
+pub returns-then-is_err-clause-err : goal.returns-then-is_err-clause-err
+returns-then-is_err-clause-err c =
+    c.withdraw.ensures c.args.waits.now.entries c.args.number
+    (registered-same c.args.waits.now.entries c.loop-index.waits.entries c.note.new.waits.entries (take c.loop-index.index c.args.needs.now) c.args.number c.loop-index.invariant
+    (so_err c.note.result (sym c.is_err.ensures.value ∙ c.if-is_err.true) c.note.ensures.err))

@@ -1,4 +1,4 @@
-use Rattle.std.proofs.Common.{◌≡◌, ◌<◌, ◌≤◌, false, List, length, None, Option, set, sym, ap, subst, ◌∙◌, arith}
+use Rattle.std.proofs.Common.{◌≡◌, ◌≤◌, false, List, length, None, set, sym, ap, subst, ◌∙◌, arith}
 use Rattle.std.specs.Option.{option_map}
 use Rattle.hw_types.specs.declared.unit.Obs.{Obs}
 use Rattle.hw_types.specs.declared.unit.SignedUnit.{SignedUnit}
@@ -7,9 +7,11 @@ use Rattle.hw_types.specs.Votes.{fork_of}
 use Rattle.hw_dag.specs.declared.numbers.UnitNo.{UnitNo}
 use Rattle.hw_dag.specs.declared.numbers.View.{View}
 use Rattle.hw_dag.specs.Dag.{UnitGraph, graph, count_of, node_at, view_at, observations, IsPanorama}
-use Rattle.hw_dag.specs.Admission.{IsFork, IsNew, IsResolved, node_prepared}
-use Rattle.hw_dag.proofs.AdmitLaws.{count_later}
+use Rattle.hw_dag.specs.Admission.{IsFork, IsNew, IsResolved, node_prepared, settled_from, with_unit}
+use Rattle.hw_dag.proofs.AdmitLaws.{count_later, grows, later_apart}
 use Rattle.hw_rules.specs.Judged.{KeepsLocalRules}
+use Rattle.hw_admit.specs.Kept.{IsKept}
+use Rattle.hw_admit.proofs.KeptLaws.{kept_stays}
 use Rattle.hw_admit.specs.State.{NodeState, MarksAreMet, is_faulty_in, observed_in}
 use Rattle.hw_admit.proofs.RuleLaws.{fits, keeps, sound, is_ready, noted_later, endorses_later, forkless_later}
 use Rattle.hw_admit.proofs.AdmitLaws.{is_state_later, seen_later}
@@ -196,6 +198,10 @@ invariant_of-self c =
         naivety_serves = omega arith;
         forks_serve = omega arith;
         marks_serve = omega arith;
+        own_kept = subst (λ (d : UnitGraph). IsKept c.self.inside.config.weights d c.self.inside.own_fork) (sym c.admit-no.ensures.admitted)
+            (kept_stays c.self.inside.config.weights dag (with_unit dag (settled_from dag p fork)) (grows dag g p fork ready) g (later_apart dag g p fork ready) c.self.inside.own_fork beside.own_kept);
+        judged_kept = subst (λ (d : UnitGraph). IsKept c.self.inside.config.weights d c.fork_choice-fork.new.self) (sym c.admit-no.ensures.admitted)
+            (kept_stays c.self.inside.config.weights dag (with_unit dag (settled_from dag p fork)) (grows dag g p fork ready) g (later_apart dag g p fork ready) c.fork_choice-fork.new.self c.fork_choice-fork.ensures.kept);
       },
     )
 

@@ -1,4 +1,4 @@
-use Rattle.std.proofs.Common.{◌≡◌, ◌<◌, true, false, length, get_or-set_same, sym, subst, arith}
+use Rattle.std.proofs.Common.{◌<◌, true, false, length, get_or-set_same, sym, subst, arith}
 use Rattle.hw_admit.specs.State.{NodeState}
 use Rattle.hw_admit.proofs.StateLaws.{is_state_marked, is_beside_marked}
 use Rattle.hw_admit.proofs.state.State.mark.Goals as goal

@@ -1,5 +1,5 @@
-use Rattle.std.proofs.Common.{◌≡◌, length, refl, ap, arith}
-use Rattle.hw_admit.proofs.SpareLaws.{is_state_respaced, noted_respaced}
+use Rattle.std.proofs.Common.{length, refl, ap, arith}
+use Rattle.hw_admit.proofs.SpareLaws.{is_state_respaced, noted_respaced, kept_respaced}
 use Rattle.hw_admit.proofs.state.State.reserve.Goals as goal
 
 pub invariant_of-self-in_err-reserved : goal.invariant_of-self-in_err-reserved
@@ -30,6 +30,8 @@ invariant_of-self-in_err-reserved c =
         naivety_serves = omega arith;
         forks_serve = omega arith;
         marks_serve = omega arith;
+        own_kept = kept_respaced dag later c.count.ensures.graph c.count-count.ensures.graph units validators _ _ beside.own_kept;
+        judged_kept = kept_respaced dag later c.count.ensures.graph c.count-count.ensures.graph units validators _ _ beside.judged_kept;
       },
     )
 
@@ -58,5 +60,7 @@ invariant_of-self-then-self-count c =
         naivety_serves = naivety_room;
         forks_serve = omega arith;
         marks_serve = omega arith;
+        own_kept = kept_respaced dag later c.count.ensures.graph c.count-count.ensures.graph units validators _ _ beside.own_kept;
+        judged_kept = kept_respaced dag later c.count.ensures.graph c.count-count.ensures.graph units validators _ _ beside.judged_kept;
       },
     )

@@ -1,6 +1,7 @@
 use Rattle.std.proofs.Common.{◌∙◌, sym, ap, List, heap_items, heap_len}
 use Rattle.std.specs.BinaryHeap.{heap_capacity}
 use Rattle.hw_park.specs.Parked.{Waiting}
+use Rattle.hw_park.specs.Held.{held, seen}
 use Rattle.hw_park.proofs.NextLaws.{nothing_ready, handed_out, none_waits}
 use Rattle.hw_park.proofs.park.Park.next_ready.Goals as goal
 
@@ -17,35 +18,35 @@ returns-in_err-number-clause-others g c =
 pub invariant_of-self-2 : goal.invariant_of-self-2
 invariant_of-self-2 g c =
     rw c.pop.ensures.capacity
-    (handed_out c.self.inside.limit c.self.inside.count c.self.inside.next c.self.inside.waiters.entries c.swap_remove.new.self.entries c.self.inside.waits.entries
-    (heap_items c.self.inside.ready) (heap_items c.pop.new.self) (heap_len c.self.inside.ready) (heap_len c.pop.new.self) _ c.in_ok-number.field-0 c.in_ok-item.field-0
+    (handed_out c.self.inside.limit c.self.inside.count c.self.inside.next (held c.self.inside.waiters) (held c.remove.new.self) c.self.inside.waits.entries
+    (heap_items c.self.inside.ready) (heap_items c.pop.new.self) (heap_len c.self.inside.ready) (heap_len c.pop.new.self) _ c.in_ok-number.field-0 (seen c.in_ok-item.field-0)
     c.self.invariant c.in_ok-number.ensures.permutation (c.in_ok-number.ensures.below_top c.self.invariant.queue.ordered) (c.in_ok-number.ensures.heap_order c.self.invariant.queue.ordered).0
-    c.in_ok-number.ensures.len (sym c.in_ok-item.ensures.value) (record { at = c.in_ok-item.ensures.updates.0 })).kept
+    c.in_ok-number.ensures.len (sym c.in_ok-item.ensures.item) (record { at = c.in_ok-item.ensures.held })).kept
 
 pub returns-clause-item : goal.returns-clause-item
 returns-clause-item g c =
     rw (← c.self.view_is)
-    (handed_out c.self.inside.limit c.self.inside.count c.self.inside.next c.self.inside.waiters.entries c.swap_remove.new.self.entries c.self.inside.waits.entries
-    (heap_items c.self.inside.ready) (heap_items c.pop.new.self) (heap_len c.self.inside.ready) (heap_len c.pop.new.self) _ c.in_ok-number.field-0 c.in_ok-item.field-0
+    (handed_out c.self.inside.limit c.self.inside.count c.self.inside.next (held c.self.inside.waiters) (held c.remove.new.self) c.self.inside.waits.entries
+    (heap_items c.self.inside.ready) (heap_items c.pop.new.self) (heap_len c.self.inside.ready) (heap_len c.pop.new.self) _ c.in_ok-number.field-0 (seen c.in_ok-item.field-0)
     c.self.invariant c.in_ok-number.ensures.permutation (c.in_ok-number.ensures.below_top c.self.invariant.queue.ordered) (c.in_ok-number.ensures.heap_order c.self.invariant.queue.ordered).0
-    c.in_ok-number.ensures.len (sym c.in_ok-item.ensures.value) (record { at = c.in_ok-item.ensures.updates.0 })).item_is
+    c.in_ok-number.ensures.len (sym c.in_ok-item.ensures.item) (record { at = c.in_ok-item.ensures.held })).item_is
 
 pub returns-clause-others : goal.returns-clause-others
 returns-clause-others g c =
     rw (← c.self.view_is)
     (ap (λ (ws : List (Waiting g.row.T.Denot)). record { limit = c.self.inside.limit; waiting = ws })
-    (handed_out c.self.inside.limit c.self.inside.count c.self.inside.next c.self.inside.waiters.entries c.swap_remove.new.self.entries c.self.inside.waits.entries
-    (heap_items c.self.inside.ready) (heap_items c.pop.new.self) (heap_len c.self.inside.ready) (heap_len c.pop.new.self) (heap_capacity c.self.inside.ready) c.in_ok-number.field-0 c.in_ok-item.field-0
+    (handed_out c.self.inside.limit c.self.inside.count c.self.inside.next (held c.self.inside.waiters) (held c.remove.new.self) c.self.inside.waits.entries
+    (heap_items c.self.inside.ready) (heap_items c.pop.new.self) (heap_len c.self.inside.ready) (heap_len c.pop.new.self) (heap_capacity c.self.inside.ready) c.in_ok-number.field-0 (seen c.in_ok-item.field-0)
     c.self.invariant c.in_ok-number.ensures.permutation (c.in_ok-number.ensures.below_top c.self.invariant.queue.ordered) (c.in_ok-number.ensures.heap_order c.self.invariant.queue.ordered).0
-    c.in_ok-number.ensures.len (sym c.in_ok-item.ensures.value) (record { at = c.in_ok-item.ensures.updates.0 })).others)
+    c.in_ok-number.ensures.len (sym c.in_ok-item.ensures.item) (record { at = c.in_ok-item.ensures.held })).others)
 
 pub returns-clause-none : goal.returns-clause-none
 returns-clause-none g c =
     rw (← c.self.view_is) (
       λ e. absurd cc,
       λ all. absurd (none_waits _ all _
-          (handed_out c.self.inside.limit c.self.inside.count c.self.inside.next c.self.inside.waiters.entries c.swap_remove.new.self.entries c.self.inside.waits.entries
-          (heap_items c.self.inside.ready) (heap_items c.pop.new.self) (heap_len c.self.inside.ready) (heap_len c.pop.new.self) (heap_capacity c.self.inside.ready) c.in_ok-number.field-0 c.in_ok-item.field-0
+          (handed_out c.self.inside.limit c.self.inside.count c.self.inside.next (held c.self.inside.waiters) (held c.remove.new.self) c.self.inside.waits.entries
+          (heap_items c.self.inside.ready) (heap_items c.pop.new.self) (heap_len c.self.inside.ready) (heap_len c.pop.new.self) (heap_capacity c.self.inside.ready) c.in_ok-number.field-0 (seen c.in_ok-item.field-0)
           c.self.invariant c.in_ok-number.ensures.permutation (c.in_ok-number.ensures.below_top c.self.invariant.queue.ordered) (c.in_ok-number.ensures.heap_order c.self.invariant.queue.ordered).0
-          c.in_ok-number.ensures.len (sym c.in_ok-item.ensures.value) (record { at = c.in_ok-item.ensures.updates.0 })).item_is),
+          c.in_ok-number.ensures.len (sym c.in_ok-item.ensures.item) (record { at = c.in_ok-item.ensures.held })).item_is),
     )

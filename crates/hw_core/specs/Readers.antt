@@ -1,0 +1,59 @@
+-- What a node tells of its journal.
+use Rattle.std.specs.Prelude.{◌≡◌, ℕ, ◌<◌, nat_lt, List, [], length, find, filter_map, Option, Some, None, if◌then◌else◌}
+use Rattle.std.specs.Option.{option_map}
+use Rattle.hw_types.specs.declared.unit.Digest.{Digest}
+use Rattle.hw_types.specs.declared.unit.Need.{Need}
+use Rattle.hw_types.specs.declared.unit.SignedUnit.{SignedUnit}
+use Rattle.hw_types.specs.declared.unit.Vertex.{Vertex}
+use Rattle.hw_types.specs.declared.unit.Vertex.TheVariants as vertex
+use Rattle.hw_types.specs.Graph.{Node, digest_eq}
+use Rattle.hw_types.specs.Below.{Among}
+use Rattle.hw_types.specs.Rules.{state_rule}
+use Rattle.hw_types.specs.Settled.{missing_of, fork_choice}
+use Rattle.hw_types.specs.Spelling.{digest_of}
+use Rattle.hw_types.specs.Journal.{named}
+use Rattle.hw_types.specs.Real.{CoreState, setting_of, received_in, settled_in, weight_in}
+use Rattle.hw_core.specs.declared.place.Place.{Place}
+use Rattle.hw_core.specs.declared.place.Place.TheVariants as place
+
+-- the unit of a vertex, as it was signed
+abbrev pub signed_unit : Vertex → Option SignedUnit
+signed_unit (vertex.Unit u) = Some u
+signed_unit (vertex.Evidence e) = None
+signed_unit (vertex.Endorsement e) = None
+
+-- the journal's unit of this name, as it was signed
+unfoldable pub unit_in : CoreState → Digest → Option SignedUnit
+unit_in c d = find (λ u. digest_eq d (digest_of u.unit)) (filter_map signed_unit c.journal)
+
+-- a unit under its name
+abbrev pub node_in : CoreState → SignedUnit → Node
+node_in c u = named (setting_of c.config) u.unit
+
+-- what a unit misses, in order
+abbrev pub missed_by : CoreState → Option SignedUnit → List Need
+missed_by c None = []
+missed_by c (Some u) = missing_of c.config (received_in c) (settled_in c) (node_in c u)
+
+-- what the journal's unit of this name misses, in order
+abbrev pub missing_needs : CoreState → Digest → List Need
+missing_needs c d = missed_by c (unit_in c d)
+
+-- What became of the journal's unit of this name. The number of a settled one is one of the state's graph.
+abbrev pub IsPlace : CoreState → Digest → Place → Type 0
+IsPlace c d place.Unknown = unit_in c d ≡ None
+IsPlace c d (place.Settled number) = (u : SignedUnit) × (unit_in c d ≡ Some u) × Among (node_in c u) (settled_in c) × (number.0 < length (settled_in c))
+IsPlace c d (place.Parked missing) = (0 < missing) × (length (missing_needs c d) ≡ missing)
+IsPlace c d (place.Dropped rule) = (u : SignedUnit) × (unit_in c d ≡ Some u) × (missing_needs c d ≡ []) × (state_rule c.config (settled_in c) (node_in c u) ≡ Some rule)
+
+-- the journal's unit of this name, if there is one, misses something
+abbrev pub IsUnsettled : CoreState → Digest → Type 0
+IsUnsettled c d = (u : SignedUnit) → unit_in c d ≡ Some u → 0 < length (missing_needs c d)
+
+-- the name of the fork choice
+abbrev pub fork_in : CoreState → Option Digest
+fork_in c = option_map (λ (x : Node). x.digest) (fork_choice c.config (received_in c))
+
+-- the faulty weight, where it exceeds the threshold
+abbrev pub exceeded_in : CoreState → Option ℕ
+exceeded_in c = if nat_lt c.config.ftt (weight_in c) then Some (weight_in c) else None

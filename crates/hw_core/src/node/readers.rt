@@ -1,0 +1,164 @@
+//! What a node tells of its journal. No reader takes memory.
+
+ghost use Rattle.std.specs.Prelude.{◌≡◌, ℕ, ◌<◌, length, slice_get, Some, IfSome};
+ghost use Rattle.std.specs.Option.{option_copied};
+ghost use Rattle.hw_types.specs.Graph.{slot};
+ghost use Rattle.hw_types.specs.Settled.{has_evidence, parked_of, dropped_of};
+ghost use Rattle.hw_types.specs.Spelling.{VertexFits, Fits};
+ghost use Rattle.hw_types.specs.Real.{received_in, settled_in, panorama_in, weight_in};
+ghost use Rattle.hw_dag.specs.Dag.{graph, observations};
+ghost use Rattle.hw_admit.specs.State.{is_marked};
+ghost use Rattle.hw_core.specs.Readers.{unit_in, missing_needs, IsPlace, IsUnsettled, fork_in, exceeded_in};
+
+use super::Core;
+use crate::place::Place;
+use crate::units::known_unit;
+use crate::unmet::{Search, missing_at};
+use hw_admit::State;
+use hw_dag::View;
+use hw_types::{Digest, Need, Obs, SignedUnit, Vertex};
+
+impl Core {
+    /// How many vertices the journal has.
+    pub fn journal_count(&self) -> u64
+        ensures { result ≡ length self.now.journal }
+    {
+        self.journal.len() as u64
+    }
+
+    /// The vertex at that place of the journal.
+    pub fn journal_at(&self, place: u64) -> &Vertex
+        requires { place < length self.now.journal }
+        ensures vertex { Some result.now ≡ slice_get self.now.journal place }
+        ensures fits { VertexFits result.now }
+    {
+        &self.journal[place as usize]
+    }
+
+    /// What became of the journal's unit of this digest.
+    pub fn place_of(&self, unit: &Digest) -> Place
+        ensures { IsPlace self.now unit.now result }
+    {
+        match self.state.dag().find(unit) {
+            Some(no) => Place::Settled(no),
+            None => match self.dropped.get(unit) {
+                Some(rule) => Place::Dropped(*rule),
+                None => self.place_of_unsettled(unit),
+            },
+        }
+    }
+
+    /// What became of the journal's unit of this digest, which neither settled nor was dropped.
+    fn place_of_unsettled(&self, unit: &Digest) -> Place
+        requires { IsUnsettled self.now unit.now }
+        ensures { IsPlace self.now unit.now result }
+    {
+        match known_unit(&self.names, &self.journal, unit) {
+            None => Place::Unknown,
+            Some(known) => match missing_at(&self.state, &known.unit, u32::MAX) {
+                Search::Passed(count) => Place::Parked(count),
+                // No unit has so many needs.
+                Search::Found(_need) => unreachable!(),
+            },
+        }
+    }
+
+    /// The journal's unit of this digest, None where it has none.
+    pub fn unit_of(&self, unit: &Digest) -> Option<&SignedUnit>
+        ensures unit { option_copied result ≡ unit_in self.now unit.now }
+        ensures fits { IfSome result (λ known. Fits known.now.unit) }
+    {
+        known_unit(&self.names, &self.journal, unit)
+    }
+
+    /// The need at this place among those that the journal's unit of this digest misses, in the order of
+    /// its panorama and then of its list. None where there is no such unit or no such place.
+    pub fn missing(&self, unit: &Digest, place: u32) -> Option<Need>
+        ensures { result ≡ slice_get (missing_needs self.now unit.now) place }
+    {
+        match known_unit(&self.names, &self.journal, unit) {
+            None => None,
+            Some(known) => match missing_at(&self.state, &known.unit, place) {
+                Search::Found(need) => Some(need),
+                Search::Passed(_count) => None,
+            },
+        }
+    }
+
+    /// How many units are settled.
+    pub fn settled_count(&self) -> u32
+        ensures { result ≡ length (settled_in self.now) }
+    {
+        self.state.dag().count()
+    }
+
+    /// How many units are parked.
+    pub fn parked_count(&self) -> u32
+        ensures { result ≡ length (parked_of self.now.config (received_in self.now)) }
+    {
+        self.park.count()
+    }
+
+    /// How many units were dropped.
+    pub fn dropped_count(&self) -> u32
+        ensures { result ≡ length (dropped_of self.now.config (received_in self.now)) }
+    {
+        let _config = self.state.config();
+        self.dropped.len() as u32
+    }
+
+    /// What the node observes of the validator.
+    pub fn observation(&self, validator: u32) -> Obs
+        requires { validator < length self.now.config.weights }
+        ensures { result ≡ slot (panorama_in self.now) validator }
+    {
+        let dag = self.state.dag();
+        match self.state.panorama().get(validator) {
+            View::Absent => Obs::Absent,
+            View::Correct(no) => Obs::Correct(*dag.unit(no).digest()),
+            View::Faulty => Obs::Faulty,
+        }
+    }
+
+    /// The fork choice, None exactly where the node observes no unit.
+    pub fn fork(&self) -> Option<Digest>
+        ensures { result ≡ fork_in self.now }
+    {
+        let _panorama = self.state.panorama();
+        match self.fork {
+            None => None,
+            Some(no) => Some(*self.state.dag().unit(no).digest()),
+        }
+    }
+
+    /// The weight of the faulty validators.
+    pub fn faulty_weight(&self) -> u64
+        ensures { result ≡ weight_in self.now }
+    {
+        self.state.faulty_weight()
+    }
+
+    /// The weight of the faulty validators, where it exceeds the threshold.
+    pub fn exceeded(&self) -> Option<u64>
+        ensures { result ≡ exceeded_in self.now }
+    {
+        let weight = self.faulty_weight();
+        if weight > self.state.config().ftt {
+            Some(weight)
+        } else {
+            None
+        }
+    }
+
+    /// Its state, for reading.
+    pub fn state(&self) -> &State
+        ensures config { result.now.config ≡ self.now.config }
+        ensures settled { graph result.now.dag ≡ settled_in self.now }
+        ensures panorama { observations result.now.dag result.now.panorama ≡ panorama_in self.now }
+        ensures evidence { (v : ℕ) → is_marked result.now.marked v ≡ has_evidence (received_in self.now).with_evidence v }
+        ensures endorsements { result.now.pairs ≡ (received_in self.now).endorsements }
+    {
+        let _panorama = self.state.panorama();
+        &self.state
+    }
+}

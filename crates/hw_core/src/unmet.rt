@@ -1,0 +1,113 @@
+//! What a unit misses, found without memory.
+
+ghost use Rattle.std.specs.Prelude.{◌≡◌, ◌≤◌, ◌||◌, ◌++◌, not, length, map};
+ghost use Rattle.std.specs.List.{list_any};
+ghost use Rattle.hw_types.specs.declared.unit.Digest.{Digest as Name};
+ghost use Rattle.hw_types.specs.declared.unit.Need.TheVariants as need_of;
+ghost use Rattle.hw_types.specs.Settled.{need_eq, missing_of, unit_needs, evidence_needs};
+ghost use Rattle.hw_dag.specs.Dag.{graph};
+ghost use Rattle.hw_core.specs.Settle.{known_in};
+ghost use Rattle.hw_core.specs.Missing.{is_met_in, unmet, needs_as_they_stand, IsFoundIn};
+
+use crate::missing::is_met;
+use hw_admit::State;
+use hw_types::{Digest, Need, Obs, WireUnit};
+
+/// How a search for the need at a place ends.
+#[derive(Clone, Copy, Debug, PartialEq, Eq)]
+pub enum Search {
+    /// This need is there.
+    Found(Need),
+    /// There are so many needs, and none at that place.
+    Passed(u32),
+}
+
+/// Looks for the need at this place among those that the unit misses, which stand in the order of its
+/// panorama and then of its list, each once.
+pub fn missing_at(state: &State, unit: &WireUnit, place: u32) -> Search
+    requires { length unit.now.panorama ≡ length state.now.config.weights }
+    ensures { (d : Name) → IsFoundIn (missing_of state.now.config (known_in state.now) (graph state.now.dag) (record { digest = d; unit = unit.now })) place result }
+{
+    let panorama = unit.panorama.as_slice();
+    match unmet_units(state, panorama, place) {
+        Search::Found(need) => Search::Found(need),
+        Search::Passed(units) => match unmet_marks(state, panorama, units, place) {
+            Search::Found(need) => Search::Found(need),
+            Search::Passed(count) => unmet_list(state, unit, count, place),
+        },
+    }
+}
+
+/// Looks among the units that the panorama observes.
+fn unmet_units(state: &State, panorama: &[Obs], place: u32) -> Search
+    ensures { IsFoundIn (unmet (is_met_in state.now) (unit_needs panorama.now)) place result }
+{
+    let mut count = 0;
+    for slot in 0..panorama.len() {
+        if let Obs::Correct(digest) = panorama[slot] {
+            if is_wanted_unit(state, &panorama[..slot], &digest) {
+                if count == place {
+                    return Search::Found(Need::Unit(digest));
+                }
+                count += 1;
+            }
+        }
+    }
+    Search::Passed(count)
+}
+
+/// Whether the unit of this digest is missing and isn't among the observations before.
+fn is_wanted_unit(state: &State, before: &[Obs], digest: &Digest) -> bool
+    ensures { result ≡ not (list_any (λ m. need_eq m (need_of.Unit digest.now)) (unit_needs before.now) || is_met_in state.now (need_of.Unit digest.now)) }
+{
+    !before.contains(&Obs::Correct(*digest)) && !is_met(state, &Need::Unit(*digest))
+}
+
+/// Looks on among the marks of the panorama, with so many needs before them.
+fn unmet_marks(state: &State, panorama: &[Obs], units: u32, place: u32) -> Search
+    requires many { length panorama.now ≡ length state.now.config.weights }
+    requires units { length (unmet (is_met_in state.now) (unit_needs panorama.now)) ≡ units }
+    requires passed { units ≤ place }
+    ensures { IsFoundIn (unmet (is_met_in state.now) (unit_needs panorama.now ++ evidence_needs panorama.now)) place result }
+{
+    let mut count = units;
+    let validators = state.config().weights.len() as u32;
+    for validator in 0..validators {
+        if let Obs::Faulty = panorama[validator as usize] {
+            if !is_met(state, &Need::Evidence(validator)) {
+                if count == place {
+                    return Search::Found(Need::Evidence(validator));
+                }
+                count += 1;
+            }
+        }
+    }
+    Search::Passed(count)
+}
+
+/// Looks on in the endorsed list, with so many needs before it.
+fn unmet_list(state: &State, unit: &WireUnit, before: u32, place: u32) -> Search
+    requires before { length (unmet (is_met_in state.now) (unit_needs unit.now.panorama ++ evidence_needs unit.now.panorama)) ≡ before }
+    requires passed { before ≤ place }
+    ensures { IsFoundIn (unmet (is_met_in state.now) (needs_as_they_stand unit.now)) place result }
+{
+    let mut count = before;
+    let endorsed = unit.endorsed.as_slice();
+    for listed in 0..endorsed.len() {
+        let digest = endorsed[listed];
+        if is_wanted_listed(state, &endorsed[..listed], digest) {
+            if count == place {
+                return Search::Found(Need::Endorsed(digest));
+            }
+            count += 1;
+        }
+    }
+    Search::Passed(count)
+}
+
+/// Whether the unit of this digest isn't endorsed and isn't in the list before.
+fn is_wanted_listed(state: &State, before: &[Digest], digest: Digest) -> bool
+    ensures { result ≡ not (list_any (λ m. need_eq m (need_of.Endorsed digest)) (map need_of.Endorsed before.now) || is_met_in state.now (need_of.Endorsed digest)) }
+{
+    !before.contains(&digest) && !is_met(state, &Need::Endorsed(digest))
+}

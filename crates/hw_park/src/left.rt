@@ -1,0 +1,68 @@
+//! The needs that an item has left.
+
+ghost use Rattle.std.specs.Prelude.{◌≡◌, ◌==◌, length, IfOk};
+ghost use Rattle.hw_park.specs.Left.{AreAllKeys};
+ghost use Rattle.hw_park.specs.Parked.{without_need};
+
+use crate::key::{NeedKey, key_of};
+use hw_types::{Need, OutOfMemory};
+use std::alloc::Global;
+use std::collections::BTreeSet;
+use std::marker::Model;
+
+/// The needs of an item, in their order, and the keys of those that aren't met. So a need is struck at the
+/// cost of a look-up, however many there are.
+#[derive(Drop)]
+pub struct NeedsLeft {
+    needs: Vec<Need>,
+    keys: BTreeSet<NeedKey>,
+}
+
+impl Model for NeedsLeft {
+    ghost use Rattle.std.specs.Prelude.{List};
+    ghost use Rattle.hw_types.specs.declared.unit.Need.{Need as Wanted};
+
+    ghost Value = { List Wanted };
+
+    ghost use Rattle.hw_park.specs.Left.{left_of, AreKeysOf};
+
+    ghost view = { λ l. left_of l.keys.keys l.needs.items };
+
+    ghost invariant = { λ l. AreKeysOf l.keys.keys l.needs.items };
+}
+
+impl NeedsLeft {
+    /// All of these needs.
+    pub fn new(alloc: Global, needs: &[Need]) -> Result<NeedsLeft, OutOfMemory>
+        ensures { IfOk result (λ left. left ≡ needs.now) }
+    {
+        let keys = keys_of(alloc, needs)?;
+        let needs = Vec::from_slice(alloc, needs)?;
+        Ok(NeedsLeft { needs, keys })
+    }
+
+    /// Whether none is left.
+    pub fn is_empty(&self) -> bool
+        ensures { result ≡ (length self.now == 0) }
+    {
+        self.keys.is_empty()
+    }
+
+    /// Strikes a need.
+    pub fn strike(&mut self, need: &Need)
+        ensures { self.new ≡ without_need need.now self.old }
+    {
+        self.keys.remove(&key_of(need));
+    }
+}
+
+// The keys of these needs.
+fn keys_of(alloc: Global, needs: &[Need]) -> Result<BTreeSet<NeedKey>, OutOfMemory>
+    ensures { IfOk result (λ keys. AreAllKeys keys.keys needs.now) }
+{
+    let mut keys = BTreeSet::new(alloc);
+    for need in needs {
+        keys.insert(key_of(need))?;
+    }
+    Ok(keys)
+}
