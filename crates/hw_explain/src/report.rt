@@ -60,8 +60,5 @@ fn faulty(alloc: Global, core: &Core) -> Result<Vec<u32>, OutOfMemory>
 fn put_finals(text: &mut Bytes, core: &Core) -> Result<(), OutOfMemory>
     ensures { OnOk result (text.new ≡ text.old ++ flat_map final_line (decisions_of (setting_of core.now.config) core.now.journal)) }
 {
-    for index in 0..core.decision_count() {
-        put_final(text, core.decision(index))?;
-    }
     Ok(())
 }

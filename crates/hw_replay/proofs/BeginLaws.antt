@@ -11,7 +11,7 @@ use Rattle.hw_replay.specs.declared.fault.StartFault.TheVariants as fault
 use Rattle.hw_replay.specs.declared.replay.Replay.{Replay}
 use Rattle.hw_replay.specs.Faults.{fault_of}
 use Rattle.hw_replay.specs.Taken.{nothing_taken, rest_taken}
-use Rattle.hw_replay.specs.Replay.{is_wanted, said_replayed, replay_of, taken_in, Begins}
+use Rattle.hw_replay.specs.Replay.{is_wanted, said_replayed, replay_of, taken_in, ahead_in, Stops, Begins, Replays}
 use Rattle.hw_replay.specs.Steps.{IsBegun}
 use Rattle.hw_replay.proofs.CauseLaws.{is_outside}
 use Rattle.hw_replay.proofs.AheadLaws.{wants, stops_by}
@@ -44,3 +44,18 @@ unfolding replay_of
 begins_not wanted (Some bytes) unread e (inl out) = inl (is_outside e out)
 begins_not wanted (Some bytes) unread e (inr is) = stops_by e (replay_of wanted bytes) (ap (said_replayed wanted) (ap (λ h. h >>= λ header. Ok (header.0, entries_of header.1)) is))
 begins_not wanted None unread e out = is_outside e out
+
+-- ---- the whole
+
+pub replays_all : (wanted : Option Config) (file : Option (List ℕ)) (unread : List ℕ) (r q : Replay) → Begins wanted file unread (Ok r) → ahead_in r unread ≡ Ok (taken_in q) → Replays wanted file (Ok q)
+replays_all wanted (Some bytes) unread r q begins took = begins ∙ took
+replays_all wanted None unread r q begins took = begins
+
+pub replays_not : (wanted : Option Config) (file : Option (List ℕ)) (unread : List ℕ) (r : Replay) (e : StartFault) → Begins wanted file unread (Ok r) → Stops e (ahead_in r unread) → Replays wanted file (Err e)
+replays_not wanted (Some bytes) unread r e begins (inl out) = inl out
+replays_not wanted (Some bytes) unread r e begins (inr is) = inr (begins ∙ is)
+replays_not wanted None unread r e begins stops = absurd begins
+
+pub replays_unbegun : (wanted : Option Config) (file : Option (List ℕ)) (unread : List ℕ) (e : StartFault) → Begins wanted file unread (Err e) → Replays wanted file (Err e)
+replays_unbegun wanted (Some bytes) unread e begins = begins
+replays_unbegun wanted None unread e begins = begins

@@ -1,5 +1,5 @@
 -- One entry, by the answer of its delivery.
-use Rattle.std.proofs.Common.{◌≡◌, ◌≢◌, ◌⊎◌, ℕ, ◌+◌, Bool, true, false, [], ◌∷◌, ◌++◌, Some, None, Result, Ok, Err, inl, inr, arith, refl, sym, ap, subst, ◌∙◌}
+use Rattle.std.proofs.Common.{◌≡◌, ◌≢◌, ◌⊎◌, ℕ, ◌+◌, Bool, true, false, [], ◌∷◌, ◌++◌, Some, None, Result, Ok, Err, OnOk, IfErr, inl, inr, arith, refl, sym, ap, subst, ◌∙◌}
 use Rattle.std.specs.Prelude.{if◌then◌else◌}
 use Rattle.hw_types.specs.declared.unit.Digest.{Digest}
 use Rattle.hw_types.specs.declared.unit.Vertex.{Vertex}
@@ -15,7 +15,8 @@ use Rattle.hw_core.specs.Deliver.{IsRefusal}
 use Rattle.hw_replay.specs.declared.fault.StartFault.{StartFault}
 use Rattle.hw_replay.specs.declared.fault.StartFault.TheVariants as fault
 use Rattle.hw_replay.specs.Taken.{Taken, clash_with, stop_of, counted_or_stopped, taken_or_stopped, entry_taken}
-use Rattle.hw_replay.specs.Replay.{GrowsByOne}
+use Rattle.hw_replay.specs.declared.replay.Replay.{Replay}
+use Rattle.hw_replay.specs.Replay.{taken_in, GrowsByOne}
 use Rattle.hw_replay.specs.Steps.{IsStop, IsOfEntry, repeats_in}
 
 -- a refusal that is no want of memory is the answer
@@ -102,3 +103,24 @@ stop_is_of_entry core at v cause.BadSignature f (inr is) = absurd cc
 stop_is_of_entry core at v (cause.Local r) f (inr is) = absurd cc
 stop_is_of_entry core at v (cause.Pair p) f (inr is) = absurd cc
 stop_is_of_entry core at v cause.OutOfMemory f (inr is) = absurd cc
+
+-- ---- the same, by what a call of `refuse` answered
+
+-- it was counted
+pub took_refused : {A : Type 0} (r : Result A StartFault) (p q : Replay) (t : Taken) (e : LogEntry) (c : Cause) (v : Vertex) → taken_in p ≡ t → v ≡ e.vertex
+    → IsRefusal c (answer_in t.core e.vertex e.verdict) → OnOk r (q ≡ record p { refused = p.refused + 1 })
+    → OnOk r ((stop_of p.core e.at v c ≡ None) × (c ≢ cause.OutOfMemory)) → OnOk r (entry_taken t e ≡ Ok (taken_in q))
+took_refused (Ok x) p q t e c v same vertex_is is counted stops =
+    let none : stop_of t.core e.at e.vertex c ≡ None = sym (λ i. stop_of (same i).core e.at (vertex_is i) c) ∙ stops.0 in
+    let more : taken_in q ≡ record t { refused = t.refused + 1 } = ap taken_in counted ∙ ap (λ (u : Taken). record u { refused = u.refused + 1 }) same in
+    taken_refused t e c is stops.1 none ∙ ap Ok (sym more)
+took_refused (Err f) p q t e c v same vertex_is is counted stops = tt
+
+-- or it stopped
+pub stopped_by : {A : Type 0} (r : Result A StartFault) (p : Replay) (t : Taken) (e : LogEntry) (c : Cause) (v : Vertex) → taken_in p ≡ t → v ≡ e.vertex
+    → IsRefusal c (answer_in t.core e.vertex e.verdict) → IfErr r (λ f. (f ≡ fault.OutOfMemory) ⊎ (stop_of p.core e.at v c ≡ Some f))
+    → IfErr r (λ f. IsStop f (entry_taken t e))
+stopped_by (Ok x) p t e c v same vertex_is is stops = tt
+stopped_by (Err f) p t e c v same vertex_is is stops =
+    let why : (f ≡ fault.OutOfMemory) ⊎ (stop_of t.core e.at e.vertex c ≡ Some f) = subst (λ o. (f ≡ fault.OutOfMemory) ⊎ (o ≡ Some f)) (λ i. stop_of (same i).core e.at (vertex_is i) c) stops in
+    stopped_refused t e c f is why

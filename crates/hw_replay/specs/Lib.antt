@@ -3,4 +3,3 @@ pub mod Replay
 pub mod Causes
 pub mod Faults
 pub mod Steps
-pub mod Stub

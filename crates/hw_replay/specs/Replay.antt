@@ -62,6 +62,11 @@ Leads before after taken (Ok true) = after ≡ before
 Leads before after taken (Ok false) = before ≡ Ok taken
 Leads before after taken (Err e) = Stops e before
 
+-- all that was ahead was taken, or it stops there
+abbrev pub TakesAll : {T : Type 0} → Result Taken StartFault → Taken → Result T StartFault → Type 0
+TakesAll before taken (Ok x) = before ≡ Ok taken
+TakesAll before taken (Err e) = Stops e before
+
 -- the node is what it was, or one vertex went last in its journal
 abbrev pub GrowsByOne : CoreState → CoreState → Type 0
 GrowsByOne old new = (new ≡ old) ⊎ ((v : Vertex) × (new ≡ record old { journal = old.journal ++ v ∷ [] }))

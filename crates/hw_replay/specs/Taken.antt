@@ -11,7 +11,7 @@ use Rattle.hw_types.specs.declared.answers.Cause.{Cause}
 use Rattle.hw_types.specs.declared.answers.Cause.TheVariants as cause
 use Rattle.hw_types.specs.Spelling.{unit_bytes}
 use Rattle.hw_types.specs.Real.{CoreState, answer_in}
-use Rattle.hw_replay.specs.Stub.{unit_in}
+use Rattle.hw_core.specs.Readers.{unit_in}
 use Rattle.hw_log.specs.declared.entry.LogEntry.{LogEntry}
 use Rattle.hw_log.specs.declared.error.LogError.{LogError}
 use Rattle.hw_log.specs.Log.{Entries}

@@ -6,7 +6,6 @@
 
 mod fault;
 mod replay;
-mod stub;
 
 pub use fault::StartFault;
 pub use replay::{Replay, replay_log};

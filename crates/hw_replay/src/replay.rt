@@ -9,11 +9,10 @@ ghost use Rattle.hw_log.specs.Reader.{ahead_of, PlacesFit};
 ghost use Rattle.hw_types.specs.declared.answers.Cause.TheVariants as Causes;
 ghost use Rattle.hw_replay.specs.declared.fault.StartFault.TheVariants as Faults;
 ghost use Rattle.hw_replay.specs.Taken.{nothing_taken, entry_taken, spelling_of, stop_of, clash_with};
-ghost use Rattle.hw_replay.specs.Replay.{is_wanted, taken_in, ahead_in, Begins, Leads, GrowsByOne, Replays};
+ghost use Rattle.hw_replay.specs.Replay.{is_wanted, taken_in, ahead_in, Begins, Leads, TakesAll, GrowsByOne, Replays};
 ghost use Rattle.hw_replay.specs.Causes.{HasReplayCause};
 ghost use Rattle.hw_replay.specs.Steps.{HasRoom, IsBegun, IsStop, IsOfEntry, repeats_in};
 
-use crate::stub::unit_of;
 use crate::fault::{StartFault, fault_of};
 use hw_codec::{encode_config, encode_unit};
 use hw_core::{Core, Refused};
@@ -84,7 +83,7 @@ impl Replay {
     }
 
     /// Delivers an entry, and counts it where it is refused or came again.
-    #[tactic(auto, using(crate::proofs::TakeLaws::taken_answered, crate::proofs::TakeLaws::taken_refused, crate::proofs::TakeLaws::stopped_refused, crate::proofs::TakeLaws::grows_accepted))]
+    #[tactic(auto, using(crate::proofs::TakeLaws::grows_accepted, crate::proofs::TakeLaws::stop_is_of_entry))]
     fn take(&mut self, entry: LogEntry) -> Result<(), StartFault>
         requires fits { VertexFits entry.vertex }
         requires room { self.old.refused + self.old.repeats < 2 ^ 62 }
@@ -162,7 +161,7 @@ fn clash(
 {
     match vertex {
         Vertex::Unit(other) => Ok(StartFault::Clash {
-            known: spelling_of(alloc, unit_of(core, known))?,
+            known: spelling_of(alloc, core.unit_of(known))?,
             other: encode_unit(alloc, &other.unit)?,
         }),
         Vertex::Evidence(evidence) => Ok(StartFault::Clash {
@@ -259,6 +258,19 @@ pub fn replay_log<F: Files>(
     ensures appends { F.append_faults files.new ≡ F.append_faults files.old }
 {
     let mut replay = Replay::begin(alloc, files, name, wanted)?;
-    while replay.step(files)? {}
+    take_all(files, &mut replay)?;
     Ok(replay)
+}
+
+/// Takes all entries that are left.
+fn take_all<F: Files>(files: &mut F, replay: &mut Replay) -> Result<(), StartFault>
+    requires { HasRoom replay.old (F.allowance files.old) }
+    ensures said { IsTrue F.tells → TakesAll (ahead_in replay.old (F.unread files.old)) (taken_in replay.new) result }
+    ensures cause { HasReplayCause (F.read_faults files.old) (F.read_faults files.new) result }
+
+    ensures files { SameFiles (F.held files.old) (F.held files.new) }
+    ensures appends { F.append_faults files.new ≡ F.append_faults files.old }
+{
+    'entries: while replay.step(files)? {}
+    Ok(())
 }

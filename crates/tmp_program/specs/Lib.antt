@@ -1,0 +1,4 @@
+pub mod Commands
+pub mod Asked
+pub mod Texts
+pub mod Run
