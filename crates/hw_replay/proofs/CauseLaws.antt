@@ -96,3 +96,9 @@ is_outside (log.ConfigFault f) h = absurd h
 is_outside (log.BadEvent at) h = absurd h
 is_outside (log.BadVerdict at) h = absurd h
 is_outside (log.BadVertex at f) h = absurd h
+
+-- a fault after calls that left the count
+pub cause_carries : {A : Type 0} (S : Type 0) (before mid now : ℕ) (r : Result A StartFault) (f : StartFault) → mid ≡ before → r ≡ Err f → HasReplayCause mid now r → HasReplayCause {T = S} before now (Err f)
+cause_carries {A} S before mid now r f same is cause =
+    let c : HasReplayCause {T = A} before now (Err f) = rw (sym is, sym same) cause in
+    record { later = c.later; counted = c.counted; error = c.error }

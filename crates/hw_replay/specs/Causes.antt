@@ -6,11 +6,15 @@ use Rattle.hw_log.specs.declared.error.LogError.TheVariants as log
 use Rattle.hw_replay.specs.declared.fault.StartFault.{StartFault}
 use Rattle.hw_replay.specs.declared.fault.StartFault.TheVariants as fault
 
--- a failed read raises the count, and nothing else changes it
+-- a failed read raises the count, and no other fault changes it
+abbrev pub IsFaultCounted : ℕ → ℕ → StartFault → Type 0
+IsFaultCounted before now (fault.Log log.ReadFault) = Rose before now
+IsFaultCounted before now e = now ≡ before
+
+-- nor does an answer without one
 abbrev pub IsReadCounted : {T : Type 0} → ℕ → ℕ → Result T StartFault → Type 0
 IsReadCounted before now (Ok x) = now ≡ before
-IsReadCounted before now (Err (fault.Log log.ReadFault)) = Rose before now
-IsReadCounted before now (Err e) = now ≡ before
+IsReadCounted before now (Err e) = IsFaultCounted before now e
 
 -- no append failed, and want of memory stands in no error of the log
 abbrev pub IsOfReplay : StartFault → Type 0
