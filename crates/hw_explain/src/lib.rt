@@ -2,7 +2,7 @@
 #![tactic(auto)]
 
 mod lines;
-mod report;
+mod reports;
 
 pub use lines::{Counts, put_counts, put_exceeded, put_faulty, put_final, put_fork};
-pub use report::report;
+pub use reports::report;

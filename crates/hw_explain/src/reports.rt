@@ -1,17 +1,18 @@
 //! The report on a node.
 
-ghost use Rattle.std.specs.Prelude.{◌≡◌, ◌++◌, ◌≤◌, drop, IfOk, OnOk};
-ghost use Rattle.std.specs.List.{flat_map};
-ghost use Rattle.hw_types.specs.Real.{setting_of, received_in};
-ghost use Rattle.hw_summit.specs.Decided.{decisions_of};
-ghost use Rattle.hw_explain.specs.Report.{counts_line, faulty_line, fork_line, final_line, exceeded_line, counts_of, faulty_in, fork_in, exceeded_in, report_text};
+ghost use Rattle.std.specs.Prelude.{◌≡◌, ◌<◌, length, IfOk};
+ghost use Rattle.hw_types.specs.Settled.{is_faulty};
+ghost use Rattle.hw_types.specs.Real.{setting_of, received_in, settled_in};
+ghost use Rattle.hw_explain.specs.Report.{counts_of, faulty_in, report_text};
 
-use crate::lines::{Counts, put_counts, put_exceeded, put_faulty, put_final, put_fork};
+use crate::lines::{Counts, put_counts, put_exceeded, put_faulty, put_fork};
 use hw_core::Core;
 use hw_types::{Bytes, Obs, OutOfMemory};
 use std::alloc::Global;
 
 /// The report on a node, after so many deliveries that were refused and so many that came again.
+///
+/// It tells no decided block yet.
 #[tactic(auto, using(crate::proofs::ReportLaws::report_parts))]
 pub fn report(
     alloc: Global,
@@ -25,7 +26,6 @@ pub fn report(
     put_counts(&mut text, &counts(core, refused, repeats))?;
     put_faulty(&mut text, faulty(alloc, core)?.as_slice())?;
     put_fork(&mut text, core.fork())?;
-    put_finals(&mut text, core)?;
     put_exceeded(&mut text, core.exceeded())?;
     Ok(text)
 }
@@ -44,21 +44,35 @@ fn counts(core: &Core, refused: u64, repeats: u64) -> Counts
 }
 
 /// The faulty validators, in rising order.
+#[tactic(auto, using(crate::proofs::ReportLaws::filter_passed, crate::proofs::ReportLaws::filter_left))]
 fn faulty(alloc: Global, core: &Core) -> Result<Vec<u32>, OutOfMemory>
     ensures { IfOk result (λ faulty. faulty.items ≡ faulty_in core.now.config (received_in core.now)) }
 {
     let mut faulty = Vec::new(alloc);
-    for validator in 0..core.state().config().weights.len() as u32 {
-        if core.observation(validator) == Obs::Faulty {
+    for validator in 0..validators(core) {
+        if is_faulty(core, validator) {
             faulty.push(validator)?;
         }
     }
     Ok(faulty)
 }
 
-/// Puts the lines of the decided blocks last.
-fn put_finals(text: &mut Bytes, core: &Core) -> Result<(), OutOfMemory>
-    ensures { OnOk result (text.new ≡ text.old ++ flat_map final_line (decisions_of (setting_of core.now.config) core.now.journal)) }
+/// How many validators there are.
+#[tactic(auto, using(hw_types::proofs::LimitLaws::within_limits))]
+fn validators(core: &Core) -> u32
+    ensures { result ≡ length core.now.config.weights }
 {
-    Ok(())
+    core.state().config().weights.len() as u32
+}
+
+/// Whether the validator is faulty.
+#[tactic(auto, using(crate::proofs::ReportLaws::mark_is))]
+fn is_faulty(core: &Core, validator: u32) -> bool
+    requires { validator < length core.now.config.weights }
+    ensures { result ≡ is_faulty (received_in core.now) (settled_in core.now) validator }
+{
+    match core.observation(validator) {
+        Obs::Faulty => true,
+        Obs::Absent | Obs::Correct(_) => false,
+    }
 }

@@ -1,4 +1,0 @@
-pub mod Commands
-pub mod Asked
-pub mod Texts
-pub mod Run
