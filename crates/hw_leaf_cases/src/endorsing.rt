@@ -90,7 +90,10 @@ pub fn endorsed(alloc: Global, validators: u32, steps: &[&str]) -> Result<String
     match config.check() {
         Ok(()) => {
             let mut told = Endorsements::new(alloc, &config)?;
-            steps_text(alloc, &mut told, config.weights.len() as u32, steps)
+            match u32::try_from(config.weights.len()) {
+                Ok(validators) => steps_text(alloc, &mut told, validators, steps),
+                Err(_) => Err(OutOfMemory),
+            }
         }
         Err(fault) => Ok(format!(in alloc; "{fault:?}")?),
     }
@@ -116,7 +119,10 @@ pub fn endorsers(alloc: Global, validators: u32) -> Result<String, OutOfMemory> 
     match config.check() {
         Ok(()) => {
             let mut told = Endorsements::new(alloc, &config)?;
-            let before = count(&mut told, config.weights.len() as u32, &Digest([7; 32]))?;
+            let Ok(validators) = u32::try_from(config.weights.len()) else {
+                return Err(OutOfMemory);
+            };
+            let before = count(&mut told, validators, &Digest([7; 32]))?;
             Ok(format!(in alloc; "{before}")?)
         }
         Err(fault) => Ok(format!(in alloc; "{fault:?}")?),
