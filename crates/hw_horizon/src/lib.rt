@@ -9,7 +9,9 @@
 //! are its last ones. The tables of all levels stay as they are until the next search.
 #![tactic(auto)]
 
+mod bounds;
 mod firsts;
+mod follow;
 mod horizons;
 mod jumps;
 mod kept;
@@ -19,5 +21,6 @@ mod rounds;
 mod table;
 mod votes;
 
+pub use bounds::Bounds;
 pub use horizons::Horizons;
 pub use laws::{bounds_rule_out, lesser_summits, sums_stay, walks_stay};
