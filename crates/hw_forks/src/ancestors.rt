@@ -1,8 +1,10 @@
-//! Heights of blocks.
+//! Heights and ancestors of blocks.
 
-ghost use Rattle.std.specs.Prelude.{◌≡◌, ◌<◌, IfSome};
-ghost use Rattle.hw_dag.specs.Dag.{count_of};
+ghost use Rattle.std.specs.Prelude.{◌≡◌, ◌<◌, ◌≤◌, IsTrue, IfSome, unwrap_or};
+ghost use Rattle.hw_types.specs.Votes.{is_block};
+ghost use Rattle.hw_dag.specs.Dag.{unit_at, node_at, count_of};
 ghost use Rattle.hw_dag.specs.Admission.{IsGraph, height_above};
+ghost use Rattle.hw_dag.specs.Lanes.{IsAncestorAt};
 
 use hw_dag::{Dag, UnitNo};
 
@@ -16,4 +18,14 @@ pub fn children_height(dag: &Dag, place: Option<UnitNo>) -> u64
         Some(block) => dag.unit(block).height().unwrap_or(0) + 1,
         None => 0,
     }
+}
+
+/// The ancestor of a block that has this height.
+pub fn ancestor_at(dag: &Dag, block: UnitNo, height: u64) -> UnitNo
+    requires known { block.0 < count_of dag.now }
+    requires block { IsTrue (is_block (node_at dag.now block.0)) }
+    requires within { height ≤ unwrap_or (unit_at dag.now block.0).height 0 }
+    ensures { IsAncestorAt dag.now block.0 height result.0 }
+{
+    dag.ancestor(block, height)
 }
