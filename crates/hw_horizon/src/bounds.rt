@@ -5,7 +5,7 @@
 //! the level below. And the latest unit of each validator sees no more than some weight of the units that
 //! may count. Where those who may see a quorum weigh less than one, there is no summit.
 
-ghost use Rattle.std.specs.Prelude.{◌≡◌, ℕ, ◌<◌, ◌≤◌, List, length, nat_le, true, false, None, Some, slice_index_or, slice_set, IsTrue, IfOk};
+ghost use Rattle.std.specs.Prelude.{◌≡◌, ℕ, ◌<◌, ◌≤◌, ◌↔◌, List, length, nat_le, true, false, None, Some, slice_index_or, slice_set, IsTrue, IfOk};
 ghost use Rattle.hw_types.specs.Votes.{weight_of};
 ghost use Rattle.hw_dag.specs.declared.numbers.UnitNo.{UnitNo as Number};
 ghost use Rattle.hw_dag.specs.Dag.{UnitGraph, IsPanorama, count_of, view_at};
@@ -184,7 +184,7 @@ impl Bounds {
     pub fn rules_out(&self, dag: &Dag, weights: &WeightList, level: u32, quorum: u64) -> bool
         requires weights { AreWeights weights.now dag.now }
         requires wide { AreWide dag.now.validators self.now }
-        ensures { IsTrue result → IsRuledOut weights.now self.now level quorum }
+        ensures { IsTrue result ↔ IsRuledOut weights.now self.now level quorum }
     {
         if quorum < self.least {
             return false;
