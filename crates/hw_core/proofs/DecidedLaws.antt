@@ -115,7 +115,7 @@ module _ (d later : DecidedState) (more : HasOnlyRoom d later) where
   pub told_roomy : (state : NodeState) → IsToldOf d state → IsToldOf later state
   told_roomy state told = record {
     config = ap (λ (t : DetectorState). t.config) more.detector ∙ told.config;
-    true_of = subst (λ (t : DetectorState). IsTrueOf t state.dag) (sym more.detector) (record { walks = told.true_of.walks; known = told.true_of.known; few = told.true_of.few });
+    true_of = subst (λ (t : DetectorState). IsTrueOf t state.dag) (sym more.detector) (record { walks = told.true_of.walks; bounds = told.true_of.bounds; known = told.true_of.known; few = told.true_of.few });
     listed = more.decisions ∙ told.listed ∙ ap (found_in state.dag) (sym same_found);
   }
 
