@@ -1,6 +1,5 @@
 -- Slots that are tested one after the other.
-use Rattle.std.proofs.Common.{◌≡◌, ℕ, ◌+◌, ◌<◌, ◌≤◌, true, List, length, inl, inr, sym, ap, subst, ◌∙◌, refl, arith, Option, Some, None, Result, IfOk}
-use Rattle.std.specs.List.{list_all}
+use Rattle.std.proofs.Common.{◌≡◌, ℕ, ◌+◌, ◌<◌, ◌≤◌, List, length, inl, inr, sym, subst, refl, arith, Option, Some, None, Result, IfOk}
 use Rattle.std.proofs.lemmas.Bool.{cases_lt}
 use Rattle.hw_types.specs.declared.unit.Digest.{Digest}
 use Rattle.hw_types.specs.declared.unit.WireUnit.{WireUnit}
@@ -14,10 +13,8 @@ use Rattle.hw_rules.specs.Verdict.{verdict_of}
 use Rattle.hw_types.proofs.PastLaws.{some_of}
 use Rattle.hw_types.proofs.SettledLaws.{digest_same}
 use Rattle.hw_types.proofs.WordsLaws.{all_of}
-use Rattle.hw_dag.specs.declared.numbers.UnitNo.{UnitNo}
 use Rattle.hw_dag.specs.declared.numbers.View.{View}
-use Rattle.hw_dag.specs.declared.numbers.View.TheVariants as view
-use Rattle.hw_dag.specs.Dag.{UnitGraph, unit_at, count_of, creator_of, view_at, IsPanorama}
+use Rattle.hw_dag.specs.Dag.{UnitGraph, unit_at, view_at, IsPanorama}
 use Rattle.hw_naivety.specs.Tips.{HasLists}
 use Rattle.hw_panorama.proofs.OrderLaws.{correct_inside}
 use Rattle.hw_graph_cases.specs.Slots.{IsBy, HasListOf}

@@ -1,6 +1,6 @@
-use Rattle.std.proofs.Common.{◌≡◌, ◌<◌, length, subst, arith}
+use Rattle.std.proofs.Common.{subst, arith}
 use Rattle.hw_dag.specs.declared.numbers.View.{View}
-use Rattle.hw_dag.specs.Dag.{view_at, IsPanorama}
+use Rattle.hw_dag.specs.Dag.{view_at}
 use Rattle.hw_graph_cases.specs.Slots.{HasListOf}
 use Rattle.hw_graph_cases.proofs.SlotLaws.{each_more, lists_all}
 use Rattle.hw_graph_cases.proofs.naivety.has_lists.Goals as goal

@@ -1,6 +1,6 @@
-use Rattle.std.proofs.Common.{◌≡◌, ◌<◌, length, subst, arith}
+use Rattle.std.proofs.Common.{subst, arith}
 use Rattle.hw_dag.specs.declared.numbers.View.{View}
-use Rattle.hw_dag.specs.Dag.{view_at, IsPanorama}
+use Rattle.hw_dag.specs.Dag.{view_at}
 use Rattle.hw_graph_cases.specs.Slots.{IsBy}
 use Rattle.hw_graph_cases.proofs.SlotLaws.{each_more, are_by_all}
 use Rattle.hw_graph_cases.proofs.panoramas.is_panorama.Goals as goal
