@@ -1,26 +1,13 @@
-//! The program: one top call over any outside, and a `main` that hands in the real one.
+//! The program: its top call, over the real files, output and arguments.
 #![tactic(auto)]
 
-mod command;
-mod ended;
-mod journal;
-mod replay;
-mod report;
-mod run;
-#[cfg(test)]
-mod tests;
-mod texts;
-mod words;
-
-use ended::OUT_OF_MEMORY;
 use hw_io::{Consumer, HostFiles, HostSink, SetClock, SureDoor};
+use hw_program::{OUT_OF_MEMORY, Words, highway};
 use hw_types::OutOfMemory;
-use run::highway;
 use std::io::ErrorKind;
 use std::process::ExitCode;
 use std::rt::{Env, Runtime};
 use std::{env, io};
-use words::Words;
 
 fn main(rt: HostRuntime) -> ExitCode {
     let status = match command_line(&rt) {

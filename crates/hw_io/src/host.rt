@@ -144,6 +144,8 @@ impl<W: Write> Sink for HostSink<W> {
 
     ghost faults = { λ sink. sink.faults };
 
+    ghost wants = { λ _. 0 };
+
     fn write(&mut self, bytes: &[u8]) -> Result<usize, IoFault> {
         match self.out.write(bytes) {
             Ok(count) if count > 0 || bytes.is_empty() => Ok(count),

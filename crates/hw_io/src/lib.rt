@@ -1,9 +1,9 @@
 //! The outside of the program: files, output, the clock, the link to a peer, and consumers.
 //!
 //! Each is a trait, so that everything above is proved for any outside. A trait tells, for contracts
-//! alone, what it holds, and counts its faults: a call answers `Failed` only where its count rose in
-//! that call. A count stops at the end of a `u64` and is said to rise there too. Want of memory is
-//! `OutOfMemory`, and needs no rise.
+//! alone, what it holds, and counts its faults: the count rises in a call that answers `Failed`, and
+//! in no other. A count stops at the end of a `u64` and is said to rise there too. Want of memory is
+//! `OutOfMemory`; a sink counts it apart.
 #![tactic(auto)]
 
 mod buffer;

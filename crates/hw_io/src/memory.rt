@@ -211,6 +211,7 @@ pub struct MemSink {
     planned: Vec<u64>,
     calls: u64,
     faults: u64,
+    wants: u64,
     piece: usize,
 }
 
@@ -235,6 +236,7 @@ impl MemSink {
             planned: Vec::new(alloc),
             calls: 0,
             faults: 0,
+            wants: 0,
             piece,
         }
     }
@@ -270,6 +272,8 @@ impl Sink for MemSink {
 
     ghost faults = { mem_faults };
 
+    ghost wants = { λ sink. sink.wants };
+
     fn write(&mut self, bytes: &[u8]) -> Result<usize, IoFault> {
         let call = self.calls;
         self.calls = call.saturating_add(1);
@@ -278,7 +282,12 @@ impl Sink for MemSink {
             return Err(IoFault::Failed);
         }
         let count = bytes.len().min(self.piece.max(1));
-        self.bytes.extend_from_slice(&bytes[..count])?;
-        Ok(count)
+        match self.bytes.extend_from_slice(&bytes[..count]) {
+            Ok(()) => Ok(count),
+            Err(_) => {
+                self.wants = self.wants.saturating_add(1);
+                Err(IoFault::OutOfMemory)
+            }
+        }
     }
 }

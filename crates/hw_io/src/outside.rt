@@ -2,7 +2,7 @@
 ghost use Rattle.std.specs.Prelude.{◌≡◌, ◌≢◌, ℕ, ◌^◌, ◌<◌, ◌≤◌, List, Option, Bool, false, is_ok, length, IsTrue, IsNone, IsSome, IsErr, OnOk, OnErr, IfOk};
 ghost use Rattle.std.specs.Io.KnownBytes.{WriteAppends, ReadConsumes};
 ghost use Rattle.std.specs.Io.{ReadsAtMost};
-ghost use Rattle.hw_io.specs.Faults.{HasCause, raised};
+ghost use Rattle.hw_io.specs.Faults.{HasCause, IsWantCounted, raised};
 ghost use Rattle.hw_io.specs.Files.{SameFiles, IsAnswer, Begins, Appended, Spends};
 ghost use Rattle.hw_io.specs.Sinks.{TakesSome};
 ghost use Rattle.hw_io.specs.Doors.{ends_after};
@@ -115,12 +115,16 @@ pub trait Sink {
 
     ghost faults: { Self → ℕ };
 
+    /// How many writes found no memory.
+    ghost wants: { Self → ℕ };
+
     /// Takes the first bytes of the piece, and answers how many. That is at least 1 unless the
     /// piece is empty. After an error nothing of the piece is taken.
     fn write(&mut self, bytes: &[u8]) -> Result<usize, IoFault>
         ensures bytes { WriteAppends (taken self.old) (taken self.new) result bytes.now }
         ensures some { TakesSome result bytes.now }
-        ensures cause { HasCause (faults self.old) (faults self.new) result };
+        ensures cause { HasCause (faults self.old) (faults self.new) result }
+        ensures want { IsWantCounted (wants self.old) (wants self.new) result };
 }
 
 /// What tells the time. It can't fail.

@@ -1,6 +1,6 @@
 ghost use Rattle.std.specs.Prelude.{OnOk, OnErr};
 ghost use Rattle.std.specs.Io.KnownBytes.{Appends};
-ghost use Rattle.hw_io.specs.Faults.{HasCause};
+ghost use Rattle.hw_io.specs.Faults.{HasCause, IsWantCounted};
 ghost use Rattle.hw_io.specs.Sinks.{AppendsPrefix};
 
 use crate::outside::{IoFault, Sink};
@@ -12,6 +12,7 @@ pub fn write_all<S: Sink>(sink: &mut S, bytes: &[u8]) -> Result<(), IoFault>
     ensures ok { OnOk result (Appends (S.taken sink.old) (S.taken sink.new) bytes.now) }
     ensures err { OnErr result (AppendsPrefix (S.taken sink.old) (S.taken sink.new) bytes.now) }
     ensures cause { HasCause (S.faults sink.old) (S.faults sink.new) result }
+    ensures want { IsWantCounted (S.wants sink.old) (S.wants sink.new) result }
 {
     let mut done = 0;
     while done < bytes.len() {

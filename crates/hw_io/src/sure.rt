@@ -137,6 +137,7 @@ impl Files for SureFiles {
 #[derive(Drop)]
 pub struct SureSink {
     bytes: Vec<u8>,
+    wants: u64,
 }
 
 impl SureSink {
@@ -146,6 +147,7 @@ impl SureSink {
     {
         SureSink {
             bytes: Vec::new(alloc),
+            wants: 0,
         }
     }
 
@@ -162,9 +164,16 @@ impl Sink for SureSink {
 
     ghost faults = { λ _. 0 };
 
+    ghost wants = { λ sink. sink.wants };
+
     fn write(&mut self, bytes: &[u8]) -> Result<usize, IoFault> {
-        self.bytes.extend_from_slice(bytes)?;
-        Ok(bytes.len())
+        match self.bytes.extend_from_slice(bytes) {
+            Ok(()) => Ok(bytes.len()),
+            Err(_) => {
+                self.wants = self.wants.saturating_add(1);
+                Err(IoFault::OutOfMemory)
+            }
+        }
     }
 }
 

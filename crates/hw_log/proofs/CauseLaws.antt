@@ -1,23 +1,23 @@
 -- Errors of pure steps have their cause.
-use Rattle.std.proofs.Common.{ℕ, ◌≤◌, Err}
+use Rattle.std.proofs.Common.{◌≡◌, ℕ, ◌≤◌, Err}
 use Rattle.hw_log.specs.declared.error.LogError.{LogError}
 use Rattle.hw_log.specs.declared.error.LogError.TheVariants.{BadMagic, Version, Torn, TooLong, BadConfig, ConfigFault, BadEvent, BadVerdict, BadVertex, ReadFault, WriteFault, OutOfMemory}
 use Rattle.hw_log.specs.Causes.{IsReadCounted, IsOfReading, IsOfBytes, HasReadCause}
 
--- an error of bytes needs no count
-needs_no_count : (before now : ℕ) (e : LogError) → IsOfBytes e → IsReadCounted before now e
-needs_no_count before now ReadFault h = absurd h
-needs_no_count before now WriteFault h = absurd h
-needs_no_count before now OutOfMemory h = tt
-needs_no_count before now BadMagic h = tt
-needs_no_count before now (Version v) h = tt
-needs_no_count before now (Torn at) h = tt
-needs_no_count before now (TooLong at) h = tt
-needs_no_count before now (BadConfig f) h = tt
-needs_no_count before now (ConfigFault f) h = tt
-needs_no_count before now (BadEvent at) h = tt
-needs_no_count before now (BadVerdict at) h = tt
-needs_no_count before now (BadVertex at f) h = tt
+-- an error of bytes leaves the count as it is
+leaves_count : (T : Type 0) (before now : ℕ) (e : LogError) → now ≡ before → IsOfBytes e → IsReadCounted {T = T} before now (Err e)
+leaves_count T before now ReadFault same h = absurd h
+leaves_count T before now WriteFault same h = same
+leaves_count T before now OutOfMemory same h = same
+leaves_count T before now BadMagic same h = same
+leaves_count T before now (Version v) same h = same
+leaves_count T before now (Torn at) same h = same
+leaves_count T before now (TooLong at) same h = same
+leaves_count T before now (BadConfig f) same h = same
+leaves_count T before now (ConfigFault f) same h = same
+leaves_count T before now (BadEvent at) same h = same
+leaves_count T before now (BadVerdict at) same h = same
+leaves_count T before now (BadVertex at f) same h = same
 
 is_of_reading : (e : LogError) → IsOfBytes e → IsOfReading e
 is_of_reading ReadFault h = absurd h
@@ -33,6 +33,6 @@ is_of_reading (BadEvent at) h = h
 is_of_reading (BadVerdict at) h = h
 is_of_reading (BadVertex at f) h = h
 
--- so it has its cause at any count that didn't fall
-pub cause_of_bytes : {T : Type 0} (before now : ℕ) (e : LogError) → before ≤ now → IsOfBytes e → HasReadCause {T = T} before now (Err e)
-cause_of_bytes before now e later h = record { later = later; failed = needs_no_count before now e h; error = is_of_reading e h }
+-- so it has its cause where the count is what it was
+pub cause_of_bytes : {T : Type 0} (before now : ℕ) (e : LogError) → before ≤ now → now ≡ before → IsOfBytes e → HasReadCause {T = T} before now (Err e)
+cause_of_bytes {T} before now e later same h = record { later = later; failed = leaves_count T before now e same h; error = is_of_reading e h }

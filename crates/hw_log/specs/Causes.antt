@@ -32,10 +32,11 @@ abbrev pub Gives : {X Y : Type 0} → (X → Y) → Result X LogError → Result
 Gives view (Ok x) said = said ≡ Ok (view x)
 Gives view (Err e) said = Fails e said
 
--- a failed read is counted
-abbrev pub IsReadCounted : ℕ → ℕ → LogError → Type 0
-IsReadCounted before now ReadFault = Rose before now
-IsReadCounted before now e = Unit {0}
+-- a failed read raises the count, and nothing else changes it
+abbrev pub IsReadCounted : {T : Type 0} → ℕ → ℕ → Result T LogError → Type 0
+IsReadCounted before now (Ok x) = now ≡ before
+IsReadCounted before now (Err ReadFault) = Rose before now
+IsReadCounted before now (Err e) = now ≡ before
 
 -- no append failed, and no error of content holds want of memory
 abbrev pub IsOfReading : LogError → Type 0
@@ -49,20 +50,20 @@ abbrev pub IsOfBytes : LogError → Type 0
 IsOfBytes ReadFault = ⊥
 IsOfBytes e = IsOfReading e
 
--- the read count didn't fall, and the answer is `ReadFault` only where it rose
+-- the read count didn't fall, and it rose where the answer is `ReadFault` and nowhere else
 pub record HasReadCause {T : Type 0} (before now : ℕ) (result : Result T LogError) : Type 0 where
   pub later : before ≤ now
-  pub failed : IfErr result (IsReadCounted before now)
+  pub failed : IsReadCounted before now result
   pub error : IfErr result IsOfReading
 
--- a failed append is counted, and there is no other error but want of memory
+-- a failed append raises the count and nothing else changes it, and there is no other error but want of memory
 abbrev pub IsAppendCounted : {T : Type 0} → Result T LogError → ℕ → ℕ → Type 0
-IsAppendCounted (Ok x) before now = Unit {0}
+IsAppendCounted (Ok x) before now = now ≡ before
 IsAppendCounted (Err WriteFault) before now = Rose before now
-IsAppendCounted (Err OutOfMemory) before now = Unit {0}
+IsAppendCounted (Err OutOfMemory) before now = now ≡ before
 IsAppendCounted (Err e) before now = ⊥
 
--- the append count didn't fall, and the answer is `WriteFault` only where it rose, and else want of memory or Ok
+-- the append count didn't fall, and it rose where the answer is `WriteFault` and nowhere else
 pub record HasAppendCause {T : Type 0} (before now : ℕ) (result : Result T LogError) : Type 0 where
   pub later : before ≤ now
   pub failed : IsAppendCounted result before now

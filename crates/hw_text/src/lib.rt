@@ -7,5 +7,5 @@
 mod parts;
 mod rules;
 
-pub use parts::{put_digest, put_number, put_word};
+pub use parts::{end_line, put_digest, put_number, put_numbered, put_word};
 pub use rules::rule_name;

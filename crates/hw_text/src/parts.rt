@@ -2,6 +2,7 @@
 
 ghost use Rattle.std.specs.Prelude.{◌≡◌, ◌++◌, OnOk, OnErr};
 ghost use Rattle.hw_text.specs.Text.{number_text, digest_text};
+ghost use Rattle.hw_text.specs.Lines.{line_feed};
 
 use hw_types::{Bytes, Digest, OutOfMemory};
 use itoa::Buffer;
@@ -34,4 +35,21 @@ pub fn put_word(out: &mut Bytes, word: &str) -> Result<(), OutOfMemory>
     ensures err { OnErr result (out.new ≡ out.old) }
 {
     out.extend(word.as_bytes())
+}
+
+/// Puts the word and then the decimal digits of the number last.
+#[tactic(auto, using(std::proofs::Common::append_assoc))]
+pub fn put_numbered(out: &mut Bytes, word: &str, number: u64) -> Result<(), OutOfMemory>
+    ensures { OnOk result (out.new ≡ out.old ++ (word.now ++ number_text number)) }
+{
+    put_word(out, word)?;
+    put_number(out, number)
+}
+
+/// Ends the line.
+pub fn end_line(out: &mut Bytes) -> Result<(), OutOfMemory>
+    ensures ok { OnOk result (out.new ≡ out.old ++ line_feed) }
+    ensures err { OnErr result (out.new ≡ out.old) }
+{
+    put_word(out, "\n")
 }

@@ -11,7 +11,7 @@ invariant-loop-end g l =
       held : take l.held l.bytes ≡ take l.held l.initial.bytes;
       left : IsTrue f.tells → take l.end l.bytes ++ f.unread l.files ≡ take l.held l.initial.bytes ++ f.unread l.initial.files;
       allowance : f.allowance l.files + l.end ≡ f.allowance l.initial.files + l.held;
-      cause : f.read_faults l.initial.files ≤ f.read_faults l.files;
+      faults : f.read_faults l.files ≡ f.read_faults l.initial.files;
       files : SameFiles (f.held l.initial.files) (f.held l.files);
       begun : f.begun l.files ≡ f.begun l.initial.files;
       appends : f.append_faults l.files ≡ f.append_faults l.initial.files;

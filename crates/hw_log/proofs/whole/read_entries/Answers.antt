@@ -1,4 +1,4 @@
-use Rattle.std.proofs.Common.{inl, inr, ap, arith, ◌∙◌}
+use Rattle.std.proofs.Common.{inl, inr, ap, ◌∙◌}
 use Rattle.std.proofs.lemmas.Result.{err_from_is_err_and}
 use Rattle.hw_log.proofs.RunLaws.{stands_next, stands_last, stands_at_fault}
 use Rattle.hw_log.specs.Whole.{first_fault}
@@ -21,7 +21,7 @@ loop-entry-preserved g c = record {
       let stands = c.loop-entry.invariant.stands tells bytes first in
       rw c.in_ok-push.ensures.ok (stands_next bytes _ _ _ _ _ c.in-Some.entry stands said c.in_ok-entry.ensures.config);
   places = c.in_ok-entry.ensures.places;
-  counted = omega (arith, c.in_ok-entry.ensures.cause.later, c.loop-entry.invariant.counted);
+  counted = c.in_ok-entry.ensures.cause.failed ∙ c.loop-entry.invariant.counted;
   files = λ name. c.in_ok-entry.ensures.files name ∙ c.loop-entry.invariant.files name;
   appends = c.in_ok-entry.ensures.appends ∙ c.loop-entry.invariant.appends;
 }

@@ -1,4 +1,4 @@
-use Rattle.std.proofs.Common.{◌≡◌, ℕ, ◌≤◌, List, IsTrue}
+use Rattle.std.proofs.Common.{◌≡◌, ℕ, List, IsTrue}
 use Rattle.hw_io.specs.Files.{SameFiles}
 use Rattle.hw_log.specs.Reader.{PlacesFit, StandsBehind, ahead_of}
 use Rattle.hw_log.proofs.whole.read_entries.Given as goal
@@ -9,7 +9,7 @@ invariant-loop-entry g l = record {
       → StandsBehind bytes l.initial.entries l.initial.reader (g.F.Files.unread l.initial.files)
       → StandsBehind bytes l.entries l.reader (g.F.Files.unread l.files);
   places : PlacesFit l.reader (g.F.Files.allowance l.files);
-  counted : g.F.Files.read_faults l.initial.files ≤ g.F.Files.read_faults l.files;
+  counted : g.F.Files.read_faults l.files ≡ g.F.Files.read_faults l.initial.files;
   files : SameFiles (g.F.Files.held l.initial.files) (g.F.Files.held l.files);
   appends : g.F.Files.append_faults l.files ≡ g.F.Files.append_faults l.initial.files;
 }

@@ -1,4 +1,0 @@
-pub mod JournalLaws
-pub mod ReplayLaws
-pub mod OutcomeLaws
-pub mod RunLaws

@@ -1,0 +1,125 @@
+//! The lines.
+
+use crate::outside::{fail_call, files_of, number, run, sink_of};
+use hw_io::MemSink;
+use hw_types::OutOfMemory;
+use std::alloc::Global;
+use std::rt;
+
+/// The answer to a line.
+pub fn answer(rt: &(impl rt::Files + AllocGlobal), line: &str) -> Result<String, OutOfMemory> {
+    let words: Vec<&str> = line.split(' ').collect(rt.alloc())?;
+    match words.as_slice() {
+        ["run", files, piece, call, take, write, patches, command @ ..] => {
+            let outside = Outside {
+                files,
+                piece: number(piece),
+                call: call.parse().ok(),
+                take: number(take),
+                write: write.parse().ok(),
+                patches,
+            };
+            ran(rt, &outside, command)
+        }
+        ["reads", files, piece, calls, command @ ..] => {
+            each_read(rt, files, number(piece), number(calls), command)
+        }
+        ["writes", files, take, writes, command @ ..] => {
+            each_write(rt, files, number(take), number(writes), command)
+        }
+        _ => Ok(String::new(rt.alloc())),
+    }
+}
+
+/// What a run does with the outside.
+#[derive(Clone, Copy)]
+struct Outside<'c> {
+    files: &'c str,
+    piece: usize,
+    call: Option<u64>,
+    take: usize,
+    write: Option<u64>,
+    patches: &'c str,
+}
+
+/// The status, the counts of faults and of calls, and what was written.
+fn ran(
+    rt: &(impl rt::Files + AllocGlobal),
+    outside: &Outside,
+    command: &[&str],
+) -> Result<String, OutOfMemory> {
+    let mut files = files_of(rt, outside.piece, outside.files, outside.patches)?;
+    fail_call(&mut files, outside.call)?;
+    let mut out = sink_of(rt.alloc(), outside.take, outside.write)?;
+    let status = run(rt.alloc(), &mut files, &mut out, command)?;
+    let text = text_of(rt.alloc(), &out)?;
+    Ok(format!(in rt.alloc();
+        "{status} faults {} {}\n{text}",
+        files.read_faults(),
+        out.faults()
+    )?)
+}
+
+/// What was written.
+fn text_of(alloc: Global, out: &MemSink) -> Result<String, OutOfMemory> {
+    Ok(String::from_utf8_lossy(alloc, out.taken())?)
+}
+
+/// The statuses where each of the first calls of the files fails in turn, and what was written the last time.
+fn each_read(
+    rt: &(impl rt::Files + AllocGlobal),
+    files: &str,
+    piece: usize,
+    calls: usize,
+    command: &[&str],
+) -> Result<String, OutOfMemory> {
+    let mut text = String::new(rt.alloc());
+    for call in 0..calls as u64 {
+        let status = read_status(rt, files, piece, call, command)?;
+        text.push_str(format!(in rt.alloc(); "{status} ")?.as_str())?;
+    }
+    Ok(text)
+}
+
+/// The status where this call of the files fails.
+fn read_status(
+    rt: &(impl rt::Files + AllocGlobal),
+    names: &str,
+    piece: usize,
+    call: u64,
+    command: &[&str],
+) -> Result<u8, OutOfMemory> {
+    let mut files = files_of(rt, piece, names, "-")?;
+    fail_call(&mut files, Some(call))?;
+    let mut out = sink_of(rt.alloc(), usize::MAX, None)?;
+    run(rt.alloc(), &mut files, &mut out, command)
+}
+
+/// The statuses where each of the first writes fails in turn, each with the number of bytes that were taken.
+fn each_write(
+    rt: &(impl rt::Files + AllocGlobal),
+    files: &str,
+    take: usize,
+    writes: usize,
+    command: &[&str],
+) -> Result<String, OutOfMemory> {
+    let mut text = String::new(rt.alloc());
+    for write in 0..writes as u64 {
+        text.push_str(write_text(rt, files, take, write, command)?.as_str())?;
+    }
+    Ok(text)
+}
+
+/// The status where this write fails, and the number of bytes that were taken.
+fn write_text(
+    rt: &(impl rt::Files + AllocGlobal),
+    names: &str,
+    take: usize,
+    write: u64,
+    command: &[&str],
+) -> Result<String, OutOfMemory> {
+    let mut files = files_of(rt, usize::MAX, names, "-")?;
+    let mut out = sink_of(rt.alloc(), take, Some(write))?;
+    let status = run(rt.alloc(), &mut files, &mut out, command)?;
+    Ok(format!(in rt.alloc(); "{status}:{} ", out.taken().len())?)
+}

@@ -1,0 +1,28 @@
+//! What the program answers and writes for the lines of its input.
+//!
+//! | Line | Answer |
+//! |---|---|
+//! | `run FILES PIECE CALL TAKE WRITE PATCHES WORDS` | the status and what was written |
+//! | `reads FILES PIECE CALLS WORDS` | each of the first calls of the files fails in turn: the statuses, and what was written |
+//! | `writes FILES TAKE WRITES WORDS` | each of the first writes fails in turn: the statuses, and how many bytes were taken |
+//!
+//! FILES are `-` or pairs `NAME=file` with commas between: the name that the program sees, and the file of `data/`
+//! that it finds under it. A read gives at most PIECE bytes, and a write takes at most TAKE. CALL and WRITE are the
+//! numbers of the calls of the files and of the output that fail, or `-`. PATCHES are `-` or bytes put at places of
+//! each file, as `74:2,75:2`. WORDS are the command line.
+#![tactic(auto)]
+
+mod cases;
+mod outside;
+
+use std::io;
+
+fn main(rt: HostRuntime) -> io::Result<()> {
+    for line in rt.lines(rt.alloc()) {
+        let Ok(text) = cases::answer(&rt, line?.as_str()) else {
+            return Err(io::ErrorKind::OutOfMemory.into());
+        };
+        println!(rt; "{text}")?;
+    }
+    Ok(())
+}

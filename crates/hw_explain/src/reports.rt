@@ -1,0 +1,78 @@
+//! The report on a node.
+
+ghost use Rattle.std.specs.Prelude.{◌≡◌, ◌<◌, length, IfOk};
+ghost use Rattle.hw_types.specs.Settled.{is_faulty};
+ghost use Rattle.hw_types.specs.Real.{setting_of, received_in, settled_in};
+ghost use Rattle.hw_explain.specs.Report.{counts_of, faulty_in, report_text};
+
+use crate::lines::{Counts, put_counts, put_exceeded, put_faulty, put_fork};
+use hw_core::Core;
+use hw_types::{Bytes, Obs, OutOfMemory};
+use std::alloc::Global;
+
+/// The report on a node, after so many deliveries that were refused and so many that came again.
+///
+/// It tells no decided block yet.
+#[tactic(auto, using(crate::proofs::ReportLaws::report_parts))]
+pub fn report(
+    alloc: Global,
+    core: &Core,
+    refused: u64,
+    repeats: u64,
+) -> Result<Bytes, OutOfMemory>
+    ensures { IfOk result (λ text. text ≡ report_text (setting_of core.now.config) core.now.journal refused repeats) }
+{
+    let mut text = Bytes::new(alloc);
+    put_counts(&mut text, &counts(core, refused, repeats))?;
+    put_faulty(&mut text, faulty(alloc, core)?.as_slice())?;
+    put_fork(&mut text, core.fork())?;
+    put_exceeded(&mut text, core.exceeded())?;
+    Ok(text)
+}
+
+/// The numbers of the first line.
+fn counts(core: &Core, refused: u64, repeats: u64) -> Counts
+    ensures { result ≡ counts_of core.now.config (received_in core.now) refused repeats }
+{
+    Counts {
+        units: core.settled_count(),
+        parked: core.parked_count(),
+        dropped: core.dropped_count(),
+        refused,
+        repeats,
+    }
+}
+
+/// The faulty validators, in rising order.
+#[tactic(auto, using(crate::proofs::ReportLaws::filter_passed, crate::proofs::ReportLaws::filter_left))]
+fn faulty(alloc: Global, core: &Core) -> Result<Vec<u32>, OutOfMemory>
+    ensures { IfOk result (λ faulty. faulty.items ≡ faulty_in core.now.config (received_in core.now)) }
+{
+    let mut faulty = Vec::new(alloc);
+    for validator in 0..validators(core) {
+        if is_faulty(core, validator) {
+            faulty.push(validator)?;
+        }
+    }
+    Ok(faulty)
+}
+
+/// How many validators there are.
+#[tactic(auto, using(hw_types::proofs::LimitLaws::within_limits))]
+fn validators(core: &Core) -> u32
+    ensures { result ≡ length core.now.config.weights }
+{
+    core.state().config().weights.len() as u32
+}
+
+/// Whether the validator is faulty.
+#[tactic(auto, using(crate::proofs::ReportLaws::mark_is))]
+fn is_faulty(core: &Core, validator: u32) -> bool
+    requires { validator < length core.now.config.weights }
+    ensures { result ≡ is_faulty (received_in core.now) (settled_in core.now) validator }
+{
+    match core.observation(validator) {
+        Obs::Faulty => true,
+        Obs::Absent | Obs::Correct(_) => false,
+    }
+}

@@ -1,0 +1,12 @@
+use Rattle.std.proofs.Common.{inl, inr, ap, ◌∙◌}
+use Rattle.hw_program.specs.declared.ended.Ended.{Ended}
+use Rattle.hw_program.proofs.FaultLaws.{input_status, of_bytes, not_outside, leaves_count}
+use Rattle.hw_program.proofs.faults.unread.Goals as goal
+
+pub returns-in_ok-bad_log-in_default : goal.returns-in_ok-bad_log-in_default
+returns-in_ok-bad_log-in_default c =
+    let wrote = c.in_ok-bad_log-in_default.ensures in
+    record {
+      said = (wrote ∙ of_bytes c.args.name.now c.args.error c.in_default.not-ReadFault c.in_default.not-OutOfMemory, inr (inl (ap (λ (e : Ended). e.status) wrote ∙ input_status c.args.name.now _)), not_outside c.args.error c.in_default.not-ReadFault c.in_default.not-OutOfMemory);
+      cause = λ before now. leaves_count before now c.args.error c.in_default.not-ReadFault;
+    }

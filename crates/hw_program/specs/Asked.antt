@@ -1,0 +1,14 @@
+-- What a command asks for.
+use Rattle.std.specs.Prelude.{Option, Some, None}
+use Rattle.hw_program.specs.declared.command.Command.{Command}
+use Rattle.hw_program.specs.declared.command.Command.TheVariants as command
+use Rattle.hw_program.specs.Commands.{Request, Replay}
+
+-- what a command asks for
+abbrev pub request : Command → Request
+request (command.Replay log) = Replay log.now
+
+-- the request of the command, if there is one
+abbrev pub asked : Option Command → Option Request
+asked None = None
+asked (Some c) = Some (request c)

@@ -1,0 +1,28 @@
+-- When a run up to its text has which fault.
+use Rattle.std.specs.Prelude.{◌≡◌, ℕ, ◌≤◌, ◌⊎◌, Option, Some, None, Result, Ok, Err}
+use Rattle.hw_io.specs.Faults.{Rose}
+use Rattle.hw_program.specs.declared.ended.Ended.{Ended}
+use Rattle.hw_program.specs.Commands.{Request, Replay}
+use Rattle.hw_program.specs.Texts.{usage_line}
+use Rattle.hw_program.specs.declared.ended.RunFault.{RunFault}
+use Rattle.hw_program.specs.declared.ended.RunFault.TheVariants.{Read, OutOfMemory}
+
+-- a failed read raises the count, and nothing else changes it
+abbrev pub IsReadCounted : {T : Type 0} → ℕ → ℕ → Result T RunFault → Type 0
+IsReadCounted before now (Ok x) = now ≡ before
+IsReadCounted before now (Err Read) = Rose before now
+IsReadCounted before now (Err OutOfMemory) = now ≡ before
+
+-- the read count didn't fall, and it rose where a read failed and nowhere else
+pub record HasReadFault {T : Type 0} (before now : ℕ) (result : Result T RunFault) : Type 0 where
+  pub later : before ≤ now
+  pub counted : IsReadCounted before now result
+
+-- a command that reads logs does all, or ends by what is wrong with one: its bytes, a limit that it meets, or a clash
+abbrev pub IsReadEnd : ℕ → Type 0
+IsReadEnd status = (status ≡ 0) ⊎ (status ≡ 2) ⊎ (status ≡ 8) ⊎ (status ≡ 9)
+
+-- words outside the grammar end with the usage line, and commands as they do
+abbrev pub IsEndOf : Option Request → Ended → Type 0
+IsEndOf None ended = ended ≡ record { status = 1; text = usage_line }
+IsEndOf (Some (Replay log)) ended = IsReadEnd ended.status

@@ -1,0 +1,70 @@
+-- How a run of the program ends and what it writes.
+use Rattle.std.specs.Prelude.{ℕ, List, ◌++◌, Option, Some, None, Result, Ok, Err}
+use Rattle.hw_types.specs.declared.config.Config.{Config}
+use Rattle.hw_types.specs.Real.{setting_of}
+use Rattle.hw_explain.specs.Report.{report_text}
+use Rattle.hw_replay.specs.declared.fault.StartFault.{StartFault}
+use Rattle.hw_replay.specs.Taken.{Taken}
+use Rattle.hw_replay.specs.Replay.{replay_of}
+use Rattle.hw_program.specs.declared.ended.Ended.{Ended}
+use Rattle.hw_program.specs.Texts.{usage_line, read_fault_ended, stopped_ended}
+use Rattle.hw_program.specs.Commands.{Word, Request, Replay, request_of}
+
+-- the bytes held under each name, where there is a file
+abbrev pub Held : Type 0
+Held = List ℕ → Option (List ℕ)
+
+-- what a part of a run gives, or how the run ends there
+abbrev pub Part : Type 0 → Type 0
+Part A = Result A Ended
+
+-- go on with what was given, or end
+infixl 10 ◌>>=◌
+abbrev pub ◌>>=◌ : {A B : Type 0} → Part A → (A → Part B) → Part B
+(Ok x) >>= f = f x
+(Err e) >>= f = Err e
+
+-- a part that ends all the same
+abbrev pub ended : Part Ended → Ended
+ended (Ok e) = e
+ended (Err e) = e
+
+-- the whole text, with status 0
+abbrev pub done : List ℕ → Part Ended
+done text = Ok (record { status = 0; text = text })
+
+-- ---- files
+
+-- a file that is read; where there is none, a read fails
+abbrev pub file_of : Held → Word → Part (List ℕ)
+file_of held name = elim (held name) [ None ↦ Err read_fault_ended | Some bytes ↦ Ok bytes ]
+
+-- a replay, or the line of what stopped it
+abbrev pub or_stopped : Word → Result Taken StartFault → Part Taken
+or_stopped name (Ok x) = Ok x
+or_stopped name (Err fault) = Err (stopped_ended name fault)
+
+-- the replay of a log, where this configuration is wanted
+abbrev pub log_replayed : Held → Option Config → Word → Part Taken
+log_replayed held wanted name = file_of held name >>= λ bytes. or_stopped name (replay_of wanted bytes)
+
+-- ---- commands
+
+-- the report on what a replay left
+abbrev pub report_of : Taken → List ℕ
+report_of t = report_text (setting_of t.core.config) t.core.journal t.refused t.repeats
+
+-- the report on a log
+abbrev pub replay_said : Held → Word → Part Ended
+replay_said held log = log_replayed held None log >>= λ t. done (report_of t)
+
+-- ---- the program
+
+-- a request, by what the files hold; each command has its line
+abbrev pub request_said : Held → Option Request → Part Ended
+request_said held None = Err (record { status = 1; text = usage_line })
+request_said held (Some (Replay log)) = replay_said held log
+
+-- How a run ends and what it writes, by its words and what the files hold, where nothing of the outside fails and there is memory.
+unfoldable pub run_of : List Word → Held → Ended
+run_of words held = ended (request_said held (request_of words))

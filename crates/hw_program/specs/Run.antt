@@ -1,0 +1,54 @@
+-- What a run writes and answers.
+use Rattle.std.specs.Prelude.{◌≡◌, ℕ, ◌==◌, ◌||◌, List, ◌++◌, take, Option, ◌⊎◌, if◌then◌else◌}
+use Rattle.std.specs.Io.KnownBytes.{Appends}
+use Rattle.hw_io.specs.Faults.{Rose}
+use Rattle.hw_io.specs.Sinks.{AppendsPrefix}
+use Rattle.hw_program.specs.Texts.{read_fault_line, out_of_memory_line}
+
+-- 0 all was done, 1 the words, 2 a file's bytes, 3 a conflict, 4 a read, 5 a write, 7 memory, 8 a limit, 9 a clash
+abbrev pub IsStatus : ℕ → Type 0
+IsStatus status = (status ≡ 0) ⊎ (status ≡ 1) ⊎ (status ≡ 2) ⊎ (status ≡ 3) ⊎ (status ≡ 4) ⊎ (status ≡ 5) ⊎ (status ≡ 7) ⊎ (status ≡ 8) ⊎ (status ≡ 9)
+
+-- a status with which the whole text of a command is written
+abbrev pub IsDone : ℕ → Type 0
+IsDone status = (status ≡ 0) ⊎ (status ≡ 3)
+
+-- a status whose text is the line of what is wrong with the words or the bytes
+abbrev pub IsRefusal : ℕ → Type 0
+IsRefusal status = (status ≡ 1) ⊎ (status ≡ 2) ⊎ (status ≡ 8) ⊎ (status ≡ 9)
+
+-- a status that words and bytes alone decide
+abbrev pub IsSaid : ℕ → Type 0
+IsSaid status = IsDone status ⊎ IsRefusal status
+
+-- all of the line was taken, or a prefix of it where a write failed
+abbrev pub WritesLine : Option (List ℕ) → Option (List ℕ) → List ℕ → ℕ → ℕ → Type 0
+WritesLine old new line before now = Appends old new line ⊎ (Rose before now × AppendsPrefix old new line)
+
+-- what a sink has taken, how many of its writes failed, and how many found no memory
+pub record Output : Type 0 where
+  pub taken : Option (List ℕ)
+  pub faults : ℕ
+  pub wants : ℕ
+
+-- all of the line for want of memory was taken, or a prefix of it where a write failed or found no memory
+abbrev pub WritesMemoryLine : Output → Output → Type 0
+WritesMemoryLine old new =
+    Appends old.taken new.taken out_of_memory_line
+    ⊎ ((Rose old.faults new.faults ⊎ Rose old.wants new.wants) × AppendsPrefix old.taken new.taken out_of_memory_line)
+
+-- a write found no memory: a prefix of the text was taken, and then a prefix of the line for want of memory
+abbrev pub WritesToNoMemory : Output → Output → List ℕ → Type 0
+WritesToNoMemory old new text = Rose old.wants new.wants × ((n m : ℕ) × Appends old.taken new.taken (take n text ++ take m out_of_memory_line))
+
+-- There was no memory up to the text; or a write of the text, or of the line of a failed read, found none.
+abbrev pub EndsWithoutMemory : Output → Output → List ℕ → Type 0
+EndsWithoutMemory old new text = WritesMemoryLine old new ⊎ (WritesToNoMemory old new text ⊎ WritesToNoMemory old new read_fault_line)
+
+-- How a run that has this status and text ends: the text is written whole; or a write failed, and a run that had done all
+-- says so; or a write found no memory.
+abbrev pub Finishes : ℕ → List ℕ → ℕ → Output → Output → Type 0
+Finishes status text result old new =
+    ((result ≡ status) × Appends old.taken new.taken text)
+    ⊎ ((result ≡ (if (status == 0) || (status == 3) then 5 else status)) × Rose old.faults new.faults × AppendsPrefix old.taken new.taken text)
+    ⊎ ((result ≡ 7) × WritesToNoMemory old new text)

@@ -1,0 +1,57 @@
+//! How a run ends.
+
+ghost use Rattle.std.specs.Prelude.{◌≡◌};
+ghost use Rattle.hw_program.specs.declared.ended.RunFault.TheVariants as RunFaults;
+
+use hw_types::{Bytes, OutOfMemory};
+
+/// All was done.
+pub const DONE: u8 = 0;
+
+/// The words aren't in the grammar.
+pub const USAGE: u8 = 1;
+
+/// A file's bytes aren't in the grammar that the command needs.
+pub const INPUT: u8 = 2;
+
+/// Two logs report conflicting final blocks.
+pub const CONFLICT: u8 = 3;
+
+/// A read of the files failed.
+pub const READ_FAULT: u8 = 4;
+
+/// A write of the output failed.
+pub const WRITE_FAULT: u8 = 5;
+
+/// There was no memory.
+pub const OUT_OF_MEMORY: u8 = 7;
+
+/// An entry of a log met a limit.
+pub const LIMIT: u8 = 8;
+
+/// Two different units have one digest.
+pub const CLASH: u8 = 9;
+
+/// How a run ends: its status, and all that it writes.
+#[derive(Drop)]
+pub struct Ended {
+    pub status: u8,
+    pub text: Bytes,
+}
+
+/// Why a run ends without a text of its own.
+#[derive(Clone, Copy, Debug, PartialEq, Eq)]
+pub enum RunFault {
+    /// A read of the files failed.
+    Read,
+    /// There was no memory.
+    OutOfMemory,
+}
+
+impl From<OutOfMemory> for RunFault {
+    ghost from_gives = { λ _ fault. fault ≡ RunFaults.OutOfMemory };
+
+    fn from(_error: OutOfMemory) -> RunFault {
+        RunFault::OutOfMemory
+    }
+}

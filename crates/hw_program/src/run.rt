@@ -1,0 +1,123 @@
+//! The top call.
+
+ghost use Rattle.std.specs.Prelude.{◌≡◌, ◌≢◌, ℕ, ◌≤◌, None, Some, IsTrue, IfOk, IfErr, ◌⊎◌};
+ghost use Rattle.std.specs.Io.KnownBytes.{Appends};
+ghost use Rattle.hw_io.specs.Faults.{Rose};
+ghost use Rattle.hw_io.specs.Files.{SameFiles};
+ghost use Rattle.hw_io.specs.Sinks.{AppendsPrefix};
+ghost use Rattle.hw_program.specs.Commands.{request_of, OnlyReads};
+ghost use Rattle.hw_program.specs.Texts.{usage_line, read_fault_line, out_of_memory_line};
+ghost use Rattle.hw_program.specs.Faults.{HasReadFault, IsEndOf};
+ghost use Rattle.hw_program.specs.Program.{run_of};
+ghost use Rattle.hw_program.specs.Run.{IsStatus, IsDone, IsSaid, IsRefusal, WritesLine, WritesMemoryLine, EndsWithoutMemory, Finishes};
+ghost use Rattle.hw_program.specs.declared.ended.RunFault.TheVariants as RunFaults;
+
+use crate::command::{Command, command_of};
+use crate::ended::{CONFLICT, DONE, Ended, OUT_OF_MEMORY, READ_FAULT, RunFault, WRITE_FAULT};
+use crate::faults::usage;
+use crate::replay::replay;
+use crate::words::Words;
+use hw_io::{Clock, Consumer, Door, Files, IoFault, Sink, write_all};
+use std::alloc::Global;
+
+const READ_FAULT_LINE: &str = "read fault\n";
+
+const OUT_OF_MEMORY_LINE: &str = "out of memory\n";
+
+/// Runs the command that the words ask for, and answers the exit status.
+///
+/// Its text is made whole before the first byte of it is written. The status is 0 where all was
+/// done, 1 where the words aren't in the grammar, 2 where a file's bytes aren't, 3 where two logs
+/// report conflicting final blocks, 4 where a read of the files failed, 5 where a write of the output
+/// failed, 7 where there was no memory, 8 where a log meets a limit, and 9 where two different units
+/// have one digest. A fault has one line, which is written if the output takes it.
+pub fn highway<F: Files, S: Sink, C: Clock, D: Door>(
+    alloc: Global,
+    words: &Words,
+    files: &mut F,
+    out: &mut S,
+    clock: &mut C,
+    door: &mut D,
+    consumers: &mut Vec<Box<dyn Consumer>>,
+) -> u8
+    ensures status { IsStatus result }
+
+    // Each status but 4, 5 and 7 is the answer that the words and the bytes of the files have.
+    ensures said { IsTrue F.tells → IsSaid result → (run_of words.now (F.held files.old)).status ≡ result }
+    ensures usage { result ≡ 1 → request_of words.now ≡ None }
+    ensures grammar { request_of words.now ≡ None → (result ≡ 1) ⊎ (result ≡ 7) }
+
+    // 4 and 5 come only where a count of faults rose in this run, and 5 only in place of a text that was whole.
+    ensures read_fault { result ≡ 4 → Rose (F.read_faults files.old) (F.read_faults files.new) }
+    ensures write_fault { result ≡ 5 → Rose (S.faults out.old) (S.faults out.new) ⊎ Rose (F.append_faults files.old) (F.append_faults files.new) }
+    ensures unwritten { IsTrue F.tells → result ≡ 5 → IsDone (run_of words.now (F.held files.old)).status ⊎ Rose (F.append_faults files.old) (F.append_faults files.new) }
+
+    // A read that failed is told: with each other status the count is what it was, unless the output found no memory.
+    ensures reads { result ≢ 4 → (F.read_faults files.new ≡ F.read_faults files.old) ⊎ ((result ≡ 7) × Rose (S.wants out.old) (S.wants out.new)) }
+
+    // Where no count rose, the answer is the one that the words and the bytes have, or want of memory.
+    ensures complete { IsTrue F.tells → (Rose (F.read_faults files.old) (F.read_faults files.new) → ⊥) → (Rose (S.faults out.old) (S.faults out.new) → ⊥) → (result ≡ (run_of words.now (F.held files.old)).status) ⊎ (result ≡ 7) }
+
+    // What is written with each status.
+    ensures text { IsTrue F.tells → IsDone result → Appends (S.taken out.old) (S.taken out.new) (run_of words.now (F.held files.old)).text }
+    ensures line { IsTrue F.tells → IsRefusal result → WritesLine (S.taken out.old) (S.taken out.new) (run_of words.now (F.held files.old)).text (S.faults out.old) (S.faults out.new) }
+    ensures usage_line { result ≡ 1 → WritesLine (S.taken out.old) (S.taken out.new) usage_line (S.faults out.old) (S.faults out.new) }
+    ensures read_line { result ≡ 4 → WritesLine (S.taken out.old) (S.taken out.new) read_fault_line (S.faults out.old) (S.faults out.new) }
+    ensures cut { IsTrue F.tells → result ≡ 5 → AppendsPrefix (S.taken out.old) (S.taken out.new) (run_of words.now (F.held files.old)).text }
+    ensures memory_line { IsTrue F.tells → result ≡ 7 → EndsWithoutMemory (record { taken = S.taken out.old; faults = S.faults out.old; wants = S.wants out.old }) (record { taken = S.taken out.new; faults = S.faults out.new; wants = S.wants out.new }) (run_of words.now (F.held files.old)).text }
+
+    // What a command doesn't use stays as it was.
+    ensures files { OnlyReads (request_of words.now) → SameFiles (F.held files.old) (F.held files.new) }
+    ensures appends { OnlyReads (request_of words.now) → F.append_faults files.new ≡ F.append_faults files.old }
+    ensures clock { OnlyReads (request_of words.now) → clock.new ≡ clock.old }
+    ensures door { OnlyReads (request_of words.now) → door.new ≡ door.old }
+    ensures consumers { OnlyReads (request_of words.now) → consumers.new ≡ consumers.old }
+{
+    match run(alloc, words, files) {
+        Ok(ended) => finish(out, ended.status, ended.text.as_slice()),
+        Err(RunFault::Read) => finish(out, READ_FAULT, READ_FAULT_LINE.as_bytes()),
+        Err(RunFault::OutOfMemory) => out_of_memory(out),
+    }
+}
+
+/// Runs the command up to its text.
+#[tactic(auto, unfolding(crate::specs::Program::run_of))]
+fn run<F: Files>(alloc: Global, words: &Words, files: &mut F) -> Result<Ended, RunFault>
+    ensures said { IsTrue F.tells → IfOk result (λ ended. ended ≡ run_of words.now (F.held files.old)) }
+    ensures status { IfOk result (λ ended. IsEndOf (request_of words.now) ended) }
+    ensures fault { HasReadFault (F.read_faults files.old) (F.read_faults files.new) result }
+    ensures usage { request_of words.now ≡ None → IfErr result (λ fault. fault ≡ RunFaults.OutOfMemory) }
+
+    ensures files { SameFiles (F.held files.old) (F.held files.new) }
+    ensures appends { F.append_faults files.new ≡ F.append_faults files.old }
+{
+    match command_of(words) {
+        Some(Command::Replay { log }) => replay(alloc, files, log),
+        None => Ok(usage(alloc)?),
+    }
+}
+
+/// Writes the text with which the run ends, and answers the status. A fault keeps its status where
+/// its line isn't taken.
+fn finish<S: Sink>(out: &mut S, status: u8, text: &[u8]) -> u8
+    ensures { Finishes status text.now result (record { taken = S.taken out.old; faults = S.faults out.old; wants = S.wants out.old }) (record { taken = S.taken out.new; faults = S.faults out.new; wants = S.wants out.new }) }
+{
+    match write_all(out, text) {
+        Ok(()) => status,
+        Err(IoFault::Failed) if status == DONE || status == CONFLICT => WRITE_FAULT,
+        Err(IoFault::Failed) => status,
+        Err(IoFault::OutOfMemory) => out_of_memory(out),
+    }
+}
+
+/// Ends a run for want of memory, with its line if the output takes it.
+fn out_of_memory<S: Sink>(out: &mut S) -> u8
+    ensures status { result ≡ 7 }
+    ensures line { WritesMemoryLine (record { taken = S.taken out.old; faults = S.faults out.old; wants = S.wants out.old }) (record { taken = S.taken out.new; faults = S.faults out.new; wants = S.wants out.new }) }
+    ensures prefix { AppendsPrefix (S.taken out.old) (S.taken out.new) out_of_memory_line }
+    ensures later { S.faults out.old ≤ S.faults out.new }
+    ensures wants { (before : ℕ) → Rose before (S.wants out.old) → Rose before (S.wants out.new) }
+{
+    let _ = write_all(out, OUT_OF_MEMORY_LINE.as_bytes());
+    OUT_OF_MEMORY
+}

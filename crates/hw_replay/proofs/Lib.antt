@@ -1,0 +1,4 @@
+pub mod TakeLaws
+pub mod AheadLaws
+pub mod BeginLaws
+pub mod CauseLaws

@@ -1,0 +1,14 @@
+use Rattle.std.proofs.lemmas.Result.{err_from_is_err_and}
+use Rattle.hw_replay.proofs.BeginLaws.{begins_ok, begins_other, begins_not}
+use Rattle.hw_replay.proofs.replay.Replay.begin.Goals as goal
+
+pub returns-in_err-begun-in-Ok-clause-said : goal.returns-in_err-begun-in-Ok-clause-said
+returns-in_err-begun-in-Ok-clause-said g c =
+    let p = err_from_is_err_and c.from_residual.result c.from_residual.ensures.1 in
+    λ tells. rw (p.1, p.2) (begins_other _ _ _ _ _ (c.in-Ok.ensures.said tells) c.in_err-begun-in-Ok.ensures.stopped)
+
+pub returns-in_ok-begun-in-Ok-clause-said : goal.returns-in_ok-begun-in-Ok-clause-said
+returns-in_ok-begun-in-Ok-clause-said g c = λ tells. begins_ok _ _ _ _ _ (c.in-Ok.ensures.said tells) c.in_ok-begun-in-Ok.ensures.begun
+
+pub returns-in-Err-clause-said : goal.returns-in-Err-clause-said
+returns-in-Err-clause-said g c = λ tells. rw c.fault_of.ensures (begins_not _ _ _ _ (c.in-Err.ensures.said tells))

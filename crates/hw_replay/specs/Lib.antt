@@ -1,0 +1,5 @@
+pub mod Taken
+pub mod Replay
+pub mod Causes
+pub mod Faults
+pub mod Steps

@@ -1,0 +1,11 @@
+//! The replay of a log: each entry is delivered to a node, in order.
+//!
+//! A replay goes on entry by entry, so that its caller can look at the node after each. A limit or a
+//! clash stops it; other refusals are counted.
+#![tactic(auto)]
+
+mod fault;
+mod replay;
+
+pub use fault::StartFault;
+pub use replay::{Replay, replay_log};

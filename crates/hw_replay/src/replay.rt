@@ -1,0 +1,276 @@
+//! A replay, entry by entry.
+
+ghost use Rattle.std.specs.Prelude.{◌≡◌, ◌≢◌, ◌+◌, ◌<◌, ◌≤◌, ◌^◌, ◌⊎◌, false, [], Ok, Some, None, IsTrue, IfOk, IfErr, IfSome, OnOk, OnErr};
+ghost use Rattle.std.specs.Option.{option_copied};
+ghost use Rattle.hw_io.specs.Files.{SameFiles};
+ghost use Rattle.hw_types.specs.Limits.{config_fault};
+ghost use Rattle.hw_types.specs.Spelling.{Fits, VertexFits, ConfigFits};
+ghost use Rattle.hw_log.specs.Reader.{ahead_of, PlacesFit};
+ghost use Rattle.hw_types.specs.declared.answers.Cause.TheVariants as Causes;
+ghost use Rattle.hw_replay.specs.declared.fault.StartFault.TheVariants as Faults;
+ghost use Rattle.hw_replay.specs.Taken.{nothing_taken, entry_taken, spelling_of, stop_of, clash_with};
+ghost use Rattle.hw_replay.specs.Replay.{is_wanted, taken_in, ahead_in, Begins, Leads, TakesAll, GrowsByOne, Replays};
+ghost use Rattle.hw_replay.specs.Causes.{HasReplayCause};
+ghost use Rattle.hw_replay.specs.Steps.{HasRoom, IsBegun, IsStop, IsOfEntry, repeats_in};
+
+use crate::fault::{StartFault, fault_of};
+use hw_codec::{encode_config, encode_unit};
+use hw_core::{Core, Refused};
+use hw_io::Files;
+use hw_log::{LogEntry, LogReader};
+use hw_types::{Bytes, Cause, Config, Digest, OutOfMemory, Receipt, SignedUnit, Vertex};
+use std::alloc::Global;
+
+/// A log that is being replayed into a node.
+#[derive(Drop)]
+pub struct Replay {
+    alloc: Global,
+    reader: LogReader,
+    /// The node, as the entries so far have left it.
+    pub core: Core,
+    /// How many entries were refused.
+    pub refused: u64,
+    /// How many entries came again.
+    pub repeats: u64,
+}
+
+impl Replay {
+    /// Begins the log under this name, with a node of its configuration.
+    ///
+    /// Where a configuration is wanted, the log's is compared with it as soon as its header was read.
+    pub fn begin<F: Files>(
+        alloc: Global,
+        files: &mut F,
+        name: &str,
+        wanted: Option<&Config>,
+    ) -> Result<Replay, StartFault>
+        requires { IfSome wanted (λ config. ConfigFits config.now) }
+        ensures said { IsTrue F.tells → Begins (option_copied wanted.entry) (F.held files.old name.now) (F.unread files.new) result }
+        ensures empty { IfOk result (λ r. taken_in r ≡ nothing_taken r.core.config) }
+        ensures room { IfOk result (λ r. HasRoom r (F.allowance files.new)) }
+        ensures cause { HasReplayCause (F.read_faults files.old) (F.read_faults files.new) result }
+
+        ensures files { SameFiles (F.held files.old) (F.held files.new) }
+        ensures appends { F.append_faults files.new ≡ F.append_faults files.old }
+    {
+        match LogReader::begin(alloc, files, name) {
+            Ok(reader) => Ok(begun(alloc, reader, wanted)?),
+            Err(error) => Err(fault_of(error)),
+        }
+    }
+
+    /// Takes the next entry, and answers whether there was one. At the end of the log there is none.
+    pub fn step<F: Files>(&mut self, files: &mut F) -> Result<bool, StartFault>
+        requires { HasRoom self.old (F.allowance files.old) }
+        // What will have been taken at the end of the log stays what it is.
+        ensures said { IsTrue F.tells → Leads (ahead_in self.old (F.unread files.old)) (ahead_in self.new (F.unread files.new)) (taken_in self.new) result }
+        ensures grows { GrowsByOne self.old.core self.new.core }
+        ensures room { IfOk result (λ more. IsTrue more → HasRoom self.new (F.allowance files.new)) }
+        ensures nearer { IfOk result (λ more. IsTrue more → ahead_of self.new.reader (F.allowance files.new) < ahead_of self.old.reader (F.allowance files.old)) }
+        ensures cause { HasReplayCause (F.read_faults files.old) (F.read_faults files.new) result }
+
+        ensures files { SameFiles (F.held files.old) (F.held files.new) }
+        ensures appends { F.append_faults files.new ≡ F.append_faults files.old }
+    {
+        match self.reader.next(files) {
+            Ok(Some(entry)) => {
+                self.take(entry)?;
+                Ok(true)
+            }
+            Ok(None) => Ok(false),
+            Err(error) => Err(fault_of(error)),
+        }
+    }
+
+    /// Delivers an entry, and counts it where it is refused or came again.
+    #[tactic(auto, using(crate::proofs::TakeLaws::grows_accepted, crate::proofs::TakeLaws::stop_is_of_entry))]
+    fn take(&mut self, entry: LogEntry) -> Result<(), StartFault>
+        requires fits { VertexFits entry.vertex }
+        requires room { self.old.refused + self.old.repeats < 2 ^ 62 }
+        ensures taken { OnOk result (entry_taken (taken_in self.old) entry ≡ Ok (taken_in self.new)) }
+        ensures stopped { IfErr result (λ e. IsStop e (entry_taken (taken_in self.old) entry)) }
+        ensures fault { IfErr result IsOfEntry }
+        ensures grows { GrowsByOne self.old.core self.new.core }
+        ensures counts { self.new.refused + self.new.repeats ≤ self.old.refused + self.old.repeats + 1 }
+        ensures reader { self.new.reader ≡ self.old.reader }
+    {
+        match self.core.deliver(entry.vertex, entry.verdict) {
+            Ok(receipt) => {
+                self.count(receipt);
+                Ok(())
+            }
+            Err(refused) => self.refuse(entry.at, refused),
+        }
+    }
+
+    /// Counts an entry that came again.
+    fn count(&mut self, receipt: Receipt)
+        requires { self.old.repeats < 2 ^ 62 }
+        ensures { self.new ≡ record self.old { repeats = self.old.repeats + repeats_in receipt } }
+    {
+        if receipt == Receipt::Repeat {
+            self.repeats += 1;
+        }
+    }
+
+    /// Counts a refused entry, unless it stops the replay. The entry is at that byte.
+    fn refuse(&mut self, at: u64, refused: Refused) -> Result<(), StartFault>
+        requires fits { VertexFits refused.vertex }
+        requires room { self.old.refused < 2 ^ 62 }
+        ensures counted { OnOk result (self.new ≡ record self.old { refused = self.old.refused + 1 }) }
+        ensures goes_on { OnOk result ((stop_of self.old.core at refused.vertex refused.cause ≡ None) × (refused.cause ≢ Causes.OutOfMemory)) }
+        ensures stops { IfErr result (λ e. (e ≡ Faults.OutOfMemory) ⊎ (stop_of self.old.core at refused.vertex refused.cause ≡ Some e)) }
+        ensures unchanged { OnErr result (self.new ≡ self.old) }
+    {
+        stop(self.alloc, &self.core, at, refused.cause, &refused.vertex)?;
+        self.refused += 1;
+        Ok(())
+    }
+}
+
+/// Stops a replay where the cause of a refusal does. The entry is at that byte.
+fn stop(
+    alloc: Global,
+    core: &Core,
+    at: u64,
+    cause: Cause,
+    vertex: &Vertex,
+) -> Result<(), StartFault>
+    requires { VertexFits vertex.now }
+    ensures goes_on { OnOk result ((stop_of core.now at vertex.now cause ≡ None) × (cause ≢ Causes.OutOfMemory)) }
+    ensures stops { IfErr result (λ e. (e ≡ Faults.OutOfMemory) ⊎ (stop_of core.now at vertex.now cause ≡ Some e)) }
+{
+    match cause {
+        Cause::Clash { known } => Err(clash(alloc, core, &known, vertex)?),
+        Cause::RecordsFull => Err(StartFault::RecordsFull(at)),
+        Cause::ParkFull => Err(StartFault::ParkFull(at)),
+        Cause::OutOfMemory => Err(StartFault::OutOfMemory),
+        Cause::BadSignature | Cause::Local(_) | Cause::Pair(_) => Ok(()),
+    }
+}
+
+/// The two units of one digest, as they are spelled.
+fn clash(
+    alloc: Global,
+    core: &Core,
+    known: &Digest,
+    vertex: &Vertex,
+) -> Result<StartFault, OutOfMemory>
+    requires { VertexFits vertex.now }
+    ensures { IfOk result (λ fault. fault ≡ clash_with core.now vertex.now known.now) }
+{
+    match vertex {
+        Vertex::Unit(other) => Ok(StartFault::Clash {
+            known: spelling_of(alloc, core.unit_of(known))?,
+            other: encode_unit(alloc, &other.unit)?,
+        }),
+        Vertex::Evidence(evidence) => Ok(StartFault::Clash {
+            known: encode_unit(alloc, &evidence.left.unit)?,
+            other: encode_unit(alloc, &evidence.right.unit)?,
+        }),
+        Vertex::Endorsement(_) => Ok(StartFault::Clash {
+            known: Bytes::new(alloc),
+            other: Bytes::new(alloc),
+        }),
+    }
+}
+
+/// The spelling of a unit, if there is one.
+fn spelling_of(alloc: Global, unit: Option<&SignedUnit>) -> Result<Bytes, OutOfMemory>
+    requires { IfSome unit (λ u. Fits u.now.unit) }
+    ensures { IfOk result (λ bytes. bytes ≡ spelling_of (option_copied unit.entry)) }
+{
+    match unit {
+        Some(signed) => encode_unit(alloc, &signed.unit),
+        None => Ok(Bytes::new(alloc)),
+    }
+}
+
+/// A replay behind the header that was read, if its configuration is wanted.
+fn begun(
+    alloc: Global,
+    reader: LogReader,
+    wanted: Option<&Config>,
+) -> Result<Replay, StartFault>
+    requires wanted { IfSome wanted (λ config. ConfigFits config.now) }
+    requires fits { ConfigFits reader.config }
+    requires limits { config_fault reader.config ≡ None }
+    ensures begun { IfOk result (λ r. IsBegun r reader (option_copied wanted.entry)) }
+    ensures stopped { IfErr result (λ e. (e ≡ Faults.OutOfMemory) ⊎ ((e ≡ Faults.OtherConfig) × (is_wanted (option_copied wanted.entry) reader.config ≡ false))) }
+{
+    if !is_wanted(alloc, wanted, reader.config())? {
+        return Err(StartFault::OtherConfig);
+    }
+    let config = reader.config().copy()?;
+    Ok(Replay {
+        alloc,
+        core: new_core(alloc, config)?,
+        reader,
+        refused: 0,
+        repeats: 0,
+    })
+}
+
+/// A node that has received nothing, of a configuration that keeps all limits.
+fn new_core(alloc: Global, config: Config) -> Result<Core, OutOfMemory>
+    requires fits { ConfigFits config }
+    requires limits { config_fault config ≡ None }
+    ensures { IfOk result (λ core. core ≡ record { config = config; journal = [] }) }
+{
+    match Core::new(alloc, config) {
+        Ok(core) => Ok(core),
+        Err(_) => Err(OutOfMemory),
+    }
+}
+
+/// Whether a configuration is the wanted one, if one is wanted.
+fn is_wanted(
+    alloc: Global,
+    wanted: Option<&Config>,
+    config: &Config,
+) -> Result<bool, OutOfMemory>
+    requires wanted { IfSome wanted (λ c. ConfigFits c.now) }
+    requires fits { ConfigFits config.now }
+    ensures { IfOk result (λ b. b ≡ is_wanted (option_copied wanted.entry) config.now) }
+{
+    match wanted {
+        Some(wanted) => {
+            let left = encode_config(alloc, wanted)?;
+            let right = encode_config(alloc, config)?;
+            Ok(left.as_slice() == right.as_slice())
+        }
+        None => Ok(true),
+    }
+}
+
+/// Replays the log under this name to its end.
+pub fn replay_log<F: Files>(
+    alloc: Global,
+    files: &mut F,
+    name: &str,
+    wanted: Option<&Config>,
+) -> Result<Replay, StartFault>
+    requires { IfSome wanted (λ config. ConfigFits config.now) }
+    ensures said { IsTrue F.tells → Replays (option_copied wanted.entry) (F.held files.old name.now) result }
+    ensures cause { HasReplayCause (F.read_faults files.old) (F.read_faults files.new) result }
+
+    ensures files { SameFiles (F.held files.old) (F.held files.new) }
+    ensures appends { F.append_faults files.new ≡ F.append_faults files.old }
+{
+    let mut replay = Replay::begin(alloc, files, name, wanted)?;
+    take_all(files, &mut replay)?;
+    Ok(replay)
+}
+
+/// Takes all entries that are left.
+fn take_all<F: Files>(files: &mut F, replay: &mut Replay) -> Result<(), StartFault>
+    requires { HasRoom replay.old (F.allowance files.old) }
+    ensures said { IsTrue F.tells → TakesAll (ahead_in replay.old (F.unread files.old)) (taken_in replay.new) result }
+    ensures cause { HasReplayCause (F.read_faults files.old) (F.read_faults files.new) result }
+
+    ensures files { SameFiles (F.held files.old) (F.held files.new) }
+    ensures appends { F.append_faults files.new ≡ F.append_faults files.old }
+{
+    'entries: while replay.step(files)? {}
+    Ok(())
+}
