@@ -16,6 +16,3 @@ mod state;
 pub use hw_rules::local;
 pub use start::StateStart;
 pub use state::State;
-
-#[cfg(test)]
-mod tests;

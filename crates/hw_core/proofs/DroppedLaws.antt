@@ -24,7 +24,7 @@ use Rattle.hw_core.specs.Keeps.{AreRules}
 -- ---- names without repeats
 
 -- no name comes twice
-abbrev AreDifferent : List Digest → Type 0
+abbrev pub AreDifferent : List Digest → Type 0
 AreDifferent [] = Unit {0}
 AreDifferent (d ∷ ds) = (Among d ds → ⊥) × AreDifferent ds
 
@@ -46,7 +46,7 @@ others d (e ∷ es) (inr m) = go (others d es m)
       kept = λ f n. elim n [ inl h ↦ inr (inl h) | inr p ↦ elim (o.kept f p) [ inl s ↦ inl s | inr q ↦ inr (inr q) ] ];
     }
 
-no_more : (ds es : List Digest) → AreDifferent ds → ((d : Digest) → Among d ds → Among d es) → length ds ≤ length es
+pub no_more : (ds es : List Digest) → AreDifferent ds → ((d : Digest) → Among d ds → Among d es) → length ds ≤ length es
 no_more [] es apart inside = omega arith
 no_more (d ∷ ds) es apart inside =
     let o = others d es (inside d (inl refl)) in
@@ -66,7 +66,7 @@ distinct_names (d ∷ ds) apart = (
   distinct_names ds (IsDistinct-tail digest_eq d ds apart),
 )
 
-rising_names : (xs : List Node) → IsRising xs → AreDifferent (map (λ (x : Node). x.digest) xs)
+pub rising_names : (xs : List Node) → IsRising xs → AreDifferent (map (λ (x : Node). x.digest) xs)
 rising_names [] rising = tt
 rising_names (x ∷ xs) rising = (
   λ m. (let y = map_among (λ (z : Node). z.digest) x.digest xs m in never_itself x (subst (λ (d : Digest). Before x (record { digest = d; unit = x.unit })) y.2 (rising.0 y.0 y.1))),

@@ -24,6 +24,7 @@ use Rattle.hw_dag.specs.Dag.{graph}
 use Rattle.hw_dag.specs.Admission.{PreparedUnit}
 use Rattle.hw_admit.specs.State.{NodeState, is_faulty_in}
 use Rattle.hw_park.specs.Parked.{Parked}
+use Rattle.hw_core.specs.Decided.{DecidedState, IsDecided}
 use Rattle.hw_core.specs.Keeps.{IsNode, IsTable, AreRules, IsChoice, IsKept}
 
 pub get_append : {A : Type 0} (xs ys : List A) (n : ℕ) (x : A) → slice_get xs n ≡ Some x → slice_get (xs ++ ys) n ≡ Some x
@@ -53,13 +54,13 @@ table_other s journal names v none other table = record {
     units : units_in s (journal ++ v ∷ []) ≡ units_in s journal ++ units_in s (v ∷ [])
     units = filter_map-append (unit_of_vertex s) journal (v ∷ [])
 
-module _ (instance : Digest) (journal : List Vertex) (names : List (Digest × ℕ)) (park : Parked PreparedUnit) (rules : List (Digest × Rule)) (room : ℕ) (state : NodeState) (fork : Option UnitNo)
-    (kept : IsKept instance journal names park rules room state fork) where
+module _ (instance : Digest) (journal : List Vertex) (names : List (Digest × ℕ)) (park : Parked PreparedUnit) (rules : List (Digest × Rule)) (room : ℕ) (state : NodeState) (fork : Option UnitNo) (decided : DecidedState)
+    (kept : IsKept instance journal names park rules room state fork decided) where
   -- what a node keeps after a delivery, of the same configuration
-  pub kept_with : (vs : List Vertex) (names' : List (Digest × ℕ)) (after : Parked PreparedUnit) (rules' : List (Digest × Rule)) (room' : ℕ) (later : NodeState) (fork' : Option UnitNo)
-      → later.config ≡ state.config → IsTable (setting_of state.config) vs names' → AreRules (setting_of state.config) vs rules' → length after.waiting ≤ room' → ((v : Vertex) → Among v vs → VertexFits v) → IsNode vs after later → IsChoice later fork'
-      → IsKept instance vs names' after rules' room' later fork'
-  kept_with vs names' after rules' room' later fork' same table rules_are places fit node choice = record {
+  pub kept_with : (vs : List Vertex) (names' : List (Digest × ℕ)) (after : Parked PreparedUnit) (rules' : List (Digest × Rule)) (room' : ℕ) (later : NodeState) (fork' : Option UnitNo) (decided' : DecidedState)
+      → later.config ≡ state.config → IsTable (setting_of state.config) vs names' → AreRules (setting_of state.config) vs rules' → length after.waiting ≤ room' → ((v : Vertex) → Among v vs → VertexFits v) → IsNode vs after later → IsChoice later fork' → IsDecided (setting_of later.config) vs later (length after.waiting) decided'
+      → IsKept instance vs names' after rules' room' later fork' decided'
+  kept_with vs names' after rules' room' later fork' decided' same table rules_are places fit node choice is_decided = record {
     instance_is = kept.instance_is ∙ ap (λ (c : Config). instance_of c) (sym same);
     table = subst (λ (c : Config). IsTable (setting_of c) vs names') (sym same) table;
     rules_are = subst (λ (c : Config). AreRules (setting_of c) vs rules') (sym same) rules_are;
@@ -67,6 +68,7 @@ module _ (instance : Digest) (journal : List Vertex) (names : List (Digest × �
     fit = fit;
     node = node;
     fork_is = choice;
+    decided_is = is_decided;
   }
 
   -- one vertex more that fits

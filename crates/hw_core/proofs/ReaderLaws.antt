@@ -40,6 +40,9 @@ use Rattle.hw_park.specs.Parked.{Parked}
 use Rattle.hw_core.specs.declared.place.Place.TheVariants as place
 use Rattle.hw_core.specs.declared.unmet.Search.TheVariants as search
 use Rattle.hw_core.specs.Settle.{known_in, rule_in}
+use Rattle.hw_finality.specs.Detected.{decisions_of as found_in}
+use Rattle.hw_core.specs.Decided.{DecidedState, decided_in}
+use Rattle.hw_core.proofs.DecidedLaws.{decided_is}
 use Rattle.hw_core.specs.Keeps.{IsKept}
 use Rattle.hw_core.specs.Missing.{IsFoundIn}
 use Rattle.hw_core.specs.Readers.{signed_unit, unit_in, missed_by, missing_needs, IsPlace, IsUnsettled, fork_in}
@@ -107,8 +110,8 @@ map_twice : {A B C : Type 0} (g : B → C) (f : A → B) (o : Option A) → opti
 map_twice g f None = refl
 map_twice g f (Some a) = refl
 
-module _ (instance : Digest) (journal : List Vertex) (names : List (Digest × ℕ)) (park : Parked PreparedUnit) (rules : List (Digest × Rule)) (room : ℕ) (state : NodeState) (fork : Option UnitNo)
-    (kept : IsKept instance journal names park rules room state fork) where
+module _ (instance : Digest) (journal : List Vertex) (names : List (Digest × ℕ)) (park : Parked PreparedUnit) (rules : List (Digest × Rule)) (room : ℕ) (state : NodeState) (fork : Option UnitNo) (decided : DecidedState)
+    (kept : IsKept instance journal names park rules room state fork decided) where
   abbrev pub core : CoreState
   core = record { config = state.config; journal = journal }
 
@@ -289,3 +292,9 @@ module _ (instance : Digest) (journal : List Vertex) (names : List (Digest × �
   pub given_fits : (r : Option (Bor SignedUnit)) (d : Digest) → Given names journal r d → IfSome r (λ known. Fits known.now.unit)
   given_fits (Some known) d found = (unit_found d known.now found.0 found.1 found.2).fit
   given_fits None d found = tt
+
+  -- ---- decided blocks
+
+  pub decisions_is : decided.decisions ≡ decided_in core
+  decisions_is =
+      kept.decided_is.told.listed ∙ decided_is state.config journal (found_in state.dag decided.detector.found) kept.decided_is.are

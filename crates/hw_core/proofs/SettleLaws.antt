@@ -18,7 +18,7 @@ use Rattle.hw_types.proofs.StableLaws.{and_whole}
 use Rattle.hw_types.proofs.EntryLaws.{map_among, among_map, append_cases, by_name_more, by_name_append, same_named}
 use Rattle.hw_types.proofs.UnionLaws.{from_left, from_right}
 use Rattle.hw_types.specs.declared.unit.SignedUnit.{SignedUnit}
-use Rattle.hw_dag.specs.Dag.{UnitGraph, by_name_of, graph, node_of, node_at}
+use Rattle.hw_dag.specs.Dag.{SettledUnit, UnitGraph, GrowsTo, by_name_of, graph, node_of, node_at}
 use Rattle.hw_dag.specs.Admission.{PreparedUnit, AllKnown, IsGraph, IsNew, node_prepared, settled_from}
 use Rattle.hw_dag.proofs.NodeLaws.{node_among}
 use Rattle.hw_rules.proofs.LocalLaws.{fits}
@@ -26,7 +26,7 @@ use Rattle.hw_rules.specs.Judged.{KeepsLocalRules}
 use Rattle.hw_admit.specs.State.{NodeState, IsAdmitted, MarksAreMet, is_marked, is_faulty_in}
 use Rattle.hw_admit.proofs.FaultyLaws.{faulty_same}
 use Rattle.hw_park.specs.Parked.{Waiting, struck}
-use Rattle.hw_core.specs.Settle.{known_in, admitted_in, waiting_nodes, IsUnknown, IsUnawaited, AreApart, AreWaiting, Awaits, CanSettle, IsDue, KnowsTheSame, IsDropped, HasSettled}
+use Rattle.hw_core.specs.Settle.{known_in, admitted_in, waiting_nodes, IsUnknown, IsUnawaited, AreApart, AreWaiting, Awaits, CanSettle, IsDue, KnowsTheSame, IsDropped, HasSettled, HasMoreRoom}
 use Rattle.hw_core.proofs.NeedLaws.{cited_met, marked_met}
 use Rattle.hw_core.proofs.WaitLaws.{length_struck, waiting_unit, waiting_both, IsHandedOut}
 
@@ -53,6 +53,32 @@ one_more nodes x unknown = record {
 pub graph_is : (s : NodeState) → graph s.dag ≡ by_name (admitted_in s)
 unfolding by_name_of
 graph_is s = refl
+
+append_nothing : (us : List SettledUnit) → us ≡ us ++ []
+append_nothing [] = refl
+append_nothing (u ∷ us) = ap (λ (vs : List SettledUnit). u ∷ vs) (append_nothing us)
+
+append_both : (us vs ws : List SettledUnit) → (us ++ vs) ++ ws ≡ us ++ (vs ++ ws)
+append_both [] vs ws = refl
+append_both (u ∷ us) vs ws = ap (λ (xs : List SettledUnit). u ∷ xs) (append_both us vs ws)
+
+pub grows_itself : (dag : UnitGraph) → GrowsTo dag dag
+grows_itself dag = record { validators_are = refl; more = []; units_are = append_nothing dag.units }
+
+pub grows_then : (dag between later : UnitGraph) → GrowsTo dag between → GrowsTo between later → GrowsTo dag later
+grows_then dag between later first second = record {
+  validators_are = second.validators_are ∙ first.validators_are;
+  more = first.more ++ second.more;
+  units_are = second.units_are ∙ ap (λ (us : List SettledUnit). us ++ second.more) first.units_are ∙ append_both dag.units first.more second.more;
+}
+
+-- more room
+pub grows_roomy : (s later : NodeState) → HasMoreRoom s later → GrowsTo s.dag later.dag
+grows_roomy s later more = subst (λ (t : NodeState). GrowsTo s.dag t.dag) (sym more.unchanged) (record { validators_are = refl; more = []; units_are = append_nothing s.dag.units })
+
+-- one unit more
+pub grows_one : (weights : List ℕ) (dag : UnitGraph) (p : PreparedUnit) (later : UnitGraph) → IsAdmitted weights dag p later → GrowsTo dag later
+grows_one weights dag p later admitted = subst (λ (d : UnitGraph). GrowsTo dag d) (sym admitted.grown) (record { validators_are = refl; more = settled_from dag p admitted.fork ∷ []; units_are = refl })
 
 known_same : (s later : NodeState) → KnowsTheSame s later → known_in later ≡ known_in s
 known_same s later same = λ i. record { units = []; with_evidence = filter (is_marked (same.marked i)) (range_with_len 0 (length (same.marked i))); endorsements = same.pairs i }
@@ -153,11 +179,11 @@ module _ (s : NodeState) (waiting left : List (Waiting PreparedUnit)) (p : Prepa
 -- ---- a run of settlements
 
 same_then : (s t later : NodeState) → KnowsTheSame s t → KnowsTheSame t later → KnowsTheSame s later
-same_then s t later first second = record { config = second.config ∙ first.config; marked = second.marked ∙ first.marked; pairs = second.pairs ∙ first.pairs }
+same_then s t later first second = record { config = second.config ∙ first.config; grows = grows_then s.dag t.dag later.dag first.grows second.grows; marked = second.marked ∙ first.marked; pairs = second.pairs ∙ first.pairs }
 
 pub settled_none : (s : NodeState) (waiting : List (Waiting PreparedUnit)) → HasSettled s waiting s waiting
 settled_none s waiting = record {
-  same = record { config = refl; marked = refl; pairs = refl };
+  same = record { config = refl; grows = grows_itself s.dag; marked = refl; pairs = refl };
   run = Admits.begin;
   still = λ x m. m;
   placed = λ x m. inr (inl m);

@@ -35,6 +35,7 @@ use Rattle.hw_park.specs.Parked.{Parked}
 use Rattle.hw_core.specs.Keeps.{IsNode, IsTable}
 use Rattle.hw_core.specs.Deliver.{answer_to, MayWantMemory}
 use Rattle.hw_core.specs.Units.{IsNewUnit}
+use Rattle.hw_core.proofs.FreshLaws.{fresh_clash, fresh_unit}
 use Rattle.hw_core.proofs.AnswerLaws.{answer_refused, answer_repeat, answer_full, answer_memory}
 
 pub verdict_broken : (o : Option Rule) (rule : Rule) → Err rule ≡ verdict_of o → o ≡ Some rule
@@ -119,27 +120,15 @@ module _ (journal : List Vertex) (park : Parked PreparedUnit) (state : NodeState
       fresh : (x : Node) → Among x (units_in s journal) → x.digest ≢ s.name u.unit
       fresh = table.unknown (s.name u.unit) unlisted
 
-      fresh_clash : (x : Node) → Among x k.units → clashes s u.unit x ≡ false
-      fresh_clash x m = elim (either (digest_eq (s.name u.unit) x.digest)) [
-        | inr f ↦ ap (λ (b : Bool). b && not (unit_eq u.unit x.unit)) f
-        | inl t ↦ absurd (fresh x (received_in s journal x m) (sym (digest_same (s.name u.unit) x.digest t)))
-      ]
-
-      fresh_unit : (x : Node) → Among x k.units → unit_eq x.unit u.unit ≡ false
-      fresh_unit x m = other_unit x.unit u.unit (λ same.
-          let from = mapped_among (unit_of_vertex s) x journal (received_in s journal x m) in
-          let w = unit_vertex s from.0 x from.2 in
-          fresh x (received_in s journal x m) (ap (λ (z : Node). z.digest) w.2 ∙ ap s.name (sym (ap (λ (z : Node). z.unit) w.2) ∙ same)))
-
       pub unit_full : state.config.max_records ≤ length journal → answer_to state.config journal v ≡ Err cause.RecordsFull
-      unit_full le = answer_full s journal v (refusal_is false (none_any (clashes s u.unit) k.units fresh_clash)) (none_any (λ (x : Node). unit_eq x.unit u.unit) k.units fresh_unit) (grind (arith, nat_tests))
+      unit_full le = answer_full s journal v (refusal_is false (none_any (clashes s u.unit) k.units (fresh_clash s journal u.unit fresh))) (none_any (λ (x : Node). unit_eq x.unit u.unit) k.units (fresh_unit s journal u.unit fresh)) (grind (arith, nat_tests))
 
       pub new_unit : (name : Digest) → name ≡ digest_of u.unit → length journal < state.config.max_records → IsNewUnit state.config journal u name
       new_unit name is lt = record {
         name_is = is;
         local = local;
         fresh = λ x m e. fresh x m (e ∙ is);
-        not_refused = refusal_is false (none_any (clashes s u.unit) k.units fresh_clash);
-        not_repeat = none_any (λ (x : Node). unit_eq x.unit u.unit) k.units fresh_unit;
+        not_refused = refusal_is false (none_any (clashes s u.unit) k.units (fresh_clash s journal u.unit fresh));
+        not_repeat = none_any (λ (x : Node). unit_eq x.unit u.unit) k.units (fresh_unit s journal u.unit fresh);
         room = grind (arith, nat_tests);
       }

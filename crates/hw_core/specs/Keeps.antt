@@ -22,6 +22,7 @@ use Rattle.hw_dag.specs.Admission.{PreparedUnit}
 use Rattle.hw_admit.specs.State.{NodeState, is_marked}
 use Rattle.hw_park.specs.Parked.{Waiting, Parked}
 use Rattle.hw_core.specs.Settle.{CanSettle, waiting_nodes, rule_in}
+use Rattle.hw_core.specs.Decided.{DecidedState, IsDecided}
 
 -- the state knows of evidence and endorsements what was received
 pub record KnowsOf (received : Received) (state : NodeState) : Type 0 where
@@ -68,7 +69,7 @@ pub record IsChoice (state : NodeState) (fork : Option UnitNo) : Type 0 where
   pub known : IfSome fork (λ no. no.0 < count_of state.dag)
 
 -- What a node keeps stands to its journal as the definitions say, and there is room for the rule of each unit that waits.
-pub record IsKept (instance : Digest) (journal : List Vertex) (names : List (Digest × ℕ)) (park : Parked PreparedUnit) (rules : List (Digest × Rule)) (room : ℕ) (state : NodeState) (fork : Option UnitNo) : Type 0 where
+pub record IsKept (instance : Digest) (journal : List Vertex) (names : List (Digest × ℕ)) (park : Parked PreparedUnit) (rules : List (Digest × Rule)) (room : ℕ) (state : NodeState) (fork : Option UnitNo) (decided : DecidedState) : Type 0 where
   pub instance_is : instance ≡ instance_of state.config
   pub table : IsTable (setting_of state.config) journal names
   pub rules_are : AreRules (setting_of state.config) journal rules
@@ -76,3 +77,4 @@ pub record IsKept (instance : Digest) (journal : List Vertex) (names : List (Dig
   pub fit : (v : Vertex) → Among v journal → VertexFits v
   pub node : IsNode journal park state
   pub fork_is : IsChoice state fork
+  pub decided_is : IsDecided (setting_of state.config) journal state (length park.waiting) decided

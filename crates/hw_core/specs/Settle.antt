@@ -11,7 +11,7 @@ use Rattle.hw_types.specs.ByName.{by_name}
 use Rattle.hw_types.specs.Rules.{state_rule}
 use Rattle.hw_types.specs.Settled.{Received, missing_of}
 use Rattle.hw_types.specs.laws.StateLaws.{Admits}
-use Rattle.hw_dag.specs.Dag.{node_of, graph}
+use Rattle.hw_dag.specs.Dag.{GrowsTo, node_of, graph}
 use Rattle.hw_dag.specs.Admission.{PreparedUnit, node_prepared}
 use Rattle.hw_rules.specs.Judged.{KeepsLocalRules}
 use Rattle.hw_admit.specs.State.{NodeState, is_marked}
@@ -72,9 +72,10 @@ pub record IsDue (s : NodeState) (waiting : List (Waiting PreparedUnit)) (p : Pr
 
 -- ---- what becomes of it
 
--- the state knows the same of evidence and endorsements
+-- the state has the units that it had, and knows the same of evidence and endorsements
 pub record KnowsTheSame (s later : NodeState) : Type 0 where
   pub config : later.config ≡ s.config
+  pub grows : GrowsTo s.dag later.dag
   pub marked : later.marked ≡ s.marked
   pub pairs : later.pairs ≡ s.pairs
 

@@ -199,3 +199,31 @@ module _ (dag : UnitGraph) (g : IsGraph dag) where
           (node_at dag low) h) in
           let same = same_node dag g all.0 low all.1 (omega arith) all.2 in
           subst (λ (k : ℕ). is_marked marked k ≡ true) same (all.4 (omega arith))
+
+  -- what a unit on the lane has below it, the unit has
+  pub seen_along : (low middle high : ℕ) → low < count_of dag → middle < count_of dag → high < count_of dag → is_seen dag low middle ≡ true → is_lane_below dag middle high ≡ true → is_seen dag low high ≡ true
+  seen_along low middle high lo mi hi t on = elim (seen_cases dag g middle high mi hi (lane_is_seen dag g middle high mi hi on)) [
+    | inl same ↦ subst (λ (k : ℕ). is_seen dag low k ≡ true) same t
+    | inr below ↦ elim (seen_cases dag g low middle lo mi t) [
+      | inl own ↦ past_seen dag g low high (subst (λ (k : ℕ). Among (node_at dag k) (history dag g high)) (sym own) below)
+      | inr lower ↦ past_seen dag g low high (past_within high middle mi below (node_at dag low) lower)
+    ]
+  ]
+
+  -- and so is what a cited unit has
+  pub seen_through : (low cited high : ℕ) → low < count_of dag → high < count_of dag → is_seen dag low cited ≡ true → Cites dag high cited → is_seen dag low high ≡ true
+  seen_through low cited high lo hi t c =
+      let less = cites_earlier high cited hi c in
+      let mi : cited < count_of dag = omega arith in
+      let below = cited_below high cited hi c in
+      elim (seen_cases dag g low cited lo mi t) [
+        | inl own ↦ past_seen dag g low high (subst (λ (k : ℕ). Among (node_at dag k) (history dag g high)) (sym own) below)
+        | inr lower ↦ past_seen dag g low high (past_within high cited mi below (node_at dag low) lower)
+      ]
+
+  -- what is on the lane that a unit cites of the creator it has below it
+  pub seen_on_cited : (low high : ℕ) (last : UnitNo) → low < count_of dag → high < count_of dag → view_at (unit_at dag high).panorama (creator_of (unit_at dag low)) ≡ view.Correct last
+      → is_lane_below dag low last.0 ≡ true → is_seen dag low high ≡ true
+  seen_on_cited low high last lo hi e on =
+      let known = (g.settled high hi).panorama_is.known (creator_of (unit_at dag low)) last e in
+      seen_through low last.0 high lo hi (lane_is_seen dag g low last.0 lo known on) (record { slot = creator_of (unit_at dag low); number = last; seen = e; is = refl })

@@ -88,6 +88,7 @@ impl Dag {
         ensures kept { self.old.spare ≤ self.new.spare }
         ensures units { self.new.units ≡ self.old.units }
         ensures validators { self.new.validators ≡ self.old.validators }
+        ensures graph { IsGraph self.new }
     {
         if self.spare < count {
             self.units.reserve(count as usize)?;
@@ -134,6 +135,13 @@ impl Dag {
         ensures graph { IsGraph self.now }
     {
         self.units.len() as u32
+    }
+
+    /// Recalls what is said of each graph, that it holds of this one. It does nothing.
+    pub fn recall_graph(&self)
+        ensures { IsGraph self.now }
+    {
+        let _ = &self.units;
     }
 
     /// How many validators there are.

@@ -28,6 +28,3 @@ pub use numbers::{Panorama, UnitNo, View};
 pub use preparing::{NoRoom, Prepared};
 pub use scratch::Marks;
 pub use settled::Unit;
-
-#[cfg(test)]
-mod tests;

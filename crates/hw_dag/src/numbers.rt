@@ -64,7 +64,7 @@ impl Panorama {
     }
 
     /// What is seen of each validator, in their order.
-    pub(crate) fn views(&self) -> &[View]
+    pub fn views(&self) -> &[View]
         ensures { result.now ≡ self.now }
     {
         self.views.as_slice()

@@ -1,50 +1,21 @@
 -- Which levels have to be asked.
-use Rattle.std.proofs.Common.{◌≡◌, ℕ, zero, suc, ◌+◌, ◌-◌, ◌*◌, ◌^◌, ◌≤◌, ◌<◌, inl, inr, List, [], ◌∷◌, ◌++◌, length, None, sym, ap, subst, ◌∙◌, arith, length-append}
+use Rattle.std.proofs.Common.{◌≡◌, ℕ, ◌+◌, ◌^◌, ◌≤◌, ◌<◌, inl, inr, List, [], ◌∷◌, ◌++◌, length, None, sym, ap, subst, ◌∙◌, arith, length-append}
 use Rattle.std.specs.Prelude.{sum, slice_index_or}
 use Rattle.std.proofs.lemmas.Bool.{cases_lt}
 use Rattle.std.proofs.lemmas.List.{get_or_append_left}
 use Rattle.std.proofs.Math.Seq.{get_or-append_seam}
-use Rattle.std.proofs.Math.Nat.{pow-suc}
-use Rattle.std.proofs.lemmas.Nat.{pow_pos}
 use Rattle.hw_types.specs.declared.config.Config.{Config}
-use Rattle.hw_types.specs.Quorum.{IsEnough, IsQuorum}
+use Rattle.hw_types.specs.Quorum.{IsQuorum}
 use Rattle.hw_types.specs.Limits.{config_fault}
 use Rattle.hw_types.proofs.LimitLaws.{within_limits}
 use Rattle.hw_dag.specs.declared.numbers.View.{View}
-use Rattle.hw_dag.specs.Dag.{UnitGraph, graph, observations, node_at}
-use Rattle.hw_horizon.proofs.LesserLaws as lesser
+use Rattle.hw_dag.specs.Dag.{UnitGraph}
 use Rattle.hw_finality.specs.Detected.{HasSummitAt, IsLeastLevel, HasNoLevel, AreQuorums}
-
--- ---- quorums fall as levels rise
-
-enough_twice : (ftt surplus power : ℕ) → 0 < power → ftt * power < surplus * (power - 1) → ftt * (power * 2) < surplus * (power * 2 - 1)
-enough_twice ftt surplus power some e =
-    let one : power - 1 + 1 ≡ power = omega arith in
-    let two : power * 2 - 1 ≡ (power - 1) * 2 + 1 = omega arith in
-    let wide : surplus * ((power - 1) * 2 + 1) ≡ surplus * (power - 1) * 2 + surplus = omega arith in
-    let low : ftt * (power * 2) ≡ ftt * power * 2 = omega arith in
-    rw (two, wide, low) (omega arith)
-
--- what is enough at a level is enough at the next
-enough_next : (total ftt level q : ℕ) → IsEnough total ftt level q → IsEnough total ftt (suc level) q
-enough_next total ftt level q e =
-    let p = pow-suc 2 level in
-    let some = pow_pos level in
-    rw p (enough_twice ftt (2 * q - total) (2 ^ level) some e)
-
-enough_above : (total ftt level more q : ℕ) → IsEnough total ftt level q → IsEnough total ftt (level + more) q
-enough_above total ftt level zero q e = let same : level + 0 ≡ level = omega arith in rw same e
-enough_above total ftt level (suc more) q e = let same : level + suc more ≡ suc (level + more) = omega arith in rw same (enough_next total ftt (level + more) q (enough_above total ftt level more q e))
-
-pub quorums_fall : (total ftt lower upper p q : ℕ) → lower ≤ upper → IsQuorum total ftt lower p → IsQuorum total ftt upper q → q ≤ p
-quorums_fall total ftt lower upper p q le is_p is_q =
-    let same : lower + (upper - lower) ≡ upper = omega arith in
-    is_q.least p (subst (λ l. IsEnough total ftt l p) same (enough_above total ftt lower (upper - lower) p is_p.enough))
 
 pub quorum_same : (total ftt level p q : ℕ) → IsQuorum total ftt level p → IsQuorum total ftt level q → p ≡ q
 quorum_same total ftt level p q is_p is_q =
-    let a = quorums_fall total ftt level level p q (omega arith) is_p is_q in
-    let b = quorums_fall total ftt level level q p (omega arith) is_q is_p in
+    let a = is_p.least q is_q.enough in
+    let b = is_q.least p is_p.enough in
     omega arith
 
 -- ---- the levels of a configuration
@@ -64,27 +35,9 @@ module _ (config : Config) (dag : UnitGraph) (panorama : List View) (block : ℕ
   abbrev at_place : ℕ → ℕ
   at_place k = slice_index_or quorums k 0
 
-  abbrev least : ℕ
-  least = at_place (length quorums - 1)
-
-  some_levels : 1 ≤ length quorums
-  some_levels = are.some
-
-  -- the quorum of a level is at least the last one
-  least_of : (level quorum : ℕ) → level ≤ config.levels → IsQuorum (sum config.weights) config.ftt level quorum → least ≤ quorum
-  least_of level quorum high q =
-      let some = are.some in
-      let long = are.length_is in
-      let same : length quorums - 1 + 1 ≡ length quorums = omega arith in
-      let top = subst (λ l. IsQuorum (sum config.weights) config.ftt l least) same (are.each (length quorums - 1) (omega arith)) in
-      quorums_fall (sum config.weights) config.ftt level (length quorums) quorum least (omega arith) q top
-
-  -- where the least quorum gives no summit of a level, there is none from there on
-  pub none_from : (below : ℕ) → NoneUpTo config dag panorama block below → (HasSummitAt config dag panorama block (below + 1) least → ⊥) → HasNoLevel config dag panorama block
-  none_from below none lacks = λ level quorum low high q t. elim (cases_lt level (below + 1)) [
-    | inl lt ↦ none level quorum low (omega arith) q t
-    | inr le ↦ lacks (lesser.lesser_summits config.weights (graph dag) (observations dag panorama) (node_at dag block) level quorum (below + 1) least le (least_of level quorum high q) t)
-  ]
+  -- where no level has one
+  pub none_at_all : NoneUpTo config dag panorama block config.levels → HasNoLevel config dag panorama block
+  none_at_all none = none
 
   -- one level more
   pub none_more : (below : ℕ) → below < length quorums → NoneUpTo config dag panorama block below → (HasSummitAt config dag panorama block (below + 1) (at_place below) → ⊥) → NoneUpTo config dag panorama block (below + 1)

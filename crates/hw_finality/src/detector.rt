@@ -12,7 +12,7 @@ use crate::list::FoundList;
 use crate::quorums::quorums_of;
 use crate::search::search;
 use hw_dag::{Dag, Panorama, UnitNo};
-use hw_horizon::Horizons;
+use hw_horizon::{Bounds, Horizons};
 use hw_types::{Config, OutOfMemory};
 use std::alloc::Global;
 use std::marker::Model;
@@ -25,6 +25,7 @@ pub struct Detector {
     /// The quorum of each level from 1 on.
     quorums: Vec<u64>,
     horizons: Horizons,
+    bounds: Bounds,
     found: FoundList,
 }
 
@@ -38,12 +39,14 @@ impl Model for Detector {
       spare = d.found.spare;
       found = d.found.blocks;
       walks = d.horizons.walks;
+      bounds = d.bounds;
     } };
 
     ghost use Rattle.std.specs.Prelude.{◌≡◌, length};
+    ghost use Rattle.hw_horizon.specs.Bounds.{AreWide};
     ghost use Rattle.hw_finality.specs.Detected.{AreQuorums};
 
-    ghost invariant = { λ d. AreQuorums d.config d.quorums.items × (d.horizons.validators ≡ length d.config.weights) × (d.horizons.levels ≡ d.config.levels) };
+    ghost invariant = { λ d. AreQuorums d.config d.quorums.items × (d.horizons.validators ≡ length d.config.weights) × (d.horizons.levels ≡ d.config.levels) × AreWide (length d.config.weights) d.bounds };
 }
 
 impl Detector {
@@ -54,10 +57,13 @@ impl Detector {
         ensures empty { IfOk result (λ detector. detector.found ≡ []) }
         ensures kept { IfOk result (λ detector. (dag : UnitGraph) → IsTrueOf detector dag) }
     {
+        let validators = config.weights.len() as u32;
+        let levels = u32::from(config.levels);
         Ok(Detector {
             config: config.copy()?,
             quorums: quorums_of(alloc, config)?,
-            horizons: Horizons::new(alloc, config.weights.len() as u32, u32::from(config.levels))?,
+            horizons: Horizons::new(alloc, validators, levels)?,
+            bounds: Bounds::new(alloc, validators, levels)?,
             found: FoundList::new(alloc),
         })
     }
@@ -106,6 +112,7 @@ impl Detector {
         outcome_of(search(
             &mut self.found,
             &mut self.horizons,
+            &mut self.bounds,
             &self.config,
             self.quorums.as_slice(),
             dag,

@@ -6,7 +6,6 @@ ghost use Rattle.hw_dag.specs.Admission.{IsGraph};
 ghost use Rattle.hw_forks.specs.Votes.{AreVotes, IsVote};
 ghost use Rattle.hw_forks.specs.Walk.{is_over, votes_towards};
 
-use crate::ancestors::ancestor_at;
 use crate::votes::Vote;
 use hw_dag::{Dag, UnitNo};
 
@@ -37,5 +36,5 @@ fn is_towards(dag: &Dag, vote: &Vote, block: UnitNo) -> bool
     ensures { result ≡ is_over dag.now block.0 vote.now.block.0 }
 {
     let height = dag.unit(block).height().unwrap_or(0);
-    height <= vote.height && ancestor_at(dag, vote.block, height) == block
+    height <= vote.height && dag.ancestor(vote.block, height) == block
 }

@@ -10,7 +10,7 @@ ghost use Rattle.hw_forks.specs.declared.votes.Vote.{Vote as Voted};
 ghost use Rattle.hw_forks.specs.Votes.{AreVotes, height_at};
 ghost use Rattle.hw_forks.specs.Walk.{IsCommon, IsOnTheWay, HasNoCommonChild};
 
-use crate::ancestors::{ancestor_at, children_height};
+use crate::ancestors::children_height;
 use crate::votes::Vote;
 use hw_dag::{Dag, UnitNo};
 
@@ -82,7 +82,7 @@ fn leads_up(dag: &Dag, vote: &Vote, top: UnitNo) -> bool
     requires within { vote.now.height ≤ height_at dag.now top.0 }
     ensures { IsTrue result → IsAncestor dag.now vote.now.block.0 top.0 }
 {
-    vote.block == top || ancestor_at(dag, top, vote.height) == vote.block
+    vote.block == top || dag.ancestor(top, vote.height) == vote.block
 }
 
 // The highest block from which all votes descend, as they do from the place. Where they have one
@@ -122,9 +122,9 @@ fn agreed(votes: &[Vote], dag: &Dag, height: u64) -> Option<UnitNo>
     ensures height { IfSome result (λ no. height_at dag.now no.0 ≡ height) }
     ensures none { IfNone result ((c : ℕ) → IsCommon dag.now votes.now c → height_at dag.now c < height) }
 {
-    let block = ancestor_at(dag, votes[0].block, height);
+    let block = dag.ancestor(votes[0].block, height);
     for vote in votes {
-        if ancestor_at(dag, vote.block, height) != block {
+        if dag.ancestor(vote.block, height) != block {
             return None;
         }
     }

@@ -10,7 +10,6 @@ ghost use Rattle.hw_dag.specs.Lanes.{IsAncestor};
 ghost use Rattle.hw_forks.specs.Votes.{AreVotes, IsVote};
 ghost use Rattle.hw_forks.specs.Walk.{score_in, IsBest, HasNoSupport, IsChild, HoldsTallies, IsHeavier};
 
-use crate::ancestors::ancestor_at;
 use crate::votes::Vote;
 use hw_dag::{Dag, UnitNo};
 
@@ -59,7 +58,7 @@ fn child_towards(dag: &Dag, vote: &Vote, place: Option<UnitNo>, height: u64) -> 
     if vote.height < height {
         return None;
     }
-    let child = ancestor_at(dag, vote.block, height);
+    let child = dag.ancestor(vote.block, height);
     if dag.unit(child).parent() == place {
         Some(child)
     } else {

@@ -41,10 +41,11 @@ use Rattle.hw_types.proofs.OrderLaws.{Accepted, accepted, apart_after, unit_vert
 use Rattle.hw_types.proofs.LaneLaws.{lane_within, lane_creator, lane_number}
 use Rattle.hw_types.proofs.TipLaws.{tip_top, top_is_tip, tip_or_none, slot_over, other_slots}
 use Rattle.hw_types.proofs.StepLaws.{new_known, old_or_new}
-use Rattle.hw_honest.specs.OneLine.{OneLine, BringsNoNew, units_by, settled_by}
+use Rattle.hw_honest.specs.OneLine.{OneLine, BringsNoNew, units_by}
 use Rattle.hw_honest.proofs.LineLaws.{one_on_lane}
 use Rattle.hw_types.proofs.DistinctLaws.{distinct_length, rising_distinct, map_distinct, range_distinct}
 use Rattle.hw_types.proofs.ReceiptLaws.{local_none}
+use Rattle.hw_plans.specs.Plans.{settled_in}
 
 -- ---- small facts
 
@@ -235,8 +236,8 @@ begins s me = record { settled = λ x m. absurd (none x (is_by s [] me x m).0); 
 -- ---- one unit more by the validator
 
 module _ (s : Setting) (journal : List Vertex) (me : ℕ) (apart : NamesApart (units_in s journal)) (one : OneLine s journal me) (u : SignedUnit) (own : u.unit.creator ≡ me)
-    (number : u.unit.seq ≡ next_seq (latest (settled_by s journal) (panorama_of s.config (received_of s journal)) me))
-    (ok : Accepted s journal (vertex.Unit u)) (there : Among (named s u.unit) (settled_by s (journal ++ vertex.Unit u ∷ []))) where
+    (number : u.unit.seq ≡ next_seq (latest (settled_in s journal) (panorama_of s.config (received_of s journal)) me))
+    (ok : Accepted s journal (vertex.Unit u)) (there : Among (named s u.unit) (settled_in s (journal ++ vertex.Unit u ∷ []))) where
   abbrev later : List Vertex
   later = journal ++ vertex.Unit u ∷ []
 
@@ -244,7 +245,7 @@ module _ (s : Setting) (journal : List Vertex) (me : ℕ) (apart : NamesApart (u
   x = named s u.unit
 
   abbrev Sl : List Node
-  Sl = settled_by s later
+  Sl = settled_in s later
 
   old_or_x : (y : Node) → Among y (units_by s later me) → Among y (units_by s journal me) ⊎ (y ≡ x)
   old_or_x y m =
@@ -257,7 +258,7 @@ module _ (s : Setting) (journal : List Vertex) (me : ℕ) (apart : NamesApart (u
           let e : vertex.Unit u ≡ vertex.Unit w.0 = w.1 in
           w.2 ∙ ap (λ (z : SignedUnit). named s z.unit) (let same : w.0 ≡ u = cc in same)
 
-  grows : (y : Node) → Among y (settled_by s journal) → Among y Sl
+  grows : (y : Node) → Among y (settled_in s journal) → Among y Sl
   grows = settled_grows s.config (received_of s journal) (received_rising s journal) (received_of s later) (received_rising s later) (longer_extends s journal (vertex.Unit u ∷ []))
 
   all_settled : (y : Node) → Among y (units_by s later me) → Among y Sl
@@ -322,7 +323,7 @@ module _ (s : Setting) (journal : List Vertex) (me : ℕ) (apart : NamesApart (u
   still_by : (y : Node) → Among y (units_by s journal me) → Among y (units_by s then me)
   still_by y m = let p = is_by s journal me y m in by_has s then me y ((longer_extends s journal (v ∷ [])).units y p.0) p.1
 
-  still_settled : (y : Node) → Among y (settled_by s journal) → Among y (settled_by s then)
+  still_settled : (y : Node) → Among y (settled_in s journal) → Among y (settled_in s then)
   still_settled = settled_grows s.config (received_of s journal) (received_rising s journal) (received_of s then) (received_rising s then) (longer_extends s journal (v ∷ []))
 
   no_new_evidence : (w : Vertex) → v ≡ w → Among me (filter_map evidence_in (w ∷ [])) → ⊥
@@ -342,7 +343,7 @@ module _ (s : Setting) (journal : List Vertex) (me : ℕ) (apart : NamesApart (u
     settled = λ y m. still_settled y (one.settled y (old_by y m));
     line = elim one.line [
       | inl none ↦ inl (empty_of (units_by s then me) (λ y m. subst (λ zs. Among y zs) none (old_by y m)))
-      | inr t ↦ inr (t.0, still_by t.0 t.1, λ y m. reach_more follows (λ a. node_eq a t.0) (settled_by s journal) (settled_by s then) still_settled y (t.2 y (old_by y m)))
+      | inr t ↦ inr (t.0, still_by t.0 t.1, λ y m. reach_more follows (λ a. node_eq a t.0) (settled_in s journal) (settled_in s then) still_settled y (t.2 y (old_by y m)))
     ];
     no_evidence = λ m. elim (append_cases me (filter_map evidence_in journal) (filter_map evidence_in (v ∷ [])) (subst (λ vs. Among me vs) (filter_map-append evidence_in journal (v ∷ [])) m)) [
       | inl h ↦ one.no_evidence h
@@ -354,10 +355,10 @@ module _ (s : Setting) (journal : List Vertex) (me : ℕ) (apart : NamesApart (u
 
 -- the unit lacks nothing and breaks no rule of the state where the journal stands
 abbrev pub Settles : Setting → List Vertex → WireUnit → Type 0
-Settles s journal u = (missing_of s.config (received_of s journal) (settled_by s journal) (named s u) ≡ []) × (state_rule s.config (settled_by s journal) (named s u) ≡ None)
+Settles s journal u = (missing_of s.config (received_of s journal) (settled_in s journal) (named s u) ≡ []) × (state_rule s.config (settled_in s journal) (named s u) ≡ None)
 
 -- an accepted unit that does so is settled
-pub settles_later : (s : Setting) (journal : List Vertex) (u : SignedUnit) → NamesApart (units_in s journal) → Accepted s journal (vertex.Unit u) → Settles s journal u.unit → Among (named s u.unit) (settled_by s (journal ++ vertex.Unit u ∷ []))
+pub settles_later : (s : Setting) (journal : List Vertex) (u : SignedUnit) → NamesApart (units_in s journal) → Accepted s journal (vertex.Unit u) → Settles s journal u.unit → Among (named s u.unit) (settled_in s (journal ++ vertex.Unit u ∷ []))
 settles_later s journal u apart ok h =
     let later = journal ++ vertex.Unit u ∷ [] in
     let none = ap (λ (ns : List Need). length ns) h.0 in

@@ -27,9 +27,10 @@ use Rattle.hw_types.proofs.StepLaws.{is_split}
 use Rattle.hw_types.proofs.ReceiptLaws.{tells_where}
 use Rattle.hw_plans.proofs.PlanLaws.{plan_keeps_rules}
 use Rattle.hw_honest.specs.Cluster.{is_admitted}
-use Rattle.hw_honest.specs.OneLine.{OneLine, units_by, settled_by}
+use Rattle.hw_honest.specs.OneLine.{OneLine, units_by}
 use Rattle.hw_honest.proofs.PlanLaws.{plan_is}
 use Rattle.hw_honest.proofs.OneLineLaws.{by_has, is_by, below_next, line_unfaulty, next_is_count, one_more, answer_is, line_after, Settles, settles_later}
+use Rattle.hw_plans.specs.Plans.{settled_in}
 
 -- a unit that is answered Repeat is there
 repeat_is : (s : Setting) (journal : List Vertex) (u : SignedUnit) (verdict : Bool) → answer s journal (vertex.Unit u) verdict ≡ Ok receipt.Repeat → is_repeat s journal (vertex.Unit u) ≡ true
@@ -75,7 +76,7 @@ module _ (s : Setting) (journal : List Vertex) (me now : ℕ) (value : List ℕ)
 
   module _ (apart : NamesApart (units_in s journal)) (u : SignedUnit) (same : u.unit ≡ p.unit) where
     -- where it is accepted and settles
-    own_kept : Accepted s journal (vertex.Unit u) → Among (named s u.unit) (settled_by s (journal ++ vertex.Unit u ∷ [])) → OneLine s (journal ++ vertex.Unit u ∷ []) me
+    own_kept : Accepted s journal (vertex.Unit u) → Among (named s u.unit) (settled_in s (journal ++ vertex.Unit u ∷ [])) → OneLine s (journal ++ vertex.Unit u ∷ []) me
     own_kept ok there =
         let is = plan_is s (received_of s journal) me now value p made in
         one_more s journal me apart one u (ap (λ (w : WireUnit). w.creator) same ∙ is.0) (ap (λ (w : WireUnit). w.seq) same ∙ is.1) ok there
@@ -97,13 +98,13 @@ module _ (s : Setting) (journal : List Vertex) (me now : ℕ) (value : List ℕ)
         let e : x.0.unit ≡ p.unit = unit_same x.0.unit u.unit x.2 ∙ same in
         let m = by_has s journal me x.0 x.1 (ap (λ (w : WireUnit). w.creator) e ∙ is.0) in
         let lt = below_next s journal me (line_unfaulty s journal me one) x.0 (one.settled x.0 m) (is_by s journal me x.0 m).1 in
-        let number : x.0.unit.seq ≡ next_seq (latest (settled_by s journal) (panorama_of s.config (received_of s journal)) me) = ap (λ (w : WireUnit). w.seq) e ∙ is.1 in
+        let number : x.0.unit.seq ≡ next_seq (latest (settled_in s journal) (panorama_of s.config (received_of s journal)) me) = ap (λ (w : WireUnit). w.seq) e ∙ is.1 in
         absurd (omega arith)
 
     pub settled_answer : Settles s journal p.unit → (verdict : Bool) (r : Receipt) → (answer s journal (vertex.Unit u) verdict ≡ Ok r) × (is_admitted (Ok r) ≡ false) → ⊥
     settled_answer settles verdict r e = go r e.0 e.1
       where
-        there : (q : Receipt) → answer s journal (vertex.Unit u) verdict ≡ Ok q → is_accepted (Ok q) ≡ true → Accepted s journal (vertex.Unit u) × Among (named s u.unit) (settled_by s (journal ++ vertex.Unit u ∷ []))
+        there : (q : Receipt) → answer s journal (vertex.Unit u) verdict ≡ Ok q → is_accepted (Ok q) ≡ true → Accepted s journal (vertex.Unit u) × Among (named s u.unit) (settled_in s (journal ++ vertex.Unit u ∷ []))
         there q k h = let ok = accepted s journal (vertex.Unit u) verdict (ap is_accepted k ∙ h) in (ok, settles_later s journal u apart ok (subst (Settles s journal) (sym same) settles))
 
         later : Received

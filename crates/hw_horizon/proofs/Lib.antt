@@ -10,3 +10,4 @@ pub mod WeightLaws
 pub mod WalkLaws
 pub mod LesserLaws
 pub mod BoundLaws
+pub mod FollowLaws

@@ -1,6 +1,7 @@
 -- What is kept to say early that a block has no summit: for each level, before which unit of its lane nobody is in a committee, and what
 -- each latest unit sees of those who may be.
-use Rattle.std.specs.Prelude.{◌≡◌, ℕ, zero, suc, ◌<◌, ◌≤◌, Bool, false, true, List, [], length, Option, Some, None, slice_index_or}
+use Rattle.std.specs.Prelude.{◌≡◌, ℕ, zero, suc, ◌<◌, ◌≤◌, ◌⊎◌, Bool, false, true, nat_le, List, [], length, Option, Some, None, slice_index_or, if◌then◌else◌}
+use Rattle.hw_types.specs.Votes.{weight_of}
 use Rattle.hw_dag.specs.declared.numbers.UnitNo.{UnitNo}
 use Rattle.hw_dag.specs.declared.numbers.View.{View}
 use Rattle.hw_dag.specs.declared.numbers.View.TheVariants as view
@@ -66,3 +67,27 @@ tip_in view.Faulty = None
 -- the latest units that are kept are those of the panorama
 abbrev pub AreTips : List View → KeptBounds → Type 0
 AreTips panorama kept = (v : ℕ) → v < length panorama → tip_of kept v ≡ tip_in (view_at panorama v)
+
+-- a slot for each validator in the tips and in each level
+pub record AreWide (validators : ℕ) (kept : KeptBounds) : Type 0 where
+  pub tips : length kept.tips ≡ validators
+  pub firsts : (j : ℕ) → j < length kept.levels → length (bound_of kept.levels j).firsts ≡ validators
+  pub support : (j : ℕ) → j < length kept.levels → length (bound_of kept.levels j).support ≡ validators
+
+-- at some lesser level those whose latest unit may see the quorum weigh less than one
+pub record IsRuledOut (weights : List ℕ) (kept : KeptBounds) (level quorum : ℕ) : Type 0 where
+  pub few : kept.least ≤ quorum
+  pub at : ℕ
+  pub below : at < level
+  pub known : at < length kept.levels
+  pub light : weight_of weights (λ v. nat_le quorum (support_of (bound_of kept.levels at) v)) < quorum
+
+-- ---- how the bounds follow the panorama
+
+-- the units that may count at a level over the first units of the level below it
+abbrev pub counts_over : List ℕ → UnitGraph → ℕ → ℕ → Bool → List ℕ → ℕ → Bool
+counts_over weights dag block least is_votes firsts n = if is_votes then votes_over dag block n else has_quorum weights dag least firsts n
+
+-- each first unit is no lesser than before, or no lesser than this number
+abbrev pub AreLowered : LevelBound → LevelBound → ℕ → Type 0
+AreLowered old new low = (v : ℕ) → (first_of old v ≤ first_of new v) ⊎ (low ≤ first_of new v)

@@ -17,6 +17,9 @@ use hw_types::OutOfMemory;
 use std::alloc::Global;
 use std::marker::Model;
 
+/// A number that no unit has.
+pub const NO_UNIT: u32 = u32::MAX;
+
 /// For each validator the number of a unit. Contracts see it as a list.
 #[derive(Drop)]
 pub struct Firsts {
@@ -37,7 +40,7 @@ impl Firsts {
         ensures { IfOk result (λ firsts. length firsts ≡ validators) }
     {
         let mut numbers = Vec::with_capacity(alloc, validators as usize)?;
-        numbers.resize(validators as usize, u32::MAX)?;
+        numbers.resize(validators as usize, NO_UNIT)?;
         Ok(Firsts { numbers })
     }
 
@@ -50,11 +53,21 @@ impl Firsts {
     }
 
     /// Changes the number for the validator, and no other.
-    fn set(&mut self, validator: u32, number: u32)
+    pub(crate) fn set(&mut self, validator: u32, number: u32)
         requires { validator < length self.old }
         ensures { self.new ≡ slice_set self.old validator number }
     {
         self.numbers[validator as usize] = number;
+    }
+
+    /// Makes it the same as the other, which has as many validators.
+    pub(crate) fn copy_from(&mut self, other: &Firsts)
+        requires { length self.old ≡ length other.now }
+        ensures { self.new ≡ other.now }
+    {
+        self.numbers
+            .as_mut_slice()
+            .copy_from_slice(other.numbers.as_slice());
     }
 
     /// Finds the first unit of each member that is present. For the others no unit is one.
@@ -78,11 +91,11 @@ fn first_of(dag: &Dag, view: View, lower: &Table, present: &Table, validator: u3
     ensures { IsFirst dag.now view lower.now present.now validator result }
 {
     if present.get(validator).is_none() {
-        return u32::MAX;
+        return NO_UNIT;
     }
     match view {
         View::Correct(tip) => first_from(dag, tip, lower.get(validator).unwrap_or(0)),
-        View::Absent | View::Faulty => u32::MAX,
+        View::Absent | View::Faulty => NO_UNIT,
     }
 }
 
@@ -95,6 +108,6 @@ fn first_from(dag: &Dag, tip: UnitNo, start: u64) -> u32
     if start <= dag.unit(tip).signed().unit.seq {
         lane_at(dag, tip, start).0
     } else {
-        u32::MAX
+        NO_UNIT
     }
 }

@@ -7,9 +7,15 @@
 //! below it: members whose latest unit sees no quorum fall, until no more do or those who are left weigh
 //! less than one. Then their starts are found by bisection, since the units of a lane that see a quorum
 //! are its last ones. The tables of all levels stay as they are until the next search.
+//!
+//! Mostly there is no summit, and bounds that are kept say so early: for each level before which unit
+//! nobody is in a committee, and what each latest unit sees at most. They follow the panorama in a pass
+//! over the validators for each level.
 #![tactic(auto)]
 
+mod bounds;
 mod firsts;
+mod follow;
 mod horizons;
 mod jumps;
 mod kept;
@@ -19,5 +25,6 @@ mod rounds;
 mod table;
 mod votes;
 
+pub use bounds::Bounds;
 pub use horizons::Horizons;
 pub use laws::{bounds_rule_out, lesser_summits, sums_stay, walks_stay};

@@ -68,8 +68,8 @@ pub fn has_start(
     floor <= dag.unit(tip).signed().unit.seq && has_quorum(dag, weights, tip, quorum, firsts)
 }
 
-// Whether the unit sees a quorum of those present.
-fn has_quorum(dag: &Dag, weights: &[u64], no: UnitNo, quorum: u64, firsts: &Firsts) -> bool
+/// Whether the unit sees a quorum of those present.
+pub fn has_quorum(dag: &Dag, weights: &[u64], no: UnitNo, quorum: u64, firsts: &Firsts) -> bool
     requires graph { IsGraph dag.now }
     requires weights { AreWeights weights.now dag.now }
     requires firsts { length firsts.now ≡ dag.now.validators }
@@ -79,8 +79,8 @@ fn has_quorum(dag: &Dag, weights: &[u64], no: UnitNo, quorum: u64, firsts: &Firs
     quorum <= weight_after(dag, weights, no, firsts)
 }
 
-// The weight of those present that the unit sees.
-fn weight_after(dag: &Dag, weights: &[u64], no: UnitNo, firsts: &Firsts) -> u64
+/// The weight of those present that the unit sees.
+pub fn weight_after(dag: &Dag, weights: &[u64], no: UnitNo, firsts: &Firsts) -> u64
     requires graph { IsGraph dag.now }
     requires weights { AreWeights weights.now dag.now }
     requires firsts { length firsts.now ≡ dag.now.validators }

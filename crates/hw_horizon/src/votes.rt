@@ -111,8 +111,8 @@ fn earlier_vote(dag: &Dag, no: UnitNo, block: UnitNo) -> Option<UnitNo>
     }
 }
 
-// Whether the unit votes for the block or a descendant of it.
-fn votes_for(dag: &Dag, no: UnitNo, block: UnitNo) -> bool
+/// Whether the unit votes for the block or a descendant of it.
+pub fn votes_for(dag: &Dag, no: UnitNo, block: UnitNo) -> bool
     requires graph { IsGraph dag.now }
     requires known { no.0 < count_of dag.now }
     requires block_known { block.0 < count_of dag.now }

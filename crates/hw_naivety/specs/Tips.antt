@@ -83,6 +83,10 @@ pub record IsSight (dag : UnitGraph) (panorama : List View) (validators : ℕ) :
   pub panorama_is : IsPanorama dag panorama
   pub validators_are : validators ≡ dag.validators
 
+-- each unit of the endorsed list has a lesser number
+abbrev pub IsEndOfList : UnitGraph → List Digest → ℕ → Type 0
+IsEndOfList dag endorsed end = (name : Digest) → Among name endorsed → (n : ℕ) → n < count_of dag → (unit_at dag n).digest ≡ name → n < end
+
 -- the marks serve for each observed unit
 abbrev pub HasRoom : List View → ℕ → Type 0
 HasRoom panorama room = (slot : ℕ) (cited : UnitNo) → view_at panorama slot ≡ view.Correct cited → cited.0 ≤ room

@@ -2,7 +2,7 @@
 
 ghost use Rattle.std.specs.Prelude.{◌≡◌, ◌<◌, ◌≤◌, ◌↔◌, Some, IsTrue, IfOk, IfErr};
 ghost use Rattle.hw_dag.specs.Dag.{unit_at, count_of, creator_of};
-ghost use Rattle.hw_naivety.specs.Tips.{IsBelow, IsBelowNamed, IsBelowEndorsed, IsNaiveTip, IsSight, HasRoom, IsRaised};
+ghost use Rattle.hw_naivety.specs.Tips.{IsBelow, IsBelowNamed, IsBelowEndorsed, IsNaiveTip, IsSight, IsEndOfList, HasRoom, IsRaised};
 ghost use Rattle.hw_naivety.specs.Forks.{IsNaiveFork};
 
 use crate::fork::NaiveFork;
@@ -27,6 +27,9 @@ impl Sight<'_> {
         ensures below { IsTrue result ↔ IsBelow self.now.dag.now self.now.panorama.now no.0 }
         ensures room { marks.new ≡ marks.old }
     {
+        if self.has_on_lane(no) {
+            return true;
+        }
         for slot in 0..self.validators {
             if let View::Correct(cited) = self.panorama.get(slot) {
                 if self.dag.sees(cited, no, marks) {
@@ -35,6 +38,20 @@ impl Sight<'_> {
             }
         }
         false
+    }
+
+    /// Whether another one is on the lane of the unit that it observes of the same creator, as units below
+    /// mostly are.
+    fn has_on_lane(&self, no: UnitNo) -> bool
+        requires sight { IsSight self.now.dag.now self.now.panorama.now self.now.validators }
+        requires known { no.0 < count_of self.now.dag.now }
+        ensures { IsTrue result → IsBelow self.now.dag.now self.now.panorama.now no.0 }
+    {
+        let creator = self.dag.unit(no).signed().unit.creator;
+        match self.panorama.get(creator) {
+            View::Correct(cited) => self.dag.on_lane(no, cited),
+            View::Absent | View::Faulty => false,
+        }
     }
 
     /// Whether another one is below the unit of this name, which is looked up among the units below.
@@ -65,6 +82,32 @@ impl Sight<'_> {
             }
         }
         false
+    }
+
+    /// One more than the greatest number of a unit of the endorsed list, or 0 where no unit of it is there.
+    pub fn end_of_list(&self) -> u32
+        requires { IsSight self.now.dag.now self.now.panorama.now self.now.validators }
+        ensures { IsEndOfList self.now.dag.now self.now.endorsed.now result }
+    {
+        let mut end = 0;
+        for name in self.endorsed {
+            if let Some(no) = self.dag.find(name) {
+                end = end.max(no.0 + 1);
+            }
+        }
+        end
+    }
+
+    /// `is_below_endorsed`, where that end is known. A unit from there on is below none of the list.
+    pub fn is_covered(&self, no: UnitNo, end: u32, marks: &mut Marks) -> bool
+        requires sight { IsSight self.now.dag.now self.now.panorama.now self.now.validators }
+        requires known { no.0 < count_of self.now.dag.now }
+        requires room { HasRoom self.now.panorama.now marks.old }
+        requires end { IsEndOfList self.now.dag.now self.now.endorsed.now end }
+        ensures below { IsTrue result ↔ IsBelowEndorsed self.now.dag.now self.now.panorama.now self.now.endorsed.now no.0 }
+        ensures room { marks.new ≡ marks.old }
+    {
+        no.0 < end && self.is_below_endorsed(no, marks)
     }
 
     /// The tip that stands for the candidate's lane too, or the fork that the two are.

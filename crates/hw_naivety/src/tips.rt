@@ -1,7 +1,7 @@
 //! The tips of noted units.
 
 ghost use Rattle.std.specs.Prelude.{◌≡◌, ℕ, ◌+◌, ◌<◌, ◌≤◌, ◌≢◌, ◌^◌, [], ◌==◌, if◌then◌else◌, None, Some, length, slice_index_or, slice_set, IfOk, IfErr, IfSome, OnOk};
-ghost use Rattle.hw_naivety.specs.Tips.{IsNaiveTip, IsTip, IsSight, IsSightOf, HasRoom, HasLists, HasTips, IsRaisedOver, AreRows, IsGrown, tip_at};
+ghost use Rattle.hw_naivety.specs.Tips.{IsNaiveTip, IsTip, IsSight, IsSightOf, IsEndOfList, HasRoom, HasLists, HasTips, IsRaisedOver, AreRows, IsGrown, tip_at};
 ghost use Rattle.hw_naivety.specs.Forks.{IsNaiveFork, IsForkless};
 
 use crate::fork::NaiveFork;
@@ -190,6 +190,7 @@ impl Tips {
         sight: &Sight<'_>,
         no: UnitNo,
         creator: u32,
+        end: u32,
         marks: &mut Marks,
     ) -> Option<UnitNo>
         requires sight { IsSight sight.now.dag.now sight.now.panorama.now sight.now.validators }
@@ -200,12 +201,13 @@ impl Tips {
         requires tips { HasTips sight.now.dag.now sight.now.panorama.now self.now }
         requires lists { HasLists sight.now.dag.now sight.now.panorama.now sight.now.endorsed.now }
         requires forkless { IsForkless sight.now.dag.now sight.now.panorama.now sight.now.endorsed.now }
+        requires end { IsEndOfList sight.now.dag.now sight.now.endorsed.now end }
         ensures tip { IsTip sight.now.dag.now sight.now.panorama.now sight.now.endorsed.now creator result }
         ensures room { marks.new ≡ marks.old }
     {
         match sight.panorama.get(creator) {
             View::Absent => None,
-            View::Correct(last) if sight.is_below_endorsed(last, marks) => None,
+            View::Correct(last) if sight.is_covered(last, end, marks) => None,
             View::Correct(last) => Some(last),
             View::Faulty => match self.tip_over(sight, creator, marks) {
                 Ok(tip) => tip,
@@ -230,8 +232,9 @@ impl Tips {
         ensures length { length self.new ≡ length self.old }
         ensures room { marks.new ≡ marks.old }
     {
+        let end = sight.end_of_list();
         for creator in 0..sight.validators {
-            let tip = self.tip_of(sight, no, creator, marks);
+            let tip = self.tip_of(sight, no, creator, end, marks);
             self.put(no, creator, tip);
         }
     }

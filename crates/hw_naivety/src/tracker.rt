@@ -87,7 +87,7 @@ impl Naivety {
         ensures least { IfSome result (λ fork. IsLeastNaiveFork dag.now (node_prepared prepared.now) fork) }
         ensures room { marks.new ≡ marks.old }
     {
-        let _count = dag.count();
+        dag.recall_graph();
         let endorsed = prepared.signed().unit.endorsed.as_slice();
         self.check_over(dag, prepared.panorama(), endorsed, marks)
     }
@@ -110,7 +110,7 @@ impl Naivety {
         ensures least { (u : Node) → HasSight dag.now panorama.now endorsed.now u → IfSome result (λ fork. IsLeastNaiveFork dag.now u fork) }
         ensures room { marks.new ≡ marks.old }
     {
-        let _count = dag.count();
+        dag.recall_graph();
         let sight = Sight {
             dag,
             panorama,
@@ -140,7 +140,7 @@ impl Naivety {
         ensures count { self.new.count ≡ self.old.count + 1 }
         ensures spare { self.new.spare + 1 ≡ self.old.spare }
     {
-        let _count = dag.count();
+        dag.recall_graph();
         let unit = dag.unit(no);
         let sight = Sight {
             dag,

@@ -55,7 +55,7 @@ impl Judge<'_> {
         ensures forks { forks.new ≡ forks.old }
         ensures marks { marks.new ≡ marks.old }
     {
-        let _count = self.dag.count();
+        self.dag.recall_graph();
         citations(self.dag, prepared)?;
         rounds(self.leaders, self.dag, prepared)?;
         endorsements(self.naivety, self.dag, prepared, marks)?;

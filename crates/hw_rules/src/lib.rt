@@ -15,8 +15,6 @@ mod laws;
 mod lists;
 mod lookups;
 mod rounds;
-#[cfg(test)]
-mod tests;
 
 pub use alone::local;
 pub use judge::Judge;

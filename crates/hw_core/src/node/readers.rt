@@ -8,6 +8,7 @@ ghost use Rattle.hw_types.specs.Spelling.{VertexFits, Fits};
 ghost use Rattle.hw_types.specs.Real.{received_in, settled_in, panorama_in, weight_in};
 ghost use Rattle.hw_dag.specs.Dag.{graph, observations};
 ghost use Rattle.hw_admit.specs.State.{is_marked};
+ghost use Rattle.hw_core.specs.Decided.{decided_in};
 ghost use Rattle.hw_core.specs.Readers.{unit_in, missing_needs, IsPlace, IsUnsettled, fork_in, exceeded_in};
 
 use super::Core;
@@ -16,7 +17,7 @@ use crate::units::known_unit;
 use crate::unmet::{Search, missing_at};
 use hw_admit::State;
 use hw_dag::View;
-use hw_types::{Digest, Need, Obs, SignedUnit, Vertex};
+use hw_types::{Decision, Digest, Need, Obs, SignedUnit, Vertex};
 
 impl Core {
     /// How many vertices the journal has.
@@ -148,6 +149,21 @@ impl Core {
         } else {
             None
         }
+    }
+
+    /// How many blocks are decided.
+    pub fn decision_count(&self) -> u64
+        ensures { result ≡ length (decided_in self.now) }
+    {
+        self.decided.count()
+    }
+
+    /// The decided block of that place, by moment and then by height.
+    pub fn decision(&self, index: u64) -> &Decision
+        requires { index < length (decided_in self.now) }
+        ensures { Some result.now ≡ slice_get (decided_in self.now) index }
+    {
+        self.decided.get(index)
     }
 
     /// Its state, for reading.

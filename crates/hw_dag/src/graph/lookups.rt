@@ -82,11 +82,42 @@ impl Dag {
         if self.units[high.0 as usize].signed().unit.seq < seq {
             return false;
         }
-        let found = self.lane_at_uncounted::<Brand>(high, seq, Blank::new(1));
+        let found = self.unit_on_lane(high, seq);
         found.0 == low.0
     }
 
     /// `lane_at` where nobody counts.
+    pub fn unit_on_lane(&self, no: UnitNo, seq: u64) -> UnitNo
+        requires known { no.0 < count_of self.now }
+        requires within { seq ≤ seq_of (unit_at self.now no.0) }
+        ensures { IsLaneAt self.now no.0 seq result.0 }
+    {
+        self.lane_at_uncounted::<Brand>(no, seq, Blank::new(1))
+    }
+
+    /// `block_at` where nobody counts.
+    pub fn ancestor(&self, block: UnitNo, height: u64) -> UnitNo
+        requires known { block.0 < count_of self.now }
+        requires block { IsTrue (is_block (node_at self.now block.0)) }
+        requires within { height ≤ unwrap_or (unit_at self.now block.0).height 0 }
+        ensures { IsAncestorAt self.now block.0 height result.0 }
+    {
+        self.block_at_uncounted::<Brand>(block, height, Blank::new(1))
+    }
+
+    fn block_at_uncounted<L: Ledger>(&self, block: UnitNo, height: u64, blank: Blank) -> UnitNo
+        requires known { block.0 < count_of self.now }
+        requires block { IsTrue (is_block (node_at self.now block.0)) }
+        requires within { height ≤ unwrap_or (unit_at self.now block.0).height 0 }
+        requires name { blank.name ≡ L.name }
+        requires parts { blank.parts ≡ L.parts }
+        requires some { 0 < L.parts }
+        ensures { IsAncestorAt self.now block.0 height result.0 }
+    {
+        let mut steps = Steps::<L>::new(blank);
+        self.block_at(block, height, &mut steps)
+    }
+
     fn lane_at_uncounted<L: Ledger>(&self, no: UnitNo, seq: u64, blank: Blank) -> UnitNo
         requires known { no.0 < count_of self.now }
         requires within { seq ≤ seq_of (unit_at self.now no.0) }
@@ -115,7 +146,72 @@ impl Dag {
         match self.units[high.0 as usize].panorama().get(creator) {
             View::Absent => false,
             View::Correct(no) => self.on_lane(low, no),
-            View::Faulty => self.reaches(high, low, marks.marked.as_mut_slice()),
+            View::Faulty => {
+                self.saw(high, low, creator) || self.reaches(high, low, marks.marked.as_mut_slice())
+            }
+        }
+    }
+
+    /// Whether a unit shows `low` that is cited by the first unit on the lane of `high` that marks the
+    /// creator of `low`. Mostly one does. If none does, nothing is known.
+    fn saw(&self, high: UnitNo, low: UnitNo, creator: u32) -> bool
+        requires high_known { high.0 < count_of self.now }
+        requires low_known { low.0 < count_of self.now }
+        requires creator { creator_of (unit_at self.now low.0) ≡ creator }
+        ensures { IsTrue result → is_seen self.now low.0 high.0 ≡ true }
+    {
+        let first = self.first_marking(high, creator);
+        for view in self.units[first.0 as usize].panorama().views() {
+            if self.shows(*view, low, creator) {
+                return true;
+            }
+        }
+        false
+    }
+
+    /// A unit on the lane: the first one that marks the creator, where the unit does.
+    fn first_marking(&self, no: UnitNo, creator: u32) -> UnitNo
+        requires { no.0 < count_of self.now }
+        ensures known { result.0 < count_of self.now }
+        ensures on_lane { is_lane_below self.now result.0 no.0 ≡ true }
+    {
+        let mut first = no;
+        let mut from = 0;
+        let mut to = self.units[no.0 as usize].signed().unit.seq;
+        while from < to {
+            let middle = from + (to - from) / 2;
+            let at = self.unit_on_lane(no, middle);
+            if self.marks(at, creator) {
+                first = at;
+                to = middle;
+            } else {
+                from = middle + 1;
+            }
+        }
+        first
+    }
+
+    /// Whether a unit marks a validator.
+    fn marks(&self, no: UnitNo, validator: u32) -> bool
+        requires { no.0 < count_of self.now }
+    {
+        let views = self.units[no.0 as usize].panorama().views();
+        matches!(views.get(validator as usize), Some(View::Faulty))
+    }
+
+    /// Whether the unit in a slot is `low`, or its lane of the creator shows `low`.
+    fn shows(&self, view: View, low: UnitNo, creator: u32) -> bool
+        requires known { (number : Number) → view ≡ View.Correct number → number.0 < count_of self.now }
+        requires low_known { low.0 < count_of self.now }
+        requires creator { creator_of (unit_at self.now low.0) ≡ creator }
+        ensures { IsTrue result → (number : Number) × (view ≡ View.Correct number) × (is_seen self.now low.0 number.0 ≡ true) }
+    {
+        let View::Correct(no) = view else {
+            return false;
+        };
+        match self.units[no.0 as usize].panorama().get(creator) {
+            View::Correct(last) => self.on_lane_of(creator, low, last),
+            View::Absent | View::Faulty => no == low,
         }
     }
 
@@ -135,6 +231,9 @@ impl Dag {
             next -= 1;
             if marked[next as usize] {
                 self.mark_observed(UnitNo(next), low, marked);
+                if marked[low.0 as usize] {
+                    return true;
+                }
             }
         }
         marked[low.0 as usize]

@@ -31,6 +31,8 @@ loop-fork-preserved c =
       more = omega arith;
       room = omega arith;
       walks = c.find_at.ensures.walks;
+      wide = c.find_at.ensures.wide;
+      bounds = c.find_at.ensures.bounds;
       validators = c.find_at.ensures.validators ∙ i.validators;
       levels = c.find_at.ensures.levels ∙ i.levels;
     }

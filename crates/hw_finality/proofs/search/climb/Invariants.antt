@@ -1,5 +1,6 @@
 use Rattle.std.proofs.Common.{◌≡◌, ◌+◌, ◌-◌, ◌≤◌, length}
 use Rattle.hw_horizon.specs.Kept.{AreKept}
+use Rattle.hw_horizon.specs.Bounds.{AreBounds, AreWide}
 use Rattle.hw_finality.proofs.WayLaws.{HasGoneUp}
 use Rattle.hw_finality.proofs.search.climb.Given as goal
 
@@ -9,6 +10,8 @@ invariant-loop-fork l = record {
   more : length l.fn.found.blocks ≤ length l.found.blocks;
   room : length l.found.blocks + l.found.spare ≡ length l.fn.found.blocks + l.fn.found.spare;
   walks : AreKept l.dag l.horizons.walks;
+  wide : AreWide l.dag.validators l.bounds;
+  bounds : AreBounds l.config.weights l.dag l.bounds;
   validators : l.horizons.validators ≡ l.fn.horizons.validators;
   levels : l.horizons.levels ≡ l.fn.horizons.levels;
 }

@@ -24,11 +24,11 @@ returns-then-vote-height-clause-none c = λ child k above.
 
 pub returns-else-eq-clause-none : goal.returns-else-eq-clause-none
 returns-else-eq-clause-none c = λ child k above.
-    let found = c.ancestor_at-child.ensures in
-    let reached : height_at c.args.dag.now c.ancestor_at-child.result.0 ≡ c.args.height = ap (λ (o : Option ℕ). unwrap_or o 0) found.height_is in
+    let found = c.ancestor-child.ensures in
+    let reached : height_at c.args.dag.now c.ancestor-child.result.0 ≡ c.args.height = ap (λ (o : Option ℕ). unwrap_or o 0) found.height_is in
     let own : height_at c.args.dag.now child ≡ c.args.height = child_height c.args.dag.now c.requires.graph c.args.place child k ∙ sym c.requires.height in
-    let one = anc_line c.args.dag.now c.requires.graph child c.ancestor_at-child.result.0 c.args.vote.now.block.0 c.requires.vote.known above found.ancestor (own ∙ sym reached) in
-    let parent : (unit_at c.args.dag.now c.ancestor_at-child.result.0).parent ≡ c.args.place = subst (λ (n : ℕ). (unit_at c.args.dag.now n).parent ≡ c.args.place) one k.parent in
-    let read : c.parent.result ≡ (unit_at c.args.dag.now c.ancestor_at-child.result.0).parent = c.parent.ensures ∙ ap (λ (u : SettledUnit). u.parent) c.unit.ensures in
+    let one = anc_line c.args.dag.now c.requires.graph child c.ancestor-child.result.0 c.args.vote.now.block.0 c.requires.vote.known above found.ancestor (own ∙ sym reached) in
+    let parent : (unit_at c.args.dag.now c.ancestor-child.result.0).parent ≡ c.args.place = subst (λ (n : ℕ). (unit_at c.args.dag.now n).parent ≡ c.args.place) one k.parent in
+    let read : c.parent.result ≡ (unit_at c.args.dag.now c.ancestor-child.result.0).parent = c.parent.ensures ∙ ap (λ (u : SettledUnit). u.parent) c.unit.ensures in
     let differ : option_eq eq-value.it c.args.place c.args.place ≡ false = sym (ap (λ (o : Option UnitNo). option_eq eq-value.it o c.args.place) (read ∙ parent)) ∙ sym c.eq.ensures ∙ c.if-eq.false in
     absurd (never_both (option_eq eq-value.it c.args.place c.args.place) (equal_itself c.args.place) differ)

@@ -15,8 +15,8 @@ returns-then-signed-seq c =
     let less = c.if-signed-seq.true in
     sym (never_higher c.args.self.now graph c.args.low.0 c.args.high.0 c.requires.low_known c.requires.high_known (omega arith))
 
-pub lane_at_uncounted-found-requires-clause-within : goal.lane_at_uncounted-found-requires-clause-within
-lane_at_uncounted-found-requires-clause-within c =
+pub unit_on_lane-found-requires-clause-within : goal.unit_on_lane-found-requires-clause-within
+unit_on_lane-found-requires-clause-within c =
     let high = ap (λ (s : SignedUnit). s.unit.seq) c.signed-2.ensures ∙ ap (λ (u : SettledUnit). seq_of u) (read_unit _ c.args.self.now c.args.high.0 c.index-2.result.now c.self.view_is c.requires.high_known c.index-2.ensures) in
     let no_less = c.if-signed-seq.false in
     omega arith
@@ -25,5 +25,5 @@ pub returns : goal.returns
 returns c =
     let graph = subst IsGraph c.self.view_is c.self.invariant.0.graph_is in
     let low = ap (λ (s : SignedUnit). s.unit.seq) c.signed.ensures ∙ ap (λ (u : SettledUnit). seq_of u) (read_unit _ c.args.self.now c.args.low.0 c.index.result.now c.self.view_is c.requires.low_known c.index.ensures) in
-    on_lane_by_number c.args.self.now graph c.args.low.0 c.args.high.0 c.lane_at_uncounted-found.result.0 c.requires.low_known c.requires.high_known
-    (subst (λ (s : ℕ). IsLaneAt c.args.self.now c.args.high.0 s c.lane_at_uncounted-found.result.0) low c.lane_at_uncounted-found.ensures)
+    on_lane_by_number c.args.self.now graph c.args.low.0 c.args.high.0 c.unit_on_lane-found.result.0 c.requires.low_known c.requires.high_known
+    (subst (λ (s : ℕ). IsLaneAt c.args.self.now c.args.high.0 s c.unit_on_lane-found.result.0) low c.unit_on_lane-found.ensures)

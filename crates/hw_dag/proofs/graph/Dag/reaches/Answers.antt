@@ -1,5 +1,6 @@
-use Rattle.std.proofs.Common.{◌≡◌, ◌+◌, ◌-◌, ℕ, subst, arith}
+use Rattle.std.proofs.Common.{◌≡◌, ◌+◌, ◌-◌, ℕ, sym, subst, arith}
 use Rattle.hw_dag.specs.Admission.{IsGraph}
+use Rattle.hw_dag.proofs.LaneLaws.{past_seen}
 use Rattle.hw_dag.proofs.MarkLaws.{IsWalked, walk_starts, walk_skips, walk_looks, walk_ends}
 use Rattle.hw_dag.proofs.graph.Dag.reaches.Goals as goal
 
@@ -11,8 +12,8 @@ loop-next-init c = (
       (let made = c.mark_observed.ensures in record { kept = made.kept; all = made.all; only = made.only }),
 )
 
-pub loop-next-preserved-then-marked-next : goal.loop-next-preserved-then-marked-next
-loop-next-preserved-then-marked-next c =
+pub loop-next-preserved-else-marked-low : goal.loop-next-preserved-else-marked-low
+loop-next-preserved-else-marked-low c =
     let i = c.loop-next.invariant in
     let more = c.loop-next-test.true in
     let up : c.loop-next.next ≡ c.loop-next.next - 1 + 1 = omega arith in (
@@ -33,6 +34,18 @@ loop-next-preserved c =
       λ g. walk_skips c.args.self.now g c.args.high.0 c.args.low.0 (c.loop-next.next - 1) c.loop-next.marked
           (subst (λ (n : ℕ). IsWalked c.args.self.now g c.args.high.0 c.args.low.0 n c.loop-next.marked) up (i.2 g)) c.if-marked-next.false,
     )
+
+-- what is marked is below
+pub returns-then-marked-low : goal.returns-then-marked-low
+returns-then-marked-low c =
+    let graph = subst IsGraph c.self.view_is c.self.invariant.0.graph_is in
+    let i = c.loop-next.invariant in
+    let more = c.loop-next-test.true in
+    let up : c.loop-next.next ≡ c.loop-next.next - 1 + 1 = omega arith in
+    let walked = walk_looks c.args.self.now graph c.args.high.0 c.args.low.0 (c.loop-next.next - 1) c.loop-next.marked c.mark_observed-then-marked-next.new.marked c.requires.high_known (omega (arith, i.1)) (omega arith)
+    (subst (λ (n : ℕ). IsWalked c.args.self.now graph c.args.high.0 c.args.low.0 n c.loop-next.marked) up (i.2 graph)) c.if-marked-next.true
+    (let made = c.mark_observed-then-marked-next.ensures in record { kept = made.kept; all = made.all; only = made.only }) in
+    sym (past_seen c.args.self.now graph c.args.low.0 c.args.high.0 (walked.below c.args.low.0 (omega arith) c.requires.below c.if-marked-low.true))
 
 pub returns : goal.returns
 returns c =

@@ -1,5 +1,6 @@
 use Rattle.std.proofs.Common.{◌≡◌, ℕ, ◌-◌, length, sym, subst, refl, arith}
 use Rattle.hw_horizon.specs.Kept.{AreKept}
+use Rattle.hw_horizon.specs.Bounds.{AreBounds}
 use Rattle.hw_finality.specs.Detected.{DetectorState, HasRun, IsOutcome}
 use Rattle.hw_finality.proofs.RunLaws.{run_decides, is_nothing_new}
 use Rattle.hw_finality.proofs.WayLaws.{run_true}
@@ -13,6 +14,9 @@ returns-then-self-faulty-clause-decisions c =
 
 pub search-requires-clause-walks : goal.search-requires-clause-walks
 search-requires-clause-walks c = subst (λ (d : DetectorState). AreKept c.args.dag.now d.walks) (sym c.self.view_is) c.requires.kept.walks
+
+pub search-requires-clause-bounds : goal.search-requires-clause-bounds
+search-requires-clause-bounds c = subst (λ (d : DetectorState). AreBounds d.config.weights c.args.dag.now d.bounds) (sym c.self.view_is) c.requires.kept.bounds
 
 pub returns-clause-decisions : goal.returns-clause-decisions
 returns-clause-decisions c =
@@ -45,4 +49,4 @@ returns-clause-kept c =
     (subst (λ (d : DetectorState). HasRun d.config c.args.dag.now c.args.panorama.now c.args.fork c.args.faulty c.args.at d.found c.search.new.found.blocks) c.self.view_is
     (record { exceeded = λ more. absurd (omega arith); few = λ _. c.search.ensures.found }))
     c.requires.kept.known c.requires.kept.few in
-    record { walks = c.search.ensures.walks; known = kept.0; few = kept.1 }
+    record { walks = c.search.ensures.walks; bounds = c.search.ensures.bounds; known = kept.0; few = kept.1 }

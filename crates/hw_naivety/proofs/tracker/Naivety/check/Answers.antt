@@ -13,7 +13,7 @@ pub check_over-requires-clause-lists : goal.check_over-requires-clause-lists
 check_over-requires-clause-lists c =
     moved (λ ws ds. HasLists c.args.dag.now ws ds) c.args.prepared.now.panorama c.panorama.result.now c.args.prepared.now.signed.unit.endorsed c.as_slice-endorsed.result.now (sym c.panorama.ensures)
     (sym (c.as_slice-endorsed.ensures ∙ ap (λ (s : SignedUnit). s.unit.endorsed) c.signed.ensures))
-    (lists_kept c.args.dag.now c.count-count.ensures.graph c.args.prepared.now.panorama c.requires.panorama.known (node_prepared c.args.prepared.now) c.requires.resolved.observes c.requires.endorsed)
+    (lists_kept c.args.dag.now c.recall_graph.ensures c.args.prepared.now.panorama c.requires.panorama.known (node_prepared c.args.prepared.now) c.requires.resolved.observes c.requires.endorsed)
 
 pub returns-clause-none : goal.returns-clause-none
 returns-clause-none c = c.check_over.ensures.none (node_prepared c.args.prepared.now) (record {

@@ -22,8 +22,8 @@ pub returns-in-Err-clause-none : goal.returns-in-Err-clause-none
 returns-in-Err-clause-none c = λ u h.
     let fork = subst (λ (ds : List Digest). IsNaiveFork c.args.dag.now c.args.panorama.now ds c.loop-creator.creator c.in-Err.fork) h.endorsed_is c.in-Err.ensures.fork in (
       (λ t. absurd cc),
-      (λ n. absurd (fork_unordered c.args.dag.now c.count-count.ensures.graph c.args.panorama.now c.requires.panorama u h.observes c.loop-creator.creator c.in-Err.fork fork
-          (forkless_ordered c.args.dag.now c.count-count.ensures.graph c.args.panorama.now c.requires.panorama u h.observes n c.loop-creator.creator))),
+      (λ n. absurd (fork_unordered c.args.dag.now c.recall_graph.ensures c.args.panorama.now c.requires.panorama u h.observes c.loop-creator.creator c.in-Err.fork fork
+          (forkless_ordered c.args.dag.now c.recall_graph.ensures c.args.panorama.now c.requires.panorama u h.observes n c.loop-creator.creator))),
     )
 
 pub returns-in-Err-clause-least : goal.returns-in-Err-clause-least
@@ -31,7 +31,7 @@ returns-in-Err-clause-least c = λ u h.
     let fork = subst (λ (ds : List Digest). IsNaiveFork c.args.dag.now c.args.panorama.now ds c.loop-creator.creator c.in-Err.fork) h.endorsed_is c.in-Err.ensures.fork in
     let ordered = subst (λ (ds : List Digest). (v m n : ℕ) → v < c.loop-creator.creator → IsNaive c.args.dag.now c.args.panorama.now ds v m → IsNaive c.args.dag.now c.args.panorama.now ds v n
     → (is_lane_below c.args.dag.now m n ≡ true) ⊎ (is_lane_below c.args.dag.now n m ≡ true)) h.endorsed_is c.loop-creator.invariant.0 in
-    least_fork c.args.dag.now c.count-count.ensures.graph c.args.panorama.now c.requires.panorama u h.observes c.loop-creator.creator c.in-Err.fork fork
+    least_fork c.args.dag.now c.recall_graph.ensures c.args.panorama.now c.requires.panorama u h.observes c.loop-creator.creator c.in-Err.fork fork
     (λ w less m n hm hn. ordered w m n less hm hn)
 
 pub loop-creator-preserved : goal.loop-creator-preserved
@@ -44,12 +44,12 @@ loop-creator-preserved c = (
         let at_n = subst (λ (k : ℕ). IsNaive c.args.dag.now c.args.panorama.now c.args.endorsed.now k n) same hn in
         elim c.match-get.branch [
           | in-Faulty+in_default-tip_over w ↦
-              found_order c.args.dag.now c.count-count.ensures.graph c.args.panorama.now c.requires.panorama c.args.endorsed.now c.loop-creator.creator w.tip_over.result
+              found_order c.args.dag.now c.recall_graph.ensures c.args.panorama.now c.requires.panorama c.args.endorsed.now c.loop-creator.creator w.tip_over.result
               w.tip_over.ensures.tip w.in_default-tip_over.not-Err m n at_m at_n
           | in_default w ↦
               let noted = subst (λ (t : NaiveTips). IsNoted t c.args.dag.now) (sym c.self.view_is) c.requires.noted in
               let all = ap (λ (t : NaiveTips). t.count) c.self.view_is ∙ c.requires.all in
-              lane_ordered c.args.dag.now c.count-count.ensures.graph c.args.panorama.now c.requires.panorama (with_list c.args.dag.now c.args.panorama.now c.args.endorsed.now) refl c.self.inside.lanes c.self.inside.count c.loop-creator.creator
+              lane_ordered c.args.dag.now c.recall_graph.ensures c.args.panorama.now c.requires.panorama (with_list c.args.dag.now c.args.panorama.now c.args.endorsed.now) refl c.self.inside.lanes c.self.inside.count c.loop-creator.creator
               noted.lanes_are all (λ e. w.in_default.not-Faulty (c.get.ensures ∙ e)) m n at_m at_n
         ]
   ]),
@@ -61,12 +61,12 @@ loop-creator-preserved c = (
 
 pub returns-clause-none : goal.returns-clause-none
 returns-clause-none c = λ u h. (
-  (λ t. ordered_forkless c.args.dag.now c.count-count.ensures.graph c.args.panorama.now c.requires.panorama u h.observes (λ v. elim (cases_lt v c.self.inside.validators) [
+  (λ t. ordered_forkless c.args.dag.now c.recall_graph.ensures c.args.panorama.now c.requires.panorama u h.observes (λ v. elim (cases_lt v c.self.inside.validators) [
     | inl less ↦ subst (λ (ds : List Digest). (m n : ℕ) → IsNaive c.args.dag.now c.args.panorama.now ds v m → IsNaive c.args.dag.now c.args.panorama.now ds v n
         → (is_lane_below c.args.dag.now m n ≡ true) ⊎ (is_lane_below c.args.dag.now n m ≡ true)) h.endorsed_is (λ m n hm hn. c.loop-creator.invariant.0 v m n (let over = c.loop-creator-test.false in omega arith) hm hn)
     | inr above ↦
         let same = ap (λ (t : NaiveTips). t.validators) c.self.view_is ∙ c.requires.noted.validators_are in
-        beyond_ordered c.args.dag.now c.count-count.ensures.graph c.args.panorama.now c.requires.panorama u h.observes v (omega arith)
+        beyond_ordered c.args.dag.now c.recall_graph.ensures c.args.panorama.now c.requires.panorama u h.observes v (omega arith)
   ])),
   (λ n. refl),
 )

@@ -12,7 +12,7 @@ use Rattle.hw_naivety.proofs.tracker.Naivety.note.Goals as goal
 
 pub fill-requires-clause-tips : goal.fill-requires-clause-tips
 fill-requires-clause-tips c =
-    let u = c.count-count.ensures.graph.settled c.args.no.0 c.requires.known in
+    let u = c.recall_graph.ensures.settled c.args.no.0 c.requires.known in
     let panorama = c.panorama.ensures ∙ ap (λ (s : SettledUnit). s.panorama) c.unit-unit.ensures in
     let noted = subst (λ (t : NaiveTips). IsNoted t c.args.dag.now) (sym c.self.view_is) c.requires.noted in
     let count = ap (λ (t : NaiveTips). t.count) c.self.view_is ∙ c.requires.next in
@@ -22,7 +22,7 @@ fill-requires-clause-tips c =
 
 pub fill-requires-clause-lists : goal.fill-requires-clause-lists
 fill-requires-clause-lists c =
-    let g = c.count-count.ensures.graph in
+    let g = c.recall_graph.ensures in
     let u = g.settled c.args.no.0 c.requires.known in
     moved (λ ws ds. HasLists c.args.dag.now ws ds) (unit_at c.args.dag.now c.args.no.0).panorama c.panorama.result.now (unit_at c.args.dag.now c.args.no.0).signed.unit.endorsed c.as_slice.result.now
     (sym (c.panorama.ensures ∙ ap (λ (s : SettledUnit). s.panorama) c.unit-unit.ensures))
@@ -31,7 +31,7 @@ fill-requires-clause-lists c =
 
 pub fill-requires-clause-forkless : goal.fill-requires-clause-forkless
 fill-requires-clause-forkless c =
-    let g = c.count-count.ensures.graph in
+    let g = c.recall_graph.ensures in
     let u = g.settled c.args.no.0 c.requires.known in
     moved (λ ws ds. IsForkless c.args.dag.now ws ds) (unit_at c.args.dag.now c.args.no.0).panorama c.panorama.result.now (unit_at c.args.dag.now c.args.no.0).signed.unit.endorsed c.as_slice.result.now
     (sym (c.panorama.ensures ∙ ap (λ (s : SettledUnit). s.panorama) c.unit-unit.ensures))

@@ -14,7 +14,7 @@ use Rattle.hw_rules.proofs.StateLaws.{err_broken, ok_kept, broken_citation, brok
 use Rattle.hw_rules.proofs.judge.Judge.judge.Goals as goal
 
 pub citations-requires : goal.citations-requires
-citations-requires c = is_case c.args.self.now.config.now c.args.prepared.now c.requires.alone c.args.self.now.dag.now c.requires.weights.length_is c.count-count.ensures.graph c.requires.resolved
+citations-requires c = is_case c.args.self.now.config.now c.args.prepared.now c.requires.alone c.args.self.now.dag.now c.requires.weights.length_is c.recall_graph.ensures c.requires.resolved
 
 pub returns-in_err-citations-clause-broken : goal.returns-in_err-citations-clause-broken
 returns-in_err-citations-clause-broken c =
@@ -25,7 +25,7 @@ returns-in_err-citations-clause-broken c =
     rw (p.1, p.2) (broken_citation config below u _ (err_broken _ _ (sym c.citations.ensures ∙ c.in_err-citations.was)))
 
 pub rounds-requires-clause-case : goal.rounds-requires-clause-case
-rounds-requires-clause-case c = is_case c.args.self.now.config.now c.args.prepared.now c.requires.alone c.args.self.now.dag.now c.requires.weights.length_is c.count-count.ensures.graph c.requires.resolved
+rounds-requires-clause-case c = is_case c.args.self.now.config.now c.args.prepared.now c.requires.alone c.args.self.now.dag.now c.requires.weights.length_is c.recall_graph.ensures c.requires.resolved
 
 pub rounds-requires-clause-exponent : goal.rounds-requires-clause-exponent
 rounds-requires-clause-exponent c = exponent_small c.args.self.now.config.now c.args.prepared.now c.requires.alone c.requires.lawful
@@ -41,7 +41,7 @@ returns-in_err-rounds-clause-broken c =
     rw (p.1, p.2) (broken_round config below u cited _ (err_broken _ _ (said ∙ c.in_err-rounds.was)))
 
 pub endorsements-requires-clause-case : goal.endorsements-requires-clause-case
-endorsements-requires-clause-case c = is_case c.args.self.now.config.now c.args.prepared.now c.requires.alone c.args.self.now.dag.now c.requires.weights.length_is c.count-count.ensures.graph c.requires.resolved
+endorsements-requires-clause-case c = is_case c.args.self.now.config.now c.args.prepared.now c.requires.alone c.args.self.now.dag.now c.requires.weights.length_is c.recall_graph.ensures c.requires.resolved
 
 pub returns-in_err-endorsements-clause-broken : goal.returns-in_err-endorsements-clause-broken
 returns-in_err-endorsements-clause-broken c =
@@ -58,11 +58,11 @@ pub fork_choice-fork-requires-clause-panorama : goal.fork_choice-fork-requires-c
 fork_choice-fork-requires-clause-panorama c =
     let cited = ok_kept _ (sym c.citations.ensures ∙ c.in_ok-citations.was) in
     subst (λ (ws : List View). IsPanorama c.args.self.now.dag.now ws) (sym c.panorama.ensures)
-    (panorama_is c.args.self.now.dag.now c.args.prepared.now (is_case c.args.self.now.config.now c.args.prepared.now c.requires.alone c.args.self.now.dag.now c.requires.weights.length_is c.count-count.ensures.graph c.requires.resolved)
+    (panorama_is c.args.self.now.dag.now c.args.prepared.now (is_case c.args.self.now.config.now c.args.prepared.now c.requires.alone c.args.self.now.dag.now c.requires.weights.length_is c.recall_graph.ensures c.requires.resolved)
     (none_broken (citation_tests (below_of c.args.self.now.dag.now c.args.prepared.now) (node_prepared c.args.prepared.now)) cited).0)
 
 pub is_after_end-requires-clause-case : goal.is_after_end-requires-clause-case
-is_after_end-requires-clause-case c = is_case c.args.self.now.config.now c.args.prepared.now c.requires.alone c.args.self.now.dag.now c.requires.weights.length_is c.count-count.ensures.graph c.requires.resolved
+is_after_end-requires-clause-case c = is_case c.args.self.now.config.now c.args.prepared.now c.requires.alone c.args.self.now.dag.now c.requires.weights.length_is c.recall_graph.ensures c.requires.resolved
 
 pub returns-then-is_after_end-clause-broken : goal.returns-then-is_after_end-clause-broken
 returns-then-is_after_end-clause-broken c =

@@ -1,0 +1,69 @@
+//! The configuration of a line that begins a case.
+
+use crate::words::{after, number_of};
+use hw_types::{Config, IndexList, Leaders, WeightList};
+use std::alloc::Global;
+
+/// The configuration that the words tell: `weights` with its numbers, and `ftt`, `levels`, `leaders`, `records`,
+/// `parked` and `end` with theirs, where they are there. None for want of memory.
+pub fn config_of(alloc: Global, words: &[&str]) -> Option<Config> {
+    Some(Config {
+        weights: weights_of(alloc, words)?,
+        ftt: number_of(words, "ftt"),
+        levels: levels_of(words),
+        min_exponent: 4,
+        max_exponent: 8,
+        leaders: Leaders::Table(leaders_of(alloc, words)?),
+        max_records: limit_of(words, "records", 100_000),
+        max_parked: limit_of(words, "parked", 16_384),
+        end: end_of(words),
+    })
+}
+
+fn weights_of(alloc: Global, words: &[&str]) -> Option<WeightList> {
+    let mut weights = WeightList::new(alloc);
+    for word in after(words, "weights") {
+        let Ok(weight) = word.parse::<u64>() else {
+            break;
+        };
+        weights.push(weight).ok()?;
+    }
+    Some(weights)
+}
+
+/// The leaders by round; validator 0 alone where none are told.
+fn leaders_of(alloc: Global, words: &[&str]) -> Option<IndexList> {
+    let mut leaders = IndexList::new(alloc);
+    for word in after(words, "leaders") {
+        let Ok(leader) = word.parse::<u32>() else {
+            break;
+        };
+        leaders.push(leader).ok()?;
+    }
+    if leaders.len() == 0 {
+        leaders.push(0).ok()?;
+    }
+    Some(leaders)
+}
+
+fn levels_of(words: &[&str]) -> u8 {
+    match after(words, "levels") {
+        [levels, ..] => levels.parse().unwrap_or(0),
+        [] => 1,
+    }
+}
+
+/// The limit behind this word, else the usual one.
+fn limit_of(words: &[&str], key: &str, usual: u32) -> u32 {
+    match after(words, key) {
+        [limit, ..] => limit.parse().unwrap_or(usual),
+        [] => usual,
+    }
+}
+
+fn end_of(words: &[&str]) -> Option<u64> {
+    match after(words, "end") {
+        [end, ..] => end.parse().ok(),
+        [] => None,
+    }
+}

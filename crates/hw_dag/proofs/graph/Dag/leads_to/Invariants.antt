@@ -1,4 +1,0 @@
-use Rattle.hw_dag.proofs.graph.Dag.leads_to.Given as goal
-
-abbrev pub ghosts-lane_at_uncounted : goal.ghosts-lane_at_uncounted
-ghosts-lane_at_uncounted a = record { name = a.blank.name; parts = a.blank.parts }

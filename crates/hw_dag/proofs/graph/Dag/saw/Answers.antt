@@ -1,0 +1,24 @@
+use Rattle.std.proofs.Common.{◌≡◌, List, refl, sym, ap, subst, ◌∙◌}
+use Rattle.hw_dag.specs.declared.numbers.View.{View}
+use Rattle.hw_dag.specs.declared.numbers.View.TheVariants as view
+use Rattle.hw_dag.specs.Dag.{SettledUnit, unit_at, view_at}
+use Rattle.hw_dag.specs.Admission.{IsGraph}
+use Rattle.hw_dag.specs.Walks.{Cites}
+use Rattle.hw_dag.proofs.PlaceLaws.{read_unit}
+use Rattle.hw_dag.proofs.MarkLaws.{seen_along, seen_through}
+use Rattle.hw_dag.proofs.graph.Dag.saw.Goals as goal
+
+pub returns-then-shows : goal.returns-then-shows
+returns-then-shows c = λ t.
+    let graph = subst IsGraph c.self.view_is c.self.invariant.0.graph_is in
+    let first = c.first_marking-first.ensures in
+    let views = c.views-view-items.ensures ∙ c.panorama.ensures ∙ ap (λ (u : SettledUnit). u.panorama) (read_unit _ c.args.self.now c.first_marking-first.result.0 c.index.result.now c.self.view_is first.known c.index.ensures) in
+    let shown = c.shows.ensures c.if-shows.true in
+    let cites : Cites c.args.self.now c.first_marking-first.result.0 shown.0.0 = record {
+      slot = c.loop-view.view-index;
+      number = shown.0;
+      seen = ap (λ (ws : List View). view_at ws c.loop-view.view-index) (sym views) ∙ shown.1;
+      is = refl;
+    } in
+    seen_along c.args.self.now graph c.args.low.0 c.first_marking-first.result.0 c.args.high.0 c.requires.low_known first.known c.requires.high_known
+    (seen_through c.args.self.now graph c.args.low.0 shown.0.0 c.first_marking-first.result.0 c.requires.low_known first.known shown.2 cites) first.on_lane

@@ -1,3 +1,0 @@
-pub mod RuleLaws
-pub mod TestedLaws
-pub mod KeptLaws

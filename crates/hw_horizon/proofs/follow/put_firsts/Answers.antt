@@ -1,0 +1,36 @@
+use Rattle.std.proofs.Common.{◌≡◌, ◌<◌, inl, inr, ℕ, List, length, set, get_or, sym, ap, subst, ◌∙◌, arith}
+use Rattle.std.proofs.Math.ListN.{length-set}
+use Rattle.std.proofs.lemmas.Bool.{cases_eq}
+use Rattle.hw_dag.specs.declared.numbers.View.TheVariants as view
+use Rattle.hw_dag.specs.Dag.{view_at}
+use Rattle.hw_horizon.specs.Bounds.{LevelBound, first_of, counts_over, IsFirstOf}
+use Rattle.hw_horizon.proofs.FollowLaws.{put_other, put_same, lowered_more}
+use Rattle.hw_horizon.proofs.follow.put_firsts.Goals as goal
+
+pub loop-v-preserved : goal.loop-v-preserved
+loop-v-preserved c =
+    let i = c.loop-v.invariant in
+    let less = c.loop-v-test.true in
+    let end = c.validators-v-end.ensures.validators in
+    let wide = c.requires.firsts_length in
+    let long = i.long in
+    let inside : c.loop-v.v < length c.loop-v.bound.firsts = omega arith in
+    let put : c.set_first.new.self.firsts ≡ set c.loop-v.bound.firsts c.loop-v.v c.next_first-first.result = ap (λ (b : LevelBound). b.firsts) c.set_first.ensures in
+    let before : c.get-before.result ≡ first_of c.args.bound.now c.loop-v.v = c.get-before.ensures ∙ ap (λ (ns : List ℕ). get_or ns c.loop-v.v 0) c.firsts.ensures ∙ i.rest c.loop-v.v (omega arith) in
+    record {
+      long = ap length put ∙ length-set c.loop-v.bound.firsts c.loop-v.v c.next_first-first.result ∙ i.long;
+      support = ap (λ (b : LevelBound). b.support) c.set_first.ensures ∙ i.support;
+      rest = λ w le. put_other c.loop-v.bound.firsts c.set_first.new.self.firsts c.loop-v.v w c.next_first-first.result put (omega arith) ∙ i.rest w (omega arith);
+      firsts = λ w tip lt e. elim (cases_eq w c.loop-v.v) [
+        | inl same ↦
+            let here : view_at c.args.panorama.now c.loop-v.v ≡ view.Correct tip = subst (λ (k : ℕ). view_at c.args.panorama.now k ≡ view.Correct tip) same e in
+            let is : first_of c.set_first.new.self w ≡ c.next_first-first.result = ap (λ (k : ℕ). first_of c.set_first.new.self k) same ∙ put_same c.loop-v.bound.firsts c.set_first.new.self.firsts c.loop-v.v c.next_first-first.result put inside in
+            subst (λ (n : ℕ). IsFirstOf c.args.dag.now tip.0 (counts_over c.args.weights.now c.args.dag.now c.args.block.0 c.args.least c.args.is_votes c.args.lower.now.firsts) n) (sym is)
+            (c.next_first-first.ensures tip (c.get.ensures ∙ here))
+        | inr other ↦
+            subst (λ (n : ℕ). IsFirstOf c.args.dag.now tip.0 (counts_over c.args.weights.now c.args.dag.now c.args.block.0 c.args.least c.args.is_votes c.args.lower.now.firsts) n)
+            (sym (put_other c.loop-v.bound.firsts c.set_first.new.self.firsts c.loop-v.v w c.next_first-first.result put other)) (i.firsts w tip (omega arith) e)
+      ];
+      lowered = lowered_more c.args.bound.now c.loop-v.bound c.set_first.new.self c.loop-v.v c.next_first-first.result c.loop-v.lowest c.lowest_of-lowest.result i.lowered (i.rest c.loop-v.v (omega arith)) put inside
+          c.lowest_of-lowest.ensures.most (λ lt. c.lowest_of-lowest.ensures.lowered (omega arith));
+    }

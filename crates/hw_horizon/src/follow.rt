@@ -1,0 +1,310 @@
+//! How the bound of a level follows the panorama.
+
+ghost use Rattle.std.specs.Prelude.{◌≡◌, ℕ, ◌<◌, ◌≤◌, length, true, false, Some, None, slice_index_or, IsTrue};
+ghost use Rattle.hw_dag.specs.Dag.{IsPanorama, count_of, view_at, unit_at};
+ghost use Rattle.hw_dag.specs.Admission.{IsGraph};
+ghost use Rattle.hw_dag.specs.Lanes.{AreWeights};
+ghost use Rattle.hw_dag.specs.Tables.{predecessor_of};
+ghost use Rattle.hw_dag.specs.declared.numbers.UnitNo.{UnitNo as Number};
+ghost use Rattle.hw_horizon.specs.Firsts.{weight_after};
+ghost use Rattle.hw_horizon.specs.Bounds.{first_of, support_of, counts_over, IsFirstOf, AreLowered};
+
+use crate::bounds::Bound;
+use crate::firsts::NO_UNIT;
+use crate::quorums::{has_quorum, weight_after};
+use crate::votes::votes_for;
+use hw_dag::{Dag, Panorama, UnitNo, View};
+
+/// Makes the bound of a level that of the panorama, over the level below it, of which no first unit came
+/// down below the number `low`. Answers the same number for this level.
+pub(crate) fn follow_level(
+    bound: &mut Bound,
+    lower: &Bound,
+    is_votes: bool,
+    dag: &Dag,
+    weights: &[u64],
+    panorama: &Panorama,
+    tips: &[Option<UnitNo>],
+    block: UnitNo,
+    least: u64,
+    low: u32,
+) -> u32
+    requires panorama { IsPanorama dag.now panorama.now }
+    requires weights { AreWeights weights.now dag.now }
+    requires block_known { block.0 < count_of dag.now }
+    requires tips { length tips.now ≡ dag.now.validators }
+    requires firsts_length { length bound.old.firsts ≡ dag.now.validators }
+    requires support_length { length bound.old.support ≡ dag.now.validators }
+    requires lower_firsts { length lower.now.firsts ≡ dag.now.validators }
+    requires lower_support { length lower.now.support ≡ dag.now.validators }
+    requires known { (v : ℕ) (tip : Number) → slice_index_or tips.now v None ≡ Some tip → tip.0 < count_of dag.now }
+    requires kept { (v : ℕ) (tip : Number) → slice_index_or tips.now v None ≡ Some tip → first_of bound.old v ≤ low → IsFirstOf dag.now tip.0 (counts_over weights.now dag.now block.0 least is_votes lower.now.firsts) (first_of bound.old v) }
+    requires seen { (v : ℕ) (tip : Number) → slice_index_or tips.now v None ≡ Some tip → weight_after weights.now dag.now bound.old.firsts tip.0 ≤ support_of bound.old v }
+    requires supported { is_votes ≡ false → (v : ℕ) (tip : Number) → view_at panorama.now v ≡ View.Correct tip → weight_after weights.now dag.now lower.now.firsts tip.0 ≤ support_of lower.now v }
+    ensures graph { IsGraph dag.now }
+    ensures firsts { (v : ℕ) (tip : Number) → view_at panorama.now v ≡ View.Correct tip → IsFirstOf dag.now tip.0 (counts_over weights.now dag.now block.0 least is_votes lower.now.firsts) (first_of bound.new v) }
+    ensures support { (v : ℕ) (tip : Number) → view_at panorama.now v ≡ View.Correct tip → weight_after weights.now dag.now bound.new.firsts tip.0 ≤ support_of bound.new v }
+    ensures lowered { AreLowered bound.old bound.new result }
+    ensures firsts_length { length bound.new.firsts ≡ length bound.old.firsts }
+    ensures support_length { length bound.new.support ≡ length bound.old.support }
+{
+    let low = put_firsts(
+        bound, lower, is_votes, dag, weights, panorama, tips, block, least, low,
+    );
+    put_support(bound, dag, weights, panorama, tips, low);
+    low
+}
+
+// Puts the first units, and answers a number that none of them came down below.
+fn put_firsts(
+    bound: &mut Bound,
+    lower: &Bound,
+    is_votes: bool,
+    dag: &Dag,
+    weights: &[u64],
+    panorama: &Panorama,
+    tips: &[Option<UnitNo>],
+    block: UnitNo,
+    least: u64,
+    low: u32,
+) -> u32
+    requires panorama { IsPanorama dag.now panorama.now }
+    requires weights { AreWeights weights.now dag.now }
+    requires block_known { block.0 < count_of dag.now }
+    requires tips { length tips.now ≡ dag.now.validators }
+    requires firsts_length { length bound.old.firsts ≡ dag.now.validators }
+    requires lower_firsts { length lower.now.firsts ≡ dag.now.validators }
+    requires lower_support { length lower.now.support ≡ dag.now.validators }
+    requires known { (v : ℕ) (tip : Number) → slice_index_or tips.now v None ≡ Some tip → tip.0 < count_of dag.now }
+    requires kept { (v : ℕ) (tip : Number) → slice_index_or tips.now v None ≡ Some tip → first_of bound.old v ≤ low → IsFirstOf dag.now tip.0 (counts_over weights.now dag.now block.0 least is_votes lower.now.firsts) (first_of bound.old v) }
+    requires supported { is_votes ≡ false → (v : ℕ) (tip : Number) → view_at panorama.now v ≡ View.Correct tip → weight_after weights.now dag.now lower.now.firsts tip.0 ≤ support_of lower.now v }
+    ensures graph { IsGraph dag.now }
+    ensures firsts { (v : ℕ) (tip : Number) → view_at panorama.now v ≡ View.Correct tip → IsFirstOf dag.now tip.0 (counts_over weights.now dag.now block.0 least is_votes lower.now.firsts) (first_of bound.new v) }
+    ensures lowered { AreLowered bound.old bound.new result }
+    ensures firsts_length { length bound.new.firsts ≡ length bound.old.firsts }
+    ensures support { bound.new.support ≡ bound.old.support }
+{
+    let mut lowest = NO_UNIT;
+    for v in 0..dag.validators() {
+        let before = bound.firsts().get(v);
+        let first = next_first(
+            lower,
+            is_votes,
+            dag,
+            weights,
+            panorama.get(v),
+            tips[v as usize],
+            before,
+            block,
+            least,
+            low,
+            v,
+        );
+        lowest = lowest_of(lowest, before, first);
+        bound.set_first(v, first);
+    }
+    lowest
+}
+
+// The lesser of the number and the first unit, where that came down.
+fn lowest_of(lowest: u32, before: u32, first: u32) -> u32
+    ensures most { result ≤ lowest }
+    ensures lowered { first < before → result ≤ first }
+{
+    if first < before {
+        lowest.min(first)
+    } else {
+        lowest
+    }
+}
+
+// The first unit of the slot's lane that may count. It was `first` for the unit `kept`, over a level below
+// of which no first unit has come down below `low` since.
+fn next_first(
+    lower: &Bound,
+    is_votes: bool,
+    dag: &Dag,
+    weights: &[u64],
+    view: View,
+    kept: Option<UnitNo>,
+    first: u32,
+    block: UnitNo,
+    least: u64,
+    low: u32,
+    validator: u32,
+) -> u32
+    requires graph { IsGraph dag.now }
+    requires weights { AreWeights weights.now dag.now }
+    requires block_known { block.0 < count_of dag.now }
+    requires lower_firsts { length lower.now.firsts ≡ dag.now.validators }
+    requires within { validator < length lower.now.support }
+    requires view_known { (tip : Number) → view ≡ View.Correct tip → tip.0 < count_of dag.now }
+    requires known { (tip : Number) → kept ≡ Some tip → tip.0 < count_of dag.now }
+    requires kept { (tip : Number) → kept ≡ Some tip → first ≤ low → IsFirstOf dag.now tip.0 (counts_over weights.now dag.now block.0 least is_votes lower.now.firsts) first }
+    requires supported { is_votes ≡ false → (tip : Number) → view ≡ View.Correct tip → weight_after weights.now dag.now lower.now.firsts tip.0 ≤ support_of lower.now validator }
+    ensures { (tip : Number) → view ≡ View.Correct tip → IsFirstOf dag.now tip.0 (counts_over weights.now dag.now block.0 least is_votes lower.now.firsts) result }
+{
+    let View::Correct(tip) = view else {
+        return NO_UNIT;
+    };
+    if is_kept(kept, tip) && first <= low {
+        return first;
+    }
+    if !is_votes && lower.support(validator) < least {
+        return NO_UNIT;
+    }
+    walk(
+        lower, is_votes, dag, weights, tip, kept, first, block, least, low,
+    )
+}
+
+// The first unit, by a walk down the lane for as long as its units count.
+fn walk(
+    lower: &Bound,
+    is_votes: bool,
+    dag: &Dag,
+    weights: &[u64],
+    tip: UnitNo,
+    kept: Option<UnitNo>,
+    known_first: u32,
+    block: UnitNo,
+    least: u64,
+    low: u32,
+) -> u32
+    requires graph { IsGraph dag.now }
+    requires weights { AreWeights weights.now dag.now }
+    requires block_known { block.0 < count_of dag.now }
+    requires lower_firsts { length lower.now.firsts ≡ dag.now.validators }
+    requires tip_known { tip.0 < count_of dag.now }
+    requires known { (no : Number) → kept ≡ Some no → no.0 < count_of dag.now }
+    requires kept { (no : Number) → kept ≡ Some no → known_first ≤ low → IsFirstOf dag.now no.0 (counts_over weights.now dag.now block.0 least is_votes lower.now.firsts) known_first }
+    ensures { IsFirstOf dag.now tip.0 (counts_over weights.now dag.now block.0 least is_votes lower.now.firsts) result }
+{
+    let mut first = NO_UNIT;
+    let mut no = tip;
+    while counts(lower, is_votes, dag, weights, no, block, least) {
+        first = no.0;
+        let Some(before) = predecessor(dag, no) else {
+            return first;
+        };
+        if is_known_from(kept, before, known_first, low) {
+            return known_first;
+        }
+        no = before;
+    }
+    first
+}
+
+// Whether the unit may count: it votes for the block or a descendant of it, or sees the least quorum.
+fn counts(
+    lower: &Bound,
+    is_votes: bool,
+    dag: &Dag,
+    weights: &[u64],
+    no: UnitNo,
+    block: UnitNo,
+    least: u64,
+) -> bool
+    requires graph { IsGraph dag.now }
+    requires weights { AreWeights weights.now dag.now }
+    requires block_known { block.0 < count_of dag.now }
+    requires lower_firsts { length lower.now.firsts ≡ dag.now.validators }
+    requires known { no.0 < count_of dag.now }
+    ensures { result ≡ counts_over weights.now dag.now block.0 least is_votes lower.now.firsts no.0 }
+{
+    if is_votes {
+        votes_for(dag, no, block)
+    } else {
+        has_quorum(dag, weights, no, least, lower.firsts())
+    }
+}
+
+// The unit before it on its lane.
+fn predecessor(dag: &Dag, no: UnitNo) -> Option<UnitNo>
+    requires known { no.0 < count_of dag.now }
+    requires graph { IsGraph dag.now }
+    ensures { result ≡ predecessor_of (unit_at dag.now no.0) }
+{
+    let unit = dag.unit(no);
+    match unit.panorama().get(unit.signed().unit.creator) {
+        View::Correct(before) => Some(before),
+        View::Absent | View::Faulty => None,
+    }
+}
+
+// Whether it was the unit that is kept.
+fn is_kept(kept: Option<UnitNo>, tip: UnitNo) -> bool
+    ensures { IsTrue result → kept ≡ Some tip }
+{
+    match kept {
+        Some(no) => no == tip,
+        None => false,
+    }
+}
+
+// Whether the first unit is known from this unit on.
+fn is_known_from(kept: Option<UnitNo>, no: UnitNo, first: u32, low: u32) -> bool
+    ensures kept { IsTrue result → kept ≡ Some no }
+    ensures low { IsTrue result → first ≤ low }
+    ensures earlier { IsTrue result → first ≤ no.0 }
+{
+    is_kept(kept, no) && first <= low && first <= no.0
+}
+
+// Puts what the latest units see of the first units, none of which came down below the number `low`.
+fn put_support(
+    bound: &mut Bound,
+    dag: &Dag,
+    weights: &[u64],
+    panorama: &Panorama,
+    tips: &[Option<UnitNo>],
+    low: u32,
+)
+    requires panorama { IsPanorama dag.now panorama.now }
+    requires weights { AreWeights weights.now dag.now }
+    requires tips { length tips.now ≡ dag.now.validators }
+    requires firsts_length { length bound.old.firsts ≡ dag.now.validators }
+    requires support_length { length bound.old.support ≡ dag.now.validators }
+    requires kept { (v : ℕ) (tip : Number) → slice_index_or tips.now v None ≡ Some tip → tip.0 ≤ low → weight_after weights.now dag.now bound.old.firsts tip.0 ≤ support_of bound.old v }
+    ensures support { (v : ℕ) (tip : Number) → view_at panorama.now v ≡ View.Correct tip → weight_after weights.now dag.now bound.new.firsts tip.0 ≤ support_of bound.new v }
+    ensures firsts { bound.new.firsts ≡ bound.old.firsts }
+    ensures support_length { length bound.new.support ≡ length bound.old.support }
+{
+    for v in 0..dag.validators() {
+        let weight = next_support(
+            bound,
+            dag,
+            weights,
+            panorama.get(v),
+            tips[v as usize],
+            low,
+            v,
+        );
+        bound.set_support(v, weight);
+    }
+}
+
+// What the unit of the slot sees of the first units at most.
+fn next_support(
+    bound: &Bound,
+    dag: &Dag,
+    weights: &[u64],
+    view: View,
+    kept: Option<UnitNo>,
+    low: u32,
+    validator: u32,
+) -> u64
+    requires graph { IsGraph dag.now }
+    requires weights { AreWeights weights.now dag.now }
+    requires firsts { length bound.now.firsts ≡ dag.now.validators }
+    requires within { validator < length bound.now.support }
+    requires view_known { (tip : Number) → view ≡ View.Correct tip → tip.0 < count_of dag.now }
+    requires kept { (tip : Number) → kept ≡ Some tip → tip.0 ≤ low → weight_after weights.now dag.now bound.now.firsts tip.0 ≤ support_of bound.now validator }
+    ensures { (tip : Number) → view ≡ View.Correct tip → weight_after weights.now dag.now bound.now.firsts tip.0 ≤ result }
+{
+    match view {
+        View::Correct(tip) if is_kept(kept, tip) && tip.0 <= low => bound.support(validator),
+        View::Correct(tip) => weight_after(dag, weights, tip, bound.firsts()),
+        View::Absent | View::Faulty => 0,
+    }
+}

@@ -1,0 +1,37 @@
+//! What the small layers answer for the lines of its input, one line for each.
+//!
+//! | Line | Answer |
+//! |---|---|
+//! | `quorum TOTAL THRESHOLD LEVEL` | the quorum |
+//! | `round TIME EXPONENT` | the round's beginning, and its witness time |
+//! | `change BEFORE EXPONENT TIME EXPONENT` | whether the exponent may change so |
+//! | `way FROM TO` | the numbers to which the jumps lead |
+//! | `pointers NUMBER` | how many pointers it keeps |
+//! | `check WEIGHTS THRESHOLD LEVELS LEAST GREATEST LEADERS RECORDS PARKED` | whether the configuration keeps all limits; WEIGHTS are words `COUNTxWEIGHT` joined by `+`, LEADERS a table in that form or a key of 64 digits |
+//! | `leaders WEIGHTS LEADERS COUNT` | the leaders of the rounds 0, 16, 32 and so on |
+//! | `pair VALIDATORS LEFT RIGHT` | the creator, or the fault; a unit is `instance,creator,number,time` |
+//! | `print NUMBER`, `digest HEX`, `rule NUMBER` | printed parts |
+//! | `park LIMIT STEP ..` | what becomes of items: `p:NEEDS:ITEM` parks, `m:NEED` meets, `n` asks for the next, `c` counts; a need is `uN`, `eN` or `dN` |
+//! | `parks COUNT` | so many items with chosen needs are parked, met and handed out in order |
+//! | `endorse VALIDATORS STEP ..` | `a:UNIT:ENDORSER` adds, `q:UNIT` asks, `h:UNIT:ENDORSER` asks for a pair |
+//! | `endorsers VALIDATORS` | how many of them, one after the other, make a unit endorsed |
+#![tactic(auto)]
+
+mod configs;
+mod endorsing;
+mod lines;
+mod numbers;
+mod parking;
+mod printed;
+
+use std::io;
+
+fn main(rt: HostRuntime) -> io::Result<()> {
+    for line in rt.lines(rt.alloc()) {
+        let Ok(text) = lines::answer(rt.alloc(), line?.as_str()) else {
+            return Err(io::ErrorKind::OutOfMemory.into());
+        };
+        println!(rt; "{text}")?;
+    }
+    Ok(())
+}
