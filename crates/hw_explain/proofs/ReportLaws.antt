@@ -3,6 +3,11 @@ use Rattle.std.proofs.Common.{◌≡◌, ◌⊎◌, inl, inr, ℕ, ◌+◌, ◌<
 use Rattle.std.proofs.lemmas.List.FromFn.{filter_of_map_range_with_len_more}
 use Rattle.std.specs.Prelude.{filter}
 use Rattle.std.specs.List.{flat_map, range_with_len}
+use Rattle.std.specs.Prelude.{take, slice_get}
+use Rattle.std.proofs.lemmas.List.{take_more}
+use Rattle.std.proofs.lemmas.Option.{slice_get_within, get_or_from_slice_get}
+use Rattle.std.proofs.lemmas.Grind.{flat_map-append}
+use Rattle.hw_summit.specs.Decided.{decisions_of}
 use Rattle.hw_types.specs.declared.unit.Digest.{Digest}
 use Rattle.hw_types.specs.declared.unit.Obs.{Obs}
 use Rattle.hw_types.specs.declared.unit.Obs.TheVariants.{Absent, Correct, Faulty}
@@ -13,16 +18,20 @@ use Rattle.hw_types.specs.Settled.{Received, correct_or_absent, is_faulty, settl
 use Rattle.hw_types.specs.Journal.{Setting, received_of}
 use Rattle.hw_types.specs.Real.{CoreState, received_in, settled_in, panorama_in}
 use Rattle.hw_types.proofs.TipLaws.{slot_over}
-use Rattle.hw_explain.specs.Report.{counts_line, faulty_line, fork_line, final_line, exceeded_line, counts_of, faulty_in, fork_in, exceeded_in, report_with}
+use Rattle.hw_explain.specs.Report.{counts_line, faulty_line, fork_line, final_line, exceeded_line, counts_of, faulty_in, fork_in, exceeded_in, report_with, report_text}
 
 -- the report, line by line
 pub report_parts : (s : Setting) (journal : List Vertex) (refused repeats : ℕ)
-    → counts_line (counts_of s.config (received_of s journal) refused repeats) ++ faulty_line (faulty_in s.config (received_of s journal)) ++ fork_line (fork_in s.config (received_of s journal)) ++ exceeded_line (exceeded_in s.config (received_of s journal))
-    ≡ report_with s journal [] refused repeats
+    → counts_line (counts_of s.config (received_of s journal) refused repeats) ++ faulty_line (faulty_in s.config (received_of s journal)) ++ fork_line (fork_in s.config (received_of s journal)) ++ flat_map final_line (decisions_of s journal) ++ exceeded_line (exceeded_in s.config (received_of s journal))
+    ≡ report_text s journal refused repeats
 unfolding report_with
-report_parts s journal refused repeats =
-    ap (λ l. l ++ exceeded_line (exceeded_in s.config (received_of s journal)))
-    (sym (append-nil (counts_line (counts_of s.config (received_of s journal) refused repeats) ++ faulty_line (faulty_in s.config (received_of s journal)) ++ fork_line (fork_in s.config (received_of s journal)))))
+report_parts s journal refused repeats = refl
+
+-- one more line
+pub one_more : {X : Type 0} (f : X → List ℕ) (xs : List X) (i : ℕ) (x : X) → Some x ≡ slice_get xs i → flat_map f (take i xs) ++ f x ≡ flat_map f (take (i + 1) xs)
+one_more f xs i x is =
+    let within = slice_get_within xs i x (sym is) in
+    sym (ap (flat_map f) (take_more xs i x within ∙ ap (λ y. take i xs ++ y ∷ []) (get_or_from_slice_get xs i x x (sym is))) ∙ flat_map-append f (take i xs) (x ∷ []) ∙ ap (λ l. flat_map f (take i xs) ++ l) (append-nil (f x)))
 
 not_marked : (tip : Option Node) → is_faulty_mark (correct_or_absent tip) ≡ false
 not_marked None = refl

@@ -8,6 +8,7 @@ use Rattle.hw_types.specs.declared.config.Config.{Config}
 use Rattle.hw_types.specs.declared.answers.Decision.{Decision}
 use Rattle.hw_types.specs.Settled.{Received, validators, is_faulty, settled_of, parked_of, dropped_of, faulty_weight, fork_choice}
 use Rattle.hw_types.specs.Journal.{Setting, received_of}
+use Rattle.hw_summit.specs.Decided.{decisions_of}
 use Rattle.hw_text.specs.Text.{number_text, digest_text}
 use Rattle.hw_text.specs.Lines.{line_of, or_dash}
 use Rattle.hw_explain.specs.declared.lines.Counts.{Counts}
@@ -86,6 +87,6 @@ report_with s journal decisions refused repeats =
     ++ flat_map final_line decisions
     ++ exceeded_line (exceeded_in s.config received)
 
--- The report on a journal. It tells no decided block yet.
+-- the report on a journal
 abbrev pub report_text : Setting → List Vertex → ℕ → ℕ → List ℕ
-report_text s journal refused repeats = report_with s journal [] refused repeats
+report_text s journal refused repeats = report_with s journal (decisions_of s journal) refused repeats

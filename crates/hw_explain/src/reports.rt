@@ -1,18 +1,18 @@
 //! The report on a node.
 
-ghost use Rattle.std.specs.Prelude.{◌≡◌, ◌<◌, length, IfOk};
+ghost use Rattle.std.specs.Prelude.{◌≡◌, ◌<◌, ◌++◌, length, IfOk, OnOk};
+ghost use Rattle.std.specs.List.{flat_map};
 ghost use Rattle.hw_types.specs.Settled.{is_faulty};
 ghost use Rattle.hw_types.specs.Real.{setting_of, received_in, settled_in};
-ghost use Rattle.hw_explain.specs.Report.{counts_of, faulty_in, report_text};
+ghost use Rattle.hw_core.specs.Decided.{decided_in};
+ghost use Rattle.hw_explain.specs.Report.{final_line, counts_of, faulty_in, report_text};
 
-use crate::lines::{Counts, put_counts, put_exceeded, put_faulty, put_fork};
+use crate::lines::{Counts, put_counts, put_exceeded, put_faulty, put_final, put_fork};
 use hw_core::Core;
 use hw_types::{Bytes, Obs, OutOfMemory};
 use std::alloc::Global;
 
 /// The report on a node, after so many deliveries that were refused and so many that came again.
-///
-/// It tells no decided block yet.
 #[tactic(auto, using(crate::proofs::ReportLaws::report_parts))]
 pub fn report(
     alloc: Global,
@@ -26,6 +26,7 @@ pub fn report(
     put_counts(&mut text, &counts(core, refused, repeats))?;
     put_faulty(&mut text, faulty(alloc, core)?.as_slice())?;
     put_fork(&mut text, core.fork())?;
+    put_finals(&mut text, core)?;
     put_exceeded(&mut text, core.exceeded())?;
     Ok(text)
 }
@@ -75,4 +76,15 @@ fn is_faulty(core: &Core, validator: u32) -> bool
         Obs::Faulty => true,
         Obs::Absent | Obs::Correct(_) => false,
     }
+}
+
+/// Puts the lines of the decided blocks last.
+#[tactic(auto, using(crate::proofs::ReportLaws::one_more))]
+fn put_finals(text: &mut Bytes, core: &Core) -> Result<(), OutOfMemory>
+    ensures { OnOk result (text.new ≡ text.old ++ flat_map final_line (decided_in core.now)) }
+{
+    for index in 0..core.decision_count() {
+        put_final(text, core.decision(index))?;
+    }
+    Ok(())
 }
