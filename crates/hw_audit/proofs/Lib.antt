@@ -1,0 +1,11 @@
+pub mod UnitLaws
+pub mod KnownLaws
+pub mod OrderLaws
+pub mod ForkLaws
+pub mod NotedLaws
+pub mod PairLaws
+pub mod BlameLaws
+pub mod ChainLaws
+pub mod LinkLaws
+pub mod AnswerLaws
+pub mod TopLaws

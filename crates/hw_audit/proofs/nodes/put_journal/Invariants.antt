@@ -1,0 +1,7 @@
+use Rattle.std.proofs.Common.{◌≡◌, ◌++◌, take}
+use Rattle.hw_types.specs.Real.{settled_in}
+use Rattle.hw_audit.specs.Held.{held_units}
+use Rattle.hw_audit.proofs.nodes.put_journal.Given as goal
+
+abbrev pub invariant-loop-place : goal.invariant-loop-place
+invariant-loop-place l = l.units.items ≡ l.initial.units.items ++ held_units (settled_in l.core) (take l.place l.core.journal)

@@ -1,0 +1,123 @@
+-- Units of one creator and one sequence number that differ.
+use Rattle.std.specs.Prelude.{◌≡◌, ℕ, ◌≤◌, ◌<◌, ◌⊎◌, ◌≢◌, Bool, true, false, ◌&&◌, ◌==◌, List, length, filter, min, slice_index_or, Option, Some, None}
+use Rattle.std.specs.Option.{option_map}
+use Rattle.std.specs.Map.{lookup}
+use Rattle.std.specs.List.{list_any}
+use Rattle.hw_types.specs.Graph.{Node}
+use Rattle.hw_types.specs.Below.{Among}
+use Rattle.hw_types.specs.Same.{unit_eq}
+use Rattle.hw_types.specs.Culprits.{stands_before, equivocations_of, pair_of}
+use Rattle.hw_audit.specs.declared.forks.Place.{Place}
+use Rattle.hw_audit.specs.Held.{HeldUnit, node_held}
+
+-- where a unit stands
+abbrev pub place_of : HeldUnit → Place
+place_of h = record { creator = h.signed.unit.creator; seq = h.signed.unit.seq }
+
+-- the two places are one
+abbrev pub place_eq : Place → Place → Bool
+place_eq p q = (p.creator == q.creator) && (p.seq == q.seq)
+
+-- a unit that is shown at this place
+abbrev pub stands_at : Place → HeldUnit → Bool
+stands_at p h = h.is_shown && place_eq (place_of h) p
+
+-- the one comes before the other, by name and then by spelling
+abbrev pub Precedes : HeldUnit → HeldUnit → Type 0
+Precedes x y = stands_before (node_held x) (node_held y) ≡ true
+
+-- the two are one unit of one name
+abbrev pub AreOne : HeldUnit → HeldUnit → Type 0
+AreOne x y = node_held x ≡ node_held y
+
+-- the two are different units
+abbrev pub Differ : HeldUnit → HeldUnit → Type 0
+Differ x y = unit_eq x.signed.unit y.signed.unit ≡ false
+
+-- this is the one of the two that comes first, or the known one where they are one
+abbrev pub IsLesser : HeldUnit → HeldUnit → HeldUnit → Type 0
+IsLesser known unit h = ((h ≡ unit) × Precedes unit known) ⊎ ((h ≡ known) × (AreOne unit known ⊎ Precedes known unit))
+
+-- two units of one place, or one
+pub record ForkUnits : Type 0 where
+  pub first : HeldUnit
+  pub second : Option HeldUnit
+
+-- no other unit but the first, or this is the first of the others
+abbrev pub IsSecond : List HeldUnit → HeldUnit → Option HeldUnit → Type 0
+IsSecond ys a None = (y : HeldUnit) → Among y ys → AreOne y a
+IsSecond ys a (Some b) = Among b ys × Differ a b × ((y : HeldUnit) → Among y ys → AreOne y a ⊎ (AreOne y b ⊎ Precedes b y))
+
+-- the first of these units, and the first of the others
+pub record IsFork (ys : List HeldUnit) (f : ForkUnits) : Type 0 where
+  pub first_in : Among f.first ys
+  pub first_is : (y : HeldUnit) → Among y ys → AreOne y f.first ⊎ Precedes f.first y
+  pub second_is : IsSecond ys f.first f.second
+
+-- the fork of these units, or there are none
+abbrev pub IsForkAt : List HeldUnit → Option ForkUnits → Type 0
+IsForkAt ys None = (y : HeldUnit) → Among y ys → ⊥
+IsForkAt ys (Some f) = IsFork ys f
+
+-- the shown units of a place
+abbrev pub shown_at : Place → List HeldUnit → List HeldUnit
+shown_at p hs = filter (stands_at p) hs
+
+-- the table has the fork of each place
+abbrev pub AreForks : List (Place × ForkUnits) → List HeldUnit → Type 0
+AreForks entries hs = (p : Place) → IsForkAt (shown_at p hs) (lookup (place_eq p) entries)
+
+-- two different units are shown at this place
+abbrev pub HasFork : List HeldUnit → Place → Type 0
+HasFork hs p = (x : HeldUnit) × (y : HeldUnit) × Among x (shown_at p hs) × Among y (shown_at p hs) × Differ x y
+
+-- the least number at which the validator has two different units, or it has none
+abbrev pub IsLeast : List HeldUnit → ℕ → Option ℕ → Type 0
+IsLeast hs v None = (n : ℕ) → HasFork hs (record { creator = v; seq = n }) → ⊥
+IsLeast hs v (Some n) = HasFork hs (record { creator = v; seq = n }) × ((m : ℕ) → HasFork hs (record { creator = v; seq = m }) → n ≤ m)
+
+-- the least numbers of all validators
+abbrev pub AreLeast : List (Option ℕ) → List HeldUnit → Type 0
+AreLeast least hs = (v : ℕ) → v < length least → IsLeast hs v (slice_index_or least v None)
+
+-- the lesser number, or the one that there is
+abbrev pub lower_of : Option ℕ → ℕ → ℕ
+lower_of None n = n
+lower_of (Some m) n = min m n
+
+-- the validator's number is lowered to this one, and the others stay
+pub record IsLowered (old new : List (Option ℕ)) (creator seq : ℕ) : Type 0 where
+  pub length_is : length new ≡ length old
+  pub own : creator < length old → slice_index_or new creator None ≡ Some (lower_of (slice_index_or old creator None) seq)
+  pub others : (v : ℕ) → v ≢ creator → slice_index_or new v None ≡ slice_index_or old v None
+
+-- what is kept of these units
+pub record AreNoted (entries : List (Place × ForkUnits)) (least : List (Option ℕ)) (hs : List HeldUnit) : Type 0 where
+  pub forks : AreForks entries hs
+  pub least_are : AreLeast least hs
+
+-- ---- pairs
+
+-- two units that show that their creator equivocated
+pub record PairUnits : Type 0 where
+  pub first : HeldUnit
+  pub second : HeldUnit
+
+-- both units of a place, where there are two
+abbrev pub pair_in : Option ForkUnits → Option PairUnits
+pair_in None = None
+pair_in (Some f) = option_map (λ b. record { first = f.first; second = b }) f.second
+
+-- these nodes are the shown units
+pub record AreShown (hs : List HeldUnit) (xs : List Node) : Type 0 where
+  pub each : (h : HeldUnit) → Among h hs → h.is_shown ≡ true → Among (node_held h) xs
+  pub back : (x : Node) → Among x xs → (h : HeldUnit) × Among h hs × (h.is_shown ≡ true) × (node_held h ≡ x)
+
+-- the validator has two different units of one number
+abbrev pub is_culprit : List Node → ℕ → Bool
+is_culprit xs v = list_any (λ x. true) (equivocations_of xs v)
+
+-- the pair that shows the validator, which is among these units, or it is no culprit
+abbrev pub IsPairOf : List HeldUnit → List Node → ℕ → Option PairUnits → Type 0
+IsPairOf hs xs v None = is_culprit xs v ≡ false
+IsPairOf hs xs v (Some p) = (is_culprit xs v ≡ true) × (pair_of xs v ≡ Some (node_held p.first, node_held p.second)) × Among p.first hs × Among p.second hs

@@ -1,0 +1,9 @@
+pub mod Held
+pub mod Clashes
+pub mod Forks
+pub mod Shown
+pub mod Chains
+pub mod First
+pub mod Read
+pub mod Text
+pub mod Audit

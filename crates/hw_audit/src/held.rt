@@ -1,0 +1,140 @@
+//! The units that stand in a journal.
+
+ghost use Rattle.std.specs.Prelude.{◌≡◌, ◌++◌, true, OnOk, IfOk};
+ghost use Rattle.hw_types.specs.Same.{unit_eq};
+ghost use Rattle.hw_types.specs.Spelling.{Fits, VertexFits, digest_of};
+ghost use Rattle.hw_dag.specs.Dag.{graph};
+ghost use Rattle.hw_audit.specs.Held.{held_as, held_by, is_settled};
+
+use hw_codec::digest_of;
+use hw_dag::Dag;
+use hw_types::{Digest, OutOfMemory, SignedUnit, Vertex, WireUnit, is_same_unit};
+use std::alloc::Global;
+use std::marker::Model;
+
+/// A unit that stands in a journal, under its name.
+#[derive(Drop)]
+pub struct Held<'a> {
+    name: Digest,
+    signed: &'a SignedUnit,
+    /// Whether the journal shows it: it is settled, or stands in an evidence.
+    is_shown: bool,
+}
+
+impl<'a> Model for Held<'a> {
+    ghost use Rattle.std.specs.Prelude.{◌≡◌};
+    ghost use Rattle.hw_audit.specs.Held.{HeldUnit};
+
+    ghost Value = { HeldUnit };
+
+    ghost view = { λ h. record {
+      name = h.name;
+      signed = h.signed.now;
+      is_shown = h.is_shown;
+    } };
+
+    ghost use Rattle.hw_types.specs.Spelling.{Fits, digest_of};
+
+    ghost invariant = { λ h. (h.name ≡ digest_of h.signed.now.unit) × Fits h.signed.now.unit };
+}
+
+impl<'a> Held<'a> {
+    /// Its name.
+    pub fn name(&self) -> &Digest
+        ensures name { result.now ≡ self.now.name }
+        ensures is_name { self.now.name ≡ digest_of self.now.signed.unit }
+    {
+        &self.name
+    }
+
+    /// The unit as its creator signed it.
+    pub fn signed(&self) -> &'a SignedUnit
+        ensures signed { result.now ≡ self.now.signed }
+        ensures fits { Fits self.now.signed.unit }
+    {
+        self.signed
+    }
+
+    /// The unit.
+    pub fn unit(&self) -> &'a WireUnit
+        ensures unit { result.now ≡ self.now.signed.unit }
+        ensures is_name { self.now.name ≡ digest_of self.now.signed.unit }
+        ensures fits { Fits self.now.signed.unit }
+    {
+        &self.signed.unit
+    }
+
+    /// Whether the journal shows it.
+    pub fn is_shown(&self) -> bool
+        ensures { result ≡ self.now.is_shown }
+    {
+        self.is_shown
+    }
+}
+
+/// A signed unit of this name.
+fn named<'a>(name: Digest, signed: &'a SignedUnit, is_shown: bool) -> Held<'a>
+    requires name { name ≡ digest_of signed.now.unit }
+    requires fits { Fits signed.now.unit }
+    ensures { result ≡ held_as is_shown signed.now }
+{
+    Held {
+        name,
+        signed,
+        is_shown,
+    }
+}
+
+/// Whether the two are one unit.
+pub fn are_one(left: &WireUnit, right: &WireUnit) -> bool
+    ensures { result ≡ unit_eq left.now right.now }
+{
+    is_same_unit(left, right)
+}
+
+/// Whether this very unit is in the graph, where it has this name.
+fn is_settled(dag: &Dag, name: &Digest, unit: &WireUnit) -> bool
+    requires { name.now ≡ digest_of unit.now }
+    ensures { result ≡ is_settled (graph dag.now) unit.now }
+{
+    // For the prover: what stands behind a `Dag` is a graph.
+    let _count = dag.count();
+    match dag.find(name) {
+        Some(no) => are_one(&dag.unit(no).signed().unit, unit),
+        None => false,
+    }
+}
+
+/// Puts the units of the vertex last. The graph has the settled ones.
+pub fn put_units<'a>(
+    alloc: Global,
+    dag: &Dag,
+    vertex: &'a Vertex,
+    units: &mut Vec<Held<'a>>,
+) -> Result<(), OutOfMemory>
+    requires { VertexFits vertex.now }
+    ensures { OnOk result (units.new.items ≡ units.old.items ++ held_by (graph dag.now) vertex.now) }
+{
+    match vertex {
+        Vertex::Unit(signed) => {
+            let name = digest_of(alloc, &signed.unit)?;
+            let is_shown = is_settled(dag, &name, &signed.unit);
+            units.push(named(name, signed, is_shown))?;
+        }
+        Vertex::Evidence(evidence) => {
+            units.push(shown(alloc, &evidence.left)?)?;
+            units.push(shown(alloc, &evidence.right)?)?;
+        }
+        Vertex::Endorsement(_) => {}
+    }
+    Ok(())
+}
+
+/// A unit of an evidence.
+fn shown(alloc: Global, signed: &SignedUnit) -> Result<Held<'_>, OutOfMemory>
+    requires { Fits signed.now.unit }
+    ensures { IfOk result (λ h. h ≡ held_as true signed.now) }
+{
+    let name = digest_of(alloc, &signed.unit)?;
+    Ok(named(name, signed, true))
+}

@@ -1,0 +1,25 @@
+//! What the journals of two nodes say of each other.
+//!
+//! Where neither of the two chains of decided blocks begins the other, validators that weigh more than
+//! the threshold equivocated, and the audit names all who did, each with two signed units that show it.
+//! A unit of the one journal and a unit of the other that differ and have one digest come first: they
+//! are a clash, and nothing else is said.
+//!
+//! The cost is that of reading each journal once: units are found by their names, and equivocations by
+//! creator and sequence number.
+#![tactic(auto)]
+
+mod chains;
+mod clash;
+mod culprits;
+mod forks;
+mod held;
+mod nodes;
+mod same;
+mod text;
+mod verdict;
+
+pub use hw_types::Culprit;
+pub use hw_verdicts::Verdict;
+pub use nodes::{AuditError, audit};
+pub use text::audit_text;
