@@ -10,7 +10,16 @@ use std::rt;
 pub fn answer(rt: &(impl rt::Files + AllocGlobal), line: &str) -> Result<String, OutOfMemory> {
     let words: Vec<&str> = line.split(' ').collect(rt.alloc())?;
     match words.as_slice() {
-        ["run", files, piece, call, take, write, patches, command @ ..] => {
+        [
+            "run",
+            files,
+            piece,
+            call,
+            take,
+            write,
+            patches,
+            command @ ..,
+        ] => {
             let outside = Outside {
                 files,
                 piece: number(piece),

@@ -14,12 +14,7 @@ use std::alloc::Global;
 
 /// The report on a node, after so many deliveries that were refused and so many that came again.
 #[tactic(auto, using(crate::proofs::ReportLaws::report_parts))]
-pub fn report(
-    alloc: Global,
-    core: &Core,
-    refused: u64,
-    repeats: u64,
-) -> Result<Bytes, OutOfMemory>
+pub fn report(alloc: Global, core: &Core, refused: u64, repeats: u64) -> Result<Bytes, OutOfMemory>
     ensures { IfOk result (λ text. text ≡ report_text (setting_of core.now.config) core.now.journal refused repeats) }
 {
     let mut text = Bytes::new(alloc);

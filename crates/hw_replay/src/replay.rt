@@ -187,11 +187,7 @@ fn spelling_of(alloc: Global, unit: Option<&SignedUnit>) -> Result<Bytes, OutOfM
 }
 
 /// A replay behind the header that was read, if its configuration is wanted.
-fn begun(
-    alloc: Global,
-    reader: LogReader,
-    wanted: Option<&Config>,
-) -> Result<Replay, StartFault>
+fn begun(alloc: Global, reader: LogReader, wanted: Option<&Config>) -> Result<Replay, StartFault>
     requires wanted { IfSome wanted (λ config. ConfigFits config.now) }
     requires fits { ConfigFits reader.config }
     requires limits { config_fault reader.config ≡ None }
@@ -224,11 +220,7 @@ fn new_core(alloc: Global, config: Config) -> Result<Core, OutOfMemory>
 }
 
 /// Whether a configuration is the wanted one, if one is wanted.
-fn is_wanted(
-    alloc: Global,
-    wanted: Option<&Config>,
-    config: &Config,
-) -> Result<bool, OutOfMemory>
+fn is_wanted(alloc: Global, wanted: Option<&Config>, config: &Config) -> Result<bool, OutOfMemory>
     requires wanted { IfSome wanted (λ c. ConfigFits c.now) }
     requires fits { ConfigFits config.now }
     ensures { IfOk result (λ b. b ≡ is_wanted (option_copied wanted.entry) config.now) }
