@@ -1,6 +1,7 @@
 //! The lines.
 
 use crate::outside::{fail_call, files_of, number, run, sink_of};
+use crate::short::ShortSink;
 use hw_io::MemSink;
 use hw_types::OutOfMemory;
 use std::alloc::Global;
@@ -36,6 +37,7 @@ pub fn answer(rt: &(impl rt::Files + AllocGlobal), line: &str) -> Result<String,
         ["writes", files, take, writes, command @ ..] => {
             each_write(rt, files, number(take), number(writes), command)
         }
+        ["wants", files, writes, command @ ..] => each_want(rt, files, number(writes), command),
         _ => Ok(String::new(rt.alloc())),
     }
 }
@@ -131,4 +133,31 @@ fn write_text(
     let mut out = sink_of(rt.alloc(), take, Some(write))?;
     let status = run(rt.alloc(), &mut files, &mut out, command)?;
     Ok(format!(in rt.alloc(); "{status}:{} ", out.taken().len())?)
+}
+
+/// The statuses where each of the first writes finds no memory in turn, each with the number of bytes that were taken.
+fn each_want(
+    rt: &(impl rt::Files + AllocGlobal),
+    files: &str,
+    writes: usize,
+    command: &[&str],
+) -> Result<String, OutOfMemory> {
+    let mut text = String::new(rt.alloc());
+    for write in 0..writes as u64 {
+        text.push_str(want_text(rt, files, write, command)?.as_str())?;
+    }
+    Ok(text)
+}
+
+/// The status where this write finds no memory, and the number of bytes that were taken.
+fn want_text(
+    rt: &(impl rt::Files + AllocGlobal),
+    names: &str,
+    write: u64,
+    command: &[&str],
+) -> Result<String, OutOfMemory> {
+    let mut files = files_of(rt, usize::MAX, names, "-")?;
+    let mut out = ShortSink::new(rt.alloc(), write);
+    let status = run(rt.alloc(), &mut files, &mut out, command)?;
+    Ok(format!(in rt.alloc(); "{status}:{} ", out.taken_count())?)
 }

@@ -5,6 +5,7 @@
 //! | `run FILES PIECE CALL TAKE WRITE PATCHES WORDS` | the status and what was written |
 //! | `reads FILES PIECE CALLS WORDS` | each of the first calls of the files fails in turn: the statuses, and what was written |
 //! | `writes FILES TAKE WRITES WORDS` | each of the first writes fails in turn: the statuses, and how many bytes were taken |
+//! | `wants FILES WRITES WORDS` | each of the first writes, of a byte each, finds no memory in turn: the same |
 //!
 //! FILES are `-` or pairs `NAME=file` with commas between: the name that the program sees, and the file of `data/`
 //! that it finds under it. A read gives at most PIECE bytes, and a write takes at most TAKE. CALL and WRITE are the
@@ -14,6 +15,7 @@
 
 mod cases;
 mod outside;
+mod short;
 
 use std::io;
 

@@ -1,6 +1,6 @@
 //! The outside of one run.
 
-use hw_io::{Consumer, Files, HostFiles, IoFault, MemFiles, MemSink, SetClock, SureDoor};
+use hw_io::{Consumer, Files, HostFiles, IoFault, MemFiles, MemSink, SetClock, Sink, SureDoor};
 use hw_program::{Words, highway};
 use hw_types::OutOfMemory;
 use std::alloc::Global;
@@ -92,10 +92,10 @@ pub fn sink_of(alloc: Global, take: usize, write: Option<u64>) -> Result<MemSink
 }
 
 /// Runs the program with these words.
-pub fn run(
+pub fn run<S: Sink>(
     alloc: Global,
     files: &mut MemFiles,
-    out: &mut MemSink,
+    out: &mut S,
     command: &[&str],
 ) -> Result<u8, OutOfMemory> {
     let words = words_of(alloc, command)?;

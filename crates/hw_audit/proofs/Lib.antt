@@ -9,3 +9,4 @@ pub mod ChainLaws
 pub mod LinkLaws
 pub mod AnswerLaws
 pub mod TopLaws
+pub mod ToldLaws

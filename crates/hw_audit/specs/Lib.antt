@@ -7,3 +7,4 @@ pub mod First
 pub mod Read
 pub mod Text
 pub mod Audit
+pub mod Told

@@ -3,7 +3,6 @@
 ghost use Rattle.std.specs.Prelude.{◌≡◌, ◌≢◌, ◌↔◌, ◌++◌, List, Err, IfOk, OnOk};
 ghost use Rattle.hw_types.specs.declared.answers.Decision.{Decision};
 ghost use Rattle.hw_types.specs.Real.{setting_of};
-ghost use Rattle.hw_safety.specs.Safety.{HasPairs};
 ghost use Rattle.hw_verdicts.specs.Verdicts.{chain_of};
 ghost use Rattle.hw_audit.specs.Read.{units_of, IsAnswer};
 ghost use Rattle.hw_audit.specs.First.{ShowsFirstClash};
@@ -50,8 +49,8 @@ pub fn audit(alloc: Global, left: &Core, right: &Core) -> Result<Verdict, AuditE
     ensures verdict { IfOk result (λ verdict. IsVerdictOn left.now right.now verdict) }
     ensures first { IfOk result (λ verdict. ShowsFirstClash (setting_of left.now.config) left.now.journal right.now.journal verdict) }
 
-    // Each evidence in a node's journal is a pair, and where it is, a conflict is accountable.
-    ensures accountable { IfOk result (λ verdict. HasPairs (setting_of left.now.config) left.now.journal → HasPairs (setting_of right.now.config) right.now.journal → IsWeighty left.now.config.ftt verdict) }
+    // The culprits of a conflict weigh more than the threshold.
+    ensures accountable { IfOk result (λ verdict. IsWeighty left.now.config.ftt verdict) }
 {
     if !is_same_config(left.state().config(), right.state().config()) {
         return Err(AuditError::Instances);

@@ -4,15 +4,16 @@ use crate::words::{after, number_of};
 use hw_types::{Config, IndexList, Leaders, WeightList};
 use std::alloc::Global;
 
-/// The configuration that the words tell: `weights` with its numbers, and `ftt`, `levels`, `leaders`, `records`,
-/// `parked` and `end` with theirs, where they are there. None for want of memory.
+/// The configuration that the words tell: `weights` with its numbers, and `ftt`, `levels`, `exponents`, `leaders`,
+/// `records`, `parked` and `end` with theirs, where they are there. None for want of memory.
 pub fn config_of(alloc: Global, words: &[&str]) -> Option<Config> {
+    let (min_exponent, max_exponent) = exponents_of(words);
     Some(Config {
         weights: weights_of(alloc, words)?,
         ftt: number_of(words, "ftt"),
         levels: levels_of(words),
-        min_exponent: 4,
-        max_exponent: 8,
+        min_exponent,
+        max_exponent,
         leaders: Leaders::Table(leaders_of(alloc, words)?),
         max_records: limit_of(words, "records", 100_000),
         max_parked: limit_of(words, "parked", 16_384),
@@ -50,6 +51,14 @@ fn levels_of(words: &[&str]) -> u8 {
     match after(words, "levels") {
         [levels, ..] => levels.parse().unwrap_or(0),
         [] => 1,
+    }
+}
+
+/// The least and the greatest exponent of a round; 4 and 8 where none are told.
+fn exponents_of(words: &[&str]) -> (u8, u8) {
+    match after(words, "exponents") {
+        [least, greatest, ..] => (least.parse().unwrap_or(0), greatest.parse().unwrap_or(0)),
+        _ => (4, 8),
     }
 }
 

@@ -5,7 +5,8 @@ use hw_types::{Bytes, Digest, DigestList, Obs, ObsList, Signature, SignedUnit, W
 use std::alloc::Global;
 
 /// The unit that the words tell, with this panorama, this list and this number. It is of another instance where they
-/// say `foreign`, and has a value where they say `block`.
+/// say `foreign`, and has the bytes of the word behind `block` as its value, where that is there. None for want of
+/// memory.
 pub fn unit_of(
     alloc: Global,
     words: &[&str],
@@ -13,8 +14,8 @@ pub fn unit_of(
     panorama: ObsList,
     endorsed: DigestList,
     seq: u64,
-) -> SignedUnit {
-    SignedUnit {
+) -> Option<SignedUnit> {
+    Some(SignedUnit {
         unit: WireUnit {
             instance: instance_of(words, instance),
             creator: creator_of(words),
@@ -22,11 +23,11 @@ pub fn unit_of(
             time: number_of(words, "at"),
             exponent: exponent_of(words),
             panorama,
-            value: value_of(alloc, words),
+            value: value_of(alloc, words)?,
             endorsed,
         },
         signature: Signature([0; 32]),
-    }
+    })
 }
 
 /// What a unit of these words observes of its creator.
@@ -68,9 +69,16 @@ fn instance_of(words: &[&str], instance: Digest) -> Digest {
     instance
 }
 
-fn value_of(alloc: Global, words: &[&str]) -> Option<Bytes> {
+/// The value of the unit, if it has one. None for want of memory.
+fn value_of(alloc: Global, words: &[&str]) -> Option<Option<Bytes>> {
     match after(words, "block") {
-        [_, ..] => Some(Bytes::new(alloc)),
-        [] => None,
+        [word, ..] => Some(Some(bytes_of(alloc, word)?)),
+        [] => Some(None),
     }
+}
+
+fn bytes_of(alloc: Global, word: &str) -> Option<Bytes> {
+    let mut bytes = Bytes::new(alloc);
+    bytes.extend(word.as_bytes()).ok()?;
+    Some(bytes)
 }

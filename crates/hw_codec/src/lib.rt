@@ -10,22 +10,26 @@
 //! values, and that reading gives back what was spelled, whatever follows.
 #![tactic(auto)]
 
+mod compact;
 mod config;
 mod decoding;
 mod encoding;
 mod field;
 mod frame;
+mod last;
 mod laws;
 mod ranges;
 mod reader;
 mod unit;
 mod vertex;
 
+pub use compact::{decode_vertex_after, encode_vertex_after};
 pub use decoding::{decode_config, decode_frame, decode_unit, decode_vertex};
 pub use encoding::{
     digest_of, encode_config, encode_frame, encode_unit, encode_vertex, instance_of,
 };
 pub use hw_types::{CodecError, Frame, NeedList};
+pub use last::Last;
 pub use laws::{
     equal_spellings_are_of_equal_values, no_spelling_begins_another,
     reading_gives_back_what_was_spelled, reading_is_spelling, what_was_read_is_spelled,

@@ -11,13 +11,13 @@ use hw_types::{Bytes, CodecError, Obs, OutOfMemory, WireUnit};
 use std::alloc::Global;
 
 /// The most observations of a unit, one for each validator.
-const MAX_OBSERVATIONS: u32 = 1_024;
+pub(crate) const MAX_OBSERVATIONS: u32 = 1_024;
 
 /// The most bytes of a block's value.
 const MAX_VALUE: u32 = 4_096;
 
 /// The most digests in a unit's endorsed list.
-const MAX_ENDORSED: u32 = 256;
+pub(crate) const MAX_ENDORSED: u32 = 256;
 
 /// Times are below this number of milliseconds.
 const END_OF_TIME: u64 = 1 << 63;
@@ -67,7 +67,7 @@ pub(crate) fn read_unit(alloc: Global, reader: &mut Reader<'_>) -> Result<WireUn
     })
 }
 
-fn read_time(reader: &mut Reader<'_>) -> Result<u64, CodecError>
+pub(crate) fn read_time(reader: &mut Reader<'_>) -> Result<u64, CodecError>
     ensures { Gives (λ time. (time, reader.new)) result (time_at reader.old) }
 {
     let place = reader.place();
@@ -79,7 +79,10 @@ fn read_time(reader: &mut Reader<'_>) -> Result<u64, CodecError>
 }
 
 #[tactic(auto, unfolding(hw_types::specs::Reading::value_at))]
-fn read_value(alloc: Global, reader: &mut Reader<'_>) -> Result<Option<Bytes>, CodecError>
+pub(crate) fn read_value(
+    alloc: Global,
+    reader: &mut Reader<'_>,
+) -> Result<Option<Bytes>, CodecError>
     ensures { Gives (λ value. (value, reader.new)) result (value_at reader.old) }
 {
     let place = reader.place();
@@ -102,14 +105,18 @@ fn copy_of(alloc: Global, bytes: &[u8]) -> Result<Bytes, OutOfMemory>
 
 /// How many bytes a unit has.
 pub(crate) fn unit_len(unit: &WireUnit) -> usize {
-    let value = match &unit.value {
-        None => 1,
-        Some(value) => value.len().saturating_add(5),
-    };
-    value
+    value_len(&unit.value)
         .saturating_add(53)
         .saturating_add(list_len(&unit.panorama))
         .saturating_add(list_len(&unit.endorsed))
+}
+
+/// How many bytes a value has with its flag.
+pub(crate) fn value_len(value: &Option<Bytes>) -> usize {
+    match value {
+        None => 1,
+        Some(value) => value.len().saturating_add(5),
+    }
 }
 
 /// Writes a unit behind what stands in `out`.
@@ -127,7 +134,7 @@ pub(crate) fn put_unit(unit: &WireUnit, out: &mut Vec<u8>) -> Result<(), OutOfMe
     put_list(&unit.endorsed, out)
 }
 
-fn put_value(value: &Option<Bytes>, out: &mut Vec<u8>) -> Result<(), OutOfMemory>
+pub(crate) fn put_value(value: &Option<Bytes>, out: &mut Vec<u8>) -> Result<(), OutOfMemory>
     requires { IfSome value.now (λ value. length value ≤ 4096) }
     ensures { OnOk result (out.new.items ≡ out.old.items ++ value_bytes value.now) }
 {

@@ -1,5 +1,5 @@
 -- The decided blocks of a node as its journal grows.
-use Rattle.std.proofs.Common.{◌≡◌, ◌⊎◌, inl, inr, ℕ, zero, suc, ◌+◌, ◌<◌, ◌≤◌, List, [], ◌∷◌, ◌++◌, length, map, take, Some, None, refl, sym, ap, subst, ◌∙◌, arith}
+use Rattle.std.proofs.Common.{◌≡◌, inl, inr, ℕ, zero, suc, ◌+◌, ◌≤◌, List, [], ◌∷◌, ◌++◌, length, map, take, Some, None, refl, sym, ap, subst, ◌∙◌, arith}
 use Rattle.std.specs.Prelude.{◌||◌, slice_get}
 use Rattle.std.proofs.lemmas.Bool.{cases_lt}
 use Rattle.std.proofs.lemmas.Option.{slice_get_past}
@@ -16,7 +16,6 @@ use Rattle.hw_types.proofs.DecisionLaws.{decisions_one}
 use Rattle.hw_summit.specs.Decided.{decisions_of}
 use Rattle.hw_summit.proofs.HeightLaws.{one_block_each}
 use Rattle.hw_summit.proofs.DecidedLaws.{decisions_are}
-use Rattle.hw_dag.specs.declared.numbers.UnitNo.{UnitNo}
 use Rattle.hw_dag.specs.declared.numbers.View.{View}
 use Rattle.hw_dag.specs.Dag.{SettledUnit, UnitGraph, GrowsTo, graph, observations}
 use Rattle.hw_dag.specs.Admission.{PreparedUnit, IsGraph}
@@ -162,7 +161,7 @@ module _ (journal : List Vertex) (park : Parked PreparedUnit) (state : NodeState
   abbrev k : Received
   k = received_of (setting_of state.config) journal
 
-  node_panorama : observed_in state.config state.marked (graph state.dag) ≡ panorama_of state.config k
+  pub node_panorama : observed_in state.config state.marked (graph state.dag) ≡ panorama_of state.config k
   unfolding panorama_of
   node_panorama = λ i. panorama_over state.config (λ v. node.is_of.knows.evidence v i || equivocates (node.is_of.settled i) v) (node.is_of.settled i)
 

@@ -1,7 +1,6 @@
 -- A unit whose name the journal lacks.
 use Rattle.std.proofs.Common.{◌≡◌, ◌≢◌, inl, inr, Bool, false, not, List, sym, ap, ◌∙◌}
 use Rattle.std.specs.Prelude.{◌&&◌}
-use Rattle.hw_types.specs.declared.unit.Digest.{Digest}
 use Rattle.hw_types.specs.declared.unit.WireUnit.{WireUnit}
 use Rattle.hw_types.specs.declared.unit.Vertex.{Vertex}
 use Rattle.hw_types.specs.Graph.{Node, digest_eq}

@@ -14,7 +14,12 @@ use Rattle.hw_types.specs.Below.{Among}
 use Rattle.hw_types.specs.Settled.{Received, faulty_weight, settled_of, equivocates}
 use Rattle.hw_types.specs.laws.StateLaws.{units_in}
 use Rattle.hw_types.specs.Votes.{weight_of}
-use Rattle.hw_types.specs.Journal.{Setting, named, received_of, unit_of_vertex}
+use Rattle.hw_types.specs.Journal.{Setting, named, received_of, unit_of_vertex, refusal, clash_among, evidence_fault}
+use Rattle.hw_types.specs.declared.unit.Evidence.{Evidence}
+use Rattle.hw_types.specs.declared.answers.PairFault.{PairFault}
+use Rattle.hw_types.specs.declared.answers.Cause.{Cause}
+use Rattle.hw_types.specs.declared.answers.Cause.TheVariants as cause
+use Rattle.hw_safety.specs.Safety.{HasPairs}
 use Rattle.hw_types.specs.Real.{setting_of}
 use Rattle.hw_types.specs.Spelling.{instance_of, VertexFits}
 use Rattle.hw_types.proofs.UnionLaws.{from_left}
@@ -25,6 +30,7 @@ use Rattle.hw_dag.specs.Admission.{PreparedUnit}
 use Rattle.hw_admit.specs.State.{NodeState, is_faulty_in}
 use Rattle.hw_park.specs.Parked.{Parked}
 use Rattle.hw_core.specs.Decided.{DecidedState, IsDecided}
+use Rattle.hw_core.specs.Shown.{ShownState, IsShown}
 use Rattle.hw_core.specs.Keeps.{IsNode, IsTable, AreRules, IsChoice, IsKept}
 
 pub get_append : {A : Type 0} (xs ys : List A) (n : ℕ) (x : A) → slice_get xs n ≡ Some x → slice_get (xs ++ ys) n ≡ Some x
@@ -54,21 +60,31 @@ table_other s journal names v none other table = record {
     units : units_in s (journal ++ v ∷ []) ≡ units_in s journal ++ units_in s (v ∷ [])
     units = filter_map-append (unit_of_vertex s) journal (v ∷ [])
 
-module _ (instance : Digest) (journal : List Vertex) (names : List (Digest × ℕ)) (park : Parked PreparedUnit) (rules : List (Digest × Rule)) (room : ℕ) (state : NodeState) (fork : Option UnitNo) (decided : DecidedState)
-    (kept : IsKept instance journal names park rules room state fork decided) where
+-- evidence that isn't refused is a pair
+pub pair_taken : (s : Setting) (journal : List Vertex) (e : Evidence) → refusal s journal (vertex.Evidence e) ≡ None → evidence_fault s e ≡ None
+pair_taken s journal e h = go (evidence_fault s e) h
+  where
+    go : (o : Option PairFault) → elim o as (λ z. Option Cause) [ Some f ↦ Some (cause.Pair f) | None ↦ elim (clash_among s (named s e.left.unit ∷ []) e.right.unit) as (λ z. Option Cause) [ Some d ↦ Some (cause.Clash d) | None ↦ None ] ] ≡ None → o ≡ None
+    go None k = refl
+    go (Some f) k = absurd cc
+
+module _ (instance : Digest) (journal : List Vertex) (names : List (Digest × ℕ)) (park : Parked PreparedUnit) (rules : List (Digest × Rule)) (room : ℕ) (state : NodeState) (fork : Option UnitNo) (decided : DecidedState) (shown : ShownState)
+    (kept : IsKept instance journal names park rules room state fork decided shown) where
   -- what a node keeps after a delivery, of the same configuration
-  pub kept_with : (vs : List Vertex) (names' : List (Digest × ℕ)) (after : Parked PreparedUnit) (rules' : List (Digest × Rule)) (room' : ℕ) (later : NodeState) (fork' : Option UnitNo) (decided' : DecidedState)
-      → later.config ≡ state.config → IsTable (setting_of state.config) vs names' → AreRules (setting_of state.config) vs rules' → length after.waiting ≤ room' → ((v : Vertex) → Among v vs → VertexFits v) → IsNode vs after later → IsChoice later fork' → IsDecided (setting_of later.config) vs later (length after.waiting) decided'
-      → IsKept instance vs names' after rules' room' later fork' decided'
-  kept_with vs names' after rules' room' later fork' decided' same table rules_are places fit node choice is_decided = record {
+  pub kept_with : (vs : List Vertex) (names' : List (Digest × ℕ)) (after : Parked PreparedUnit) (rules' : List (Digest × Rule)) (room' : ℕ) (later : NodeState) (fork' : Option UnitNo) (decided' : DecidedState) (shown' : ShownState)
+      → later.config ≡ state.config → IsTable (setting_of state.config) vs names' → AreRules (setting_of state.config) vs rules' → length after.waiting ≤ room' → ((v : Vertex) → Among v vs → VertexFits v) → HasPairs (setting_of state.config) vs → IsNode vs after later → IsChoice later fork' → IsDecided (setting_of later.config) vs later (length after.waiting) decided' → IsShown (record { config = later.config; journal = vs }) later shown'
+      → IsKept instance vs names' after rules' room' later fork' decided' shown'
+  kept_with vs names' after rules' room' later fork' decided' shown' same table rules_are places fit pairs node choice is_decided is_shown = record {
     instance_is = kept.instance_is ∙ ap (λ (c : Config). instance_of c) (sym same);
     table = subst (λ (c : Config). IsTable (setting_of c) vs names') (sym same) table;
     rules_are = subst (λ (c : Config). AreRules (setting_of c) vs rules') (sym same) rules_are;
     places = places;
     fit = fit;
+    pairs = subst (λ (c : Config). HasPairs (setting_of c) vs) (sym same) pairs;
     node = node;
     fork_is = choice;
     decided_is = is_decided;
+    shown_is = is_shown;
   }
 
   -- one vertex more that fits
@@ -76,6 +92,13 @@ module _ (instance : Digest) (journal : List Vertex) (names : List (Digest × �
   fit_more v fits w m = elim (append_cases w journal (v ∷ []) m) [
     | inl old ↦ kept.fit w old
     | inr new ↦ elim new [ inl e ↦ subst VertexFits e fits | inr none ↦ absurd none ]
+  ]
+
+  -- one vertex more that is no evidence, or one that is a pair
+  pub pairs_more : (v : Vertex) → ((e : Evidence) → v ≡ vertex.Evidence e → evidence_fault (setting_of state.config) e ≡ None) → HasPairs (setting_of state.config) (journal ++ v ∷ [])
+  pairs_more v pair e m = elim (append_cases (vertex.Evidence e) journal (v ∷ []) m) [
+    | inl old ↦ kept.pairs e old
+    | inr new ↦ elim new [ inl is ↦ pair e is | inr none ↦ absurd none ]
   ]
 
   abbrev k : Received

@@ -1,13 +1,10 @@
 -- What follows for a node and its deliveries.
 use Rattle.std.proofs.Common.{◌≡◌, ◌≢◌, inl, inr, ℕ, ◌<◌, Bool, true, false, not, cond, List, [], ◌∷◌, ◌++◌, length, Option, Some, None, refl, sym, ap, subst, subst₂, ◌∙◌, arith, eqb-true}
-use Rattle.std.specs.Prelude.{◌==◌, ◌&&◌, ◌||◌, fold, nat_lt, nat_le, Result, Ok, Err}
-use Rattle.std.specs.List.{list_any}
+use Rattle.std.specs.Prelude.{◌==◌, ◌&&◌, fold, nat_lt, nat_le, Result, Ok}
 use Rattle.std.proofs.lemmas.Bool.Decides.{nat_tests}
 use Rattle.hw_types.specs.declared.unit.Digest.{Digest}
 use Rattle.hw_types.specs.declared.unit.Need.{Need}
 use Rattle.hw_types.specs.declared.unit.SignedUnit.{SignedUnit}
-use Rattle.hw_types.specs.declared.unit.Evidence.{Evidence}
-use Rattle.hw_types.specs.declared.unit.Endorsement.{Endorsement}
 use Rattle.hw_types.specs.declared.unit.Vertex.{Vertex}
 use Rattle.hw_types.specs.declared.unit.Vertex.TheVariants as vertex
 use Rattle.hw_types.specs.declared.config.Config.{Config}
@@ -21,11 +18,10 @@ use Rattle.hw_types.specs.declared.answers.Cause.TheVariants as cause
 use Rattle.hw_types.specs.Graph.{Node, digest_eq}
 use Rattle.hw_types.specs.Below.{Among}
 use Rattle.hw_types.specs.Same.{unit_eq}
-use Rattle.hw_types.specs.Rules.{local_rule, state_rule}
+use Rattle.hw_types.specs.Rules.{state_rule}
 use Rattle.hw_types.specs.Settled.{Received, has_evidence, missing_of, settled_of, parked_of, dropped_of, panorama_of, faulty_weight, fork_choice}
-use Rattle.hw_types.specs.Journal.{Setting, named, received_of, refusal, clashes, clash_among, evidence_fault, is_repeat, is_park_full, receipt_of, newly_settled, answer, journal_after, journal_of, answers_from}
-use Rattle.hw_types.specs.Real.{CoreState, setting_of, received_in, settled_in, answer_in, after_in}
-use Rattle.hw_types.specs.laws.StateLaws.{units_in, NamesApart}
+use Rattle.hw_types.specs.Journal.{Setting, named, received_of, refusal, clashes, clash_among, is_park_full, receipt_of, newly_settled, answer, journal_after, journal_of, answers_from}
+use Rattle.hw_types.specs.Real.{CoreState, setting_of, answer_in, after_in}
 use Rattle.hw_types.proofs.WordsLaws.{either, none_any}
 use Rattle.hw_types.proofs.SettledLaws.{digest_same}
 use Rattle.hw_types.proofs.StableLaws.{and_parts}
@@ -35,7 +31,6 @@ use Rattle.hw_types.proofs.ReceiptLaws.{tells_where}
 use Rattle.hw_types.proofs.BoundLaws.{journal_bounded}
 use Rattle.hw_types.proofs.OrderLaws.{Accepted, received_same, journal_apart}
 use Rattle.hw_verdicts.proofs.PairLaws.{delivered_pairs}
-use Rattle.hw_core.specs.Readers.{node_in, fork_in, exceeded_in}
 use Rattle.hw_core.specs.Promises.{begun, delivered, answers_to, DeliveriesAreTheJournal, IsSound, NodesAreSound, TellsTheSame, OrderOfDeliveriesDoesNotCount, IsFreshUnit, WholeUnitIsAdmitted, LackingUnitIsParked, NewEndorsementIsAdmitted, NewEvidenceIsAdmitted, OnlyMemoryRefuses}
 use Rattle.hw_core.proofs.AnswerLaws.{answer_taken}
 use Rattle.hw_core.proofs.FreshLaws.{fresh_clash, fresh_unit}

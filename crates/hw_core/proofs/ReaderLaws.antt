@@ -43,6 +43,7 @@ use Rattle.hw_core.specs.Settle.{known_in, rule_in}
 use Rattle.hw_finality.specs.Detected.{decisions_of as found_in}
 use Rattle.hw_core.specs.Decided.{DecidedState, decided_in}
 use Rattle.hw_core.proofs.DecidedLaws.{decided_is}
+use Rattle.hw_core.specs.Shown.{ShownState}
 use Rattle.hw_core.specs.Keeps.{IsKept}
 use Rattle.hw_core.specs.Missing.{IsFoundIn}
 use Rattle.hw_core.specs.Readers.{signed_unit, unit_in, missed_by, missing_needs, IsPlace, IsUnsettled, fork_in}
@@ -110,8 +111,8 @@ map_twice : {A B C : Type 0} (g : B → C) (f : A → B) (o : Option A) → opti
 map_twice g f None = refl
 map_twice g f (Some a) = refl
 
-module _ (instance : Digest) (journal : List Vertex) (names : List (Digest × ℕ)) (park : Parked PreparedUnit) (rules : List (Digest × Rule)) (room : ℕ) (state : NodeState) (fork : Option UnitNo) (decided : DecidedState)
-    (kept : IsKept instance journal names park rules room state fork decided) where
+module _ (instance : Digest) (journal : List Vertex) (names : List (Digest × ℕ)) (park : Parked PreparedUnit) (rules : List (Digest × Rule)) (room : ℕ) (state : NodeState) (fork : Option UnitNo) (decided : DecidedState) (shown : ShownState)
+    (kept : IsKept instance journal names park rules room state fork decided shown) where
   abbrev pub core : CoreState
   core = record { config = state.config; journal = journal }
 

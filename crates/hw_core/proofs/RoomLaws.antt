@@ -1,5 +1,5 @@
 -- How many units there are, settled or waiting.
-use Rattle.std.proofs.Common.{◌≡◌, ◌⊎◌, inl, inr, ◌+◌, ◌≤◌, List, [], ◌∷◌, ◌++◌, length, map, refl, sym, ap, subst, ◌∙◌, arith}
+use Rattle.std.proofs.Common.{◌⊎◌, inl, inr, ◌+◌, ◌≤◌, List, [], ◌∷◌, ◌++◌, length, map, refl, sym, ap, subst, ◌∙◌, arith}
 use Rattle.std.proofs.lemmas.List.{length-append, length-map}
 use Rattle.hw_types.specs.declared.unit.Digest.{Digest}
 use Rattle.hw_types.specs.declared.config.Config.{Config}
@@ -14,7 +14,7 @@ use Rattle.hw_dag.specs.Admission.{PreparedUnit, node_prepared}
 use Rattle.hw_dag.proofs.NodeLaws.{graph_rising}
 use Rattle.hw_admit.specs.State.{NodeState}
 use Rattle.hw_park.specs.Parked.{Waiting}
-use Rattle.hw_core.specs.Settle.{known_in, admitted_in, waiting_nodes, AreApart, IsUnawaited, CanSettle, HasSettled}
+use Rattle.hw_core.specs.Settle.{known_in, admitted_in, waiting_nodes, AreApart, CanSettle, HasSettled}
 use Rattle.hw_core.proofs.DroppedLaws.{AreDifferent, no_more, rising_names}
 use Rattle.hw_core.proofs.SettleLaws.{graph_is}
 use Rattle.hw_core.proofs.WaitLaws.{length_nodes}

@@ -19,14 +19,13 @@ use Rattle.hw_types.specs.Same.{unit_eq}
 use Rattle.hw_types.specs.Settled.{Received}
 use Rattle.hw_types.specs.laws.StateLaws.{units_in}
 use Rattle.hw_types.specs.Spelling.{digest_of, instance_of}
-use Rattle.hw_types.specs.Journal.{Setting, named, received_of, unit_of_vertex, refusal, clashes, clash_among}
+use Rattle.hw_types.specs.Journal.{Setting, named, received_of, refusal, clashes, clash_among}
 use Rattle.hw_types.specs.Real.{setting_of}
 use Rattle.hw_types.proofs.PastLaws.{any_of}
 use Rattle.hw_types.proofs.StableLaws.{and_whole}
 use Rattle.hw_types.proofs.SettledLaws.{digest_same, digest_self}
-use Rattle.hw_types.proofs.EntryLaws.{mapped_among}
 use Rattle.hw_types.proofs.WordsLaws.{either, none_any}
-use Rattle.hw_types.proofs.OrderLaws.{unit_vertex, in_known, received_in}
+use Rattle.hw_types.proofs.OrderLaws.{in_known, received_in}
 use Rattle.hw_evidence.proofs.UnitLaws.{same_unit, other_unit}
 use Rattle.hw_dag.specs.Admission.{PreparedUnit}
 use Rattle.hw_rules.specs.Verdict.{verdict_of}

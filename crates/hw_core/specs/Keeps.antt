@@ -10,6 +10,7 @@ use Rattle.hw_types.specs.declared.answers.Rule.{Rule}
 use Rattle.hw_types.specs.Graph.{Node, digest_eq}
 use Rattle.hw_types.specs.Below.{Among}
 use Rattle.hw_types.specs.Spelling.{instance_of, VertexFits}
+use Rattle.hw_safety.specs.Safety.{HasPairs}
 use Rattle.hw_types.specs.Rules.{state_rule}
 use Rattle.hw_types.specs.Settled.{Received, has_evidence, settled_of, parked_of, dropped_of}
 use Rattle.hw_types.specs.laws.StateLaws.{HasSame, NamesApart, units_in, candidates}
@@ -23,6 +24,7 @@ use Rattle.hw_admit.specs.State.{NodeState, is_marked}
 use Rattle.hw_park.specs.Parked.{Waiting, Parked}
 use Rattle.hw_core.specs.Settle.{CanSettle, waiting_nodes, rule_in}
 use Rattle.hw_core.specs.Decided.{DecidedState, IsDecided}
+use Rattle.hw_core.specs.Shown.{ShownState, IsShown}
 
 -- the state knows of evidence and endorsements what was received
 pub record KnowsOf (received : Received) (state : NodeState) : Type 0 where
@@ -69,12 +71,14 @@ pub record IsChoice (state : NodeState) (fork : Option UnitNo) : Type 0 where
   pub known : IfSome fork (λ no. no.0 < count_of state.dag)
 
 -- What a node keeps stands to its journal as the definitions say, and there is room for the rule of each unit that waits.
-pub record IsKept (instance : Digest) (journal : List Vertex) (names : List (Digest × ℕ)) (park : Parked PreparedUnit) (rules : List (Digest × Rule)) (room : ℕ) (state : NodeState) (fork : Option UnitNo) (decided : DecidedState) : Type 0 where
+pub record IsKept (instance : Digest) (journal : List Vertex) (names : List (Digest × ℕ)) (park : Parked PreparedUnit) (rules : List (Digest × Rule)) (room : ℕ) (state : NodeState) (fork : Option UnitNo) (decided : DecidedState) (shown : ShownState) : Type 0 where
   pub instance_is : instance ≡ instance_of state.config
   pub table : IsTable (setting_of state.config) journal names
   pub rules_are : AreRules (setting_of state.config) journal rules
   pub places : length park.waiting ≤ room
   pub fit : (v : Vertex) → Among v journal → VertexFits v
+  pub pairs : HasPairs (setting_of state.config) journal
   pub node : IsNode journal park state
   pub fork_is : IsChoice state fork
   pub decided_is : IsDecided (setting_of state.config) journal state (length park.waiting) decided
+  pub shown_is : IsShown (record { config = state.config; journal = journal }) state shown

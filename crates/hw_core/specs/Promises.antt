@@ -1,6 +1,5 @@
 -- What follows for a node and its deliveries: the statements.
-use Rattle.std.specs.Prelude.{◌≡◌, ◌≢◌, ℕ, ◌+◌, ◌<◌, ◌≤◌, Bool, true, List, [], ◌∷◌, ◌++◌, length, fold, map, Result, Ok, Err, None}
-use Rattle.hw_types.specs.declared.unit.Digest.{Digest}
+use Rattle.std.specs.Prelude.{◌≡◌, ◌≢◌, ℕ, ◌<◌, ◌≤◌, Bool, true, List, [], ◌∷◌, length, fold, Result, Ok, None}
 use Rattle.hw_types.specs.declared.unit.SignedUnit.{SignedUnit}
 use Rattle.hw_types.specs.declared.unit.Evidence.{Evidence}
 use Rattle.hw_types.specs.declared.unit.Endorsement.{Endorsement}

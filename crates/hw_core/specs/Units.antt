@@ -1,5 +1,7 @@
 -- A unit that is delivered.
-use Rattle.std.specs.Prelude.{◌≡◌, ◌≢◌, false, nat_le, List, length, None}
+use Rattle.std.specs.Prelude.{◌≡◌, ◌≢◌, ℕ, ◌+◌, ◌≤◌, false, nat_le, List, [], ◌∷◌, ◌++◌, length, None, Ok}
+use Rattle.hw_types.specs.declared.answers.Receipt.{Receipt}
+use Rattle.hw_types.specs.declared.answers.Rule.{Rule}
 use Rattle.hw_types.specs.declared.unit.Digest.{Digest}
 use Rattle.hw_types.specs.declared.unit.SignedUnit.{SignedUnit}
 use Rattle.hw_types.specs.declared.unit.Vertex.{Vertex}
@@ -12,6 +14,12 @@ use Rattle.hw_types.specs.Spelling.{digest_of, instance_of}
 use Rattle.hw_types.specs.laws.StateLaws.{units_in}
 use Rattle.hw_types.specs.Journal.{refusal, is_repeat}
 use Rattle.hw_types.specs.Real.{setting_of}
+use Rattle.hw_dag.specs.Dag.{GrowsTo, graph}
+use Rattle.hw_dag.specs.Admission.{PreparedUnit}
+use Rattle.hw_admit.specs.State.{NodeState}
+use Rattle.hw_park.specs.Parked.{Parked}
+use Rattle.hw_core.specs.Keeps.{IsNode, AreRules}
+use Rattle.hw_core.specs.Deliver.{answer_to, IsTaken}
 
 -- The unit passes all tests but that of the park, and this is its name.
 pub record IsNewUnit (config : Config) (journal : List Vertex) (unit : SignedUnit) (name : Digest) : Type 0 where
@@ -21,3 +29,13 @@ pub record IsNewUnit (config : Config) (journal : List Vertex) (unit : SignedUni
   pub not_refused : refusal (setting_of config) journal (vertex.Unit unit) ≡ None
   pub not_repeat : is_repeat (setting_of config) journal (vertex.Unit unit) ≡ false
   pub room : nat_le config.max_records (length journal) ≡ false
+
+-- The new unit has its place, and this is the answer: it settled with those that it freed, or was dropped, or waits.
+pub record IsPlaced (s : NodeState) (waiting : ℕ) (journal : List Vertex) (unit : SignedUnit) (later : NodeState) (after : Parked PreparedUnit) (rules : List (Digest × Rule)) (receipt : Receipt) : Type 0 where
+  pub node : IsNode (journal ++ vertex.Unit unit ∷ []) after later
+  pub rules_are : AreRules (setting_of s.config) (journal ++ vertex.Unit unit ∷ []) rules
+  pub config : later.config ≡ s.config
+  pub grows : GrowsTo s.dag later.dag
+  pub room : length (graph later.dag) + length after.waiting ≤ length (graph s.dag) + (waiting + 1)
+  pub taken : IsTaken s.config journal (vertex.Unit unit)
+  pub answer : answer_to s.config journal (vertex.Unit unit) ≡ Ok receipt

@@ -67,6 +67,15 @@ impl Decided {
         &self.decisions[index as usize]
     }
 
+    /// The number of the decided block of that place.
+    pub fn block(&self, index: u64) -> UnitNo
+        requires { index < length self.now.detector.found }
+        ensures { (f : FoundBlock) × (slice_get self.now.detector.found index ≡ Some f) × (result ≡ f.block) }
+    {
+        let _count = self.detector.found_count();
+        self.detector.found_at(index as u32).block
+    }
+
     /// Makes room for so many blocks in all.
     pub fn reserve(&mut self, count: u32) -> Result<(), OutOfMemory>
         requires { length self.old.decisions ≡ length self.old.detector.found }

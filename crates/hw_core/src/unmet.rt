@@ -1,16 +1,18 @@
 //! What a unit misses, found without memory.
 
-ghost use Rattle.std.specs.Prelude.{◌≡◌, ◌≤◌, ◌||◌, ◌++◌, not, length, map};
+ghost use Rattle.std.specs.Prelude.{◌≡◌, ◌≤◌, ◌↔◌, ◌||◌, ◌++◌, [], not, length, map, IsTrue};
 ghost use Rattle.std.specs.List.{list_any};
 ghost use Rattle.hw_types.specs.declared.unit.Digest.{Digest as Name};
 ghost use Rattle.hw_types.specs.declared.unit.Need.TheVariants as need_of;
 ghost use Rattle.hw_types.specs.Settled.{need_eq, missing_of, unit_needs, evidence_needs};
 ghost use Rattle.hw_dag.specs.Dag.{graph};
+ghost use Rattle.hw_dag.specs.Admission.{AllKnown, IsResolved, node_prepared};
 ghost use Rattle.hw_core.specs.Settle.{known_in};
 ghost use Rattle.hw_core.specs.Missing.{is_met_in, unmet, needs_as_they_stand, IsFoundIn};
 
 use crate::missing::is_met;
 use hw_admit::State;
+use hw_dag::Prepared;
 use hw_types::{Digest, Need, Obs, WireUnit};
 
 /// How a search for the need at a place ends.
@@ -38,6 +40,34 @@ pub fn missing_at(state: &State, unit: &WireUnit, place: u32) -> Search
     }
 }
 
+/// Looks up the units that a unit observes, and says whether it misses nothing. Then its panorama is there
+/// in numbers.
+pub fn is_whole(state: &State, prepared: &mut Prepared) -> bool
+    requires { length prepared.old.signed.unit.panorama ≡ length state.now.config.weights }
+    ensures whole { IsTrue result ↔ missing_of state.now.config (known_in state.now) (graph state.now.dag) (node_prepared prepared.new) ≡ [] }
+    ensures resolved { IsTrue result → IsResolved state.now.dag prepared.new }
+    ensures signed { prepared.new.signed ≡ prepared.old.signed }
+    ensures digest { prepared.new.digest ≡ prepared.old.digest }
+{
+    state.dag().resolve(prepared) && is_met_beside(state, &prepared.signed().unit)
+}
+
+/// Whether a unit of which each observed unit is settled misses nothing else: neither evidence nor
+/// endorsements.
+fn is_met_beside(state: &State, unit: &WireUnit) -> bool
+    requires many { length unit.now.panorama ≡ length state.now.config.weights }
+    requires known { AllKnown (graph state.now.dag) unit.now.panorama }
+    ensures { (d : Name) → IsTrue result ↔ missing_of state.now.config (known_in state.now) (graph state.now.dag) (record { digest = d; unit = unit.now }) ≡ [] }
+{
+    match unmet_marks(state, unit.panorama.as_slice(), 0, 0) {
+        Search::Found(_need) => false,
+        Search::Passed(count) => match unmet_list(state, unit, count, 0) {
+            Search::Found(_need) => false,
+            Search::Passed(_count) => true,
+        },
+    }
+}
+
 /// Looks among the units that the panorama observes.
 fn unmet_units(state: &State, panorama: &[Obs], place: u32) -> Search
     ensures { IsFoundIn (unmet (is_met_in state.now) (unit_needs panorama.now)) place result }
@@ -60,7 +90,7 @@ fn unmet_units(state: &State, panorama: &[Obs], place: u32) -> Search
 fn is_wanted_unit(state: &State, before: &[Obs], digest: &Digest) -> bool
     ensures { result ≡ not (list_any (λ m. need_eq m (need_of.Unit digest.now)) (unit_needs before.now) || is_met_in state.now (need_of.Unit digest.now)) }
 {
-    !before.contains(&Obs::Correct(*digest)) && !is_met(state, &Need::Unit(*digest))
+    !is_met(state, &Need::Unit(*digest)) && !before.contains(&Obs::Correct(*digest))
 }
 
 /// Looks on among the marks of the panorama, with so many needs before them.
@@ -109,5 +139,5 @@ fn unmet_list(state: &State, unit: &WireUnit, before: u32, place: u32) -> Search
 fn is_wanted_listed(state: &State, before: &[Digest], digest: Digest) -> bool
     ensures { result ≡ not (list_any (λ m. need_eq m (need_of.Endorsed digest)) (map need_of.Endorsed before.now) || is_met_in state.now (need_of.Endorsed digest)) }
 {
-    !before.contains(&digest) && !is_met(state, &Need::Endorsed(digest))
+    !is_met(state, &Need::Endorsed(digest)) && !before.contains(&digest)
 }

@@ -1,5 +1,6 @@
 -- The decided blocks of a journal, each with its greatest summit at its moment.
-use Rattle.std.specs.Prelude.{ℕ, ◌+◌, List, [], ◌∷◌, ◌++◌, map, codes, Some, None}
+-- Source: ours.
+use Rattle.std.specs.Prelude.{ℕ, ◌+◌, ◌==◌, List, [], ◌∷◌, ◌++◌, length, map, codes, slice_get, Option, Some, None, if◌then◌else◌}
 use Rattle.std.specs.List.{flat_map, range_with_len, join_with_byte}
 use Rattle.hw_types.specs.declared.unit.Vertex.{Vertex}
 use Rattle.hw_types.specs.declared.config.Config.{Config}
@@ -8,11 +9,15 @@ use Rattle.hw_types.specs.Graph.{Node, find_node}
 use Rattle.hw_types.specs.Settled.{Received, settled_of, panorama_of}
 use Rattle.hw_types.specs.Journal.{Setting, received_of}
 use Rattle.hw_types.specs.Decisions.{received_at}
+use Rattle.hw_types.specs.Real.{CoreState, setting_of, received_in}
 use Rattle.hw_summit.specs.Pruned.{Starts, start_in, or_zero, members, pruned}
 use Rattle.hw_summit.specs.Decided.{decisions_of}
 use Rattle.hw_text.specs.Text.{number_text}
 use Rattle.hw_text.specs.Lines.{line_of}
+use Rattle.hw_core.specs.Decided.{decided_in}
 use Rattle.hw_explain.specs.Report.{final_words, exceeded_line, exceeded_in}
+
+-- ---- a decided block
 
 -- the greatest summit for a block, as the committee of each level with its starts
 abbrev pub Summit : Type 0
@@ -22,20 +27,20 @@ Summit = ℕ → Starts
 abbrev pub summit_for : Config → Received → ℕ → Node → Summit
 summit_for config received quorum block level = pruned config.weights (settled_of config received) (panorama_of config received) block quorum level
 
--- the start of a member at a level
-abbrev pub start_at : Summit → ℕ → ℕ → ℕ
-start_at summit v level = or_zero (start_in (summit level) v)
+-- the starts of a member from level 0 to this one
+abbrev pub starts_of : Summit → ℕ → ℕ → List ℕ
+starts_of summit level v = map (λ j. or_zero (start_in (summit j) v)) (range_with_len 0 (level + 1))
 
--- a member, and its starts from level 0 to this one
-abbrev pub member_text : Summit → ℕ → ℕ → List ℕ
-member_text summit level v = number_text v ++ codes ":" ++ join_with_byte 44 (map (λ j. number_text (start_at summit v j)) (range_with_len 0 (level + 1)))
+-- a member and its starts
+abbrev pub member_text : ℕ → List ℕ → List ℕ
+member_text v starts = number_text v ++ codes ":" ++ join_with_byte 44 (map number_text starts)
 
 -- the members of the last committee
 abbrev pub committee_words : Summit → ℕ → List (List ℕ)
-committee_words summit level = codes "committee" ∷ map (member_text summit level) (members (summit level))
+committee_words summit level = codes "committee" ∷ map (λ v. member_text v (starts_of summit level v)) (members (summit level))
 
 -- the committee of the decided block, which is a settled one
-abbrev pub committee_of : Config → Received → Decision → List (List ℕ)
+unfoldable pub committee_of : Config → Received → Decision → List (List ℕ)
 committee_of config received d = elim (find_node (settled_of config received) d.block) [
   | None ↦ []
   | Some block ↦ committee_words (summit_for config received d.quorum block) d.level
@@ -45,11 +50,32 @@ committee_of config received d = elim (find_node (settled_of config received) d.
 unfoldable pub explained_line : Config → Received → Decision → List ℕ
 explained_line config received d = line_of (final_words d ++ committee_of config received d)
 
+-- ---- a journal
+
+-- the line of a decision of the journal, at its moment
+abbrev pub line_of_decision : Setting → List Vertex → Decision → List ℕ
+line_of_decision s journal d = explained_line s.config (received_at s journal d.at) d
+
 -- the lines of these decisions, or one that there is none
 abbrev pub explained_lines : Setting → List Vertex → List Decision → List ℕ
 explained_lines s journal [] = line_of (codes "final" ∷ codes "-" ∷ [])
-explained_lines s journal (d ∷ ds) = flat_map (λ e. explained_line s.config (received_at s journal e.at) e) (d ∷ ds)
+explained_lines s journal (d ∷ ds) = flat_map (line_of_decision s journal) (d ∷ ds)
 
--- the decided blocks of a journal, and the faulty weight where it is too great
+-- The decided blocks of a journal, and the faulty weight where it is too great.
 unfoldable pub explained_text : Setting → List Vertex → List ℕ
 explained_text s journal = explained_lines s journal (decisions_of s journal) ++ exceeded_line (exceeded_in s.config (received_of s journal))
+
+-- ---- a node
+
+-- all that is explained of a node
+abbrev pub explained_in : CoreState → List ℕ
+explained_in c = explained_text (setting_of c.config) c.journal
+
+-- the line of a decision, if it was made when the journal became as long as it is
+abbrev pub line_if_new : CoreState → Option Decision → Option (List ℕ)
+line_if_new c None = None
+line_if_new c (Some d) = if d.at == length c.journal then Some (explained_line c.config (received_in c) d) else None
+
+-- The line of the decided block of that place, if there is one and the last vertex decided it.
+abbrev pub line_now : CoreState → ℕ → Option (List ℕ)
+line_now c index = line_if_new c (slice_get (decided_in c) index)

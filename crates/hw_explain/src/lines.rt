@@ -87,7 +87,7 @@ pub fn put_final(out: &mut Bytes, decision: &Decision) -> Result<(), OutOfMemory
 
 /// Puts the words of a decided block last.
 #[tactic(auto, using(std::proofs::Common::append_assoc))]
-fn put_final_words(out: &mut Bytes, decision: &Decision) -> Result<(), OutOfMemory>
+pub(crate) fn put_final_words(out: &mut Bytes, decision: &Decision) -> Result<(), OutOfMemory>
     ensures { OnOk result (out.new ≡ out.old ++ join_with_byte 32 (final_words decision.now)) }
 {
     put_numbered(out, "final ", decision.height)?;

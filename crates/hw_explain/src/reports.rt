@@ -8,6 +8,7 @@ ghost use Rattle.hw_core.specs.Decided.{decided_in};
 ghost use Rattle.hw_explain.specs.Report.{final_line, counts_of, faulty_in, report_text};
 
 use crate::lines::{Counts, put_counts, put_exceeded, put_faulty, put_final, put_fork};
+use crate::summit::validators;
 use hw_core::Core;
 use hw_types::{Bytes, Obs, OutOfMemory};
 use std::alloc::Global;
@@ -51,14 +52,6 @@ fn faulty(alloc: Global, core: &Core) -> Result<Vec<u32>, OutOfMemory>
         }
     }
     Ok(faulty)
-}
-
-/// How many validators there are.
-#[tactic(auto, using(hw_types::proofs::LimitLaws::within_limits))]
-fn validators(core: &Core) -> u32
-    ensures { result ≡ length core.now.config.weights }
-{
-    core.state().config().weights.len() as u32
 }
 
 /// Whether the validator is faulty.

@@ -49,7 +49,7 @@ pub fn wire_unit(alloc: Global, dag: &Dag, words: &[&str]) -> Option<SignedUnit>
         None => next_number(dag, own_observation(&panorama, words)),
     };
     let endorsed = names(alloc, after(words, "endorsed"))?;
-    Some(unit_of(alloc, words, INSTANCE, panorama, endorsed, seq))
+    unit_of(alloc, words, INSTANCE, panorama, endorsed, seq)
 }
 
 /// The number after that of the observed unit.

@@ -1,8 +1,11 @@
 pub mod CauseLaws
 pub mod FieldLaws
 pub mod OpenLaws
+pub mod HeadLaws
 pub mod LengthLaws
 pub mod EntryLaws
 pub mod RunLaws
 pub mod MoreLaws
 pub mod AppendLaws
+pub mod RangeLaws
+pub mod SpelledLaws

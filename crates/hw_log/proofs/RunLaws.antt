@@ -2,26 +2,25 @@
 use Rattle.std.proofs.Common.{◌≡◌, ℕ, List, [], ◌∷◌, ◌++◌, Option, Some, None, Result, Ok, Err, sym, ap, ◌∙◌, append_assoc}
 use Rattle.std.proofs.lemmas.List.{append-nil}
 use Rattle.hw_types.specs.declared.config.Config.{Config}
-use Rattle.hw_types.specs.Reading.{Rest}
 use Rattle.hw_log.specs.declared.entry.LogEntry.{LogEntry}
 use Rattle.hw_log.specs.declared.error.LogError.{LogError}
-use Rattle.hw_log.specs.Log.{◌>>=◌, header_of, next_at, Entries, with_next, entries_of, log_of}
+use Rattle.hw_log.specs.Log.{◌>>=◌, Left, header_of, next_at, Entries, with_next, entries_of, log_of}
 use Rattle.hw_log.specs.Reader.{Reading, left_of, behind_given, StandsBehind}
 use Rattle.hw_log.proofs.EntryLaws.{entries_next}
 
-abbrev pub with_entries : Config × Rest → Result (Config × Entries) LogError
+abbrev pub with_entries : Config × Left → Result (Config × Entries) LogError
 with_entries header = Ok (header.0, entries_of header.1)
 
 -- after the header no entry was given
 pub stands_first : (bytes : List ℕ) (reader : Reading) (unread : List ℕ) → header_of bytes ≡ Ok (reader.config, left_of reader unread) → StandsBehind bytes [] reader unread
-stands_first bytes reader unread header = record { says = ap (λ (x : Result (Config × Rest) LogError). x >>= with_entries) header }
+stands_first bytes reader unread header = record { says = ap (λ (x : Result (Config × Left) LogError). x >>= with_entries) header }
 
 -- what the log says, where what is left says x
-says_next : (bytes : List ℕ) (given : List LogEntry) (reader : Reading) (unread : List ℕ) (x : Result (Option LogEntry × Rest) LogError)
+says_next : (bytes : List ℕ) (given : List LogEntry) (reader : Reading) (unread : List ℕ) (x : Result (Option LogEntry × Left) LogError)
     → StandsBehind bytes given reader unread → next_at (left_of reader unread) ≡ x → log_of bytes ≡ Ok (reader.config, behind_given given (with_next x entries_of))
 says_next bytes given reader unread x stands is =
     let others : entries_of (left_of reader unread) ≡ with_next x entries_of =
-    entries_next (left_of reader unread) ∙ ap (λ (y : Result (Option LogEntry × Rest) LogError). with_next y entries_of) is in
+    entries_next (left_of reader unread) ∙ ap (λ (y : Result (Option LogEntry × Left) LogError). with_next y entries_of) is in
     stands.says ∙ ap (λ (o : Entries). Ok (reader.config, behind_given given o)) others
 
 -- after an entry was given the reader stands behind it
@@ -39,7 +38,7 @@ stands_next bytes given old new unread still e stands said config =
     }
 
 -- where none came, the log says the entries that were given, and no error
-pub stands_last : (bytes : List ℕ) (given : List LogEntry) (reader : Reading) (unread : List ℕ) (rest : Rest)
+pub stands_last : (bytes : List ℕ) (given : List LogEntry) (reader : Reading) (unread : List ℕ) (rest : Left)
     → StandsBehind bytes given reader unread → next_at (left_of reader unread) ≡ Ok (None, rest)
     → log_of bytes ≡ Ok (reader.config, record { given = given; fault = None })
 stands_last bytes given reader unread rest stands said =

@@ -1,4 +1,6 @@
+pub mod Lasts
 pub mod Log
 pub mod Causes
 pub mod Reader
 pub mod Whole
+pub mod Spelled

@@ -1,21 +1,27 @@
 -- Where a reader stands in a log.
 use Rattle.std.specs.Prelude.{◌≡◌, ℕ, ◌+◌, ◌≤◌, ◌^◌, List, ◌++◌, length, Option, Some, None, Result, Ok, MatchResult}
 use Rattle.hw_types.specs.declared.config.Config.{Config}
-use Rattle.hw_types.specs.Reading.{Rest}
+use Rattle.hw_log.specs.Lasts.{LastUnits, lasts_after}
 use Rattle.hw_log.specs.declared.error.LogError.{LogError}
 use Rattle.hw_log.specs.declared.entry.LogEntry.{LogEntry}
-use Rattle.hw_log.specs.Log.{rest_at, header_of, Entries, entries_of, log_of}
+use Rattle.hw_log.specs.Log.{Left, rest_at, header_of, Entries, entries_of, log_of}
 use Rattle.hw_log.specs.Causes.{Gives, IsOutside}
 
--- what a reader knows: the log's configuration, the place of the next entry, and what was read of the file and not yet used
+-- what a reader knows: the log's configuration, the last units so far, the place of the next entry, and what was read of the file and not yet used
 pub record Reading : Type 0 where
   pub config : Config
+  pub lasts : LastUnits
   pub place : ℕ
   pub held : List ℕ
 
 -- what is left of the log: what the reader holds, and then what is unread of the file
-abbrev pub left_of : Reading → List ℕ → Rest
-left_of reader unread = rest_at reader.place (reader.held ++ unread)
+abbrev pub left_of : Reading → List ℕ → Left
+left_of reader unread = record { rest = rest_at reader.place (reader.held ++ unread); lasts = reader.lasts }
+
+-- the last units behind what came next
+abbrev pub lasts_with : LastUnits → Option LogEntry → LastUnits
+lasts_with lasts (Some e) = lasts_after lasts e.vertex
+lasts_with lasts None = lasts
 
 -- how many bytes may still come: those that the reader holds, and those that reads may still give
 abbrev pub ahead_of : Reading → ℕ → ℕ

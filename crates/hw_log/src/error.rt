@@ -13,7 +13,7 @@ use hw_types::{CodecError, ConfigFault, OutOfMemory};
 pub enum LogError {
     /// The file doesn't begin with `HWLG`.
     BadMagic,
-    /// The version is another than 1.
+    /// The version is neither 1 nor 2.
     Version(u8),
     /// The file ends inside the field or the entry that begins here.
     Torn(u64),

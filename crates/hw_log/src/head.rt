@@ -2,15 +2,19 @@
 
 ghost use Rattle.std.specs.Prelude.{◌≡◌, ◌≤◌, ◌<◌, length, IfOk, IfErr, OnOk};
 ghost use Rattle.hw_log.specs.Causes.{IsOfBytes};
-ghost use Rattle.hw_log.specs.Log.{config_length, head_of};
+ghost use Rattle.hw_log.specs.Lasts.{IsVersion};
+ghost use Rattle.hw_log.specs.Log.{front_of, head_of};
 
 use crate::error::LogError;
 
 /// A log begins with these bytes.
 pub const MAGIC: [u8; 4] = *b"HWLG";
 
-/// The one version of the format.
-pub const VERSION: u8 = 1;
+/// The version in which each unit has the full form.
+pub const FULL: u8 = 1;
+
+/// The version in which a unit has the compact form where it is due.
+pub const COMPACT: u8 = 2;
 
 /// The one event: a vertex was accepted.
 pub const VERTEX_EVENT: u8 = 1;
@@ -24,6 +28,14 @@ pub const FRONT_LENGTH: usize = 9;
 /// How many bytes of an entry come before its vertex.
 pub const HEAD_LENGTH: usize = 6;
 
+/// What a log says before its configuration.
+#[derive(Clone, Copy)]
+pub struct Front {
+    pub version: u8,
+    /// How many bytes the configuration has.
+    pub length: usize,
+}
+
 /// What an entry says before its vertex.
 #[derive(Clone, Copy)]
 pub struct EntryHead {
@@ -32,14 +44,16 @@ pub struct EntryHead {
     pub length: usize,
 }
 
-/// The length of the configuration, from a log's first nine bytes or as many as it has.
-#[tactic(auto, unfolding(crate::specs::Log::config_length))]
-pub fn config_length(front: &[u8]) -> Result<usize, LogError>
+/// The version and the length of the configuration, from a log's first nine bytes or as many as it
+/// has.
+#[tactic(auto, unfolding(crate::specs::Log::front_of))]
+pub fn front_of(front: &[u8]) -> Result<Front, LogError>
     requires { length front.now ≤ FRONT_LENGTH }
-    ensures said { result ≡ config_length front.now }
+    ensures said { result ≡ front_of front.now }
     ensures error { IfErr result IsOfBytes }
     ensures whole { OnOk result (length front.now ≡ FRONT_LENGTH) }
-    ensures limit { IfOk result (λ n. n ≤ MAX_LENGTH) }
+    ensures limit { IfOk result (λ said. said.length ≤ MAX_LENGTH) }
+    ensures version { IfOk result (λ said. IsVersion said.version) }
 {
     if !front.starts_with(&MAGIC) {
         return Err(LogError::BadMagic);
@@ -47,8 +61,9 @@ pub fn config_length(front: &[u8]) -> Result<usize, LogError>
     if front.len() < 5 {
         return Err(LogError::Torn(4));
     }
-    if front[4] != VERSION {
-        return Err(LogError::Version(front[4]));
+    let version = front[4];
+    if version != FULL && version != COMPACT {
+        return Err(LogError::Version(version));
     }
     if front.len() < FRONT_LENGTH {
         return Err(LogError::Torn(5));
@@ -57,7 +72,7 @@ pub fn config_length(front: &[u8]) -> Result<usize, LogError>
     if length > MAX_LENGTH {
         return Err(LogError::TooLong(5));
     }
-    Ok(length)
+    Ok(Front { version, length })
 }
 
 /// The verdict and the length of the vertex, from the first six bytes of the entry at this place.

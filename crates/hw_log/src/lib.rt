@@ -3,11 +3,15 @@
 //! `specs/Log.antt` has the whole grammar, as a function from bytes to what a log says. A
 //! [`LogReader`] gives that function's answers one entry at a time, however the reads of the file
 //! are cut. Its memory does not grow with the file.
+//!
+//! A log of version 2 tells a unit by what changed since its creator's last unit in the log, where
+//! it goes on from that one. [`Lasts`] keeps what that takes of the last unit of each validator.
 #![tactic(auto)]
 
 mod entry;
 mod error;
 mod head;
+mod lasts;
 mod laws;
 mod reader;
 mod whole;
@@ -15,7 +19,12 @@ mod writer;
 
 pub use entry::LogEntry;
 pub use error::LogError;
-pub use laws::{a_header_is_an_empty_log, an_append_adds_the_entry};
+pub use lasts::{Lasts, Noted};
+pub use laws::{
+    a_header_is_an_empty_log, a_log_is_what_it_says_as_written, a_log_written_anew_says_the_same,
+    a_vertex_is_read_where_it_is_spelled, an_append_adds_the_entry, what_is_written_is_said,
+    whole_entries_stand_before_a_cut,
+};
 pub use reader::LogReader;
 pub use whole::{Log, read_log};
 pub use writer::{append_entry, append_header, entry_bytes};

@@ -1,19 +1,21 @@
 //! The reader of a log.
 
-ghost use Rattle.std.specs.Prelude.{◌≡◌, ℕ, ◌+◌, ◌≤◌, ◌<◌, ◌^◌, ◌==◌, Some, None, ◌++◌, length, take, drop, IsTrue, IfOk, IfErr, IfSome, OnOk};
+ghost use Rattle.std.specs.Prelude.{◌≡◌, ℕ, ◌+◌, ◌≤◌, ◌<◌, ◌^◌, ◌==◌, Some, None, ◌++◌, length, take, drop, IsTrue, IfOk, IfErr, IfSome, OnOk, OnErr};
 ghost use Rattle.hw_io.specs.Files.{SameFiles, Begins};
 ghost use Rattle.hw_types.specs.Limits.{config_fault};
-ghost use Rattle.hw_types.specs.Reading.{config_of, vertex_of};
+ghost use Rattle.hw_types.specs.Reading.{config_of};
 ghost use Rattle.hw_types.specs.Spelling.{ConfigFits, VertexFits};
-ghost use Rattle.hw_log.specs.declared.error.LogError.TheVariants.{Torn, BadConfig, BadVertex};
-ghost use Rattle.hw_log.specs.Log.{rest_at, bytes_at, decoded, config_length, checked_config, header_of, head_at, body_at, entry_at, next_at};
+ghost use Rattle.hw_log.specs.declared.error.LogError.TheVariants.{Torn, BadConfig, BadVertex, OutOfMemory};
+ghost use Rattle.hw_log.specs.Lasts.{IsVersion, lasts_after, vertex_in};
+ghost use Rattle.hw_log.specs.Log.{rest_at, bytes_at, decoded, front_of, checked_config, header_of, head_at, body_at, entry_at, next_at};
 ghost use Rattle.hw_log.specs.Causes.{Fails, IsOutside, IsOfBytes, Gives, HasReadCause};
-ghost use Rattle.hw_log.specs.Reader.{Reading, left_of, ahead_of, end_of, PlacesFit, Opens};
+ghost use Rattle.hw_log.specs.Reader.{Reading, lasts_with, left_of, ahead_of, end_of, PlacesFit, Opens};
 
 use crate::entry::LogEntry;
 use crate::error::{LogError, error_of_read};
-use crate::head::{EntryHead, FRONT_LENGTH, HEAD_LENGTH, MAX_LENGTH, config_length, head_of};
-use hw_codec::{decode_config, decode_vertex};
+use crate::head::{EntryHead, FRONT_LENGTH, Front, HEAD_LENGTH, MAX_LENGTH, front_of, head_of};
+use crate::lasts::Lasts;
+use hw_codec::decode_config;
 use hw_io::{Files, ReadBuffer};
 use hw_types::{CodecError, Config, Vertex};
 use std::alloc::Global;
@@ -21,21 +23,22 @@ use std::marker::Model;
 
 /// Reads a log from its first byte to its end, one entry at a time.
 ///
-/// Contracts see it as the log's configuration, the place of the next entry, and the bytes that
-/// were read of the file and not yet used. These and then the file's unread bytes are what is left
+/// Contracts see it as the log's configuration, the last units so far, the place of the next entry,
+/// and the bytes that were read of the file and not yet used. These and then the file's unread bytes are what is left
 /// of the log.
 #[derive(Drop)]
 pub struct LogReader {
     alloc: Global,
     buffer: ReadBuffer,
     config: Config,
+    lasts: Lasts,
     place: u64,
 }
 
 impl Model for LogReader {
     ghost Value = { Reading };
 
-    ghost view = { λ r. record { config = r.config; place = r.place; held = r.buffer } };
+    ghost view = { λ r. record { config = r.config; lasts = r.lasts; place = r.place; held = r.buffer } };
 }
 
 impl LogReader {
@@ -67,6 +70,21 @@ impl LogReader {
         &self.config
     }
 
+    /// The version in the log's header, 1 or 2.
+    pub fn version(&self) -> u8
+        ensures said { result ≡ self.now.lasts.version }
+        ensures known { IsVersion result }
+    {
+        self.lasts.version()
+    }
+
+    /// The last unit of each validator so far, and an end to the reading.
+    pub fn into_lasts(self) -> Lasts
+        ensures { result ≡ self.lasts }
+    {
+        self.lasts
+    }
+
     /// That configuration, and an end to the reading.
     pub(crate) fn into_config(self) -> Config
         ensures { result ≡ self.config }
@@ -87,6 +105,7 @@ impl LogReader {
             Gives (λ entry. (entry, left_of self.new (F.unread files.new))) result
             (next_at (left_of self.old (F.unread files.old))) }
         ensures entry { IfOk result (λ entry. IfSome entry (λ e. (e.at ≡ self.old.place) × VertexFits e.vertex)) }
+        ensures lasts { IfOk result (λ entry. self.new.lasts ≡ lasts_with self.old.lasts entry) }
         ensures config { self.new.config ≡ self.old.config }
         ensures places { PlacesFit self.new (F.allowance files.new) }
         // After an entry fewer bytes may still come.
@@ -111,6 +130,7 @@ impl LogReader {
         ensures error { IfErr result IsOutside }
         ensures left { IsTrue F.tells → left_of self.new (F.unread files.new) ≡ left_of self.old (F.unread files.old) }
         ensures place { self.new.place ≡ self.old.place }
+        ensures lasts { self.new.lasts ≡ self.old.lasts }
         ensures config { self.new.config ≡ self.old.config }
         ensures end { end_of self.new (F.allowance files.new) ≡ end_of self.old (F.allowance files.old) }
         ensures cause { HasReadCause (F.read_faults files.old) (F.read_faults files.new) result }
@@ -131,6 +151,7 @@ impl LogReader {
         requires { PlacesFit self.old (F.allowance files.old) }
         ensures said { IsTrue F.tells → Gives (λ entry. (entry, left_of self.new (F.unread files.new))) result (entry_at (left_of self.old (F.unread files.old))) }
         ensures entry { IfOk result (λ e. (e.at ≡ self.old.place) × VertexFits e.vertex) }
+        ensures lasts { IfOk result (λ e. self.new.lasts ≡ lasts_after self.old.lasts e.vertex) }
         ensures place { OnOk result (self.old.place < self.new.place) }
         ensures config { self.new.config ≡ self.old.config }
         ensures end { end_of self.new (F.allowance files.new) ≡ end_of self.old (F.allowance files.old) }
@@ -143,6 +164,7 @@ impl LogReader {
         let at = self.place;
         let head = self.head(files)?;
         let vertex = self.body(files, at, head.length)?;
+        self.keep(&vertex)?;
         Ok(LogEntry {
             at,
             verdict: head.verdict,
@@ -154,8 +176,9 @@ impl LogReader {
     #[tactic(auto, using(crate::proofs::CauseLaws::cause_of_bytes, crate::proofs::FieldLaws::fails_bind), unfolding(crate::specs::Log::head_at))]
     fn head<F: Files>(&mut self, files: &mut F) -> Result<EntryHead, LogError>
         requires { PlacesFit self.old (F.allowance files.old) }
-        ensures said { IsTrue F.tells → Gives (λ head. (head, left_of self.new (F.unread files.new))) result (head_at (left_of self.old (F.unread files.old))) }
+        ensures said { IsTrue F.tells → Gives (λ head. (head, (left_of self.new (F.unread files.new)).rest)) result (head_at (left_of self.old (F.unread files.old)).rest) }
         ensures limit { IfOk result (λ head. head.length ≤ MAX_LENGTH) }
+        ensures lasts { self.new.lasts ≡ self.old.lasts }
         ensures place { OnOk result (self.old.place < self.new.place) }
         ensures config { self.new.config ≡ self.old.config }
         ensures end { end_of self.new (F.allowance files.new) ≡ end_of self.old (F.allowance files.old) }
@@ -178,8 +201,9 @@ impl LogReader {
     fn body<F: Files>(&mut self, files: &mut F, at: u64, length: usize) -> Result<Vertex, LogError>
         requires limit { length ≤ MAX_LENGTH }
         requires places { PlacesFit self.old (F.allowance files.old) }
-        ensures said { IsTrue F.tells → Gives (λ vertex. (vertex, left_of self.new (F.unread files.new))) result (body_at at length (left_of self.old (F.unread files.old))) }
+        ensures said { IsTrue F.tells → Gives (λ vertex. (vertex, (left_of self.new (F.unread files.new)).rest)) result (body_at self.old.lasts at length (left_of self.old (F.unread files.old)).rest) }
         ensures fits { IfOk result VertexFits }
+        ensures lasts { self.new.lasts ≡ self.old.lasts }
         ensures place { OnOk result (self.old.place ≤ self.new.place) }
         ensures config { self.new.config ≡ self.old.config }
         ensures end { end_of self.new (F.allowance files.new) ≡ end_of self.old (F.allowance files.old) }
@@ -190,10 +214,22 @@ impl LogReader {
         ensures appends { F.append_faults files.new ≡ F.append_faults files.old }
     {
         need(&mut self.buffer, files, length, at)?;
-        let vertex = decoded_vertex(self.alloc, at, &self.buffer.as_slice()[..length])?;
+        let vertex = decoded_vertex(&self.lasts, at, &self.buffer.as_slice()[..length])?;
         self.buffer.consume(length);
         self.place += length as u64;
         Ok(vertex)
+    }
+
+    /// Goes behind an entry with this vertex.
+    fn keep(&mut self, vertex: &Vertex) -> Result<(), LogError>
+        requires { VertexFits vertex.now }
+        ensures kept { OnOk result (self.new ≡ record self.old { lasts = lasts_after self.old.lasts vertex.now }) }
+        ensures same { OnErr result (self.new ≡ self.old) }
+        ensures error { IfErr result (λ e. e ≡ OutOfMemory) }
+    {
+        let noted = self.lasts.prepare(vertex)?;
+        self.lasts.note(noted);
+        Ok(())
     }
 }
 
@@ -229,24 +265,27 @@ fn header<F: Files>(
     ensures begun { F.begun files.new ≡ F.begun files.old }
     ensures appends { F.append_faults files.new ≡ F.append_faults files.old }
 {
-    let length = front(&mut buffer, files)?;
-    need(&mut buffer, files, length, FRONT_LENGTH as u64)?;
-    let config = checked_config(alloc, &buffer.as_slice()[..length])?;
-    buffer.consume(length);
+    let front = front(&mut buffer, files)?;
+    need(&mut buffer, files, front.length, FRONT_LENGTH as u64)?;
+    let config = checked_config(alloc, &buffer.as_slice()[..front.length])?;
+    buffer.consume(front.length);
+    let lasts = Lasts::new(alloc, front.version, config.weights.len() as u32)?;
     Ok(LogReader {
         alloc,
         buffer,
         config,
-        place: (FRONT_LENGTH + length) as u64,
+        lasts,
+        place: (FRONT_LENGTH + front.length) as u64,
     })
 }
 
-/// Uses the front of a log, and answers the length of the configuration.
+/// Uses the front of a log, and answers what it says.
 #[tactic(auto, using(crate::proofs::FieldLaws::front_held))]
-fn front<F: Files>(buffer: &mut ReadBuffer, files: &mut F) -> Result<usize, LogError>
-    ensures said { IsTrue F.tells → Gives (λ n. n) result (config_length (take FRONT_LENGTH (buffer.old ++ F.unread files.old))) }
+fn front<F: Files>(buffer: &mut ReadBuffer, files: &mut F) -> Result<Front, LogError>
+    ensures said { IsTrue F.tells → Gives (λ said. said) result (front_of (take FRONT_LENGTH (buffer.old ++ F.unread files.old))) }
     ensures rest { IsTrue F.tells → OnOk result (buffer.new ++ F.unread files.new ≡ drop FRONT_LENGTH (buffer.old ++ F.unread files.old)) }
-    ensures limit { IfOk result (λ n. n ≤ MAX_LENGTH) }
+    ensures limit { IfOk result (λ said. said.length ≤ MAX_LENGTH) }
+    ensures version { IfOk result (λ said. IsVersion said.version) }
     ensures ahead { OnOk result (F.allowance files.new + length buffer.new + FRONT_LENGTH ≡ F.allowance files.old + length buffer.old) }
     ensures cause { HasReadCause (F.read_faults files.old) (F.read_faults files.new) result }
 
@@ -256,9 +295,9 @@ fn front<F: Files>(buffer: &mut ReadBuffer, files: &mut F) -> Result<usize, LogE
 {
     match buffer.available(files, FRONT_LENGTH) {
         Ok(held) => {
-            let length = config_length(&buffer.as_slice()[..held.min(FRONT_LENGTH)])?;
+            let said = front_of(&buffer.as_slice()[..held.min(FRONT_LENGTH)])?;
             buffer.consume(FRONT_LENGTH);
-            Ok(length)
+            Ok(said)
         }
         Err(fault) => Err(error_of_read(fault)),
     }
@@ -315,13 +354,13 @@ fn decoded_config(alloc: Global, bytes: &[u8]) -> Result<Config, LogError>
     }
 }
 
-/// The vertex that these bytes spell, in the entry at this place.
-fn decoded_vertex(alloc: Global, at: u64, bytes: &[u8]) -> Result<Vertex, LogError>
-    ensures said { Gives (λ vertex. vertex) result (decoded (BadVertex at) (vertex_of bytes.now)) }
+/// The vertex that these bytes spell, in the entry at this place, behind these last units.
+fn decoded_vertex(lasts: &Lasts, at: u64, bytes: &[u8]) -> Result<Vertex, LogError>
+    ensures said { Gives (λ vertex. vertex) result (decoded (BadVertex at) (vertex_in lasts.now bytes.now)) }
     ensures error { IfErr result IsOfBytes }
     ensures fits { IfOk result (λ vertex. VertexFits vertex) }
 {
-    match decode_vertex(alloc, bytes) {
+    match lasts.decode(bytes) {
         Ok(vertex) => Ok(vertex),
         Err(CodecError::OutOfMemory) => Err(LogError::OutOfMemory),
         Err(error) => Err(LogError::BadVertex(at, error)),

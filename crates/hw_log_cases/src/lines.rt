@@ -1,6 +1,6 @@
 //! Lines of words.
 
-use crate::logs::{copied, counted, cuts, faults, missing};
+use crate::logs::{both, copied, counted, cuts, faults, missing};
 use crate::outside::{buffered, clock_text, door_text, files_text, sink_text};
 use hw_types::OutOfMemory;
 use std::alloc::Global;
@@ -19,6 +19,7 @@ pub fn answer(alloc: Global, line: &str) -> Result<String, OutOfMemory> {
             number(left),
             parts,
         ),
+        ["both", one, two] => both(alloc, one, two),
         ["cuts", parts] => cuts(alloc, parts),
         ["faults", parts] => faults(alloc, parts),
         ["other", parts] => missing(alloc, parts),

@@ -1,8 +1,15 @@
 //! Logs of worked parts.
 
+ghost use Rattle.std.specs.Prelude.{◌≡◌};
+ghost use Rattle.hw_io.specs.Memory.{mem_allowance};
+ghost use Rattle.hw_types.specs.Spelling.{VertexFits};
+ghost use Rattle.hw_log.specs.Lasts.{IsVersion};
+
 use crate::lines::number;
 use hw_io::{Files, MemFiles};
-use hw_log::{LogError, LogReader, append_entry, append_header, entry_bytes, read_log};
+use hw_log::{
+    Lasts, LogEntry, LogError, LogReader, append_entry, append_header, entry_bytes, read_log,
+};
 use hw_types::{Items, OutOfMemory};
 use std::alloc::Global;
 
@@ -23,6 +30,20 @@ const A1: &str =
 const B1: &str =
     "0101000000a2014a778c0d210e148c19822a9479adaed1e477fbef865d79c08d948ba4c76707de000000010000000000000001000000000000001b04000000030141f3cb4d41701b06b152c089d6e26690acbfd300899c7ba57bdb7de70f39315f01779d0c3744c7c493bb39049229de0cc15761586919f443ced5dff26307474b870000000000000000000000000000000000000000000000000000000000000000000000000000";
 
+/// The header in version 2, and the last two units as that version tells them.
+const HEADER_2: &str =
+    "48574c4702000000410100000003000000000000000100000000000000010000000000000001000000000000000001040800000000030000000000000000000000020002000000001000";
+
+const A1_COMPACT: &str =
+    "01010000006404000000000000000000000001000000000000001b04000000010000000101779d0c3744c7c493bb39049229de0cc15761586919f443ced5dff26307474b8700000000000000000000000000000000000000000000000000000000000000000000000000";
+
+const B1_COMPACT: &str =
+    "01010000003f04000000010000000000000001000000000000001b040000000000000000000000000000000000000000000000000000000000000000000000000000000000";
+
+/// An evidence of the first block and another unit of its creator and number.
+const EVIDENCE: &str =
+    "0101000000cd024a778c0d210e148c19822a9479adaed1e477fbef865d79c08d948ba4c76707de000000000000000000000000000000000000001004000000030000000100000001780000000000000000000000000000000000000000000000000000000000000000000000004a778c0d210e148c19822a9479adaed1e477fbef865d79c08d948ba4c76707de00000000000000000000000000000000000000110400000003000000010000000178000000000000000000000000000000000000000000000000000000000000000000000000";
+
 fn part(letter: char) -> &'static str {
     match letter {
         'H' => HEADER,
@@ -30,6 +51,10 @@ fn part(letter: char) -> &'static str {
         'B' => B0,
         'C' => A1,
         'D' => B1,
+        'E' => EVIDENCE,
+        'h' => HEADER_2,
+        'c' => A1_COMPACT,
+        'd' => B1_COMPACT,
         _ => "00",
     }
 }
@@ -111,17 +136,43 @@ pub fn counted(
     )?)
 }
 
-/// Copies the log entry by entry, and answers the places of the entries.
-fn copy_log(alloc: Global, files: &mut MemFiles) -> Result<Items<u64>, LogError> {
-    let mut reader = LogReader::begin(alloc, files, "LOG")?;
-    append_header(alloc, files, "COPY", reader.config())?;
+/// Copies the log entry by entry into a log of this version, and answers the places of the entries.
+fn copy_log(
+    alloc: Global,
+    files: &mut MemFiles,
+    from: &str,
+    to: &str,
+    version: u8,
+) -> Result<Items<u64>, LogError>
+    requires { IsVersion version }
+{
+    let mut reader = LogReader::begin(alloc, files, from)?;
+    append_header(alloc, files, to, version, reader.config())?;
+    let mut lasts = Lasts::new(alloc, version, reader.config().weights.len() as u32)?;
     let mut places = Items::new(alloc);
     while let Some(entry) = reader.next(files)? {
-        let bytes = entry_bytes(alloc, entry.verdict, &entry.vertex)?;
-        append_entry(files, "COPY", &bytes)?;
+        copy_entry(alloc, files, to, &mut lasts, &entry)?;
         places.push(entry.at)?;
     }
     Ok(places)
+}
+
+/// Appends the entry behind these last units.
+fn copy_entry(
+    alloc: Global,
+    files: &mut MemFiles,
+    to: &str,
+    lasts: &mut Lasts,
+    entry: &LogEntry,
+) -> Result<(), LogError>
+    requires { VertexFits entry.now.vertex }
+    ensures { mem_allowance files.new ≡ mem_allowance files.old }
+{
+    let bytes = entry_bytes(alloc, lasts, entry.verdict, &entry.vertex)?;
+    let noted = lasts.prepare(&entry.vertex)?;
+    append_entry(files, to, &bytes)?;
+    lasts.note(noted);
+    Ok(())
 }
 
 fn places_text(alloc: Global, places: Result<Items<u64>, LogError>) -> Result<String, OutOfMemory> {
@@ -153,7 +204,7 @@ pub fn copied(
 ) -> Result<String, OutOfMemory> {
     let log = log_of(alloc, parts)?;
     let mut files = files_of(alloc, piece, call, left, log.as_slice())?;
-    let places = places_text(alloc, copy_log(alloc, &mut files))?;
+    let places = places_text(alloc, copy_log(alloc, &mut files, "LOG", "COPY", 1))?;
     let copy = copy_text(alloc, &files, log.as_slice())?;
     Ok(format!(in alloc;
         "{places} copied {copy} faults {} {}",
@@ -201,4 +252,36 @@ pub fn missing(alloc: Global, parts: &str) -> Result<String, OutOfMemory> {
     let mut files = files_of(alloc, 100, None, 0, log.as_slice())?;
     let answer = count(alloc, &mut files, "other");
     Ok(format!(in alloc; "{answer:?}")?)
+}
+
+/// The bytes of the hexadecimal digits.
+fn bytes_of(alloc: Global, digits: &str) -> Result<Vec<u8>, OutOfMemory> {
+    match hex::decode(alloc, digits) {
+        Ok(bytes) => Ok(bytes),
+        Err(_) => Err(OutOfMemory),
+    }
+}
+
+/// The places of a log's entries, and whether its copy of this version is the log of these bytes.
+fn copy_is(alloc: Global, log: &[u8], version: u8, wanted: &[u8]) -> Result<String, OutOfMemory>
+    requires { IsVersion version }
+{
+    let mut files = files_of(alloc, 100, None, 0, log)?;
+    let places = places_text(alloc, copy_log(alloc, &mut files, "LOG", "COPY", version))?;
+    let is = files.file("COPY") == Some(wanted);
+    Ok(format!(in alloc; "{places} {is}")?)
+}
+
+/// A log in both versions: each is read, and copied as itself and as the other.
+pub fn both(alloc: Global, one: &str, two: &str) -> Result<String, OutOfMemory> {
+    let one = bytes_of(alloc, one)?;
+    let two = bytes_of(alloc, two)?;
+    let (one, two) = (one.as_slice(), two.as_slice());
+    Ok(format!(in alloc;
+        "{} {} {} {}",
+        copy_is(alloc, one, 1, one)?,
+        copy_is(alloc, one, 2, two)?,
+        copy_is(alloc, two, 2, two)?,
+        copy_is(alloc, two, 1, one)?
+    )?)
 }

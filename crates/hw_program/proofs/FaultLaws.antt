@@ -1,5 +1,6 @@
 -- The line of what is wrong with the bytes of a log.
-use Rattle.std.proofs.Common.{◌≡◌, ℕ, List, ◌++◌, codes, inl, inr, refl, sym, ap, subst, ◌∙◌}
+use Rattle.std.proofs.Common.{◌≡◌, ℕ, List, ◌++◌, codes, inl, inr, Result, Ok, Err, refl, sym, ap, subst, ◌∙◌}
+use Rattle.std.specs.Prelude.{IfOk, IfErr}
 use Rattle.hw_log.specs.declared.error.LogError.{LogError}
 use Rattle.hw_log.specs.declared.error.LogError.TheVariants as log
 use Rattle.hw_text.specs.Text.{number_text}
@@ -9,7 +10,9 @@ use Rattle.hw_replay.specs.declared.fault.StartFault.TheVariants as start
 use Rattle.hw_replay.specs.Replay.{IsOutside}
 use Rattle.hw_replay.specs.Causes.{IsFaultCounted}
 use Rattle.hw_program.specs.declared.ended.Ended.{Ended}
-use Rattle.hw_program.specs.Faults.{IsReadEnd}
+use Rattle.hw_program.specs.declared.ended.RunFault.{RunFault}
+use Rattle.hw_program.specs.declared.ended.RunFault.TheVariants.{Read, OutOfMemory}
+use Rattle.hw_program.specs.Faults.{IsReadEnd, IsReadCounted}
 use Rattle.hw_program.specs.Texts.{log_text, input_ended, limit_ended, clash_ended, stopped_ended}
 
 -- it has status 2
@@ -95,3 +98,14 @@ said_records name fault at x is wrote =
 pub said_parked : (name : List ℕ) (fault : StartFault) (at : ℕ) (x : Ended) → fault ≡ start.ParkFull at → x ≡ record { status = 8; text = codes "limit parked at " ++ number_text at ++ line_feed } → IsSaidOf name fault x
 said_parked name fault at x is wrote =
     subst (λ f. IsSaidOf name f x) (sym is) (wrote ∙ parked_line at, inr (inr (inl (ap (λ (e : Ended). e.status) wrote))), λ h. h)
+
+-- where no read failed, want of memory is the only fault
+pub counted_same : {T : Type 0} (before now : ℕ) (r : Result T RunFault) → now ≡ before → IfErr r (λ f. f ≡ OutOfMemory) → IsReadCounted before now r
+counted_same before now (Ok x) same none = same
+counted_same before now (Err OutOfMemory) same none = same
+counted_same before now (Err Read) same none = absurd (let e = none in cc)
+
+-- what follows of each text that is given
+pub if_ok : {A E : Type 0} (P Q : A → Type 0) (r : Result A E) → IfOk r P → ((x : A) → P x → Q x) → IfOk r Q
+if_ok P Q (Ok x) p f = f x p
+if_ok P Q (Err e) p f = tt

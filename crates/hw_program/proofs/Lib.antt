@@ -1,2 +1,9 @@
 pub mod RunLaws
 pub mod FaultLaws
+pub mod ConfigLaws
+pub mod VerdictLaws
+pub mod MadeLaws
+pub mod FileLaws
+pub mod CauseLaws
+pub mod AuditLaws
+pub mod ConflictLaws

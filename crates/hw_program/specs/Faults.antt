@@ -2,7 +2,7 @@
 use Rattle.std.specs.Prelude.{◌≡◌, ℕ, ◌≤◌, ◌⊎◌, Option, Some, None, Result, Ok, Err}
 use Rattle.hw_io.specs.Faults.{Rose}
 use Rattle.hw_program.specs.declared.ended.Ended.{Ended}
-use Rattle.hw_program.specs.Commands.{Request, Replay}
+use Rattle.hw_program.specs.Commands.{Request, Replay, Explain, Audit}
 use Rattle.hw_program.specs.Texts.{usage_line}
 use Rattle.hw_program.specs.declared.ended.RunFault.{RunFault}
 use Rattle.hw_program.specs.declared.ended.RunFault.TheVariants.{Read, OutOfMemory}
@@ -22,7 +22,13 @@ pub record HasReadFault {T : Type 0} (before now : ℕ) (result : Result T RunFa
 abbrev pub IsReadEnd : ℕ → Type 0
 IsReadEnd status = (status ≡ 0) ⊎ (status ≡ 2) ⊎ (status ≡ 8) ⊎ (status ≡ 9)
 
+-- an audit of two logs ends so too, or by a conflict
+abbrev pub IsAuditEnd : ℕ → Type 0
+IsAuditEnd status = (status ≡ 3) ⊎ IsReadEnd status
+
 -- words outside the grammar end with the usage line, and commands as they do
 abbrev pub IsEndOf : Option Request → Ended → Type 0
 IsEndOf None ended = ended ≡ record { status = 1; text = usage_line }
 IsEndOf (Some (Replay log)) ended = IsReadEnd ended.status
+IsEndOf (Some (Explain log)) ended = IsReadEnd ended.status
+IsEndOf (Some (Audit left right)) ended = IsAuditEnd ended.status

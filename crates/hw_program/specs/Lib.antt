@@ -1,6 +1,9 @@
 pub mod Commands
 pub mod Asked
 pub mod Texts
+pub mod Audited
+pub mod Conflict
+pub mod Laws
 pub mod Program
 pub mod Faults
 pub mod Run

@@ -1,14 +1,16 @@
 -- How a run of the program ends and what it writes.
 use Rattle.std.specs.Prelude.{ℕ, List, ◌++◌, Option, Some, None, Result, Ok, Err}
 use Rattle.hw_types.specs.declared.config.Config.{Config}
-use Rattle.hw_types.specs.Real.{setting_of}
+use Rattle.hw_types.specs.Real.{CoreState, setting_of}
 use Rattle.hw_explain.specs.Report.{report_text}
+use Rattle.hw_explain.specs.Explain.{explained_in}
 use Rattle.hw_replay.specs.declared.fault.StartFault.{StartFault}
 use Rattle.hw_replay.specs.Taken.{Taken}
 use Rattle.hw_replay.specs.Replay.{replay_of}
 use Rattle.hw_program.specs.declared.ended.Ended.{Ended}
 use Rattle.hw_program.specs.Texts.{usage_line, read_fault_ended, stopped_ended}
-use Rattle.hw_program.specs.Commands.{Word, Request, Replay, request_of}
+use Rattle.hw_program.specs.Audited.{audit_ended}
+use Rattle.hw_program.specs.Commands.{Word, Request, Replay, Explain, Audit, request_of}
 
 -- the bytes held under each name, where there is a file
 abbrev pub Held : Type 0
@@ -58,12 +60,26 @@ report_of t = report_text (setting_of t.core.config) t.core.journal t.refused t.
 abbrev pub replay_said : Held → Word → Part Ended
 replay_said held log = log_replayed held None log >>= λ t. done (report_of t)
 
+-- each decided block of a log with its summit
+abbrev pub explain_said : Held → Word → Part Ended
+explain_said held log = log_replayed held None log >>= λ t. done (explained_in t.core)
+
+-- the audit of a log against a node of its configuration
+abbrev pub audited_against : Held → CoreState → Word → Part Ended
+audited_against held left right = log_replayed held (Some left.config) right >>= λ r. Ok (audit_ended (setting_of left.config) left.journal r.core.journal)
+
+-- the audit of two logs, of which the left one is read first
+abbrev pub audit_said : Held → Word → Word → Part Ended
+audit_said held left right = log_replayed held None left >>= λ l. audited_against held l.core right
+
 -- ---- the program
 
 -- a request, by what the files hold; each command has its line
 abbrev pub request_said : Held → Option Request → Part Ended
 request_said held None = Err (record { status = 1; text = usage_line })
 request_said held (Some (Replay log)) = replay_said held log
+request_said held (Some (Explain log)) = explain_said held log
+request_said held (Some (Audit left right)) = audit_said held left right
 
 -- How a run ends and what it writes, by its words and what the files hold, where nothing of the outside fails and there is memory.
 unfoldable pub run_of : List Word → Held → Ended

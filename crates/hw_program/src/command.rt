@@ -2,7 +2,7 @@
 
 ghost use Rattle.std.specs.Prelude.{◌≡◌, ◌<◌, ◌+◌, length, drop};
 ghost use Rattle.std.specs.List.{list_all};
-ghost use Rattle.hw_program.specs.Commands.{is_word, of_one, request_of};
+ghost use Rattle.hw_program.specs.Commands.{is_word, of_one, of_two, request_of};
 ghost use Rattle.hw_program.specs.Asked.{asked};
 
 use crate::words::Words;
@@ -11,6 +11,10 @@ use crate::words::Words;
 pub enum Command<'w> {
     /// Takes the vertices of a log, in order, and reports on the node that they leave.
     Replay { log: &'w str },
+    /// Takes the vertices of a log, in order, and tells each final block with its summit.
+    Explain { log: &'w str },
+    /// Takes the vertices of two logs, and tells what the two nodes say of each other.
+    Audit { left: &'w str, right: &'w str },
 }
 
 /// The command that the words ask for, if they are in the grammar.
@@ -20,6 +24,9 @@ pub fn command_of(words: &Words) -> Option<Command<'_>>
 {
     match words.len() {
         2 if is_word(words.get(0)) && is_word(words.get(1)) => of_one(words.get(0), words.get(1)),
+        3 if is_word(words.get(0)) && is_word(words.get(1)) && is_word(words.get(2)) => {
+            of_two(words.get(0), words.get(1), words.get(2))
+        }
         _ => None,
     }
 }
@@ -30,6 +37,22 @@ fn of_one<'w>(command: &str, word: &'w str) -> Option<Command<'w>>
 {
     if command == "replay" {
         Some(Command::Replay { log: word })
+    } else if command == "explain" {
+        Some(Command::Explain { log: word })
+    } else {
+        None
+    }
+}
+
+/// The command of two words.
+fn of_two<'w>(command: &str, first: &'w str, second: &'w str) -> Option<Command<'w>>
+    ensures { asked result ≡ of_two command.now first.now second.now }
+{
+    if command == "audit" {
+        Some(Command::Audit {
+            left: first,
+            right: second,
+        })
     } else {
         None
     }

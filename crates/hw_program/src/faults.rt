@@ -75,7 +75,7 @@ fn bad_log(alloc: Global, name: &str, error: LogError) -> Result<Ended, OutOfMem
 
 /// The log is of another configuration than the one that is wanted.
 #[tactic(auto, using(std::proofs::Common::append_assoc), unfolding(crate::specs::Texts::input_ended))]
-fn other_config(alloc: Global, name: &str) -> Result<Ended, OutOfMemory>
+pub fn other_config(alloc: Global, name: &str) -> Result<Ended, OutOfMemory>
     ensures { IfOk result (λ ended. ended ≡ input_ended name.now (codes "other config")) }
 {
     let mut text = input(alloc, name)?;

@@ -4,14 +4,18 @@
 //! command is one case there, one variant of `Command`, and one module here.
 #![tactic(auto)]
 
+mod audit;
 mod command;
 mod ended;
+mod explain;
 mod faults;
+mod laws;
 mod replay;
 mod run;
 mod texts;
 mod words;
 
 pub use ended::OUT_OF_MEMORY;
+pub use laws::a_conflict_is_told;
 pub use run::highway;
 pub use words::Words;

@@ -9,11 +9,14 @@ ghost use Rattle.hw_program.specs.Commands.{request_of, OnlyReads};
 ghost use Rattle.hw_program.specs.Texts.{usage_line, read_fault_line, out_of_memory_line};
 ghost use Rattle.hw_program.specs.Faults.{HasReadFault, IsEndOf};
 ghost use Rattle.hw_program.specs.Program.{run_of};
+ghost use Rattle.hw_program.specs.Conflict.{ReportsConflict};
 ghost use Rattle.hw_program.specs.Run.{IsStatus, IsDone, IsSaid, IsRefusal, WritesLine, WritesMemoryLine, EndsWithoutMemory, Finishes};
 ghost use Rattle.hw_program.specs.declared.ended.RunFault.TheVariants as RunFaults;
 
+use crate::audit::audit_logs;
 use crate::command::{Command, command_of};
 use crate::ended::{CONFLICT, DONE, Ended, OUT_OF_MEMORY, READ_FAULT, RunFault, WRITE_FAULT};
+use crate::explain::explain;
 use crate::faults::usage;
 use crate::replay::replay;
 use crate::words::Words;
@@ -58,6 +61,9 @@ pub fn highway<F: Files, S: Sink, C: Clock, D: Door>(
     // Where no count rose, the answer is the one that the words and the bytes have, or want of memory.
     ensures complete { IsTrue F.tells → (Rose (F.read_faults files.old) (F.read_faults files.new) → ⊥) → (Rose (S.faults out.old) (S.faults out.new) → ⊥) → (result ≡ (run_of words.now (F.held files.old)).status) ⊎ (result ≡ 7) }
 
+    // Where two logs report conflicting final blocks, the audit names culprits, each by two signed units, and they weigh more than the threshold.
+    ensures conflict { IsTrue F.tells → result ≡ 3 → ReportsConflict words.now (F.held files.old) (run_of words.now (F.held files.old)).text }
+
     // What is written with each status.
     ensures text { IsTrue F.tells → IsDone result → Appends (S.taken out.old) (S.taken out.new) (run_of words.now (F.held files.old)).text }
     ensures line { IsTrue F.tells → IsRefusal result → WritesLine (S.taken out.old) (S.taken out.new) (run_of words.now (F.held files.old)).text (S.faults out.old) (S.faults out.new) }
@@ -81,9 +87,10 @@ pub fn highway<F: Files, S: Sink, C: Clock, D: Door>(
 }
 
 /// Runs the command up to its text.
-#[tactic(auto, unfolding(crate::specs::Program::run_of))]
+#[tactic(auto, using(crate::proofs::AuditLaws::no_conflict, crate::proofs::AuditLaws::reports), unfolding(crate::specs::Program::run_of))]
 fn run<F: Files>(alloc: Global, words: &Words, files: &mut F) -> Result<Ended, RunFault>
     ensures said { IsTrue F.tells → IfOk result (λ ended. ended ≡ run_of words.now (F.held files.old)) }
+    ensures conflict { IsTrue F.tells → IfOk result (λ ended. ended.status ≡ 3 → ReportsConflict words.now (F.held files.old) ended.text) }
     ensures status { IfOk result (λ ended. IsEndOf (request_of words.now) ended) }
     ensures fault { HasReadFault (F.read_faults files.old) (F.read_faults files.new) result }
     ensures usage { request_of words.now ≡ None → IfErr result (λ fault. fault ≡ RunFaults.OutOfMemory) }
@@ -93,6 +100,8 @@ fn run<F: Files>(alloc: Global, words: &Words, files: &mut F) -> Result<Ended, R
 {
     match command_of(words) {
         Some(Command::Replay { log }) => replay(alloc, files, log),
+        Some(Command::Explain { log }) => explain(alloc, files, log),
+        Some(Command::Audit { left, right }) => audit_logs(alloc, files, left, right),
         None => Ok(usage(alloc)?),
     }
 }

@@ -1,11 +1,10 @@
 -- What a replay will have taken, one entry after the other.
 use Rattle.std.proofs.Common.{◌≡◌, ◌⊎◌, Option, Some, None, Result, Ok, Err, inl, inr, refl, sym, ap, subst, ◌∙◌}
-use Rattle.hw_types.specs.Reading.{Rest}
 use Rattle.hw_log.specs.declared.entry.LogEntry.{LogEntry}
 use Rattle.hw_log.specs.declared.error.LogError.{LogError}
 use Rattle.hw_log.specs.declared.error.LogError.TheVariants as log
 use Rattle.hw_log.specs.Causes as of_log
-use Rattle.hw_log.specs.Log.{next_at, with_next, entries_of}
+use Rattle.hw_log.specs.Log.{Left, next_at, with_next, entries_of}
 use Rattle.hw_log.proofs.EntryLaws.{entries_next}
 use Rattle.hw_replay.specs.declared.fault.StartFault.{StartFault}
 use Rattle.hw_replay.specs.declared.fault.StartFault.TheVariants as fault
@@ -16,10 +15,10 @@ use Rattle.hw_replay.proofs.CauseLaws.{is_outside}
 use Rattle.hw_replay.specs.Taken.{Taken, ◌>>=◌, entry_taken, entries_taken, or_fault, rest_taken}
 
 -- what is left of a log, by what comes next
-entries_at : (r : Rest) (n : Result (Option LogEntry × Rest) LogError) → next_at r ≡ n → entries_of r ≡ with_next n entries_of
+entries_at : (r : Left) (n : Result (Option LogEntry × Left) LogError) → next_at r ≡ n → entries_of r ≡ with_next n entries_of
 entries_at r n is = entries_next r ∙ ap (λ m. with_next m entries_of) is
 
-module _ (t : Taken) (r rest : Rest) where
+module _ (t : Taken) (r rest : Left) where
   -- an entry that is taken
   pub ahead_entry : (e : LogEntry) (u : Taken) → next_at r ≡ Ok (Some e, rest) → entry_taken t e ≡ Ok u → rest_taken t (entries_of r) ≡ rest_taken u (entries_of rest)
   unfolding entries_taken
@@ -40,7 +39,7 @@ module _ (t : Taken) (r rest : Rest) where
   ahead_end is = ap (rest_taken t) (entries_at r (Ok (None, rest)) is)
 
 -- an error of the log
-pub ahead_error : (t : Taken) (r : Rest) (e : LogError) → next_at r ≡ Err e → rest_taken t (entries_of r) ≡ Err (fault.Log e)
+pub ahead_error : (t : Taken) (r : Left) (e : LogError) → next_at r ≡ Err e → rest_taken t (entries_of r) ≡ Err (fault.Log e)
 unfolding entries_taken
 ahead_error t r e is = ap (rest_taken t) (entries_at r (Err e) is)
 
@@ -51,7 +50,7 @@ pub wants : (e : StartFault) (said : Result Taken StartFault) → e ≡ fault.Ou
 wants e said is = inl (subst IsOutside (sym is) tt)
 
 -- an entry at which it stops
-pub stops_at_entry : (t : Taken) (r rest : Rest) (e : LogEntry) (f : StartFault) → next_at r ≡ Ok (Some e, rest) → IsStop f (entry_taken t e) → Stops f (rest_taken t (entries_of r))
+pub stops_at_entry : (t : Taken) (r rest : Left) (e : LogEntry) (f : StartFault) → next_at r ≡ Ok (Some e, rest) → IsStop f (entry_taken t e) → Stops f (rest_taken t (entries_of r))
 stops_at_entry t r rest e f is (inl want) = wants f (rest_taken t (entries_of r)) want
 stops_at_entry t r rest e f is (inr stop) = inr (ahead_stop t r rest e f is stop)
 
@@ -79,6 +78,6 @@ stops_by e said is = go (fault_is e)
     go (inr same) = inr (is ∙ ap Err (sym same))
 
 -- an error of the log at which it stops
-pub stops_at_error : (t : Taken) (r : Rest) (e : LogError) → of_log.Fails e (next_at r) → Stops (fault_of e) (rest_taken t (entries_of r))
+pub stops_at_error : (t : Taken) (r : Left) (e : LogError) → of_log.Fails e (next_at r) → Stops (fault_of e) (rest_taken t (entries_of r))
 stops_at_error t r e (inl out) = inl (is_outside e out)
 stops_at_error t r e (inr is) = stops_by e (rest_taken t (entries_of r)) (ahead_error t r e is)

@@ -2,9 +2,8 @@
 use Rattle.std.proofs.Common.{◌≡◌, ◌⊎◌, ℕ, false, List, Option, Some, None, Ok, Err, inl, inr, sym, ap, ◌∙◌}
 use Rattle.std.specs.Prelude.{if◌then◌else◌}
 use Rattle.hw_types.specs.declared.config.Config.{Config}
-use Rattle.hw_types.specs.Reading.{Rest}
 use Rattle.hw_log.specs.declared.error.LogError.{LogError}
-use Rattle.hw_log.specs.Log.{◌>>=◌, header_of, entries_of, log_of}
+use Rattle.hw_log.specs.Log.{◌>>=◌, Left, header_of, entries_of, log_of}
 use Rattle.hw_log.specs.Reader.{Reading, left_of, Opens}
 use Rattle.hw_replay.specs.declared.fault.StartFault.{StartFault}
 use Rattle.hw_replay.specs.declared.fault.StartFault.TheVariants as fault
@@ -17,7 +16,7 @@ use Rattle.hw_replay.proofs.CauseLaws.{is_outside}
 use Rattle.hw_replay.proofs.AheadLaws.{wants, stops_by}
 
 -- what a log says behind its header
-behind_header : (bytes : List ℕ) (config : Config) (rest : Rest) → header_of bytes ≡ Ok (config, rest) → log_of bytes ≡ Ok (config, entries_of rest)
+behind_header : (bytes : List ℕ) (config : Config) (rest : Left) → header_of bytes ≡ Ok (config, rest) → log_of bytes ≡ Ok (config, entries_of rest)
 behind_header bytes config rest is = ap (λ h. h >>= λ header. Ok (header.0, entries_of header.1)) is
 
 pub begins_ok : (wanted : Option Config) (file : Option (List ℕ)) (unread : List ℕ) (reader : Reading) (r : Replay) → Opens file unread (Ok reader) → IsBegun r reader wanted → Begins wanted file unread (Ok r)

@@ -3,3 +3,4 @@ pub mod Replay
 pub mod Causes
 pub mod Faults
 pub mod Steps
+pub mod Laws

@@ -5,7 +5,9 @@
 #![tactic(auto)]
 
 mod fault;
+mod laws;
 mod replay;
 
 pub use fault::StartFault;
+pub use laws::a_replay_delivers;
 pub use replay::{Replay, replay_log};

@@ -65,6 +65,7 @@ impl Replay {
         // What will have been taken at the end of the log stays what it is.
         ensures said { IsTrue F.tells → Leads (ahead_in self.old (F.unread files.old)) (ahead_in self.new (F.unread files.new)) (taken_in self.new) result }
         ensures grows { GrowsByOne self.old.core self.new.core }
+        ensures end { IfOk result (λ more. more ≡ false → self.new.core ≡ self.old.core) }
         ensures room { IfOk result (λ more. IsTrue more → HasRoom self.new (F.allowance files.new)) }
         ensures nearer { IfOk result (λ more. IsTrue more → ahead_of self.new.reader (F.allowance files.new) < ahead_of self.old.reader (F.allowance files.old)) }
         ensures cause { HasReplayCause (F.read_faults files.old) (F.read_faults files.new) result }

@@ -1,14 +1,17 @@
 //! What a node tells of its journal. No reader takes memory.
 
-ghost use Rattle.std.specs.Prelude.{◌≡◌, ℕ, ◌<◌, length, slice_get, Some, IfSome};
+ghost use Rattle.std.specs.Prelude.{◌≡◌, ℕ, ◌<◌, ◌↔◌, IsTrue, length, slice_get, Some, IfSome};
 ghost use Rattle.std.specs.Option.{option_copied};
 ghost use Rattle.hw_types.specs.Graph.{slot};
 ghost use Rattle.hw_types.specs.Settled.{has_evidence, parked_of, dropped_of};
 ghost use Rattle.hw_types.specs.Spelling.{VertexFits, Fits};
-ghost use Rattle.hw_types.specs.Real.{received_in, settled_in, panorama_in, weight_in};
+ghost use Rattle.hw_types.specs.laws.StateLaws.{units_in, NamesApart};
+ghost use Rattle.hw_safety.specs.Safety.{HasPairs};
+ghost use Rattle.hw_types.specs.Real.{setting_of, received_in, settled_in, panorama_in, weight_in};
 ghost use Rattle.hw_dag.specs.Dag.{graph, observations};
 ghost use Rattle.hw_admit.specs.State.{is_marked};
 ghost use Rattle.hw_core.specs.Decided.{decided_in};
+ghost use Rattle.hw_core.specs.Shown.{HasSummitNow, IsStartNow};
 ghost use Rattle.hw_core.specs.Readers.{unit_in, missing_needs, IsPlace, IsUnsettled, fork_in, exceeded_in};
 
 use super::Core;
@@ -166,6 +169,27 @@ impl Core {
         self.decided.get(index)
     }
 
+    /// Whether the decided block of that place has a summit of its level and quorum in the present state.
+    pub fn summit_now(&mut self, index: u64) -> bool
+        requires { index < length (decided_in self.old) }
+        ensures exact { IsTrue result ↔ HasSummitNow self.old index }
+        ensures unchanged { self.new ≡ self.old }
+    {
+        let block = self.decided.block(index);
+        let decision = *self.decided.get(index);
+        self.shown
+            .show(&self.state, block, decision.level, decision.quorum)
+    }
+
+    /// Where the validator starts in the committee of the level of the greatest summit that the last
+    /// `summit_now` found. None for a validator outside the committee, where it found none, and where a
+    /// vertex came since.
+    pub fn summit_start(&self, level: u32, validator: u32) -> Option<u64>
+        ensures { IfSome result (IsStartNow self.now level validator) }
+    {
+        self.shown.start(level, validator)
+    }
+
     /// Its state, for reading.
     pub fn state(&self) -> &State
         ensures config { result.now.config ≡ self.now.config }
@@ -173,6 +197,10 @@ impl Core {
         ensures panorama { observations result.now.dag result.now.panorama ≡ panorama_in self.now }
         ensures evidence { (v : ℕ) → is_marked result.now.marked v ≡ has_evidence (received_in self.now).with_evidence v }
         ensures endorsements { result.now.pairs ≡ (received_in self.now).endorsements }
+
+        // What holds of each journal: its evidence are pairs, and no two of its units have one name.
+        ensures pairs { HasPairs (setting_of self.now.config) self.now.journal }
+        ensures apart { NamesApart (units_in (setting_of self.now.config) self.now.journal) }
     {
         let _panorama = self.state.panorama();
         &self.state

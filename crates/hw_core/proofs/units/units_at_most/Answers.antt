@@ -1,4 +1,4 @@
-use Rattle.std.proofs.Common.{length, ap, ◌∙◌, arith}
+use Rattle.std.proofs.Common.{ap, arith}
 use Rattle.hw_dag.specs.Dag.{UnitGraph, count_of}
 use Rattle.hw_core.proofs.CountLaws.{graph_length}
 use Rattle.hw_core.proofs.UnitBoundLaws.{waits_few, settled_few, journal_few}

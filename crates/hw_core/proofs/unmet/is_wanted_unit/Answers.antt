@@ -8,18 +8,25 @@ use Rattle.hw_core.specs.Missing.{is_met_in}
 use Rattle.hw_core.proofs.UnmetLaws.{observed_any}
 use Rattle.hw_core.proofs.unmet.is_wanted_unit.Goals as goal
 
-pub returns-then-not-contains : goal.returns-then-not-contains
-returns-then-not-contains c =
-    let d = c.args.digest.now in
-    let met = is_met_in c.args.state.now (need.Unit d) in
-    let seen : c.contains.result ≡ list_any (λ m. need_eq m (need.Unit d)) (unit_needs c.args.before.now) = c.contains.ensures.value ∙ observed_any obs.eq-value.it d (λ e. refl) refl refl c.args.before.now in
-    let none : list_any (λ m. need_eq m (need.Unit d)) (unit_needs c.args.before.now) ≡ false = sym seen ∙ c.if-not-contains.true in
-    ap not c.is_met.ensures ∙ ap (λ (b : Bool). not (b || met)) (sym none)
+or_false : (b : Bool) → (b || false) ≡ b
+or_false true = refl
+or_false false = refl
 
-pub returns-else-not-contains : goal.returns-else-not-contains
-returns-else-not-contains c =
+or_true : (b : Bool) → not (b || true) ≡ false
+or_true true = refl
+or_true false = refl
+
+pub returns-then-not-is_met : goal.returns-then-not-is_met
+returns-then-not-is_met c =
     let d = c.args.digest.now in
-    let met = is_met_in c.args.state.now (need.Unit d) in
+    let listed = list_any (λ m. need_eq m (need.Unit d)) (unit_needs c.args.before.now) in
     let seen : c.contains.result ≡ list_any (λ m. need_eq m (need.Unit d)) (unit_needs c.args.before.now) = c.contains.ensures.value ∙ observed_any obs.eq-value.it d (λ e. refl) refl refl c.args.before.now in
-    let some : list_any (λ m. need_eq m (need.Unit d)) (unit_needs c.args.before.now) ≡ true = sym seen ∙ c.if-not-contains.false in
-    ap not c.if-not-contains.false ∙ ap (λ (b : Bool). not (b || met)) (sym some)
+    let unmet : is_met_in c.args.state.now (need.Unit d) ≡ false = sym c.is_met.ensures ∙ c.if-not-is_met.true in
+    ap not (seen ∙ sym (or_false listed)) ∙ ap (λ (b : Bool). not (listed || b)) (sym unmet)
+
+pub returns-else-not-is_met : goal.returns-else-not-is_met
+returns-else-not-is_met c =
+    let d = c.args.digest.now in
+    let listed = list_any (λ m. need_eq m (need.Unit d)) (unit_needs c.args.before.now) in
+    let met : is_met_in c.args.state.now (need.Unit d) ≡ true = sym c.is_met.ensures ∙ c.if-not-is_met.false in
+    ap not c.if-not-is_met.false ∙ sym (or_true listed) ∙ ap (λ (b : Bool). not (listed || b)) (sym met)

@@ -1,10 +1,24 @@
-use Rattle.std.proofs.lemmas.Result.{err_from_is_err_and}
+use Rattle.std.proofs.Common.{None, inl, sym, ap, ◌∙◌}
+use Rattle.hw_replay.specs.Taken.{Taken}
+use Rattle.hw_replay.specs.Replay.{taken_in}
+use Rattle.hw_program.specs.declared.ended.Ended.{Ended}
+use Rattle.hw_program.specs.Program.{◌>>=◌, Part, ended, done, report_of}
+use Rattle.hw_program.proofs.FaultLaws.{counted_same, if_ok}
+use Rattle.hw_program.proofs.FileLaws.{took_file, replayed}
 use Rattle.hw_program.proofs.replay.replay.Goals as goal
+
+pub returns-in-Ok-clause-said : goal.returns-in-Ok-clause-said
+returns-in-Ok-clause-said g c = λ tells.
+    let held = g.F.Files.held c.args.files.now in
+    let log = c.args.log.now in
+    let took = took_file None (held log) c.in-Ok.replay (c.in-Ok.ensures.said tells) in
+    if_ok _ _ c.reported.result c.reported.ensures.text (λ e is. is ∙ sym (ap (λ (p : Part Taken). ended (p >>= λ t. done (report_of t))) (replayed held None log (taken_in c.in-Ok.replay) took)))
+
+pub returns-in-Ok-clause-status : goal.returns-in-Ok-clause-status
+returns-in-Ok-clause-status g c = if_ok _ _ c.reported.result c.reported.ensures.text (λ e is. inl (ap (λ (x : Ended). x.status) is))
+
+pub returns-in-Ok-clause-fault : goal.returns-in-Ok-clause-fault
+returns-in-Ok-clause-fault g c = record { later = c.in-Ok.ensures.cause.later; counted = counted_same _ _ c.reported.result c.in-Ok.ensures.cause.counted c.reported.ensures.fault }
 
 pub returns-in-Err-clause-fault : goal.returns-in-Err-clause-fault
 returns-in-Err-clause-fault g c = record { later = c.in-Err.ensures.cause.later; counted = c.stopped.ensures.cause _ _ c.in-Err.ensures.cause.counted }
-
-pub returns-in_err-reported-in-Ok-clause-fault : goal.returns-in_err-reported-in-Ok-clause-fault
-returns-in_err-reported-in-Ok-clause-fault g c =
-    let p = err_from_is_err_and c.from_residual.result c.from_residual.ensures.1 in
-    rw (p.1, p.2) (record { later = c.in-Ok.ensures.cause.later; counted = c.in-Ok.ensures.cause.counted })

@@ -9,4 +9,4 @@ use Rattle.hw_core.proofs.node.Core.decision_count.Goals as goal
 pub returns : goal.returns
 returns c =
     let core = c.self.inside in
-    c.count.ensures ∙ ap (λ (ds : List Decision). length ds) (decisions_is core.instance core.journal.items core.names.entries core.park core.dropped.entries (room_of core.dropped) core.state core.fork core.decided c.self.invariant) ∙ ap (λ (k : CoreState). length (decided_in k)) c.self.view_is
+    c.count.ensures ∙ ap (λ (ds : List Decision). length ds) (decisions_is core.instance core.journal.items core.names.entries core.park core.dropped.entries (room_of core.dropped) core.state core.fork core.decided core.shown c.self.invariant) ∙ ap (λ (k : CoreState). length (decided_in k)) c.self.view_is

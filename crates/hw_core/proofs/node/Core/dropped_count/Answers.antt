@@ -11,7 +11,7 @@ pub overflow_cast-result : goal.overflow_cast-result
 overflow_cast-result c =
     let core = c.self.inside in
     let many = rules_length (setting_of core.state.config) core.journal.items core.dropped.entries c.self.invariant.rules_are c.len.ensures.unique in
-    let few = dropped_few core.instance core.journal.items core.names.entries core.park core.dropped.entries (room_of core.dropped) core.state core.fork core.decided c.self.invariant in
+    let few = dropped_few core.instance core.journal.items core.names.entries core.park core.dropped.entries (room_of core.dropped) core.state core.fork core.decided core.shown c.self.invariant in
     let most = journal_few core.journal.items core.park core.state c.self.invariant.node c.config-config.ensures.lawful in
     let len = c.len.ensures.len in
     omega arith

@@ -8,5 +8,5 @@ pub returns-clause-panorama : goal.returns-clause-panorama
 returns-clause-panorama c =
     let core = c.self.inside in
     c.panorama-panorama.ensures.observed
-    ∙ panorama_is core.instance core.journal.items core.names.entries core.park core.dropped.entries (room_of core.dropped) core.state core.fork core.decided c.self.invariant
+    ∙ panorama_is core.instance core.journal.items core.names.entries core.park core.dropped.entries (room_of core.dropped) core.state core.fork core.decided core.shown c.self.invariant
     ∙ ap (λ (k : CoreState). panorama_in k) c.self.view_is

@@ -1,7 +1,5 @@
-use Rattle.std.proofs.Common.{ap, sym, ◌∙◌}
+use Rattle.std.proofs.Common.{sym}
 use Rattle.std.proofs.lemmas.Result.{err_from_is_err_and}
-use Rattle.hw_log.specs.Reader.{left_of}
-use Rattle.hw_replay.specs.Replay.{taken_in}
 use Rattle.hw_replay.proofs.AheadLaws.{ahead_entry, ahead_end, stops_at_entry, stops_at_error}
 use Rattle.hw_replay.proofs.replay.Replay.step.Goals as goal
 

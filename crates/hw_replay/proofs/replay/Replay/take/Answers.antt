@@ -1,6 +1,5 @@
 use Rattle.std.proofs.Common.{ap}
 use Rattle.hw_replay.specs.declared.replay.Replay.{Replay}
-use Rattle.hw_replay.specs.Taken.{Taken}
 use Rattle.hw_replay.specs.Replay.{taken_in}
 use Rattle.hw_replay.proofs.TakeLaws.{taken_answered, took_refused, stopped_by}
 use Rattle.hw_replay.proofs.replay.Replay.take.Goals as goal

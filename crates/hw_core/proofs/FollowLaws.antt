@@ -1,0 +1,80 @@
+-- What a node keeps after a delivery.
+use Rattle.std.proofs.Common.{◌≡◌, ℕ, ◌+◌, ◌≤◌, Bool, true, false, cond, List, [], ◌∷◌, ◌++◌, length, Option, refl, sym, ap, subst, ◌∙◌, arith}
+use Rattle.hw_types.specs.declared.unit.Digest.{Digest}
+use Rattle.hw_types.specs.declared.unit.Vertex.{Vertex}
+use Rattle.hw_types.specs.declared.answers.Rule.{Rule}
+use Rattle.hw_types.specs.declared.config.Config.{Config}
+use Rattle.hw_types.specs.Below.{Among}
+use Rattle.hw_types.specs.Spelling.{VertexFits}
+use Rattle.hw_types.specs.Journal.{journal_after}
+use Rattle.hw_types.specs.Real.{CoreState, setting_of, after_in}
+use Rattle.hw_safety.specs.Safety.{HasPairs}
+use Rattle.hw_dag.specs.declared.numbers.UnitNo.{UnitNo}
+use Rattle.hw_dag.specs.Dag.{GrowsTo, graph}
+use Rattle.hw_dag.specs.Admission.{PreparedUnit, IsGraph}
+use Rattle.hw_admit.specs.State.{NodeState}
+use Rattle.hw_park.specs.Parked.{Parked}
+use Rattle.hw_core.specs.Settle.{HasMoreRoom}
+use Rattle.hw_core.specs.Keeps.{IsNode, IsTable, AreRules, IsChoice, IsKept}
+use Rattle.hw_core.specs.Decided.{DecidedState, IsToldOf, HasRoomFor, HasOnlyRoom, IsDecided}
+use Rattle.hw_core.specs.Followed.{HasFollowed}
+use Rattle.hw_core.specs.Deliver.{IsTaken}
+use Rattle.hw_core.specs.Shown.{ShownState, IsShown}
+use Rattle.hw_core.proofs.UnitTakeLaws.{node_roomy}
+use Rattle.hw_core.proofs.DecidedLaws.{room_less, decided_roomy, decided_still, run_told, decided_after}
+use Rattle.hw_core.proofs.ShownLaws.{shown_forgot, shown_still}
+use Rattle.hw_core.proofs.KeptLaws.{kept_with}
+
+module _ (instance : Digest) (journal : List Vertex) (names : List (Digest × ℕ)) (park : Parked PreparedUnit) (rules : List (Digest × Rule)) (room : ℕ) (state : NodeState) (fork : Option UnitNo) (decided : DecidedState) (shown : ShownState)
+    (kept : IsKept instance journal names park rules room state fork decided shown) where
+  -- one vertex more was taken, and room was made before
+  module _ (v : Vertex) (later : NodeState) (after : Parked PreparedUnit) (roomy : DecidedState) (node : IsNode (journal ++ v ∷ []) after later) (config : later.config ≡ state.config) (grows : GrowsTo state.dag later.dag)
+      (f : IsGraph state.dag) (g : IsGraph later.dag) (more : HasOnlyRoom decided roomy) (few : HasRoomFor roomy (length (graph later.dag) + length after.waiting)) where
+    -- what is followed is true of the state
+    pub follow_told : IsToldOf roomy later
+    follow_told = run_told journal v state later (length park.waiting) after decided roomy roomy kept.decided_is more node config f g grows few
+
+    pub follow_room : HasRoomFor roomy (length (graph later.dag))
+    follow_room = room_less roomy (length (graph later.dag)) (length (graph later.dag) + length after.waiting) (omega arith) few
+
+    -- then the node keeps what it should
+    pub kept_followed : (vs : List Vertex) → vs ≡ journal ++ v ∷ [] → (names' : List (Digest × ℕ)) (rules' : List (Digest × Rule)) (room' : ℕ) → IsTable (setting_of state.config) (journal ++ v ∷ []) names' → AreRules (setting_of state.config) (journal ++ v ∷ []) rules'
+        → length after.waiting ≤ room' → ((w : Vertex) → Among w (journal ++ v ∷ []) → VertexFits w) → HasPairs (setting_of state.config) (journal ++ v ∷ [])
+        → (done : DecidedState) (choice : Option UnitNo) → HasFollowed later (length vs) roomy done choice → (forgot : ShownState) → forgot ≡ record shown { present = false }
+        → (still : NodeState) → still ≡ later → IsKept instance vs names' after rules' room' still choice done forgot
+    kept_followed vs is names' rules' room' table are places fit pairs done choice followed forgot forgets still same =
+        subst (λ (t : NodeState). IsKept instance vs names' after rules' room' t choice done forgot) (sym same)
+        (subst (λ (ws : List Vertex). IsKept instance ws names' after rules' room' later choice done forgot) (sym is)
+        (kept_with instance journal names park rules room state fork decided shown kept (journal ++ v ∷ []) names' after rules' room' later choice done forgot config table are places fit pairs node followed.choice
+        (decided_after journal v state later (length park.waiting) after decided roomy done kept.decided_is more node config f g grows few (length vs) (ap (λ (ws : List Vertex). length ws) is)
+        followed.observed followed.decides followed.told followed.spare followed.more)
+        (shown_forgot (record { config = state.config; journal = journal }) (record { config = later.config; journal = journal ++ v ∷ [] }) state later shown forgot f g config grows forgets kept.shown_is)))
+
+  -- nothing was taken, and there is more room
+  module _ (later : NodeState) (roomy : DecidedState) (f : IsGraph state.dag) (g : IsGraph later.dag) (still : HasMoreRoom state later) (more : HasOnlyRoom decided roomy) where
+    pub kept_roomy : (vs : List Vertex) → vs ≡ journal → (names' : List (Digest × ℕ)) → names' ≡ names → (after : Parked PreparedUnit) → after ≡ park → (rules' : List (Digest × Rule)) → rules' ≡ rules → (room' : ℕ) → length after.waiting ≤ room'
+        → IsKept instance vs names' after rules' room' later fork roomy shown
+    kept_roomy vs a names' b after d rules' e room' places =
+        subst (λ (ws : List Vertex). IsKept instance ws names' after rules' room' later fork roomy shown) (sym a)
+        (subst (λ (ns : List (Digest × ℕ)). IsKept instance journal ns after rules' room' later fork roomy shown) (sym b)
+        (subst (λ (rs : List (Digest × Rule)). IsKept instance journal names after rs room' later fork roomy shown) (sym e)
+        (subst (λ (k : Parked PreparedUnit). length k.waiting ≤ room' → IsKept instance journal names k rules room' later fork roomy shown) (sym d) whole places)))
+      where
+        config : later.config ≡ state.config
+        config = ap (λ (t : NodeState). t.config) still.unchanged
+
+        choice : IsChoice later fork
+        choice = subst (λ (t : NodeState). IsChoice t fork) (sym still.unchanged) (record { choice = kept.fork_is.choice; known = kept.fork_is.known })
+
+        whole : length park.waiting ≤ room' → IsKept instance journal names park rules room' later fork roomy shown
+        whole fits = kept_with instance journal names park rules room state fork decided shown kept journal names park rules room' later fork roomy shown config kept.table kept.rules_are fits kept.fit kept.pairs
+            (node_roomy journal park state kept.node later still.unchanged still.kept) choice
+            (decided_still (setting_of later.config) journal state later (length park.waiting) (length park.waiting) roomy f g still refl
+            (subst (λ (c : Config). IsDecided (setting_of c) journal state (length park.waiting) roomy) (sym config) (decided_roomy decided roomy more (setting_of state.config) journal state (length park.waiting) kept.decided_is)))
+            (subst (λ (c : Config). IsShown (record { config = c; journal = journal }) later shown) (sym config) (shown_still (record { config = state.config; journal = journal }) state later shown f g still kept.shown_is))
+
+-- a vertex that is taken goes last in the journal
+pub after_taken : (c later : CoreState) (v : Vertex) → later.config ≡ c.config → later.journal ≡ c.journal ++ v ∷ [] → IsTaken c.config c.journal v → later ≡ after_in c v true
+after_taken c later v config longer taken =
+    let last : journal_after (setting_of c.config) c.journal (v, true) ≡ c.journal ++ v ∷ [] = ap (λ (b : Bool). cond b (c.journal ++ v ∷ []) c.journal) taken in
+    λ i. record { config = config i; journal = (longer ∙ sym last) i }

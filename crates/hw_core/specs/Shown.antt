@@ -1,0 +1,59 @@
+-- The summit of a decided block in the present state.
+use Rattle.std.specs.Prelude.{◌≡◌, ℕ, Bool, true, Some, IsTrue, slice_get}
+use Rattle.hw_types.specs.declared.answers.Decision.{Decision}
+use Rattle.hw_types.specs.Graph.{Node}
+use Rattle.hw_types.specs.Below.{Among}
+use Rattle.hw_types.specs.Summit.{Committees, HasSummit, IsGreatest}
+use Rattle.hw_types.specs.Real.{CoreState, settled_in, panorama_in}
+use Rattle.hw_admit.specs.State.{NodeState}
+use Rattle.hw_horizon.specs.Search.{Search, committees_of}
+use Rattle.hw_horizon.specs.Kept.{AreKept}
+use Rattle.hw_core.specs.Decided.{decided_in}
+
+-- ---- what a node tells
+
+-- the decided block of that place, which is a settled one
+pub record IsDecidedBlock (c : CoreState) (index : ℕ) (d : Decision) (block : Node) : Type 0 where
+  pub at : slice_get (decided_in c) index ≡ Some d
+  pub settled : Among block (settled_in c)
+  pub name : block.digest ≡ d.block
+
+-- the decided block of that place has a summit now, of the level and the quorum of its decision
+pub record HasSummitNow (c : CoreState) (index : ℕ) : Type 0 where
+  pub decision : Decision
+  pub block : Node
+  pub is : IsDecidedBlock c index decision block
+  pub summit : HasSummit c.config.weights (settled_in c) (panorama_in c) block decision.level decision.quorum
+
+-- these are the committees of the greatest such summit of some decided block
+pub record AreGreatestNow (c : CoreState) (committees : Committees) : Type 0 where
+  pub index : ℕ
+  pub decision : Decision
+  pub block : Node
+  pub is : IsDecidedBlock c index decision block
+  pub greatest : IsGreatest c.config.weights (settled_in c) (panorama_in c) block decision.level decision.quorum committees
+
+-- there the validator starts in the committee of the level of the greatest such summit of some decided block
+pub record IsStartNow (c : CoreState) (level validator start : ℕ) : Type 0 where
+  pub committees : Committees
+  pub greatest : AreGreatestNow c committees
+  pub member : IsTrue (committees.member level validator)
+  pub start_is : committees.start level validator ≡ start
+
+-- ---- what a node keeps of it
+
+-- what the last search left, and whether it found a summit and no vertex came since
+pub record ShownState : Type 0 where
+  pub search : Search
+  pub present : Bool
+
+-- the search is one for the state, and what it keeps is true of the graph
+pub record IsSearchOf (s : Search) (state : NodeState) : Type 0 where
+  pub validators : s.validators ≡ state.dag.validators
+  pub levels : s.levels ≡ state.config.levels
+  pub walks : AreKept state.dag s.walks
+
+-- what is shown is the greatest summit of some decided block
+pub record IsShown (c : CoreState) (state : NodeState) (shown : ShownState) : Type 0 where
+  pub search : IsSearchOf shown.search state
+  pub present : shown.present ≡ true → AreGreatestNow c (committees_of shown.search)

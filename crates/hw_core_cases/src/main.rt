@@ -1,0 +1,47 @@
+//! What a node answers for the lines of the input.
+//!
+//! | Line | What it does, and what it answers |
+//! |---|---|
+//! | `# TEXT` | repeats the line |
+//! | `weights N ..` | begins a node with these weights; `ftt`, `levels`, `leaders`, `records`, `parked` and `end` may follow, each with its numbers |
+//! | `unit NAME by V at T cites C ..` | defines a unit, and answers nothing; `exp`, `number`, `foreign`, `block` and `endorsed` may follow, each with its words |
+//! | `evidence NAME of NAME NAME` | defines an evidence of two units, and answers nothing |
+//! | `deliver NAME ..`, `forge NAME ..` | delivers vertices, the second with the verdict that their signatures are wrong: what became of each |
+//! | `endorse NAME by V ..` | delivers an endorsement of the unit by each of these: what became of each |
+//! | `place NAME ..` | where each unit stands, a settled one with its number |
+//! | `missing NAME ..` | what each unit misses, asked for place by place |
+//! | `show fork`, `show panorama`, `show faulty`, `show final` | the fork choice; what the node observes; who is faulty; the decided blocks, and the faulty weight where it exceeds the threshold |
+//! | `show counts`, `show journal` | how many units are settled, parked and dropped, and the faulty weight; the journal in order |
+//! | `chain N forward`, `chain N reverse` | delivers a chain of N units of validator 0 in that order: the sums of what became of them |
+//!
+//! C is `-`, `!` or the name of a unit. A list of endorsed units is put in rising order. A delivery that is refused for
+//! want of memory is tried once more, and its line has `memory` before the answer. `changed` behind a refusal says that
+//! another vertex came back than was delivered, `lost` behind a place that the node keeps another unit of that digest.
+#![tactic(auto)]
+
+mod chains;
+mod deliveries;
+mod lines;
+mod names;
+mod outcome;
+mod places;
+mod shown;
+mod units;
+
+use std::io;
+
+fn main(rt: HostRuntime) -> io::Result<()> {
+    let mut held = None;
+    answered(rt, &mut held)
+}
+
+/// Answers each line for the node that is held.
+fn answered(rt: HostRuntime, held: &mut Option<names::Node>) -> io::Result<()> {
+    for line in rt.lines(rt.alloc()) {
+        let Some(text) = lines::answer(rt.alloc(), held, line?.as_str()) else {
+            return Err(io::ErrorKind::InvalidInput.into());
+        };
+        print!(rt; "{text}")?;
+    }
+    Ok(())
+}

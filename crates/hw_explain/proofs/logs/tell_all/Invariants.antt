@@ -1,0 +1,20 @@
+use Rattle.std.proofs.Common.{◌≡◌, IsTrue}
+use Rattle.hw_io.specs.Files.{SameFiles}
+use Rattle.hw_log.specs.Reader.{ahead_of}
+use Rattle.hw_replay.specs.Replay.{ahead_in}
+use Rattle.hw_replay.specs.Steps.{HasRoom}
+use Rattle.hw_explain.specs.Told.{HasTold}
+use Rattle.hw_explain.proofs.logs.tell_all.Given as goal
+
+abbrev pub invariant-entries : goal.invariant-entries
+invariant-entries g l = record {
+  ahead : IsTrue g.F.Files.tells → ahead_in l.replay (g.F.Files.unread l.files) ≡ ahead_in l.initial.replay (g.F.Files.unread l.initial.files);
+  told : HasTold l.told l.replay.core;
+  room : HasRoom l.replay (g.F.Files.allowance l.files);
+  counted : g.F.Files.read_faults l.files ≡ g.F.Files.read_faults l.initial.files;
+  files : SameFiles (g.F.Files.held l.initial.files) (g.F.Files.held l.files);
+  appends : g.F.Files.append_faults l.files ≡ g.F.Files.append_faults l.initial.files;
+}
+
+abbrev pub decreases-entries : goal.decreases-entries
+decreases-entries g l = ahead_of l.replay.reader (g.F.Files.allowance l.files)

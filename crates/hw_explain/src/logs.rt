@@ -1,0 +1,69 @@
+//! What is explained of a log.
+
+ghost use Rattle.std.specs.Prelude.{◌≡◌, [], IsTrue, IfOk, OnOk};
+ghost use Rattle.hw_io.specs.Files.{SameFiles};
+ghost use Rattle.hw_replay.specs.Replay.{taken_in, ahead_in, TakesAll};
+ghost use Rattle.hw_replay.specs.Causes.{HasReplayCause};
+ghost use Rattle.hw_replay.specs.Steps.{HasRoom};
+ghost use Rattle.hw_explain.specs.Told.{HasTold};
+ghost use Rattle.hw_explain.specs.Logs.{Explains, ExplainsAll};
+
+use crate::told::Told;
+use hw_io::Files;
+use hw_replay::{Replay, StartFault};
+use hw_types::Bytes;
+use std::alloc::Global;
+
+/// What is explained of the log under this name: a line for each block that the node of the log decides,
+/// made right after the vertex that decided it, and the weight of the faulty where it exceeds the
+/// threshold. A limit or a clash stops it, as it stops a replay.
+pub fn explain_log<F: Files>(alloc: Global, files: &mut F, name: &str) -> Result<Bytes, StartFault>
+    ensures said { IsTrue F.tells → Explains (F.held files.old name.now) result }
+    ensures cause { HasReplayCause (F.read_faults files.old) (F.read_faults files.new) result }
+
+    ensures files { SameFiles (F.held files.old) (F.held files.new) }
+    ensures appends { F.append_faults files.new ≡ F.append_faults files.old }
+{
+    match Replay::begin(alloc, files, name, None) {
+        Ok(mut replay) => explain_rest(alloc, files, &mut replay),
+        Err(fault) => Err(fault),
+    }
+}
+
+/// What is explained of a log behind whose header this replay stands.
+fn explain_rest<F: Files>(
+    alloc: Global,
+    files: &mut F,
+    replay: &mut Replay,
+) -> Result<Bytes, StartFault>
+    requires empty { replay.old.core.journal ≡ [] }
+    requires room { HasRoom replay.old (F.allowance files.old) }
+    ensures said { IsTrue F.tells → ExplainsAll (ahead_in replay.old (F.unread files.old)) result }
+    ensures cause { HasReplayCause (F.read_faults files.old) (F.read_faults files.new) result }
+
+    ensures files { SameFiles (F.held files.old) (F.held files.new) }
+    ensures appends { F.append_faults files.new ≡ F.append_faults files.old }
+{
+    let mut told = Told::new(alloc, &replay.core);
+    match tell_all(files, replay, &mut told) {
+        Ok(()) => Ok(told.finish(&replay.core)?),
+        Err(fault) => Err(fault),
+    }
+}
+
+/// Takes all entries that are left, and tells what each decides.
+fn tell_all<F: Files>(files: &mut F, replay: &mut Replay, told: &mut Told) -> Result<(), StartFault>
+    requires told { HasTold told.old replay.old.core }
+    requires room { HasRoom replay.old (F.allowance files.old) }
+    ensures said { IsTrue F.tells → TakesAll (ahead_in replay.old (F.unread files.old)) (taken_in replay.new) result }
+    ensures told { OnOk result (HasTold told.new replay.new.core) }
+    ensures cause { HasReplayCause (F.read_faults files.old) (F.read_faults files.new) result }
+
+    ensures files { SameFiles (F.held files.old) (F.held files.new) }
+    ensures appends { F.append_faults files.new ≡ F.append_faults files.old }
+{
+    'entries: while replay.step(files)? {
+        told.tell(&replay.core)?;
+    }
+    Ok(())
+}

@@ -1,0 +1,5 @@
+use Rattle.hw_log.proofs.SpelledLaws.{respelled}
+use Rattle.hw_log.proofs.laws.a_log_written_anew_says_the_same.Goals as goal
+
+pub returns : goal.returns
+returns c = respelled

@@ -1,0 +1,27 @@
+use Rattle.hw_program.proofs.CauseLaws.{no_fault}
+use Rattle.hw_program.proofs.AuditLaws.{handed_on, audit_ok, audit_not}
+use Rattle.hw_program.proofs.audit.audit_against.Goals as goal
+
+pub returns-in-Ok-clause-audited : goal.returns-in-Ok-clause-audited
+returns-in-Ok-clause-audited g c = λ tells bytes taken is core.
+    audit_ok (g.F.Files.held c.args.files.now) c.args.left.now c.args.right.now bytes taken is core c.in-Ok.replay c.or_no_memory.result (c.in-Ok.ensures.said tells)
+    (handed_on _ c.audited.result c.or_no_memory.result c.audited.ensures.told c.or_no_memory.ensures.ended)
+
+pub returns-in-Ok-clause-status : goal.returns-in-Ok-clause-status
+returns-in-Ok-clause-status g c = handed_on _ c.audited.result c.or_no_memory.result c.audited.ensures.status c.or_no_memory.ensures.ended
+
+pub returns-in-Ok-clause-fault : goal.returns-in-Ok-clause-fault
+returns-in-Ok-clause-fault g c = no_fault _ _ c.or_no_memory.result c.in-Ok.ensures.cause.later c.in-Ok.ensures.cause.counted c.or_no_memory.ensures.fault
+
+pub returns-in-Ok-clause-files : goal.returns-in-Ok-clause-files
+returns-in-Ok-clause-files g c = c.in-Ok.ensures.files
+
+pub returns-in-Ok-clause-appends : goal.returns-in-Ok-clause-appends
+returns-in-Ok-clause-appends g c = c.in-Ok.ensures.appends
+
+pub returns-in-Err-clause-audited : goal.returns-in-Err-clause-audited
+returns-in-Err-clause-audited g c = λ tells bytes taken is core.
+    audit_not (g.F.Files.held c.args.files.now) c.args.left.now c.args.right.now bytes taken is core c.in-Err.fault c.stopped.result (c.in-Err.ensures.said tells) c.stopped.ensures.said
+
+pub returns-in-Err-clause-fault : goal.returns-in-Err-clause-fault
+returns-in-Err-clause-fault g c = record { later = c.in-Err.ensures.cause.later; counted = c.stopped.ensures.cause _ _ c.in-Err.ensures.cause.counted }

@@ -1,0 +1,34 @@
+use Rattle.std.proofs.Common.{◌∙◌}
+use Rattle.hw_audit.proofs.ForkLaws.{ok_so}
+use Rattle.hw_program.proofs.CauseLaws.{fault_then, files_then}
+use Rattle.hw_program.proofs.AuditLaws.{logs_ok, logs_not}
+use Rattle.hw_program.proofs.audit.audit_logs.Goals as goal
+
+pub returns-in-Ok-clause-said : goal.returns-in-Ok-clause-said
+returns-in-Ok-clause-said g c = λ tells.
+    ok_so c.audit_against.result (logs_ok (g.F.Files.held c.args.files.now) _ c.args.left.now c.args.right.now c.in-Ok.replay c.audit_against.result c.in-Ok.ensures.files (c.in-Ok.ensures.said tells) (c.audit_against.ensures.audited tells)) (λ e is. is.0)
+
+pub returns-in-Ok-clause-conflict : goal.returns-in-Ok-clause-conflict
+returns-in-Ok-clause-conflict g c = λ tells.
+    ok_so c.audit_against.result (logs_ok (g.F.Files.held c.args.files.now) _ c.args.left.now c.args.right.now c.in-Ok.replay c.audit_against.result c.in-Ok.ensures.files (c.in-Ok.ensures.said tells) (c.audit_against.ensures.audited tells)) (λ e is. is.1)
+
+pub returns-in-Ok-clause-status : goal.returns-in-Ok-clause-status
+returns-in-Ok-clause-status g c = c.audit_against.ensures.status
+
+pub returns-in-Ok-clause-fault : goal.returns-in-Ok-clause-fault
+returns-in-Ok-clause-fault g c = fault_then _ _ _ c.audit_against.result c.in-Ok.ensures.cause.counted c.audit_against.ensures.fault
+
+pub returns-in-Ok-clause-files : goal.returns-in-Ok-clause-files
+returns-in-Ok-clause-files g c = files_then _ _ _ c.in-Ok.ensures.files c.audit_against.ensures.files
+
+pub returns-in-Ok-clause-appends : goal.returns-in-Ok-clause-appends
+returns-in-Ok-clause-appends g c = c.audit_against.ensures.appends ∙ c.in-Ok.ensures.appends
+
+pub returns-in-Err-clause-said : goal.returns-in-Err-clause-said
+returns-in-Err-clause-said g c = λ tells. ok_so c.stopped.result (logs_not (g.F.Files.held c.args.files.now) c.args.left.now c.args.right.now c.in-Err.fault c.stopped.result (c.in-Err.ensures.said tells) c.stopped.ensures.said) (λ e is. is.0)
+
+pub returns-in-Err-clause-conflict : goal.returns-in-Err-clause-conflict
+returns-in-Err-clause-conflict g c = λ tells. ok_so c.stopped.result (logs_not (g.F.Files.held c.args.files.now) c.args.left.now c.args.right.now c.in-Err.fault c.stopped.result (c.in-Err.ensures.said tells) c.stopped.ensures.said) (λ e is. is.1)
+
+pub returns-in-Err-clause-fault : goal.returns-in-Err-clause-fault
+returns-in-Err-clause-fault g c = record { later = c.in-Err.ensures.cause.later; counted = c.stopped.ensures.cause _ _ c.in-Err.ensures.cause.counted }

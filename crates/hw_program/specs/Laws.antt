@@ -1,0 +1,18 @@
+-- What follows of an audit: the statement.
+use Rattle.std.specs.Prelude.{◌≡◌, false, List, Some, None, Ok}
+use Rattle.hw_types.specs.Real.{setting_of}
+use Rattle.hw_chain.specs.Chain.{Begins}
+use Rattle.hw_summit.specs.Decided.{decisions_of}
+use Rattle.hw_verdicts.specs.Verdicts.{journals_clash, chain_of}
+use Rattle.hw_replay.specs.Taken.{Taken}
+use Rattle.hw_program.specs.Commands.{Word, Audit, request_of}
+use Rattle.hw_program.specs.Program.{Held, log_replayed, run_of}
+
+-- Where two logs of one configuration report conflicting final blocks, neither chain beginning the other, and no two units clash, the run of their audit says so.
+abbrev pub ConflictIsTold : Type 0
+ConflictIsTold = (words : List Word) (held : Held) (left right : Word) (first second : Taken)
+    → request_of words ≡ Some (Audit left right) → log_replayed held None left ≡ Ok first → log_replayed held (Some first.core.config) right ≡ Ok second
+    → journals_clash (setting_of first.core.config) first.core.journal second.core.journal ≡ false
+    → (Begins (chain_of (decisions_of (setting_of first.core.config) first.core.journal)) (chain_of (decisions_of (setting_of first.core.config) second.core.journal)) → ⊥)
+    → (Begins (chain_of (decisions_of (setting_of first.core.config) second.core.journal)) (chain_of (decisions_of (setting_of first.core.config) first.core.journal)) → ⊥)
+    → (run_of words held).status ≡ 3

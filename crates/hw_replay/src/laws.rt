@@ -1,0 +1,9 @@
+//! Laws of replays.
+
+ghost use Rattle.hw_replay.specs.Laws.{ReplayDelivers};
+
+/// What a replay leaves is the node to which all entries of its log were delivered, in order; and each
+/// unit of its journal has a signature of 32 bytes.
+pub fn a_replay_delivers()
+    ensures { ReplayDelivers }
+{}
