@@ -29,6 +29,14 @@ pub firsts-append : (most : ℕ) (ns xs ys : List Need) → with_firsts most ns 
 firsts-append most ns [] ys = refl
 firsts-append most ns (x ∷ xs) ys = firsts-append most (with_first most ns x) xs ys
 
+-- nothing goes into a list that is as long as may be
+pub firsts_full : (most : ℕ) (ns ms : List Need) → most ≤ length ns → with_firsts most ns ms ≡ ns
+firsts_full most ns [] full = refl
+firsts_full most ns (m ∷ ms) full = rw stays (firsts_full most ns ms full)
+  where
+    stays : nat_le most (length ns) ≡ true
+    stays = grind (arith, nat_tests)
+
 -- ---- the first ones are those of the needs, each once
 
 -- the need isn't among these

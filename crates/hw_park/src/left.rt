@@ -57,6 +57,9 @@ impl NeedsLeft {
         ensures long { length list.new ≡ length list.old }
         ensures put { take result list.new ≡ with_firsts (length list.old) (take count list.old) self.now }
     {
+        if count == list.len() {
+            return count;
+        }
         let mut filled = count;
         for need in &self.needs {
             if self.keys.contains(&key_of(need)) {

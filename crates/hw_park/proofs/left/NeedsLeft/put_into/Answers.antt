@@ -1,12 +1,12 @@
 use Rattle.std.proofs.Common.{ℕ, true, false, List, [], length, take, get_or, sym, ap, ◌∙◌, arith}
 use Rattle.std.specs.List.{list_any}
-use Rattle.std.proofs.lemmas.List.{drop_more}
+use Rattle.std.proofs.lemmas.List.{drop_more, length-take-le}
 use Rattle.hw_types.specs.declared.unit.Need.{Need}
 use Rattle.hw_types.specs.declared.unit.Need.TheVariants as need
 use Rattle.hw_park.specs.declared.key.NeedKey.{NeedKey}
 use Rattle.hw_park.specs.Keys.{ties}
 use Rattle.hw_park.specs.First.{with_first}
-use Rattle.hw_park.proofs.FirstLaws.{put_step}
+use Rattle.hw_park.proofs.FirstLaws.{put_step, firsts_full}
 use Rattle.hw_park.proofs.left.NeedsLeft.put_into.Goals as goal
 use Rattle.hw_park.proofs.left.NeedsLeft.put_into.Goals.{then-contains, else-contains}
 
@@ -34,3 +34,10 @@ loop-need-preserved c =
             (ap (λ (m : ℕ). take m c.if-contains.list) w.filled-is ∙ ap (λ (xs : List Need). take c.loop-need.filled xs) w.list-is) ∙ k.put;
       }
     ]
+
+pub returns-then-count-list-clause-put : goal.returns-then-count-list-clause-put
+returns-then-count-list-clause-put c =
+    let list = c.args.list.now in
+    let full = c.if-count-list.true in
+    let long = length-take-le c.args.count list c.requires in
+    sym (firsts_full (length list) (take c.args.count list) c.args.self.now (omega arith))
