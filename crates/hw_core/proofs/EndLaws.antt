@@ -32,6 +32,7 @@ use Rattle.hw_admit.proofs.FaultyLaws.{faulty_same}
 use Rattle.hw_park.specs.Parked.{Waiting}
 use Rattle.hw_core.specs.Settle.{known_in, admitted_in, waiting_nodes, CanSettle, IsDropped, HasSettled, HasNoted, rule_in}
 use Rattle.hw_core.specs.Keeps.{KnowsOf, IsOf, HasTaken, AreRules}
+use Rattle.hw_core.proofs.PartLaws.{part_among, part_then}
 use Rattle.hw_core.proofs.SettleLaws.{graph_is}
 
 pub all_at : {A : Type 0} (P : A → Type 0) (xs : List A) → All P xs → (x : A) → Among x xs → P x
@@ -160,7 +161,7 @@ module _ (s : Setting) (journal : List Vertex) (v : Vertex) (verdict : Bool) (st
   ]
 
   to_parked : (x : Node) → Among x (waiting_nodes left) → Among x (parked_of s.config l)
-  to_parked x m = parked_has s.config l (received_rising s (journal ++ v ∷ [])) x (known_candidate x (taken.waits.to x (h.still x m))) (not_ready x m)
+  to_parked x m = parked_has s.config l (received_rising s (journal ++ v ∷ [])) x (known_candidate x (taken.waits.to x (part_among x (waiting_nodes left) (waiting_nodes waiting) h.still m))) (not_ready x m)
 
   -- a unit that was found is settled, and so isn't parked
   found_settled : (x : Node) → Among x l.units → Among x found → Among x (settled_of s.config l)
@@ -227,4 +228,5 @@ module _ (s : Setting) (journal : List Vertex) (v : Vertex) (verdict : Bool) (st
     knows = knows_later;
     can = can;
     parked = record { to = to_parked; back = from_parked };
+    order = part_then (waiting_nodes left) (waiting_nodes waiting) (units_in s (journal ++ v ∷ [])) h.still taken.order;
   }

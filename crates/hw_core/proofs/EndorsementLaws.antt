@@ -1,5 +1,5 @@
 -- An endorsement that is delivered.
-use Rattle.std.proofs.Common.{◌≡◌, ℕ, inl, inr, ◌<◌, ◌≤◌, Bool, true, false, List, [], ◌∷◌, ◌++◌, length, Option, Some, None, refl, sym, ap, subst, ◌∙◌, arith}
+use Rattle.std.proofs.Common.{◌≡◌, ℕ, inl, inr, ◌<◌, ◌≤◌, Bool, true, false, List, [], ◌∷◌, ◌++◌, length, Option, Some, None, refl, sym, ap, subst, subst₂, ◌∙◌, arith}
 use Rattle.std.specs.Prelude.{◌||◌, nat_le, filter_map, Ok, Err}
 use Rattle.std.proofs.lemmas.Bool.Decides.{nat_tests}
 use Rattle.std.proofs.lemmas.List.Elements.{filter_map-append}
@@ -17,7 +17,7 @@ use Rattle.hw_types.specs.Graph.{Node, digest_eq}
 use Rattle.hw_types.specs.Below.{Among}
 use Rattle.hw_types.specs.Settled.{Received, is_faulty, is_endorsed, is_need_met, need_eq, parked_of}
 use Rattle.hw_types.specs.laws.StateLaws.{units_in}
-use Rattle.hw_types.specs.Journal.{Setting, received_of, refusal, is_repeat, is_accepted, endorsement_in, evidence_in}
+use Rattle.hw_types.specs.Journal.{Setting, received_of, unit_of_vertex, refusal, is_repeat, is_accepted, endorsement_in, evidence_in}
 use Rattle.hw_types.specs.Real.{setting_of}
 use Rattle.hw_types.proofs.SettledLaws.{digest_same, digest_self}
 use Rattle.hw_types.proofs.UnionLaws.{from_left}
@@ -31,11 +31,12 @@ use Rattle.hw_admit.specs.State.{NodeState, is_marked, told_in}
 use Rattle.hw_endorse.specs.Told.{in_order, is_told, with_pair, has_majority}
 use Rattle.hw_endorse.proofs.PairLaws.{told_turn}
 use Rattle.hw_park.specs.Parked.{Parked, Waiting, struck}
-use Rattle.hw_core.specs.Settle.{known_in, waiting_nodes, AreWaiting, CanSettle}
+use Rattle.hw_core.specs.Settle.{IsPart, known_in, waiting_nodes, AreWaiting, CanSettle}
 use Rattle.hw_core.specs.Keeps.{KnowsOf, HasTaken, IsNode}
 use Rattle.hw_core.specs.Deliver.{answer_to, IsTaken}
 use Rattle.hw_core.proofs.AnswerLaws.{answer_refused, answer_repeat, answer_full, answer_taken}
 use Rattle.hw_core.proofs.TakeLaws.{was_accepted}
+use Rattle.hw_core.proofs.PartLaws.{part_more}
 use Rattle.hw_core.proofs.EndLaws.{same_endorsed}
 use Rattle.hw_core.proofs.WaitLaws.{length_struck, waiting_same, waiting_struck}
 
@@ -191,4 +192,5 @@ module _ (journal : List Vertex) (park : Parked PreparedUnit) (state : NodeState
         to = λ x m. from_left x (parked_of s.config k) (units_in s (v ∷ [])) (node.is_of.parked.to x (subst (λ (xs : List Node). Among x xs) same m));
         back = λ x m. subst (λ (xs : List Node). Among x xs) (sym same) (node.is_of.parked.back x (elim (append_cases x (parked_of s.config k) (units_in s (v ∷ [])) m) [ inl old ↦ old | inr none ↦ absurd none ]));
       };
+      order = subst₂ (λ (ns us : List Node). IsPart ns us) (sym same) (sym (filter_map-append (unit_of_vertex s) journal (v ∷ []))) (part_more (waiting_nodes park.waiting) (units_in s journal) (units_in s (v ∷ [])) node.is_of.order);
     }

@@ -1,5 +1,5 @@
 -- An evidence that is delivered.
-use Rattle.std.proofs.Common.{◌≡◌, ◌≢◌, ℕ, inl, inr, ◌<◌, ◌≤◌, Bool, true, false, not, cond, List, [], ◌∷◌, ◌++◌, length, filter, set, Option, Some, None, refl, sym, ap, subst, ◌∙◌, arith, eq-eqb, get_or-set_other}
+use Rattle.std.proofs.Common.{◌≡◌, ◌≢◌, ℕ, inl, inr, ◌<◌, ◌≤◌, Bool, true, false, not, cond, List, [], ◌∷◌, ◌++◌, length, filter, set, Option, Some, None, refl, sym, ap, subst, subst₂, ◌∙◌, arith, eq-eqb, get_or-set_other}
 use Rattle.std.specs.Prelude.{◌||◌, ◌&&◌, ◌==◌, nat_le, filter_map, Ok, Err}
 use Rattle.std.proofs.lemmas.Bool.{cases_eq, ne_eqb}
 use Rattle.std.proofs.lemmas.Bool.Decides.{nat_tests}
@@ -21,7 +21,7 @@ use Rattle.hw_types.specs.Below.{Among}
 use Rattle.hw_types.specs.Same.{unit_eq}
 use Rattle.hw_types.specs.Settled.{Received, validators, has_evidence, equivocates, is_faulty, is_endorsed, is_need_met, need_eq, parked_of}
 use Rattle.hw_types.specs.laws.StateLaws.{units_in}
-use Rattle.hw_types.specs.Journal.{Setting, named, received_of, refusal, is_repeat, is_accepted, endorsement_in, evidence_in, pair_fault, evidence_fault, clash_among}
+use Rattle.hw_types.specs.Journal.{Setting, named, received_of, unit_of_vertex, refusal, is_repeat, is_accepted, endorsement_in, evidence_in, pair_fault, evidence_fault, clash_among}
 use Rattle.hw_types.specs.Real.{setting_of}
 use Rattle.hw_types.proofs.ClosureLaws.{filter-Among}
 use Rattle.hw_types.proofs.PastLaws.{any_of}
@@ -39,11 +39,12 @@ use Rattle.hw_admit.specs.State.{NodeState, is_marked, is_faulty_in}
 use Rattle.hw_admit.proofs.FaultyLaws.{faulty_same}
 use Rattle.hw_endorse.specs.Told.{in_order}
 use Rattle.hw_park.specs.Parked.{Parked, Waiting, struck}
-use Rattle.hw_core.specs.Settle.{known_in, waiting_nodes, AreWaiting, CanSettle}
+use Rattle.hw_core.specs.Settle.{IsPart, known_in, waiting_nodes, AreWaiting, CanSettle}
 use Rattle.hw_core.specs.Keeps.{KnowsOf, HasTaken, IsNode}
 use Rattle.hw_core.specs.Deliver.{answer_to, IsTaken, MayWantMemory}
 use Rattle.hw_core.proofs.AnswerLaws.{answer_refused, answer_repeat, answer_full, answer_taken, answer_memory}
 use Rattle.hw_core.proofs.TakeLaws.{was_accepted}
+use Rattle.hw_core.proofs.PartLaws.{part_more}
 use Rattle.hw_core.proofs.WaitLaws.{length_struck, waiting_struck}
 
 -- ---- the tests
@@ -245,4 +246,5 @@ module _ (journal : List Vertex) (park : Parked PreparedUnit) (state : NodeState
           to = λ x m. from_left x (parked_of s.config k) (units_in s (v ∷ [])) (node.is_of.parked.to x (subst (λ (xs : List Node). Among x xs) same m));
           back = λ x m. subst (λ (xs : List Node). Among x xs) (sym same) (node.is_of.parked.back x (elim (append_cases x (parked_of s.config k) (units_in s (v ∷ [])) m) [ inl old ↦ old | inr none ↦ absurd none ]));
         };
+        order = subst₂ (λ (ns us : List Node). IsPart ns us) (sym same) (sym (filter_map-append (unit_of_vertex s) journal (v ∷ []))) (part_more (waiting_nodes park.waiting) (units_in s journal) (units_in s (v ∷ [])) node.is_of.order);
       }

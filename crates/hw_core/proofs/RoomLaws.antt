@@ -18,6 +18,7 @@ use Rattle.hw_core.specs.Settle.{known_in, admitted_in, waiting_nodes, AreApart,
 use Rattle.hw_core.proofs.DroppedLaws.{AreDifferent, no_more, rising_names}
 use Rattle.hw_core.proofs.SettleLaws.{graph_is}
 use Rattle.hw_core.proofs.WaitLaws.{length_nodes}
+use Rattle.hw_core.proofs.PartLaws.{part_among}
 
 -- what a run has is from its start or from the candidates
 run_from : (config : Config) (known : Received) (from start found : List Node) → Admits config known from start found → (x : Node) → Among x found → Among x start ⊎ Among x from
@@ -86,5 +87,5 @@ settled_room s waiting later left can h =
       | inr n ↦
           (let x = map_among (λ (z : Node). z.digest) d (waiting_nodes left) n in
           subst (λ (e : Digest). Among e (names_of (graph s.dag) ++ names_of (waiting_nodes waiting))) x.2
-          (from_right x.0.digest (names_of (graph s.dag)) (names_of (waiting_nodes waiting)) (among_map (λ (z : Node). z.digest) x.0 (waiting_nodes waiting) (h.still x.0 x.1))))
+          (from_right x.0.digest (names_of (graph s.dag)) (names_of (waiting_nodes waiting)) (among_map (λ (z : Node). z.digest) x.0 (waiting_nodes waiting) (part_among x.0 (waiting_nodes left) (waiting_nodes waiting) h.still x.1))))
     ]

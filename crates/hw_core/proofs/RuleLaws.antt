@@ -18,6 +18,7 @@ use Rattle.hw_core.specs.Settle.{known_in, admitted_in, waiting_nodes, CanSettle
 use Rattle.hw_core.proofs.SettleLaws.{from_start, dropped_here, dropped_on, out_or_left, run_keeps}
 use Rattle.hw_core.proofs.TableLaws.{lookup_inserted}
 use Rattle.hw_core.proofs.WaitLaws.{IsHandedOut}
+use Rattle.hw_core.proofs.PartLaws.{part_among}
 
 -- the rule of a name after one more is noted
 pub rule_noted : (rules : List (Digest × Rule)) (k : Digest) (rule : Rule) (d : Digest) → rule_in (insert_entry digest_eq rules k rule) d ≡ cond (digest_eq d k) (Some rule) (rule_in rules d)
@@ -109,7 +110,7 @@ module _ (s t u : NodeState) (waiting between left : List (Waiting PreparedUnit)
     kept = λ d rule h. let one = early.kept d rule h in late.kept d one.0 one.1;
     only = λ d rule h. elim (late.only d rule h) [
       | inl old ↦ early.only d rule old
-      | inr new ↦ inr (new.0, first.still new.0 new.1, new.2, dropped_on s t u waiting between left first second new.0 rule new.3)
+      | inr new ↦ inr (new.0, part_among new.0 (waiting_nodes between) (waiting_nodes waiting) first.still new.1, new.2, dropped_on s t u waiting between left first second new.0 rule new.3)
     ];
     placed = λ x m. elim (early.placed x m) [
       | inl there ↦ inl (run_keeps t.config (known_in t) (waiting_nodes between) (admitted_in t) (admitted_in u) second.run x there)

@@ -26,8 +26,9 @@ use Rattle.hw_rules.specs.Judged.{KeepsLocalRules}
 use Rattle.hw_admit.specs.State.{NodeState, IsAdmitted, MarksAreMet, is_marked, is_faulty_in}
 use Rattle.hw_admit.proofs.FaultyLaws.{faulty_same}
 use Rattle.hw_park.specs.Parked.{Waiting, struck}
-use Rattle.hw_core.specs.Settle.{known_in, admitted_in, waiting_nodes, IsUnknown, IsUnawaited, AreApart, AreWaiting, Awaits, CanSettle, IsDue, KnowsTheSame, IsDropped, HasSettled, HasMoreRoom}
+use Rattle.hw_core.specs.Settle.{IsPart, known_in, admitted_in, waiting_nodes, IsUnknown, IsUnawaited, AreApart, AreWaiting, Awaits, CanSettle, IsDue, KnowsTheSame, IsDropped, HasSettled, HasMoreRoom}
 use Rattle.hw_core.proofs.NeedLaws.{cited_met, marked_met}
+use Rattle.hw_core.proofs.PartLaws.{part_self, part_among, part_then, part_more, part_map}
 use Rattle.hw_core.proofs.WaitLaws.{length_struck, waiting_unit, waiting_both, IsHandedOut}
 
 -- ---- one unit more
@@ -168,6 +169,9 @@ module _ (s : NodeState) (waiting left : List (Waiting PreparedUnit)) (p : Prepa
   pub left_within : (y : Node) → Among y (waiting_nodes left) → Among y (waiting_nodes waiting)
   left_within y m = let w = map_among (λ w. node_prepared w.item) y left m in subst (λ (z : Node). Among z (waiting_nodes waiting)) w.2 (among_map (λ w. node_prepared w.item) w.0 waiting (out.rest w.0 w.1))
 
+  pub left_part : IsPart (waiting_nodes left) (waiting_nodes waiting)
+  left_part = part_map (λ (w : Waiting PreparedUnit). node_prepared w.item) left waiting out.order
+
   pub out_or_left : (y : Node) → Among y (waiting_nodes waiting) → (y ≡ node_prepared p) ⊎ Among y (waiting_nodes left)
   out_or_left y m =
       let w = map_among (λ w. node_prepared w.item) y waiting m in
@@ -185,7 +189,7 @@ pub settled_none : (s : NodeState) (waiting : List (Waiting PreparedUnit)) → H
 settled_none s waiting = record {
   same = record { config = refl; grows = grows_itself s.dag; marked = refl; pairs = refl };
   run = Admits.begin;
-  still = λ x m. m;
+  still = part_self (waiting_nodes waiting);
   placed = λ x m. inr (inl m);
 }
 
@@ -195,7 +199,7 @@ module _ (s : NodeState) (start : List (Waiting PreparedUnit)) (t : NodeState) (
   y = node_prepared p
 
   pub from_start : Among y (waiting_nodes start)
-  from_start = so_far.still y (out_among t waiting left p can out)
+  from_start = part_among y (waiting_nodes waiting) (waiting_nodes start) so_far.still (out_among t waiting left p can out)
 
   missing_then : missing_of s.config (known_in s) (by_name (admitted_in t)) y ≡ []
   missing_then = subst₂ (λ (c : Config) (k : Received). missing_of c k (by_name (admitted_in t)) y ≡ []) so_far.same.config (known_same s t so_far.same)
@@ -212,7 +216,7 @@ module _ (s : NodeState) (start : List (Waiting PreparedUnit)) (t : NodeState) (
     run = subst (λ (ns : List Node). Admits s.config (known_in s) (waiting_nodes start) (admitted_in s) ns) (sym admitted)
         (Admits.admit y (admitted_in t) so_far.run from_start
         (and_whole _ _ (ap (λ (ns : List Need). length ns == 0) missing_then) (ap (λ (o : Option Rule). is_none o) (rule_then None kept))));
-    still = λ x m. so_far.still x (left_within t waiting left p can out x (subst (λ (ns : List Node). Among x ns) nodes m));
+    still = part_then (waiting_nodes after) (waiting_nodes waiting) (waiting_nodes start) (subst (λ (ns : List Node). IsPart ns (waiting_nodes waiting)) (sym nodes) (left_part t waiting left p can out)) so_far.still;
     placed = λ x m. elim (so_far.placed x m) [
       | inl there ↦ inl (subst (λ (ns : List Node). Among x ns) (sym admitted) (from_left x (admitted_in t) (y ∷ []) there))
       | inr rest ↦ elim rest [
@@ -233,7 +237,7 @@ module _ (s : NodeState) (start : List (Waiting PreparedUnit)) (t : NodeState) (
   settled_dropped later after rule broken e f = subst₂ (λ (l : NodeState) (ws : List (Waiting PreparedUnit)). HasSettled s start l ws) (sym e) (sym f) record {
     same = so_far.same;
     run = so_far.run;
-    still = λ x m. so_far.still x (left_within t waiting left p can out x m);
+    still = part_then (waiting_nodes left) (waiting_nodes waiting) (waiting_nodes start) (left_part t waiting left p can out) so_far.still;
     placed = λ x m. elim (so_far.placed x m) [
       | inl there ↦ inl there
       | inr rest ↦ elim rest [
@@ -273,7 +277,7 @@ run_keeps config known from start found (Admits.admit y before run n t) x m = fr
 module _ (s t u : NodeState) (waiting between left : List (Waiting PreparedUnit)) (first : HasSettled s waiting t between) (second : HasSettled t between u left) where
   carried_on : (found : List Node) → Admits t.config (known_in t) (waiting_nodes between) (admitted_in t) found → Admits s.config (known_in s) (waiting_nodes waiting) (admitted_in s) found
   carried_on found run = run_then s.config (known_in s) (waiting_nodes waiting) (admitted_in s) (admitted_in t) found first.run
-      (run_within s.config (known_in s) (waiting_nodes between) (waiting_nodes waiting) (admitted_in t) found first.still
+      (run_within s.config (known_in s) (waiting_nodes between) (waiting_nodes waiting) (admitted_in t) found (λ x m. part_among x (waiting_nodes between) (waiting_nodes waiting) first.still m)
       (subst₂ (λ (c : Config) (k : Received). Admits c k (waiting_nodes between) (admitted_in t) found) first.same.config (known_same s t first.same) run))
 
   pub dropped_on : (x : Node) (rule : Rule) → IsDropped t.config (known_in t) (waiting_nodes between) (admitted_in t) x rule → IsDropped s.config (known_in s) (waiting_nodes waiting) (admitted_in s) x rule
@@ -288,7 +292,7 @@ module _ (s t u : NodeState) (waiting between left : List (Waiting PreparedUnit)
   settled_then = record {
     same = same_then s t u first.same second.same;
     run = carried_on (admitted_in u) second.run;
-    still = λ x m. first.still x (second.still x m);
+    still = part_then (waiting_nodes left) (waiting_nodes between) (waiting_nodes waiting) second.still first.still;
     placed = λ x m. elim (first.placed x m) [
       | inl there ↦ inl (run_keeps t.config (known_in t) (waiting_nodes between) (admitted_in t) (admitted_in u) second.run x there)
       | inr rest ↦ elim rest [
@@ -340,4 +344,5 @@ module _ (s : NodeState) (waiting : List (Waiting PreparedUnit)) (p : PreparedUn
     unawaited = due.unawaited;
     apart = can.are.apart;
     fewer = let long = length-append waiting (fresh ∷ []) in omega arith;
+    order = part_more waiting waiting (fresh ∷ []) (part_self waiting);
   }

@@ -1,5 +1,5 @@
 -- A new unit at the end of the journal.
-use Rattle.std.proofs.Common.{◌≡◌, ◌≢◌, ◌⊎◌, inl, inr, ℕ, ◌+◌, ◌≤◌, Bool, true, false, cond, List, [], ◌∷◌, ◌++◌, length, get_or, Option, Some, None, refl, sym, ap, subst, ◌∙◌, arith, All}
+use Rattle.std.proofs.Common.{◌≡◌, ◌≢◌, ◌⊎◌, inl, inr, ℕ, ◌+◌, ◌≤◌, Bool, true, false, cond, List, [], ◌∷◌, ◌++◌, length, get_or, Option, Some, None, refl, sym, ap, subst, subst₂, ◌∙◌, arith, All}
 use Rattle.std.specs.Prelude.{nat_lt, filter_map}
 use Rattle.std.proofs.lemmas.Bool.Decides.{nat_tests}
 use Rattle.std.proofs.lemmas.List.{append-nil, length-append}
@@ -18,7 +18,7 @@ use Rattle.hw_types.specs.Rules.{local_rule, state_rule}
 use Rattle.hw_types.specs.Spelling.{instance_of}
 use Rattle.hw_types.specs.Settled.{Received, missing_of, settled_of, parked_of}
 use Rattle.hw_types.specs.laws.StateLaws.{units_in}
-use Rattle.hw_types.specs.Journal.{Setting, named, received_of, endorsement_in, newly_settled, receipt_of}
+use Rattle.hw_types.specs.Journal.{Setting, named, received_of, unit_of_vertex, endorsement_in, newly_settled, receipt_of}
 use Rattle.hw_types.specs.Real.{setting_of}
 use Rattle.hw_types.proofs.UnionLaws.{from_left, from_right}
 use Rattle.hw_types.proofs.EntryLaws.{append_cases}
@@ -32,12 +32,13 @@ use Rattle.hw_dag.specs.Admission.{PreparedUnit, node_prepared}
 use Rattle.hw_endorse.specs.Told.{in_order}
 use Rattle.hw_admit.specs.State.{NodeState}
 use Rattle.hw_park.specs.Parked.{Parked, Waiting}
-use Rattle.hw_core.specs.Settle.{known_in, waiting_nodes, IsUnawaited, AreApart, Awaits, CanSettle}
+use Rattle.hw_core.specs.Settle.{IsPart, known_in, waiting_nodes, IsUnawaited, AreApart, Awaits, CanSettle}
 use Rattle.hw_core.specs.Keeps.{HasTaken, IsNode}
 use Rattle.hw_core.specs.Units.{IsNewUnit}
 use Rattle.hw_core.proofs.UnitTakeLaws.{at_among, none_ready, new_unknown, new_unawaited}
 use Rattle.hw_core.proofs.UnitBoundLaws.{missing_here}
 use Rattle.hw_core.proofs.EndLaws.{all_at}
+use Rattle.hw_core.proofs.PartLaws.{part_last}
 
 nodes_last : (ws : List (Waiting PreparedUnit)) (w : Waiting PreparedUnit) → waiting_nodes (ws ++ w ∷ []) ≡ waiting_nodes ws ++ node_prepared w.item ∷ []
 nodes_last [] w = refl
@@ -99,10 +100,14 @@ module _ (journal : List Vertex) (park : Parked PreparedUnit) (state : NodeState
         to = λ y m. to y (append_cases y (waiting_nodes park.waiting) (node_prepared p ∷ []) (subst (λ (xs : List Node). Among y xs) (nodes_last park.waiting last) m));
         back = λ y m. subst (λ (xs : List Node). Among y xs) (sym (nodes_last park.waiting last)) (back y (append_cases y (parked_of s.config k) (units_in s (v ∷ [])) m));
       };
+      order = subst₂ (λ (ns us : List Node). IsPart ns us) (sym (nodes_last park.waiting last)) longer (part_last (waiting_nodes park.waiting) (units_in s journal) (node_prepared p) node.is_of.order);
     }
       where
         new_one : node_prepared p ∷ [] ≡ units_in s (v ∷ [])
         new_one = ap (λ (y : Node). y ∷ []) prepared_is ∙ sym units_are
+
+        longer : units_in s journal ++ node_prepared p ∷ [] ≡ units_in s (journal ++ v ∷ [])
+        longer = ap (λ (us : List Node). units_in s journal ++ us) new_one ∙ sym (filter_map-append (unit_of_vertex s) journal (v ∷ []))
 
         to : (y : Node) → (Among y (waiting_nodes park.waiting) ⊎ Among y (node_prepared p ∷ [])) → Among y (parked_of s.config k ++ units_in s (v ∷ []))
         to y (inl old) = from_left y (parked_of s.config k) (units_in s (v ∷ [])) (node.is_of.parked.to y old)

@@ -14,9 +14,10 @@ use Rattle.hw_types.proofs.ClosureLaws.{Within}
 use Rattle.hw_types.proofs.EntryLaws.{map_among}
 use Rattle.hw_dag.specs.Admission.{PreparedUnit, node_prepared}
 use Rattle.hw_park.specs.Parked.{Waiting, without_need, relieved, struck, is_ready, next_item, without_next}
-use Rattle.hw_core.specs.Settle.{IsUnknown, IsUnawaited, AreApart, Awaits, AreWaiting, waiting_nodes}
+use Rattle.hw_core.specs.Settle.{IsPart, IsUnknown, IsUnawaited, AreApart, Awaits, AreWaiting, waiting_nodes}
 use Rattle.hw_types.proofs.JournalLaws.{filter_alike}
 use Rattle.hw_core.proofs.NeedLaws.{filter_struck, missing_unit, missing_both}
+use Rattle.hw_core.proofs.PartLaws.{part_self, part_skip, part_keep}
 
 -- ---- a need is struck
 
@@ -120,6 +121,7 @@ pub record IsHandedOut (waiting left : List (Waiting PreparedUnit)) (p : Prepare
   pub unawaited : IsUnawaited p.digest left
   pub apart : AreApart left
   pub fewer : length waiting ≡ suc (length left)
+  pub order : IsPart left waiting
 
 pub no_needs : (ns : List Need) → (length ns == 0) ≡ true → ns ≡ []
 no_needs [] e = refl
@@ -143,6 +145,7 @@ handed_out (w ∷ ws) apart p found = go (is_ready w) refl (λ h. handed_out ws 
           unawaited = λ v m s. apart.0 v m (s ∙ ap (λ (q : PreparedUnit). q.digest) (sym item));
           apart = apart.1;
           fewer = refl;
+          order = part_skip w ws ws (part_self ws);
         }
     go false e rest =
         let later : Some p ≡ next_item ws = found ∙ ap (λ (b : Bool). option_map (λ (v : Waiting PreparedUnit). v.item) (cond b (Some w) (find is_ready ws))) e in
@@ -160,6 +163,7 @@ handed_out (w ∷ ws) apart p found = go (is_ready w) refl (λ h. handed_out ws 
           ];
           apart = (λ v m. apart.0 v (h.rest v m), h.apart);
           fewer = ap suc h.fewer;
+          order = part_keep w (without_next ws) ws h.order;
         }
 
 pub length_nodes : (ws : List (Waiting PreparedUnit)) → length (waiting_nodes ws) ≡ length ws

@@ -22,7 +22,7 @@ use Rattle.hw_dag.specs.Dag.{graph, count_of, node_at, observations}
 use Rattle.hw_dag.specs.Admission.{PreparedUnit}
 use Rattle.hw_admit.specs.State.{NodeState, is_marked}
 use Rattle.hw_park.specs.Parked.{Waiting, Parked}
-use Rattle.hw_core.specs.Settle.{CanSettle, waiting_nodes, rule_in}
+use Rattle.hw_core.specs.Settle.{CanSettle, IsPart, waiting_nodes, rule_in}
 use Rattle.hw_core.specs.Decided.{DecidedState, IsDecided}
 use Rattle.hw_core.specs.Shown.{ShownState, IsShown}
 
@@ -31,13 +31,14 @@ pub record KnowsOf (received : Received) (state : NodeState) : Type 0 where
   pub evidence : (v : ℕ) → is_marked state.marked v ≡ has_evidence received.with_evidence v
   pub endorsements : state.pairs ≡ received.endorsements
 
--- The settled units are those of the journal, and its parked units wait for what they miss.
+-- The settled units are those of the journal, and its parked units wait for what they miss, in the order of the journal.
 pub record IsOf (s : Setting) (journal : List Vertex) (state : NodeState) (waiting : List (Waiting PreparedUnit)) : Type 0 where
   pub config : state.config ≡ s.config
   pub settled : graph state.dag ≡ settled_of s.config (received_of s journal)
   pub knows : KnowsOf (received_of s journal) state
   pub can : CanSettle state waiting
   pub parked : HasSame (waiting_nodes waiting) (parked_of s.config (received_of s journal))
+  pub order : IsPart (waiting_nodes waiting) (units_in s journal)
 
 -- The state knows what one vertex more says, and all that may settle now waits.
 pub record HasTaken (s : Setting) (journal : List Vertex) (v : Vertex) (state : NodeState) (waiting : List (Waiting PreparedUnit)) : Type 0 where
@@ -45,6 +46,7 @@ pub record HasTaken (s : Setting) (journal : List Vertex) (v : Vertex) (state : 
   pub settled : graph state.dag ≡ settled_of s.config (received_of s journal)
   pub knows : KnowsOf (received_of s (journal ++ v ∷ [])) state
   pub waits : HasSame (waiting_nodes waiting) (candidates s journal v)
+  pub order : IsPart (waiting_nodes waiting) (units_in s (journal ++ v ∷ []))
 
 -- A journal within its bound whose names are apart, with what is kept beside it.
 pub record IsNode (journal : List Vertex) (park : Parked PreparedUnit) (state : NodeState) : Type 0 where

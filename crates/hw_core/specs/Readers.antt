@@ -1,16 +1,20 @@
 -- What a node tells of its journal.
-use Rattle.std.specs.Prelude.{◌≡◌, ℕ, ◌<◌, nat_lt, List, [], length, find, filter_map, Option, Some, None, if◌then◌else◌}
+use Rattle.std.specs.Prelude.{◌≡◌, ℕ, ◌<◌, ◌==◌, nat_lt, List, [], length, find, filter, filter_map, Option, Some, None, if◌then◌else◌}
+use Rattle.std.specs.List.{flat_map}
 use Rattle.std.specs.Option.{option_map}
 use Rattle.hw_types.specs.declared.unit.Digest.{Digest}
 use Rattle.hw_types.specs.declared.unit.Need.{Need}
 use Rattle.hw_types.specs.declared.unit.SignedUnit.{SignedUnit}
+use Rattle.hw_types.specs.declared.unit.Evidence.{Evidence}
+use Rattle.hw_types.specs.declared.unit.Endorsement.{Endorsement}
 use Rattle.hw_types.specs.declared.unit.Vertex.{Vertex}
 use Rattle.hw_types.specs.declared.unit.Vertex.TheVariants as vertex
 use Rattle.hw_types.specs.Graph.{Node, digest_eq}
 use Rattle.hw_types.specs.Below.{Among}
 use Rattle.hw_types.specs.Rules.{state_rule}
-use Rattle.hw_types.specs.Settled.{missing_of, fork_choice}
+use Rattle.hw_types.specs.Settled.{distinct, missing_of, fork_choice}
 use Rattle.hw_types.specs.Spelling.{digest_of}
+use Rattle.hw_types.specs.laws.StateLaws.{units_in}
 use Rattle.hw_types.specs.Journal.{named}
 use Rattle.hw_types.specs.Real.{CoreState, setting_of, received_in, settled_in, weight_in}
 use Rattle.hw_core.specs.declared.place.Place.{Place}
@@ -38,6 +42,31 @@ missed_by c (Some u) = missing_of c.config (received_in c) (settled_in c) (node_
 -- what the journal's unit of this name misses, in order
 abbrev pub missing_needs : CoreState → Digest → List Need
 missing_needs c d = missed_by c (unit_in c d)
+
+-- what the units of the journal miss, each need at its first place alone: those who miss something are parked, and were in the
+-- order in which they stand there
+unfoldable pub unmet_in : CoreState → List Need
+unmet_in c = distinct (flat_map (λ x. missing_of c.config (received_in c) (settled_in c) x) (units_in (setting_of c.config) c.journal))
+
+-- the evidence of a vertex
+abbrev pub signed_evidence : Vertex → Option Evidence
+signed_evidence (vertex.Unit u) = None
+signed_evidence (vertex.Evidence e) = Some e
+signed_evidence (vertex.Endorsement e) = None
+
+-- the endorsement of a vertex
+abbrev pub signed_endorsement : Vertex → Option Endorsement
+signed_endorsement (vertex.Unit u) = None
+signed_endorsement (vertex.Evidence e) = None
+signed_endorsement (vertex.Endorsement e) = Some e
+
+-- the journal's evidence against the validator
+unfoldable pub evidence_of : CoreState → ℕ → Option Evidence
+evidence_of c v = find (λ e. v == e.left.unit.creator) (filter_map signed_evidence c.journal)
+
+-- the journal's endorsements of the unit of this name, in order
+unfoldable pub endorsements_of : CoreState → Digest → List Endorsement
+endorsements_of c d = filter (λ e. digest_eq d e.unit) (filter_map signed_endorsement c.journal)
 
 -- What became of the journal's unit of this name. The number of a settled one is one of the state's graph.
 abbrev pub IsPlace : CoreState → Digest → Place → Type 0

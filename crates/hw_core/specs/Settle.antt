@@ -72,6 +72,11 @@ pub record IsDue (s : NodeState) (waiting : List (Waiting PreparedUnit)) (p : Pr
 
 -- ---- what becomes of it
 
+-- the first list has some of the other, in the other's order
+abbrev pub IsPart : {A : Type 0} → List A → List A → Type 0
+IsPart xs [] = xs ≡ []
+IsPart {A} xs (y ∷ ys) = IsPart xs ys ⊎ ((rest : List A) × (xs ≡ y ∷ rest) × IsPart rest ys)
+
 -- the state has the units that it had, and knows the same of evidence and endorsements
 pub record KnowsTheSame (s later : NodeState) : Type 0 where
   pub config : later.config ≡ s.config
@@ -86,11 +91,12 @@ pub record IsDropped (config : Config) (known : Received) (from start : List Nod
   pub met : missing_of config known (by_name found) x ≡ []
   pub broken : state_rule config (by_name found) x ≡ Some rule
 
--- Of the units that waited some settled one after the other, and each of the others waits as before or was dropped.
+-- Of the units that waited some settled one after the other, and each of the others waits as before, in the order in which they
+-- were parked, or was dropped.
 pub record HasSettled (s : NodeState) (waiting : List (Waiting PreparedUnit)) (later : NodeState) (left : List (Waiting PreparedUnit)) : Type 0 where
   pub same : KnowsTheSame s later
   pub run : Admits s.config (known_in s) (waiting_nodes waiting) (admitted_in s) (admitted_in later)
-  pub still : (x : Node) → Among x (waiting_nodes left) → Among x (waiting_nodes waiting)
+  pub still : IsPart (waiting_nodes left) (waiting_nodes waiting)
   pub placed : (x : Node) → Among x (waiting_nodes waiting)
       → Among x (admitted_in later) ⊎ (Among x (waiting_nodes left) ⊎ ((rule : Rule) × IsDropped s.config (known_in s) (waiting_nodes waiting) (admitted_in s) x rule))
 

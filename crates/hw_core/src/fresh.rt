@@ -1,6 +1,6 @@
 //! New units: each is made ready, and settles, is dropped or is parked.
 
-ghost use Rattle.std.specs.Prelude.{◌≡◌, ◌+◌, ◌^◌, ◌<◌, ◌≤◌, ◌≢◌, List, length, vec_capacity, [], IfOk, IfErr, OnOk, OnErr};
+ghost use Rattle.std.specs.Prelude.{◌≡◌, ◌+◌, ◌^◌, ◌<◌, ◌≤◌, ◌≢◌, List, length, [], IfOk, IfErr, OnOk, OnErr};
 ghost use Rattle.indexmap.specs.IndexMap.{spare as room_of};
 ghost use Rattle.hw_types.specs.declared.answers.Rule.{Rule as Why};
 ghost use Rattle.hw_types.specs.declared.unit.Digest.{Digest as Name};
@@ -17,6 +17,7 @@ ghost use Rattle.hw_core.specs.Deliver.{answer_to, IsRefusal};
 ghost use Rattle.hw_core.specs.Units.{IsNewUnit, IsPlaced};
 
 use crate::decided::Decided;
+use crate::journal::Journal;
 use crate::missing::missing;
 use crate::settle::settle_new;
 use crate::units::units_at_most;
@@ -32,7 +33,7 @@ use std::alloc::Global;
 /// with its name and the room that it will need in the graph.
 pub fn ready_unit(
     names: &mut IndexMap<Digest, u32>,
-    journal: &mut Vec<Vertex>,
+    journal: &mut Journal,
     park: &Park<Prepared>,
     dropped: &mut IndexMap<Digest, Rule>,
     state: &mut State,
@@ -51,7 +52,7 @@ pub fn ready_unit(
     ensures more { room_of dropped.old ≤ room_of dropped.new }
     ensures places { OnOk result (length park.now.waiting + 1 ≤ room_of dropped.new) }
     ensures table { OnOk result (1 ≤ room_of names.new) }
-    ensures place { OnOk result (length journal.new.items + 1 ≤ vec_capacity journal.new) }
+    ensures place { OnOk result (length journal.new.items + 1 ≤ journal.new.capacity) }
     ensures few { OnOk result (length journal.old.items < 2 ^ 32) }
     ensures room { OnOk result (length park.now.waiting + 1 ≤ state.new.spare) }
     ensures unchanged { HasMoreRoom state.old state.new }
@@ -60,7 +61,7 @@ pub fn ready_unit(
     ensures graph { IsGraph state.old.dag }
 {
     let _config = state.config();
-    let units = units_at_most(journal, park, state);
+    let units = units_at_most(journal.as_slice(), park, state);
     let waiting = park.count() + 1;
     decided.reserve(units)?;
     make_room(names, journal, dropped, state, waiting)?;
@@ -71,7 +72,7 @@ pub fn ready_unit(
 /// among the dropped.
 fn make_room(
     names: &mut IndexMap<Digest, u32>,
-    journal: &mut Vec<Vertex>,
+    journal: &mut Journal,
     dropped: &mut IndexMap<Digest, Rule>,
     state: &mut State,
     count: u32,
@@ -83,12 +84,12 @@ fn make_room(
     ensures more { room_of dropped.old ≤ room_of dropped.new }
     ensures places { OnOk result (count ≤ room_of dropped.new) }
     ensures table { OnOk result (1 ≤ room_of names.new) }
-    ensures place { OnOk result (length journal.new.items + 1 ≤ vec_capacity journal.new) }
+    ensures place { OnOk result (length journal.new.items + 1 ≤ journal.new.capacity) }
     ensures room { OnOk result (count ≤ state.new.spare) }
     ensures unchanged { HasMoreRoom state.old state.new }
 {
     names.reserve(1)?;
-    journal.reserve(1)?;
+    journal.reserve()?;
     dropped.reserve(count as usize)?;
     state.reserve(count)
 }

@@ -6,6 +6,7 @@ use crate::names::{Named, Node};
 use crate::places::{missing, place};
 use crate::shown::show;
 use crate::units::{evidence, unit};
+use crate::wanted::{against, endorsers, unmet};
 use hw_admit::StateStart;
 use hw_case_words::config_of;
 use hw_codec::instance_of;
@@ -79,6 +80,9 @@ fn told(alloc: Global, node: &Node, kind: &str, words: &[&str]) -> Option<String
     match kind {
         "place" => place(alloc, node, words),
         "missing" => missing(alloc, node, words),
+        "unmet" => unmet(alloc, node, words),
+        "against" => against(alloc, node, words),
+        "endorsers" => endorsers(alloc, node, words),
         "show" => show(alloc, node, words),
         _ => None,
     }

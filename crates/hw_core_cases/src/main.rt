@@ -10,6 +10,9 @@
 //! | `endorse NAME by V ..` | delivers an endorsement of the unit by each of these: what became of each |
 //! | `place NAME ..` | where each unit stands, a settled one with its number |
 //! | `missing NAME ..` | what each unit misses, asked for place by place |
+//! | `unmet N` | the first N needs that parked units miss, in the order of parking; N is at most 8 |
+//! | `against V ..` | the evidence that the journal has against each validator |
+//! | `endorsers NAME ..` | who endorsed each unit, in the order of the journal |
 //! | `show fork`, `show panorama`, `show faulty`, `show final` | the fork choice; what the node observes; who is faulty; the decided blocks, and the faulty weight where it exceeds the threshold |
 //! | `show counts`, `show journal` | how many units are settled, parked and dropped, and the faulty weight; the journal in order |
 //! | `chain N forward`, `chain N reverse` | delivers a chain of N units of validator 0 in that order: the sums of what became of them |
@@ -27,6 +30,7 @@ mod outcome;
 mod places;
 mod shown;
 mod units;
+mod wanted;
 
 use std::io;
 

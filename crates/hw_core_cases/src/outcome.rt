@@ -62,7 +62,8 @@ pub fn is_same(left: &Vertex, right: &Vertex) -> bool {
     }
 }
 
-fn is_same_pair(left: &Evidence, right: &Evidence) -> bool {
+/// Whether the two evidence are of the same units.
+pub fn is_same_pair(left: &Evidence, right: &Evidence) -> bool {
     is_same_unit(&left.left.unit, &right.left.unit)
         && is_same_unit(&left.right.unit, &right.right.unit)
 }

@@ -74,7 +74,8 @@ fn needs_text(alloc: Global, node: &Node, digest: Digest) -> Option<String> {
     Some(text)
 }
 
-fn need_text(alloc: Global, names: &[Named], need: Need) -> Option<String> {
+/// The need in words.
+pub fn need_text(alloc: Global, names: &[Named], need: Need) -> Option<String> {
     match need {
         Need::Unit(digest) => format!(in alloc; " unit {}", word_of(names, &digest)).ok(),
         Need::Evidence(validator) => format!(in alloc; " evidence {validator}").ok(),

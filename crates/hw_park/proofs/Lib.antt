@@ -10,3 +10,5 @@ pub mod NextLaws
 pub mod StruckLaws
 pub mod StartLaws
 pub mod ParkLaws
+pub mod FirstLaws
+pub mod PlacedLaws

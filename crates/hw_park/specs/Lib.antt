@@ -4,3 +4,4 @@ pub mod Left
 pub mod Held
 pub mod Numbers
 pub mod Kept
+pub mod First

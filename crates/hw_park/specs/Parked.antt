@@ -1,9 +1,10 @@
 -- What is parked, and what becomes of it.
 -- Source: ours.
 use Rattle.std.specs.Prelude.{ℕ, Bool, not, ◌==◌, List, [], ◌∷◌, map, filter, find, length, Option, if◌then◌else◌}
+use Rattle.std.specs.List.{flat_map}
 use Rattle.std.specs.Option.{option_map}
 use Rattle.hw_types.specs.declared.unit.Need.{Need}
-use Rattle.hw_types.specs.Settled.{need_eq}
+use Rattle.hw_types.specs.Settled.{need_eq, distinct}
 
 -- an item with the needs that it has left
 pub record Waiting (T : Type 0) : Type 0 where
@@ -39,3 +40,7 @@ next_item waiting = option_map (λ w. w.item) (find is_ready waiting)
 abbrev pub without_next : {T : Type 0} → List (Waiting T) → List (Waiting T)
 without_next [] = []
 without_next (w ∷ ws) = if is_ready w then ws else w ∷ without_next ws
+
+-- the needs that the items have left, those of the longest parked first, each at its first place alone
+abbrev pub awaited : {T : Type 0} → List (Waiting T) → List Need
+awaited waiting = distinct (flat_map (λ w. w.needs) waiting)

@@ -1,6 +1,7 @@
 //! The needs that an item has left.
 
-ghost use Rattle.std.specs.Prelude.{◌≡◌, ◌==◌, length, IfOk};
+ghost use Rattle.std.specs.Prelude.{◌≡◌, ◌≤◌, ◌==◌, length, take, IfOk};
+ghost use Rattle.hw_park.specs.First.{with_first, with_firsts};
 ghost use Rattle.hw_park.specs.Left.{AreAllKeys};
 ghost use Rattle.hw_park.specs.Parked.{without_need};
 
@@ -48,6 +49,26 @@ impl NeedsLeft {
         self.keys.is_empty()
     }
 
+    /// Puts the needs into the list behind the first so many, but for those that stand there, while it has
+    /// places. Says how many stand there then.
+    pub fn put_into(&self, list: &mut [Need], count: usize) -> usize
+        requires { count ≤ length list.old }
+        ensures within { result ≤ length list.old }
+        ensures long { length list.new ≡ length list.old }
+        ensures put { take result list.new ≡ with_firsts (length list.old) (take count list.old) self.now }
+    {
+        if count == list.len() {
+            return count;
+        }
+        let mut filled = count;
+        for need in &self.needs {
+            if self.keys.contains(&key_of(need)) {
+                filled = put_once(list, filled, need);
+            }
+        }
+        filled
+    }
+
     /// Strikes a need.
     pub fn strike(&mut self, need: &Need)
         ensures { self.new ≡ without_need need.now self.old }
@@ -65,4 +86,19 @@ fn keys_of(alloc: Global, needs: &[Need]) -> Result<BTreeSet<NeedKey>, OutOfMemo
         keys.insert(key_of(need))?;
     }
     Ok(keys)
+}
+
+// Puts a need into the list behind the first so many, unless it stands there or the list has no place more.
+// Says how many stand there then.
+fn put_once(list: &mut [Need], count: usize, need: &Need) -> usize
+    requires { count ≤ length list.old }
+    ensures within { result ≤ length list.old }
+    ensures long { length list.new ≡ length list.old }
+    ensures put { take result list.new ≡ with_first (length list.old) (take count list.old) need.now }
+{
+    if count == list.len() || list[..count].contains(need) {
+        return count;
+    }
+    list[count] = *need;
+    count + 1
 }

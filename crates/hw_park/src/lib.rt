@@ -19,4 +19,5 @@ mod park;
 mod waiter;
 mod waits;
 
+pub use key::{NeedKey, key_of};
 pub use park::{Park, ParkCause, ParkRefused};

@@ -1,9 +1,9 @@
 //! The parked items.
 
-ghost use Rattle.std.specs.Prelude.{◌≡◌, ◌+◌, ◌<◌, ◌≤◌, ◌++◌, ◌∷◌, [], ◌↔◌, ◌≢◌, length, All, OnOk, OnErr, IfOk, IfErr, IfNone, IsNone};
+ghost use Rattle.std.specs.Prelude.{◌≡◌, ◌+◌, ◌<◌, ◌≤◌, ◌++◌, ◌∷◌, [], ◌↔◌, ◌≢◌, length, take, All, OnOk, OnErr, IfOk, IfErr, IfNone, IsNone};
 ghost use Rattle.std.specs.BinaryHeap.{heap_items, heap_len, heap_capacity};
 ghost use Rattle.hw_park.specs.Numbers.{SameNumbers, HasRegistered};
-ghost use Rattle.hw_park.specs.Parked.{struck, next_item, without_next};
+ghost use Rattle.hw_park.specs.Parked.{struck, next_item, without_next, awaited};
 
 use crate::key::key_of;
 use crate::left::NeedsLeft;
@@ -82,6 +82,15 @@ impl<T: Drop> Park<T> {
         ensures { result ≡ length self.now.waiting }
     {
         self.count
+    }
+
+    /// Puts the first needs that items have left into the list, those of the longest parked first, each
+    /// once and as many as the list has places for. Says how many these are. It takes no memory.
+    pub fn first_needs(&self, list: &mut [Need]) -> usize
+        ensures within { result ≤ length list.old }
+        ensures first { take result list.new ≡ take (length list.old) (awaited self.now.waiting) }
+    {
+        self.waiters.first_needs(list)
     }
 
     /// Strikes a need from those of all items. It takes no memory.

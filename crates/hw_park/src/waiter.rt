@@ -1,10 +1,10 @@
 //! The parked items, each in its place of the slab.
 
-ghost use Rattle.std.specs.Prelude.{◌≡◌, ℕ, ◌==◌, ◌&&◌, not, Some, None, OnOk, OnErr, IfErr, if◌then◌else◌};
+ghost use Rattle.std.specs.Prelude.{◌≡◌, ℕ, ◌≤◌, ◌==◌, ◌&&◌, not, length, take, Some, None, OnOk, OnErr, IfErr, if◌then◌else◌};
 ghost use Rattle.std.specs.Option.{option_map};
 ghost use Rattle.hw_park.specs.Held.{held, seen};
-ghost use Rattle.hw_park.specs.Kept.{relieved_at, is_ready_at};
-ghost use Rattle.hw_park.specs.Parked.{without_need};
+ghost use Rattle.hw_park.specs.Kept.{relieved_at, is_ready_at, listed};
+ghost use Rattle.hw_park.specs.Parked.{without_need, awaited};
 
 use crate::left::NeedsLeft;
 use hw_types::Need;
@@ -73,6 +73,21 @@ impl<T: Drop> Waiters<T> {
     {
         let place = self.places.remove(&number)?;
         self.items.try_remove(place)
+    }
+
+    /// Puts the first needs that items have left into the list, by number, each once and as many as it has
+    /// places for. Says how many these are.
+    pub fn first_needs(&self, list: &mut [Need]) -> usize
+        ensures within { result ≤ length list.old }
+        ensures put { (n : ℕ) → ((k : ℕ) → n ≤ k → held self.now k ≡ None) → take result list.new ≡ take (length list.old) (awaited (listed (held self.now) n)) }
+    {
+        let mut filled = 0;
+        for place in self.places.values() {
+            if let Some(waiter) = self.items.get(*place) {
+                filled = waiter.needs.put_into(list, filled);
+            }
+        }
+        filled
     }
 
     /// Strikes a need from those of an item. True where that left it without a need.

@@ -1,6 +1,6 @@
 //! What a node tells of its journal. No reader takes memory.
 
-ghost use Rattle.std.specs.Prelude.{◌≡◌, ℕ, ◌<◌, ◌↔◌, IsTrue, length, slice_get, Some, IfSome};
+ghost use Rattle.std.specs.Prelude.{◌≡◌, ℕ, ◌<◌, ◌≤◌, ◌↔◌, IsTrue, length, slice_get, take, Some, IfSome};
 ghost use Rattle.std.specs.Option.{option_copied};
 ghost use Rattle.hw_types.specs.Graph.{slot};
 ghost use Rattle.hw_types.specs.Settled.{has_evidence, parked_of, dropped_of};
@@ -12,7 +12,8 @@ ghost use Rattle.hw_dag.specs.Dag.{graph, observations};
 ghost use Rattle.hw_admit.specs.State.{is_marked};
 ghost use Rattle.hw_core.specs.Decided.{decided_in};
 ghost use Rattle.hw_core.specs.Shown.{HasSummitNow, IsStartNow};
-ghost use Rattle.hw_core.specs.Readers.{unit_in, missing_needs, IsPlace, IsUnsettled, fork_in, exceeded_in};
+ghost use Rattle.hw_types.specs.declared.unit.Vertex.TheVariants as vertex;
+ghost use Rattle.hw_core.specs.Readers.{unit_in, missing_needs, unmet_in, evidence_of, endorsements_of, IsPlace, IsUnsettled, fork_in, exceeded_in};
 
 use super::Core;
 use crate::place::Place;
@@ -20,7 +21,7 @@ use crate::units::known_unit;
 use crate::unmet::{Search, missing_at};
 use hw_admit::State;
 use hw_dag::View;
-use hw_types::{Decision, Digest, Need, Obs, SignedUnit, Vertex};
+use hw_types::{Decision, Digest, Endorsement, Evidence, Need, Obs, SignedUnit, Vertex};
 
 impl Core {
     /// How many vertices the journal has.
@@ -36,7 +37,7 @@ impl Core {
         ensures vertex { Some result.now ≡ slice_get self.now.journal place }
         ensures fits { VertexFits result.now }
     {
-        &self.journal[place as usize]
+        self.journal.at(place)
     }
 
     /// What became of the journal's unit of this digest.
@@ -57,7 +58,7 @@ impl Core {
         requires { IsUnsettled self.now unit.now }
         ensures { IsPlace self.now unit.now result }
     {
-        match known_unit(&self.names, &self.journal, unit) {
+        match known_unit(&self.names, self.journal.as_slice(), unit) {
             None => Place::Unknown,
             Some(known) => match missing_at(&self.state, &known.unit, u32::MAX) {
                 Search::Passed(count) => Place::Parked(count),
@@ -72,7 +73,7 @@ impl Core {
         ensures unit { option_copied result ≡ unit_in self.now unit.now }
         ensures fits { IfSome result (λ known. Fits known.now.unit) }
     {
-        known_unit(&self.names, &self.journal, unit)
+        known_unit(&self.names, self.journal.as_slice(), unit)
     }
 
     /// The need at this place among those that the journal's unit of this digest misses, in the order of
@@ -80,12 +81,48 @@ impl Core {
     pub fn missing(&self, unit: &Digest, place: u32) -> Option<Need>
         ensures { result ≡ slice_get (missing_needs self.now unit.now) place }
     {
-        match known_unit(&self.names, &self.journal, unit) {
+        match known_unit(&self.names, self.journal.as_slice(), unit) {
             None => None,
             Some(known) => match missing_at(&self.state, &known.unit, place) {
                 Search::Found(need) => Some(need),
                 Search::Passed(_count) => None,
             },
+        }
+    }
+
+    /// Puts the first needs that parked units miss into the list, in the order of parking and for each unit in
+    /// that of `missing`. A repeated need stands at its first place alone. Says how many these are: all, or as
+    /// many as the list has places for.
+    pub fn first_unmet(&self, list: &mut [Need]) -> usize
+        ensures within { result ≤ length list.old }
+        ensures first { take result list.new ≡ take (length list.old) (unmet_in self.now) }
+    {
+        self.park.first_needs(list)
+    }
+
+    /// The journal's evidence against the validator, None where it has none.
+    pub fn evidence_against(&self, validator: u32) -> Option<&Evidence>
+        ensures evidence { option_copied result ≡ evidence_of self.now validator }
+        ensures fits { IfSome result (λ known. VertexFits (vertex.Evidence known.now)) }
+    {
+        match self.journal.told_at(&Need::Evidence(validator), 0) {
+            Some(Vertex::Evidence(evidence)) => Some(evidence),
+            Some(Vertex::Unit(_)) => None,
+            Some(Vertex::Endorsement(_)) => None,
+            None => None,
+        }
+    }
+
+    /// The endorsement at this place among those that the journal has of the unit of this digest, in the
+    /// journal's order. None where there is no such place.
+    pub fn endorsement_of(&self, unit: &Digest, place: u32) -> Option<&Endorsement>
+        ensures { option_copied result ≡ slice_get (endorsements_of self.now unit.now) place }
+    {
+        match self.journal.told_at(&Need::Endorsed(*unit), place) {
+            Some(Vertex::Endorsement(endorsement)) => Some(endorsement),
+            Some(Vertex::Unit(_)) => None,
+            Some(Vertex::Evidence(_)) => None,
+            None => None,
         }
     }
 

@@ -41,7 +41,7 @@ invariant_of-self c =
     let run = c.follow-self-inside in
     let node = subst (λ (vs : List Vertex). IsNode vs done.park done.state) e.journal c.add_endorsement-added.ensures.node in
     let few = room_less core.decided (length (graph done.state.dag) + length done.park.waiting) (length (graph core.state.dag) + length core.park.waiting) e.room c.self.invariant.decided_is.room in
-    let followed = subst (λ (vs : List Vertex). HasFollowed done.state (length vs) core.decided run.new.decided run.result) c.deref.ensures.value run.ensures.followed in
+    let followed = subst (λ (vs : List Vertex). HasFollowed done.state (length vs) core.decided run.new.decided run.result) c.as_slice.ensures.value run.ensures.followed in
     kept_followed core.instance core.journal.items core.names.entries core.park core.dropped.entries (room_of core.dropped) core.state core.fork core.decided core.shown c.self.invariant
     v done.state done.park core.decided node c.add_endorsement-added.ensures.config e.grows c.dag-before.ensures.graph c.dag-after.ensures.graph (no_room_more core.decided) few
     done.journal.items e.journal core.names.entries done.dropped.entries (room_of done.dropped)

@@ -47,7 +47,7 @@ invariant_of-self c =
     let placed = e.placed in
     let run = c.follow-self-inside in
     let few = room_less done.decided (length (graph done.state.dag) + length done.park.waiting) (length (graph core.state.dag) + (length core.park.waiting + 1)) placed.room e.blocks in
-    let followed = subst (λ (vs : List Vertex). HasFollowed done.state (length vs) done.decided run.new.decided run.result) c.deref.ensures.value run.ensures.followed in
+    let followed = subst (λ (vs : List Vertex). HasFollowed done.state (length vs) done.decided run.new.decided run.result) c.as_slice.ensures.value run.ensures.followed in
     kept_followed core.instance core.journal.items core.names.entries core.park core.dropped.entries (room_of core.dropped) core.state core.fork core.decided core.shown c.self.invariant
     (vertex.Unit u) done.state done.park done.decided placed.node placed.config placed.grows c.add_unit-added.ensures.graph c.dag-graph.ensures.graph c.add_unit-added.ensures.decided few
     done.journal.items e.journal done.names.entries done.dropped.entries (room_of done.dropped) e.table placed.rules_are c.add_unit-added.ensures.places

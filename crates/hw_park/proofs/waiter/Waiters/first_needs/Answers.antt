@@ -1,0 +1,65 @@
+use Rattle.std.proofs.Common.{◌++◌, ℕ, List, [], Option, length, take, sym, ap, ◌∙◌, arith}
+use Rattle.std.specs.List.{flat_map}
+use Rattle.std.specs.Option.{option_map_or}
+use Rattle.hw_types.specs.declared.unit.Need.{Need}
+use Rattle.hw_park.specs.declared.waiter.Waiter.{Waiter}
+use Rattle.hw_park.specs.Held.{Held, held}
+use Rattle.hw_park.specs.Kept.{listed}
+use Rattle.hw_park.specs.First.{with_firsts, needs_of_places}
+use Rattle.hw_park.specs.Parked.{Waiting, awaited}
+use Rattle.hw_park.proofs.FirstLaws.{firsts-append, firsts_of}
+use Rattle.hw_park.proofs.PlacedLaws.{places_listed}
+use Rattle.hw_park.proofs.waiter.Waiters.first_needs.Goals as goal
+
+pub loop-place-preserved-in-Some-get : goal.loop-place-preserved-in-Some-get
+loop-place-preserved-in-Some-get g c =
+    let W : Type 0 = Waiter g.row.T.Denot in
+    let most = length c.args.list.now in
+    let h : Held g.row.T.Denot = record { places = c.self.inside.places.entries; slots = c.self.inside.items.slots } in
+    let place = c.in-Some.place.now in
+    let now = c.in-Some-get.waiter.now in
+    let e = c.put_into-filled.ensures in
+    let k = c.loop-place.invariant in
+    let was = take c.loop-place.filled c.loop-place.list in
+    let later = needs_of_places h c.next.new.self in
+    record {
+      within = let a = e.within in let b = e.long in omega arith;
+      long = e.long ∙ k.long;
+      put = ap (λ (ns : List Need). with_firsts most ns later) (e.put ∙ ap (λ (m : ℕ). with_firsts m was now.needs) k.long)
+          ∙ sym (firsts-append most was now.needs later)
+          ∙ ap (λ (o : Option W). with_firsts most was (option_map_or (λ (w : W). w.needs) o [] ++ later)) c.in-Some-get.ensures
+          ∙ ap (λ (ps : List ℕ). with_firsts most was (needs_of_places h ps)) (sym c.in-Some.ensures.steps)
+          ∙ k.put;
+    }
+
+pub loop-place-preserved : goal.loop-place-preserved
+loop-place-preserved g c =
+    let W : Type 0 = Waiter g.row.T.Denot in
+    let most = length c.args.list.now in
+    let h : Held g.row.T.Denot = record { places = c.self.inside.places.entries; slots = c.self.inside.items.slots } in
+    let k = c.loop-place.invariant in
+    let was = take c.loop-place.filled c.loop-place.list in
+    let later = needs_of_places h c.next.new.self in
+    record {
+      within = k.within;
+      long = k.long;
+      put = ap (λ (o : Option W). with_firsts most was (option_map_or (λ (w : W). w.needs) o [] ++ later)) c.in_default.ensures
+          ∙ ap (λ (ps : List ℕ). with_firsts most was (needs_of_places h ps)) (sym c.in-Some.ensures.steps)
+          ∙ k.put;
+    }
+
+pub returns-clause-within : goal.returns-clause-within
+returns-clause-within g c = let k = c.loop-place.invariant.within in let l = c.loop-place.invariant.long in omega arith
+
+pub returns-clause-put : goal.returns-clause-put
+returns-clause-put g c n beyond =
+    let most = length c.args.list.now in
+    let h : Held g.row.T.Denot = record { places = c.self.inside.places.entries; slots = c.self.inside.items.slots } in
+    let k = c.loop-place.invariant in
+    let was = take c.loop-place.filled c.loop-place.list in
+    ap (λ (ps : List ℕ). with_firsts most was (needs_of_places h ps)) (sym c.in-None.ensures.steps.0)
+    ∙ k.put
+    ∙ ap (λ (ps : List ℕ). with_firsts most [] (needs_of_places h ps)) (c.into_iter-place-iterator.ensures.into_iter_gives ∙ c.values-place-items.ensures.rest)
+    ∙ ap (λ (ns : List Need). with_firsts most [] ns) (places_listed h c.self.invariant n (λ j le. ap (λ (x : Held g.row.T.Denot). held x j) c.self.view_is ∙ beyond j le) c.values-place-items.ensures.ordered)
+    ∙ firsts_of most (flat_map (λ (w : Waiting g.row.T.Denot). w.needs) (listed (held h) n))
+    ∙ ap (λ (x : Held g.row.T.Denot). take most (awaited (listed (held x) n))) c.self.view_is
