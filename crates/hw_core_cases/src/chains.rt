@@ -1,6 +1,5 @@
 //! Long chains of units, and the sums of what became of them.
 
-use crate::names::Node;
 use crate::outcome::{Outcome, delivery};
 use hw_codec::{digest_of, fits};
 use hw_core::Core;
@@ -20,22 +19,41 @@ struct Sums {
 }
 
 /// Delivers a chain of so many units of validator 0, each on the one before it, the first one a block.
-pub fn chain(alloc: Global, node: &mut Node, words: &[&str]) -> Option<String> {
+pub fn chain(alloc: Global, instance: Digest, core: &mut Core, words: &[&str]) -> Option<String> {
     let [count, order] = words else {
         return None;
     };
-    let mut units = units_of(alloc, node, count.parse().ok()?)?;
-    match *order {
-        "forward" => {}
-        "reverse" => units.reverse(),
-        _ => return None,
-    }
-    let sums = delivered(&mut node.core, units)?;
+    let validators = core.state().config().weights.len();
+    let units = ordered(alloc, instance, validators, count.parse().ok()?, order)?;
+    told(alloc, count, &delivered(core, units)?)
+}
+
+/// What became of so many units, as a line.
+fn told(alloc: Global, count: &str, sums: &Sums) -> Option<String> {
     format!(in alloc;
         "chain {count} admitted {} settled {} parked {} missing {} other {}\n",
         sums.admitted, sums.settled, sums.parked, sums.missing, sums.other
     )
     .ok()
+}
+
+/// The units of the chain in this order.
+fn ordered(
+    alloc: Global,
+    instance: Digest,
+    validators: usize,
+    count: u32,
+    order: &str,
+) -> Option<Vec<SignedUnit>> {
+    let mut units = units_of(alloc, instance, validators, count)?;
+    match order {
+        "forward" => Some(units),
+        "reverse" => {
+            units.reverse();
+            Some(units)
+        }
+        _ => None,
+    }
 }
 
 /// Delivers the units, the first one first.
@@ -74,14 +92,18 @@ fn added(sums: Sums, outcome: Outcome) -> Sums {
 }
 
 /// The units of the chain, the first one first.
-fn units_of(alloc: Global, node: &Node, count: u32) -> Option<Vec<SignedUnit>> {
-    let validators = node.core.state().config().weights.len();
+fn units_of(
+    alloc: Global,
+    instance: Digest,
+    validators: usize,
+    count: u32,
+) -> Option<Vec<SignedUnit>> {
     let mut units = Vec::new(alloc);
     let mut own = Obs::Absent;
     for number in 0..count {
         let unit = unit_at(
             alloc,
-            node.instance,
+            instance,
             number,
             panorama_of(alloc, validators, own)?,
         )?;

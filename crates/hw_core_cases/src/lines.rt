@@ -1,11 +1,8 @@
 //! Lines of words. None stands for a line that isn't of the language, and for want of memory.
 
-ghost use Rattle.std.specs.Prelude.{◌≡◌, None};
-ghost use Rattle.hw_types.specs.Limits.{config_fault};
-
 use crate::chains::chain;
 use crate::deliveries::{deliver, endorse};
-use crate::names::Node;
+use crate::names::{Named, Node};
 use crate::places::{missing, place};
 use crate::shown::show;
 use crate::units::{evidence, unit};
@@ -14,18 +11,19 @@ use hw_admit::StateStart;
 use hw_case_words::config_of;
 use hw_codec::instance_of;
 use hw_core::Core;
+use hw_types::{Config, Digest};
 use std::alloc::Global;
 
-/// The answer to a line, for the node that is held.
-pub fn answer(alloc: Global, held: &mut Option<Node>, line: &str) -> Option<String> {
+/// The answer to a line, of the node that began last.
+pub fn answer(alloc: Global, nodes: &mut Vec<Node>, line: &str) -> Option<String> {
     let words: Vec<&str> = line.split(' ').collect(alloc).ok()?;
     let [kind, rest @ ..] = words.as_slice() else {
         return None;
     };
     match *kind {
         "#" => repeated(alloc, line),
-        "weights" => began(alloc, held, words.as_slice()),
-        _ => asked(alloc, held, kind, rest),
+        "weights" => began(alloc, nodes, words.as_slice()),
+        _ => moved(alloc, nodes.as_mut_slice().last_mut()?, kind, rest),
     }
 }
 
@@ -34,48 +32,45 @@ fn repeated(alloc: Global, line: &str) -> Option<String> {
 }
 
 /// Begins a node with the configuration that the words tell. Where there is none, why.
-fn began(alloc: Global, held: &mut Option<Node>, words: &[&str]) -> Option<String> {
+fn began(alloc: Global, nodes: &mut Vec<Node>, words: &[&str]) -> Option<String> {
     let config = config_of(alloc, words)?;
+    let instance = instance_in_limits(alloc, &config)?;
     match Core::new(alloc, config) {
-        Ok(core) => {
-            *held = Some(named(alloc, core)?);
-            "began\n".to_string(alloc).ok()
-        }
-        Err(StateStart::Fault(fault)) => format!(in alloc; "{fault:?}\n").ok(),
-        Err(StateStart::OutOfMemory) => None,
+        Ok(core) => begins(nodes, core, instance, Vec::new(alloc))?,
+        Err(StateStart::Fault(fault)) => return format!(in alloc; "{fault:?}\n").ok(),
+        Err(StateStart::OutOfMemory) => return None,
     }
+    "began\n".to_string(alloc).ok()
 }
 
-/// The node, with its instance and no names.
-#[tactic(auto, using(hw_core::proofs::StartLaws::config_fits))]
-fn named(alloc: Global, core: Core) -> Option<Node>
-    requires { config_fault core.config ≡ None }
-{
-    let instance = instance_of(alloc, core.state().config()).ok()?;
-    Some(Node {
-        core,
-        instance,
-        names: Vec::new(alloc),
-    })
+/// The node is asked from now on.
+fn begins(nodes: &mut Vec<Node>, core: Core, instance: Digest, names: Vec<Named>) -> Option<()> {
+    nodes
+        .push(Node {
+            core,
+            instance,
+            names,
+        })
+        .ok()
 }
 
-/// The answer of the node that is held.
-fn asked(alloc: Global, held: &mut Option<Node>, kind: &str, words: &[&str]) -> Option<String> {
-    match held {
-        Some(node) => moved(alloc, node, kind, words),
-        None => None,
+/// The instance of a configuration. One that breaks a limit has none, and no node either.
+fn instance_in_limits(alloc: Global, config: &Config) -> Option<Digest> {
+    match config.check() {
+        Ok(()) => instance_of(alloc, config).ok(),
+        Err(_) => Some(Digest([0; 32])),
     }
 }
 
 /// The answer of the node, which may change.
 fn moved(alloc: Global, node: &mut Node, kind: &str, words: &[&str]) -> Option<String> {
     match kind {
-        "unit" => unit(alloc, node, words),
-        "evidence" => evidence(alloc, node, words),
+        "unit" => unit(alloc, node.instance, &mut node.names, words),
+        "evidence" => evidence(alloc, &mut node.names, words),
         "deliver" => deliver(alloc, node, words, true),
         "forge" => deliver(alloc, node, words, false),
         "endorse" => endorse(alloc, node, words),
-        "chain" => chain(alloc, node, words),
+        "chain" => chain(alloc, node.instance, &mut node.core, words),
         _ => told(alloc, node, kind, words),
     }
 }

@@ -35,14 +35,14 @@ mod wanted;
 use std::io;
 
 fn main(rt: HostRuntime) -> io::Result<()> {
-    let mut held = None;
-    answered(rt, &mut held)
+    let mut nodes = Vec::new(rt.alloc());
+    answered(rt, &mut nodes)
 }
 
-/// Answers each line for the node that is held.
-fn answered(rt: HostRuntime, held: &mut Option<names::Node>) -> io::Result<()> {
+/// Answers each line, of the node that began last.
+fn answered(rt: HostRuntime, nodes: &mut Vec<names::Node>) -> io::Result<()> {
     for line in rt.lines(rt.alloc()) {
-        let Some(text) = lines::answer(rt.alloc(), held, line?.as_str()) else {
+        let Some(text) = lines::answer(rt.alloc(), nodes, line?.as_str()) else {
             return Err(io::ErrorKind::InvalidInput.into());
         };
         print!(rt; "{text}")?;

@@ -1,54 +1,59 @@
 //! Units and evidence as lines define them.
 
-use crate::names::{Named, Node, digest_named, unit_named, with_digest};
+use crate::names::{Named, digest_named, unit_named, with_digest};
 use hw_case_words::{after, is_key, own_observation, told_number, unit_of};
 use hw_codec::{digest_of, fits};
 use hw_types::{Digest, DigestList, Evidence, Obs, ObsList, SignedUnit, Vertex, WireUnit};
 use std::alloc::Global;
 
 /// Defines the unit that the words tell.
-pub fn unit(alloc: Global, node: &mut Node, words: &[&str]) -> Option<String> {
-    let [name, ..] = words else {
-        return None;
-    };
-    let unit = told_unit(alloc, node.instance, node.names.as_slice(), words)?;
-    let digest = digest_in_format(alloc, &unit.unit)?;
-    define(alloc, node, name, Some(digest), Vertex::Unit(unit))
+pub fn unit(
+    alloc: Global,
+    instance: Digest,
+    names: &mut Vec<Named>,
+    words: &[&str],
+) -> Option<String> {
+    let named = named_unit(alloc, instance, names.as_slice(), words)?;
+    define(alloc, names, named)
 }
 
 /// Defines the evidence of the two units.
-pub fn evidence(alloc: Global, node: &mut Node, words: &[&str]) -> Option<String> {
+pub fn evidence(alloc: Global, names: &mut Vec<Named>, words: &[&str]) -> Option<String> {
+    let named = named_evidence(alloc, names.as_slice(), words)?;
+    define(alloc, names, named)
+}
+
+/// Puts in the vertex under its name.
+fn define(alloc: Global, names: &mut Vec<Named>, named: Named) -> Option<String> {
+    names.push(named).ok()?;
+    Some(String::new(alloc))
+}
+
+/// The unit that the words tell, under its name.
+fn named_unit(alloc: Global, instance: Digest, names: &[Named], words: &[&str]) -> Option<Named> {
+    let [name, ..] = words else {
+        return None;
+    };
+    let unit = told_unit(alloc, instance, names, words)?;
+    Some(Named {
+        name: name.to_string(alloc).ok()?,
+        digest: Some(digest_in_format(alloc, &unit.unit)?),
+        vertex: Vertex::Unit(unit),
+    })
+}
+
+/// The evidence that the words tell, under its name.
+fn named_evidence(alloc: Global, names: &[Named], words: &[&str]) -> Option<Named> {
     let [name, _of, left, right] = words else {
         return None;
     };
-    let left = unit_named(node.names.as_slice(), left)?.copy().ok()?;
-    let right = unit_named(node.names.as_slice(), right)?.copy().ok()?;
-    define(
-        alloc,
-        node,
-        name,
-        None,
-        Vertex::Evidence(Evidence { left, right }),
-    )
-}
-
-/// Puts the vertex under its name.
-fn define(
-    alloc: Global,
-    node: &mut Node,
-    name: &str,
-    digest: Option<Digest>,
-    vertex: Vertex,
-) -> Option<String> {
-    let name = name.to_string(alloc).ok()?;
-    node.names
-        .push(Named {
-            name,
-            digest,
-            vertex,
-        })
-        .ok()?;
-    Some(String::new(alloc))
+    let left = unit_named(names, left)?.copy().ok()?;
+    let right = unit_named(names, right)?.copy().ok()?;
+    Some(Named {
+        name: name.to_string(alloc).ok()?,
+        digest: None,
+        vertex: Vertex::Evidence(Evidence { left, right }),
+    })
 }
 
 /// The digest of a unit that keeps the limits of its format.

@@ -16,6 +16,7 @@ use Rattle.hw_dag.specs.Admission.{IsGraph}
 use Rattle.hw_dag.specs.Lanes.{is_lane_below, is_seen}
 use Rattle.hw_dag.proofs.LaneLaws.{seen_cases, past_seen, seen_itself, lane_is_seen, seen_on_lane, seen_entry}
 use Rattle.hw_naivety.specs.Tips.{IsBelow, IsBelowEndorsed, IsNaive, IsUnder, IsNaiveTip, IsTip, HasLists, IsSightOf, IsRaised, IsRaisedOver, IsOnLaneOf, LanesAre, HasTips, tip_at}
+use Rattle.hw_naivety.specs.Heirs.{IsBequeathed}
 use Rattle.hw_naivety.specs.declared.fork.NaiveFork.{NaiveFork}
 use Rattle.hw_naivety.proofs.BelowLaws.{seen_trans, lane_trans, lane_order, lane_itself, under_below, below_under}
 
@@ -211,6 +212,36 @@ module _ (dag : UnitGraph) (g : IsGraph dag) where
             subst (λ (k : UnitNo). IsNaive dag panorama endorsed v k.0) same
             (record { known = panorama_is.known v last e; creator_is = panorama_is.creator_is v last e; below = record { slot = v; cited = last; observed = e; seen = seen_itself dag g last.0 }; free = free });
         all = λ n h. entry_last v n last e h;
+      }
+
+      -- the tip of an observed unit with this very list, all of it below, where the two observe one unit of the creator
+      pub inherited_tip : HasLists dag panorama endorsed → (before : UnitNo) → IsBequeathed dag panorama endorsed before → (v : ℕ) (last : UnitNo) (tip : Option UnitNo) → view_at panorama v ≡ view.Correct last
+          → view_at (unit_at dag before.0).panorama v ≡ view.Correct last → IsTip dag (unit_at dag before.0).panorama (unit_at dag before.0).signed.unit.endorsed v tip → IsTip dag panorama endorsed v tip
+      inherited_tip lists before b v last tip e o t = record {
+        naive = λ k is.
+            let h = t.naive k is in
+            record {
+              known = h.known;
+              creator_is = h.creator_is;
+              below = tip_below b.slot before v k b.observed h;
+              free = λ f. h.free (record {
+                name = f.name;
+                among = subst (λ (ds : List Digest). Among f.name ds) (sym b.list_is) f.among;
+                below = record {
+                  named = f.below.named;
+                  known = f.below.known;
+                  name_is = f.below.name_is;
+                  found = b.list_below f.name f.among f.below.named f.below.known f.below.name_is;
+                  seen = f.below.seen;
+                };
+              });
+            };
+        all = λ n h. t.all n (naive_lower lists b.slot before v n b.observed h (record {
+          slot = v;
+          cited = last;
+          observed = o;
+          seen = lane_is_seen dag g n last.0 h.known (panorama_is.known v last e) (entry_last v n last e h);
+        }));
       }
 
       pub cited_earlier : (slot : ℕ) (cited : UnitNo) → view_at panorama slot ≡ view.Correct cited → cited.0 < no

@@ -7,6 +7,7 @@
 #![tactic(auto)]
 
 mod fork;
+mod heir;
 mod laws;
 mod sight;
 mod tips;

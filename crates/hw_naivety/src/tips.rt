@@ -1,10 +1,14 @@
 //! The tips of noted units.
 
 ghost use Rattle.std.specs.Prelude.{◌≡◌, ℕ, ◌+◌, ◌<◌, ◌≤◌, ◌≢◌, ◌^◌, [], ◌==◌, if◌then◌else◌, None, Some, length, slice_index_or, slice_set, IfOk, IfErr, IfSome, OnOk};
-ghost use Rattle.hw_naivety.specs.Tips.{IsNaiveTip, IsTip, IsSight, IsSightOf, IsEndOfList, HasRoom, HasLists, HasTips, IsRaisedOver, AreRows, IsGrown, tip_at};
+ghost use Rattle.hw_naivety.specs.Tips.{IsNaiveTip, IsTip, IsSight, IsSightOf, HasRoom, HasLists, HasTips, IsRaisedOver, AreRows, IsGrown, tip_at};
+ghost use Rattle.hw_naivety.specs.Heirs.{IsListed};
 ghost use Rattle.hw_naivety.specs.Forks.{IsNaiveFork, IsForkless};
+ghost use Rattle.hw_dag.specs.Dag.{view_at};
+ghost use Rattle.hw_dag.specs.declared.numbers.View.TheVariants as view;
 
 use crate::fork::NaiveFork;
+use crate::heir::Listed;
 use crate::sight::Sight;
 use hw_dag::{Marks, UnitNo, View};
 use hw_types::OutOfMemory;
@@ -183,14 +187,44 @@ impl Tips {
         Ok(tip)
     }
 
-    /// The tip of a settled unit that has no fork. Where the unit observes a unit of the creator, all that it
-    /// has below it of the creator is on that one's lane.
+    /// The tip of a creator of whom a settled unit observes this one: all that it has below it of the creator is
+    /// on that one's lane. Where its creator's previous unit observed the same one, under the same list, that
+    /// unit's tip is taken over.
+    fn tip_on(
+        &self,
+        sight: &Sight<'_>,
+        no: UnitNo,
+        creator: u32,
+        last: UnitNo,
+        listed: &Listed,
+        marks: &mut Marks,
+    ) -> Option<UnitNo>
+        requires sight { IsSight sight.now.dag.now sight.now.panorama.now sight.now.validators }
+        requires unit { IsSightOf sight.now.dag.now no.0 sight.now.panorama.now sight.now.endorsed.now }
+        requires room { HasRoom sight.now.panorama.now marks.old }
+        requires creator { creator < sight.now.validators }
+        requires rows { AreRows sight.now.validators self.now }
+        requires tips { HasTips sight.now.dag.now sight.now.panorama.now self.now }
+        requires lists { HasLists sight.now.dag.now sight.now.panorama.now sight.now.endorsed.now }
+        requires listed { IsListed sight.now.dag.now sight.now.panorama.now sight.now.endorsed.now listed.now }
+        requires last { view_at sight.now.panorama.now creator ≡ view.Correct last }
+        ensures tip { IsTip sight.now.dag.now sight.now.panorama.now sight.now.endorsed.now creator result }
+        ensures room { marks.new ≡ marks.old }
+    {
+        match listed.heir {
+            Some(before) if sight.is_seen_by(last, creator, before) => self.at(before, creator),
+            _ if sight.is_covered(last, listed.end, marks) => None,
+            _ => Some(last),
+        }
+    }
+
+    /// The tip of a settled unit that has no fork.
     fn tip_of(
         &self,
         sight: &Sight<'_>,
         no: UnitNo,
         creator: u32,
-        end: u32,
+        listed: &Listed,
         marks: &mut Marks,
     ) -> Option<UnitNo>
         requires sight { IsSight sight.now.dag.now sight.now.panorama.now sight.now.validators }
@@ -201,14 +235,13 @@ impl Tips {
         requires tips { HasTips sight.now.dag.now sight.now.panorama.now self.now }
         requires lists { HasLists sight.now.dag.now sight.now.panorama.now sight.now.endorsed.now }
         requires forkless { IsForkless sight.now.dag.now sight.now.panorama.now sight.now.endorsed.now }
-        requires end { IsEndOfList sight.now.dag.now sight.now.endorsed.now end }
+        requires listed { IsListed sight.now.dag.now sight.now.panorama.now sight.now.endorsed.now listed.now }
         ensures tip { IsTip sight.now.dag.now sight.now.panorama.now sight.now.endorsed.now creator result }
         ensures room { marks.new ≡ marks.old }
     {
         match sight.panorama.get(creator) {
             View::Absent => None,
-            View::Correct(last) if sight.is_covered(last, end, marks) => None,
-            View::Correct(last) => Some(last),
+            View::Correct(last) => self.tip_on(sight, no, creator, last, listed, marks),
             View::Faulty => match self.tip_over(sight, creator, marks) {
                 Ok(tip) => tip,
                 Err(_) => unreachable!(),
@@ -232,9 +265,10 @@ impl Tips {
         ensures length { length self.new ≡ length self.old }
         ensures room { marks.new ≡ marks.old }
     {
-        let end = sight.end_of_list();
+        let own = sight.dag.unit(no).signed().unit.creator;
+        let listed = sight.listed(own, marks);
         for creator in 0..sight.validators {
-            let tip = self.tip_of(sight, no, creator, end, marks);
+            let tip = self.tip_of(sight, no, creator, &listed, marks);
             self.put(no, creator, tip);
         }
     }

@@ -1,0 +1,101 @@
+//! What a unit takes over from its creator's previous one.
+
+ghost use Rattle.std.specs.Prelude.{◌≡◌, ◌<◌, ◌≤◌, IsTrue, IfSome};
+ghost use Rattle.hw_dag.specs.Dag.{count_of, unit_at, view_at};
+ghost use Rattle.hw_naivety.specs.Tips.{IsSight, HasRoom};
+ghost use Rattle.hw_dag.specs.declared.numbers.View.TheVariants as view;
+ghost use Rattle.hw_naivety.specs.Heirs.{HasNamed, HasListBelow, IsBequeathed, IsListed};
+
+use crate::sight::Sight;
+use hw_dag::{Marks, UnitNo, View};
+use hw_types::Digest;
+
+/// What is known of an endorsed list before the slots of its unit are gone through.
+#[derive(Clone, Copy, Debug, PartialEq, Eq)]
+pub struct Listed {
+    /// One more than the greatest number of a unit of the list, or 0 where no unit of it is there.
+    pub end: u32,
+    /// The creator's previous unit, where it has the same list and all of it below.
+    pub heir: Option<UnitNo>,
+}
+
+impl Sight<'_> {
+    /// What is known of the list of the creator's unit.
+    pub fn listed(&self, creator: u32, marks: &mut Marks) -> Listed
+        requires sight { IsSight self.now.dag.now self.now.panorama.now self.now.validators }
+        requires creator { creator < self.now.validators }
+        requires room { HasRoom self.now.panorama.now marks.old }
+        ensures listed { IsListed self.now.dag.now self.now.panorama.now self.now.endorsed.now result }
+        ensures room { marks.new ≡ marks.old }
+    {
+        Listed {
+            end: self.end_of_list(),
+            heir: self.heir(creator, marks),
+        }
+    }
+
+    /// Whether the other unit observes this one of the creator.
+    pub fn is_seen_by(&self, last: UnitNo, creator: u32, other: UnitNo) -> bool
+        requires sight { IsSight self.now.dag.now self.now.panorama.now self.now.validators }
+        requires known { other.0 < count_of self.now.dag.now }
+        requires creator { creator < self.now.validators }
+        ensures { IsTrue result → (view_at (unit_at self.now.dag.now other.0).panorama creator ≡ view.Correct last) }
+    {
+        self.dag.unit(other).panorama().get(creator) == View::Correct(last)
+    }
+
+    /// Whether the unit of this name is below, or isn't there at all.
+    fn has_named(&self, name: &Digest, marks: &mut Marks) -> bool
+        requires sight { IsSight self.now.dag.now self.now.panorama.now self.now.validators }
+        requires room { HasRoom self.now.panorama.now marks.old }
+        ensures below { IsTrue result → HasNamed self.now.dag.now self.now.panorama.now name.now }
+        ensures room { marks.new ≡ marks.old }
+    {
+        match self.dag.find(name) {
+            Some(named) => self.has_below(named, marks),
+            None => true,
+        }
+    }
+
+    /// Whether each unit of the endorsed list that is there is below.
+    fn has_list(&self, marks: &mut Marks) -> bool
+        requires sight { IsSight self.now.dag.now self.now.panorama.now self.now.validators }
+        requires room { HasRoom self.now.panorama.now marks.old }
+        ensures below { IsTrue result → HasListBelow self.now.dag.now self.now.panorama.now self.now.endorsed.now }
+        ensures room { marks.new ≡ marks.old }
+    {
+        for name in self.endorsed {
+            if !self.has_named(name, marks) {
+                return false;
+            }
+        }
+        true
+    }
+
+    /// The creator's previous unit, where it has the same endorsed list and all of it below. Then the tip of
+    /// each slot that the two have in common is taken over, and the list isn't gone through for it again.
+    fn heir(&self, creator: u32, marks: &mut Marks) -> Option<UnitNo>
+        requires sight { IsSight self.now.dag.now self.now.panorama.now self.now.validators }
+        requires creator { creator < self.now.validators }
+        requires room { HasRoom self.now.panorama.now marks.old }
+        ensures heir { IfSome result (IsBequeathed self.now.dag.now self.now.panorama.now self.now.endorsed.now) }
+        ensures room { marks.new ≡ marks.old }
+    {
+        let View::Correct(last) = self.panorama.get(creator) else {
+            return None;
+        };
+        let unit = self.dag.unit(last);
+        let endorsed = unit.signed().unit.endorsed.as_slice();
+        let before = Sight {
+            dag: self.dag,
+            panorama: unit.panorama(),
+            endorsed,
+            validators: self.validators,
+        };
+        if endorsed == self.endorsed && before.has_list(marks) {
+            Some(last)
+        } else {
+            None
+        }
+    }
+}
