@@ -119,8 +119,24 @@ fn a_real_door_dials_and_is_dialled(rt: HostRuntime) -> Result<(), Fail> {
     assert_eq!(rt; caller.dial(address.as_str()), Ok(()));
     assert_eq!(rt; talk(&mut caller, &mut called, &mut buf), TALKED);
     assert_eq!(rt; buf, *b"abcde\0\0\0");
-    assert_eq!(rt; called.numbers(), DoorNumbers { accepts: 1, dials: 0, ends: 1, faults: 0 });
-    assert_eq!(rt; caller.numbers(), DoorNumbers { accepts: 0, dials: 1, ends: 0, faults: 1 });
+    assert_eq!(rt;
+        called.numbers(),
+        DoorNumbers {
+            accepts: 1,
+            dials: 0,
+            ends: 1,
+            faults: 0
+        }
+    );
+    assert_eq!(rt;
+        caller.numbers(),
+        DoorNumbers {
+            accepts: 0,
+            dials: 1,
+            ends: 0,
+            faults: 1
+        }
+    );
     Ok(())
 }
 
@@ -134,6 +150,14 @@ fn a_real_door_counts_what_fails(rt: HostRuntime) -> Result<(), Fail> {
     assert_eq!(rt; taken.dial("no address"), Err(IoFault::Failed));
     assert_eq!(rt; taken.dial("127.0.0.1:1"), Err(IoFault::Failed));
     assert_eq!(rt; taken.write(b"a"), Err(IoFault::Failed));
-    assert_eq!(rt; taken.numbers(), DoorNumbers { accepts: 1, dials: 2, ends: 0, faults: 4 });
+    assert_eq!(rt;
+        taken.numbers(),
+        DoorNumbers {
+            accepts: 1,
+            dials: 2,
+            ends: 0,
+            faults: 4
+        }
+    );
     Ok(())
 }
