@@ -77,17 +77,22 @@ fn real_moments_are_milliseconds_since_1970(rt: HostRuntime) {
 }
 
 /// What the two sides of a session answer, one call after the other. The second side is the one that was dialled.
-fn talk<D: Door, E: Door>(caller: &mut D, called: &mut E, buf: &mut [u8]) -> [Count; 9] {
+fn talk<D: Door, E: Door>(
+    caller: &mut D,
+    called: &mut E,
+    heard: &mut [u8],
+    back: &mut [u8],
+) -> [Count; 9] {
     [
         done(called.accept()),
         caller.write(b"abc"),
-        called.read(buf),
+        called.read(heard),
         called.write(b"de"),
-        caller.read(&mut buf[3..]),
+        caller.read(back),
         called.read(&mut []),
         hung_up(caller),
-        called.read(buf),
-        caller.read(buf),
+        called.read(heard),
+        caller.read(back),
     ]
 }
 
@@ -115,10 +120,15 @@ fn a_real_door_dials_and_is_dialled(rt: HostRuntime) -> Result<(), Fail> {
     let mut caller = HostDoor::without_address(&rt);
     let port = called.port().unwrap_or(0);
     let address = format!(in rt.alloc(); "127.0.0.1:{port}")?;
-    let mut buf = [0; 8];
+    let mut heard = [0; 4];
+    let mut back = [0; 4];
     assert_eq!(rt; caller.dial(address.as_str()), Ok(()));
-    assert_eq!(rt; talk(&mut caller, &mut called, &mut buf), TALKED);
-    assert_eq!(rt; buf, *b"abcde\0\0\0");
+    assert_eq!(rt;
+        talk(&mut caller, &mut called, &mut heard, &mut back),
+        TALKED
+    );
+    assert_eq!(rt; heard, *b"abc\0");
+    assert_eq!(rt; back, *b"de\0\0");
     assert_eq!(rt;
         called.numbers(),
         DoorNumbers {
