@@ -22,7 +22,7 @@ fn run_on_host<R: Runtime + AllocGlobal>(rt: &R, words: &Words) -> u8 {
     let mut files = HostFiles::new(rt);
     let mut out = HostSink::new(io::writer(rt));
     let mut clock = SetClock::new(Vec::new(rt.alloc()));
-    let mut door = SureDoor::new();
+    let mut door = SureDoor::new(rt.alloc());
     let mut consumers: Vec<Box<dyn Consumer>> = Vec::new(rt.alloc());
     highway(
         rt.alloc(),

@@ -100,7 +100,7 @@ pub fn run<S: Sink>(
 ) -> Result<u8, OutOfMemory> {
     let words = words_of(alloc, command)?;
     let mut clock = SetClock::new(Vec::new(alloc));
-    let mut door = SureDoor::new();
+    let mut door = SureDoor::new(alloc);
     let mut consumers: Vec<Box<dyn Consumer>> = Vec::new(alloc);
     Ok(highway(
         alloc,

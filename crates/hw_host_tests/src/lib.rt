@@ -1,4 +1,4 @@
-//! Tests of the real files and the real output, which tell no content: one exchange with each.
+//! Tests of the real files, output, clock and door, which tell no content: one exchange with each.
 #![tactic(auto)]
 
 #[cfg(test)]

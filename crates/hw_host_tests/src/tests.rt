@@ -1,4 +1,6 @@
-use hw_io::{Files, HostFiles, HostSink, IoFault, write_all};
+use hw_io::{
+    Clock, Door, DoorNumbers, Files, HostClock, HostDoor, HostFiles, HostSink, IoFault, write_all,
+};
 use std::fs;
 use std::test::Fail;
 
@@ -65,4 +67,107 @@ fn real_files_are_read_and_appended_to(rt: HostRuntime) -> Result<(), Fail> {
 fn real_output_is_written(rt: HostRuntime) {
     let mut sink = HostSink::new(rt.stdout());
     assert_eq!(rt; write_all(&mut sink, b"written\n"), Ok(()));
+}
+
+#[test]
+fn real_moments_are_milliseconds_since_1970(rt: HostRuntime) {
+    let moment = HostClock::new(&rt).now();
+    // The years 2020 to 2200.
+    assert!(rt; moment > 1_577_836_800_000 && moment < 7_258_118_400_000);
+}
+
+/// What the two sides of a session answer, one call after the other. The second side is the one that was dialled.
+fn talk<D: Door, E: Door>(
+    caller: &mut D,
+    called: &mut E,
+    heard: &mut [u8],
+    back: &mut [u8],
+) -> [Count; 9] {
+    [
+        done(called.accept()),
+        caller.write(b"abc"),
+        called.read(heard),
+        called.write(b"de"),
+        caller.read(back),
+        called.read(&mut []),
+        hung_up(caller),
+        called.read(heard),
+        caller.read(back),
+    ]
+}
+
+fn hung_up<D: Door>(door: &mut D) -> Count {
+    door.hang_up();
+    Ok(0)
+}
+
+/// What `talk` answers.
+const TALKED: [Count; 9] = [
+    Ok(0),
+    Ok(3),
+    Ok(3),
+    Ok(2),
+    Ok(2),
+    Ok(0),
+    Ok(0),
+    Ok(0),
+    Err(IoFault::Failed),
+];
+
+#[test]
+fn a_real_door_dials_and_is_dialled(rt: HostRuntime) -> Result<(), Fail> {
+    let mut called = HostDoor::new(&rt, "127.0.0.1:0");
+    let mut caller = HostDoor::without_address(&rt);
+    let port = called.port().unwrap_or(0);
+    let address = format!(in rt.alloc(); "127.0.0.1:{port}")?;
+    let mut heard = [0; 4];
+    let mut back = [0; 4];
+    assert_eq!(rt; caller.dial(address.as_str()), Ok(()));
+    assert_eq!(rt;
+        talk(&mut caller, &mut called, &mut heard, &mut back),
+        TALKED
+    );
+    assert_eq!(rt; heard, *b"abc\0");
+    assert_eq!(rt; back, *b"de\0\0");
+    assert_eq!(rt;
+        called.numbers(),
+        DoorNumbers {
+            accepts: 1,
+            dials: 0,
+            ends: 1,
+            faults: 0
+        }
+    );
+    assert_eq!(rt;
+        caller.numbers(),
+        DoorNumbers {
+            accepts: 0,
+            dials: 1,
+            ends: 0,
+            faults: 1
+        }
+    );
+    Ok(())
+}
+
+#[test]
+fn a_real_door_counts_what_fails(rt: HostRuntime) -> Result<(), Fail> {
+    let listening = HostDoor::new(&rt, "127.0.0.1:0");
+    let port = listening.port().unwrap_or(0);
+    let address = format!(in rt.alloc(); "127.0.0.1:{port}")?;
+    let mut taken = HostDoor::new(&rt, address.as_str());
+    assert_eq!(rt; taken.accept(), Err(IoFault::Failed));
+    assert_eq!(rt; taken.dial("no address"), Err(IoFault::Failed));
+    assert_eq!(rt; taken.dial("127.0.0.1:1"), Err(IoFault::Failed));
+    assert_eq!(rt; taken.write(b"a"), Err(IoFault::Failed));
+    assert_eq!(rt;
+        taken.numbers(),
+        DoorNumbers {
+            accepts: 1,
+            dials: 2,
+            ends: 0,
+            faults: 4
+        }
+    );
+    Ok(())
 }

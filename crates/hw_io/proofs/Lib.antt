@@ -1,3 +1,5 @@
 pub mod Written
 pub mod Windows
 pub mod Stored
+pub mod Given
+pub mod Last

@@ -1,6 +1,51 @@
--- The numbers that a door tells.
-use Rattle.std.specs.Prelude.{ℕ, ◌==◌, ◌&&◌, nat_lt, if◌then◌else◌, List, length, Result, Ok, Err}
+-- What a door tells: its sessions, and its numbers.
+use Rattle.std.specs.Prelude.{ℕ, ◌==◌, ◌&&◌, nat_lt, if◌then◌else◌, Bool, true, false, List, [], ◌∷◌, ◌++◌, length, take, Option, Some, None, Result, Ok, Err}
 use Rattle.hw_io.specs.Faults.{raised}
+use Rattle.hw_io.specs.declared.outside.IoFault.{IoFault}
+use Rattle.hw_io.specs.declared.outside.IoFault.TheVariants.{Failed, OutOfMemory}
+
+-- a session: the address dialled, if any, the bytes read and the bytes written in it, and whether a call failed in it
+pub record Session : Type 0 where
+  pub address : Option (List ℕ)
+  pub read : List ℕ
+  pub written : List ℕ
+  pub failed : Bool
+
+-- a session that begins
+abbrev pub fresh_session : Option (List ℕ) → Session
+fresh_session address = record { address = address; read = []; written = []; failed = false }
+
+-- the same, after a call that failed in it
+abbrev pub with_failure : Session → Session
+with_failure session = record session { failed = true }
+
+-- the sessions after a call of `accept` or `dial`: one more, which has failed where the call did; none where memory was wanting
+abbrev pub sessions_after : {T : Type 0} → Option (List ℕ) → Result T IoFault → List Session → List Session
+sessions_after address (Ok x) sessions = sessions ++ fresh_session address ∷ []
+sessions_after address (Err Failed) sessions = sessions ++ with_failure (fresh_session address) ∷ []
+sessions_after address (Err OutOfMemory) sessions = sessions
+
+-- the last session changed
+abbrev pub with_last : (Session → Session) → List Session → List Session
+with_last change [] = []
+with_last change (session ∷ []) = change session ∷ []
+with_last change (session ∷ next ∷ rest) = session ∷ with_last change (next ∷ rest)
+
+-- the session after a read
+abbrev pub after_read : Result ℕ IoFault → List ℕ → Session → Session
+after_read (Ok n) buf session = record session { read = session.read ++ take n buf }
+after_read (Err Failed) buf session = with_failure session
+after_read (Err OutOfMemory) buf session = session
+
+-- the session after a write
+abbrev pub after_write : Result ℕ IoFault → List ℕ → Session → Session
+after_write (Ok n) piece session = record session { written = session.written ++ take n piece }
+after_write (Err Failed) piece session = with_failure session
+after_write (Err OutOfMemory) piece session = session
+
+-- the sessions after a call that changed the session that is there, if one is
+abbrev pub in_session : Bool → (Session → Session) → List Session → List Session
+in_session is_open change sessions = if is_open then with_last change sessions else sessions
 
 -- the number of ends after a read: one more where it gave nothing for a buffer with room
 abbrev pub ends_after : {E : Type 0} → ℕ → Result ℕ E → List ℕ → ℕ

@@ -1,4 +1,5 @@
 pub mod Buffers
+pub mod Consumers
 pub mod Doors
 pub mod Faults
 pub mod Files

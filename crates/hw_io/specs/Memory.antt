@@ -1,11 +1,16 @@
 -- What the outside in memory tells, and which of its calls are to fail.
-use Rattle.std.specs.Prelude.{◌≡◌, ℕ, ◌==◌, List, Option, Some}
+use Rattle.std.specs.Prelude.{◌≡◌, ℕ, ◌==◌, Bool, List, Option, Some}
 use Rattle.std.specs.List.{find}
 use Rattle.std.specs.Option.{option_map}
 use Rattle.hw_io.specs.Shelves.{held_in, begun_in, unread_in, allowance_of}
 use Rattle.hw_io.specs.declared.memory.Planned.{Planned}
 use Rattle.hw_io.specs.declared.memory.MemFiles.{MemFiles}
 use Rattle.hw_io.specs.declared.memory.MemSink.{MemSink}
+use Rattle.hw_io.specs.declared.door.MemDoor.{MemDoor}
+use Rattle.hw_io.specs.declared.door.DoorNumbers.{DoorNumbers}
+use Rattle.hw_io.specs.declared.consumer.ListConsumer.{ListConsumer}
+use Rattle.hw_io.specs.Doors.{Session}
+use Rattle.hw_io.specs.Consumers.{Consumed}
 
 -- what files in memory hold
 abbrev pub mem_held : MemFiles → List ℕ → Option (List ℕ)
@@ -60,3 +65,31 @@ sink_planned sink = sink.planned.items
 -- how much is written by the call of this number, where it is to fail
 abbrev pub planned_at : List Planned → ℕ → Option ℕ
 planned_at planned call = option_map (λ p. p.written) (find (λ p. p.call == call) planned)
+
+-- the sessions of a door in memory
+abbrev pub door_sessions : MemDoor → List Session
+door_sessions door = door.book.sessions.items
+
+-- whether a session is there
+abbrev pub door_is_open : MemDoor → Bool
+door_is_open door = door.book.is_open
+
+-- its numbers
+abbrev pub door_numbers : MemDoor → DoorNumbers
+door_numbers door = door.numbers
+
+-- the calls of the door that are to fail
+abbrev pub door_planned : MemDoor → List ℕ
+door_planned door = door.planned.items
+
+-- what a consumer in memory took
+abbrev pub list_consumed : ListConsumer → Consumed
+list_consumed consumer = record { pairs = consumer.blocks.items; finishes = consumer.finishes }
+
+-- the calls of the consumer that are to fail
+abbrev pub list_planned : ListConsumer → List ℕ
+list_planned consumer = consumer.planned.items
+
+-- how many of its calls failed
+abbrev pub list_faults : ListConsumer → ℕ
+list_faults consumer = consumer.faults

@@ -1,8 +1,11 @@
 -- What the outside that is sure tells.
-use Rattle.std.specs.Prelude.{ℕ, List, Option, Some}
+use Rattle.std.specs.Prelude.{ℕ, Bool, List, Option, Some}
 use Rattle.hw_io.specs.Shelves.{held_in, begun_in, unread_in, allowance_of}
 use Rattle.hw_io.specs.declared.sure.SureFiles.{SureFiles}
 use Rattle.hw_io.specs.declared.sure.SureSink.{SureSink}
+use Rattle.hw_io.specs.declared.door.SureDoor.{SureDoor}
+use Rattle.hw_io.specs.declared.door.DoorNumbers.{DoorNumbers}
+use Rattle.hw_io.specs.Doors.{Session}
 
 -- what sure files hold
 abbrev pub sure_held : SureFiles → List ℕ → Option (List ℕ)
@@ -27,3 +30,15 @@ sure_read_faults files = files.read_faults
 -- what a sure sink took
 abbrev pub sure_taken : SureSink → Option (List ℕ)
 sure_taken sink = Some sink.bytes.items
+
+-- the sessions of a sure door
+abbrev pub sure_sessions : SureDoor → List Session
+sure_sessions door = door.book.sessions.items
+
+-- whether a session is there
+abbrev pub sure_is_open : SureDoor → Bool
+sure_is_open door = door.book.is_open
+
+-- its numbers
+abbrev pub sure_numbers : SureDoor → DoorNumbers
+sure_numbers door = door.numbers

@@ -6,19 +6,30 @@
 //! `OutOfMemory`; a sink counts it apart.
 #![tactic(auto)]
 
+mod book;
 mod buffer;
+mod consumer;
+mod door;
 mod host;
+mod host_clock;
+mod host_door;
 mod memory;
 mod moments;
 mod outside;
 mod pieces;
+mod session;
 mod shelf;
 mod sure;
 
 pub use buffer::{MOST_AT_ONCE, ReadBuffer};
+pub use consumer::{ListConsumer, TakenBlock};
+pub use door::{DoorNumbers, MemDoor, SureDoor};
 pub use host::{HostFiles, HostSink};
+pub use host_clock::HostClock;
+pub use host_door::HostDoor;
 pub use memory::{MemFiles, MemSink, Planned};
 pub use moments::SetClock;
 pub use outside::{Clock, Consumer, Door, Files, IoFault, Sink};
 pub use pieces::write_all;
-pub use sure::{SureDoor, SureFiles, SureSink};
+pub use session::MemSession;
+pub use sure::{SureFiles, SureSink};

@@ -1,11 +1,14 @@
 //! The traits of the outside.
 ghost use Rattle.std.specs.Prelude.{◌≡◌, ◌≢◌, ℕ, ◌^◌, ◌<◌, ◌≤◌, List, Option, Bool, false, is_ok, length, IsTrue, IsNone, IsSome, IsErr, OnOk, OnErr, IfOk};
 ghost use Rattle.std.specs.Io.KnownBytes.{WriteAppends, ReadConsumes};
+ghost use Rattle.std.specs.Option.{option_map};
 ghost use Rattle.std.specs.Io.{ReadsAtMost};
 ghost use Rattle.hw_io.specs.Faults.{HasCause, IsWantCounted, raised};
 ghost use Rattle.hw_io.specs.Files.{SameFiles, IsAnswer, Begins, Appended, Spends};
 ghost use Rattle.hw_io.specs.Sinks.{TakesSome};
-ghost use Rattle.hw_io.specs.Doors.{ends_after};
+ghost use Rattle.hw_io.specs.Moments.{GivesMoment};
+ghost use Rattle.hw_io.specs.Doors.{Session, sessions_after, after_read, after_write, in_session, ends_after};
+ghost use Rattle.hw_io.specs.Consumers.{Consumed, after_take, after_finish};
 
 use std::alloc::AllocError;
 
@@ -129,9 +132,13 @@ pub trait Sink {
 
 /// What tells the time. It can't fail.
 pub trait Clock {
+    /// The moments given so far, where they are told.
+    ghost given: { Self → Option (List ℕ) };
+
     /// The moment, in milliseconds, below 2^63.
     fn now(&mut self) -> u64
-        ensures range { result < 2 ^ 63 };
+        ensures range { result < 2 ^ 63 }
+        ensures given { GivesMoment (given self.old) (given self.new) result };
 }
 
 /// A link to one peer at a time, by which sessions come and go.
@@ -140,6 +147,9 @@ pub trait Clock {
 /// the calls of `accept`, those of `dial`, and the ends, which are the calls of `read` that answered
 /// 0 for a `buf` that isn't empty.
 pub trait Door {
+    /// The sessions so far, where they are told. The last one is the one that is there, if one is.
+    ghost sessions: { Self → Option (List Session) };
+
     ghost is_open: { Self → Bool };
 
     ghost accepts: { Self → ℕ };
@@ -151,8 +161,9 @@ pub trait Door {
     ghost faults: { Self → ℕ };
 
     /// Ends the session that is still there, and waits for a peer. After an error no session is
-    /// there.
+    /// there. A call that failed adds a session without bytes, and want of memory adds none.
     fn accept(&mut self) -> Result<(), IoFault>
+        ensures sessions { sessions self.new ≡ option_map (sessions_after None result) (sessions self.old) }
         ensures session { is_open self.new ≡ is_ok result }
         ensures accepts { accepts self.new ≡ raised (accepts self.old) }
         ensures cause { HasCause (faults self.old) (faults self.new) result }
@@ -161,8 +172,10 @@ pub trait Door {
         ensures ends { ends self.new ≡ ends self.old };
 
     /// Ends the session that is still there, and calls the peer at this address. After an error no
-    /// session is there.
+    /// session is there. A call that failed adds a session without bytes, and want of memory adds
+    /// none.
     fn dial(&mut self, address: &str) -> Result<(), IoFault>
+        ensures sessions { sessions self.new ≡ option_map (sessions_after (Some address.now) result) (sessions self.old) }
         ensures session { is_open self.new ≡ is_ok result }
         ensures dials { dials self.new ≡ raised (dials self.old) }
         ensures cause { HasCause (faults self.old) (faults self.new) result }
@@ -174,6 +187,7 @@ pub trait Door {
     /// the peer's end or for an empty `buf`. Where no session is there it is an error.
     fn read(&mut self, buf: &mut [u8]) -> Result<usize, IoFault>
         ensures bound { ReadsAtMost result buf.new }
+        ensures sessions { sessions self.new ≡ option_map (in_session (is_open self.old) (after_read result buf.new)) (sessions self.old) }
         ensures none { is_open self.old ≡ false → IsErr result }
         ensures ends { ends self.new ≡ ends_after (ends self.old) result buf.new }
         ensures cause { HasCause (faults self.old) (faults self.new) result }
@@ -183,9 +197,11 @@ pub trait Door {
         ensures dials { dials self.new ≡ dials self.old };
 
     /// Sends the first bytes of the piece, and answers how many. That is at least 1 unless the piece
-    /// is empty. Where no session is there it is an error.
+    /// is empty. Where no session is there it is an error. After an error nothing of the piece is
+    /// sent.
     fn write(&mut self, bytes: &[u8]) -> Result<usize, IoFault>
         ensures some { TakesSome result bytes.now }
+        ensures sessions { sessions self.new ≡ option_map (in_session (is_open self.old) (after_write result bytes.now)) (sessions self.old) }
         ensures none { is_open self.old ≡ false → IsErr result }
         ensures cause { HasCause (faults self.old) (faults self.new) result }
 
@@ -197,6 +213,7 @@ pub trait Door {
     /// Ends the session, if one is there.
     fn hang_up(&mut self)
         ensures session { is_open self.new ≡ false }
+        ensures sessions { sessions self.new ≡ sessions self.old }
         ensures faults { faults self.new ≡ faults self.old }
 
         ensures accepts { accepts self.new ≡ accepts self.old }
@@ -206,13 +223,18 @@ pub trait Door {
 
 /// What takes the decided blocks, in order.
 pub trait Consumer: Drop {
+    /// The blocks taken so far and how often it was finished, where that is told.
+    ghost consumed: { Self → Option Consumed };
+
     ghost faults: { Self → ℕ };
 
-    /// Takes the value of the decided block at this height.
+    /// Takes the value of the decided block at this height. After an error it is not taken.
     fn take(&mut self, height: u64, value: &[u8]) -> Result<(), IoFault>
+        ensures consumed { consumed self.new ≡ option_map (after_take height value.now result) (consumed self.old) }
         ensures cause { HasCause (faults self.old) (faults self.new) result };
 
     /// Is told that no block follows.
     fn finish(&mut self) -> Result<(), IoFault>
+        ensures consumed { consumed self.new ≡ option_map (after_finish result) (consumed self.old) }
         ensures cause { HasCause (faults self.old) (faults self.new) result };
 }

@@ -174,7 +174,7 @@ fn give(bytes: &[u8], given: usize, piece: usize, buf: &mut [u8]) -> Option<usiz
 }
 
 /// The bytes behind those that were given.
-fn rest_of(bytes: &[u8], given: usize) -> &[u8]
+pub(crate) fn rest_of(bytes: &[u8], given: usize) -> &[u8]
     ensures { result.now ≡ drop given bytes.now }
 {
     if given < bytes.len() {
@@ -185,7 +185,7 @@ fn rest_of(bytes: &[u8], given: usize) -> &[u8]
 }
 
 /// Copies the first `count` bytes.
-fn copy_front(from: &[u8], to: &mut [u8], count: usize)
+pub(crate) fn copy_front(from: &[u8], to: &mut [u8], count: usize)
     requires in_from { count ≤ length from.now }
     requires in_to { count ≤ length to.old }
     ensures { take count to.new ≡ take count from.now }

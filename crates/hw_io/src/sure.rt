@@ -1,15 +1,13 @@
 //! The outside that fails only where its rules say so.
-ghost use Rattle.std.specs.Prelude.{◌≡◌, ◌≢◌, ◌↔◌, ◌^◌, ◌≤◌, ◌⊎◌, ℕ, List, [], true, false, Ok, Some, None, length, IsTrue, IsSome, IsNone, IsOk, IsErr, OnOk, OnErr, IfOk};
+ghost use Rattle.std.specs.Prelude.{◌≡◌, ◌≢◌, ◌↔◌, ◌^◌, ◌≤◌, ◌⊎◌, ℕ, List, [], true, Some, None, IsTrue, IsSome, IsNone, IsOk, IsErr, OnOk, OnErr, IfOk};
 ghost use Rattle.std.specs.Option.{option_copied};
 ghost use Rattle.std.specs.Io.KnownBytes.{ReadConsumes};
 ghost use Rattle.std.specs.Io.{ReadsAtMost};
 ghost use Rattle.hw_io.specs.Faults.{HasCause, raised};
 ghost use Rattle.hw_io.specs.Files.{SameFiles, IsAnswer, Begins, Appended, Spends};
-ghost use Rattle.hw_io.specs.Sinks.{TakesSome};
-ghost use Rattle.hw_io.specs.Doors.{ends_after};
 ghost use Rattle.hw_io.specs.Sure.{sure_held, sure_begun, sure_unread, sure_allowance, sure_read_faults, sure_taken};
 
-use crate::outside::{Door, Files, IoFault, Sink};
+use crate::outside::{Files, IoFault, Sink};
 use crate::shelf::Shelf;
 use std::alloc::{AllocError, Global};
 
@@ -174,113 +172,5 @@ impl Sink for SureSink {
                 Err(IoFault::OutOfMemory)
             }
         }
-    }
-}
-
-/// A door at which each peer comes, says nothing and takes all. Reads and writes fail only where no
-/// session is there.
-#[derive(Drop)]
-pub struct SureDoor {
-    is_open: bool,
-    accepts: u64,
-    dials: u64,
-    ends: u64,
-    faults: u64,
-}
-
-impl SureDoor {
-    /// No session is there, and all numbers are 0.
-    pub fn new() -> SureDoor
-        ensures { result ≡ record { is_open = false; accepts = 0; dials = 0; ends = 0; faults = 0 } }
-    {
-        SureDoor {
-            is_open: false,
-            accepts: 0,
-            dials: 0,
-            ends: 0,
-            faults: 0,
-        }
-    }
-
-    /// How often a rule made a call fail.
-    pub fn faults(&self) -> u64
-        ensures { result ≡ self.now.faults }
-    {
-        self.faults
-    }
-}
-
-impl Door for SureDoor {
-    ghost is_open = { λ door. door.is_open };
-
-    ghost accepts = { λ door. door.accepts };
-
-    ghost dials = { λ door. door.dials };
-
-    ghost ends = { λ door. door.ends };
-
-    ghost faults = { λ door. door.faults };
-
-    fn accept(&mut self) -> Result<(), IoFault>
-        ensures sure { IsOk result }
-        ensures rest { self.new ≡ record self.old { is_open = true; accepts = raised self.old.accepts } }
-    {
-        self.is_open = true;
-        self.accepts = self.accepts.saturating_add(1);
-        Ok(())
-    }
-
-    fn dial(&mut self, _address: &str) -> Result<(), IoFault>
-        ensures sure { IsOk result }
-        ensures rest { self.new ≡ record self.old { is_open = true; dials = raised self.old.dials } }
-    {
-        self.is_open = true;
-        self.dials = self.dials.saturating_add(1);
-        Ok(())
-    }
-
-    fn read(&mut self, buf: &mut [u8]) -> Result<usize, IoFault>
-        ensures sure { self.old.is_open ≡ true → result ≡ Ok 0 }
-        ensures count { self.old.is_open ≡ true → self.new.faults ≡ self.old.faults }
-
-        ensures bound { ReadsAtMost result buf.new }
-        ensures none { self.old.is_open ≡ false → IsErr result }
-        ensures ends { self.new.ends ≡ ends_after self.old.ends result buf.new }
-        ensures cause { HasCause self.old.faults self.new.faults result }
-        ensures session { self.new.is_open ≡ self.old.is_open }
-        ensures accepts { self.new.accepts ≡ self.old.accepts }
-        ensures dials { self.new.dials ≡ self.old.dials }
-    {
-        if !self.is_open {
-            self.faults = self.faults.saturating_add(1);
-            return Err(IoFault::Failed);
-        }
-        if !buf.is_empty() {
-            self.ends = self.ends.saturating_add(1);
-        }
-        Ok(0)
-    }
-
-    fn write(&mut self, bytes: &[u8]) -> Result<usize, IoFault>
-        ensures sure { self.old.is_open ≡ true → result ≡ Ok (length bytes.now) }
-        ensures count { self.old.is_open ≡ true → self.new.faults ≡ self.old.faults }
-
-        ensures some { TakesSome result bytes.now }
-        ensures none { self.old.is_open ≡ false → IsErr result }
-        ensures cause { HasCause self.old.faults self.new.faults result }
-        ensures session { self.new.is_open ≡ self.old.is_open }
-        ensures accepts { self.new.accepts ≡ self.old.accepts }
-        ensures dials { self.new.dials ≡ self.old.dials }
-        ensures ends { self.new.ends ≡ self.old.ends }
-    {
-        if !self.is_open {
-            self.faults = self.faults.saturating_add(1);
-            return Err(IoFault::Failed);
-        }
-        Ok(bytes.len())
-    }
-
-    fn hang_up(&mut self) {
-        self.is_open = false;
     }
 }

@@ -1,7 +1,6 @@
 //! Lines of words.
 
 use crate::logs::{both, copied, counted, cuts, faults, missing};
-use crate::outside::{buffered, clock_text, door_text, files_text, sink_text};
 use hw_types::OutOfMemory;
 use std::alloc::Global;
 
@@ -23,11 +22,6 @@ pub fn answer(alloc: Global, line: &str) -> Result<String, OutOfMemory> {
         ["cuts", parts] => cuts(alloc, parts),
         ["faults", parts] => faults(alloc, parts),
         ["other", parts] => missing(alloc, parts),
-        ["files", kind] => files_text(alloc, kind),
-        ["sink", call] => sink_text(alloc, call.parse().ok()),
-        ["buffer", piece] => buffered(alloc, number(piece)),
-        ["door"] => door_text(alloc),
-        ["clock", moments] => clock_text(alloc, moments),
         _ => Ok(String::new(alloc)),
     }
 }

@@ -1,4 +1,4 @@
-//! What the log reader, the log writer and the outside in memory answer for the lines of its input.
+//! What the log reader and the log writer answer for the lines of its input.
 //!
 //! PARTS are letters, one for each part of a log: `H` a header of three validators of weight 1, `A` their first
 //! block, `B` a unit that cites it, `C` and `D` two units that cite both, `E` an evidence of `A`'s unit and another, `0` a byte 0; `h` the header in version 2, and
@@ -13,12 +13,10 @@
 //! | `cuts PARTS` | each length from which a cut log is answered in another way |
 //! | `faults PARTS` | how many calls a reading takes, and how many of them, failing alone, end as a read fault |
 //! | `other PARTS` | what reading a file that isn't there answers |
-//! | `files KIND`, `sink CALL`, `buffer PIECE`, `door`, `clock MOMENTS` | what the outside in memory answers |
 #![tactic(auto)]
 
 mod lines;
 mod logs;
-mod outside;
 
 use std::io;
 
