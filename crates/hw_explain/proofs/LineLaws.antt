@@ -32,7 +32,7 @@ joined w [] = sym (append-nil w)
 joined w (v ∷ vs) = ap (λ l. w ++ (32 ∷ l)) (joined v vs)
 
 -- words behind others
-joined_on : (w : List ℕ) (ws more : List (List ℕ)) → join_with_byte 32 ((w ∷ ws) ++ more) ≡ join_with_byte 32 (w ∷ ws) ++ flat_map spaced more
+pub joined_on : (w : List ℕ) (ws more : List (List ℕ)) → join_with_byte 32 ((w ∷ ws) ++ more) ≡ join_with_byte 32 (w ∷ ws) ++ flat_map spaced more
 joined_on w ws more =
     joined w (ws ++ more) ∙ ap (λ l. w ++ l) (flat_map-append spaced ws more) ∙ sym (append_assoc w (flat_map spaced ws) (flat_map spaced more))
     ∙ ap (λ l. l ++ flat_map spaced more) (sym (joined w ws))

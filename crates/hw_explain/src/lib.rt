@@ -15,4 +15,5 @@ mod told;
 pub use explain::explain_line;
 pub use lines::{Counts, put_counts, put_exceeded, put_faulty, put_final, put_fork};
 pub use logs::explain_log;
-pub use reports::report;
+pub use reports::{faulty, report};
+pub use summit::put_summit;

@@ -42,7 +42,7 @@ fn counts(core: &Core, refused: u64, repeats: u64) -> Counts
 
 /// The faulty validators, in rising order.
 #[tactic(auto, using(crate::proofs::ReportLaws::filter_passed, crate::proofs::ReportLaws::filter_left))]
-fn faulty(alloc: Global, core: &Core) -> Result<Vec<u32>, OutOfMemory>
+pub fn faulty(alloc: Global, core: &Core) -> Result<Vec<u32>, OutOfMemory>
     ensures { IfOk result (λ faulty. faulty.items ≡ faulty_in core.now.config (received_in core.now)) }
 {
     let mut faulty = Vec::new(alloc);

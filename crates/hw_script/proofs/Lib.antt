@@ -1,0 +1,5 @@
+pub mod LineLaws
+pub mod ToldLaws
+pub mod AnswerLaws
+pub mod ShowLaws
+pub mod RunLaws

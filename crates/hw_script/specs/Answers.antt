@@ -1,0 +1,67 @@
+-- What a delivery is answered, as text.
+-- Source: ours.
+use Rattle.std.specs.Prelude.{ℕ, List, [], ◌++◌, codes, Result, Ok, Err}
+use Rattle.hw_types.specs.declared.answers.Receipt.{Receipt}
+use Rattle.hw_types.specs.declared.answers.Receipt.TheVariants as receipt
+use Rattle.hw_types.specs.declared.answers.Cause.{Cause}
+use Rattle.hw_types.specs.declared.answers.Cause.TheVariants as cause
+use Rattle.hw_types.specs.declared.answers.PairFault.{PairFault}
+use Rattle.hw_types.specs.declared.answers.PairFault.TheVariants as pair
+use Rattle.hw_types.specs.declared.answers.Rule.{Rule}
+use Rattle.hw_types.specs.declared.answers.Rule.TheVariants.{WrongInstance, UnknownCreator, PanoramaLength, FaultySelf, FirstSequence, RoundExponent, EndorsedOrder, NoBlock, SlotCreator, SequenceNumber, Inconsistent, TimeGoesBack, RoundChange, ThirdInRound, NotLeader, EndorsedShrinks, EndorsedUnseen, Naive, AfterTerminal}
+use Rattle.hw_text.specs.Text.{number_text, rule_text}
+
+-- the number of a rule, in the order in which they are tested
+unfoldable pub rule_number : Rule → ℕ
+rule_number WrongInstance = 1
+rule_number UnknownCreator = 2
+rule_number PanoramaLength = 3
+rule_number FaultySelf = 4
+rule_number FirstSequence = 5
+rule_number RoundExponent = 6
+rule_number EndorsedOrder = 7
+rule_number NoBlock = 8
+rule_number SlotCreator = 9
+rule_number SequenceNumber = 10
+rule_number Inconsistent = 11
+rule_number TimeGoesBack = 12
+rule_number RoundChange = 13
+rule_number ThirdInRound = 14
+rule_number NotLeader = 15
+rule_number EndorsedShrinks = 16
+rule_number EndorsedUnseen = 17
+rule_number Naive = 18
+rule_number AfterTerminal = 19
+
+-- its number and its name
+abbrev pub numbered_rule : Rule → List ℕ
+numbered_rule r = number_text (rule_number r) ++ (codes " " ++ rule_text r)
+
+-- what is wrong with a pair
+unfoldable pub pair_text : PairFault → List ℕ
+pair_text pair.Creator = codes "creator"
+pair_text pair.Sequence = codes "sequence"
+pair_text pair.Instance = codes "instance"
+pair_text pair.Same = codes "same"
+
+-- why a vertex is refused; no signature of a script is wrong
+unfoldable pub cause_text : Cause → List ℕ
+cause_text (cause.Local r) = codes "local " ++ numbered_rule r
+cause_text (cause.Pair f) = codes "pair " ++ pair_text f
+cause_text (cause.Clash d) = codes "clash"
+cause_text cause.RecordsFull = codes "records full"
+cause_text cause.ParkFull = codes "parked full"
+cause_text cause.BadSignature = []
+cause_text cause.OutOfMemory = []
+
+-- what became of a vertex
+unfoldable pub receipt_text : Receipt → List ℕ
+receipt_text (receipt.Admitted n) = codes "admitted " ++ number_text n
+receipt_text (receipt.Parked n) = codes "parked " ++ number_text n
+receipt_text (receipt.Dropped r) = codes "dropped " ++ numbered_rule r
+receipt_text receipt.Repeat = codes "repeat"
+
+-- what a delivery is answered
+abbrev pub answer_text : Result Receipt Cause → List ℕ
+answer_text (Ok r) = receipt_text r
+answer_text (Err c) = codes "refused " ++ cause_text c

@@ -1,0 +1,4 @@
+pub mod Answers
+pub mod Shows
+pub mod Told
+pub mod Output

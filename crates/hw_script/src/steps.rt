@@ -1,0 +1,164 @@
+//! The steps of a script, done on a node.
+
+ghost use Rattle.std.specs.Prelude.{◌≡◌, ◌++◌, [], true, codes, Err, IfOk, OnOk};
+ghost use Rattle.hw_text.specs.Text.{number_text};
+ghost use Rattle.hw_types.specs.Spelling.{VertexFits};
+ghost use Rattle.hw_types.specs.Real.{setting_of, answer_in, after_in};
+ghost use Rattle.hw_script_grammar.specs.Fits.{ActFits};
+ghost use Rattle.hw_script.specs.Output.{endorsement_of, answer_line, act_text, acts_text, journal_behind};
+ghost use Rattle.hw_script.specs.Told.{HasTold};
+ghost use Rattle.hw_types.specs.declared.answers.Cause.TheVariants as Causes;
+
+use crate::answers::put_answer;
+use crate::finals::Finals;
+use crate::shows::{put_faulty_of, put_fork, put_panorama};
+use hw_core::{Core, Refused};
+use hw_script_grammar::{Act, Acts, Named, Names};
+use hw_text::{end_line, put_numbered, put_word};
+use hw_types::{Bytes, Cause, Digest, Endorsement, OutOfMemory, Receipt, Signature, Vertex};
+use std::alloc::Global;
+
+/// Does all steps on a node that has received nothing, and puts what they print last.
+#[tactic(auto, using(crate::proofs::RunLaws::all_steps))]
+pub(crate) fn act_all(
+    alloc: Global,
+    names: &Names,
+    acts: &Acts,
+    core: &mut Core,
+    out: &mut Bytes,
+) -> Result<(), OutOfMemory>
+    requires { core.old.journal ≡ [] }
+    ensures { OnOk result (out.new ≡ out.old ++ acts_text names.now (setting_of core.old.config) [] acts.now) }
+{
+    let mut finals = Finals::new(alloc);
+    for place in 0..acts.len() {
+        act(alloc, names, acts.get(place), core, &mut finals, out)?;
+    }
+    Ok(())
+}
+
+/// Does a step, and puts what it prints last.
+#[tactic(auto, using(std::proofs::Common::append_assoc), unfolding(crate::specs::Output::act_text))]
+fn act(
+    alloc: Global,
+    names: &Names,
+    act: &Act,
+    core: &mut Core,
+    finals: &mut Finals,
+    out: &mut Bytes,
+) -> Result<(), OutOfMemory>
+    requires told { HasTold names.now finals.old core.old }
+    requires fits { ActFits act.now }
+    ensures told { OnOk result (HasTold names.now finals.new core.new) }
+    ensures out { OnOk result (out.new ≡ out.old ++ act_text names.now (setting_of core.old.config) core.old.journal act.now) }
+    ensures core { OnOk result (core.new ≡ record core.old { journal = journal_behind (setting_of core.old.config) core.old.journal act.now }) }
+{
+    match act {
+        Act::Deliver(named) => deliver(alloc, names, named, core, finals, out),
+        Act::Endorse(name, unit, endorser) => {
+            put_endorsed(out, name.as_slice(), *endorser)?;
+            take(
+                alloc,
+                names,
+                endorsement_of(*unit, *endorser),
+                core,
+                finals,
+                out,
+            )
+        }
+        Act::ShowFork => put_fork(out, names, core.fork()),
+        Act::ShowPanorama => put_panorama(out, names, core),
+        Act::ShowFaulty => put_faulty_of(alloc, out, core),
+        Act::ShowFinal => finals.show(names, out, core),
+    }
+}
+
+/// Delivers what is defined under a name.
+#[tactic(auto, using(std::proofs::Common::append_assoc))]
+fn deliver(
+    alloc: Global,
+    names: &Names,
+    named: &Named,
+    core: &mut Core,
+    finals: &mut Finals,
+    out: &mut Bytes,
+) -> Result<(), OutOfMemory>
+    requires told { HasTold names.now finals.old core.old }
+    requires fits { VertexFits named.now.vertex }
+    ensures told { OnOk result (HasTold names.now finals.new core.new) }
+    ensures out { OnOk result (out.new ≡ out.old ++ (named.now.name ++ (codes " " ++ answer_line (setting_of core.old.config) core.old.journal named.now.vertex))) }
+    ensures core { OnOk result (core.new ≡ after_in core.old named.now.vertex true) }
+{
+    out.extend(named.name.as_slice())?;
+    put_word(out, " ")?;
+    let vertex = named.vertex.copy()?;
+    take(alloc, names, vertex, core, finals, out)
+}
+
+/// Puts the words before the answer to an endorsement of the unit of this name last.
+#[tactic(auto, using(std::proofs::Common::append_assoc))]
+fn put_endorsed(out: &mut Bytes, name: &[u8], endorser: u32) -> Result<(), OutOfMemory>
+    ensures { OnOk result (out.new ≡ out.old ++ (codes "endorse " ++ (name.now ++ (codes " " ++ (number_text endorser ++ codes " "))))) }
+{
+    put_word(out, "endorse ")?;
+    out.extend(name)?;
+    put_numbered(out, " ", u64::from(endorser))?;
+    put_word(out, " ")
+}
+
+/// Delivers the vertex, and puts what it is answered last, to the end of the line.
+#[tactic(auto, using(std::proofs::Common::append_assoc, crate::proofs::ToldLaws::behind_after))]
+fn take(
+    alloc: Global,
+    names: &Names,
+    vertex: Vertex,
+    core: &mut Core,
+    finals: &mut Finals,
+    out: &mut Bytes,
+) -> Result<(), OutOfMemory>
+    requires told { HasTold names.now finals.old core.old }
+    requires fits { VertexFits vertex }
+    ensures told { OnOk result (HasTold names.now finals.new core.new) }
+    ensures out { OnOk result (out.new ≡ out.old ++ answer_line (setting_of core.old.config) core.old.journal vertex) }
+    ensures core { OnOk result (core.new ≡ after_in core.old vertex true) }
+{
+    let answer = answer_of(core, vertex)?;
+    put_answer(out, answer)?;
+    end_line(out)?;
+    finals.tell(alloc, names, core)
+}
+
+/// Delivers the vertex, and says what it is answered.
+#[tactic(auto, using(crate::proofs::AnswerLaws::refusal_is, crate::proofs::AnswerLaws::refused_stays))]
+fn answer_of(core: &mut Core, vertex: Vertex) -> Result<Result<Receipt, Cause>, OutOfMemory>
+    requires { VertexFits vertex }
+    ensures answer { IfOk result (λ answer. answer ≡ answer_in core.old vertex true) }
+    ensures core { OnOk result (core.new ≡ after_in core.old vertex true) }
+{
+    match core.deliver(vertex, true) {
+        Ok(receipt) => Ok(Ok(receipt)),
+        Err(Refused { cause, .. }) => cause_of(cause),
+    }
+}
+
+/// The cause, unless there was no memory.
+fn cause_of(cause: Cause) -> Result<Result<Receipt, Cause>, OutOfMemory>
+    ensures cause { IfOk result (λ answer. answer ≡ Err cause) }
+    ensures known { IfOk result (λ _. cause ≡ Causes.OutOfMemory → ⊥) }
+{
+    match cause {
+        Cause::OutOfMemory => Err(OutOfMemory),
+        cause => Ok(Err(cause)),
+    }
+}
+
+/// The endorsement of a unit, signed with zeros.
+fn endorsement_of(unit: Digest, endorser: u32) -> Vertex
+    ensures { result ≡ endorsement_of unit endorser }
+{
+    Vertex::Endorsement(Endorsement {
+        unit,
+        endorser,
+        signature: Signature([0; 32]),
+    })
+}

@@ -1,0 +1,12 @@
+pub mod Pieces
+pub mod NumberLaws
+pub mod LineLaws
+pub mod EachLaws
+pub mod HeadLaws
+pub mod FitLaws
+pub mod NextLaws
+pub mod OrderLaws
+pub mod ValueLaws
+pub mod ActLaws
+pub mod BodyLaws
+pub mod FormatLaws

@@ -1,0 +1,14 @@
+pub mod Numbers
+pub mod Words
+pub mod Wording
+pub mod Texts
+pub mod Lines
+pub mod Settings
+pub mod Names
+pub mod Units
+pub mod Fits
+pub mod Acts
+pub mod Body
+pub mod Script
+pub mod Answers
+pub mod Samples

@@ -1,0 +1,92 @@
+//! What a script does, step by step.
+
+ghost use Rattle.std.specs.Prelude.{◌≡◌, ◌<◌, ◌++◌, ◌∷◌, [], Some, slice_get, length, OnOk, OnErr};
+ghost use Rattle.hw_script_grammar.specs.Fits.{ActFits};
+
+use crate::named::Named;
+use hw_types::{Bytes, Digest, OutOfMemory};
+use std::alloc::Global;
+use std::marker::Model;
+
+/// What a script does.
+#[derive(Drop)]
+pub enum Act {
+    /// A vertex is delivered.
+    Deliver(Named),
+    /// An endorsement by this validator is delivered, of the unit of this name and digest.
+    Endorse(Bytes, Digest, u32),
+    /// The fork choice is shown.
+    ShowFork,
+    /// What the node observes of each validator is shown.
+    ShowPanorama,
+    /// The faulty validators are shown.
+    ShowFaulty,
+    /// The final blocks are shown.
+    ShowFinal,
+}
+
+/// What is done, in order. Contracts see a list. Each vertex keeps the limits of its format.
+#[derive(Drop)]
+pub struct Acts {
+    items: Vec<Act>,
+}
+
+impl Model for Acts {
+    ghost use Rattle.std.specs.Prelude.{List};
+    ghost use Rattle.hw_script_grammar.specs.declared.acts.Act.{Act};
+    ghost use Rattle.hw_script_grammar.specs.Fits.{AllActsFit};
+
+    ghost Value = { List Act };
+
+    ghost view = { λ acts. acts.items.items };
+
+    ghost invariant = { λ acts. AllActsFit acts.items.items };
+}
+
+impl Acts {
+    /// Nothing is done.
+    pub(crate) fn new(alloc: Global) -> Acts
+        ensures { result ≡ [] }
+    {
+        Acts {
+            items: Vec::new(alloc),
+        }
+    }
+
+    /// Puts one more last. Where there is no memory, all stays as it was.
+    #[tactic(auto, using(crate::proofs::ActLaws::fit_more))]
+    pub(crate) fn push(&mut self, act: Act) -> Result<(), OutOfMemory>
+        requires { ActFits act }
+        ensures ok { OnOk result (self.new ≡ self.old ++ act ∷ []) }
+        ensures err { OnErr result (self.new ≡ self.old) }
+    {
+        self.items.push(act)?;
+        Ok(())
+    }
+
+    /// Puts all of these last.
+    #[tactic(auto, using(crate::proofs::ActLaws::fit_all))]
+    pub(crate) fn append(&mut self, mut acts: Acts) -> Result<(), OutOfMemory>
+        ensures { OnOk result (self.new ≡ self.old ++ acts) }
+    {
+        self.items.append(&mut acts.items)?;
+        Ok(())
+    }
+
+    /// How many there are.
+    pub fn len(&self) -> usize
+        ensures { result ≡ length self.now }
+    {
+        self.items.len()
+    }
+
+    /// The one at this place.
+    #[tactic(auto, using(crate::proofs::ActLaws::fit_at))]
+    pub fn get(&self, place: usize) -> &Act
+        requires { place < length self.now }
+        ensures act { slice_get self.now place ≡ Some result.now }
+        ensures fits { ActFits result.now }
+    {
+        &self.items[place]
+    }
+}

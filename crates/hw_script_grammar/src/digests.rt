@@ -1,0 +1,106 @@
+//! The list of endorsed units that a unit relies on.
+
+ghost use Rattle.std.specs.Prelude.{◌≡◌, ◌+◌, ◌≤◌, length, not, position, IfOk, OnOk};
+ghost use Rattle.hw_types.specs.Graph.{digest_lt};
+ghost use Rattle.hw_script_grammar.specs.Words.{each, one_or_more};
+ghost use Rattle.hw_script_grammar.specs.Names.{digest_as};
+ghost use Rattle.hw_script_grammar.specs.Units.{put_digest, in_order, endorsed_names, unit_endorsed};
+ghost use Rattle.hw_script_grammar.specs.Answers.{Gives};
+
+use crate::fault::Fault;
+use crate::names::Names;
+use crate::words::Words;
+use hw_types::{Digest, DigestList, OutOfMemory};
+use std::alloc::Global;
+
+/// The most digests in a unit's list.
+const MAX_ENDORSED: usize = 256;
+
+/// `endorsed NAME` and more, perhaps.
+#[tactic(auto, unfolding(crate::specs::Units::unit_endorsed))]
+pub(crate) fn unit_endorsed(
+    alloc: Global,
+    names: &Names,
+    words: &mut Words<'_>,
+) -> Result<DigestList, Fault>
+    ensures list { Gives (λ list. list) result (unit_endorsed names.now words.old) }
+    ensures fits { IfOk result (λ list. length list ≤ 256) }
+{
+    if words.is_end() {
+        return Ok(DigestList::new(alloc));
+    }
+    words.keyword("endorsed")?;
+    endorsed_names(alloc, names, words)
+}
+
+/// The digests of 1 to 256 names, in rising order.
+#[tactic(auto, unfolding(crate::specs::Units::endorsed_names))]
+fn endorsed_names(alloc: Global, names: &Names, words: &mut Words<'_>) -> Result<DigestList, Fault>
+    ensures list { Gives (λ list. list) result (endorsed_names names.now words.old) }
+    ensures fits { IfOk result (λ list. length list ≤ 256) }
+{
+    let list = some_digests(alloc, names, words)?;
+    if list.len() > MAX_ENDORSED {
+        return Err(Fault::Grammar);
+    }
+    Ok(in_order(alloc, list.as_slice())?)
+}
+
+/// The digests of one or more names.
+#[tactic(auto, using(crate::proofs::EachLaws::some_words, crate::proofs::EachLaws::no_words))]
+fn some_digests(alloc: Global, names: &Names, words: &mut Words<'_>) -> Result<DigestList, Fault>
+    ensures { Gives (λ list. list) result (one_or_more (digest_as names.now) words.old) }
+{
+    if words.is_end() {
+        return Err(Fault::Grammar);
+    }
+    each_digest(alloc, names, words)
+}
+
+/// The digests of the names that the words are.
+#[tactic(auto, using(crate::proofs::EachLaws::goes_on, crate::proofs::EachLaws::stops, crate::proofs::EachLaws::is_done, crate::proofs::EachLaws::begins))]
+fn each_digest(alloc: Global, names: &Names, words: &mut Words<'_>) -> Result<DigestList, Fault>
+    ensures { Gives (λ list. list) result (each (digest_as names.now) words.old) }
+{
+    let mut list = DigestList::new(alloc);
+    while let Some(word) = words.next() {
+        match names.digest(word) {
+            Some(digest) => list.push(digest)?,
+            None => return Err(Fault::Grammar),
+        }
+    }
+    Ok(list)
+}
+
+/// These digests in rising order.
+#[tactic(auto, using(crate::proofs::OrderLaws::one_more))]
+fn in_order(alloc: Global, digests: &[Digest]) -> Result<DigestList, OutOfMemory>
+    ensures order { IfOk result (λ list. list ≡ in_order digests.now) }
+    ensures count { IfOk result (λ list. length list ≡ length digests.now) }
+{
+    let mut list = Vec::new(alloc);
+    for digest in digests {
+        put_digest(&mut list, *digest)?;
+    }
+    Ok(DigestList::from_vec(list))
+}
+
+/// Puts a digest before the first that isn't less.
+#[tactic(auto, using(crate::proofs::OrderLaws::put_last, crate::proofs::OrderLaws::put_there))]
+fn put_digest(list: &mut Vec<Digest>, digest: Digest) -> Result<(), OutOfMemory>
+    ensures order { OnOk result (list.new.items ≡ put_digest digest list.old.items) }
+    ensures count { OnOk result (length list.new.items ≡ length list.old.items + 1) }
+{
+    match first_not_less(list, &digest) {
+        None => list.push(digest)?,
+        Some(place) => list.insert(place, digest)?,
+    }
+    Ok(())
+}
+
+/// The place of the first digest that isn't less.
+fn first_not_less(list: &[Digest], digest: &Digest) -> Option<usize>
+    ensures { result ≡ position (λ e. not (digest_lt e digest.now)) list.now }
+{
+    list.iter().position(|other| !other.comes_before(digest))
+}

@@ -1,0 +1,52 @@
+//! Lines that define evidence.
+
+ghost use Rattle.std.specs.Prelude.{IfOk};
+ghost use Rattle.hw_types.specs.Spelling.{Fits, VertexFits};
+ghost use Rattle.hw_script_grammar.specs.Units.{next_unit, evidence_line};
+ghost use Rattle.hw_script_grammar.specs.Answers.{Gives};
+
+use crate::fault::Fault;
+use crate::named::{Named, unsigned};
+use crate::names::Names;
+use crate::unit::new_name;
+use crate::words::Words;
+use hw_types::{Evidence, Vertex, WireUnit};
+use std::alloc::Global;
+
+/// `NAME of NAME NAME`.
+#[tactic(auto, unfolding(crate::specs::Units::evidence_line))]
+pub(crate) fn evidence_line(
+    alloc: Global,
+    names: &Names,
+    words: &mut Words<'_>,
+) -> Result<Named, Fault>
+    ensures named { Gives (λ named. named) result (evidence_line names.now words.old) }
+    ensures fits { IfOk result (λ named. VertexFits named.vertex) }
+{
+    let name = new_name(alloc, names, words)?;
+    words.keyword("of")?;
+    let left = next_unit(names, words)?;
+    let right = next_unit(names, words)?;
+    words.end()?;
+    Ok(Named {
+        name,
+        vertex: Vertex::Evidence(Evidence {
+            left: unsigned(left),
+            right: unsigned(right),
+        }),
+        digest: None,
+    })
+}
+
+/// The next word, which is the name of a unit.
+#[tactic(auto, unfolding(crate::specs::Units::next_unit))]
+fn next_unit(names: &Names, words: &mut Words<'_>) -> Result<WireUnit, Fault>
+    ensures unit { Gives (λ unit. (unit, words.new)) result (next_unit names.now words.old) }
+    ensures fits { IfOk result Fits }
+{
+    let word = words.word()?;
+    match names.unit(word) {
+        Some(unit) => Ok(unit.copy()?),
+        None => Err(Fault::Grammar),
+    }
+}

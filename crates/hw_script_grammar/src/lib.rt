@@ -1,0 +1,33 @@
+//! The grammar of scripts.
+//!
+//! A script is a text that sets a configuration, defines units and evidence by name, and says what is
+//! delivered and shown. Reading one gives the configuration, all that is defined, and what is done, step by
+//! step; or the number of the first line outside the grammar. `specs/` says the same over the text's bytes.
+#![tactic(auto)]
+
+mod acts;
+mod adds;
+mod body;
+mod citation;
+mod digests;
+mod evidence;
+mod fault;
+mod head;
+mod lines;
+mod lists;
+mod named;
+mod names;
+mod numbers;
+mod samples;
+mod script;
+mod setting;
+mod unit;
+mod wording;
+mod words;
+
+pub use acts::{Act, Acts};
+pub use fault::ScriptError;
+pub use named::Named;
+pub use names::Names;
+pub use samples::small_scripts_are_read;
+pub use script::{Script, read_script};

@@ -1,0 +1,64 @@
+//! Lists of numbers to the end of a line.
+
+ghost use Rattle.std.specs.Prelude.{◌^◌};
+ghost use Rattle.hw_script_grammar.specs.Numbers.{number_below};
+ghost use Rattle.hw_script_grammar.specs.Words.{one_or_more, each};
+ghost use Rattle.hw_script_grammar.specs.Answers.{Gives};
+
+use crate::fault::Fault;
+use crate::numbers::number_up_to;
+use crate::words::Words;
+use hw_types::{IndexList, WeightList};
+use std::alloc::Global;
+
+/// One or more numbers below 2^64.
+#[tactic(auto, using(crate::proofs::EachLaws::some_words, crate::proofs::EachLaws::no_words))]
+pub(crate) fn weights(alloc: Global, words: &mut Words<'_>) -> Result<WeightList, Fault>
+    ensures { Gives (λ list. list) result (one_or_more (number_below (2 ^ 64)) words.old) }
+{
+    if words.is_end() {
+        return Err(Fault::Grammar);
+    }
+    each_weight(alloc, words)
+}
+
+/// The numbers below 2^64 that the words are.
+#[tactic(auto, using(crate::proofs::EachLaws::goes_on, crate::proofs::EachLaws::stops, crate::proofs::EachLaws::is_done, crate::proofs::EachLaws::begins))]
+fn each_weight(alloc: Global, words: &mut Words<'_>) -> Result<WeightList, Fault>
+    ensures { Gives (λ list. list) result (each (number_below (2 ^ 64)) words.old) }
+{
+    let mut list = WeightList::new(alloc);
+    while let Some(word) = words.next() {
+        match number_up_to(u64::MAX, word) {
+            Some(number) => list.push(number)?,
+            None => return Err(Fault::Grammar),
+        }
+    }
+    Ok(list)
+}
+
+/// One or more numbers below 2^32.
+#[tactic(auto, using(crate::proofs::EachLaws::some_words, crate::proofs::EachLaws::no_words))]
+pub(crate) fn counts(alloc: Global, words: &mut Words<'_>) -> Result<IndexList, Fault>
+    ensures { Gives (λ list. list) result (one_or_more (number_below (2 ^ 32)) words.old) }
+{
+    if words.is_end() {
+        return Err(Fault::Grammar);
+    }
+    each_count(alloc, words)
+}
+
+/// The numbers below 2^32 that the words are.
+#[tactic(auto, using(crate::proofs::EachLaws::goes_on, crate::proofs::EachLaws::stops, crate::proofs::EachLaws::is_done, crate::proofs::EachLaws::begins))]
+fn each_count(alloc: Global, words: &mut Words<'_>) -> Result<IndexList, Fault>
+    ensures { Gives (λ list. list) result (each (number_below (2 ^ 32)) words.old) }
+{
+    let mut list = IndexList::new(alloc);
+    while let Some(word) = words.next() {
+        match number_up_to(u64::from(u32::MAX), word) {
+            Some(number) => list.push(number as u32)?,
+            None => return Err(Fault::Grammar),
+        }
+    }
+    Ok(list)
+}

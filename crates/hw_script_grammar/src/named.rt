@@ -1,0 +1,89 @@
+//! What a name stands for.
+
+ghost use Rattle.std.specs.Prelude.{◌≡◌, IfOk, IfSome};
+ghost use Rattle.std.specs.Option.{option_copied};
+ghost use Rattle.hw_types.specs.Same.{unit_eq};
+ghost use Rattle.hw_types.specs.Spelling.{Fits, VertexFits};
+ghost use Rattle.hw_script_grammar.specs.Names.{has_name, is_digest, is_unit, unit_in, unsigned};
+
+use hw_types::{Bytes, Digest, OutOfMemory, Signature, SignedUnit, Vertex, WireUnit, is_same_unit};
+
+/// A vertex that is defined in a script.
+#[derive(Drop)]
+pub struct Named {
+    pub name: Bytes,
+    /// It is signed with zeros.
+    pub vertex: Vertex,
+    /// The digest of a unit.
+    pub digest: Option<Digest>,
+}
+
+impl Named {
+    /// The same, once more.
+    pub fn copy(&self) -> Result<Named, OutOfMemory>
+        ensures { IfOk result (λ named. named ≡ self.now) }
+    {
+        let name = self.name.copy()?;
+        Ok(Named {
+            name,
+            vertex: self.vertex.copy()?,
+            digest: self.digest,
+        })
+    }
+
+    /// Whether it has this name.
+    pub(crate) fn has_name(&self, name: &[u8]) -> bool
+        ensures { result ≡ has_name name.now self.now }
+    {
+        self.name.as_slice() == name
+    }
+
+    /// Its unit, where it is one.
+    pub(crate) fn unit(&self) -> Option<&WireUnit>
+        ensures unit { option_copied result ≡ unit_in self.now.vertex }
+        ensures fits { VertexFits self.now.vertex → IfSome result (λ unit. Fits unit.now) }
+    {
+        match &self.vertex {
+            Vertex::Unit(signed) => Some(&signed.unit),
+            Vertex::Evidence(_) | Vertex::Endorsement(_) => None,
+        }
+    }
+
+    /// Whether it is the unit of this digest.
+    pub(crate) fn has_digest(&self, digest: &Digest) -> bool
+        ensures { result ≡ is_digest digest.now self.now.digest }
+    {
+        match &self.digest {
+            None => false,
+            Some(own) => own == digest,
+        }
+    }
+
+    /// Whether it is this unit.
+    pub(crate) fn is_unit(&self, unit: &WireUnit) -> bool
+        ensures { result ≡ is_unit unit.now (unit_in self.now.vertex) }
+    {
+        match &self.vertex {
+            Vertex::Unit(signed) => are_one(&signed.unit, unit),
+            Vertex::Evidence(_) | Vertex::Endorsement(_) => false,
+        }
+    }
+}
+
+/// A unit that is signed with zeros.
+pub(crate) fn unsigned(unit: WireUnit) -> SignedUnit
+    ensures { result ≡ unsigned unit }
+{
+    SignedUnit {
+        unit,
+        signature: Signature([0; 32]),
+    }
+}
+
+/// Whether the two are one unit.
+#[tactic(auto, using(hw_types::proofs::OrderLaws::unit_same, hw_types::proofs::OrderLaws::unit_self))]
+fn are_one(left: &WireUnit, right: &WireUnit) -> bool
+    ensures { result ≡ unit_eq left.now right.now }
+{
+    is_same_unit(left, right)
+}

@@ -1,0 +1,11 @@
+//! Small scripts, read by the definitions.
+
+ghost use Rattle.hw_script_grammar.specs.Samples.{ThatAScriptIsRead, ThatALineIsNamed, ThatALackIsNamed, ThatALimitIsNamed};
+
+/// What the definitions make of four small scripts.
+pub fn small_scripts_are_read()
+    ensures script { ThatAScriptIsRead }
+    ensures line { ThatALineIsNamed }
+    ensures lack { ThatALackIsNamed }
+    ensures limit { ThatALimitIsNamed }
+{}

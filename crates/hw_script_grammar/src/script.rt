@@ -1,0 +1,41 @@
+//! A whole script.
+
+ghost use Rattle.std.specs.Prelude.{◌≡◌, None, IfOk};
+ghost use Rattle.hw_types.specs.Limits.{config_fault};
+ghost use Rattle.hw_script_grammar.specs.Script.{script_of};
+ghost use Rattle.hw_script_grammar.specs.Answers.{Reads};
+
+use crate::acts::Acts;
+use crate::body::read_body;
+use crate::fault::ScriptError;
+use crate::head::{config_or_line, read_head};
+use crate::lines::Lines;
+use crate::names::Names;
+use hw_types::Config;
+use std::alloc::Global;
+
+/// What a script says: its configuration, all that it defines, and what it does.
+#[derive(Drop)]
+pub struct Script {
+    pub config: Config,
+    pub names: Names,
+    pub acts: Acts,
+}
+
+/// Reads a script, whose configuration then keeps its limits. `Line` names the first line outside the
+/// grammar.
+#[tactic(auto, unfolding(crate::specs::Script::script_in))]
+pub fn read_script(alloc: Global, text: &[u8]) -> Result<Script, ScriptError>
+    ensures script { Reads (λ script. script) result (script_of text.now) }
+    ensures lawful { IfOk result (λ script. config_fault script.config ≡ None) }
+{
+    let mut lines = Lines::new(text);
+    let head = read_head(alloc, &mut lines)?;
+    let config = config_or_line(head, &mut lines)?;
+    let said = read_body(alloc, &config, &mut lines)?;
+    Ok(Script {
+        config,
+        names: said.names,
+        acts: said.acts,
+    })
+}
