@@ -1,11 +1,11 @@
 -- What a refusal says.
-use Rattle.std.proofs.Common.{◌≡◌, true, List, Result, Ok, Err, refl, ap}
+use Rattle.std.proofs.Common.{◌≡◌, true, Result, Err, refl, ap}
 use Rattle.hw_types.specs.declared.unit.Vertex.{Vertex}
 use Rattle.hw_types.specs.declared.answers.Receipt.{Receipt}
 use Rattle.hw_types.specs.declared.answers.Cause.{Cause}
 use Rattle.hw_types.specs.declared.answers.Cause.TheVariants as cause
-use Rattle.hw_types.specs.Journal.{answer, is_accepted}
-use Rattle.hw_types.specs.Real.{CoreState, setting_of, answer_in, after_in}
+use Rattle.hw_types.specs.Journal.{is_accepted}
+use Rattle.hw_types.specs.Real.{CoreState, answer_in, after_in}
 use Rattle.hw_core.specs.Deliver.{IsRefusal}
 use Rattle.std.specs.Prelude.{◌++◌, ◌∷◌, [], if◌then◌else◌}
 

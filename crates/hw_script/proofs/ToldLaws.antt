@@ -1,17 +1,14 @@
 -- What is told of final blocks, vertex by vertex.
-use Rattle.std.proofs.Common.{◌≡◌, ◌⊎◌, inl, inr, ℕ, zero, suc, ◌+◌, ◌<◌, ◌≤◌, ◌==◌, Bool, true, false, cond, List, [], ◌∷◌, ◌++◌, length, take, codes, Option, Some, None, refl, sym, ap, subst, ◌∙◌, arith, length-append, append_assoc}
+use Rattle.std.proofs.Common.{◌≡◌, ◌⊎◌, inl, inr, ℕ, ◌+◌, ◌≤◌, ◌==◌, Bool, true, false, cond, List, [], ◌∷◌, ◌++◌, length, take, codes, Some, refl, sym, ap, subst, ◌∙◌, arith, length-append}
 use Rattle.std.specs.Prelude.{slice_get}
 use Rattle.std.specs.List.{flat_map}
-use Rattle.std.proofs.lemmas.Bool.{eqb-true, eq-eqb}
 use Rattle.std.proofs.lemmas.List.{take_all, take-append-le}
 use Rattle.std.proofs.lemmas.Option.{slice_get_within}
 use Rattle.hw_types.specs.declared.unit.Vertex.{Vertex}
-use Rattle.hw_types.specs.declared.config.Config.{Config}
 use Rattle.hw_types.specs.declared.answers.Decision.{Decision}
 use Rattle.hw_types.specs.Below.{Among}
 use Rattle.hw_types.specs.Settled.{Received}
-use Rattle.hw_types.specs.Journal.{Setting, received_of, is_accepted}
-use Rattle.hw_types.specs.Decisions.{received_at}
+use Rattle.hw_types.specs.Journal.{is_accepted}
 use Rattle.hw_types.specs.Real.{CoreState, setting_of, received_in, answer_in, after_in}
 use Rattle.hw_summit.specs.Decided.{decisions_of, decided_in as decided_at}
 use Rattle.hw_chain.proofs.DetectorLaws.{nothing_at_first}

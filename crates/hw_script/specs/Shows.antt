@@ -8,13 +8,13 @@ use Rattle.hw_types.specs.declared.unit.Obs.TheVariants.{Absent, Correct, Faulty
 use Rattle.hw_types.specs.declared.unit.Vertex.{Vertex}
 use Rattle.hw_types.specs.declared.config.Config.{Config}
 use Rattle.hw_types.specs.declared.answers.Decision.{Decision}
-use Rattle.hw_types.specs.Settled.{Received, panorama_of}
+use Rattle.hw_types.specs.Settled.{Received}
 use Rattle.hw_types.specs.Journal.{Setting, received_of}
 use Rattle.hw_types.specs.Decisions.{received_at}
 use Rattle.hw_summit.specs.Decided.{decisions_of}
 use Rattle.hw_text.specs.Text.{number_text}
 use Rattle.hw_text.specs.Lines.{line_feed, line_of, spaced}
-use Rattle.hw_explain.specs.Report.{faulty_line, exceeded_line, faulty_in, fork_in, exceeded_in}
+use Rattle.hw_explain.specs.Report.{exceeded_line, exceeded_in}
 use Rattle.hw_explain.specs.Explain.{committee_of}
 use Rattle.hw_script_grammar.specs.declared.named.Named.{Named}
 use Rattle.hw_script_grammar.specs.Names.{name_of}

@@ -1,4 +1,4 @@
-use Rattle.std.proofs.Common.{◌≡◌, ◌++◌, ◌<◌, ap, ◌∙◌, arith}
+use Rattle.std.proofs.Common.{◌++◌, ap, ◌∙◌, arith}
 use Rattle.hw_script.specs.Shows.{observation_text}
 use Rattle.hw_script.proofs.ShowLaws.{goes_on, is_done}
 use Rattle.hw_script.proofs.shows.put_observations.Goals as goal
