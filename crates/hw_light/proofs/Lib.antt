@@ -1,0 +1,4 @@
+pub mod LengthLaws
+pub mod Loop
+pub mod Readings
+pub mod Spelled

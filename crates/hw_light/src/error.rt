@@ -1,0 +1,37 @@
+//! Why bytes are no certificate.
+
+ghost use Rattle.std.specs.Prelude.{◌≡◌};
+ghost use Rattle.hw_light.specs.declared.error.CertError.TheVariants as CertErrors;
+
+use hw_types::{CodecError, OutOfMemory};
+
+/// Why bytes are no certificate. A number is a place, counted from 0 at the first byte.
+#[derive(Clone, Copy, Debug, PartialEq, Eq)]
+pub enum CertError {
+    /// The bytes don't begin with `HWCT`.
+    BadMagic,
+    /// The version isn't 1.
+    Version(u8),
+    /// The bytes end inside the field that begins here.
+    Torn(u64),
+    /// A configuration or a vertex, whose length stands here, has more than 1,048,576 bytes, or
+    /// there are more than 131,072 vertices, whose count stands here.
+    TooLong(u64),
+    /// The bytes of the configuration are no spelling. The place in it counts from its first byte.
+    BadConfig(CodecError),
+    /// The vertex whose length stands here is no spelling. The place in it counts from its kind
+    /// byte.
+    BadVertex(u64, CodecError),
+    /// The certificate ended, and this is the first byte behind it.
+    Trailing(u64),
+    /// There was no memory.
+    OutOfMemory,
+}
+
+impl From<OutOfMemory> for CertError {
+    ghost from_gives = { λ _ e. e ≡ CertErrors.OutOfMemory };
+
+    fn from(_e: OutOfMemory) -> CertError {
+        CertError::OutOfMemory
+    }
+}
