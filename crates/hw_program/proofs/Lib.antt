@@ -4,6 +4,7 @@ pub mod ConfigLaws
 pub mod VerdictLaws
 pub mod MadeLaws
 pub mod FileLaws
+pub mod ScriptLaws
 pub mod CauseLaws
 pub mod AuditLaws
 pub mod ConflictLaws

@@ -11,6 +11,7 @@ pub data Request : Type 0 where
   Replay : Word → Request
   Explain : Word → Request
   Audit : Word → Word → Request
+  Script : Word → Request
 
 -- no word is empty or begins with `-`
 abbrev pub is_word : Word → Bool
@@ -22,6 +23,7 @@ abbrev pub of_one : Word → Word → Option Request
 of_one command a =
     if bytes_eq command (codes "replay") then Some (Replay a)
     else if bytes_eq command (codes "explain") then Some (Explain a)
+    else if bytes_eq command (codes "script") then Some (Script a)
     else None
 
 -- of two words behind the command
@@ -48,3 +50,4 @@ OnlyReads None = Unit {0}
 OnlyReads (Some (Replay log)) = Unit {0}
 OnlyReads (Some (Explain log)) = Unit {0}
 OnlyReads (Some (Audit left right)) = Unit {0}
+OnlyReads (Some (Script file)) = Unit {0}

@@ -2,7 +2,7 @@
 use Rattle.std.specs.Prelude.{◌≡◌, ℕ, ◌≤◌, ◌⊎◌, Option, Some, None, Result, Ok, Err}
 use Rattle.hw_io.specs.Faults.{Rose}
 use Rattle.hw_program.specs.declared.ended.Ended.{Ended}
-use Rattle.hw_program.specs.Commands.{Request, Replay, Explain, Audit}
+use Rattle.hw_program.specs.Commands.{Request, Replay, Explain, Audit, Script}
 use Rattle.hw_program.specs.Texts.{usage_line}
 use Rattle.hw_program.specs.declared.ended.RunFault.{RunFault}
 use Rattle.hw_program.specs.declared.ended.RunFault.TheVariants.{Read, OutOfMemory}
@@ -32,3 +32,4 @@ IsEndOf None ended = ended ≡ record { status = 1; text = usage_line }
 IsEndOf (Some (Replay log)) ended = IsReadEnd ended.status
 IsEndOf (Some (Explain log)) ended = IsReadEnd ended.status
 IsEndOf (Some (Audit left right)) ended = IsAuditEnd ended.status
+IsEndOf (Some (Script file)) ended = IsReadEnd ended.status

@@ -2,6 +2,7 @@ pub mod Commands
 pub mod Asked
 pub mod Texts
 pub mod Audited
+pub mod Scripted
 pub mod Conflict
 pub mod Laws
 pub mod Program

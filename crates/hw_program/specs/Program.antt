@@ -9,8 +9,10 @@ use Rattle.hw_replay.specs.Taken.{Taken}
 use Rattle.hw_replay.specs.Replay.{replay_of}
 use Rattle.hw_program.specs.declared.ended.Ended.{Ended}
 use Rattle.hw_program.specs.Texts.{usage_line, read_fault_ended, stopped_ended}
+use Rattle.hw_script.specs.Output.{output_of}
 use Rattle.hw_program.specs.Audited.{audit_ended}
-use Rattle.hw_program.specs.Commands.{Word, Request, Replay, Explain, Audit, request_of}
+use Rattle.hw_program.specs.Scripted.{script_ended}
+use Rattle.hw_program.specs.Commands.{Word, Request, Replay, Explain, Audit, Script, request_of}
 
 -- the bytes held under each name, where there is a file
 abbrev pub Held : Type 0
@@ -72,6 +74,10 @@ audited_against held left right = log_replayed held (Some left.config) right >>=
 abbrev pub audit_said : Held → Word → Word → Part Ended
 audit_said held left right = log_replayed held None left >>= λ l. audited_against held l.core right
 
+-- the output of a script
+abbrev pub script_said : Held → Word → Part Ended
+script_said held file = file_of held file >>= λ bytes. Ok (script_ended file (output_of bytes))
+
 -- ---- the program
 
 -- a request, by what the files hold; each command has its line
@@ -80,6 +86,7 @@ request_said held None = Err (record { status = 1; text = usage_line })
 request_said held (Some (Replay log)) = replay_said held log
 request_said held (Some (Explain log)) = explain_said held log
 request_said held (Some (Audit left right)) = audit_said held left right
+request_said held (Some (Script file)) = script_said held file
 
 -- How a run ends and what it writes, by its words and what the files hold, where nothing of the outside fails and there is memory.
 unfoldable pub run_of : List Word → Held → Ended

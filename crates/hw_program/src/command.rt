@@ -15,6 +15,8 @@ pub enum Command<'w> {
     Explain { log: &'w str },
     /// Takes the vertices of two logs, and tells what the two nodes say of each other.
     Audit { left: &'w str, right: &'w str },
+    /// Delivers what a script says, and tells what becomes of it.
+    Script { file: &'w str },
 }
 
 /// The command that the words ask for, if they are in the grammar.
@@ -39,6 +41,8 @@ fn of_one<'w>(command: &str, word: &'w str) -> Option<Command<'w>>
         Some(Command::Replay { log: word })
     } else if command == "explain" {
         Some(Command::Explain { log: word })
+    } else if command == "script" {
+        Some(Command::Script { file: word })
     } else {
         None
     }

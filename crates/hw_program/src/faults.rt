@@ -88,7 +88,7 @@ pub fn other_config(alloc: Global, name: &str) -> Result<Ended, OutOfMemory>
 }
 
 /// The begin of a line that names a file's fault.
-fn input(alloc: Global, name: &str) -> Result<Bytes, OutOfMemory>
+pub fn input(alloc: Global, name: &str) -> Result<Bytes, OutOfMemory>
     ensures { IfOk result (λ text. text ≡ codes "input " ++ name.now ++ codes ": ") }
 {
     let mut text = Bytes::new(alloc);

@@ -12,6 +12,7 @@ mod faults;
 mod laws;
 mod replay;
 mod run;
+mod script;
 mod texts;
 mod words;
 

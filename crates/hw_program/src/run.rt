@@ -19,6 +19,7 @@ use crate::ended::{CONFLICT, DONE, Ended, OUT_OF_MEMORY, READ_FAULT, RunFault, W
 use crate::explain::explain;
 use crate::faults::usage;
 use crate::replay::replay;
+use crate::script::script;
 use crate::words::Words;
 use hw_io::{Clock, Consumer, Door, Files, IoFault, Sink, write_all};
 use std::alloc::Global;
@@ -102,6 +103,7 @@ fn run<F: Files>(alloc: Global, words: &Words, files: &mut F) -> Result<Ended, R
         Some(Command::Replay { log }) => replay(alloc, files, log),
         Some(Command::Explain { log }) => explain(alloc, files, log),
         Some(Command::Audit { left, right }) => audit_logs(alloc, files, left, right),
+        Some(Command::Script { file }) => script(alloc, files, file),
         None => Ok(usage(alloc)?),
     }
 }

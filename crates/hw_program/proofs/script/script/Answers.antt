@@ -1,0 +1,16 @@
+use Rattle.std.proofs.Common.{sym, ap, ◌∙◌}
+use Rattle.hw_script.specs.Output.{output_of}
+use Rattle.hw_program.specs.Scripted.{script_ended}
+use Rattle.hw_program.proofs.FaultLaws.{counted_same, if_ok}
+use Rattle.hw_program.proofs.ScriptLaws.{scripted}
+use Rattle.hw_program.proofs.script.script.Goals as goal
+
+pub returns-in-Ok-clause-said : goal.returns-in-Ok-clause-said
+returns-in-Ok-clause-said g c = λ tells.
+    let held = g.F.Files.held c.args.files.now in
+    let file = c.args.file.now in
+    if_ok _ _ c.scripted.result c.scripted.ensures.said
+    (λ e is. is ∙ ap (λ t. script_ended file (output_of t)) c.as_slice.ensures ∙ sym (scripted held file c.in-Ok.text (c.in-Ok.ensures.whole tells)))
+
+pub returns-in-Ok-clause-fault : goal.returns-in-Ok-clause-fault
+returns-in-Ok-clause-fault g c = record { later = c.in-Ok.ensures.cause.later; counted = counted_same _ _ c.scripted.result c.in-Ok.ensures.cause.failed c.scripted.ensures.fault }
