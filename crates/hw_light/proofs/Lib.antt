@@ -4,3 +4,4 @@ pub mod Readings
 pub mod Spelled
 pub mod CheckLaws
 pub mod StandingLaws
+pub mod YesLaws

