@@ -1,0 +1,23 @@
+//! What light certificates answer for the lines of its input, one line for each.
+//!
+//! | Line | Answer |
+//! |---|---|
+//! | `read HEX` | how many vertices the certificate has that these bytes spell, and whether it is spelled so again; or the error |
+//! | `check HEX TEXT` | the answer to that certificate with the verdicts by the keys of the text, in which a `/` stands for a line feed |
+//! | `verdicts HEX DIGITS` | the same with these verdicts, a digit 0 or 1 for each vertex |
+#![tactic(auto)]
+
+mod certificates;
+mod lines;
+
+use std::io;
+
+fn main(rt: HostRuntime) -> io::Result<()> {
+    for line in rt.lines(rt.alloc()) {
+        let Ok(text) = lines::answer(rt.alloc(), line?.as_str()) else {
+            return Err(io::ErrorKind::OutOfMemory.into());
+        };
+        println!(rt; "{text}")?;
+    }
+    Ok(())
+}
