@@ -1,5 +1,5 @@
 -- What an action answers and leaves, by what its nodes were given.
-use Rattle.std.proofs.Common.{◌≡◌, ℕ, zero, suc, ◌<◌, ◌≤◌, ◌^◌, Bool, true, false, cond, List, [], ◌∷◌, ◌++◌, length, map, get_or, Option, Some, None, Result, Ok, Err, OnOk, OnErr, refl, sym, ap, subst, ◌∙◌, arith}
+use Rattle.std.proofs.Common.{◌≡◌, ℕ, zero, suc, ◌<◌, Bool, true, false, cond, List, [], ◌∷◌, ◌++◌, length, get_or, Option, Some, None, Result, Ok, Err, OnOk, OnErr, refl, sym, ap, subst, ◌∙◌, arith}
 use Rattle.std.specs.Prelude.{slice_get}
 use Rattle.std.proofs.lemmas.List.{length-map}
 use Rattle.hw_types.specs.declared.unit.Vertex.{Vertex}
@@ -14,7 +14,7 @@ use Rattle.hw_honest.specs.declared.cluster.Action.{Action}
 use Rattle.hw_honest.specs.declared.cluster.Action.TheVariants.{Step, Deliver, Forge}
 use Rattle.hw_honest.specs.declared.cluster.Acted.{Acted}
 use Rattle.hw_honest.specs.declared.cluster.Acted.TheVariants.{Idle, NotSent, NotAllowed, Forged}
-use Rattle.hw_honest.specs.Cluster.{Cluster, with_sent, journal_at, answer_at, after_delivery, plan_at, signed, is_admitted, after_own, is_foreign, heard, outcome, acted, after}
+use Rattle.hw_honest.specs.Cluster.{Cluster, with_sent, answer_at, after_delivery, plan_at, signed, is_admitted, after_own, is_foreign, heard, outcome, acted, after}
 use Rattle.hw_cluster.specs.Nodes.{ClusterState, nodes_in, CanAct, acted_in, left_by, nodes_of, state_of, HaveConfig, AllFit, IsSound, AreNodes, plan_in}
 use Rattle.hw_cluster.proofs.NodesLaws.{core_is, core_journal, journal_fit, sound_after}
 

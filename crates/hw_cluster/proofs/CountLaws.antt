@@ -1,8 +1,7 @@
 -- What is counted of a cluster.
-use Rattle.std.proofs.Common.{◌≡◌, ℕ, zero, suc, ◌+◌, ◌<◌, ◌≤◌, ◌⊎◌, inl, inr, Bool, true, false, cond, List, [], ◌∷◌, ◌++◌, length, map, get_or, take, drop, refl, sym, ap, subst, ◌∙◌, arith}
-use Rattle.std.specs.Prelude.{◌&&◌, ◌||◌, ◌==◌, not, filter, flat_map, fold, Option, Some, None, max}
+use Rattle.std.proofs.Common.{◌≡◌, ℕ, ◌+◌, ◌<◌, ◌≤◌, inl, inr, Bool, true, false, cond, List, [], ◌∷◌, length, map, get_or, take, drop, refl, sym, ap, subst, ◌∙◌, arith}
+use Rattle.std.specs.Prelude.{◌&&◌, ◌||◌, ◌==◌, not, filter, max}
 use Rattle.std.specs.List.{list_any, range_with_len}
-use Rattle.std.specs.Option.{option_map}
 use Rattle.std.proofs.lemmas.Bool.{cases_lt, cases_eq}
 use Rattle.std.proofs.lemmas.List.{get_or-map, get_or_read, take_all, drop_more, drop_all}
 use Rattle.std.proofs.lemmas.List.Filters.{length-filter_more}
@@ -13,7 +12,6 @@ use Rattle.hw_types.specs.declared.unit.SignedUnit.{SignedUnit}
 use Rattle.hw_types.specs.declared.unit.Vertex.{Vertex}
 use Rattle.hw_types.specs.declared.config.Config.{Config}
 use Rattle.hw_types.specs.declared.answers.Decision.{Decision}
-use Rattle.hw_types.specs.Below.{Among}
 use Rattle.hw_types.specs.Graph.{Node}
 use Rattle.hw_types.specs.Same.{unit_eq}
 use Rattle.hw_types.specs.Settled.{validators}
@@ -30,7 +28,7 @@ use Rattle.hw_core.specs.Decided.{decided_in}
 use Rattle.hw_verdicts.specs.Verdicts.{held_in}
 use Rattle.hw_honest.specs.Cluster.{journal_at}
 use Rattle.hw_honest.specs.Simulated.{culprits_in, sent_units, IsMostDecisions}
-use Rattle.hw_cluster.specs.Counts.{is_other, has_other, equivocates_in}
+use Rattle.hw_cluster.specs.Counts.{has_other, equivocates_in}
 use Rattle.hw_cluster.specs.Nodes.{nodes_of, HaveConfig}
 use Rattle.hw_cluster.proofs.NodesLaws.{got_among}
 

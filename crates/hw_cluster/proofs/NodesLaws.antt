@@ -1,7 +1,7 @@
 -- What holds of a cluster holds after each action.
 use Rattle.std.proofs.Common.{◌≡◌, ℕ, zero, suc, ◌<◌, ◌≤◌, ◌^◌, ◌⊎◌, inl, inr, IfOk, IfSome, OnOk, OnErr, Bool, true, false, cond, List, [], ◌∷◌, ◌++◌, length, map, set, get_or, replicate, Option, Some, None, Result, Ok, Err, refl, sym, ap, subst, ◌∙◌, arith}
 use Rattle.std.specs.Prelude.{slice_get, fold}
-use Rattle.std.proofs.lemmas.List.{map-set, get_or-map, length-set, length-map, length-replicate}
+use Rattle.std.proofs.lemmas.List.{map-set, get_or-map, length-replicate}
 use Rattle.std.proofs.lemmas.List.Sums.{fold_push}
 use Rattle.hw_types.specs.declared.unit.Vertex.{Vertex}
 use Rattle.hw_types.specs.declared.config.Config.{Config}

@@ -1,5 +1,5 @@
 -- A run step by step.
-use Rattle.std.proofs.Common.{◌≡◌, ℕ, zero, suc, ◌+◌, ◌-◌, ◌*◌, ◌/◌, ◌%◌, ◌^◌, ◌<◌, ◌≤◌, Bool, true, false, cond, List, [], ◌∷◌, length, refl, sym, ap, subst, ◌∙◌, arith}
+use Rattle.std.proofs.Common.{◌≡◌, ℕ, suc, ◌+◌, ◌-◌, ◌*◌, ◌/◌, ◌%◌, ◌^◌, ◌<◌, ◌≤◌, Bool, true, false, cond, List, ◌∷◌, length, refl, sym, ap, subst, ◌∙◌, arith}
 use Rattle.std.specs.Prelude.{◌||◌, ◌==◌, filter, fold}
 use Rattle.std.proofs.lemmas.Nat.{mod_below}
 use Rattle.rand_chacha.specs.ChaCha.{key_of}
@@ -56,7 +56,7 @@ module _ (s : Setting) (nodes : ℕ) (word : ℕ → ℕ) where
     where
       go : (b : Bool) → length (cond b (acted s nodes c (act_at c k) ∷ filter is_refused (answers_in s nodes (after s nodes c (act_at c k)) (actions_from s nodes word (after s nodes c (act_at c k)) n (k + 1)))) (filter is_refused (answers_in s nodes (after s nodes c (act_at c k)) (actions_from s nodes word (after s nodes c (act_at c k)) n (k + 1)))))
           ≡ cond b 1 0 + refused_in (after s nodes c (act_at c k)) n (k + 1)
-      go true = refl
+      go true = omega arith
       go false = omega arith
 
   -- After k of the steps the rest of them leaves what all leave, and refuses what all refuse but so many.

@@ -1,15 +1,13 @@
 -- What a node's state plans is what its journal plans.
-use Rattle.std.proofs.Common.{◌≡◌, ℕ, ◌<◌, ◌≤◌, ◌^◌, List, [], length, Option, Some, None, IfSome, refl, sym, ap, ◌∙◌}
+use Rattle.std.proofs.Common.{◌≡◌, ℕ, List, [], Option, refl, sym, ap, ◌∙◌}
 use Rattle.hw_types.specs.declared.answers.Plan.{Plan}
 use Rattle.hw_types.specs.declared.config.Config.{Config}
 use Rattle.hw_types.specs.declared.unit.Digest.{Digest}
 use Rattle.hw_types.specs.declared.unit.Obs.{Obs}
 use Rattle.hw_types.specs.Graph.{Node}
-use Rattle.hw_types.specs.Limits.{config_fault}
 use Rattle.hw_types.specs.Real.{CoreState, setting_of, received_in, settled_in, panorama_in}
 use Rattle.hw_types.specs.Settled.{Received, is_endorsed}
 use Rattle.hw_types.specs.Journal.{Setting}
-use Rattle.hw_types.specs.Spelling.{Fits}
 use Rattle.hw_types.specs.Step.{step, step_in, chosen_panorama, is_fit, list_of}
 use Rattle.hw_dag.specs.Dag.{graph, observations}
 use Rattle.hw_admit.specs.State.{NodeState}

@@ -1,12 +1,12 @@
 -- Nodes are honest, and agree.
-use Rattle.std.proofs.Common.{◌≡◌, ℕ, ◌<◌, ◌≤◌, ◌⊎◌, inl, inr, Bool, true, false, List, [], ◌∷◌, length, get_or, refl, sym, ap, subst, ◌∙◌, arith}
+use Rattle.std.proofs.Common.{◌≡◌, ℕ, ◌<◌, ◌⊎◌, inl, inr, Bool, false, List, [], sym, subst}
 use Rattle.hw_types.specs.declared.unit.WireUnit.{WireUnit}
 use Rattle.hw_types.specs.declared.unit.Vertex.{Vertex}
 use Rattle.hw_types.specs.declared.answers.Decision.{Decision}
 use Rattle.hw_types.specs.Below.{Among}
 use Rattle.hw_types.specs.Settled.{is_faulty}
 use Rattle.hw_types.specs.Decisions.{AreDecisions}
-use Rattle.hw_types.specs.Journal.{Setting, received_of, journal_of}
+use Rattle.hw_types.specs.Journal.{Setting, journal_of}
 use Rattle.hw_types.specs.Real.{setting_of, received_in, settled_in}
 use Rattle.hw_summit.specs.Decided.{decisions_of}
 use Rattle.hw_summit.proofs.DecidedLaws.{decisions_are}
@@ -14,10 +14,9 @@ use Rattle.hw_summit.proofs.HeightLaws.{one_block_each}
 use Rattle.hw_chain.specs.Chain.{Begins}
 use Rattle.hw_verdicts.specs.declared.verdict.Verdict.{Verdict}
 use Rattle.hw_verdicts.specs.declared.verdict.Verdict.TheVariants as verdict
-use Rattle.hw_verdicts.specs.Verdicts.{chain_of, journals_clash, IsVerdict}
+use Rattle.hw_verdicts.specs.Verdicts.{IsVerdict}
 use Rattle.hw_verdicts.proofs.ClashLaws.{clash_is_a_test}
 use Rattle.hw_verdicts.proofs.VerdictLaws.{found}
-use Rattle.hw_plans.specs.Plans.{settled_in as settled_by}
 use Rattle.hw_honest.specs.Cluster.{Cluster, journal_at, cluster_of}
 use Rattle.hw_honest.specs.Laws.{HasUnit, IsMadeOf}
 use Rattle.hw_honest.proofs.ClusterLaws.{sound_run, all_delivered}

@@ -1,5 +1,5 @@
 -- The numbers that are worked out are those of the relations.
-use Rattle.std.proofs.Common.{◌≡◌, ℕ, zero, suc, ◌<◌, ◌≤◌, inl, inr, List, length, refl, sym, ap, ◌∙◌, arith}
+use Rattle.std.proofs.Common.{◌≡◌, ℕ, zero, suc, ◌<◌, ◌≤◌, inl, inr, List, length, refl, ap, arith}
 use Rattle.std.specs.Prelude.{max}
 use Rattle.std.proofs.lemmas.Bool.{cases_lt, cases_eq}
 use Rattle.hw_types.specs.declared.unit.Vertex.{Vertex}
@@ -11,7 +11,6 @@ use Rattle.hw_types.proofs.DecisionLaws.{decisions_one}
 use Rattle.hw_summit.specs.Decided.{decisions_of}
 use Rattle.hw_summit.proofs.DecidedLaws.{decisions_are}
 use Rattle.hw_summit.proofs.HeightLaws.{one_block_each}
-use Rattle.hw_honest.specs.declared.cluster.Action.{Action}
 use Rattle.hw_honest.specs.Cluster.{Cluster, journal_at, cluster_of}
 use Rattle.hw_honest.specs.Simulated.{Numbers, AreNumbers, IsMostDecisions, sim_setting, sim_actions}
 use Rattle.hw_honest.specs.Generated.{Totals, AreTotals, gen_config, gen_key, gen_journal}

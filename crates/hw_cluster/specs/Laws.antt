@@ -3,7 +3,7 @@
 use Rattle.std.specs.Prelude.{◌≡◌, ◌⊎◌, ℕ, ◌<◌, ◌≤◌, false, true, List}
 use Rattle.hw_types.specs.declared.unit.WireUnit.{WireUnit}
 use Rattle.hw_types.specs.declared.unit.Digest.{Digest}
-use Rattle.hw_types.specs.Real.{CoreState, setting_of, received_in, settled_in}
+use Rattle.hw_types.specs.Real.{setting_of, received_in, settled_in}
 use Rattle.hw_types.specs.Settled.{is_faulty}
 use Rattle.hw_core.specs.Decided.{decided_in}
 use Rattle.hw_chain.specs.Chain.{Begins}

@@ -1,11 +1,10 @@
 -- A cluster of nodes, as contracts see it.
 -- Source: ours.
-use Rattle.std.specs.Prelude.{◌≡◌, ℕ, ◌^◌, ◌<◌, ◌≤◌, List, [], length, map, None, Option, Result}
+use Rattle.std.specs.Prelude.{◌≡◌, ℕ, ◌^◌, ◌<◌, ◌≤◌, List, length, map, Option}
 use Rattle.hw_types.specs.declared.unit.Vertex.{Vertex}
 use Rattle.hw_types.specs.declared.config.Config.{Config}
 use Rattle.hw_types.specs.declared.answers.Plan.{Plan}
 use Rattle.hw_types.specs.Below.{Among}
-use Rattle.hw_types.specs.Limits.{config_fault}
 use Rattle.hw_types.specs.Spelling.{VertexFits}
 use Rattle.hw_types.specs.Step.{step}
 use Rattle.hw_types.specs.Real.{CoreState, setting_of, received_in}

@@ -1,5 +1,4 @@
-use Rattle.std.proofs.Common.{◌≡◌, ℕ, List, [], ◌∷◌, ◌++◌, length, cond, sym, ap, ◌∙◌}
-use Rattle.hw_types.specs.declared.unit.Vertex.{Vertex}
+use Rattle.std.proofs.Common.{◌≡◌, List, [], ◌∷◌, ◌++◌, length, cond, sym, ap, ◌∙◌}
 use Rattle.hw_types.specs.Real.{CoreState}
 use Rattle.hw_honest.specs.declared.cluster.Action.{Action}
 use Rattle.hw_honest.specs.declared.cluster.Acted.TheVariants.{NotAllowed, Forged}

@@ -1,4 +1,4 @@
-use Rattle.std.proofs.Common.{◌≡◌, List, [], ◌∷◌, ◌++◌, cond, ap, ◌∙◌}
+use Rattle.std.proofs.Common.{List, [], ◌∷◌, ◌++◌, cond, ap, ◌∙◌}
 use Rattle.hw_types.specs.declared.unit.Vertex.{Vertex}
 use Rattle.hw_honest.specs.Cluster.{outcome}
 use Rattle.hw_cluster.proofs.ActLaws.{own_sent}

@@ -1,4 +1,4 @@
-use Rattle.std.proofs.Common.{◌≡◌, List, Some, ap, sym, ◌∙◌}
+use Rattle.std.proofs.Common.{◌≡◌, ap, sym, ◌∙◌}
 use Rattle.hw_types.specs.declared.config.Config.{Config}
 use Rattle.hw_types.specs.declared.unit.Vertex.{Vertex}
 use Rattle.hw_types.specs.Real.{setting_of}
@@ -6,7 +6,7 @@ use Rattle.hw_honest.specs.declared.cluster.Action.TheVariants.{Step}
 use Rattle.hw_honest.specs.Cluster.{answer_at, after_own, outcome}
 use Rattle.hw_cluster.specs.Nodes.{nodes_of, state_of, HaveConfig, acted_in, left_by}
 use Rattle.hw_cluster.proofs.NodesLaws.{core_config, if_ok, on_ok}
-use Rattle.hw_cluster.proofs.ActLaws.{inside, node_fit, lawful, validator, idle_acted, idle_left, made_acted, made_left}
+use Rattle.hw_cluster.proofs.ActLaws.{inside, node_fit, idle_acted, idle_left, made_acted, made_left}
 use Rattle.hw_cluster.proofs.acts.step.Goals as goal
 
 pub plan_of-requires-clause-config : goal.plan_of-requires-clause-config

@@ -1,5 +1,5 @@
 use Rattle.hw_cluster.proofs.CountLaws.{most_of_none, most_of_more, most_is, IsMostOf}
-use Rattle.std.proofs.Common.{ℕ, length, subst, ◌≡◌, sym, ap, ◌∙◌, arith}
+use Rattle.std.proofs.Common.{ℕ, length, subst, ◌≡◌, ap, ◌∙◌, arith}
 use Rattle.std.specs.Prelude.{max}
 use Rattle.hw_cluster.proofs.counts.most_decisions.Goals as goal
 

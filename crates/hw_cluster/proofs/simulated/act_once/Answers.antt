@@ -1,4 +1,4 @@
-use Rattle.std.proofs.Common.{◌≡◌, ◌*◌, ◌+◌, ◌^◌, ◌<◌, ap, sym, subst, ◌∙◌, arith}
+use Rattle.std.proofs.Common.{sym, subst, arith}
 use Rattle.hw_honest.specs.declared.cluster.Action.{Action}
 use Rattle.hw_cluster.specs.Nodes.{CanAct}
 use Rattle.hw_cluster.proofs.RunLaws.{next_can}

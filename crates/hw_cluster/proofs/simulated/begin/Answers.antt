@@ -1,6 +1,5 @@
-use Rattle.std.proofs.Common.{◌≡◌, ⊥, Option, Some, None, ap, sym, ◌∙◌}
+use Rattle.std.proofs.Common.{ap, ◌∙◌}
 use Rattle.hw_types.specs.declared.config.Config.{Config}
-use Rattle.hw_types.specs.declared.config.ConfigFault.{ConfigFault}
 use Rattle.hw_types.specs.Limits.{config_fault}
 use Rattle.hw_honest.proofs.SimulationLaws.{within_limits}
 use Rattle.hw_cluster.proofs.NodesLaws.{no_fault}

@@ -1,6 +1,6 @@
-use Rattle.std.proofs.Common.{◌≡◌, ℕ, ◌+◌, ◌*◌, ◌≤◌, List, refl, sym, ap, ◌∙◌, arith}
+use Rattle.std.proofs.Common.{ℕ, ◌+◌, ◌*◌, List, refl, ap, ◌∙◌, arith}
 use Rattle.hw_honest.specs.Simulated.{is_refused}
-use Rattle.hw_cluster.specs.Nodes.{ClusterState, acted_in, left_by}
+use Rattle.hw_cluster.specs.Nodes.{acted_in, left_by}
 use Rattle.hw_cluster.specs.Numbers.{WordStream, action_at}
 use Rattle.hw_cluster.proofs.RunLaws.{one_if, running_first, running_more, run_left, run_refused}
 use Rattle.hw_cluster.proofs.simulated.run.Goals as goal

@@ -1,5 +1,4 @@
 use Rattle.std.proofs.Common.{◌≡◌, ◌*◌}
-use Rattle.hw_cluster.specs.Numbers.{WordStream}
 use Rattle.hw_cluster.proofs.RunLaws.{IsRunning}
 use Rattle.hw_cluster.proofs.simulated.run.Given as goal
 

@@ -1,4 +1,4 @@
-use Rattle.std.proofs.Common.{◌≡◌, ◌∙◌}
+use Rattle.std.proofs.Common.{◌∙◌}
 use Rattle.hw_honest.proofs.SimulationLaws.{simulation_none}
 use Rattle.hw_cluster.specs.Numbers.{numbers_of}
 use Rattle.hw_cluster.proofs.RunLaws.{simulated_numbers}

@@ -1,5 +1,5 @@
 use Rattle.std.proofs.Common.{◌≡◌, IfOk, OnOk, OnErr, sym, subst}
-use Rattle.hw_cluster.specs.Nodes.{ClusterState, CanAct, IsSound, state_of, acted_in, left_by}
+use Rattle.hw_cluster.specs.Nodes.{ClusterState, CanAct, state_of, acted_in, left_by}
 use Rattle.hw_cluster.proofs.ActLaws.{sound_either}
 use Rattle.hw_cluster.proofs.TogetherLaws.{are_apart}
 use Rattle.hw_cluster.proofs.nodes.Cluster.act.Goals as goal

@@ -1,4 +1,4 @@
-use Rattle.std.proofs.Common.{◌≡◌, ◌<◌, ap, sym, subst, ◌∙◌, arith}
+use Rattle.std.proofs.Common.{◌<◌, ap, sym, subst, ◌∙◌, arith}
 use Rattle.hw_cluster.specs.Nodes.{ClusterState, nodes_in, node_in}
 use Rattle.hw_cluster.proofs.NodesLaws.{core_is}
 use Rattle.hw_cluster.proofs.ActLaws.{many}

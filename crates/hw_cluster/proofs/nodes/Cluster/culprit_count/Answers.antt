@@ -1,4 +1,4 @@
-use Rattle.std.proofs.Common.{◌≡◌, List, [], length, ap, ◌∙◌}
+use Rattle.std.proofs.Common.{List, [], length, ap, ◌∙◌}
 use Rattle.hw_types.specs.declared.unit.Vertex.{Vertex}
 use Rattle.hw_types.specs.Real.{setting_of}
 use Rattle.hw_honest.specs.Simulated.{culprits_in}

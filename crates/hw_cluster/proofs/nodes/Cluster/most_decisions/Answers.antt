@@ -1,4 +1,4 @@
-use Rattle.std.proofs.Common.{◌≡◌, ◌≤◌, ℕ, List, length, sym, ap, subst, arith}
+use Rattle.std.proofs.Common.{ℕ, List, length, sym, ap, subst, arith}
 use Rattle.hw_types.specs.Real.{CoreState, setting_of}
 use Rattle.hw_honest.specs.Simulated.{IsMostDecisions}
 use Rattle.hw_cluster.specs.Nodes.{ClusterState, nodes_in, nodes_of, HaveConfig}
