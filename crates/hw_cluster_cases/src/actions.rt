@@ -35,7 +35,6 @@ pub fn acts(
 }
 
 /// The answers of a cluster of so many nodes.
-#[tactic(auto, using(hw_core::proofs::StartLaws::config_fits))]
 fn acted(
     alloc: Global,
     cluster: &mut Cluster,
