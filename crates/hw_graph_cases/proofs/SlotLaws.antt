@@ -1,15 +1,10 @@
 -- Slots that are tested one after the other.
-use Rattle.std.proofs.Common.{◌≡◌, ℕ, ◌+◌, ◌<◌, ◌≤◌, List, length, inl, inr, sym, subst, refl, arith, Option, Some, None, Result, IfOk}
+use Rattle.std.proofs.Common.{◌≡◌, ℕ, ◌+◌, ◌<◌, ◌≤◌, List, length, inl, inr, sym, subst, arith}
 use Rattle.std.proofs.lemmas.Bool.{cases_lt}
 use Rattle.hw_types.specs.declared.unit.Digest.{Digest}
-use Rattle.hw_types.specs.declared.unit.WireUnit.{WireUnit}
-use Rattle.hw_types.specs.declared.config.Config.{Config}
-use Rattle.hw_types.specs.declared.answers.Rule.{Rule}
 use Rattle.hw_types.specs.Below.{Among}
 use Rattle.hw_types.specs.Graph.{digest_eq}
-use Rattle.hw_types.specs.Rules.{has_digest, local_rule}
-use Rattle.hw_rules.specs.Judged.{KeepsLocalRules}
-use Rattle.hw_rules.specs.Verdict.{verdict_of}
+use Rattle.hw_types.specs.Rules.{has_digest}
 use Rattle.hw_types.proofs.PastLaws.{some_of}
 use Rattle.hw_types.proofs.SettledLaws.{digest_same}
 use Rattle.hw_types.proofs.WordsLaws.{all_of}
@@ -46,11 +41,3 @@ lists_all dag panorama endorsed count long le have = λ v number e name m.
     let all = have v (let inside = correct_inside panorama v number e in omega arith) number e in
     let found = some_of (digest_eq name) endorsed (all_of (has_digest endorsed) (unit_at dag number.0).signed.unit.endorsed all name m) in
     subst (λ (d : Digest). Among d endorsed) (sym (digest_same name found.0 found.2)) found.1
-
--- a unit whose verdict is Ok breaks no rule of the unit alone
-pub local_kept : (config : Config) (instance : Digest) (u : WireUnit) (verdict : Result (Unit {0}) Rule) → verdict ≡ verdict_of (local_rule config instance u) → IfOk verdict (λ _. KeepsLocalRules config u)
-local_kept config instance u verdict is = go (local_rule config instance u) refl is
-  where
-    go : (o : Option Rule) → local_rule config instance u ≡ o → verdict ≡ verdict_of o → IfOk verdict (λ _. KeepsLocalRules config u)
-    go None e h = subst (λ (r : Result (Unit {0}) Rule). IfOk r (λ _. KeepsLocalRules config u)) (sym h) (instance, e)
-    go (Some rule) e h = subst (λ (r : Result (Unit {0}) Rule). IfOk r (λ _. KeepsLocalRules config u)) (sym h) tt

@@ -4,10 +4,8 @@ ghost use Rattle.std.specs.Prelude.{◌≡◌, ◌+◌, ◌<◌, ◌≤◌, true
 ghost use Rattle.hw_types.specs.Votes.{is_block};
 ghost use Rattle.hw_dag.specs.Dag.{count_of, node_at, unit_at, seq_of};
 
-use crate::settle::{Outcome, settle};
-use crate::shown::word_at;
-use crate::units::INSTANCE;
 use hw_admit::State;
+use hw_case_state::{INSTANCE, Outcome, settle, word_at};
 use hw_case_words::named;
 use hw_dag::{Dag, Marks, UnitNo};
 use hw_skip::Steps;

@@ -4,12 +4,10 @@ use crate::lanes::{ancestor, chain, lane, on_lane, sees};
 use crate::naivety::naive_fork;
 use crate::panoramas::{at_most_of, choice, consistency, joined};
 use crate::random::random;
-use crate::settle::{endorse, mark, unit};
 use crate::shown::show;
 use crate::summits::summit;
-use hw_admit::{State, StateStart};
-use hw_case_words::config_of;
-use hw_types::Config;
+use hw_admit::State;
+use hw_case_state::{endorse, mark, unit, weights};
 use std::alloc::Global;
 
 /// The answer to a line, for the state that is held.
@@ -28,24 +26,6 @@ pub fn answer(alloc: Global, held: &mut Option<State>, line: &str) -> Option<Str
 
 fn repeated(alloc: Global, line: &str) -> Option<String> {
     line.to_string(alloc).ok()
-}
-
-/// Begins a state with the configuration that the words tell.
-fn weights(alloc: Global, held: &mut Option<State>, words: &[&str]) -> Option<String> {
-    let config = config_of(alloc, words)?;
-    began(alloc, held, config)
-}
-
-/// Puts the state of a node in the place of what is held. Where there is none, why.
-pub fn began(alloc: Global, held: &mut Option<State>, config: Config) -> Option<String> {
-    match State::new(alloc, config) {
-        Ok(state) => {
-            *held = Some(state);
-            "began".to_string(alloc).ok()
-        }
-        Err(StateStart::Fault(fault)) => format!(in alloc; "{fault:?}").ok(),
-        Err(StateStart::OutOfMemory) => None,
-    }
 }
 
 /// The answer of the state that is held.

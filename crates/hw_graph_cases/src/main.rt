@@ -28,10 +28,8 @@ mod naivety;
 mod panoramas;
 mod plain;
 mod random;
-mod settle;
 mod shown;
 mod summits;
-mod units;
 
 use hw_admit::State;
 use std::io;

@@ -8,9 +8,8 @@ ghost use Rattle.hw_naivety.specs.Tips.{HasLists};
 ghost use Rattle.hw_graph_cases.specs.Slots.{HasListOf};
 
 use crate::panoramas::panorama_of;
-use crate::shown::word_at;
-use crate::units::names;
 use hw_admit::State;
+use hw_case_state::{names, word_at};
 use hw_case_words::after;
 use hw_dag::{Dag, Marks, Panorama, View};
 use hw_naivety::NaiveFork;

@@ -1,0 +1,16 @@
+use Rattle.std.proofs.Common.{◌≡◌, List, None, sym, ap, subst, ◌∙◌, rules}
+use Rattle.hw_types.specs.declared.unit.Vertex.{Vertex}
+use Rattle.hw_types.specs.Limits.{config_fault}
+use Rattle.hw_cluster.specs.Nodes.{state_of, AreNodes}
+use Rattle.hw_cluster.proofs.NodesLaws.{begun_is, begun_nodes}
+use Rattle.hw_cluster.proofs.nodes.Cluster.new.Goals as goal
+
+pub invariant_of-result : goal.invariant_of-result
+invariant_of-result c =
+    let lawful : config_fault c.args.config ≡ None = search rules in
+    subst (λ (vs : List Vertex). AreNodes c.args.config c.in-Ok.nodes.items vs) (sym c.new.ensures.items)
+    (begun_nodes c.args.config c.args.nodes c.in-Ok.nodes.items c.in-Ok.ensures lawful c.requires.some c.requires.few)
+
+pub returns-in-Ok-clause-begun : goal.returns-in-Ok-clause-begun
+returns-in-Ok-clause-begun c =
+    ap (λ (vs : List Vertex). state_of c.args.config c.in-Ok.nodes.items vs) c.new.ensures.items ∙ begun_is c.args.config c.args.nodes c.in-Ok.nodes.items c.in-Ok.ensures

@@ -1,0 +1,23 @@
+//! Several nodes that hear each other, and runs of them that random words choose.
+//!
+//! A [`Cluster`] is some honest validators, each with a node of its own, and the vertices that were sent. It
+//! does one action after the other, in whatever order they come: a validator's step, the delivery of a sent
+//! vertex to a node, or a vertex by somebody who is no node. What an action is answered and what it leaves
+//! are those of the definitions, so all that is proved of these holds of it: whatever the order, and
+//! whatever is forged, no node equivocates; and while the validators that are no nodes weigh no more than the
+//! threshold, the nodes decide one chain.
+//!
+//! [`simulate`] lets the words of a number choose the actions.
+#![tactic(auto)]
+
+mod acts;
+mod counts;
+mod laws;
+mod nodes;
+mod simulated;
+mod words;
+
+pub use hw_honest::{Acted, Action};
+pub use laws::{nodes_agree, nodes_never_equivocate, numbers_are_worked_out};
+pub use nodes::Cluster;
+pub use simulated::{SimSummary, simulate};
