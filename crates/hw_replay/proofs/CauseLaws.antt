@@ -1,5 +1,5 @@
 -- Faults of a replay have their cause.
-use Rattle.std.proofs.Common.{◌≡◌, ℕ, ◌≤◌, List, Option, Result, Err, sym}
+use Rattle.std.proofs.Common.{◌≡◌, ℕ, ◌≤◌, List, Option, Result, Err, sym, subst}
 use Rattle.hw_types.specs.declared.answers.CodecError.{CodecError}
 use Rattle.hw_types.specs.declared.answers.CodecError.TheVariants as codec
 use Rattle.hw_log.specs.declared.error.LogError.{LogError}
@@ -105,30 +105,9 @@ cause_carries {A} S before mid now r f same is cause =
 
 -- ---- counts for a file
 
-pub about_of_log : (T S : Type 0) (name : Option (List ℕ)) (before now : List ℕ → ℕ) (e : LogError) → of_log.IsReadAbout {T = T} name before now (Err e) → IsReplayAbout {T = S} name before now (Err (fault_of e))
-about_of_log T S name before now log.ReadFault h = h
-about_of_log T S name before now log.WriteFault h = h
-about_of_log T S name before now log.OutOfMemory h = h
-about_of_log T S name before now log.BadMagic h = h
-about_of_log T S name before now (log.Version v) h = h
-about_of_log T S name before now (log.Torn at) h = h
-about_of_log T S name before now (log.TooLong at) h = h
-about_of_log T S name before now (log.BadConfig f) h = h
-about_of_log T S name before now (log.ConfigFault f) h = h
-about_of_log T S name before now (log.BadEvent at) h = h
-about_of_log T S name before now (log.BadVerdict at) h = h
-about_of_log T S name before now (log.BadVertex at f) h = h
-
-pub about_of_entry : (S : Type 0) (name : Option (List ℕ)) (before now : List ℕ → ℕ) (f : StartFault) → now ≡ before → IsOfEntry f → IsReplayAbout {T = S} name before now (Err f)
-about_of_entry S name before now (fault.Log e) same h = absurd h
-about_of_entry S name before now fault.OtherConfig same h = absurd h
-about_of_entry S name before now (fault.Clash known other) same h = same
-about_of_entry S name before now (fault.RecordsFull at) same h = same
-about_of_entry S name before now (fault.ParkFull at) same h = same
-about_of_entry S name before now fault.OutOfMemory same h = same
-
 -- a fault after calls that left the counts and the file that is begun
 pub about_carries : {A : Type 0} (S : Type 0) (name begun : Option (List ℕ)) (before mid now : List ℕ → ℕ) (r : Result A StartFault) (f : StartFault) → begun ≡ name → mid ≡ before → r ≡ Err f → IsReplayAbout begun mid now r → IsReplayAbout {T = S} name before now (Err f)
 about_carries {A} S name begun before mid now r f named same is about =
-    let a : IsReplayAbout {T = A} name before now (Err f) = rw (sym is, sym same, sym named) about in
-    a
+    let fault : IsReplayAbout {T = A} begun mid now (Err f) = subst (λ (x : Result A StartFault). IsReplayAbout begun mid now x) is about in
+    let left : IsReplayAbout {T = A} begun before now (Err f) = subst (λ (b : List ℕ → ℕ). IsReplayAbout {T = A} begun b now (Err f)) same fault in
+    subst (λ (n : Option (List ℕ)). IsReplayAbout {T = S} n before now (Err f)) named left
