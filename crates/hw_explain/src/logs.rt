@@ -3,7 +3,7 @@
 ghost use Rattle.std.specs.Prelude.{◌≡◌, [], IsTrue, IfOk, OnOk};
 ghost use Rattle.hw_io.specs.Files.{SameFiles};
 ghost use Rattle.hw_replay.specs.Replay.{taken_in, ahead_in, TakesAll};
-ghost use Rattle.hw_replay.specs.Causes.{HasReplayCause};
+ghost use Rattle.hw_replay.specs.Causes.{HasReplayCause, IsReplayAbout};
 ghost use Rattle.hw_replay.specs.Steps.{HasRoom};
 ghost use Rattle.hw_explain.specs.Told.{HasTold};
 ghost use Rattle.hw_explain.specs.Logs.{Explains, ExplainsAll};
@@ -20,6 +20,7 @@ use std::alloc::Global;
 pub fn explain_log<F: Files>(alloc: Global, files: &mut F, name: &str) -> Result<Bytes, StartFault>
     ensures said { IsTrue F.tells → Explains (F.held files.old name.now) result }
     ensures cause { HasReplayCause (F.read_faults files.old) (F.read_faults files.new) result }
+    ensures about { IsTrue F.tells → IsReplayAbout (Some name.now) (F.faults_about files.old) (F.faults_about files.new) result }
 
     ensures files { SameFiles (F.held files.old) (F.held files.new) }
     ensures appends { F.append_faults files.new ≡ F.append_faults files.old }
@@ -40,6 +41,7 @@ fn explain_rest<F: Files>(
     requires room { HasRoom replay.old (F.allowance files.old) }
     ensures said { IsTrue F.tells → ExplainsAll (ahead_in replay.old (F.unread files.old)) result }
     ensures cause { HasReplayCause (F.read_faults files.old) (F.read_faults files.new) result }
+    ensures about { IsReplayAbout (F.begun files.old) (F.faults_about files.old) (F.faults_about files.new) result }
 
     ensures files { SameFiles (F.held files.old) (F.held files.new) }
     ensures appends { F.append_faults files.new ≡ F.append_faults files.old }
@@ -58,6 +60,7 @@ fn tell_all<F: Files>(files: &mut F, replay: &mut Replay, told: &mut Told) -> Re
     ensures said { IsTrue F.tells → TakesAll (ahead_in replay.old (F.unread files.old)) (taken_in replay.new) result }
     ensures told { OnOk result (HasTold told.new replay.new.core) }
     ensures cause { HasReplayCause (F.read_faults files.old) (F.read_faults files.new) result }
+    ensures about { IsReplayAbout (F.begun files.old) (F.faults_about files.old) (F.faults_about files.new) result }
 
     ensures files { SameFiles (F.held files.old) (F.held files.new) }
     ensures appends { F.append_faults files.new ≡ F.append_faults files.old }

@@ -5,7 +5,7 @@
 #![tactic(auto)]
 
 ghost use Rattle.std.specs.Prelude.{◌≡◌, ◌+◌, ◌++◌, [], Some, IsTrue, IfOk, OnOk};
-ghost use Rattle.hw_io.specs.Faults.{HasCause};
+ghost use Rattle.hw_io.specs.Faults.{HasCause, IsCountedAbout};
 ghost use Rattle.hw_io.specs.Files.{SameFiles};
 
 use hw_io::{Files, IoFault};
@@ -22,6 +22,7 @@ pub fn read_file<F: Files>(alloc: Global, files: &mut F, name: &str) -> Result<B
     // The answer is all that the file holds, however the reads were cut.
     ensures whole { IsTrue F.tells → IfOk result (λ bytes. F.held files.old name.now ≡ Some bytes) }
     ensures cause { HasCause (F.read_faults files.old) (F.read_faults files.new) result }
+    ensures about { IsTrue F.tells → IsCountedAbout (Some name.now) (F.faults_about files.old) (F.faults_about files.new) result }
 
     ensures files { SameFiles (F.held files.old) (F.held files.new) }
     ensures appends { F.append_faults files.new ≡ F.append_faults files.old }
@@ -36,6 +37,7 @@ pub fn read_file<F: Files>(alloc: Global, files: &mut F, name: &str) -> Result<B
 fn read_rest<F: Files>(files: &mut F, bytes: &mut Vec<u8>) -> Result<(), IoFault>
     ensures whole { IsTrue F.tells → OnOk result (bytes.new.items ≡ bytes.old.items ++ F.unread files.old) }
     ensures cause { HasCause (F.read_faults files.old) (F.read_faults files.new) result }
+    ensures about { IsCountedAbout (F.begun files.old) (F.faults_about files.old) (F.faults_about files.new) result }
 
     ensures files { SameFiles (F.held files.old) (F.held files.new) }
     ensures appends { F.append_faults files.new ≡ F.append_faults files.old }
@@ -51,8 +53,10 @@ fn read_piece<F: Files>(files: &mut F, bytes: &mut Vec<u8>) -> Result<usize, IoF
     ensures end { IsTrue F.tells → IfOk result (λ count. count ≡ 0 → F.unread files.new ≡ []) }
     ensures allowance { IfOk result (λ count. F.allowance files.new + count ≡ F.allowance files.old) }
     ensures cause { HasCause (F.read_faults files.old) (F.read_faults files.new) result }
+    ensures about { IsCountedAbout (F.begun files.old) (F.faults_about files.old) (F.faults_about files.new) result }
 
     ensures files { SameFiles (F.held files.old) (F.held files.new) }
+    ensures begun { F.begun files.new ≡ F.begun files.old }
     ensures appends { F.append_faults files.new ≡ F.append_faults files.old }
 {
     let mut piece = [0; PIECE];

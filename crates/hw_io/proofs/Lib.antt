@@ -3,3 +3,5 @@ pub mod Windows
 pub mod Stored
 pub mod Given
 pub mod Last
+pub mod Blamed
+pub mod About

@@ -1,5 +1,5 @@
 -- Faults and what shows them: a count of the outside.
-use Rattle.std.specs.Prelude.{◌≡◌, ℕ, ◌+◌, ◌-◌, ◌^◌, ◌≤◌, min, Result, Ok, Err}
+use Rattle.std.specs.Prelude.{◌≡◌, ◌≢◌, ℕ, ◌+◌, ◌-◌, ◌^◌, ◌≤◌, min, List, Option, Some, None, Result, Ok, Err}
 use Rattle.hw_io.specs.declared.outside.IoFault.{IoFault}
 use Rattle.hw_io.specs.declared.outside.IoFault.TheVariants.{Failed, OutOfMemory}
 
@@ -27,3 +27,25 @@ abbrev pub IsWantCounted : {T : Type 0} → ℕ → ℕ → Result T IoFault →
 IsWantCounted before now (Ok x) = now ≡ before
 IsWantCounted before now (Err Failed) = now ≡ before
 IsWantCounted before now (Err OutOfMemory) = Rose before now
+
+-- ---- files, by name
+
+-- a call about the file of this name failed, and its count rose; a call about no file leaves all counts
+abbrev pub FailsAbout : Option (List ℕ) → (List ℕ → ℕ) → (List ℕ → ℕ) → Type 0
+FailsAbout None before now = now ≡ before
+FailsAbout (Some name) before now = Rose (before name) (now name)
+
+-- a failure of a call about this file is counted for it, and without a failure no count changes
+abbrev pub IsCountedAbout : {T : Type 0} → Option (List ℕ) → (List ℕ → ℕ) → (List ℕ → ℕ) → Result T IoFault → Type 0
+IsCountedAbout name before now (Ok x) = now ≡ before
+IsCountedAbout name before now (Err Failed) = FailsAbout name before now
+IsCountedAbout name before now (Err OutOfMemory) = now ≡ before
+
+-- nothing is counted for a file of another name
+pub record OthersStay (name : List ℕ) (before now : List ℕ → ℕ) : Type 0 where
+  pub stays : (other : List ℕ) → other ≢ name → now other ≡ before other
+
+-- for no file but the one that the call was about anything is counted
+abbrev pub OnlyAbout : Option (List ℕ) → (List ℕ → ℕ) → (List ℕ → ℕ) → Type 0
+OnlyAbout None before now = now ≡ before
+OnlyAbout (Some name) before now = OthersStay name before now

@@ -2,7 +2,7 @@
 use Rattle.std.specs.Prelude.{◌≡◌, ℕ, ◌==◌, Bool, List, Option, Some}
 use Rattle.std.specs.List.{find}
 use Rattle.std.specs.Option.{option_map}
-use Rattle.hw_io.specs.Shelves.{held_in, begun_in, unread_in, allowance_of}
+use Rattle.hw_io.specs.Shelves.{held_in, begun_in, unread_in, allowance_of, faults_in}
 use Rattle.hw_io.specs.declared.memory.Planned.{Planned}
 use Rattle.hw_io.specs.declared.memory.MemFiles.{MemFiles}
 use Rattle.hw_io.specs.declared.memory.MemSink.{MemSink}
@@ -35,6 +35,10 @@ mem_read_faults files = files.read_faults
 -- how many appends failed
 abbrev pub mem_append_faults : MemFiles → ℕ
 mem_append_faults files = files.append_faults
+
+-- how many of the reads that failed were about the file of a name
+abbrev pub mem_faults_about : MemFiles → List ℕ → ℕ
+mem_faults_about files = faults_in files.shelf.blamed.items
 
 -- the calls that are to fail
 abbrev pub mem_planned : MemFiles → List Planned

@@ -1,8 +1,10 @@
 -- What files in memory hold, and what is read of them.
-use Rattle.std.specs.Prelude.{ℕ, ◌-◌, ◌^◌, ◌≡◌, Bool, List, [], ◌∷◌, ◌++◌, drop, Option, None, Some, slice_get}
+use Rattle.std.specs.Prelude.{ℕ, ◌-◌, ◌^◌, ◌≡◌, Bool, List, [], ◌∷◌, ◌++◌, drop, count_by, Option, None, Some, slice_get}
 use Rattle.std.specs.List.{find, position}
 use Rattle.std.specs.Str.{bytes_eq}
 use Rattle.std.specs.Option.{option_map, option_and_then}
+use Rattle.std.specs.declared.vec.Vec.{Vec}
+use Rattle.std.specs.declared.alloc.Global.{Global}
 use Rattle.hw_io.specs.Files.{bytes_of}
 use Rattle.hw_io.specs.declared.shelf.StoredFile.{StoredFile}
 use Rattle.hw_io.specs.declared.shelf.Reading.{Reading}
@@ -46,3 +48,7 @@ pub record AddsFile (old new : List StoredFile) (name bytes : List ℕ) : Type 0
   pub named : file.name.items ≡ name
   pub holds : file.bytes.items ≡ bytes
   pub last : new ≡ old ++ file ∷ []
+
+-- how many of the names about which calls failed are this one
+abbrev pub faults_in : List (Vec ℕ Global) → List ℕ → ℕ
+faults_in blamed name = count_by (λ n. bytes_eq n.items name) blamed

@@ -1,6 +1,6 @@
 -- What the outside that is sure tells.
 use Rattle.std.specs.Prelude.{ℕ, Bool, List, Option, Some}
-use Rattle.hw_io.specs.Shelves.{held_in, begun_in, unread_in, allowance_of}
+use Rattle.hw_io.specs.Shelves.{held_in, begun_in, unread_in, allowance_of, faults_in}
 use Rattle.hw_io.specs.declared.sure.SureFiles.{SureFiles}
 use Rattle.hw_io.specs.declared.sure.SureSink.{SureSink}
 use Rattle.hw_io.specs.declared.door.SureDoor.{SureDoor}
@@ -26,6 +26,10 @@ sure_allowance files = allowance_of files.shelf.reading
 -- how many reads failed
 abbrev pub sure_read_faults : SureFiles → ℕ
 sure_read_faults files = files.read_faults
+
+-- how many of them were about the file of a name
+abbrev pub sure_faults_about : SureFiles → List ℕ → ℕ
+sure_faults_about files = faults_in files.shelf.blamed.items
 
 -- what a sure sink took
 abbrev pub sure_taken : SureSink → Option (List ℕ)

@@ -1,6 +1,6 @@
 ghost use Rattle.std.specs.Prelude.{◌≡◌, ℕ, ◌+◌, ◌-◌, ◌<◌, ◌≤◌, List, [], ◌++◌, length, take, drop, slice_range, IsTrue, OnOk, OnErr, IfOk, vec_len, vec_items};
 ghost use Rattle.std.specs.Io.{StartsWith};
-ghost use Rattle.hw_io.specs.Faults.{HasCause};
+ghost use Rattle.hw_io.specs.Faults.{HasCause, IsCountedAbout};
 ghost use Rattle.hw_io.specs.Files.{SameFiles};
 ghost use Rattle.hw_io.specs.Buffers.{IsWindow};
 
@@ -78,6 +78,7 @@ impl ReadBuffer {
         ensures left { IsTrue F.tells → self.new ++ F.unread files.new ≡ self.old ++ F.unread files.old }
         ensures allowance { F.allowance files.new + length self.new ≡ F.allowance files.old + length self.old }
         ensures cause { HasCause (F.read_faults files.old) (F.read_faults files.new) result }
+        ensures about { IsCountedAbout (F.begun files.old) (F.faults_about files.old) (F.faults_about files.new) result }
 
         ensures files { SameFiles (F.held files.old) (F.held files.new) }
         ensures begun { F.begun files.new ≡ F.begun files.old }
@@ -128,6 +129,7 @@ fn fill<F: Files>(files: &mut F, bytes: &mut [u8], held: usize, n: usize) -> Fil
     ensures left { IsTrue F.tells → take result.end bytes.new ++ F.unread files.new ≡ take held bytes.old ++ F.unread files.old }
     ensures allowance { F.allowance files.new + result.end ≡ F.allowance files.old + held }
     ensures cause { HasCause (F.read_faults files.old) (F.read_faults files.new) result.outcome }
+    ensures about { IsCountedAbout (F.begun files.old) (F.faults_about files.old) (F.faults_about files.new) result.outcome }
 
     ensures files { SameFiles (F.held files.old) (F.held files.new) }
     ensures begun { F.begun files.new ≡ F.begun files.old }

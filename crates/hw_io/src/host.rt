@@ -7,13 +7,15 @@ use crate::outside::{Files, IoFault, READ_LIMIT, Sink};
 use std::io::{Read, Write};
 use std::{fs, io, rt};
 
-/// The files of a runtime. A name is a path, as the system reads it.
+/// The files of a runtime. A name is a path, as the system reads it. Failures are counted for all
+/// names together, and a read where no file is begun for none.
 #[derive(Drop)]
 pub struct HostFiles<R: rt::Files> {
     runtime: R,
     file: Option<R::File>,
     allowance: usize,
     read_faults: u64,
+    faults_about: u64,
     append_faults: u64,
 }
 
@@ -28,11 +30,21 @@ impl<R: rt::Files> HostFiles<R> {
             file: None,
             allowance: 0,
             read_faults: 0,
+            faults_about: 0,
             append_faults: 0,
         }
     }
 
     fn count_read_fault(&mut self)
+        ensures later { self.old.read_faults ≤ self.new.read_faults }
+        ensures raised { self.new ≡ record self.old { read_faults = raised self.old.read_faults; faults_about = raised self.old.faults_about } }
+    {
+        self.read_faults = self.read_faults.saturating_add(1);
+        self.faults_about = self.faults_about.saturating_add(1);
+    }
+
+    /// Counts a read where no file is begun, which is about no file.
+    fn count_stray_read(&mut self)
         ensures later { self.old.read_faults ≤ self.new.read_faults }
         ensures raised { self.new ≡ record self.old { read_faults = raised self.old.read_faults } }
     {
@@ -62,6 +74,8 @@ impl<R: rt::Files> Files for HostFiles<R> {
 
     ghost append_faults = { λ files. files.append_faults };
 
+    ghost faults_about = { λ files _. files.faults_about };
+
     fn exists(&mut self, name: &str) -> Result<bool, IoFault> {
         match fs::exists(&self.runtime, name) {
             Ok(there) => Ok(there),
@@ -89,12 +103,14 @@ impl<R: rt::Files> Files for HostFiles<R> {
 
     fn read(&mut self, buf: &mut [u8]) -> Result<usize, IoFault> {
         let most = buf.len().min(self.allowance);
+        let Some(file) = &mut self.file else {
+            self.count_stray_read();
+            return Err(IoFault::Failed);
+        };
         if most > 0 || buf.is_empty() {
-            if let Some(file) = &mut self.file {
-                if let Ok(count) = file.read(&mut buf[..most]) {
-                    self.allowance -= count;
-                    return Ok(count);
-                }
+            if let Ok(count) = file.read(&mut buf[..most]) {
+                self.allowance -= count;
+                return Ok(count);
             }
         }
         self.count_read_fault();

@@ -3,7 +3,7 @@ ghost use Rattle.std.specs.Prelude.{◌≡◌, ◌≢◌, ◌≤◌, ℕ, List, 
 ghost use Rattle.std.specs.Option.{option_copied};
 ghost use Rattle.hw_io.specs.Faults.{raised};
 ghost use Rattle.hw_io.specs.Files.{SameFiles, Appended};
-ghost use Rattle.hw_io.specs.Memory.{mem_held, mem_begun, mem_unread, mem_allowance, mem_read_faults, mem_append_faults, mem_planned, mem_calls, mem_taken, mem_faults, sink_planned, planned_at, SameCounts};
+ghost use Rattle.hw_io.specs.Memory.{mem_held, mem_begun, mem_unread, mem_allowance, mem_read_faults, mem_append_faults, mem_faults_about, mem_planned, mem_calls, mem_taken, mem_faults, sink_planned, planned_at, SameCounts};
 
 use crate::outside::{Files, IoFault, Sink};
 use crate::shelf::Shelf;
@@ -153,8 +153,11 @@ impl Files for MemFiles {
 
     ghost append_faults = { mem_append_faults };
 
+    ghost faults_about = { mem_faults_about };
+
     fn exists(&mut self, name: &str) -> Result<bool, IoFault> {
         if self.next_call().is_some() {
+            self.shelf.blame(name)?;
             self.count_read_fault();
             return Err(IoFault::Failed);
         }
@@ -164,10 +167,12 @@ impl Files for MemFiles {
     fn begin(&mut self, name: &str) -> Result<(), IoFault> {
         if self.next_call().is_some() {
             self.shelf.close();
+            self.shelf.blame(name)?;
             self.count_read_fault();
             return Err(IoFault::Failed);
         }
         if !self.shelf.begin(name) {
+            self.shelf.blame(name)?;
             self.count_read_fault();
             return Err(IoFault::Failed);
         }
@@ -176,12 +181,14 @@ impl Files for MemFiles {
 
     fn read(&mut self, buf: &mut [u8]) -> Result<usize, IoFault> {
         if self.next_call().is_some() {
+            self.shelf.blame_begun()?;
             self.count_read_fault();
             return Err(IoFault::Failed);
         }
         match self.shelf.read(buf) {
             Ok(count) => Ok(count),
             Err(_) => {
+                self.shelf.blame_begun()?;
                 self.count_read_fault();
                 Err(IoFault::Failed)
             }

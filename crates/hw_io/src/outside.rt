@@ -3,7 +3,7 @@ ghost use Rattle.std.specs.Prelude.{◌≡◌, ◌≢◌, ℕ, ◌^◌, ◌<◌,
 ghost use Rattle.std.specs.Io.KnownBytes.{WriteAppends, ReadConsumes};
 ghost use Rattle.std.specs.Option.{option_map};
 ghost use Rattle.std.specs.Io.{ReadsAtMost};
-ghost use Rattle.hw_io.specs.Faults.{HasCause, IsWantCounted, raised};
+ghost use Rattle.hw_io.specs.Faults.{HasCause, IsCountedAbout, OnlyAbout, IsWantCounted, raised};
 ghost use Rattle.hw_io.specs.Files.{SameFiles, IsAnswer, Begins, Appended, Spends};
 ghost use Rattle.hw_io.specs.Sinks.{TakesSome};
 ghost use Rattle.hw_io.specs.Moments.{GivesMoment};
@@ -58,10 +58,17 @@ pub trait Files {
 
     ghost append_faults: { Self → ℕ };
 
+    /// How many failed calls of `exists`, `begin` and `read` were about the file of a name. `exists`
+    /// and `begin` are about the name that they are handed, `read` about the file that was begun, and
+    /// about no file where none was.
+    ghost faults_about: { Self → List ℕ → ℕ };
+
     /// Whether there is a file of that name.
     fn exists(&mut self, name: &str) -> Result<bool, IoFault>
         ensures answer { IsTrue tells → IfOk result (IsAnswer (held self.old name.now)) }
         ensures cause { HasCause (read_faults self.old) (read_faults self.new) result }
+        ensures about { IsCountedAbout (Some name.now) (faults_about self.old) (faults_about self.new) result }
+        ensures others { IsTrue tells → OnlyAbout (Some name.now) (faults_about self.old) (faults_about self.new) }
 
         ensures files { SameFiles (held self.old) (held self.new) }
         ensures begun { begun self.new ≡ begun self.old }
@@ -79,6 +86,8 @@ pub trait Files {
         ensures none { OnErr result (begun self.new ≡ None) }
         ensures allowance { OnOk result (allowance self.new ≤ 2 ^ 62) }
         ensures cause { HasCause (read_faults self.old) (read_faults self.new) result }
+        ensures about { IsCountedAbout (Some name.now) (faults_about self.old) (faults_about self.new) result }
+        ensures others { IsTrue tells → OnlyAbout (Some name.now) (faults_about self.old) (faults_about self.new) }
 
         ensures files { SameFiles (held self.old) (held self.new) }
         ensures appends { append_faults self.new ≡ append_faults self.old };
@@ -92,6 +101,8 @@ pub trait Files {
         ensures none { IsNone (begun self.old) → IsErr result }
         ensures allowance { Spends (allowance self.old) (allowance self.new) result }
         ensures cause { HasCause (read_faults self.old) (read_faults self.new) result }
+        ensures about { IsCountedAbout (begun self.old) (faults_about self.old) (faults_about self.new) result }
+        ensures others { IsTrue tells → OnlyAbout (begun self.old) (faults_about self.old) (faults_about self.new) }
 
         ensures files { SameFiles (held self.old) (held self.new) }
         ensures begun { begun self.new ≡ begun self.old }
@@ -108,7 +119,8 @@ pub trait Files {
         ensures begun { begun self.new ≡ begun self.old }
         ensures unread { IsTrue tells → begun self.old ≢ Some name.now → unread self.new ≡ unread self.old }
         ensures allowance { allowance self.new ≡ allowance self.old }
-        ensures reads { read_faults self.new ≡ read_faults self.old };
+        ensures reads { read_faults self.new ≡ read_faults self.old }
+        ensures about { faults_about self.new ≡ faults_about self.old };
 }
 
 /// What takes bytes, as standard output does.

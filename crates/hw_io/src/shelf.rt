@@ -5,7 +5,8 @@ ghost use Rattle.std.specs.Option.{ForSome, option_copied};
 ghost use Rattle.std.specs.Io.KnownBytes.{ReadConsumes};
 ghost use Rattle.std.specs.Io.{ReadsAtMost};
 ghost use Rattle.hw_io.specs.Files.{Begins, Appended, Spends};
-ghost use Rattle.hw_io.specs.Shelves.{place_in, held_in, begun_in, unread_in, allowance_of, AddsFile};
+ghost use Rattle.hw_io.specs.Faults.{FailsAbout, OnlyAbout};
+ghost use Rattle.hw_io.specs.Shelves.{place_in, held_in, begun_in, unread_in, allowance_of, faults_in, AddsFile};
 
 use crate::outside::{IoFault, READ_LIMIT};
 use std::alloc::{AllocError, Global};
@@ -24,11 +25,13 @@ pub(crate) struct Reading {
     given: usize,
 }
 
-/// Files in memory, and the one that was begun. Reads give at most `piece` bytes at once.
+/// Files in memory, the one that was begun, and the names of the files about which calls failed. Reads
+/// give at most `piece` bytes at once.
 #[derive(Drop)]
 pub(crate) struct Shelf {
     pub(crate) files: Vec<StoredFile>,
     pub(crate) reading: Option<Reading>,
+    pub(crate) blamed: Vec<Vec<u8>>,
     piece: usize,
     ghost within: { ForSome reading (λ r. r.place < vec_len files) },
 }
@@ -37,10 +40,12 @@ impl Shelf {
     pub(crate) fn new(alloc: Global, piece: usize) -> Shelf
         ensures files { result.files.items ≡ [] }
         ensures begun { result.reading ≡ None }
+        ensures blamed { result.blamed.items ≡ [] }
     {
         Shelf {
             files: Vec::new(alloc),
             reading: None,
+            blamed: Vec::new(alloc),
             piece,
         }
     }
@@ -76,6 +81,7 @@ impl Shelf {
         ensures none { OnFalse result (self.new.reading ≡ None) }
         ensures allowance { allowance_of self.new.reading ≤ 2 ^ 62 }
         ensures files { self.new.files ≡ self.old.files }
+        ensures blamed { self.new.blamed ≡ self.old.blamed }
     {
         match self.place_of(name) {
             Some(place) => {
@@ -93,8 +99,61 @@ impl Shelf {
     pub(crate) fn close(&mut self)
         ensures none { self.new.reading ≡ None }
         ensures files { self.new.files ≡ self.old.files }
+        ensures blamed { self.new.blamed ≡ self.old.blamed }
     {
         self.reading = None;
+    }
+
+    /// Keeps that a call about the file of this name failed.
+    pub(crate) fn blame(&mut self, name: &str) -> Result<(), AllocError>
+        ensures ok { OnOk result (FailsAbout (Some name.now) (faults_in self.old.blamed.items) (faults_in self.new.blamed.items)) }
+        ensures only { OnlyAbout (Some name.now) (faults_in self.old.blamed.items) (faults_in self.new.blamed.items) }
+        ensures err { OnErr result (self.new.blamed.items ≡ self.old.blamed.items) }
+        ensures files { self.new.files ≡ self.old.files }
+        ensures reading { self.new.reading ≡ self.old.reading }
+    {
+        let name = Vec::from_slice(*self.files.allocator(), name.as_bytes())?;
+        self.keep_blame(name)
+    }
+
+    /// Keeps that a call about the file that was begun failed. Where none was, it was about no file.
+    pub(crate) fn blame_begun(&mut self) -> Result<(), AllocError>
+        ensures ok { OnOk result (FailsAbout (begun_in self.old.files.items self.old.reading) (faults_in self.old.blamed.items) (faults_in self.new.blamed.items)) }
+        ensures only { OnlyAbout (begun_in self.old.files.items self.old.reading) (faults_in self.old.blamed.items) (faults_in self.new.blamed.items) }
+        ensures err { OnErr result (self.new.blamed.items ≡ self.old.blamed.items) }
+        ensures files { self.new.files ≡ self.old.files }
+        ensures reading { self.new.reading ≡ self.old.reading }
+    {
+        let alloc = *self.files.allocator();
+        match self.begun_name() {
+            Some(name) => {
+                let name = Vec::from_slice(alloc, name)?;
+                self.keep_blame(name)
+            }
+            None => Ok(()),
+        }
+    }
+
+    /// The name of the file that was begun.
+    fn begun_name(&self) -> Option<&[u8]>
+        ensures { option_copied result ≡ begun_in self.now.files.items self.now.reading }
+    {
+        let reading = self.reading?;
+        self.files
+            .get(reading.place)
+            .map(|file| file.name.as_slice())
+    }
+
+    /// Keeps one more name of a file about which a call failed.
+    fn keep_blame(&mut self, name: Vec<u8>) -> Result<(), AllocError>
+        ensures ok { OnOk result (FailsAbout (Some name.items) (faults_in self.old.blamed.items) (faults_in self.new.blamed.items)) }
+        ensures only { OnlyAbout (Some name.items) (faults_in self.old.blamed.items) (faults_in self.new.blamed.items) }
+        ensures err { OnErr result (self.new.blamed.items ≡ self.old.blamed.items) }
+        ensures files { self.new.files ≡ self.old.files }
+        ensures reading { self.new.reading ≡ self.old.reading }
+    {
+        self.blamed.push(name)?;
+        Ok(())
     }
 
     /// Reads the next bytes. It fails only where no file is begun or 2^62 bytes were given.
@@ -107,6 +166,7 @@ impl Shelf {
 
         ensures files { self.new.files ≡ self.old.files }
         ensures begun { begun_in self.new.files.items self.new.reading ≡ begun_in self.old.files.items self.old.reading }
+        ensures blamed { self.new.blamed ≡ self.old.blamed }
     {
         let Some(reading) = self.reading else {
             return Err(IoFault::Failed);
@@ -127,6 +187,7 @@ impl Shelf {
     pub(crate) fn append(&mut self, name: &str, bytes: &[u8]) -> Result<(), AllocError>
         ensures bytes { Appended (held_in self.old.files.items) (held_in self.new.files.items) name.now bytes.now result }
         ensures reading { self.new.reading ≡ self.old.reading }
+        ensures blamed { self.new.blamed ≡ self.old.blamed }
         ensures begun { begun_in self.new.files.items self.new.reading ≡ begun_in self.old.files.items self.old.reading }
         ensures unread { begun_in self.old.files.items self.old.reading ≢ Some name.now →
             unread_in self.new.files.items self.new.reading ≡ unread_in self.old.files.items self.old.reading }
@@ -142,6 +203,7 @@ impl Shelf {
         ensures ok { OnOk result (AddsFile self.old.files.items self.new.files.items name.now bytes.now) }
         ensures err { OnErr result (self.new.files.items ≡ self.old.files.items) }
         ensures reading { self.new.reading ≡ self.old.reading }
+        ensures blamed { self.new.blamed ≡ self.old.blamed }
     {
         let alloc = *self.files.allocator();
         let file = StoredFile {

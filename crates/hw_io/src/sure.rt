@@ -3,9 +3,9 @@ ghost use Rattle.std.specs.Prelude.{◌≡◌, ◌≢◌, ◌↔◌, ◌^◌, �
 ghost use Rattle.std.specs.Option.{option_copied};
 ghost use Rattle.std.specs.Io.KnownBytes.{ReadConsumes};
 ghost use Rattle.std.specs.Io.{ReadsAtMost};
-ghost use Rattle.hw_io.specs.Faults.{HasCause, raised};
+ghost use Rattle.hw_io.specs.Faults.{HasCause, IsCountedAbout, OnlyAbout, raised};
 ghost use Rattle.hw_io.specs.Files.{SameFiles, IsAnswer, Begins, Appended, Spends};
-ghost use Rattle.hw_io.specs.Sure.{sure_held, sure_begun, sure_unread, sure_allowance, sure_read_faults, sure_taken};
+ghost use Rattle.hw_io.specs.Sure.{sure_held, sure_begun, sure_unread, sure_allowance, sure_read_faults, sure_faults_about, sure_taken};
 
 use crate::outside::{Files, IoFault, Sink};
 use crate::shelf::Shelf;
@@ -79,6 +79,8 @@ impl Files for SureFiles {
 
     ghost append_faults = { λ _. 0 };
 
+    ghost faults_about = { sure_faults_about };
+
     fn exists(&mut self, name: &str) -> Result<bool, IoFault>
         ensures sure { IsOk result }
         ensures answer { IfOk result (IsAnswer (sure_held self.old name.now)) }
@@ -95,9 +97,12 @@ impl Files for SureFiles {
         ensures none { OnErr result (sure_begun self.new ≡ None) }
         ensures allowance { OnOk result (sure_allowance self.new ≤ 2 ^ 62) }
         ensures cause { HasCause (sure_read_faults self.old) (sure_read_faults self.new) result }
+        ensures about { IsCountedAbout (Some name.now) (sure_faults_about self.old) (sure_faults_about self.new) result }
+        ensures others { OnlyAbout (Some name.now) (sure_faults_about self.old) (sure_faults_about self.new) }
         ensures files { SameFiles (sure_held self.old) (sure_held self.new) }
     {
         if !self.shelf.begin(name) {
+            self.shelf.blame(name)?;
             self.count_read_fault();
             return Err(IoFault::Failed);
         }
@@ -113,12 +118,15 @@ impl Files for SureFiles {
         ensures none { IsNone (sure_begun self.old) → IsErr result }
         ensures allowance { Spends (sure_allowance self.old) (sure_allowance self.new) result }
         ensures cause { HasCause (sure_read_faults self.old) (sure_read_faults self.new) result }
+        ensures about { IsCountedAbout (sure_begun self.old) (sure_faults_about self.old) (sure_faults_about self.new) result }
+        ensures others { OnlyAbout (sure_begun self.old) (sure_faults_about self.old) (sure_faults_about self.new) }
         ensures files { SameFiles (sure_held self.old) (sure_held self.new) }
         ensures begun { sure_begun self.new ≡ sure_begun self.old }
     {
         match self.shelf.read(buf) {
             Ok(count) => Ok(count),
             Err(_) => {
+                self.shelf.blame_begun()?;
                 self.count_read_fault();
                 Err(IoFault::Failed)
             }

@@ -1,8 +1,8 @@
 -- When the calls answer which error.
-use Rattle.std.specs.Prelude.{◌≡◌, ℕ, ◌≤◌, ◌⊎◌, Result, Ok, Err, IfErr}
+use Rattle.std.specs.Prelude.{◌≡◌, ℕ, ◌≤◌, ◌⊎◌, List, Option, Result, Ok, Err, IfErr}
 use Rattle.hw_io.specs.declared.outside.IoFault.{IoFault}
 use Rattle.hw_io.specs.declared.outside.IoFault.TheVariants as io
-use Rattle.hw_io.specs.Faults.{Rose}
+use Rattle.hw_io.specs.Faults.{Rose, FailsAbout}
 use Rattle.hw_types.specs.declared.answers.CodecError.TheVariants as codec
 use Rattle.hw_log.specs.declared.error.LogError.{LogError}
 use Rattle.hw_log.specs.declared.error.LogError.TheVariants.{BadConfig, BadVertex, ReadFault, WriteFault, OutOfMemory}
@@ -55,6 +55,12 @@ pub record HasReadCause {T : Type 0} (before now : ℕ) (result : Result T LogEr
   pub later : before ≤ now
   pub failed : IsReadCounted before now result
   pub error : IfErr result IsOfReading
+
+-- a failed read of this file is counted for it, and without one no count changes
+abbrev pub IsReadAbout : {T : Type 0} → Option (List ℕ) → (List ℕ → ℕ) → (List ℕ → ℕ) → Result T LogError → Type 0
+IsReadAbout name before now (Ok x) = now ≡ before
+IsReadAbout name before now (Err ReadFault) = FailsAbout name before now
+IsReadAbout name before now (Err e) = now ≡ before
 
 -- a failed append raises the count and nothing else changes it, and there is no other error but want of memory
 abbrev pub IsAppendCounted : {T : Type 0} → Result T LogError → ℕ → ℕ → Type 0

@@ -8,7 +8,7 @@ ghost use Rattle.hw_types.specs.Spelling.{ConfigFits, VertexFits};
 ghost use Rattle.hw_log.specs.declared.error.LogError.TheVariants.{Torn, BadConfig, BadVertex, OutOfMemory};
 ghost use Rattle.hw_log.specs.Lasts.{IsVersion, lasts_after, vertex_in};
 ghost use Rattle.hw_log.specs.Log.{rest_at, bytes_at, decoded, front_of, checked_config, header_of, head_at, body_at, entry_at, next_at};
-ghost use Rattle.hw_log.specs.Causes.{Fails, IsOutside, IsOfBytes, Gives, HasReadCause};
+ghost use Rattle.hw_log.specs.Causes.{Fails, IsOutside, IsOfBytes, Gives, HasReadCause, IsReadAbout};
 ghost use Rattle.hw_log.specs.Reader.{Reading, lasts_with, left_of, ahead_of, end_of, PlacesFit, Opens};
 
 use crate::entry::LogEntry;
@@ -54,6 +54,7 @@ impl LogReader {
             (config_fault reader.config ≡ None) × ConfigFits reader.config) }
         ensures places { IfOk result (λ reader. PlacesFit reader (F.allowance files.new)) }
         ensures cause { HasReadCause (F.read_faults files.old) (F.read_faults files.new) result }
+        ensures about { IsTrue F.tells → IsReadAbout (Some name.now) (F.faults_about files.old) (F.faults_about files.new) result }
 
         ensures begun { IsTrue F.tells → OnOk result (F.begun files.new ≡ Some name.now) }
         ensures files { SameFiles (F.held files.old) (F.held files.new) }
@@ -112,6 +113,7 @@ impl LogReader {
         ensures nearer { IfOk result (λ entry. IfSome entry (λ e.
             ahead_of self.new (F.allowance files.new) < ahead_of self.old (F.allowance files.old))) }
         ensures cause { HasReadCause (F.read_faults files.old) (F.read_faults files.new) result }
+        ensures about { IsReadAbout (F.begun files.old) (F.faults_about files.old) (F.faults_about files.new) result }
 
         ensures files { SameFiles (F.held files.old) (F.held files.new) }
         ensures begun { F.begun files.new ≡ F.begun files.old }
@@ -134,6 +136,7 @@ impl LogReader {
         ensures config { self.new.config ≡ self.old.config }
         ensures end { end_of self.new (F.allowance files.new) ≡ end_of self.old (F.allowance files.old) }
         ensures cause { HasReadCause (F.read_faults files.old) (F.read_faults files.new) result }
+        ensures about { IsReadAbout (F.begun files.old) (F.faults_about files.old) (F.faults_about files.new) result }
 
         ensures files { SameFiles (F.held files.old) (F.held files.new) }
         ensures begun { F.begun files.new ≡ F.begun files.old }
@@ -156,6 +159,7 @@ impl LogReader {
         ensures config { self.new.config ≡ self.old.config }
         ensures end { end_of self.new (F.allowance files.new) ≡ end_of self.old (F.allowance files.old) }
         ensures cause { HasReadCause (F.read_faults files.old) (F.read_faults files.new) result }
+        ensures about { IsReadAbout (F.begun files.old) (F.faults_about files.old) (F.faults_about files.new) result }
 
         ensures files { SameFiles (F.held files.old) (F.held files.new) }
         ensures begun { F.begun files.new ≡ F.begun files.old }
@@ -183,6 +187,7 @@ impl LogReader {
         ensures config { self.new.config ≡ self.old.config }
         ensures end { end_of self.new (F.allowance files.new) ≡ end_of self.old (F.allowance files.old) }
         ensures cause { HasReadCause (F.read_faults files.old) (F.read_faults files.new) result }
+        ensures about { IsReadAbout (F.begun files.old) (F.faults_about files.old) (F.faults_about files.new) result }
 
         ensures files { SameFiles (F.held files.old) (F.held files.new) }
         ensures begun { F.begun files.new ≡ F.begun files.old }
@@ -208,6 +213,7 @@ impl LogReader {
         ensures config { self.new.config ≡ self.old.config }
         ensures end { end_of self.new (F.allowance files.new) ≡ end_of self.old (F.allowance files.old) }
         ensures cause { HasReadCause (F.read_faults files.old) (F.read_faults files.new) result }
+        ensures about { IsReadAbout (F.begun files.old) (F.faults_about files.old) (F.faults_about files.new) result }
 
         ensures files { SameFiles (F.held files.old) (F.held files.new) }
         ensures begun { F.begun files.new ≡ F.begun files.old }
@@ -239,6 +245,7 @@ fn begin_file<F: Files>(files: &mut F, name: &str) -> Result<(), LogError>
     ensures error { IfErr result IsOutside }
     ensures allowance { OnOk result (F.allowance files.new ≤ 2 ^ 62) }
     ensures cause { HasReadCause (F.read_faults files.old) (F.read_faults files.new) result }
+    ensures about { IsReadAbout (Some name.now) (F.faults_about files.old) (F.faults_about files.new) result }
 
     ensures files { SameFiles (F.held files.old) (F.held files.new) }
     ensures appends { F.append_faults files.new ≡ F.append_faults files.old }
@@ -260,6 +267,7 @@ fn header<F: Files>(
     ensures checked { IfOk result (λ reader. (config_fault reader.config ≡ None) × ConfigFits reader.config) }
     ensures end { IfOk result (λ reader. end_of reader (F.allowance files.new) ≡ length buffer + F.allowance files.old) }
     ensures cause { HasReadCause (F.read_faults files.old) (F.read_faults files.new) result }
+    ensures about { IsReadAbout (F.begun files.old) (F.faults_about files.old) (F.faults_about files.new) result }
 
     ensures files { SameFiles (F.held files.old) (F.held files.new) }
     ensures begun { F.begun files.new ≡ F.begun files.old }
@@ -288,6 +296,7 @@ fn front<F: Files>(buffer: &mut ReadBuffer, files: &mut F) -> Result<Front, LogE
     ensures version { IfOk result (λ said. IsVersion said.version) }
     ensures ahead { OnOk result (F.allowance files.new + length buffer.new + FRONT_LENGTH ≡ F.allowance files.old + length buffer.old) }
     ensures cause { HasReadCause (F.read_faults files.old) (F.read_faults files.new) result }
+    ensures about { IsReadAbout (F.begun files.old) (F.faults_about files.old) (F.faults_about files.new) result }
 
     ensures files { SameFiles (F.held files.old) (F.held files.new) }
     ensures begun { F.begun files.new ≡ F.begun files.old }
@@ -311,6 +320,7 @@ fn need<F: Files>(buffer: &mut ReadBuffer, files: &mut F, n: usize, at: u64) -> 
     ensures left { IsTrue F.tells → buffer.new ++ F.unread files.new ≡ buffer.old ++ F.unread files.old }
     ensures ahead { F.allowance files.new + length buffer.new ≡ F.allowance files.old + length buffer.old }
     ensures cause { HasReadCause (F.read_faults files.old) (F.read_faults files.new) result }
+    ensures about { IsReadAbout (F.begun files.old) (F.faults_about files.old) (F.faults_about files.new) result }
 
     ensures files { SameFiles (F.held files.old) (F.held files.new) }
     ensures begun { F.begun files.new ≡ F.begun files.old }

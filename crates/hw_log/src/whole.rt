@@ -3,7 +3,7 @@
 ghost use Rattle.std.specs.Prelude.{◌≡◌, ℕ, List, None, IsTrue, IfErr, IfOk, OnOk};
 ghost use Rattle.hw_io.specs.Files.{SameFiles};
 ghost use Rattle.hw_log.specs.Log.{log_of};
-ghost use Rattle.hw_log.specs.Causes.{HasReadCause};
+ghost use Rattle.hw_log.specs.Causes.{HasReadCause, IsReadAbout};
 ghost use Rattle.hw_log.specs.Reader.{PlacesFit, StandsBehind};
 ghost use Rattle.hw_log.specs.Whole.{SaysWhole, SaysFault, IsFaultOf};
 
@@ -30,6 +30,7 @@ pub fn read_log<F: Files>(alloc: Global, files: &mut F, name: &str) -> Result<Lo
     ensures whole { IsTrue F.tells → IfOk result (SaysWhole (F.held files.old name.now)) }
     ensures fault { IsTrue F.tells → IfErr result (SaysFault (F.held files.old name.now)) }
     ensures cause { HasReadCause (F.read_faults files.old) (F.read_faults files.new) result }
+    ensures about { IsTrue F.tells → IsReadAbout (Some name.now) (F.faults_about files.old) (F.faults_about files.new) result }
 
     ensures files { SameFiles (F.held files.old) (F.held files.new) }
     ensures appends { F.append_faults files.new ≡ F.append_faults files.old }
@@ -53,6 +54,7 @@ fn read_entries<F: Files>(
     ensures whole { IsTrue F.tells → OnOk result ((bytes : List ℕ) → StandsBehind bytes entries.old reader.old (F.unread files.old) → log_of bytes ≡ Ok (reader.new.config, record { given = entries.new; fault = None })) }
     ensures fault { IsTrue F.tells → IfErr result (λ e. (bytes : List ℕ) → StandsBehind bytes entries.old reader.old (F.unread files.old) → IsFaultOf (log_of bytes) e) }
     ensures cause { HasReadCause (F.read_faults files.old) (F.read_faults files.new) result }
+    ensures about { IsReadAbout (F.begun files.old) (F.faults_about files.old) (F.faults_about files.new) result }
 
     ensures files { SameFiles (F.held files.old) (F.held files.new) }
     ensures appends { F.append_faults files.new ≡ F.append_faults files.old }

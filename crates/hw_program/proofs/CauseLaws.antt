@@ -1,5 +1,11 @@
 -- One part of a run after another: what becomes of the count of reads that failed, and of the files.
-use Rattle.std.proofs.Common.{◌≡◌, ℕ, ◌≤◌, List, Option, Result, Ok, Err, IfErr, sym, subst, ◌∙◌}
+use Rattle.std.proofs.Common.{◌≡◌, ℕ, ◌≤◌, List, Option, Some, Result, Ok, Err, IfErr, inl, inr, sym, subst, ◌∙◌}
+use Rattle.std.specs.Prelude.{◌⊎◌}
+use Rattle.hw_io.specs.Faults.{Rose}
+use Rattle.hw_log.specs.declared.error.LogError.TheVariants as log
+use Rattle.hw_replay.specs.declared.fault.StartFault.{StartFault}
+use Rattle.hw_replay.specs.declared.fault.StartFault.TheVariants as start
+use Rattle.hw_replay.specs.Causes.{IsReplayAbout}
 use Rattle.hw_io.specs.Files.{SameFiles}
 use Rattle.hw_program.specs.declared.ended.Ended.{Ended}
 use Rattle.hw_program.specs.declared.ended.RunFault.{RunFault}
@@ -19,3 +25,29 @@ no_fault before now (Err Read) later same none = absurd cc
 -- files that stay, and stay again
 pub files_then : (old mid new : List ℕ → Option (List ℕ)) → SameFiles old mid → SameFiles mid new → SameFiles old new
 files_then old mid new first second = λ name. second name ∙ first name
+
+-- ---- counts for a file
+
+-- a failed read of the log that stopped a replay was counted for it
+pub read_about : (name : List ℕ) (before now : List ℕ → ℕ) (fault : StartFault) (r : Result Ended RunFault) → IsReplayAbout {T = Unit {0}} (Some name) before now (Err fault)
+    → IfErr r (λ f. f ≡ Read → fault ≡ start.Log log.ReadFault) → IfErr r (λ f. f ≡ Read → Rose (before name) (now name))
+read_about name before now fault (Ok e) about read = tt
+read_about name before now fault (Err f) about read = λ is. subst (λ (x : StartFault). IsReplayAbout {T = Unit {0}} (Some name) before now (Err x)) (read is) about
+
+-- no read failed
+pub no_read : (P : Type 0) (r : Result Ended RunFault) → IfErr r (λ f. f ≡ OutOfMemory) → IfErr r (λ f. f ≡ Read → P)
+no_read P (Ok e) none = tt
+no_read P (Err OutOfMemory) none = λ is. absurd cc
+no_read P (Err Read) none = λ is. absurd (let e = none in cc)
+
+-- of two logs the second one's read failed, behind a first one that left the counts
+pub read_second : (left right : List ℕ) (before mid now : List ℕ → ℕ) (r : Result Ended RunFault) → mid ≡ before → IfErr r (λ f. f ≡ Read → Rose (mid right) (now right))
+    → IfErr r (λ f. f ≡ Read → Rose (before left) (now left) ⊎ Rose (before right) (now right))
+read_second left right before mid now (Ok e) same read = tt
+read_second left right before mid now (Err f) same read = λ is. inr (subst (λ (b : List ℕ → ℕ). Rose (b right) (now right)) same (read is))
+
+-- or the first one's
+pub read_first : (left right : List ℕ) (before now : List ℕ → ℕ) (r : Result Ended RunFault) → IfErr r (λ f. f ≡ Read → Rose (before left) (now left))
+    → IfErr r (λ f. f ≡ Read → Rose (before left) (now left) ⊎ Rose (before right) (now right))
+read_first left right before now (Ok e) read = tt
+read_first left right before now (Err f) read = λ is. inl (read is)

@@ -109,3 +109,9 @@ counted_same before now (Err Read) same none = absurd (let e = none in cc)
 pub if_ok : {A E : Type 0} (P Q : A → Type 0) (r : Result A E) → IfOk r P → ((x : A) → P x → Q x) → IfOk r Q
 if_ok P Q (Ok x) p f = f x p
 if_ok P Q (Err e) p f = tt
+
+-- only a failed read of the log is told as one
+pub read_of_log : (fault : StartFault) (e : LogError) (r : Result Ended RunFault) → fault ≡ start.Log e → IfErr r (λ f. f ≡ Read → e ≡ log.ReadFault)
+    → IfErr r (λ f. f ≡ Read → fault ≡ start.Log log.ReadFault)
+read_of_log fault e (Ok x) is read = tt
+read_of_log fault e (Err f) is read = λ failed. is ∙ ap (λ (x : LogError). start.Log x) (read failed)

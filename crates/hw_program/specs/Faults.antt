@@ -1,5 +1,5 @@
 -- When a run up to its text has which fault.
-use Rattle.std.specs.Prelude.{◌≡◌, ℕ, ◌≤◌, ◌⊎◌, Option, Some, None, Result, Ok, Err}
+use Rattle.std.specs.Prelude.{◌≡◌, ℕ, ◌≤◌, ◌⊎◌, List, Option, Some, None, Result, Ok, Err}
 use Rattle.hw_io.specs.Faults.{Rose}
 use Rattle.hw_program.specs.declared.ended.Ended.{Ended}
 use Rattle.hw_program.specs.Commands.{Request, Replay, Explain, Audit, Script}
@@ -17,6 +17,14 @@ IsReadCounted before now (Err OutOfMemory) = now ≡ before
 pub record HasReadFault {T : Type 0} (before now : ℕ) (result : Result T RunFault) : Type 0 where
   pub later : before ≤ now
   pub counted : IsReadCounted before now result
+
+-- a call about a file that was asked for failed, and was counted for it
+abbrev pub FailsOf : Option Request → (List ℕ → ℕ) → (List ℕ → ℕ) → Type 0
+FailsOf None before now = ⊥
+FailsOf (Some (Replay log)) before now = Rose (before log) (now log)
+FailsOf (Some (Explain log)) before now = Rose (before log) (now log)
+FailsOf (Some (Audit left right)) before now = Rose (before left) (now left) ⊎ Rose (before right) (now right)
+FailsOf (Some (Script file)) before now = Rose (before file) (now file)
 
 -- a command that reads logs does all, or ends by what is wrong with one: its bytes, a limit that it meets, or a clash
 abbrev pub IsReadEnd : ℕ → Type 0

@@ -1,10 +1,11 @@
 //! `audit`: what two logs say of each other.
 
-ghost use Rattle.std.specs.Prelude.{◌≡◌, ℕ, List, None, Some, Ok, true, IsTrue, IfOk, IfErr};
+ghost use Rattle.std.specs.Prelude.{◌≡◌, ℕ, List, None, Some, Ok, true, IsTrue, IfOk, IfErr, ◌⊎◌};
+ghost use Rattle.hw_io.specs.Faults.{Rose};
 ghost use Rattle.hw_io.specs.Files.{SameFiles};
 ghost use Rattle.hw_replay.specs.Taken.{Taken};
 ghost use Rattle.hw_replay.specs.Replay.{same_config, replay_of, Replays};
-ghost use Rattle.hw_replay.specs.Causes.{HasReplayCause};
+ghost use Rattle.hw_replay.specs.Causes.{HasReplayCause, IsReplayAbout};
 ghost use Rattle.hw_program.specs.declared.ended.RunFault.TheVariants as RunFaults;
 ghost use Rattle.hw_program.specs.Faults.{HasReadFault, IsAuditEnd};
 ghost use Rattle.hw_program.specs.Program.{ended, audit_said};
@@ -35,6 +36,7 @@ pub fn audit_logs<F: Files>(
     ensures conflict { IsTrue F.tells → IfOk result (λ e. e.status ≡ 3 → IsConflictOf (F.held files.old) left.now right.now e.text) }
     ensures status { IfOk result (λ e. IsAuditEnd e.status) }
     ensures fault { HasReadFault (F.read_faults files.old) (F.read_faults files.new) result }
+    ensures about { IsTrue F.tells → IfErr result (λ fault. fault ≡ RunFaults.Read → Rose (F.faults_about files.old left.now) (F.faults_about files.new left.now) ⊎ Rose (F.faults_about files.old right.now) (F.faults_about files.new right.now)) }
 
     ensures files { SameFiles (F.held files.old) (F.held files.new) }
     ensures appends { F.append_faults files.new ≡ F.append_faults files.old }
@@ -56,6 +58,7 @@ fn audit_against<F: Files>(
     ensures audited { IsTrue F.tells → (bytes : List ℕ) (taken : Taken) → replay_of None bytes ≡ Ok taken → taken.core ≡ left.now → IfOk result (λ e. IsAudited (F.held files.old) left.now right.now e) }
     ensures status { IfOk result (λ e. IsAuditEnd e.status) }
     ensures fault { HasReadFault (F.read_faults files.old) (F.read_faults files.new) result }
+    ensures about { IsTrue F.tells → IfErr result (λ fault. fault ≡ RunFaults.Read → Rose (F.faults_about files.old right.now) (F.faults_about files.new right.now)) }
 
     ensures files { SameFiles (F.held files.old) (F.held files.new) }
     ensures appends { F.append_faults files.new ≡ F.append_faults files.old }
@@ -86,6 +89,7 @@ fn replay_against<F: Files>(
 ) -> Result<Replay, StartFault>
     ensures said { IsTrue F.tells → Replays (Some left.now.config) (F.held files.old right.now) result }
     ensures cause { HasReplayCause (F.read_faults files.old) (F.read_faults files.new) result }
+    ensures about { IsTrue F.tells → IsReplayAbout (Some right.now) (F.faults_about files.old) (F.faults_about files.new) result }
 
     ensures files { SameFiles (F.held files.old) (F.held files.new) }
     ensures appends { F.append_faults files.new ≡ F.append_faults files.old }

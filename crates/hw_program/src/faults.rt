@@ -36,6 +36,7 @@ pub fn usage(alloc: Global) -> Result<Ended, OutOfMemory>
 pub fn stopped(alloc: Global, name: &str, fault: StartFault) -> Result<Ended, RunFault>
     ensures said { IfOk result (λ ended. (ended ≡ stopped_ended name.now fault) × IsReadEnd ended.status × (IsOutside fault → ⊥)) }
     ensures cause { (before now : ℕ) → IsReplayCounted {T = Unit {0}} before now (Err fault) → IsReadCounted before now result }
+    ensures read { IfErr result (λ f. f ≡ RunFaults.Read → fault ≡ StartFaults.Log LogErrors.ReadFault) }
 {
     match fault {
         StartFault::Log(error) => unread(alloc, name, error),
@@ -51,6 +52,7 @@ pub fn stopped(alloc: Global, name: &str, fault: StartFault) -> Result<Ended, Ru
 fn unread(alloc: Global, name: &str, error: LogError) -> Result<Ended, RunFault>
     ensures said { IfOk result (λ ended. (ended ≡ stopped_ended name.now (StartFaults.Log error)) × IsReadEnd ended.status × (IsOutside (StartFaults.Log error) → ⊥)) }
     ensures cause { (before now : ℕ) → IsReplayCounted {T = Unit {0}} before now (Err (StartFaults.Log error)) → IsReadCounted before now result }
+    ensures read { IfErr result (λ f. f ≡ RunFaults.Read → error ≡ LogErrors.ReadFault) }
 {
     match error {
         LogError::ReadFault => Err(RunFault::Read),

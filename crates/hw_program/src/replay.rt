@@ -1,6 +1,7 @@
 //! `replay`: the report on a log.
 
 ghost use Rattle.std.specs.Prelude.{◌≡◌, IsTrue, IfOk, IfErr};
+ghost use Rattle.hw_io.specs.Faults.{Rose};
 ghost use Rattle.hw_io.specs.Files.{SameFiles};
 ghost use Rattle.hw_replay.specs.Replay.{taken_in};
 ghost use Rattle.hw_program.specs.Faults.{HasReadFault, IsReadEnd};
@@ -19,6 +20,7 @@ pub fn replay<F: Files>(alloc: Global, files: &mut F, log: &str) -> Result<Ended
     ensures said { IsTrue F.tells → IfOk result (λ e. e ≡ ended (replay_said (F.held files.old) log.now)) }
     ensures status { IfOk result (λ e. IsReadEnd e.status) }
     ensures fault { HasReadFault (F.read_faults files.old) (F.read_faults files.new) result }
+    ensures about { IsTrue F.tells → IfErr result (λ fault. fault ≡ RunFaults.Read → Rose (F.faults_about files.old log.now) (F.faults_about files.new log.now)) }
 
     ensures files { SameFiles (F.held files.old) (F.held files.new) }
     ensures appends { F.append_faults files.new ≡ F.append_faults files.old }

@@ -7,7 +7,7 @@ ghost use Rattle.hw_io.specs.Files.{SameFiles};
 ghost use Rattle.hw_io.specs.Sinks.{AppendsPrefix};
 ghost use Rattle.hw_program.specs.Commands.{request_of, OnlyReads};
 ghost use Rattle.hw_program.specs.Texts.{usage_line, read_fault_line, out_of_memory_line};
-ghost use Rattle.hw_program.specs.Faults.{HasReadFault, IsEndOf};
+ghost use Rattle.hw_program.specs.Faults.{HasReadFault, FailsOf, IsEndOf};
 ghost use Rattle.hw_program.specs.Program.{run_of};
 ghost use Rattle.hw_program.specs.Conflict.{ReportsConflict};
 ghost use Rattle.hw_program.specs.Run.{IsStatus, IsDone, IsSaid, IsRefusal, WritesLine, WritesMemoryLine, EndsWithoutMemory, Finishes};
@@ -51,8 +51,10 @@ pub fn highway<F: Files, S: Sink, C: Clock, D: Door>(
     ensures usage { result ≡ 1 → request_of words.now ≡ None }
     ensures grammar { request_of words.now ≡ None → (result ≡ 1) ⊎ (result ≡ 7) }
 
-    // 4 and 5 come only where a count of faults rose in this run, and 5 only in place of a text that was whole.
+    // 4 and 5 come only where a count of faults rose in this run, 4 only where a call about a file that was asked for
+    // failed, and 5 only in place of a text that was whole.
     ensures read_fault { result ≡ 4 → Rose (F.read_faults files.old) (F.read_faults files.new) }
+    ensures read_about { IsTrue F.tells → result ≡ 4 → FailsOf (request_of words.now) (F.faults_about files.old) (F.faults_about files.new) }
     ensures write_fault { result ≡ 5 → Rose (S.faults out.old) (S.faults out.new) ⊎ Rose (F.append_faults files.old) (F.append_faults files.new) }
     ensures unwritten { IsTrue F.tells → result ≡ 5 → IsDone (run_of words.now (F.held files.old)).status ⊎ Rose (F.append_faults files.old) (F.append_faults files.new) }
 
@@ -94,6 +96,7 @@ fn run<F: Files>(alloc: Global, words: &Words, files: &mut F) -> Result<Ended, R
     ensures conflict { IsTrue F.tells → IfOk result (λ ended. ended.status ≡ 3 → ReportsConflict words.now (F.held files.old) ended.text) }
     ensures status { IfOk result (λ ended. IsEndOf (request_of words.now) ended) }
     ensures fault { HasReadFault (F.read_faults files.old) (F.read_faults files.new) result }
+    ensures about { IsTrue F.tells → IfErr result (λ fault. fault ≡ RunFaults.Read → FailsOf (request_of words.now) (F.faults_about files.old) (F.faults_about files.new)) }
     ensures usage { request_of words.now ≡ None → IfErr result (λ fault. fault ≡ RunFaults.OutOfMemory) }
 
     ensures files { SameFiles (F.held files.old) (F.held files.new) }

@@ -1,5 +1,5 @@
 -- Faults of a replay have their cause.
-use Rattle.std.proofs.Common.{◌≡◌, ℕ, ◌≤◌, Result, Err, sym}
+use Rattle.std.proofs.Common.{◌≡◌, ℕ, ◌≤◌, List, Option, Result, Err, sym, subst}
 use Rattle.hw_types.specs.declared.answers.CodecError.{CodecError}
 use Rattle.hw_types.specs.declared.answers.CodecError.TheVariants as codec
 use Rattle.hw_log.specs.declared.error.LogError.{LogError}
@@ -9,7 +9,7 @@ use Rattle.hw_replay.specs.declared.fault.StartFault.{StartFault}
 use Rattle.hw_replay.specs.declared.fault.StartFault.TheVariants as fault
 use Rattle.hw_replay.specs.Faults.{fault_of}
 use Rattle.hw_replay.specs.Replay.{IsOutside}
-use Rattle.hw_replay.specs.Causes.{IsReadCounted, IsOfReplay, HasReplayCause}
+use Rattle.hw_replay.specs.Causes.{IsReadCounted, IsReplayAbout, IsOfReplay, HasReplayCause}
 use Rattle.hw_replay.specs.Steps.{IsOfEntry}
 
 -- an error of the log is counted as the log's is
@@ -102,3 +102,12 @@ pub cause_carries : {A : Type 0} (S : Type 0) (before mid now : ℕ) (r : Result
 cause_carries {A} S before mid now r f same is cause =
     let c : HasReplayCause {T = A} before now (Err f) = rw (sym is, sym same) cause in
     record { later = c.later; counted = c.counted; error = c.error }
+
+-- ---- counts for a file
+
+-- a fault after calls that left the counts and the file that is begun
+pub about_carries : {A : Type 0} (S : Type 0) (name begun : Option (List ℕ)) (before mid now : List ℕ → ℕ) (r : Result A StartFault) (f : StartFault) → begun ≡ name → mid ≡ before → r ≡ Err f → IsReplayAbout begun mid now r → IsReplayAbout {T = S} name before now (Err f)
+about_carries {A} S name begun before mid now r f named same is about =
+    let fault : IsReplayAbout {T = A} begun mid now (Err f) = subst (λ (x : Result A StartFault). IsReplayAbout begun mid now x) is about in
+    let left : IsReplayAbout {T = A} begun before now (Err f) = subst (λ (b : List ℕ → ℕ). IsReplayAbout {T = A} begun b now (Err f)) same fault in
+    subst (λ (n : Option (List ℕ)). IsReplayAbout {T = S} n before now (Err f)) named left

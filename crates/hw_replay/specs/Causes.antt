@@ -1,6 +1,6 @@
 -- When a replay stops by which fault.
-use Rattle.std.specs.Prelude.{◌≡◌, ℕ, ◌≤◌, Result, Ok, Err, IfErr}
-use Rattle.hw_io.specs.Faults.{Rose}
+use Rattle.std.specs.Prelude.{◌≡◌, ℕ, ◌≤◌, List, Option, Result, Ok, Err, IfErr}
+use Rattle.hw_io.specs.Faults.{Rose, FailsAbout}
 use Rattle.hw_types.specs.declared.answers.CodecError.TheVariants as codec
 use Rattle.hw_log.specs.declared.error.LogError.TheVariants as log
 use Rattle.hw_replay.specs.declared.fault.StartFault.{StartFault}
@@ -15,6 +15,16 @@ IsFaultCounted before now e = now ≡ before
 abbrev pub IsReadCounted : {T : Type 0} → ℕ → ℕ → Result T StartFault → Type 0
 IsReadCounted before now (Ok x) = now ≡ before
 IsReadCounted before now (Err e) = IsFaultCounted before now e
+
+-- a failed read of this file is counted for it, and no other fault changes a count
+abbrev pub IsFaultAbout : Option (List ℕ) → (List ℕ → ℕ) → (List ℕ → ℕ) → StartFault → Type 0
+IsFaultAbout name before now (fault.Log log.ReadFault) = FailsAbout name before now
+IsFaultAbout name before now e = now ≡ before
+
+-- nor does an answer without one
+abbrev pub IsReplayAbout : {T : Type 0} → Option (List ℕ) → (List ℕ → ℕ) → (List ℕ → ℕ) → Result T StartFault → Type 0
+IsReplayAbout name before now (Ok x) = now ≡ before
+IsReplayAbout name before now (Err e) = IsFaultAbout name before now e
 
 -- no append failed, and want of memory stands in no error of the log
 abbrev pub IsOfReplay : StartFault → Type 0

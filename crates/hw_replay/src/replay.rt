@@ -10,7 +10,7 @@ ghost use Rattle.hw_types.specs.declared.answers.Cause.TheVariants as Causes;
 ghost use Rattle.hw_replay.specs.declared.fault.StartFault.TheVariants as Faults;
 ghost use Rattle.hw_replay.specs.Taken.{nothing_taken, entry_taken, spelling_of, stop_of, clash_with};
 ghost use Rattle.hw_replay.specs.Replay.{is_wanted, taken_in, ahead_in, Begins, Leads, TakesAll, GrowsByOne, Replays};
-ghost use Rattle.hw_replay.specs.Causes.{HasReplayCause};
+ghost use Rattle.hw_replay.specs.Causes.{HasReplayCause, IsReplayAbout};
 ghost use Rattle.hw_replay.specs.Steps.{HasRoom, IsBegun, IsStop, IsOfEntry, repeats_in};
 
 use crate::fault::{StartFault, fault_of};
@@ -49,7 +49,9 @@ impl Replay {
         ensures empty { IfOk result (λ r. taken_in r ≡ nothing_taken r.core.config) }
         ensures room { IfOk result (λ r. HasRoom r (F.allowance files.new)) }
         ensures cause { HasReplayCause (F.read_faults files.old) (F.read_faults files.new) result }
+        ensures about { IsTrue F.tells → IsReplayAbout (Some name.now) (F.faults_about files.old) (F.faults_about files.new) result }
 
+        ensures begun { IsTrue F.tells → OnOk result (F.begun files.new ≡ Some name.now) }
         ensures files { SameFiles (F.held files.old) (F.held files.new) }
         ensures appends { F.append_faults files.new ≡ F.append_faults files.old }
     {
@@ -69,7 +71,9 @@ impl Replay {
         ensures room { IfOk result (λ more. IsTrue more → HasRoom self.new (F.allowance files.new)) }
         ensures nearer { IfOk result (λ more. IsTrue more → ahead_of self.new.reader (F.allowance files.new) < ahead_of self.old.reader (F.allowance files.old)) }
         ensures cause { HasReplayCause (F.read_faults files.old) (F.read_faults files.new) result }
+        ensures about { IsReplayAbout (F.begun files.old) (F.faults_about files.old) (F.faults_about files.new) result }
 
+        ensures begun { F.begun files.new ≡ F.begun files.old }
         ensures files { SameFiles (F.held files.old) (F.held files.new) }
         ensures appends { F.append_faults files.new ≡ F.append_faults files.old }
     {
@@ -246,6 +250,7 @@ pub fn replay_log<F: Files>(
     requires { IfSome wanted (λ config. ConfigFits config.now) }
     ensures said { IsTrue F.tells → Replays (option_copied wanted.entry) (F.held files.old name.now) result }
     ensures cause { HasReplayCause (F.read_faults files.old) (F.read_faults files.new) result }
+    ensures about { IsTrue F.tells → IsReplayAbout (Some name.now) (F.faults_about files.old) (F.faults_about files.new) result }
 
     ensures files { SameFiles (F.held files.old) (F.held files.new) }
     ensures appends { F.append_faults files.new ≡ F.append_faults files.old }
@@ -260,6 +265,7 @@ fn take_all<F: Files>(files: &mut F, replay: &mut Replay) -> Result<(), StartFau
     requires { HasRoom replay.old (F.allowance files.old) }
     ensures said { IsTrue F.tells → TakesAll (ahead_in replay.old (F.unread files.old)) (taken_in replay.new) result }
     ensures cause { HasReplayCause (F.read_faults files.old) (F.read_faults files.new) result }
+    ensures about { IsReplayAbout (F.begun files.old) (F.faults_about files.old) (F.faults_about files.new) result }
 
     ensures files { SameFiles (F.held files.old) (F.held files.new) }
     ensures appends { F.append_faults files.new ≡ F.append_faults files.old }

@@ -8,6 +8,8 @@ invariant-pieces g l =
     record {
       left : IsTrue f.tells → l.bytes.items ++ f.unread l.files ≡ l.initial.bytes.items ++ f.unread l.initial.files;
       faults : f.read_faults l.files ≡ f.read_faults l.initial.files;
+      about : f.faults_about l.files ≡ f.faults_about l.initial.files;
+      begun : f.begun l.files ≡ f.begun l.initial.files;
       files : SameFiles (f.held l.initial.files) (f.held l.files);
       appends : f.append_faults l.files ≡ f.append_faults l.initial.files;
     }

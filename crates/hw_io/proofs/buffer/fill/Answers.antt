@@ -16,6 +16,7 @@ loop-end-preserved g c =
       left = λ tells. ap (λ held. held ++ g.F.Files.unread c.read.new.self) front ∙ moved _ _ _ _ _ (l.invariant.left tells) (c.in-Ok.ensures.bytes tells).0;
       allowance = omega (arith, l.invariant.allowance, c.in-Ok.ensures.allowance);
       faults = c.in-Ok.ensures.cause.failed ∙ l.invariant.faults;
+      about = c.in-Ok.ensures.about ∙ l.invariant.about;
       files = λ name. c.read.ensures.files name ∙ l.invariant.files name;
       begun = c.read.ensures.begun ∙ l.invariant.begun;
       appends = c.read.ensures.appends ∙ l.invariant.appends;

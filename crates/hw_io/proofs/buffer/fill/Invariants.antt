@@ -12,6 +12,7 @@ invariant-loop-end g l =
       left : IsTrue f.tells → take l.end l.bytes ++ f.unread l.files ≡ take l.held l.initial.bytes ++ f.unread l.initial.files;
       allowance : f.allowance l.files + l.end ≡ f.allowance l.initial.files + l.held;
       faults : f.read_faults l.files ≡ f.read_faults l.initial.files;
+      about : f.faults_about l.files ≡ f.faults_about l.initial.files;
       files : SameFiles (f.held l.initial.files) (f.held l.files);
       begun : f.begun l.files ≡ f.begun l.initial.files;
       appends : f.append_faults l.files ≡ f.append_faults l.initial.files;

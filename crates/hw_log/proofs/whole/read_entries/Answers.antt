@@ -22,6 +22,8 @@ loop-entry-preserved g c = record {
       rw c.in_ok-push.ensures.ok (stands_next bytes _ _ _ _ _ c.in-Some.entry stands said c.in_ok-entry.ensures.config);
   places = c.in_ok-entry.ensures.places;
   counted = c.in_ok-entry.ensures.cause.failed ∙ c.loop-entry.invariant.counted;
+  about = c.in_ok-entry.ensures.about ∙ c.loop-entry.invariant.about;
+  begun = c.in_ok-entry.ensures.begun ∙ c.loop-entry.invariant.begun;
   files = λ name. c.in_ok-entry.ensures.files name ∙ c.loop-entry.invariant.files name;
   appends = c.in_ok-entry.ensures.appends ∙ c.loop-entry.invariant.appends;
 }

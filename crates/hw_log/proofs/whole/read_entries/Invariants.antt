@@ -10,6 +10,8 @@ invariant-loop-entry g l = record {
       → StandsBehind bytes l.entries l.reader (g.F.Files.unread l.files);
   places : PlacesFit l.reader (g.F.Files.allowance l.files);
   counted : g.F.Files.read_faults l.files ≡ g.F.Files.read_faults l.initial.files;
+  about : g.F.Files.faults_about l.files ≡ g.F.Files.faults_about l.initial.files;
+  begun : g.F.Files.begun l.files ≡ g.F.Files.begun l.initial.files;
   files : SameFiles (g.F.Files.held l.initial.files) (g.F.Files.held l.files);
   appends : g.F.Files.append_faults l.files ≡ g.F.Files.append_faults l.initial.files;
 }

@@ -1,4 +1,4 @@
-use Rattle.hw_program.proofs.CauseLaws.{no_fault}
+use Rattle.hw_program.proofs.CauseLaws.{no_fault, no_read, read_about}
 use Rattle.hw_program.proofs.AuditLaws.{handed_on, audit_ok, audit_not}
 use Rattle.hw_program.proofs.audit.audit_against.Goals as goal
 
@@ -25,3 +25,9 @@ returns-in-Err-clause-audited g c = λ tells bytes taken is core.
 
 pub returns-in-Err-clause-fault : goal.returns-in-Err-clause-fault
 returns-in-Err-clause-fault g c = record { later = c.in-Err.ensures.cause.later; counted = c.stopped.ensures.cause _ _ c.in-Err.ensures.cause.counted }
+
+pub returns-in-Ok-clause-about : goal.returns-in-Ok-clause-about
+returns-in-Ok-clause-about g c = λ tells. no_read _ c.or_no_memory.result c.or_no_memory.ensures.fault
+
+pub returns-in-Err-clause-about : goal.returns-in-Err-clause-about
+returns-in-Err-clause-about g c = λ tells. read_about c.args.right.now _ _ c.in-Err.fault c.stopped.result (c.in-Err.ensures.about tells) c.stopped.ensures.read

@@ -1,6 +1,6 @@
 use Rattle.std.proofs.Common.{◌∙◌}
 use Rattle.hw_audit.proofs.ForkLaws.{ok_so}
-use Rattle.hw_program.proofs.CauseLaws.{fault_then, files_then}
+use Rattle.hw_program.proofs.CauseLaws.{fault_then, files_then, read_about, read_first, read_second}
 use Rattle.hw_program.proofs.AuditLaws.{logs_ok, logs_not}
 use Rattle.hw_program.proofs.audit.audit_logs.Goals as goal
 
@@ -32,3 +32,10 @@ returns-in-Err-clause-conflict g c = λ tells. ok_so c.stopped.result (logs_not 
 
 pub returns-in-Err-clause-fault : goal.returns-in-Err-clause-fault
 returns-in-Err-clause-fault g c = record { later = c.in-Err.ensures.cause.later; counted = c.stopped.ensures.cause _ _ c.in-Err.ensures.cause.counted }
+
+pub returns-in-Ok-clause-about : goal.returns-in-Ok-clause-about
+returns-in-Ok-clause-about g c = λ tells. read_second c.args.left.now c.args.right.now _ _ _ c.audit_against.result (c.in-Ok.ensures.about tells) (c.audit_against.ensures.about tells)
+
+pub returns-in-Err-clause-about : goal.returns-in-Err-clause-about
+returns-in-Err-clause-about g c = λ tells.
+    read_first c.args.left.now c.args.right.now _ _ c.stopped.result (read_about c.args.left.now _ _ c.in-Err.fault c.stopped.result (c.in-Err.ensures.about tells) c.stopped.ensures.read)

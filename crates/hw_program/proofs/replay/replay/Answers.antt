@@ -4,6 +4,7 @@ use Rattle.hw_replay.specs.Replay.{taken_in}
 use Rattle.hw_program.specs.declared.ended.Ended.{Ended}
 use Rattle.hw_program.specs.Program.{◌>>=◌, Part, ended, done, report_of}
 use Rattle.hw_program.proofs.FaultLaws.{counted_same, if_ok}
+use Rattle.hw_program.proofs.CauseLaws.{no_read, read_about}
 use Rattle.hw_program.proofs.FileLaws.{took_file, replayed}
 use Rattle.hw_program.proofs.replay.replay.Goals as goal
 
@@ -22,3 +23,9 @@ returns-in-Ok-clause-fault g c = record { later = c.in-Ok.ensures.cause.later; c
 
 pub returns-in-Err-clause-fault : goal.returns-in-Err-clause-fault
 returns-in-Err-clause-fault g c = record { later = c.in-Err.ensures.cause.later; counted = c.stopped.ensures.cause _ _ c.in-Err.ensures.cause.counted }
+
+pub returns-in-Ok-clause-about : goal.returns-in-Ok-clause-about
+returns-in-Ok-clause-about g c = λ tells. no_read _ c.reported.result c.reported.ensures.fault
+
+pub returns-in-Err-clause-about : goal.returns-in-Err-clause-about
+returns-in-Err-clause-about g c = λ tells. read_about c.args.log.now _ _ c.in-Err.fault c.stopped.result (c.in-Err.ensures.about tells) c.stopped.ensures.read

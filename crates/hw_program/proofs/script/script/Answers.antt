@@ -2,6 +2,7 @@ use Rattle.std.proofs.Common.{sym, ap, ◌∙◌}
 use Rattle.hw_script.specs.Output.{output_of}
 use Rattle.hw_program.specs.Scripted.{script_ended}
 use Rattle.hw_program.proofs.FaultLaws.{counted_same, if_ok}
+use Rattle.hw_program.proofs.CauseLaws.{no_read}
 use Rattle.hw_program.proofs.ScriptLaws.{scripted}
 use Rattle.hw_program.proofs.script.script.Goals as goal
 
@@ -14,3 +15,6 @@ returns-in-Ok-clause-said g c = λ tells.
 
 pub returns-in-Ok-clause-fault : goal.returns-in-Ok-clause-fault
 returns-in-Ok-clause-fault g c = record { later = c.in-Ok.ensures.cause.later; counted = counted_same _ _ c.scripted.result c.in-Ok.ensures.cause.failed c.scripted.ensures.fault }
+
+pub returns-in-Ok-clause-about : goal.returns-in-Ok-clause-about
+returns-in-Ok-clause-about g c = λ tells. no_read _ c.scripted.result c.scripted.ensures.fault

@@ -1,7 +1,8 @@
+use Rattle.std.proofs.Common.{Some}
 use Rattle.std.proofs.lemmas.Result.{err_from_is_err_and}
 use Rattle.hw_replay.specs.declared.replay.Replay.{Replay}
 use Rattle.hw_replay.proofs.BeginLaws.{replays_not, replays_unbegun}
-use Rattle.hw_replay.proofs.CauseLaws.{cause_carries}
+use Rattle.hw_replay.proofs.CauseLaws.{about_carries, cause_carries}
 use Rattle.hw_replay.proofs.replay.replay_log.Goals as goal
 
 pub returns-in_err-replay-clause-said : goal.returns-in_err-replay-clause-said
@@ -18,3 +19,8 @@ pub returns-in_err-take_all-clause-cause : goal.returns-in_err-take_all-clause-c
 returns-in_err-take_all-clause-cause g c =
     let p = err_from_is_err_and c.from_residual-in_err-take_all.result c.from_residual-in_err-take_all.ensures.1 in
     rw (p.1, p.2) (cause_carries Replay _ _ _ c.take_all.result _ c.in_ok-replay.ensures.cause.counted c.in_err-take_all.was c.take_all.ensures.cause)
+
+pub returns-in_err-take_all-clause-about : goal.returns-in_err-take_all-clause-about
+returns-in_err-take_all-clause-about g c =
+    let p = err_from_is_err_and c.from_residual-in_err-take_all.result c.from_residual-in_err-take_all.ensures.1 in
+    λ tells. rw (p.1, p.2) (about_carries Replay (Some c.args.name.now) _ _ _ _ c.take_all.result _ (c.in_ok-replay.ensures.begun tells) (c.in_ok-replay.ensures.about tells) c.in_err-take_all.was c.take_all.ensures.about)

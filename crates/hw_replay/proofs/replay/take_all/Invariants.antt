@@ -9,6 +9,8 @@ abbrev pub invariant-entries : goal.invariant-entries
 invariant-entries g l = record {
   ahead : IsTrue g.F.Files.tells → ahead_in l.replay (g.F.Files.unread l.files) ≡ ahead_in l.initial.replay (g.F.Files.unread l.initial.files);
   room : HasRoom l.replay (g.F.Files.allowance l.files);
+  about : g.F.Files.faults_about l.files ≡ g.F.Files.faults_about l.initial.files;
+  begun : g.F.Files.begun l.files ≡ g.F.Files.begun l.initial.files;
   counted : g.F.Files.read_faults l.files ≡ g.F.Files.read_faults l.initial.files;
   files : SameFiles (g.F.Files.held l.initial.files) (g.F.Files.held l.files);
   appends : g.F.Files.append_faults l.files ≡ g.F.Files.append_faults l.initial.files;
