@@ -1,6 +1,7 @@
 -- The grammar of a command line.
-use Rattle.std.specs.Prelude.{ℕ, Bool, false, not, ◌==◌, List, [], ◌∷◌, Option, Some, None, codes, bytes_eq, if◌then◌else◌}
+use Rattle.std.specs.Prelude.{ℕ, ◌^◌, Bool, false, not, ◌==◌, List, [], ◌∷◌, Option, Some, None, codes, bytes_eq, if◌then◌else◌}
 use Rattle.std.specs.List.{list_all}
+use Rattle.hw_script_grammar.specs.Numbers.{number_below}
 
 -- a word of the command line
 abbrev pub Word : Type 0
@@ -12,6 +13,7 @@ pub data Request : Type 0 where
   Explain : Word → Request
   Audit : Word → Word → Request
   Script : Word → Request
+  Sim : ℕ → ℕ → ℕ → Request
 
 -- no word is empty or begins with `-`
 abbrev pub is_word : Word → Bool
@@ -32,12 +34,26 @@ of_two command a b =
     if bytes_eq command (codes "audit") then Some (Audit a b)
     else None
 
+-- a simulated run of a number, with 1 to 16 nodes and at most 20,000 steps
+abbrev pub sim_of : Option ℕ → Option ℕ → Option ℕ → Option Request
+sim_of (Some number) (Some nodes) (Some steps) = if nodes == 0 then None else Some (Sim number nodes steps)
+sim_of (Some number) (Some nodes) None = None
+sim_of (Some number) None steps = None
+sim_of None nodes steps = None
+
+-- of three words behind the command
+abbrev pub of_three : Word → Word → Word → Word → Option Request
+of_three command a b c =
+    if bytes_eq command (codes "sim") then sim_of (number_below (2 ^ 64) a) (number_below 17 b) (number_below 20001 c)
+    else None
+
 -- of these words behind the command
 abbrev pub of_words : Word → List Word → Option Request
 of_words command [] = None
 of_words command (a ∷ []) = of_one command a
 of_words command (a ∷ b ∷ []) = of_two command a b
-of_words command (a ∷ b ∷ c ∷ more) = None
+of_words command (a ∷ b ∷ c ∷ []) = of_three command a b c
+of_words command (a ∷ b ∷ c ∷ d ∷ more) = None
 
 -- the request of these words, if they are in the grammar
 unfoldable pub request_of : List Word → Option Request
@@ -51,3 +67,4 @@ OnlyReads (Some (Replay log)) = Unit {0}
 OnlyReads (Some (Explain log)) = Unit {0}
 OnlyReads (Some (Audit left right)) = Unit {0}
 OnlyReads (Some (Script file)) = Unit {0}
+OnlyReads (Some (Sim number nodes steps)) = Unit {0}

@@ -3,6 +3,7 @@ pub mod Asked
 pub mod Texts
 pub mod Audited
 pub mod Scripted
+pub mod Workloads
 pub mod Conflict
 pub mod Laws
 pub mod Program

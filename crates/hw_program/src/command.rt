@@ -1,11 +1,19 @@
 //! The grammar of a command line.
 
-ghost use Rattle.std.specs.Prelude.{◌≡◌, ◌<◌, ◌+◌, length, drop};
+ghost use Rattle.std.specs.Prelude.{◌≡◌, ◌<◌, ◌+◌, ◌^◌, length, drop, IfSome};
 ghost use Rattle.std.specs.List.{list_all};
-ghost use Rattle.hw_program.specs.Commands.{is_word, of_one, of_two, request_of};
-ghost use Rattle.hw_program.specs.Asked.{asked};
+ghost use Rattle.hw_script_grammar.specs.Numbers.{number_below};
+ghost use Rattle.hw_program.specs.Commands.{is_word, of_one, of_two, of_three, sim_of, request_of};
+ghost use Rattle.hw_program.specs.Asked.{asked, IsInRange};
 
 use crate::words::Words;
+use hw_script_grammar::number_up_to;
+
+/// A simulated run has at most this many nodes.
+const MAX_NODES: u64 = 16;
+
+/// A simulated run has at most this many steps.
+const MAX_STEPS: u64 = 20_000;
 
 /// A command, with the words that it works on.
 pub enum Command<'w> {
@@ -17,17 +25,27 @@ pub enum Command<'w> {
     Audit { left: &'w str, right: &'w str },
     /// Delivers what a script says, and tells what becomes of it.
     Script { file: &'w str },
+    /// Lets the words of a number choose so many steps of so many nodes, and tells what comes of it.
+    Sim { number: u64, nodes: u32, steps: u32 },
 }
 
 /// The command that the words ask for, if they are in the grammar.
 #[tactic(auto, unfolding(crate::specs::Commands::request_of))]
 pub fn command_of(words: &Words) -> Option<Command<'_>>
-    ensures { asked result ≡ request_of words.now }
+    ensures asked { asked result ≡ request_of words.now }
+    ensures range { IfSome result IsInRange }
 {
     match words.len() {
         2 if is_word(words.get(0)) && is_word(words.get(1)) => of_one(words.get(0), words.get(1)),
         3 if is_word(words.get(0)) && is_word(words.get(1)) && is_word(words.get(2)) => {
             of_two(words.get(0), words.get(1), words.get(2))
+        }
+        4
+            if is_word(words.get(0))
+                && is_word(words.get(1))
+                && is_word(words.get(2))
+                && is_word(words.get(3)) => {
+            of_three(words.get(0), words.get(1), words.get(2), words.get(3))
         }
         _ => None,
     }
@@ -35,7 +53,8 @@ pub fn command_of(words: &Words) -> Option<Command<'_>>
 
 /// The command of one word.
 fn of_one<'w>(command: &str, word: &'w str) -> Option<Command<'w>>
-    ensures { asked result ≡ of_one command.now word.now }
+    ensures asked { asked result ≡ of_one command.now word.now }
+    ensures range { IfSome result IsInRange }
 {
     if command == "replay" {
         Some(Command::Replay { log: word })
@@ -50,7 +69,8 @@ fn of_one<'w>(command: &str, word: &'w str) -> Option<Command<'w>>
 
 /// The command of two words.
 fn of_two<'w>(command: &str, first: &'w str, second: &'w str) -> Option<Command<'w>>
-    ensures { asked result ≡ of_two command.now first.now second.now }
+    ensures asked { asked result ≡ of_two command.now first.now second.now }
+    ensures range { IfSome result IsInRange }
 {
     if command == "audit" {
         Some(Command::Audit {
@@ -60,6 +80,36 @@ fn of_two<'w>(command: &str, first: &'w str, second: &'w str) -> Option<Command<
     } else {
         None
     }
+}
+
+/// The command of three words.
+fn of_three<'w>(command: &str, first: &str, second: &str, third: &str) -> Option<Command<'w>>
+    ensures asked { asked result ≡ of_three command.now first.now second.now third.now }
+    ensures range { IfSome result IsInRange }
+{
+    if command == "sim" {
+        simulation(first, second, third)
+    } else {
+        None
+    }
+}
+
+/// A simulated run of a number, with so many nodes and steps.
+fn simulation<'w>(number: &str, nodes: &str, steps: &str) -> Option<Command<'w>>
+    ensures asked { asked result ≡ sim_of (number_below (2 ^ 64) number.now) (number_below 17 nodes.now) (number_below 20001 steps.now) }
+    ensures range { IfSome result IsInRange }
+{
+    let number = number_up_to(u64::MAX, number.as_bytes())?;
+    let nodes = number_up_to(MAX_NODES, nodes.as_bytes())?;
+    let steps = number_up_to(MAX_STEPS, steps.as_bytes())?;
+    if nodes == 0 {
+        return None;
+    }
+    Some(Command::Sim {
+        number,
+        nodes: nodes as u32,
+        steps: steps as u32,
+    })
 }
 
 /// Whether the text may be a word: it isn't empty and doesn't begin with `-`.

@@ -15,6 +15,7 @@ mod run;
 mod script;
 mod texts;
 mod words;
+mod workloads;
 
 pub use ended::OUT_OF_MEMORY;
 pub use laws::a_conflict_is_told;

@@ -29,5 +29,6 @@ pub use acts::{Act, Acts};
 pub use fault::ScriptError;
 pub use named::Named;
 pub use names::Names;
+pub use numbers::number_up_to;
 pub use samples::small_scripts_are_read;
 pub use script::{Script, read_script};

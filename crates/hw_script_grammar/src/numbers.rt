@@ -5,9 +5,11 @@ ghost use Rattle.std.specs.Option.{SomeIff};
 ghost use Rattle.std.specs.List.{list_all};
 ghost use Rattle.hw_script_grammar.specs.Numbers.{is_digit, is_number, with_digit, value_of, number_below};
 
-/// The number that the word is, where it is at most this.
+/// The number that the word is, in decimal digits without a zero in front, where it is at most this.
+///
+/// Numbers of scripts and numbers of a command line are written so.
 #[tactic(auto, unfolding(crate::specs::Numbers::number_below))]
-pub(crate) fn number_up_to(most: u64, word: &[u8]) -> Option<u64>
+pub fn number_up_to(most: u64, word: &[u8]) -> Option<u64>
     ensures number { result ≡ number_below (most + 1) word.now }
     ensures most { IfSome result (λ n. n ≤ most) }
 {

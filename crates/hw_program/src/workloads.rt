@@ -1,0 +1,47 @@
+//! `sim`: what a simulated run of a number comes to.
+
+ghost use Rattle.std.specs.Prelude.{◌≡◌, ◌≤◌, IfOk, IfErr};
+ghost use Rattle.hw_cluster.specs.Numbers.{numbers_of};
+ghost use Rattle.hw_program.specs.declared.ended.RunFault.TheVariants as RunFaults;
+ghost use Rattle.hw_program.specs.Program.{ended, sim_said};
+ghost use Rattle.hw_program.specs.Workloads.{sim_line};
+
+use crate::ended::{DONE, Ended, RunFault};
+use hw_cluster::{SimSummary, simulate};
+use hw_text::{end_line, put_numbered};
+use hw_types::{Bytes, OutOfMemory};
+use std::alloc::Global;
+
+/// Lets the words of a number choose so many steps of so many nodes, and says how the run ends.
+pub fn simulated(alloc: Global, number: u64, nodes: u32, steps: u32) -> Result<Ended, RunFault>
+    requires some { 1 ≤ nodes }
+    requires few { nodes ≤ 16 }
+    requires steps { steps ≤ 20000 }
+    ensures said { IfOk result (λ e. e ≡ ended (sim_said number nodes steps)) }
+    ensures fault { IfErr result (λ fault. fault ≡ RunFaults.OutOfMemory) }
+{
+    let summary = simulate(alloc, number, nodes, steps)?;
+    let text = sim_text(alloc, nodes, steps, &summary)?;
+    Ok(Ended { status: DONE, text })
+}
+
+/// What a simulated run came to, in a line.
+#[tactic(auto, using(std::proofs::Common::append_assoc), unfolding(crate::specs::Workloads::sim_line, hw_text::specs::Lines::line_of))]
+fn sim_text(
+    alloc: Global,
+    nodes: u32,
+    steps: u32,
+    summary: &SimSummary,
+) -> Result<Bytes, OutOfMemory>
+    ensures { IfOk result (λ text. text ≡ sim_line nodes steps (numbers_of summary.now)) }
+{
+    let mut text = Bytes::new(alloc);
+    put_numbered(&mut text, "sim nodes ", u64::from(nodes))?;
+    put_numbered(&mut text, " steps ", u64::from(steps))?;
+    put_numbered(&mut text, " units ", summary.units)?;
+    put_numbered(&mut text, " final ", summary.finals)?;
+    put_numbered(&mut text, " refused ", summary.refused)?;
+    put_numbered(&mut text, " culprits ", u64::from(summary.culprits))?;
+    end_line(&mut text)?;
+    Ok(text)
+}
