@@ -34,8 +34,12 @@ pub returns-in-Err-clause-fault : goal.returns-in-Err-clause-fault
 returns-in-Err-clause-fault g c = record { later = c.in-Err.ensures.cause.later; counted = c.stopped.ensures.cause _ _ c.in-Err.ensures.cause.counted }
 
 pub returns-in-Ok-clause-about : goal.returns-in-Ok-clause-about
-returns-in-Ok-clause-about g c = λ tells. read_second c.args.left.now c.args.right.now _ _ _ c.audit_against.result (c.in-Ok.ensures.about tells) (c.audit_against.ensures.about tells)
+returns-in-Ok-clause-about g c = λ tells.
+    let counts = g.F.Files.faults_about in
+    read_second c.args.left.now c.args.right.now (counts c.args.files.now) (counts c.replay_log.new.files) (counts c.audit_against.new.files) c.audit_against.result (c.in-Ok.ensures.about tells) (c.audit_against.ensures.about tells)
 
 pub returns-in-Err-clause-about : goal.returns-in-Err-clause-about
 returns-in-Err-clause-about g c = λ tells.
-    read_first c.args.left.now c.args.right.now _ _ c.stopped.result (read_about c.args.left.now _ _ c.in-Err.fault c.stopped.result (c.in-Err.ensures.about tells) c.stopped.ensures.read)
+    let before = g.F.Files.faults_about c.args.files.now in
+    let now = g.F.Files.faults_about c.replay_log.new.files in
+    read_first c.args.left.now c.args.right.now before now c.stopped.result (read_about c.args.left.now before now c.in-Err.fault c.stopped.result (c.in-Err.ensures.about tells) c.stopped.ensures.read)
