@@ -1,0 +1,9 @@
+pub mod FrameLaws
+pub mod FrameReadLaws
+pub mod TalkLaws
+pub mod HeardLaws
+pub mod LinkLaws
+pub mod LengthLaws
+pub mod HearsLaws
+pub mod SentLaws
+pub mod EndLaws

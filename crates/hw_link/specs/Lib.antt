@@ -1,0 +1,6 @@
+pub mod Frames
+pub mod Talk
+pub mod UnderWay
+pub mod Links
+pub mod Heard
+pub mod Sent

@@ -1,0 +1,67 @@
+//! How a session ends.
+
+ghost use Rattle.std.specs.Prelude.{◌≡◌, ℕ, ◌+◌, ◌<◌, ◌^◌, List, length};
+ghost use Rattle.hw_link.specs.declared.end.SessionEnd.TheVariants as end;
+ghost use Rattle.hw_link.specs.Frames.{rest_at, cut_end};
+ghost use Rattle.hw_link.specs.Links.{end_of_fault};
+
+use hw_io::IoFault;
+use hw_types::OutOfMemory;
+
+/// How many bytes are read in one session: 268,435,456.
+pub const BYTE_LIMIT: u64 = 268_435_456;
+
+/// How a session ends.
+#[derive(Clone, Copy, Debug, PartialEq, Eq)]
+pub enum SessionEnd {
+    /// Both sides said so.
+    Done,
+    /// The peer's bytes end at a frame's end.
+    EndOfInput,
+    /// The peer is of another instance.
+    WrongInstance,
+    /// The frame whose first byte is at this place of the session isn't what is due there.
+    BadFrame(u64),
+    /// A call of the door failed.
+    LinkFault,
+    /// An append to the log failed.
+    AppendFault,
+    /// As many bytes were read as a session may have.
+    ByteLimit,
+    /// Two different units have one digest.
+    Clash,
+    /// There was no memory.
+    OutOfMemory,
+}
+
+impl From<OutOfMemory> for SessionEnd {
+    ghost from_gives = { λ _ e. e ≡ end.OutOfMemory };
+
+    fn from(_error: OutOfMemory) -> SessionEnd {
+        SessionEnd::OutOfMemory
+    }
+}
+
+/// How a session ends by this fault of the door.
+pub(crate) fn end_of_fault(fault: IoFault) -> SessionEnd
+    ensures { result ≡ end_of_fault fault }
+{
+    match fault {
+        IoFault::Failed => SessionEnd::LinkFault,
+        IoFault::OutOfMemory => SessionEnd::OutOfMemory,
+    }
+}
+
+/// How a session ends whose bytes end so many bytes behind the place where a frame begins.
+pub(crate) fn cut_end(place: u64, count: usize) -> SessionEnd
+    requires { place + count < 2 ^ 64 }
+    ensures { (part : List ℕ) → length part ≡ count → result ≡ cut_end (rest_at place part) }
+{
+    if place + count as u64 >= BYTE_LIMIT {
+        SessionEnd::ByteLimit
+    } else if count == 0 {
+        SessionEnd::EndOfInput
+    } else {
+        SessionEnd::BadFrame(place)
+    }
+}
