@@ -5,6 +5,7 @@ use crate::deliveries::{deliver, endorse};
 use crate::names::{Named, Node};
 use crate::places::{missing, place};
 use crate::shown::show;
+use crate::summits::{starts, summit};
 use crate::units::{evidence, unit};
 use crate::wanted::{against, endorsers, unmet};
 use hw_admit::StateStart;
@@ -71,6 +72,7 @@ fn moved(alloc: Global, node: &mut Node, kind: &str, words: &[&str]) -> Option<S
         "forge" => deliver(alloc, node, words, false),
         "endorse" => endorse(alloc, node, words),
         "chain" => chain(alloc, node.instance, &mut node.core, words),
+        "summit" => summit(alloc, &mut node.core, words),
         _ => told(alloc, node, kind, words),
     }
 }
@@ -83,6 +85,7 @@ fn told(alloc: Global, node: &Node, kind: &str, words: &[&str]) -> Option<String
         "unmet" => unmet(alloc, node, words),
         "against" => against(alloc, node, words),
         "endorsers" => endorsers(alloc, node, words),
+        "starts" => starts(alloc, node, words),
         "show" => show(alloc, node, words),
         _ => None,
     }

@@ -13,6 +13,8 @@
 //! | `unmet N` | the first N needs that parked units miss, in the order of parking; N is at most 8 |
 //! | `against V ..` | the evidence that the journal has against each validator |
 //! | `endorsers NAME ..` | who endorsed each unit, in the order of the journal |
+//! | `summit N ..` | whether the decided block of each of these places, counted from 0, has a summit now |
+//! | `starts LEVEL` | where each validator starts in the committee of that level of the summit that was asked for last |
 //! | `show fork`, `show panorama`, `show faulty`, `show final` | the fork choice; what the node observes; who is faulty; the decided blocks, and the faulty weight where it exceeds the threshold |
 //! | `show counts`, `show journal` | how many units are settled, parked and dropped, and the faulty weight; the journal in order |
 //! | `chain N forward`, `chain N reverse` | delivers a chain of N units of validator 0 in that order: the sums of what became of them |
@@ -29,6 +31,7 @@ mod names;
 mod outcome;
 mod places;
 mod shown;
+mod summits;
 mod units;
 mod wanted;
 
