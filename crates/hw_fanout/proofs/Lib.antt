@@ -1,0 +1,4 @@
+pub mod Serving
+pub mod TellingLaws
+pub mod ValueLaws
+pub mod ChainLaws
