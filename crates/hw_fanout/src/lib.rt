@@ -4,8 +4,10 @@
 mod chain;
 mod ending;
 mod fanout;
+mod laws;
 mod one;
 mod telling;
 mod value;
 
 pub use fanout::Fanout;
+pub use laws::what_was_told_stays;
