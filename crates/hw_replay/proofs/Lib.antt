@@ -5,3 +5,4 @@ pub mod CauseLaws
 pub mod SignedLaws
 pub mod EntryLaws
 pub mod DeliveredLaws
+pub mod EndLaws

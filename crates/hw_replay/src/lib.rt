@@ -10,4 +10,4 @@ mod replay;
 
 pub use fault::StartFault;
 pub use laws::a_replay_delivers;
-pub use replay::{Replay, replay_log};
+pub use replay::{Replay, Replayed, replay_log};

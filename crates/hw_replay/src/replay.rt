@@ -1,6 +1,6 @@
 //! A replay, entry by entry.
 
-ghost use Rattle.std.specs.Prelude.{◌≡◌, ◌≢◌, ◌+◌, ◌<◌, ◌≤◌, ◌^◌, ◌⊎◌, false, [], Ok, Some, None, IsTrue, IfOk, IfErr, IfSome, OnOk, OnErr};
+ghost use Rattle.std.specs.Prelude.{◌≡◌, ◌≢◌, ◌+◌, ◌<◌, ◌≤◌, ◌^◌, ◌⊎◌, true, false, [], Ok, Some, None, IsTrue, IfOk, IfErr, IfSome, OnOk, OnErr};
 ghost use Rattle.std.specs.Option.{option_copied};
 ghost use Rattle.hw_io.specs.Files.{SameFiles};
 ghost use Rattle.hw_types.specs.Limits.{config_fault};
@@ -12,12 +12,13 @@ ghost use Rattle.hw_replay.specs.Taken.{nothing_taken, entry_taken, spelling_of,
 ghost use Rattle.hw_replay.specs.Replay.{is_wanted, taken_in, ahead_in, Begins, Leads, TakesAll, GrowsByOne, Replays};
 ghost use Rattle.hw_replay.specs.Causes.{HasReplayCause, IsReplayAbout};
 ghost use Rattle.hw_replay.specs.Steps.{HasRoom, IsBegun, IsStop, IsOfEntry, repeats_in};
+ghost use Rattle.hw_replay.specs.Ends.{lasts_of_file, lasts_ahead, LeadsLasts, IsReached};
 
 use crate::fault::{StartFault, fault_of};
 use hw_codec::{encode_config, encode_unit};
 use hw_core::{Core, Refused};
 use hw_io::Files;
-use hw_log::{LogEntry, LogReader};
+use hw_log::{Lasts, LogEntry, LogReader};
 use hw_types::{Bytes, Cause, Config, Digest, OutOfMemory, Receipt, SignedUnit, Vertex};
 use std::alloc::Global;
 
@@ -28,6 +29,19 @@ pub struct Replay {
     reader: LogReader,
     /// The node, as the entries so far have left it.
     pub core: Core,
+    /// How many entries were refused.
+    pub refused: u64,
+    /// How many entries came again.
+    pub repeats: u64,
+}
+
+/// What a replay leaves.
+#[derive(Drop)]
+pub struct Replayed {
+    /// The node, as the entries have left it.
+    pub core: Core,
+    /// The last unit of each validator in the log.
+    pub lasts: Lasts,
     /// How many entries were refused.
     pub refused: u64,
     /// How many entries came again.
@@ -48,6 +62,9 @@ impl Replay {
         ensures said { IsTrue F.tells → Begins (option_copied wanted.entry) (F.held files.old name.now) (F.unread files.new) result }
         ensures empty { IfOk result (λ r. taken_in r ≡ nothing_taken r.core.config) }
         ensures room { IfOk result (λ r. HasRoom r (F.allowance files.new)) }
+        ensures lasts { IsTrue F.tells → IfOk result (λ r. lasts_of_file (F.held files.old name.now) ≡ Some (lasts_ahead r (F.unread files.new))) }
+        ensures reached { IfOk result (λ r. IsReached r.core) }
+        ensures wanted { IfOk result (λ r. is_wanted (option_copied wanted.entry) r.core.config ≡ true) }
         ensures cause { HasReplayCause (F.read_faults files.old) (F.read_faults files.new) result }
         ensures about { IsTrue F.tells → IsReplayAbout (Some name.now) (F.faults_about files.old) (F.faults_about files.new) result }
 
@@ -69,6 +86,9 @@ impl Replay {
         ensures grows { GrowsByOne self.old.core self.new.core }
         ensures end { IfOk result (λ more. more ≡ false → self.new.core ≡ self.old.core) }
         ensures room { IfOk result (λ more. IsTrue more → HasRoom self.new (F.allowance files.new)) }
+        // So do the last units behind all its entries, and at the end they are those of the reader.
+        ensures lasts { IsTrue F.tells → LeadsLasts (lasts_ahead self.old (F.unread files.old)) (lasts_ahead self.new (F.unread files.new)) self.new.reader.lasts result }
+        ensures reached { IsReached self.old.core → IsReached self.new.core }
         ensures nearer { IfOk result (λ more. IsTrue more → ahead_of self.new.reader (F.allowance files.new) < ahead_of self.old.reader (F.allowance files.old)) }
         ensures cause { HasReplayCause (F.read_faults files.old) (F.read_faults files.new) result }
         ensures about { IsReplayAbout (F.begun files.old) (F.faults_about files.old) (F.faults_about files.new) result }
@@ -87,8 +107,20 @@ impl Replay {
         }
     }
 
+    /// What it leaves: the node, the last units of its log, and the counts.
+    pub fn into_parts(self) -> Replayed
+        ensures { result ≡ record { core = self.core; lasts = self.reader.lasts; refused = self.refused; repeats = self.repeats } }
+    {
+        Replayed {
+            core: self.core,
+            lasts: self.reader.into_lasts(),
+            refused: self.refused,
+            repeats: self.repeats,
+        }
+    }
+
     /// Delivers an entry, and counts it where it is refused or came again.
-    #[tactic(auto, using(crate::proofs::TakeLaws::grows_accepted, crate::proofs::TakeLaws::stop_is_of_entry))]
+    #[tactic(auto, using(crate::proofs::TakeLaws::grows_accepted, crate::proofs::TakeLaws::stop_is_of_entry, crate::proofs::EndLaws::reached_after))]
     fn take(&mut self, entry: LogEntry) -> Result<(), StartFault>
         requires fits { VertexFits entry.vertex }
         requires room { self.old.refused + self.old.repeats < 2 ^ 62 }
@@ -96,6 +128,7 @@ impl Replay {
         ensures stopped { IfErr result (λ e. IsStop e (entry_taken (taken_in self.old) entry)) }
         ensures fault { IfErr result IsOfEntry }
         ensures grows { GrowsByOne self.old.core self.new.core }
+        ensures reached { IsReached self.old.core → IsReached self.new.core }
         ensures counts { self.new.refused + self.new.repeats ≤ self.old.refused + self.old.repeats + 1 }
         ensures reader { self.new.reader ≡ self.old.reader }
     {
@@ -249,6 +282,9 @@ pub fn replay_log<F: Files>(
 ) -> Result<Replay, StartFault>
     requires { IfSome wanted (λ config. ConfigFits config.now) }
     ensures said { IsTrue F.tells → Replays (option_copied wanted.entry) (F.held files.old name.now) result }
+    ensures lasts { IsTrue F.tells → IfOk result (λ r. lasts_of_file (F.held files.old name.now) ≡ Some r.reader.lasts) }
+    ensures reached { IfOk result (λ r. IsReached r.core) }
+    ensures wanted { IfOk result (λ r. is_wanted (option_copied wanted.entry) r.core.config ≡ true) }
     ensures cause { HasReplayCause (F.read_faults files.old) (F.read_faults files.new) result }
     ensures about { IsTrue F.tells → IsReplayAbout (Some name.now) (F.faults_about files.old) (F.faults_about files.new) result }
 
@@ -261,9 +297,13 @@ pub fn replay_log<F: Files>(
 }
 
 /// Takes all entries that are left.
+#[tactic(auto, using(crate::proofs::EndLaws::grown_config))]
 fn take_all<F: Files>(files: &mut F, replay: &mut Replay) -> Result<(), StartFault>
     requires { HasRoom replay.old (F.allowance files.old) }
     ensures said { IsTrue F.tells → TakesAll (ahead_in replay.old (F.unread files.old)) (taken_in replay.new) result }
+    ensures lasts { IsTrue F.tells → OnOk result (lasts_ahead replay.old (F.unread files.old) ≡ replay.new.reader.lasts) }
+    ensures reached { IsReached replay.old.core → IsReached replay.new.core }
+    ensures config { replay.new.core.config ≡ replay.old.core.config }
     ensures cause { HasReplayCause (F.read_faults files.old) (F.read_faults files.new) result }
     ensures about { IsReplayAbout (F.begun files.old) (F.faults_about files.old) (F.faults_about files.new) result }
 
