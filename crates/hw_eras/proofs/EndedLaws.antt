@@ -1,27 +1,34 @@
 -- A node's era names the next configuration exactly where it decided the block at its end.
-use Rattle.std.proofs.Common.{◌≡◌, ℕ, zero, suc, ◌+◌, ◌≤◌, inl, inr, Bool, true, false, cond, List, [], ◌∷◌, length, map, Option, Some, None, refl, sym, ap, ◌∙◌, arith}
-use Rattle.std.specs.Prelude.{◌==◌, find, slice_get}
+use Rattle.std.proofs.Common.{◌≡◌, ℕ, zero, suc, ◌+◌, ◌-◌, ◌≤◌, inl, inr, Bool, true, false, cond, List, [], ◌∷◌, length, map, Option, Some, None, Result, Ok, Err, IfOk, ◌↔◌, ◌<◌, refl, sym, ap, subst, ◌∙◌, arith}
+use Rattle.std.specs.Prelude.{◌==◌, find, slice_get, unwrap_or}
 use Rattle.std.specs.Option.{option_map, option_and_then}
 use Rattle.std.specs.List.{range_with_len}
 use Rattle.std.proofs.lemmas.Bool.{eq-eqb, eqb-true}
+use Rattle.hw_types.specs.declared.unit.Digest.{Digest}
 use Rattle.hw_types.specs.declared.unit.Vertex.{Vertex}
+use Rattle.hw_types.specs.declared.items.OutOfMemory.{OutOfMemory}
 use Rattle.hw_types.specs.declared.config.Config.{Config}
 use Rattle.hw_types.specs.declared.answers.Decision.{Decision}
 use Rattle.hw_types.specs.Graph.{Node, find_node}
 use Rattle.hw_types.specs.Below.{Among}
 use Rattle.hw_types.specs.Settled.{settled_of}
-use Rattle.hw_types.specs.Journal.{Setting}
+use Rattle.hw_types.specs.Journal.{Setting, received_of}
 use Rattle.hw_types.specs.Decisions.{AreDecisions, received_at}
 use Rattle.hw_types.specs.Real.{CoreState, setting_of}
 use Rattle.hw_types.proofs.WordsLaws.{found_node, find_node_is}
 use Rattle.hw_chain.proofs.ListLaws.{number_below}
 use Rattle.hw_chain.proofs.StoodLaws.{settled_in, graph_in, settled_later, record_in}
 use Rattle.hw_chain.proofs.DecidedLaws.{heights}
+use Rattle.hw_dag.specs.Dag.{UnitGraph, graph, unit_at, node_at, count_of}
+use Rattle.hw_dag.specs.Admission.{IsGraph, IsNew}
+use Rattle.hw_dag.proofs.NodeLaws.{among_node, node_found, graph_one_name}
+use Rattle.hw_eras.specs.declared.answers.EraOpen.{EraOpen}
+use Rattle.hw_eras.specs.declared.answers.EraOpen.TheVariants as opening
 use Rattle.hw_eras.specs.Eras.{next_config, journal_in, last_block, value_of}
-use Rattle.hw_eras.specs.Nodes.{era_of, IsMadeAgain, next_of, IsUnended}
+use Rattle.hw_eras.specs.Nodes.{era_of, IsMadeAgain, next_of, IsUnended, IsLastBlock, first_config, last_core, AreNodeEras, IsLastUnended, IsFull}
 use Rattle.hw_eras.specs.Laws.{EndedNamesNext}
 use Rattle.hw_eras.proofs.EraLaws.{last_is, after_is}
-use Rattle.hw_eras.proofs.NodeLaws.{era_decisions}
+use Rattle.hw_eras.proofs.NodeLaws.{era_decisions, made_at}
 
 -- a decided block is a settled unit
 decided_settled : (s : Setting) (journal : List Vertex) (ds : List Decision) → AreDecisions s journal ds → (d : Decision) → Among d ds → (b : Node) × (find_node (settled_in s journal) d.block ≡ Some b)
@@ -113,12 +120,79 @@ module _ (c : CoreState) (made : IsMadeAgain c) where
       let next : None ≡ Some (next_config c.config b.0.digest (value_of b.0)) = sym h ∙ has_next b.0 b.1 in
       cc
 
-  unended_none : IsUnended c → next_of c ≡ None
-  unended_none none = go (next_of c) refl
+  no_next : IsUnended c → next_of c ≡ None
+  no_next none = go (next_of c) refl
     where
       go : (o : Option Config) → next_of c ≡ o → o ≡ None
       go None e = refl
       go (Some next) e = absurd (ended_next next e none)
 
 pub ended_names : EndedNamesNext
-ended_names core made = (none_unended core made, unended_none core made)
+ended_names core made = (none_unended core made, no_next core made)
+
+module _ (c : CoreState) (made : IsMadeAgain c) (block : Digest) (last : IsLastBlock c block) (dag : UnitGraph) (g : IsGraph dag) (settled : graph dag ≡ settled_of c.config (received_of (setting_of c.config) c.journal)) where
+  last_among : Among last.0 (graph dag)
+  last_among =
+      let s = setting_of c.config in
+      let l = last_is s (era_of c) last.0 last.1 in
+      let m = (find_node_is (settled_in s (journal_in s (era_of c))) last.0 l.decision.block l.named).0 in
+      subst (λ (xs : List Node). Among last.0 xs) (sym settled) (subst (λ (j : List Vertex). Among last.0 (settled_in s j)) made m)
+
+  -- the last block is in the graph
+  pub never_new : IsNew dag block → ⊥
+  never_new new = (let n = among_node dag last.0 last_among in new n.0 n.1 (ap (λ (x : Node). x.digest) n.2 ∙ last.2))
+
+  -- and the unit of its name is that block
+  pub its_node : (n : ℕ) → n < count_of dag → (unit_at dag n).digest ≡ block → node_at dag n ≡ last.0
+  its_node n lt name =
+      let found = found_node (graph dag) last.0 block (graph_one_name dag) last_among last.2 in
+      let both : Some (node_at dag n) ≡ Some last.0 = sym (node_found dag g n lt) ∙ ap (find_node (graph dag)) name ∙ found in
+      cc
+
+  pub next_is : (n : ℕ) → n < count_of dag → (unit_at dag n).digest ≡ block → (config : Config) (value : List ℕ) → config ≡ c.config → value ≡ unwrap_or (unit_at dag n).signed.unit.value []
+      → next_of c ≡ Some (next_config config block value)
+  next_is n lt name config value is says =
+      let node = its_node n lt name in
+      has_next c made last.0 last.1
+      ∙ ap (λ (d : Digest). Some (next_config c.config d (value_of last.0))) last.2
+      ∙ ap (λ (x : Node). Some (next_config c.config block (value_of x))) (sym node)
+      ∙ ap (λ (v : List ℕ). Some (next_config c.config block v)) (sym says)
+      ∙ ap (λ (k : Config). Some (next_config k block value)) (sym is)
+
+pub answered_next : (c : CoreState) (answer : Result Config OutOfMemory) (made : Config) → next_of c ≡ Some made → IfOk answer (λ next. next ≡ made) → IfOk answer (λ next. next_of c ≡ Some next)
+answered_next c (Ok next) made is e = is ∙ ap Some (sym e)
+answered_next c (Err out) made is e = tt
+
+-- ---- the last era of a node
+
+module _ (cores : List CoreState) (core : CoreState) (last : last_core cores ≡ Some core) where
+  pub last_unended : IsUnended core → IsLastUnended cores
+  last_unended none other is =
+      let same : core ≡ other = (let both : Some core ≡ Some other = sym last ∙ is in cc) in
+      subst IsUnended same none
+
+  pub last_ended : (block : Digest) → IsMadeAgain core → IsLastBlock core block → IsLastUnended cores → ⊥
+  last_ended block made b none = ended_next core made (next_config core.config b.0.digest (value_of b.0)) (has_next core made b.0 b.1) (none core last)
+
+-- the nodes of eras made their journals
+pub last_made : (cores : List CoreState) (core : CoreState) → AreNodeEras cores → last_core cores ≡ Some core → IsMadeAgain core
+last_made cores core are last = made_at (first_config cores) cores (length cores - 1) core are.eras last
+
+-- ---- what is answered where the next era is to be opened
+
+abbrev Answer : Type 0
+Answer = Result (Option ℕ) EraOpen
+
+module _ (cores : List CoreState) (core : CoreState) (last : last_core cores ≡ Some core) where
+  pub unended_none : (answer : Answer) → answer ≡ Ok None → IsUnended core → (answer ≡ Ok None) ↔ IsLastUnended cores
+  unended_none answer is none = (λ e. last_unended cores core last none, λ u. is)
+
+  pub unended_full : (answer : Answer) → answer ≡ Ok None → IsUnended core → (answer ≡ Err opening.Full) ↔ IsFull cores
+  unended_full answer is none = (λ e. absurd (let bad : Ok None ≡ Err opening.Full = sym is ∙ e in cc), λ full. absurd (full.0 (last_unended cores core last none)))
+
+  module _ (block : Digest) (made : IsMadeAgain core) (ended : IsLastBlock core block) where
+    pub ended_none : (answer : Answer) → (answer ≡ Ok None → ⊥) → (answer ≡ Ok None) ↔ IsLastUnended cores
+    ended_none answer other = (λ e. absurd (other e), λ none. absurd (last_ended cores core last block made ended none))
+
+    pub ended_full : (answer : Answer) → answer ≡ Err opening.Full → length cores ≡ 64 → (answer ≡ Err opening.Full) ↔ IsFull cores
+    ended_full answer is long = (λ e. (last_ended cores core last block made ended, long), λ full. is)

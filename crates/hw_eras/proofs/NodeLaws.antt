@@ -1,9 +1,8 @@
 -- The nodes of eras, and what deliveries and openings make of them.
-use Rattle.std.proofs.Common.{◌≡◌, ℕ, zero, suc, ◌+◌, ◌-◌, ◌≤◌, ◌<◌, ◌⊎◌, inl, inr, Bool, true, false, cond, List, [], ◌∷◌, ◌++◌, length, map, fold, Option, Some, None, refl, sym, ap, subst, ◌∙◌, arith}
-use Rattle.std.proofs.Math.ListN.{set, length-set}
+use Rattle.std.proofs.Common.{◌≡◌, ℕ, zero, suc, ◌+◌, ◌≤◌, ◌<◌, Bool, true, false, cond, List, [], ◌∷◌, ◌++◌, length, map, fold, Option, Some, None, Ok, refl, sym, ap, subst, ◌∙◌, arith}
+use Rattle.std.proofs.Math.ListN.{set, length-set, get_or}
 use Rattle.std.specs.Prelude.{◌==◌, find, slice_get}
 use Rattle.std.specs.Option.{option_map, option_and_then, option_or}
-use Rattle.std.specs.List.{range_with_len}
 use Rattle.std.proofs.lemmas.List.{map-append, append-nil, length-append}
 use Rattle.std.proofs.lemmas.List.Sums.{fold_push}
 use Rattle.std.proofs.lemmas.List.Folds.{find-append}
@@ -11,12 +10,13 @@ use Rattle.hw_types.specs.declared.unit.Digest.{Digest}
 use Rattle.hw_types.specs.declared.unit.Vertex.{Vertex}
 use Rattle.hw_types.specs.declared.config.Config.{Config}
 use Rattle.hw_types.specs.declared.answers.Decision.{Decision}
+use Rattle.hw_types.specs.declared.answers.Receipt.{Receipt}
+use Rattle.hw_types.specs.declared.answers.Cause.{Cause}
 use Rattle.hw_types.specs.Graph.{Node, find_node}
 use Rattle.hw_types.specs.Below.{Among}
-use Rattle.hw_types.specs.Settled.{settled_of}
-use Rattle.hw_types.specs.Journal.{Setting, received_of, answer, is_accepted, journal_after}
-use Rattle.hw_types.specs.Decisions.{AreDecisions, IsRecord}
-use Rattle.hw_types.specs.Real.{CoreState, setting_of, after_in}
+use Rattle.hw_types.specs.Journal.{Setting, answer, is_accepted, journal_after}
+use Rattle.hw_types.specs.Decisions.{AreDecisions}
+use Rattle.hw_types.specs.Real.{CoreState, setting_of, answer_in, after_in}
 use Rattle.hw_types.proofs.WordsLaws.{found_node, find_node_is}
 use Rattle.hw_summit.specs.Decided.{decisions_of}
 use Rattle.hw_summit.proofs.DecidedLaws.{decisions_are}
@@ -24,10 +24,13 @@ use Rattle.hw_summit.proofs.HeightLaws.{one_block_each}
 use Rattle.hw_chain.specs.Chain.{Begins}
 use Rattle.hw_chain.proofs.StoodLaws.{settled_in, graph_in, stays}
 use Rattle.hw_chain.proofs.DetectorLaws.{only_grow}
-use Rattle.hw_eras.specs.Eras.{next_config, Era, journal_in, last_block, value_of, config_after, AreEras, AreOneChain}
-use Rattle.hw_eras.specs.Nodes.{real, era_of, IsMadeAgain, next_of, AreErasFrom, first_config, last_core, AreNodeEras}
+use Rattle.hw_eras.specs.Eras.{next_config, Era, journal_in, last_block, value_of, AreEras}
+use Rattle.hw_core.specs.Deliver.{IsRefusal}
+use Rattle.hw_core.specs.Promises.{begun as begun_core}
+use Rattle.hw_eras.specs.declared.answers.EraCause.TheVariants as era_cause
+use Rattle.hw_eras.specs.Nodes.{real, era_of, IsMadeAgain, next_of, AreErasFrom, first_config, last_core, AreNodeEras, HasDelivered, IsEraRefusal, HasOpened}
 use Rattle.hw_eras.specs.Laws.{NodesAreEras, NodesAreOneChain, NextStays}
-use Rattle.hw_eras.proofs.EraLaws.{IsLast, last_is, after_is, node_chain}
+use Rattle.hw_eras.proofs.EraLaws.{last_is, after_is, node_chain}
 
 -- ---- a journal that its vertices make again
 
@@ -37,7 +40,7 @@ unfolding answer
 accepted_true s journal v true h = refl
 accepted_true s journal v false h = absurd (let bad : false ≡ true = h in cc)
 
-pub made_begun : (config : Config) → IsMadeAgain (record { config = config; journal = [] })
+pub made_begun : (config : Config) → IsMadeAgain (begun_core config)
 made_begun config = refl
 
 module _ (c : CoreState) (v : Vertex) (verdict : Bool) where
@@ -136,7 +139,7 @@ delivered cores era core v verdict are e = record {
 
 -- one more era
 opened_from : (next : Option Config) (cores : List CoreState) (k : ℕ) (core : CoreState) (config : Config) → AreErasFrom next cores → length cores ≡ suc k → slice_get cores k ≡ Some core → next_of core ≡ Some config
-    → AreErasFrom next (cores ++ record { config = config; journal = [] } ∷ [])
+    → AreErasFrom next (cores ++ begun_core config ∷ [])
 opened_from next [] k core config are long e named = absurd (omega arith)
 opened_from next (c ∷ []) zero core config are long e named =
     let same : core ≡ c = cc in
@@ -146,15 +149,18 @@ opened_from next (c ∷ d ∷ ds) zero core config are long e named = absurd (om
 opened_from next (c ∷ d ∷ ds) (suc k) core config are long e named = (are.0, are.1, opened_from (next_of c) (d ∷ ds) k core config are.2 (omega arith) e named)
 
 pub opened : (cores : List CoreState) (core : CoreState) (config : Config) → AreNodeEras cores → length cores < 64 → last_core cores ≡ Some core → next_of core ≡ Some config
-    → AreNodeEras (cores ++ record { config = config; journal = [] } ∷ [])
+    → AreNodeEras (cores ++ begun_core config ∷ [])
 opened [] core config are lt e named = absurd cc
 opened (c ∷ cs) core config are lt e named = record {
   some = omega arith;
-  few = subst (λ n. n ≤ 64) (sym (length-append (c ∷ cs) (record { config = config; journal = [] } ∷ []))) (let so : suc (length cs) + 1 ≤ 64 = omega arith in so);
+  few = subst (λ n. n ≤ 64) (sym (length-append (c ∷ cs) (begun_core config ∷ []))) (let so : suc (length cs) + 1 ≤ 64 = omega arith in so);
   eras = opened_from (first_config (c ∷ cs)) (c ∷ cs) (length cs) core config are.eras (omega arith) (subst (λ n. slice_get (c ∷ cs) n ≡ Some core) (omega arith) e) named;
 }
 
-pub begun : (config : Config) → AreNodeEras (record { config = config; journal = [] } ∷ [])
+pub opened_has : (before after : List CoreState) (number : ℕ) → AreNodeEras before → length before < 64 → HasOpened before after number → AreNodeEras after
+opened_has before after number are lt has = subst AreNodeEras (sym has.left) (opened before has.core has.config are lt has.last has.named)
+
+pub begun : (config : Config) → AreNodeEras (begun_core config ∷ [])
 begun config = record { some = omega arith; few = omega arith; eras = (refl, made_begun config, tt) }
 
 -- each node of them made its journal
@@ -162,6 +168,34 @@ pub made_at : (next : Option Config) (cores : List CoreState) (k : ℕ) (core : 
 made_at next [] k core are e = absurd cc
 made_at next (c ∷ cs) zero core are e = (let same : c ≡ core = cc in subst IsMadeAgain same are.1)
 made_at next (c ∷ cs) (suc k) core are e = made_at (next_of c) cs k core are.2 e
+
+-- ---- a call on one of them
+
+got : (cores : List CoreState) (era : ℕ) (core : CoreState) → era < length cores → core ≡ get_or cores era core → slice_get cores era ≡ Some core
+got [] era core lt e = absurd (omega arith)
+got (c ∷ cs) zero core lt e = ap Some (sym e)
+got (c ∷ cs) (suc era) core lt e = got cs era core (omega arith) e
+
+put_back : (cores : List CoreState) (era : ℕ) (core : CoreState) → slice_get cores era ≡ Some core → set cores era core ≡ cores
+put_back [] era core e = refl
+put_back (c ∷ cs) zero core e = (let same : core ≡ c = cc in ap (λ (k : CoreState). k ∷ cs) same)
+put_back (c ∷ cs) (suc era) core e = ap (λ (ks : List CoreState). c ∷ ks) (put_back cs era core e)
+
+module _ (cores : List CoreState) (era : ℕ) (core new : CoreState) (v : Vertex) (verdict : Bool) (lt : era < length cores) (is : core ≡ get_or cores era core) where
+  abbrev its : slice_get cores era ≡ Some core
+  its = got cores era core lt is
+
+  pub has_delivered : (receipt : Receipt) → answer_in core v verdict ≡ Ok receipt → new ≡ after_in core v verdict → HasDelivered cores (set cores era new) era v verdict receipt
+  has_delivered receipt answer taken = record { core = core; its = its; answer = answer; left = ap (λ (k : CoreState). set cores era k) taken }
+
+  pub has_eras : AreNodeEras cores → new ≡ after_in core v verdict → AreNodeEras (set cores era new)
+  has_eras are taken = subst (λ (k : CoreState). AreNodeEras (set cores era k)) (sym taken) (delivered cores era core v verdict are its)
+
+  pub is_refusal : (cause : Cause) → IsRefusal cause (answer_in core v verdict) → IsEraRefusal cores era v verdict (era_cause.Core cause)
+  is_refusal cause refused = (core, its, refused)
+
+  pub as_it_was : new ≡ core → set cores era new ≡ cores
+  as_it_was same = ap (λ (k : CoreState). set cores era k) same ∙ put_back cores era core its
 
 -- ---- they are eras
 
