@@ -5,3 +5,7 @@ pub mod TogetherLaws
 pub mod RunLaws
 pub mod ActLaws
 pub mod WorkedLaws
+pub mod LanesLaws
+pub mod MadeLaws
+pub mod ShuffleLaws
+pub mod GeneratedLaws

@@ -17,7 +17,7 @@ use Rattle.hw_honest.specs.Generated.{Totals, AreTotals, gen_config, gen_key, ge
 use Rattle.hw_honest.proofs.NumberLaws.{numbers_one, totals_one}
 use Rattle.hw_cluster.specs.Worked.{most_in, numbers_in, totals_in, NumbersAreWorkedOut, TotalsAreWorkedOut, sim_numbers, gen_totals}
 
-decided : (s : Setting) (journal : List Vertex) → AreDecisions s journal (decisions_of s journal)
+pub decided : (s : Setting) (journal : List Vertex) → AreDecisions s journal (decisions_of s journal)
 decided s journal = decisions_are s journal (one_block_each s journal)
 
 module _ (s : Setting) (c : Cluster) where

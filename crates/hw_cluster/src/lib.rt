@@ -1,4 +1,4 @@
-//! Several nodes that hear each other, and runs of them that random words choose.
+//! Several nodes that hear each other, runs of them that random words choose, and large journals that a number makes.
 //!
 //! A [`Cluster`] is some honest validators, each with a node of its own, and the vertices that were sent. It
 //! does one action after the other, in whatever order they come: a validator's step, the delivery of a sent
@@ -7,16 +7,22 @@
 //! whatever is forged, no node equivocates; and while the validators that are no nodes weigh no more than the
 //! threshold, the nodes decide one chain.
 //!
-//! [`simulate`] lets the words of a number choose the actions.
+//! [`simulate`] lets the words of a number choose the actions. [`generate`] gives a node large valid input that a number
+//! makes.
 #![tactic(auto)]
 
 mod acts;
 mod counts;
+mod generated;
+mod lanes;
 mod laws;
+mod made;
 mod nodes;
+mod order;
 mod simulated;
 mod words;
 
+pub use generated::{GenSummary, generate};
 pub use hw_honest::{Acted, Action};
 pub use laws::{nodes_agree, nodes_never_equivocate, numbers_are_worked_out};
 pub use nodes::Cluster;

@@ -116,7 +116,7 @@ impl Cluster {
 }
 
 /// A node that received nothing.
-pub fn begin(alloc: Global, config: Config) -> Result<Core, OutOfMemory>
+fn begin(alloc: Global, config: Config) -> Result<Core, OutOfMemory>
     requires { config_fault config ≡ None }
     ensures { IfOk result (λ core. core ≡ begun_core config) }
 {
@@ -129,7 +129,7 @@ pub fn begin(alloc: Global, config: Config) -> Result<Core, OutOfMemory>
 }
 
 /// So many nodes that received nothing.
-fn begin_all(alloc: Global, config: &Config, nodes: u32) -> Result<Vec<Core>, OutOfMemory>
+pub fn begin_all(alloc: Global, config: &Config, nodes: u32) -> Result<Vec<Core>, OutOfMemory>
     requires { config_fault config.now ≡ None }
     ensures { IfOk result (λ cores. cores.items ≡ replicate nodes (begun_core config.now)) }
 {

@@ -2,6 +2,7 @@
 //!
 //! | Line | Answer |
 //! |---|---|
+//! | `gen NUMBER ROUNDS` | how many units of a generated journal are settled, how many blocks are decided, and how high the last one is |
 //! | `sim NUMBER NODES STEPS` | how many vertices are sent, the most blocks that a node decides, how many actions are refused, and how many validators equivocate |
 //! | `nodes COUNT RECORDS ACTIONS` | what each action is answered, and how many vertices are sent then |
 //!
