@@ -1,0 +1,4 @@
+pub mod MeasureLaws
+pub mod MendLaws
+pub mod AboutLaws
+pub mod MigrateLaws

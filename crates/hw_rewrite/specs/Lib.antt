@@ -1,0 +1,4 @@
+pub mod Rewritten
+pub mod Causes
+pub mod Measured
+pub mod Migrated

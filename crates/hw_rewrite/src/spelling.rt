@@ -1,0 +1,54 @@
+//! A log's header and its entries, as they are written in version 2.
+
+ghost use Rattle.std.specs.Prelude.{◌≡◌, ◌++◌, IfOk, OnOk};
+ghost use Rattle.hw_types.specs.Spelling.{ConfigFits, VertexFits};
+ghost use Rattle.hw_codec.specs.Ranges.{ConfigInRange};
+ghost use Rattle.hw_log.specs.Lasts.{lasts_after};
+ghost use Rattle.hw_log.specs.Log.{header_bytes, entry_bytes as bytes_of_entry};
+ghost use Rattle.hw_log.specs.Spelled.{EntryFits};
+
+use hw_codec::{config_is_in_range, encode_config, vertex_is_in_range};
+use hw_log::{Lasts, LogEntry, entry_bytes};
+use hw_types::{Bytes, Config, OutOfMemory};
+use std::alloc::Global;
+
+/// The version in which a log is written anew.
+pub(crate) const VERSION: u8 = 2;
+
+/// The header of a log of version 2 with this configuration.
+#[tactic(auto, using(hw_log::proofs::LengthLaws::config_short))]
+pub(crate) fn spelled_header(alloc: Global, config: &Config) -> Result<Bytes, OutOfMemory>
+    requires { ConfigFits config.now }
+    ensures header { IfOk result (λ bytes. bytes ≡ header_bytes 2 config.now) }
+    ensures range { OnOk result (ConfigInRange config.now) }
+{
+    let spelling = encode_config(alloc, config)?;
+    config_is_in_range(config);
+    let length = spelling.len() as u32;
+    let mut header = Bytes::new(alloc);
+    header.extend(b"HWLG")?;
+    header.push(VERSION)?;
+    header.extend(&length.to_be_bytes())?;
+    header.extend(spelling.as_slice())?;
+    Ok(header)
+}
+
+/// Puts an entry last, as it stands behind these last units, and goes behind it.
+pub(crate) fn spell_entry(
+    alloc: Global,
+    lasts: &mut Lasts,
+    entry: LogEntry,
+    text: &mut Bytes,
+) -> Result<(), OutOfMemory>
+    requires { VertexFits entry.vertex }
+    ensures text { OnOk result (text.new ≡ text.old ++ bytes_of_entry lasts.old entry.verdict entry.vertex) }
+    ensures lasts { OnOk result (lasts.new ≡ lasts_after lasts.old entry.vertex) }
+    ensures fits { OnOk result (EntryFits entry) }
+{
+    let bytes = entry_bytes(alloc, lasts, entry.verdict, &entry.vertex)?;
+    let noted = lasts.prepare(&entry.vertex)?;
+    text.extend(bytes.as_slice())?;
+    lasts.note(noted);
+    vertex_is_in_range(&entry.vertex);
+    Ok(())
+}
