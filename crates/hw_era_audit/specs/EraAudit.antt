@@ -29,7 +29,7 @@ chain_over cores = era_chain (map era_of cores)
 -- weigh more than that era's threshold, or the two clash.
 abbrev pub IsAccounted : List CoreState → List CoreState → EraVerdict → Type 0
 IsAccounted left right (eras.Agree common) = Begins (chain_over left) (chain_over right) ⊎ Begins (chain_over right) (chain_over left)
-IsAccounted left right (eras.At era verdict) = (core : CoreState) → slice_get left era ≡ Some core → IsAccountable core.config.ftt verdict
+IsAccounted left right (eras.At era v) = (core : CoreState) → slice_get left era ≡ Some core → IsAccountable core.config.ftt v
 
 -- no more than 2^32 blocks are agreed on
 abbrev pub IsShort : Verdict → Type 0
