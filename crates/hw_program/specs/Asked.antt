@@ -2,7 +2,7 @@
 use Rattle.std.specs.Prelude.{◌≤◌, Option, Some, None}
 use Rattle.hw_program.specs.declared.command.Command.{Command}
 use Rattle.hw_program.specs.declared.command.Command.TheVariants as command
-use Rattle.hw_program.specs.Commands.{Request, Replay, Explain, Audit, Script, Sim}
+use Rattle.hw_program.specs.Commands.{Request, Replay, Explain, Audit, Script, Gen, Sim}
 
 -- what a command asks for
 abbrev pub request : Command → Request
@@ -10,6 +10,7 @@ request (command.Replay log) = Replay log.now
 request (command.Explain log) = Explain log.now
 request (command.Audit left right) = Audit left.now right.now
 request (command.Script file) = Script file.now
+request (command.Gen number rounds) = Gen number rounds
 request (command.Sim number nodes steps) = Sim number nodes steps
 
 -- the request of the command, if there is one
@@ -17,10 +18,11 @@ abbrev pub asked : Option Command → Option Request
 asked None = None
 asked (Some c) = Some (request c)
 
--- the numbers of a simulated run are in their ranges
+-- the numbers of a workload are in their ranges
 abbrev pub IsInRange : Command → Type 0
 IsInRange (command.Replay log) = Unit {0}
 IsInRange (command.Explain log) = Unit {0}
 IsInRange (command.Audit left right) = Unit {0}
 IsInRange (command.Script file) = Unit {0}
+IsInRange (command.Gen number rounds) = (1 ≤ rounds) × (rounds ≤ 4096)
 IsInRange (command.Sim number nodes steps) = (1 ≤ nodes) × (nodes ≤ 16) × (steps ≤ 20000)

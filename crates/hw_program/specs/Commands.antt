@@ -13,6 +13,7 @@ pub data Request : Type 0 where
   Explain : Word → Request
   Audit : Word → Word → Request
   Script : Word → Request
+  Gen : ℕ → ℕ → Request
   Sim : ℕ → ℕ → ℕ → Request
 
 -- no word is empty or begins with `-`
@@ -28,10 +29,17 @@ of_one command a =
     else if bytes_eq command (codes "script") then Some (Script a)
     else None
 
+-- the generated journal of a number, with 1 to 4,096 rounds
+abbrev pub gen_of : Option ℕ → Option ℕ → Option Request
+gen_of (Some number) (Some rounds) = if rounds == 0 then None else Some (Gen number rounds)
+gen_of (Some number) None = None
+gen_of None rounds = None
+
 -- of two words behind the command
 abbrev pub of_two : Word → Word → Word → Option Request
 of_two command a b =
     if bytes_eq command (codes "audit") then Some (Audit a b)
+    else if bytes_eq command (codes "gen") then gen_of (number_below (2 ^ 64) a) (number_below 4097 b)
     else None
 
 -- a simulated run of a number, with 1 to 16 nodes and at most 20,000 steps
@@ -67,4 +75,5 @@ OnlyReads (Some (Replay log)) = Unit {0}
 OnlyReads (Some (Explain log)) = Unit {0}
 OnlyReads (Some (Audit left right)) = Unit {0}
 OnlyReads (Some (Script file)) = Unit {0}
+OnlyReads (Some (Gen number rounds)) = Unit {0}
 OnlyReads (Some (Sim number nodes steps)) = Unit {0}

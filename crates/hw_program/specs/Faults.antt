@@ -2,7 +2,7 @@
 use Rattle.std.specs.Prelude.{◌≡◌, ℕ, ◌≤◌, ◌⊎◌, List, Option, Some, None, Result, Ok, Err}
 use Rattle.hw_io.specs.Faults.{Rose}
 use Rattle.hw_program.specs.declared.ended.Ended.{Ended}
-use Rattle.hw_program.specs.Commands.{Request, Replay, Explain, Audit, Script, Sim}
+use Rattle.hw_program.specs.Commands.{Request, Replay, Explain, Audit, Script, Gen, Sim}
 use Rattle.hw_program.specs.Texts.{usage_line}
 use Rattle.hw_program.specs.declared.ended.RunFault.{RunFault}
 use Rattle.hw_program.specs.declared.ended.RunFault.TheVariants.{Read, OutOfMemory}
@@ -25,6 +25,7 @@ FailsOf (Some (Replay log)) before now = Rose (before log) (now log)
 FailsOf (Some (Explain log)) before now = Rose (before log) (now log)
 FailsOf (Some (Audit left right)) before now = Rose (before left) (now left) ⊎ Rose (before right) (now right)
 FailsOf (Some (Script file)) before now = Rose (before file) (now file)
+FailsOf (Some (Gen number rounds)) before now = ⊥
 FailsOf (Some (Sim number nodes steps)) before now = ⊥
 
 -- a command that reads logs does all, or ends by what is wrong with one: its bytes, a limit that it meets, or a clash
@@ -42,4 +43,5 @@ IsEndOf (Some (Replay log)) ended = IsReadEnd ended.status
 IsEndOf (Some (Explain log)) ended = IsReadEnd ended.status
 IsEndOf (Some (Audit left right)) ended = IsAuditEnd ended.status
 IsEndOf (Some (Script file)) ended = IsReadEnd ended.status
+IsEndOf (Some (Gen number rounds)) ended = ended.status ≡ 0
 IsEndOf (Some (Sim number nodes steps)) ended = ended.status ≡ 0

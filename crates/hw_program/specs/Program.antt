@@ -7,14 +7,14 @@ use Rattle.hw_explain.specs.Explain.{explained_in}
 use Rattle.hw_replay.specs.declared.fault.StartFault.{StartFault}
 use Rattle.hw_replay.specs.Taken.{Taken}
 use Rattle.hw_replay.specs.Replay.{replay_of}
-use Rattle.hw_cluster.specs.Worked.{sim_numbers}
+use Rattle.hw_cluster.specs.Worked.{gen_totals, sim_numbers}
 use Rattle.hw_program.specs.declared.ended.Ended.{Ended}
 use Rattle.hw_program.specs.Texts.{usage_line, read_fault_ended, stopped_ended}
 use Rattle.hw_script.specs.Output.{output_of}
 use Rattle.hw_program.specs.Audited.{audit_ended}
 use Rattle.hw_program.specs.Scripted.{script_ended}
-use Rattle.hw_program.specs.Workloads.{sim_line}
-use Rattle.hw_program.specs.Commands.{Word, Request, Replay, Explain, Audit, Script, Sim, request_of}
+use Rattle.hw_program.specs.Workloads.{gen_line, sim_line}
+use Rattle.hw_program.specs.Commands.{Word, Request, Replay, Explain, Audit, Script, Gen, Sim, request_of}
 
 -- the bytes held under each name, where there is a file
 abbrev pub Held : Type 0
@@ -80,6 +80,10 @@ audit_said held left right = log_replayed held None left >>= λ l. audited_again
 abbrev pub script_said : Held → Word → Part Ended
 script_said held file = file_of held file >>= λ bytes. Ok (script_ended file (output_of bytes))
 
+-- the line of a generated journal
+abbrev pub gen_said : ℕ → ℕ → Part Ended
+gen_said number rounds = done (gen_line rounds (gen_totals number rounds))
+
 -- the line of a simulated run
 abbrev pub sim_said : ℕ → ℕ → ℕ → Part Ended
 sim_said number nodes steps = done (sim_line nodes steps (sim_numbers number nodes steps))
@@ -93,6 +97,7 @@ request_said held (Some (Replay log)) = replay_said held log
 request_said held (Some (Explain log)) = explain_said held log
 request_said held (Some (Audit left right)) = audit_said held left right
 request_said held (Some (Script file)) = script_said held file
+request_said held (Some (Gen number rounds)) = gen_said number rounds
 request_said held (Some (Sim number nodes steps)) = sim_said number nodes steps
 
 -- How a run ends and what it writes, by its words and what the files hold, where nothing of the outside fails and there is memory.

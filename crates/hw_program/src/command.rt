@@ -3,11 +3,14 @@
 ghost use Rattle.std.specs.Prelude.{◌≡◌, ◌<◌, ◌+◌, ◌^◌, length, drop, IfSome};
 ghost use Rattle.std.specs.List.{list_all};
 ghost use Rattle.hw_script_grammar.specs.Numbers.{number_below};
-ghost use Rattle.hw_program.specs.Commands.{is_word, of_one, of_two, of_three, sim_of, request_of};
+ghost use Rattle.hw_program.specs.Commands.{is_word, of_one, of_two, of_three, gen_of, sim_of, request_of};
 ghost use Rattle.hw_program.specs.Asked.{asked, IsInRange};
 
 use crate::words::Words;
 use hw_script_grammar::number_up_to;
+
+/// A generated journal has at most this many rounds.
+const MAX_ROUNDS: u64 = 4_096;
 
 /// A simulated run has at most this many nodes.
 const MAX_NODES: u64 = 16;
@@ -25,6 +28,8 @@ pub enum Command<'w> {
     Audit { left: &'w str, right: &'w str },
     /// Delivers what a script says, and tells what becomes of it.
     Script { file: &'w str },
+    /// Gives a node the units of so many rounds, which a number makes, and tells what comes of them.
+    Gen { number: u64, rounds: u32 },
     /// Lets the words of a number choose so many steps of so many nodes, and tells what comes of it.
     Sim { number: u64, nodes: u32, steps: u32 },
 }
@@ -77,9 +82,27 @@ fn of_two<'w>(command: &str, first: &'w str, second: &'w str) -> Option<Command<
             left: first,
             right: second,
         })
+    } else if command == "gen" {
+        generation(first, second)
     } else {
         None
     }
+}
+
+/// The generated journal of a number, with so many rounds.
+fn generation<'w>(number: &str, rounds: &str) -> Option<Command<'w>>
+    ensures asked { asked result ≡ gen_of (number_below (2 ^ 64) number.now) (number_below 4097 rounds.now) }
+    ensures range { IfSome result IsInRange }
+{
+    let number = number_up_to(u64::MAX, number.as_bytes())?;
+    let rounds = number_up_to(MAX_ROUNDS, rounds.as_bytes())?;
+    if rounds == 0 {
+        return None;
+    }
+    Some(Command::Gen {
+        number,
+        rounds: rounds as u32,
+    })
 }
 
 /// The command of three words.

@@ -21,7 +21,7 @@ use crate::faults::usage;
 use crate::replay::replay;
 use crate::script::script;
 use crate::words::Words;
-use crate::workloads::simulated;
+use crate::workloads::{generated, simulated};
 use hw_io::{Clock, Consumer, Door, Files, IoFault, Sink, write_all};
 use std::alloc::Global;
 
@@ -108,6 +108,7 @@ fn run<F: Files>(alloc: Global, words: &Words, files: &mut F) -> Result<Ended, R
         Some(Command::Explain { log }) => explain(alloc, files, log),
         Some(Command::Audit { left, right }) => audit_logs(alloc, files, left, right),
         Some(Command::Script { file }) => script(alloc, files, file),
+        Some(Command::Gen { number, rounds }) => generated(alloc, number, rounds),
         Some(
             Command::Sim {
                 number,
