@@ -1,0 +1,5 @@
+pub mod Node
+pub mod Entry
+pub mod Start
+pub mod Make
+pub mod Restart

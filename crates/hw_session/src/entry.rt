@@ -1,0 +1,57 @@
+//! The entry of a vertex in the log.
+
+ghost use Rattle.std.specs.Prelude.{◌≡◌, ◌≢◌, Some, IsTrue, IfOk, OnOk, OnErr};
+ghost use Rattle.hw_types.specs.Spelling.{VertexFits};
+ghost use Rattle.hw_io.specs.Files.{Appended};
+ghost use Rattle.hw_log.specs.Causes.{HasAppendCause};
+ghost use Rattle.hw_log.specs.Lasts.{with_noted};
+ghost use Rattle.hw_session.specs.Entry.{IsEntryOf};
+
+use hw_io::Files;
+use hw_log::{Lasts, LogError, Noted, append_entry, entry_bytes};
+use hw_types::{Bytes, OutOfMemory, Vertex};
+use std::alloc::Global;
+
+/// What is to be appended of a vertex, and what it changes of the last units.
+#[derive(Drop)]
+pub struct NewEntry {
+    pub bytes: Bytes,
+    pub noted: Noted,
+}
+
+/// The entry of a vertex with a true verdict behind these last units. The vertex's units keep the limits of
+/// their format.
+pub fn new_entry(alloc: Global, lasts: &Lasts, vertex: &Vertex) -> Result<NewEntry, OutOfMemory>
+    requires { VertexFits vertex.now }
+    ensures { IfOk result (IsEntryOf lasts.now vertex.now) }
+{
+    let bytes = entry_bytes(alloc, lasts, true, vertex)?;
+    let noted = lasts.prepare(vertex)?;
+    Ok(NewEntry { bytes, noted })
+}
+
+/// Appends an entry to the log of this name, and then notes it.
+pub fn put_entry<F: Files>(
+    lasts: &mut Lasts,
+    files: &mut F,
+    log: &str,
+    entry: NewEntry,
+) -> Result<(), LogError>
+    ensures noted { OnOk result (lasts.new ≡ with_noted lasts.old entry.noted) }
+    ensures same { OnErr result (lasts.new ≡ lasts.old) }
+    ensures bytes { IsTrue F.tells → Appended (F.held files.old) (F.held files.new) log.now entry.bytes result }
+    ensures cause { HasAppendCause (F.append_faults files.old) (F.append_faults files.new) result }
+
+    ensures begun { F.begun files.new ≡ F.begun files.old }
+    ensures unread { IsTrue F.tells → F.begun files.old ≢ Some log.now → F.unread files.new ≡ F.unread files.old }
+    ensures allowance { F.allowance files.new ≡ F.allowance files.old }
+    ensures reads { F.read_faults files.new ≡ F.read_faults files.old }
+{
+    match append_entry(files, log, &entry.bytes) {
+        Ok(()) => {
+            lasts.note(entry.noted);
+            Ok(())
+        }
+        Err(error) => Err(error),
+    }
+}

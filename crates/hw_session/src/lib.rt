@@ -1,0 +1,19 @@
+//! A node that stores what it received in a log.
+//!
+//! A [`Node`] starts from its log, or begins a new one. What it accepts goes last in its journal, and then
+//! its entry goes last in the log, before anything else is answered. So a node that starts again from its
+//! log stands where it stood, and a unit whose entry is torn was never handed out.
+#![tactic(auto)]
+
+mod entry;
+mod fault;
+mod laws;
+mod make;
+mod node;
+mod start;
+
+pub use fault::MakeFault;
+pub use hw_keys::{Keys, KeysFault};
+pub use hw_replay::StartFault;
+pub use laws::{a_log_gives_its_journal_back, a_node_keeps_the_log_of_its_journal};
+pub use node::{ClashUnits, Node};

@@ -1,0 +1,176 @@
+//! A node's own units.
+
+ghost use Rattle.std.specs.Prelude.{◌≡◌, ◌≤◌, ◌<◌, ◌^◌, length, Some, IsTrue, IfOk};
+ghost use Rattle.hw_types.specs.Spelling.{Fits};
+ghost use Rattle.hw_io.specs.Files.{Appended};
+ghost use Rattle.hw_session.specs.Entry.{IsEntryOf};
+ghost use Rattle.hw_session.specs.Restart.{KeepsLine};
+ghost use Rattle.hw_session.specs.Make.{planned_by, own_vertex, Makes, WritesOwn, IsMakeCounted, IsAStep, IsOfOwn, Refuses, PutsOwn, fault_of_append};
+
+use crate::entry::{NewEntry, new_entry, put_entry};
+use crate::fault::MakeFault;
+use crate::node::Node;
+use hw_codec::digest_of;
+use hw_io::Files;
+use hw_log::{Lasts, LogError};
+use hw_types::{Cause, OutOfMemory, Plan, SignedUnit, Vertex};
+use hw_validator::next_unit;
+use std::alloc::Global;
+
+impl Node {
+    /// Makes the unit that this validator may make at this moment, in milliseconds, with this value of at
+    /// most 4,096 bytes for a proposal. It is signed, delivered to the own node, and then its entry is
+    /// appended to the log.
+    ///
+    /// There is none where the step has none, and where another unit of the journal has its digest.
+    /// `RecordsFull` comes where the journal is full; it is counted. After a failed append the log may hold
+    /// a first part of the entry.
+    pub fn make<F: Files>(
+        &mut self,
+        files: &mut F,
+        me: u32,
+        now: u64,
+        value: &[u8],
+    ) -> Result<Option<Plan>, MakeFault>
+        requires me { me < length self.old.core.config.weights }
+        requires now { now < 2 ^ 63 }
+        requires value { length value.now ≤ 4096 }
+        ensures made { Makes self.old (planned_by self.old me now value.now) self.new result }
+        ensures line { KeepsLine self.old me self.new result }
+        ensures log { IsTrue F.tells → WritesOwn self.old (planned_by self.old me now value.now) (F.held files.old) (F.held files.new) result }
+        ensures cause { IsMakeCounted (F.append_faults files.old) (F.append_faults files.new) result }
+
+        ensures begun { F.begun files.new ≡ F.begun files.old }
+        ensures allowance { F.allowance files.new ≡ F.allowance files.old }
+        ensures reads { F.read_faults files.new ≡ F.read_faults files.old }
+    {
+        match next_unit(self.alloc, self.core.state(), me, now, value) {
+            Ok(Some(plan)) => self.make_planned(files, plan),
+            Ok(None) => Ok(None),
+            Err(OutOfMemory) => Err(MakeFault::OutOfMemory),
+        }
+    }
+}
+
+/// The own unit of a plan, signed, with its entry in the log.
+#[derive(Drop)]
+struct OwnVertex {
+    vertex: Vertex,
+    entry: NewEntry,
+}
+
+impl Node {
+    /// Makes the unit of a plan.
+    fn make_planned<F: Files>(
+        &mut self,
+        files: &mut F,
+        plan: Plan,
+    ) -> Result<Option<Plan>, MakeFault>
+        requires planned { IsAStep self.old plan }
+        requires fits { Fits plan.unit }
+        ensures made { Makes self.old (Some plan) self.new result }
+        ensures log { IsTrue F.tells → WritesOwn self.old (Some plan) (F.held files.old) (F.held files.new) result }
+        ensures cause { IsMakeCounted (F.append_faults files.old) (F.append_faults files.new) result }
+
+        ensures begun { F.begun files.new ≡ F.begun files.old }
+        ensures allowance { F.allowance files.new ≡ F.allowance files.old }
+        ensures reads { F.read_faults files.new ≡ F.read_faults files.old }
+    {
+        match self.own_vertex(&plan) {
+            Ok(own) => self.take_own(files, plan, own),
+            Err(OutOfMemory) => Err(MakeFault::OutOfMemory),
+        }
+    }
+
+    /// The unit of a plan, signed by its creator, and its entry.
+    fn own_vertex(&self, plan: &Plan) -> Result<OwnVertex, OutOfMemory>
+        requires creator { plan.now.unit.creator < length self.now.core.config.weights }
+        requires fits { Fits plan.now.unit }
+        ensures vertex { IfOk result (λ own. own.vertex ≡ own_vertex self.now plan.now) }
+        ensures entry { IfOk result (λ own. IsEntryOf self.now.lasts (own_vertex self.now plan.now) own.entry) }
+    {
+        let digest = digest_of(self.alloc, &plan.unit)?;
+        let signature = self.keys.sign_unit(plan.unit.creator, &digest);
+        let vertex = Vertex::Unit(SignedUnit {
+            unit: plan.unit.copy()?,
+            signature,
+        });
+        let entry = new_entry(self.alloc, &self.lasts, &vertex)?;
+        Ok(OwnVertex { vertex, entry })
+    }
+
+    /// Delivers the own unit of a plan, and then appends its entry to the log.
+    fn take_own<F: Files>(
+        &mut self,
+        files: &mut F,
+        plan: Plan,
+        own: OwnVertex,
+    ) -> Result<Option<Plan>, MakeFault>
+        requires planned { IsAStep self.old plan }
+        requires fits { Fits plan.unit }
+        requires vertex { own.vertex ≡ own_vertex self.old plan }
+        requires entry { IsEntryOf self.old.lasts (own_vertex self.old plan) own.entry }
+        ensures made { Makes self.old (Some plan) self.new result }
+        ensures log { IsTrue F.tells → WritesOwn self.old (Some plan) (F.held files.old) (F.held files.new) result }
+        ensures cause { IsMakeCounted (F.append_faults files.old) (F.append_faults files.new) result }
+
+        ensures begun { F.begun files.new ≡ F.begun files.old }
+        ensures allowance { F.allowance files.new ≡ F.allowance files.old }
+        ensures reads { F.read_faults files.new ≡ F.read_faults files.old }
+    {
+        match self.core.deliver(own.vertex, true) {
+            Ok(_receipt) => put_own(&mut self.lasts, files, self.log.as_str(), plan, own.entry),
+            Err(refused) => self.refuse_own(refused.cause),
+        }
+    }
+
+    /// What the refusal of an own unit is answered. A full journal is counted.
+    fn refuse_own(&mut self, cause: Cause) -> Result<Option<Plan>, MakeFault>
+        requires { IsOfOwn cause }
+        ensures { Refuses self.old cause self.new result }
+    {
+        match cause {
+            Cause::Clash { .. } => Ok(None),
+            Cause::RecordsFull => {
+                self.limited = self.limited.saturating_add(1);
+                Err(MakeFault::RecordsFull)
+            }
+            Cause::OutOfMemory => Err(MakeFault::OutOfMemory),
+            Cause::BadSignature | Cause::Local(_) | Cause::Pair(_) | Cause::ParkFull => {
+                unreachable!()
+            }
+        }
+    }
+}
+
+/// Appends the entry of a plan's unit to the log of this name, and notes it.
+fn put_own<F: Files>(
+    lasts: &mut Lasts,
+    files: &mut F,
+    log: &str,
+    plan: Plan,
+    entry: NewEntry,
+) -> Result<Option<Plan>, MakeFault>
+    ensures put { PutsOwn lasts.old lasts.new entry plan result }
+    ensures log { IsTrue F.tells → Appended (F.held files.old) (F.held files.new) log.now entry.bytes result }
+    ensures cause { IsMakeCounted (F.append_faults files.old) (F.append_faults files.new) result }
+
+    ensures begun { F.begun files.new ≡ F.begun files.old }
+    ensures allowance { F.allowance files.new ≡ F.allowance files.old }
+    ensures reads { F.read_faults files.new ≡ F.read_faults files.old }
+{
+    match put_entry(lasts, files, log, entry) {
+        Ok(()) => Ok(Some(plan)),
+        Err(error) => Err(fault_of_append(error)),
+    }
+}
+
+/// What a failed append is answered as.
+fn fault_of_append(error: LogError) -> MakeFault
+    ensures { result ≡ fault_of_append error }
+{
+    match error {
+        LogError::WriteFault => MakeFault::AppendFault,
+        _ => MakeFault::OutOfMemory,
+    }
+}
