@@ -1,0 +1,175 @@
+//! A node in memory, and what it answers.
+
+ghost use Rattle.std.specs.Prelude.{◌≡◌, length, IfOk, IfSome, None, string_bytes};
+ghost use Rattle.hw_types.specs.Limits.{config_fault};
+
+use crate::lines::bytes_of;
+use hw_codec::decode_config;
+use hw_io::MemFiles;
+use hw_session::{Keys, MakeFault, Node, StartFault};
+use hw_types::{Config, OutOfMemory, Plan};
+use std::alloc::Global;
+
+/// The name of the log.
+const LOG: &str = "LOG";
+
+/// What each node of a line starts with.
+#[derive(Drop)]
+pub struct Scene {
+    pub alloc: Global,
+    /// The bytes of the configuration.
+    pub config: Vec<u8>,
+    /// The text of the keys.
+    pub keys: Vec<u8>,
+}
+
+/// Starts a node and lets it act, and tells what came of it.
+pub fn run(scene: &Scene, files: &mut MemFiles, acts: &[&str]) -> Result<String, OutOfMemory> {
+    let mut text = String::new(scene.alloc);
+    let mut nodes = Vec::new(scene.alloc);
+    start(scene, files, &mut nodes, &mut text)?;
+    for act in acts {
+        if *act == "again" {
+            start(scene, files, &mut nodes, &mut text)?;
+        } else {
+            make(scene.alloc, files, &mut nodes, act, &mut text)?;
+        }
+    }
+    tell_end(scene.alloc, files, nodes.as_slice(), &mut text)?;
+    Ok(text)
+}
+
+/// Starts a node, which comes first among the nodes, and tells how it started.
+fn start(
+    scene: &Scene,
+    files: &mut MemFiles,
+    nodes: &mut Vec<Node>,
+    text: &mut String,
+) -> Result<(), OutOfMemory> {
+    nodes.clear();
+    let Ok(config) = decode_config(scene.alloc, scene.config.as_slice()) else {
+        return word(text, "no configuration");
+    };
+    if config.check().is_err() {
+        return word(text, "no configuration");
+    }
+    let validators = config.weights.len() as u32;
+    let Ok(keys) = Keys::read(scene.alloc, scene.keys.as_slice(), validators) else {
+        return word(text, "no keys");
+    };
+    started(scene.alloc, files, config, keys, nodes, text)
+}
+
+/// Starts a node with this configuration and these keys.
+fn started(
+    alloc: Global,
+    files: &mut MemFiles,
+    config: Config,
+    keys: Keys,
+    nodes: &mut Vec<Node>,
+    text: &mut String,
+) -> Result<(), OutOfMemory>
+    requires lawful { config_fault config ≡ None }
+    requires keys { length keys ≡ length config.weights }
+{
+    match Node::start(alloc, files, LOG, config, keys) {
+        Ok(node) => {
+            nodes.push(node)?;
+            word(text, "started")
+        }
+        Err(StartFault::Log(error)) => word(text, format!(in alloc; "{error:?}")?.as_str()),
+        Err(StartFault::OtherConfig) => word(text, "OtherConfig"),
+        Err(StartFault::Clash { .. }) => word(text, "Clash"),
+        Err(StartFault::RecordsFull(at)) => {
+            word(text, format!(in alloc; "RecordsFull({at})")?.as_str())
+        }
+        Err(StartFault::ParkFull(at)) => word(text, format!(in alloc; "ParkFull({at})")?.as_str()),
+        Err(StartFault::OutOfMemory) => Err(OutOfMemory),
+    }
+}
+
+/// Lets the node make a unit, and tells which.
+fn make(
+    alloc: Global,
+    files: &mut MemFiles,
+    nodes: &mut Vec<Node>,
+    act: &str,
+    text: &mut String,
+) -> Result<(), OutOfMemory> {
+    let words: Vec<&str> = act.split(':').collect(alloc)?;
+    match (words.as_slice(), nodes.as_mut_slice()) {
+        ([me, now, value], [node]) => {
+            let value = bytes_of(alloc, value)?;
+            let me = me.parse().unwrap_or(0);
+            let now = now.parse().unwrap_or(0);
+            let made = made(files, node, me, now, value.as_slice());
+            tell_made(alloc, made, text)
+        }
+        _ => word(text, "-"),
+    }
+}
+
+/// What the node makes, none where the validator, the moment or the value can't be.
+fn made(
+    files: &mut MemFiles,
+    node: &mut Node,
+    me: u32,
+    now: u64,
+    value: &[u8],
+) -> Result<Option<Plan>, MakeFault> {
+    let validators = node.core().state().config().weights.len();
+    if me as usize >= validators || now >= 1 << 63 || value.len() > 4096 {
+        return Ok(None);
+    }
+    node.make(files, me, now, value)
+}
+
+/// Tells what was made.
+fn tell_made(
+    alloc: Global,
+    made: Result<Option<Plan>, MakeFault>,
+    text: &mut String,
+) -> Result<(), OutOfMemory> {
+    match made {
+        Ok(Some(plan)) => {
+            let line = format!(in alloc; "{:?}:{}:{}", plan.kind, plan.unit.seq, plan.unit.time)?;
+            word(text, line.as_str())
+        }
+        Ok(None) => word(text, "None"),
+        Err(MakeFault::OutOfMemory) => Err(OutOfMemory),
+        Err(fault) => word(text, format!(in alloc; "{fault:?}")?.as_str()),
+    }
+}
+
+/// Tells the node's counts and its log.
+fn tell_end(
+    alloc: Global,
+    files: &MemFiles,
+    nodes: &[Node],
+    text: &mut String,
+) -> Result<(), OutOfMemory> {
+    for node in nodes {
+        let line = format!(in alloc;
+            "journal {} settled {} limits {} refused {} repeats {}",
+            node.core().journal_count(),
+            node.core().settled_count(),
+            node.limit_hits(),
+            node.refused_count(),
+            node.repeat_count()
+        )?;
+        word(text, line.as_str())?;
+    }
+    match files.file(LOG) {
+        None => word(text, "no log"),
+        Some(log) => word(text, hex::encode(alloc, log)?.as_str()),
+    }
+}
+
+/// Puts a word behind the others.
+fn word(text: &mut String, word: &str) -> Result<(), OutOfMemory> {
+    if !text.is_empty() {
+        text.push_str(" ")?;
+    }
+    text.push_str(word)?;
+    Ok(())
+}
