@@ -1,0 +1,68 @@
+//! How many blocks there were.
+
+ghost use Rattle.std.specs.Prelude.{◌≡◌, ◌++◌, None, OnOk, IfOk};
+ghost use Rattle.std.specs.Io.KnownBytes.{Appends};
+ghost use Rattle.hw_io.specs.Faults.{HasCause};
+ghost use Rattle.hw_text.specs.Text.{number_text};
+ghost use Rattle.hw_text.specs.Lines.{line_feed};
+
+use hw_io::{Consumer, IoFault, Sink, write_all};
+use hw_text::{end_line, put_number};
+use hw_types::{Bytes, OutOfMemory};
+use std::alloc::Global;
+
+/// A consumer that counts the blocks, and writes the count as a line where no block follows. Its faults are
+/// those of writes.
+#[derive(Drop)]
+pub struct BlockCount<S: Sink> {
+    alloc: Global,
+    out: S,
+    blocks: u64,
+}
+
+impl<S: Sink> BlockCount<S> {
+    /// No block was taken yet.
+    pub fn new(alloc: Global, out: S) -> BlockCount<S> {
+        BlockCount {
+            alloc,
+            out,
+            blocks: 0,
+        }
+    }
+}
+
+impl<S: Sink + Drop> Consumer for BlockCount<S> {
+    ghost consumed = { λ _. None };
+
+    ghost faults = { λ consumer. S.faults consumer.out };
+
+    fn take(&mut self, _height: u64, _value: &[u8]) -> Result<(), IoFault> {
+        self.blocks = self.blocks.saturating_add(1);
+        Ok(())
+    }
+
+    fn finish(&mut self) -> Result<(), IoFault> {
+        write_count(self.alloc, &mut self.out, self.blocks)
+    }
+}
+
+/// Writes the number as a line.
+fn write_count<S: Sink>(alloc: Global, out: &mut S, count: u64) -> Result<(), IoFault>
+    ensures line { OnOk result (Appends (S.taken out.old) (S.taken out.new) (number_text count ++ line_feed)) }
+    ensures cause { HasCause (S.faults out.old) (S.faults out.new) result }
+{
+    match count_line(alloc, count) {
+        Ok(line) => write_all(out, line.as_slice()),
+        Err(OutOfMemory) => Err(IoFault::OutOfMemory),
+    }
+}
+
+/// The number as a line.
+fn count_line(alloc: Global, count: u64) -> Result<Bytes, OutOfMemory>
+    ensures { IfOk result (λ line. line ≡ number_text count ++ line_feed) }
+{
+    let mut line = Bytes::new(alloc);
+    put_number(&mut line, count)?;
+    end_line(&mut line)?;
+    Ok(line)
+}

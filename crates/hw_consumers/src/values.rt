@@ -1,0 +1,68 @@
+//! Values of blocks in a file.
+
+ghost use Rattle.std.specs.Prelude.{◌≡◌, ◌∷◌, ◌++◌, [], None, IsTrue, IfOk};
+ghost use Rattle.hw_io.specs.Faults.{HasCause};
+ghost use Rattle.hw_io.specs.Files.{Appended};
+
+use hw_io::{Consumer, Files, IoFault};
+use hw_types::{Bytes, OutOfMemory};
+use std::alloc::Global;
+
+/// The file that takes the values.
+pub const BLOCKS_FILE: &str = "highway.blocks";
+
+/// A consumer that appends the value of each block, and a line feed, to the file `highway.blocks`, which it
+/// makes where it is missing. Its faults are those of appends.
+#[derive(Drop)]
+pub struct ValueFile<F: Files> {
+    alloc: Global,
+    files: F,
+}
+
+impl<F: Files> ValueFile<F> {
+    /// A consumer over these files.
+    pub fn new(alloc: Global, files: F) -> ValueFile<F> {
+        ValueFile { alloc, files }
+    }
+}
+
+impl<F: Files + Drop> Consumer for ValueFile<F> {
+    ghost consumed = { λ _. None };
+
+    ghost faults = { λ consumer. F.append_faults consumer.files };
+
+    fn take(&mut self, _height: u64, value: &[u8]) -> Result<(), IoFault> {
+        append_line(self.alloc, &mut self.files, BLOCKS_FILE, value)
+    }
+
+    fn finish(&mut self) -> Result<(), IoFault> {
+        Ok(())
+    }
+}
+
+/// Appends these bytes and a line feed to the file of that name, by one call. After an error the file has what
+/// it had and a prefix of them.
+fn append_line<F: Files>(
+    alloc: Global,
+    files: &mut F,
+    name: &str,
+    value: &[u8],
+) -> Result<(), IoFault>
+    ensures bytes { IsTrue F.tells → Appended (F.held files.old) (F.held files.new) name.now (value.now ++ 10 ∷ []) result }
+    ensures cause { HasCause (F.append_faults files.old) (F.append_faults files.new) result }
+{
+    match line_of(alloc, value) {
+        Ok(line) => files.append(name, line.as_slice()),
+        Err(OutOfMemory) => Err(IoFault::OutOfMemory),
+    }
+}
+
+/// These bytes and a line feed.
+fn line_of(alloc: Global, value: &[u8]) -> Result<Bytes, OutOfMemory>
+    ensures { IfOk result (λ line. line ≡ value.now ++ 10 ∷ []) }
+{
+    let mut line = Bytes::new(alloc);
+    line.extend(value)?;
+    line.push(b'\n')?;
+    Ok(line)
+}
