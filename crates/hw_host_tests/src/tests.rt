@@ -1,5 +1,7 @@
+use hw_consumers::{BLOCKS_FILE, BlockCount, ValueFile};
 use hw_io::{
-    Clock, Door, DoorNumbers, Files, HostClock, HostDoor, HostFiles, HostSink, IoFault, write_all,
+    Clock, Consumer, Door, DoorNumbers, Files, HostClock, HostDoor, HostFiles, HostSink, IoFault,
+    write_all,
 };
 use std::fs;
 use std::test::Fail;
@@ -170,4 +172,35 @@ fn a_real_door_counts_what_fails(rt: HostRuntime) -> Result<(), Fail> {
         }
     );
     Ok(())
+}
+
+/// What a consumer answers that is given two blocks, and told then that none follows.
+fn consume<C: Consumer>(consumer: &mut C) -> [Count; 3] {
+    [
+        done(consumer.take(0, b"one")),
+        done(consumer.take(1, b"two")),
+        done(consumer.finish()),
+    ]
+}
+
+#[test]
+fn values_go_into_a_real_file(rt: HostRuntime) -> Result<(), Fail> {
+    let _ = fs::remove_file(&rt, BLOCKS_FILE);
+    let mut values = ValueFile::new(rt.alloc(), HostFiles::new(&rt));
+    let answers = consume(&mut values);
+    let mut files = HostFiles::new(&rt);
+    let mut buf = [0; 10];
+    let begun = done(files.begin(BLOCKS_FILE));
+    let read = files.read(&mut buf);
+    fs::remove_file(&rt, BLOCKS_FILE)?;
+    assert_eq!(rt; answers, [Ok(0); 3]);
+    assert_eq!(rt; (begun, read), (Ok(0), Ok(8)));
+    assert_eq!(rt; buf, *b"one\ntwo\n\0\0");
+    Ok(())
+}
+
+#[test]
+fn blocks_are_counted_onto_a_real_output(rt: HostRuntime) {
+    let mut count = BlockCount::new(rt.alloc(), HostSink::new(rt.stdout()));
+    assert_eq!(rt; consume(&mut count), [Ok(0); 3]);
 }
