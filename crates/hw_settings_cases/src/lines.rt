@@ -1,0 +1,85 @@
+//! Lines of settings.
+
+use hw_settings::{SettingsFault, read_settings};
+use hw_types::{Config, ConfigFault, Leaders, OutOfMemory};
+use std::alloc::Global;
+
+/// The answer to a line.
+pub fn answer(alloc: Global, line: &str) -> Result<String, OutOfMemory> {
+    match line.strip_prefix("hex ") {
+        None => said(alloc, line.as_bytes()),
+        Some(digits) => match hex::decode(alloc, digits) {
+            Ok(bytes) => said(alloc, bytes.as_slice()),
+            Err(_) => Ok("no digits".to_string(alloc)?),
+        },
+    }
+}
+
+/// What settings of these bytes say.
+fn said(alloc: Global, bytes: &[u8]) -> Result<String, OutOfMemory> {
+    match read_settings(alloc, bytes) {
+        Ok(config) => config_text(alloc, &config),
+        Err(SettingsFault::Form) => Ok("config form".to_string(alloc)?),
+        Err(SettingsFault::Fault(ConfigFault::ZeroWeight(validator))) => {
+            Ok(format!(in alloc; "config zero weight {validator}")?)
+        }
+        Err(SettingsFault::Fault(fault)) => Ok(format!(in alloc; "config {}", name_of(fault))?),
+        Err(SettingsFault::OutOfMemory) => Err(OutOfMemory),
+    }
+}
+
+/// A configuration, member by member.
+fn config_text(alloc: Global, config: &Config) -> Result<String, OutOfMemory> {
+    let mut text = "weights".to_string(alloc)?;
+    for weight in config.weights.as_slice() {
+        text.push_str(format!(in alloc; " {weight}")?.as_str())?;
+    }
+    let (ftt, levels) = (config.ftt, config.levels);
+    let (least, greatest) = (config.min_exponent, config.max_exponent);
+    let rounds = format!(in alloc;
+        " threshold {ftt} levels {levels} exponents {least} {greatest} "
+    )?;
+    text.push_str(rounds.as_str())?;
+    text.push_str(leaders_text(alloc, &config.leaders)?.as_str())?;
+    text.push_str(room_text(alloc, config)?.as_str())?;
+    Ok(text)
+}
+
+fn leaders_text(alloc: Global, leaders: &Leaders) -> Result<String, OutOfMemory> {
+    match leaders {
+        Leaders::Drawn(key) => {
+            let digits = hex::encode(alloc, key.as_slice())?;
+            Ok(format!(in alloc; "drawn {digits}")?)
+        }
+        Leaders::Table(entries) => {
+            let mut text = "leaders".to_string(alloc)?;
+            for entry in entries.as_slice() {
+                text.push_str(format!(in alloc; " {entry}")?.as_str())?;
+            }
+            Ok(text)
+        }
+    }
+}
+
+/// What is kept, and the last block's height.
+fn room_text(alloc: Global, config: &Config) -> Result<String, OutOfMemory> {
+    let (records, parked) = (config.max_records, config.max_parked);
+    match config.end {
+        None => Ok(format!(in alloc; " records {records} parked {parked}")?),
+        Some(end) => Ok(format!(in alloc; " records {records} parked {parked} end {end}")?),
+    }
+}
+
+fn name_of(fault: ConfigFault) -> &'static str {
+    match fault {
+        ConfigFault::Validators => "validators",
+        ConfigFault::ZeroWeight(_) => "zero weight",
+        ConfigFault::Total => "total",
+        ConfigFault::Threshold => "threshold",
+        ConfigFault::Levels => "levels",
+        ConfigFault::Exponents => "exponents",
+        ConfigFault::LeaderTable => "leader table",
+        ConfigFault::Records => "records",
+        ConfigFault::Parked => "parked",
+    }
+}
