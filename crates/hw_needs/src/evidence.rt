@@ -25,9 +25,10 @@ pub fn evidence_of(
 ) -> Result<Option<Evidence>, OutOfMemory>
     ensures evidence { IfOk result (λ evidence. evidence ≡ evidence_against core.now validator) }
     ensures none { IfOk result (λ evidence. (evidence ≡ None) ↔ (is_faulty (received_in core.now) (settled_in core.now) validator ≡ false)) }
-
     ensures fits { IfOk result (λ evidence. IfSome evidence (λ known. VertexFits (vertex.Evidence known))) }
 {
+    // For the prover: each evidence of a journal is a pair.
+    let _state = core.state();
     match core.evidence_against(validator) {
         Some(evidence) => Ok(Some(evidence.copy()?)),
         None => {
@@ -44,8 +45,13 @@ pub fn evidence_of(
 fn is_faulty(core: &Core, validator: u32) -> bool
     ensures { result ≡ is_faulty (received_in core.now) (settled_in core.now) validator }
 {
-    (validator as usize) < core.state().config().weights.len()
-        && core.observation(validator) == Obs::Faulty
+    if validator as usize >= core.state().config().weights.len() {
+        return false;
+    }
+    match core.observation(validator) {
+        Obs::Faulty => true,
+        Obs::Absent | Obs::Correct(_) => false,
+    }
 }
 
 /// The evidence of two settled units of the validator, None where it has no two of one sequence number.

@@ -1,6 +1,6 @@
 //! The vertices of a need.
 
-ghost use Rattle.std.specs.Prelude.{◌≡◌, ◌++◌, map, IfOk, OnOk};
+ghost use Rattle.std.specs.Prelude.{◌≡◌, map, IfOk};
 ghost use Rattle.std.specs.List.{All};
 ghost use Rattle.hw_types.specs.declared.unit.Vertex.TheVariants as vertex;
 ghost use Rattle.hw_types.specs.Spelling.{VertexFits};
@@ -22,56 +22,59 @@ pub fn vertices_of(alloc: Global, core: &Core, need: &Need) -> Result<VertexList
     ensures vertices { IfOk result (λ vertices. vertices ≡ vertices_of core.now need.now) }
     ensures fit { IfOk result (λ vertices. All VertexFits vertices) }
 {
-    let mut vertices = VertexList::new(alloc);
     match need {
-        Need::Unit(unit) => put_unit(core, unit, &mut vertices)?,
-        Need::Evidence(validator) => put_evidence(alloc, core, *validator, &mut vertices)?,
-        Need::Endorsed(unit) => put_endorsements(core, unit, &mut vertices)?,
+        Need::Unit(unit) => unit_vertices(alloc, core, unit),
+        Need::Evidence(validator) => evidence_vertices(alloc, core, *validator),
+        Need::Endorsed(unit) => endorsements(alloc, core, unit),
     }
-    Ok(vertices)
 }
 
-/// Puts the journal's unit of this digest last, where there is one.
-fn put_unit(core: &Core, unit: &Digest, vertices: &mut VertexList) -> Result<(), OutOfMemory>
-    ensures put { OnOk result (vertices.new ≡ vertices.old ++ unit_vertices (unit_in core.now unit.now)) }
-    ensures fit { OnOk result (All VertexFits (unit_vertices (unit_in core.now unit.now))) }
+/// The journal's unit of this digest, where there is one.
+fn unit_vertices(alloc: Global, core: &Core, unit: &Digest) -> Result<VertexList, OutOfMemory>
+    ensures vertices { IfOk result (λ vertices. vertices ≡ unit_vertices (unit_in core.now unit.now)) }
+    ensures fit { IfOk result (λ vertices. All VertexFits vertices) }
 {
-    if let Some(unit) = core.unit_of(unit) {
-        vertices.push(Vertex::Unit(unit.copy()?))?;
+    let mut vertices = VertexList::new(alloc);
+    match core.unit_of(unit) {
+        Some(unit) => {
+            vertices.push(Vertex::Unit(unit.copy()?))?;
+            Ok(vertices)
+        }
+        None => Ok(vertices),
     }
-    Ok(())
 }
 
-/// Puts the evidence against the validator last, where there is one.
-fn put_evidence(
+/// The evidence against the validator, where there is one.
+fn evidence_vertices(
     alloc: Global,
     core: &Core,
     validator: u32,
-    vertices: &mut VertexList,
-) -> Result<(), OutOfMemory>
-    ensures put { OnOk result (vertices.new ≡ vertices.old ++ evidence_vertices (evidence_against core.now validator)) }
-    ensures fit { OnOk result (All VertexFits (evidence_vertices (evidence_against core.now validator))) }
+) -> Result<VertexList, OutOfMemory>
+    ensures vertices { IfOk result (λ vertices. vertices ≡ evidence_vertices (evidence_against core.now validator)) }
+    ensures fit { IfOk result (λ vertices. All VertexFits vertices) }
 {
-    if let Some(evidence) = evidence_of(alloc, core, validator)? {
-        vertices.push(Vertex::Evidence(evidence))?;
+    let mut vertices = VertexList::new(alloc);
+    match evidence_of(alloc, core, validator)? {
+        Some(evidence) => {
+            vertices.push(Vertex::Evidence(evidence))?;
+            Ok(vertices)
+        }
+        None => Ok(vertices),
     }
-    Ok(())
 }
 
-/// Puts the journal's endorsements of the unit of this digest last, in their order.
-fn put_endorsements(
-    core: &Core,
-    unit: &Digest,
-    vertices: &mut VertexList,
-) -> Result<(), OutOfMemory>
-    ensures { OnOk result (vertices.new ≡ vertices.old ++ map vertex.Endorsement (endorsements_of core.now unit.now)) }
+/// The journal's endorsements of the unit of this digest, in their order.
+fn endorsements(alloc: Global, core: &Core, unit: &Digest) -> Result<VertexList, OutOfMemory>
+    ensures vertices { IfOk result (λ vertices. vertices ≡ map vertex.Endorsement (endorsements_of core.now unit.now)) }
+    ensures fit { IfOk result (λ vertices. All VertexFits vertices) }
 {
+    let mut vertices = VertexList::new(alloc);
     for place in 0..u32::MAX {
         match core.endorsement_of(unit, place) {
             Some(endorsement) => vertices.push(Vertex::Endorsement(*endorsement))?,
-            None => return Ok(()),
+            None => return Ok(vertices),
         }
     }
-    // There is no room for a list of so many.
+    // No memory has room for so many.
     Err(OutOfMemory)
 }

@@ -1,0 +1,11 @@
+use Rattle.std.proofs.Common.{List, sym, ap, subst, ◌∙◌}
+use Rattle.hw_types.specs.Graph.{Node}
+use Rattle.hw_dag.specs.Dag.{UnitGraph, graph}
+use Rattle.hw_needs.specs.Forks.{AreNamed}
+use Rattle.hw_needs.proofs.NeedLaws.{settled_named}
+use Rattle.hw_needs.proofs.evidence.settled_evidence.Goals as goal
+
+pub fork_of-requires : goal.fork_of-requires
+fork_of-requires c = record {
+  named = subst AreNamed (sym (ap (λ (dag : UnitGraph). graph dag) c.dag-dag.ensures.dag ∙ c.state.ensures.settled)) (settled_named c.args.core.now);
+}
