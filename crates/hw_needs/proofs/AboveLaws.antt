@@ -1,5 +1,5 @@
 -- The unit of the least digest above a bound, unit by unit.
-use Rattle.std.proofs.Common.{◌≡◌, ◌≢◌, ℕ, ◌+◌, ◌<◌, ◌⊎◌, inl, inr, true, false, Option, Some, None, refl, sym, ap, subst, ◌∙◌, arith}
+use Rattle.std.proofs.Common.{◌≡◌, ℕ, ◌+◌, ◌<◌, inl, inr, true, Option, Some, None, sym, subst, arith}
 use Rattle.std.specs.Prelude.{IfSome}
 use Rattle.hw_types.specs.declared.unit.Digest.{Digest}
 use Rattle.hw_types.specs.Graph.{digest_lt}
@@ -7,8 +7,8 @@ use Rattle.hw_dag.specs.declared.numbers.UnitNo.{UnitNo}
 use Rattle.hw_dag.specs.Dag.{UnitGraph, unit_at, count_of}
 use Rattle.hw_dag.specs.Admission.{IsGraph}
 use Rattle.hw_forks.proofs.BestLaws.{digest_lt_trans, digest_cases}
-use Rattle.hw_needs.specs.Forks.{StandsAt, HasTwo, IsAbove, IsLower, IsLeastAbove, AreLeastTwo}
-use Rattle.hw_needs.proofs.NotedLaws.{stands_more, stands_last, stands_split}
+use Rattle.hw_needs.specs.Forks.{StandsAt, IsAbove, IsLower, IsLeastAbove}
+use Rattle.hw_needs.proofs.NotedLaws.{stands_more, stands_split}
 
 module _ (dag : UnitGraph) (g : IsGraph dag) (creator seq : ℕ) (bound : Option Digest) where
   abbrev name : ℕ → Digest
@@ -63,28 +63,6 @@ module _ (dag : UnitGraph) (g : IsGraph dag) (creator seq : ℕ) (bound : Option
         | inl same ↦ (let one = g.distinct count known.0 lt (let low = is.0.within in omega arith) same in let low = is.0.within in absurd (omega arith))
         | inr b ↦ b
       ]
-
--- none at the start
-pub above_none : (dag : UnitGraph) (creator seq : ℕ) (bound : Option Digest) → IsLeastAbove dag 0 creator seq bound None
-above_none dag creator seq bound = λ n at above. (let lt = at.within in absurd (omega arith))
-
-module _ (dag : UnitGraph) (creator seq : ℕ) where
-  abbrev found : Option Digest → Option UnitNo → Type 0
-  found bound o = IsLeastAbove dag (count_of dag) creator seq bound o
-
-  -- where there is none at all, there are no two
-  pub no_first : found None None → AreLeastTwo dag creator seq None
-  no_first none = λ two. none two.one two.one_at tt
-
-  -- where none is above the first, it is the only one
-  pub no_second : (first : UnitNo) → found None (Some first) → found (Some (unit_at dag first.0).digest) None → AreLeastTwo dag creator seq None
-  no_second first is none two = go (is.2 two.one two.one_at tt) (is.2 two.other two.other_at tt)
-    where
-      go : ((two.one ≡ first.0) ⊎ (digest_lt (unit_at dag first.0).digest (unit_at dag two.one).digest ≡ true))
-          → ((two.other ≡ first.0) ⊎ (digest_lt (unit_at dag first.0).digest (unit_at dag two.other).digest ≡ true)) → ⊥
-      go (inr above) o = none two.one two.one_at above
-      go (inl e) (inr above) = none two.other two.other_at above
-      go (inl e) (inl f) = two.apart (e ∙ sym f)
 
 -- what was found is a unit of the graph
 pub least_known : (dag : UnitGraph) (creator seq : ℕ) (bound : Option Digest) (count : ℕ) → count < count_of dag → (least : Option UnitNo) → IsLeastAbove dag count creator seq bound least → IfSome least (λ k. k.0 < count_of dag)

@@ -1,8 +1,7 @@
 -- Who has two settled units of one sequence number, and the pair that shows it.
-use Rattle.std.proofs.Common.{◌≡◌, ℕ, Bool, true, false, not, List, [], ◌∷◌, Option, Some, None, refl, sym, ap, subst, ◌∙◌, eqb-true, eq-eqb}
-use Rattle.std.specs.Prelude.{◌&&◌, ◌==◌, filter}
+use Rattle.std.proofs.Common.{◌≡◌, ℕ, Bool, true, false, not, List, [], ◌∷◌, Some, None, refl, sym, ap, subst, ◌∙◌}
+use Rattle.std.specs.Prelude.{◌&&◌, ◌==◌}
 use Rattle.std.specs.List.{list_any}
-use Rattle.hw_types.specs.declared.unit.WireUnit.{WireUnit}
 use Rattle.hw_types.specs.Graph.{Node, node_eq, are_different}
 use Rattle.hw_types.specs.Below.{Among}
 use Rattle.hw_types.specs.Same.{unit_eq}
@@ -12,7 +11,7 @@ use Rattle.hw_types.specs.Culprits.{least_seq, at_seq, first_two, equivocations_
 use Rattle.hw_types.proofs.ClosureLaws.{Among-filter, filter-Among}
 use Rattle.hw_types.proofs.PastLaws.{some_of, any_of}
 use Rattle.hw_types.proofs.StableLaws.{OneName, and_parts, and_whole, both_ways}
-use Rattle.hw_types.proofs.SettledLaws.{digest_same, digest_self}
+use Rattle.hw_types.proofs.SettledLaws.{digest_self}
 use Rattle.hw_types.proofs.OrderLaws.{unit_same, unit_self}
 use Rattle.hw_types.proofs.WordsLaws.{never_both, not_true}
 use Rattle.hw_verdicts.proofs.ShownLaws.{paired}

@@ -1,14 +1,13 @@
 -- The two units of the least digests at the least sequence number that two have are the pair that shows the creator.
-use Rattle.std.proofs.Common.{◌≡◌, ℕ, ◌<◌, ◌≤◌, ◌⊎◌, inl, inr, Bool, true, false, List, [], ◌∷◌, Option, Some, None, refl, sym, ap, subst, ◌∙◌}
-use Rattle.std.specs.Prelude.{◌||◌, IfSome}
+use Rattle.std.proofs.Common.{◌≡◌, ℕ, ◌<◌, ◌⊎◌, inl, inr, Bool, true, false, List, [], ◌∷◌, Option, Some, None, refl, sym, ap, subst, ◌∙◌}
+use Rattle.std.specs.Prelude.{IfSome}
 use Rattle.std.specs.List.{list_any}
 use Rattle.hw_types.specs.declared.unit.Digest.{Digest}
-use Rattle.hw_types.specs.declared.unit.WireUnit.{WireUnit}
 use Rattle.hw_types.specs.Graph.{Node, digest_lt}
 use Rattle.hw_types.specs.Below.{Among}
 use Rattle.hw_types.specs.Same.{unit_eq}
 use Rattle.hw_types.specs.Spelling.{digest_of}
-use Rattle.hw_types.specs.Culprits.{least_seq, at_seq, first_two, equivocations_of, stands_before, pair_of}
+use Rattle.hw_types.specs.Culprits.{least_seq, at_seq, first_two, equivocations_of, pair_of}
 use Rattle.hw_types.proofs.OrderLaws.{unit_same, unit_self}
 use Rattle.hw_types.proofs.PastLaws.{or_left}
 use Rattle.hw_types.proofs.WordsLaws.{never_both}
@@ -17,9 +16,9 @@ use Rattle.hw_dag.specs.Dag.{UnitGraph, unit_at, node_at, count_of, graph}
 use Rattle.hw_dag.specs.Admission.{IsGraph}
 use Rattle.hw_dag.proofs.NodeLaws.{among_node, node_among}
 use Rattle.hw_forks.proofs.BestLaws.{digest_lt_never}
-use Rattle.hw_needs.proofs.TempOrder.{Comes}
-use Rattle.hw_needs.proofs.TempPair.{no_culprit, pair_is}
-use Rattle.hw_needs.specs.Forks.{StandsAt, HasTwo, IsLeastWithTwo, IsLeastAbove, AreLeastTwo, AreNamed, nodes_at}
+use Rattle.hw_audit.proofs.OrderLaws.{Comes}
+use Rattle.hw_audit.proofs.PairLaws.{no_culprit, pair_is}
+use Rattle.hw_needs.specs.Forks.{StandsAt, HasTwo, IsLeastWithTwo, AreLeastTwo, AreNamed, nodes_at}
 
 module _ (dag : UnitGraph) (g : IsGraph dag) (named : AreNamed (graph dag)) (creator : ℕ) where
   abbrev xs : List Node

@@ -1,9 +1,6 @@
 pub mod NotedLaws
 pub mod AboveLaws
 pub mod FaultLaws
-pub mod TempOrder
-pub mod TempPair
-pub mod TempFront
 pub mod ForkLaws
 pub mod NeedLaws
 pub mod ListLaws

@@ -1,5 +1,5 @@
 -- The endorsements of a unit, one by one.
-use Rattle.std.proofs.Common.{◌≡◌, inl, inr, ℕ, zero, suc, ◌+◌, ◌≤◌, List, [], ◌∷◌, ◌++◌, length, map, take, Option, Some, None, refl, sym, ap, subst, ◌∙◌, arith}
+use Rattle.std.proofs.Common.{◌≡◌, inl, inr, ℕ, ◌+◌, List, [], ◌∷◌, ◌++◌, map, take, Some, None, sym, ap, subst, ◌∙◌}
 use Rattle.std.specs.Prelude.{slice_get}
 use Rattle.std.specs.List.{All}
 use Rattle.std.proofs.lemmas.List.{map-append}
@@ -12,7 +12,7 @@ use Rattle.hw_types.specs.Spelling.{VertexFits}
 use Rattle.hw_types.proofs.EntryLaws.{map_among}
 use Rattle.hw_types.proofs.OrderedLaws.{among_all}
 use Rattle.hw_core.proofs.DecidedLaws.{take_all}
-use Rattle.hw_needs.proofs.TempFront.{front_more}
+use Rattle.hw_audit.proofs.LinkLaws.{front_more}
 
 -- nothing stands behind the end
 whole : {A : Type 0} (xs : List A) (n : ℕ) → None ≡ slice_get xs n → take n xs ≡ xs

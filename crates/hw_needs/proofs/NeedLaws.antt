@@ -1,12 +1,11 @@
 -- What a node has against a validator, and that it has something exactly where the validator is faulty.
-use Rattle.std.proofs.Common.{◌≡◌, ℕ, ◌<◌, ◌≤◌, ◌⊎◌, inl, inr, Bool, true, false, cond, not, find, List, [], ◌∷◌, length, Option, Some, None, refl, sym, ap, subst, ◌∙◌, arith, eqb-true, eq-eqb, le-leb}
+use Rattle.std.proofs.Common.{◌≡◌, ℕ, ◌<◌, ◌≤◌, inl, inr, Bool, true, false, cond, not, find, List, [], ◌∷◌, length, Option, Some, None, refl, sym, ap, subst, ◌∙◌, arith, eqb-true, eq-eqb, le-leb}
 use Rattle.std.proofs.lemmas.Bool.{cases_lt}
 use Rattle.std.specs.Prelude.{Result, Ok, Err, IfOk, ◌↔◌, ◌&&◌, ◌||◌, ◌==◌, nat_le, filter, filter_map}
-use Rattle.std.specs.List.{list_any, range_with_len}
+use Rattle.std.specs.List.{list_any}
 use Rattle.std.specs.Option.{option_or, option_and_then}
 use Rattle.hw_types.specs.declared.unit.Digest.{Digest}
-use Rattle.hw_types.specs.declared.unit.Obs.{Obs}
-use Rattle.hw_types.specs.declared.unit.Obs.TheVariants.{Absent, Correct, Faulty}
+use Rattle.hw_types.specs.declared.unit.Obs.TheVariants.{Faulty}
 use Rattle.hw_types.specs.declared.unit.SignedUnit.{SignedUnit}
 use Rattle.hw_types.specs.declared.unit.Evidence.{Evidence}
 use Rattle.hw_types.specs.declared.unit.Vertex.{Vertex}
@@ -16,12 +15,11 @@ use Rattle.hw_types.specs.declared.answers.PairFault.TheVariants as fault
 use Rattle.hw_types.specs.Graph.{Node, digest_eq, is_faulty_mark, slot}
 use Rattle.hw_types.specs.Below.{Among}
 use Rattle.hw_types.specs.Spelling.{digest_of}
-use Rattle.hw_types.specs.Settled.{Received, validators, has_evidence, equivocates, is_faulty, settled_of, correct_or_absent, tip_of, panorama_of}
+use Rattle.hw_types.specs.Settled.{Received, validators, has_evidence, equivocates, is_faulty, correct_or_absent, tip_of, panorama_of}
 use Rattle.hw_types.specs.Journal.{Setting, named, unit_of_vertex, evidence_in, received_of, evidence_fault}
-use Rattle.hw_types.specs.Culprits.{pair_of}
 use Rattle.hw_types.specs.Real.{CoreState, setting_of, received_in, settled_in, panorama_in}
 use Rattle.hw_types.proofs.ClosureLaws.{Among-filter, filter-Among}
-use Rattle.hw_types.proofs.PastLaws.{some_of, any_of, or_cases, or_left, or_right}
+use Rattle.hw_types.proofs.PastLaws.{some_of, any_of, or_cases}
 use Rattle.hw_types.proofs.StableLaws.{OneName, and_parts, both_ways, found_one}
 use Rattle.hw_types.proofs.SettledLaws.{digest_self}
 use Rattle.hw_types.proofs.WordsLaws.{never_both, range_in, range_below}
@@ -58,7 +56,7 @@ pair_creator : (s : Setting) (e : Evidence) → evidence_fault s e ≡ None → 
 pair_creator s e h = elim (cases_lt e.left.unit.creator (length s.config.weights)) [
   | inl lt ↦ lt
   | inr le ↦ absurd (never_both (nat_le (length s.config.weights) e.left.unit.creator) (le-leb (length s.config.weights) e.left.unit.creator le)
-        (creator_low (e.left.unit.creator == e.right.unit.creator) (nat_le (length s.config.weights) e.left.unit.creator) _ h))
+      (creator_low (e.left.unit.creator == e.right.unit.creator) (nat_le (length s.config.weights) e.left.unit.creator) _ h))
 ]
 
 module _ (c : CoreState) where

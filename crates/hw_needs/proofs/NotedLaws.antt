@@ -7,7 +7,8 @@ use Rattle.std.proofs.lemmas.Bool.{cases_lt}
 use Rattle.std.proofs.lemmas.Bool.Decides.{nat_tests}
 use Rattle.hw_types.proofs.WordsLaws.{never_both}
 use Rattle.hw_dag.specs.Dag.{SettledUnit, UnitGraph, unit_at, creator_of, seq_of}
-use Rattle.hw_needs.specs.Forks.{StandsAt, HasTwo, IsLeastWithTwo, AreNoted, lesser_of}
+use Rattle.hw_audit.specs.Forks.{lower_of}
+use Rattle.hw_needs.specs.Forks.{StandsAt, HasTwo, IsLeastWithTwo, AreNoted}
 
 -- a set of numbers has this one where one of its keys compares equal
 number_tie : (m n : ℕ) → is_eq (nat_cmp m n) ≡ eqb n m
@@ -71,7 +72,7 @@ module _ (dag : UnitGraph) (count creator : ℕ) where
   least_stays None old is = λ seq t. is seq (old seq t)
   least_stays (Some m) old is = (two_more m is.0, λ seq t. is.1 seq (old seq t))
 
-  least_lowered : (least : Option ℕ) → IsHere (seq_of last) → IsLeastWithTwo dag count creator least → IsLeastWithTwo dag (count + 1) creator (Some (lesser_of least (seq_of last)))
+  least_lowered : (least : Option ℕ) → IsHere (seq_of last) → IsLeastWithTwo dag count creator least → IsLeastWithTwo dag (count + 1) creator (Some (lower_of least (seq_of last)))
   least_lowered None here is = (
     two_here (seq_of last) here.2.0 here.0 refl here.2.1,
     λ seq t. elim (two_split seq t) [
@@ -99,10 +100,13 @@ module _ (dag : UnitGraph) (count creator : ℕ) where
     noted_other other = record {
       numbers_are = λ seq. (
         λ h. (let there = (noted.numbers_are seq).0 h in (there.0, stands_more seq there.0 there.1)),
-        λ some. (noted.numbers_are seq).1 (some.0, elim (stands_split seq some.0 some.1) [
-          | inl e ↦ absurd (other (ap (λ (n : ℕ). creator_of (unit_at dag n)) (sym e) ∙ some.1.creator_is))
-          | inr s ↦ s
-        ])
+        λ some. (noted.numbers_are seq).1 (
+          some.0,
+          elim (stands_split seq some.0 some.1) [
+            | inl e ↦ absurd (other (ap (λ (n : ℕ). creator_of (unit_at dag n)) (sym e) ∙ some.1.creator_is))
+            | inr s ↦ s
+          ],
+        ),
       );
       least_is = least_stays least (λ seq t. elim (two_split seq t) [ inl h ↦ absurd (other h.0) | inr old ↦ old ]) noted.least_is;
     }
@@ -122,10 +126,13 @@ module _ (dag : UnitGraph) (count creator : ℕ) where
 
           back : (b : Bool) → eqb seq (seq_of last) ≡ b → ((number : ℕ) × StandsAt dag (count + 1) creator seq number) → cond b true (list_any (λ n. n == seq) numbers) ≡ true
           back true e some = refl
-          back false e some = (noted.numbers_are seq).1 (some.0, elim (stands_split seq some.0 some.1) [
-            | inl f ↦ absurd (never_both (eqb seq (seq_of last)) (eq-eqb seq (seq_of last) (sym some.1.seq_is ∙ ap (λ (n : ℕ). seq_of (unit_at dag n)) f)) e)
-            | inr s ↦ s
-          ])
+          back false e some = (noted.numbers_are seq).1 (
+            some.0,
+            elim (stands_split seq some.0 some.1) [
+              | inl f ↦ absurd (never_both (eqb seq (seq_of last)) (eq-eqb seq (seq_of last) (sym some.1.seq_is ∙ ap (λ (n : ℕ). seq_of (unit_at dag n)) f)) e)
+              | inr s ↦ s
+            ],
+          )
 
       -- none of this number was there
       pub noted_new : list_any (λ n. is_eq (nat_cmp (seq_of last) n)) numbers ≡ false → AreNoted dag (count + 1) creator new least
@@ -138,20 +145,13 @@ module _ (dag : UnitGraph) (count creator : ℕ) where
       }
 
       -- one was
-      pub noted_again : list_any (λ n. is_eq (nat_cmp (seq_of last) n)) numbers ≡ true → AreNoted dag (count + 1) creator new (Some (lesser_of least (seq_of last)))
+      pub noted_again : list_any (λ n. is_eq (nat_cmp (seq_of last) n)) numbers ≡ true → AreNoted dag (count + 1) creator new (Some (lower_of least (seq_of last)))
       noted_again known = record {
         numbers_are = numbers_more;
         least_is = least_lowered least (own, refl, (noted.numbers_are (seq_of last)).0 (sym (numbers_found numbers (seq_of last)) ∙ known)) noted.least_is;
       }
 
--- at the start there is none
-pub noted_none : (dag : UnitGraph) (creator : ℕ) → (numbers : List ℕ) → ((seq : ℕ) → list_any (λ n. n == seq) numbers ≡ false) → AreNoted dag 0 creator numbers None
-noted_none dag creator numbers none = record {
-  numbers_are = λ seq. (λ h. absurd (never_both (list_any (λ n. n == seq) numbers) h (none seq)), λ some. (let lt = some.1.within in absurd (omega arith)));
-  least_is = λ seq t. (let lt = t.one_at.within in absurd (omega arith));
-}
-
 -- the lesser number, as the code has it
-pub noted_told : (dag : UnitGraph) (count creator : ℕ) (numbers : List ℕ) (least : Option ℕ) (seq low at : ℕ) → seq ≡ at → low ≡ lesser_of least seq
-    → AreNoted dag count creator numbers (Some (lesser_of least at)) → AreNoted dag count creator numbers (Some low)
-noted_told dag count creator numbers least seq low at same is noted = subst (λ (m : ℕ). AreNoted dag count creator numbers (Some m)) (ap (lesser_of least) (sym same) ∙ sym is) noted
+pub noted_told : (dag : UnitGraph) (count creator : ℕ) (numbers : List ℕ) (least : Option ℕ) (seq low at : ℕ) → seq ≡ at → low ≡ lower_of least seq
+    → AreNoted dag count creator numbers (Some (lower_of least at)) → AreNoted dag count creator numbers (Some low)
+noted_told dag count creator numbers least seq low at same is noted = subst (λ (m : ℕ). AreNoted dag count creator numbers (Some m)) (ap (lower_of least) (sym same) ∙ sym is) noted

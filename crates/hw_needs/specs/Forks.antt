@@ -1,5 +1,5 @@
 -- Settled units of one creator that have one sequence number, by their numbers in the graph.
-use Rattle.std.specs.Prelude.{min, false, ◌≡◌, ◌≢◌, ℕ, ◌<◌, ◌≤◌, ◌⊎◌, ◌↔◌, ◌==◌, true, List, Option, Some, None}
+use Rattle.std.specs.Prelude.{false, ◌≡◌, ◌≢◌, ℕ, ◌<◌, ◌≤◌, ◌⊎◌, ◌↔◌, ◌==◌, true, List, Option, Some, None}
 use Rattle.std.specs.List.{list_any}
 use Rattle.std.specs.Option.{option_map}
 use Rattle.hw_types.specs.declared.unit.Digest.{Digest}
@@ -32,11 +32,6 @@ IsLeastWithTwo dag count creator (Some least) = HasTwo dag count creator least �
 pub record AreNoted (dag : UnitGraph) (count creator : ℕ) (numbers : List ℕ) (least : Option ℕ) : Type 0 where
   pub numbers_are : (seq : ℕ) → (list_any (λ n. n == seq) numbers ≡ true) ↔ ((number : ℕ) × StandsAt dag count creator seq number)
   pub least_is : IsLeastWithTwo dag count creator least
-
--- the lesser number, or the one that there is
-abbrev pub lesser_of : Option ℕ → ℕ → ℕ
-lesser_of None n = n
-lesser_of (Some m) n = min m n
 
 -- the lesser digest's unit, or the one that there is
 abbrev pub IsLower : UnitGraph → Option UnitNo → UnitNo → UnitNo → Type 0

@@ -4,7 +4,8 @@ ghost use Rattle.std.specs.Prelude.{◌≡◌, ℕ, ◌+◌, ◌<◌, ◌↔◌,
 ghost use Rattle.hw_types.specs.Culprits.{pair_of};
 ghost use Rattle.hw_types.specs.Graph.{digest_lt};
 ghost use Rattle.hw_dag.specs.Dag.{graph, count_of, unit_at};
-ghost use Rattle.hw_needs.specs.Forks.{StandsAt, AreNoted, IsLeastWithTwo, IsAbove, lesser_of, IsLower, IsLeastAbove, AreLeastTwo, AreNamed, nodes_at};
+ghost use Rattle.hw_audit.specs.Forks.{lower_of};
+ghost use Rattle.hw_needs.specs.Forks.{StandsAt, AreNoted, IsLeastWithTwo, IsAbove, IsLower, IsLeastAbove, AreLeastTwo, AreNamed, nodes_at};
 
 use hw_dag::{Dag, UnitNo};
 use hw_types::{Digest, OutOfMemory};
@@ -36,7 +37,7 @@ fn note(noted: &mut Noted, dag: &Dag, creator: u32, no: UnitNo) -> Result<(), Ou
 }
 
 fn lesser(known: Option<u64>, seq: u64) -> u64
-    ensures { result ≡ lesser_of known seq }
+    ensures { result ≡ lower_of known seq }
 {
     match known {
         None => seq,

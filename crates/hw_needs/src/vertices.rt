@@ -45,11 +45,7 @@ fn unit_vertices(alloc: Global, core: &Core, unit: &Digest) -> Result<VertexList
 }
 
 /// The evidence against the validator, where there is one.
-fn evidence_vertices(
-    alloc: Global,
-    core: &Core,
-    validator: u32,
-) -> Result<VertexList, OutOfMemory>
+fn evidence_vertices(alloc: Global, core: &Core, validator: u32) -> Result<VertexList, OutOfMemory>
     ensures vertices { IfOk result (λ vertices. vertices ≡ evidence_vertices (evidence_against core.now validator)) }
     ensures fit { IfOk result (λ vertices. All VertexFits vertices) }
 {

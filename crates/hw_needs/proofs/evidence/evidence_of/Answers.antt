@@ -1,8 +1,5 @@
-use Rattle.std.proofs.Common.{◌≡◌, Option, Some, None, sym, ap, ◌∙◌}
-use Rattle.std.specs.Prelude.{IfOk}
+use Rattle.std.proofs.Common.{Some, sym, ap, ◌∙◌}
 use Rattle.hw_types.specs.declared.unit.Evidence.{Evidence}
-use Rattle.hw_core.specs.Readers.{evidence_of}
-use Rattle.hw_needs.specs.Needs.{evidence_against}
 use Rattle.hw_needs.proofs.NeedLaws.{journal_is, settled_is, clear_none, none_is, ok_so}
 use Rattle.hw_needs.proofs.evidence.evidence_of.Goals as goal
 

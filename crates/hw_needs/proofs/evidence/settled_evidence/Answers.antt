@@ -1,5 +1,4 @@
-use Rattle.std.proofs.Common.{List, sym, ap, subst, ◌∙◌}
-use Rattle.hw_types.specs.Graph.{Node}
+use Rattle.std.proofs.Common.{sym, ap, subst, ◌∙◌}
 use Rattle.hw_dag.specs.Dag.{UnitGraph, graph}
 use Rattle.hw_needs.specs.Forks.{AreNamed}
 use Rattle.hw_needs.proofs.NeedLaws.{settled_named}

@@ -1,4 +1,4 @@
-use Rattle.std.proofs.Common.{◌≡◌, ℕ, Option, Some, None, sym, subst}
+use Rattle.std.proofs.Common.{ℕ, Option, Some, None, sym, subst}
 use Rattle.hw_dag.specs.Dag.{count_of}
 use Rattle.hw_needs.specs.Forks.{IsLeastWithTwo}
 use Rattle.hw_needs.proofs.ForkLaws.{none_is, told, known}

@@ -1,4 +1,4 @@
-use Rattle.std.proofs.Common.{◌≡◌, true, sym, ap, subst, ◌∙◌}
+use Rattle.std.proofs.Common.{◌≡◌, ap, subst, ◌∙◌}
 use Rattle.hw_types.specs.declared.unit.Digest.{Digest}
 use Rattle.hw_dag.specs.Dag.{SettledUnit, unit_at, count_of}
 use Rattle.hw_needs.specs.Forks.{StandsAt, IsAbove}

@@ -1,5 +1,3 @@
-use Rattle.std.proofs.Common.{Option, Some, sym, ap, ◌∙◌}
-use Rattle.std.specs.Option.{option_copied}
 use Rattle.hw_core.specs.Readers.{endorsements_of}
 use Rattle.hw_needs.proofs.ListLaws.{one_more, all_there, endorsements_fit}
 use Rattle.hw_needs.proofs.vertices.endorsements.Goals as goal
