@@ -4,3 +4,4 @@ pub mod FaultLaws
 pub mod ForkLaws
 pub mod NeedLaws
 pub mod ListLaws
+pub mod TakenLaws

@@ -12,7 +12,9 @@
 
 mod evidence;
 mod forks;
+mod laws;
 mod vertices;
 
 pub use evidence::evidence_of;
+pub use laws::evidence_is_taken;
 pub use vertices::{VertexList, vertices_of};
