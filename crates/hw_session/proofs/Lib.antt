@@ -4,3 +4,4 @@ pub mod MakeLaws
 pub mod StartLaws
 pub mod RestartLaws
 pub mod LineLaws
+pub mod AcceptLaws

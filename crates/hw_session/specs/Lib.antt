@@ -3,3 +3,4 @@ pub mod Entry
 pub mod Start
 pub mod Make
 pub mod Restart
+pub mod Accept

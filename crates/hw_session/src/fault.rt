@@ -1,9 +1,9 @@
-//! Why a node can't make a unit.
+//! Why a node can't make a unit, or accept a vertex.
 
 ghost use Rattle.std.specs.Prelude.{◌≡◌};
 ghost use Rattle.hw_session.specs.declared.fault.MakeFault.TheVariants as fault;
 
-use hw_types::OutOfMemory;
+use hw_types::{Cause, OutOfMemory};
 
 /// Why a node can't make a unit.
 #[derive(Clone, Copy, Debug, PartialEq, Eq)]
@@ -23,4 +23,16 @@ impl From<OutOfMemory> for MakeFault {
     fn from(_error: OutOfMemory) -> MakeFault {
         MakeFault::OutOfMemory
     }
+}
+
+/// Why a node doesn't accept a peer's vertex.
+#[derive(Clone, Copy, Debug, PartialEq, Eq)]
+pub enum AcceptFault {
+    /// The node refuses it by this cause, which is no want of memory.
+    Refused(Cause),
+    /// The append to the log failed. The vertex stands in the journal, and the log holds a first part of its
+    /// entry: the node has to be given up.
+    AppendFault,
+    /// There was no memory. Where it was the append's, the same holds as after `AppendFault`.
+    OutOfMemory,
 }

@@ -5,6 +5,7 @@
 //! log stands where it stood, and a unit whose entry is torn was never handed out.
 #![tactic(auto)]
 
+mod accept;
 mod entry;
 mod fault;
 mod laws;
@@ -12,7 +13,7 @@ mod make;
 mod node;
 mod start;
 
-pub use fault::MakeFault;
+pub use fault::{AcceptFault, MakeFault};
 pub use hw_keys::{Keys, KeysFault};
 pub use hw_replay::StartFault;
 pub use laws::{a_log_gives_its_journal_back, a_node_keeps_the_log_of_its_journal};

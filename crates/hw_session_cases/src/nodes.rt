@@ -4,6 +4,7 @@ ghost use Rattle.std.specs.Prelude.{◌≡◌, length, IfOk, IfSome, None, strin
 ghost use Rattle.hw_types.specs.Limits.{config_fault};
 
 use crate::lines::bytes_of;
+use crate::peers::accept;
 use hw_codec::decode_config;
 use hw_io::MemFiles;
 use hw_session::{Keys, MakeFault, Node, StartFault};
@@ -29,14 +30,28 @@ pub fn run(scene: &Scene, files: &mut MemFiles, acts: &[&str]) -> Result<String,
     let mut nodes = Vec::new(scene.alloc);
     start(scene, files, &mut nodes, &mut text)?;
     for act in acts {
-        if *act == "again" {
-            start(scene, files, &mut nodes, &mut text)?;
-        } else {
-            make(scene.alloc, files, &mut nodes, act, &mut text)?;
-        }
+        step(scene, files, &mut nodes, act, &mut text)?;
     }
     tell_end(scene.alloc, files, nodes.as_slice(), &mut text)?;
     Ok(text)
+}
+
+/// Lets a node act, and tells what came of it.
+fn step(
+    scene: &Scene,
+    files: &mut MemFiles,
+    nodes: &mut Vec<Node>,
+    act: &str,
+    text: &mut String,
+) -> Result<(), OutOfMemory> {
+    if act == "again" {
+        return start(scene, files, nodes, text);
+    }
+    match (act.split_once(':'), nodes.as_mut_slice()) {
+        (Some(("accept", vertex)), [node]) => accept(scene.alloc, files, node, vertex, text),
+        (Some(_), _) => make(scene.alloc, files, nodes, act, text),
+        (None, _) => word(text, "-"),
+    }
 }
 
 /// Starts a node, which comes first among the nodes, and tells how it started.
@@ -166,7 +181,7 @@ fn tell_end(
 }
 
 /// Puts a word behind the others.
-fn word(text: &mut String, word: &str) -> Result<(), OutOfMemory> {
+pub fn word(text: &mut String, word: &str) -> Result<(), OutOfMemory> {
     if !text.is_empty() {
         text.push_str(" ")?;
     }

@@ -1,0 +1,204 @@
+//! A peer's vertex.
+
+ghost use Rattle.std.specs.Prelude.{◌≡◌, IsTrue, IfOk, IfSome};
+ghost use Rattle.std.specs.Option.{option_copied};
+ghost use Rattle.hw_types.specs.Spelling.{VertexFits, Fits};
+ghost use Rattle.hw_types.specs.declared.answers.Cause.TheVariants as cause;
+ghost use Rattle.hw_replay.specs.Taken.{spelling_of};
+ghost use Rattle.hw_keys.specs.Signed.{verdict_of};
+ghost use Rattle.hw_session.specs.Entry.{IsEntryOf};
+ghost use Rattle.hw_session.specs.Accept.{clash_units, Accepts, WritesAccepted, Keeps, WritesReceipt, Counts, IsAcceptCounted, accept_fault};
+
+use crate::entry::{NewEntry, new_entry, put_entry};
+use crate::fault::AcceptFault;
+use crate::node::{ClashUnits, Node};
+use hw_codec::encode_unit;
+use hw_core::{Core, Refused};
+use hw_io::Files;
+use hw_log::LogError;
+use hw_types::{Bytes, Cause, Digest, OutOfMemory, Receipt, SignedUnit, Vertex};
+use std::alloc::Global;
+
+/// The verdict on a peer's vertex, and its entry in the log.
+#[derive(Drop)]
+struct Judged {
+    verdict: bool,
+    entry: NewEntry,
+}
+
+impl Node {
+    /// Takes a peer's vertex as a session does, with the verdict that the keys give its signatures. Each of
+    /// its units keeps the limits of its format.
+    ///
+    /// An accepted vertex goes last in the journal, and then its entry goes last in the log; one that came
+    /// again is counted. `Refused` has the cause by which the node refuses it, and is counted: of a clash
+    /// both spellings are kept. Its cause is never want of memory. After `AppendFault` the vertex stands in
+    /// the journal alone, and the log holds a first part of its entry. `OutOfMemory` comes before anything
+    /// changed, or from the append, and then the same holds as after `AppendFault`.
+    pub fn accept<F: Files>(
+        &mut self,
+        files: &mut F,
+        vertex: Vertex,
+    ) -> Result<Receipt, AcceptFault>
+        requires { VertexFits vertex }
+        ensures accepted { Accepts self.old vertex self.new result }
+        ensures log { IsTrue F.tells → WritesAccepted self.old vertex self.new (F.held files.old) (F.held files.new) result }
+        ensures cause { IsAcceptCounted (F.append_faults files.old) (F.append_faults files.new) result }
+
+        ensures begun { F.begun files.new ≡ F.begun files.old }
+        ensures allowance { F.allowance files.new ≡ F.allowance files.old }
+        ensures reads { F.read_faults files.new ≡ F.read_faults files.old }
+    {
+        match self.judged(&vertex) {
+            Ok(judged) => self.take(files, vertex, judged),
+            Err(OutOfMemory) => Err(AcceptFault::OutOfMemory),
+        }
+    }
+
+    /// The verdict on a vertex, and its entry.
+    fn judged(&self, vertex: &Vertex) -> Result<Judged, OutOfMemory>
+        requires { VertexFits vertex.now }
+        ensures verdict { IfOk result (λ j. j.verdict ≡ verdict_of self.now.keys vertex.now) }
+        ensures entry { IfOk result (λ j. IsEntryOf self.now.lasts vertex.now j.entry) }
+    {
+        let verdict = self.keys.verdict(vertex)?;
+        let entry = new_entry(self.alloc, &self.lasts, vertex)?;
+        Ok(Judged { verdict, entry })
+    }
+
+    /// Delivers a vertex with its verdict, and then appends the entry of an accepted one.
+    fn take<F: Files>(
+        &mut self,
+        files: &mut F,
+        vertex: Vertex,
+        judged: Judged,
+    ) -> Result<Receipt, AcceptFault>
+        requires fits { VertexFits vertex }
+        requires verdict { judged.verdict ≡ verdict_of self.old.keys vertex }
+        requires entry { IsEntryOf self.old.lasts vertex judged.entry }
+        ensures accepted { Accepts self.old vertex self.new result }
+        ensures log { IsTrue F.tells → WritesAccepted self.old vertex self.new (F.held files.old) (F.held files.new) result }
+        ensures cause { IsAcceptCounted (F.append_faults files.old) (F.append_faults files.new) result }
+
+        ensures begun { F.begun files.new ≡ F.begun files.old }
+        ensures allowance { F.allowance files.new ≡ F.allowance files.old }
+        ensures reads { F.read_faults files.new ≡ F.read_faults files.old }
+    {
+        match self.core.deliver(vertex, judged.verdict) {
+            Ok(receipt) => self.keep(files, receipt, judged.entry),
+            Err(refused) => self.refuse(refused),
+        }
+    }
+
+    /// Appends the entry of a vertex that has this receipt, unless it came again, which is counted.
+    fn keep<F: Files>(
+        &mut self,
+        files: &mut F,
+        receipt: Receipt,
+        entry: NewEntry,
+    ) -> Result<Receipt, AcceptFault>
+        ensures kept { Keeps self.old receipt entry self.new result }
+        ensures log { IsTrue F.tells → WritesReceipt self.old receipt entry (F.held files.old) (F.held files.new) result }
+        ensures cause { IsAcceptCounted (F.append_faults files.old) (F.append_faults files.new) result }
+
+        ensures begun { F.begun files.new ≡ F.begun files.old }
+        ensures allowance { F.allowance files.new ≡ F.allowance files.old }
+        ensures reads { F.read_faults files.new ≡ F.read_faults files.old }
+    {
+        match receipt {
+            Receipt::Repeat => {
+                self.repeats = self.repeats.saturating_add(1);
+                Ok(receipt)
+            }
+            Receipt::Admitted { .. } | Receipt::Parked { .. } | Receipt::Dropped(_) => {
+                match put_entry(&mut self.lasts, files, self.log.as_str(), entry) {
+                    Ok(()) => Ok(receipt),
+                    Err(error) => Err(accept_fault(error)),
+                }
+            }
+        }
+    }
+
+    /// Counts a refused vertex, and keeps a clash.
+    fn refuse(&mut self, refused: Refused) -> Result<Receipt, AcceptFault>
+        requires { VertexFits refused.vertex }
+        ensures { Counts self.old refused.vertex refused.cause self.new result }
+    {
+        match refused.cause {
+            Cause::OutOfMemory => Err(AcceptFault::OutOfMemory),
+            Cause::Clash { known } => self.keep_clash(known, &refused.vertex),
+            Cause::RecordsFull | Cause::ParkFull => {
+                self.refused = self.refused.saturating_add(1);
+                self.limited = self.limited.saturating_add(1);
+                Err(AcceptFault::Refused(refused.cause))
+            }
+            Cause::BadSignature | Cause::Local(_) | Cause::Pair(_) => {
+                self.refused = self.refused.saturating_add(1);
+                Err(AcceptFault::Refused(refused.cause))
+            }
+        }
+    }
+
+    /// Counts a vertex that was refused because two different units have this digest, and keeps how both
+    /// are spelled.
+    fn keep_clash(&mut self, known: Digest, vertex: &Vertex) -> Result<Receipt, AcceptFault>
+        requires { VertexFits vertex.now }
+        ensures { Counts self.old vertex.now (cause.Clash known) self.new result }
+    {
+        match clash_units(self.alloc, &self.core, &known, vertex) {
+            Ok(clash) => {
+                self.refused = self.refused.saturating_add(1);
+                self.clash = Some(clash);
+                Err(AcceptFault::Refused(Cause::Clash { known }))
+            }
+            Err(OutOfMemory) => Err(AcceptFault::OutOfMemory),
+        }
+    }
+}
+
+/// The two units of one digest, as they are spelled.
+fn clash_units(
+    alloc: Global,
+    core: &Core,
+    known: &Digest,
+    vertex: &Vertex,
+) -> Result<ClashUnits, OutOfMemory>
+    requires { VertexFits vertex.now }
+    ensures { IfOk result (λ clash. clash ≡ clash_units core.now vertex.now known.now) }
+{
+    match vertex {
+        Vertex::Unit(other) => Ok(ClashUnits {
+            known: spelling_of(alloc, core.unit_of(known))?,
+            other: encode_unit(alloc, &other.unit)?,
+        }),
+        Vertex::Evidence(evidence) => Ok(ClashUnits {
+            known: encode_unit(alloc, &evidence.left.unit)?,
+            other: encode_unit(alloc, &evidence.right.unit)?,
+        }),
+        Vertex::Endorsement(_) => Ok(ClashUnits {
+            known: Bytes::new(alloc),
+            other: Bytes::new(alloc),
+        }),
+    }
+}
+
+/// The spelling of a unit, if there is one.
+fn spelling_of(alloc: Global, unit: Option<&SignedUnit>) -> Result<Bytes, OutOfMemory>
+    requires { IfSome unit (λ u. Fits u.now.unit) }
+    ensures { IfOk result (λ bytes. bytes ≡ spelling_of (option_copied unit.entry)) }
+{
+    match unit {
+        Some(signed) => encode_unit(alloc, &signed.unit),
+        None => Ok(Bytes::new(alloc)),
+    }
+}
+
+/// What a failed append is answered as.
+fn accept_fault(error: LogError) -> AcceptFault
+    ensures { result ≡ accept_fault error }
+{
+    match error {
+        LogError::WriteFault => AcceptFault::AppendFault,
+        _ => AcceptFault::OutOfMemory,
+    }
+}
