@@ -186,15 +186,6 @@ drops meets old new before after later index b a ending u here is met places dro
 pub after_drop : {B : Type 0} (meets : Fate B → Type 0) (old new : List B) (before after : FanoutState) (index : ℕ) (now : List B) → AreUnderWay meets old new before after index → now ≡ new → AreUnderWay meets old now before after index
 after_drop meets old new before after index now u e = let P : List _ → Type 0 = λ l. AreUnderWay meets old l before after index in subst P (sym e) u
 
--- what holds of each consumer of the first list holds of the next one
-pub next_has : {B : Type 0} (meets : Fate B → Type 0) (P : B → Type 0) (old new : List B) (before after : FanoutState) (index : ℕ) (b : B) → AreUnderWay meets old new before after index → index < length new → b ≡ get_or new index b → All P old → P b
-next_has meets P old new before after index b u here is h =
-    let n = next_in meets old new before after index u here in
-    let firsts = map (λ fate. fate.before) u.fates in
-    let whole : old ≡ firsts ++ n.first ∷ n.others = u.whole ∙ ap (λ l. firsts ++ l) n.rest_is in
-    let at : get_or old (length firsts) b ≡ b = found_at old firsts n.first n.others (length firsts) b whole refl ∙ next_is meets old new before after index b u is n in
-    subst P at (h (length firsts) b (grind (arith, common_steps, whole)))
-
 -- how many blocks were passed on doesn't count there
 pub later_served : {B : Type 0} (meets : Fate B → Type 0) (old new : List B) (before after later : FanoutState) → later.places ≡ after.places → later.drops ≡ after.drops → AreServed meets old new before after → AreServed meets old new before later
 later_served meets old new before after later places drops s = record {

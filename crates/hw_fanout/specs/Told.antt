@@ -1,6 +1,6 @@
 -- What a consumer is told, block by block, and that no block follows.
 -- Source: ours.
-use Rattle.std.specs.Prelude.{◌≡◌, ◌≤◌, ℕ, List, length, take, slice_get, Option, Some, None}
+use Rattle.std.specs.Prelude.{◌≡◌, ◌≤◌, ℕ, List, ◌++◌, length, take, drop, slice_get, Option, Some, None}
 use Rattle.std.specs.Option.{option_map}
 use Rattle.hw_io.specs.Consumers.{Consumed, after_finish}
 use Rattle.hw_io.specs.Faults.{HasCause}
@@ -12,21 +12,25 @@ abbrev pub HasTaken : List (ℕ × List ℕ) → ℕ → Option Consumed → Typ
 HasTaken chain count None = Unit {0}
 HasTaken chain count (Some consumed) = consumed.pairs ≡ take count chain
 
--- with these blocks as those that were taken
-abbrev pub with_pairs : List (ℕ × List ℕ) → Consumed → Consumed
-with_pairs pairs consumed = record consumed { pairs = pairs }
+-- the blocks of a chain from one place on, up to another
+abbrev pub blocks_between : ℕ → ℕ → List (ℕ × List ℕ) → List (ℕ × List ℕ)
+blocks_between from to chain = drop from (take to chain)
+
+-- these blocks were taken after the others
+abbrev pub with_more : List (ℕ × List ℕ) → Consumed → Consumed
+with_more blocks consumed = record consumed { pairs = consumed.pairs ++ blocks }
 
 -- without a fault all blocks are taken, and with one the block of which it tells is the next
 abbrev pub StopsAt : List (ℕ × List ℕ) → ℕ → Option Ending → Type 0
 StopsAt chain count None = count ≡ length chain
 StopsAt chain count (Some ending) = (block : ℕ × List ℕ) × (slice_get chain count ≡ Some block) × (ending.height ≡ Some block.0)
 
--- The consumer, which had taken so many blocks, took those that follow, in order and each once, until it failed or none
--- followed. No call came after its fault, and without one no fault of it was counted.
+-- The consumer took the blocks from this place on, in order and each once, until it failed or none followed. No call came
+-- after its fault, and without one no fault of it was counted.
 pub record IsTold {B K : Type 0} (sight : Sight B K) (chain : List (ℕ × List ℕ)) (from : ℕ) (fate : Fate B) : Type 0 where
   pub count : ℕ
   pub more : from ≤ count
-  pub took : sight.consumed fate.after ≡ option_map (with_pairs (take count chain)) (sight.consumed fate.before)
+  pub took : sight.consumed fate.after ≡ option_map (with_more (blocks_between from count chain)) (sight.consumed fate.before)
   pub stops : StopsAt chain count fate.ended
   pub cause : HasCause (sight.faults fate.before) (sight.faults fate.after) (answer_of fate.ended)
   pub kind : sight.kind fate.after ≡ sight.kind fate.before

@@ -72,10 +72,9 @@ impl Fanout {
     pub fn pass(&mut self, consumers: &mut Vec<Box<dyn Consumer>>, core: &Core)
         requires room { length consumers.old.items ≤ length self.old.places }
         requires passed { self.old.passed ≤ length (told_chain core.now) }
-        requires taken { All (λ b. HasTaken (told_chain core.now) self.old.passed (consumed b)) consumers.old.items }
         ensures told { AreServed (IsTold (seen (λ b. consumed b) (λ b. faults b) (λ b. b.vtable)) (told_chain core.now) self.old.passed) consumers.old.items consumers.new.items self.old self.new }
         ensures passed { self.new.passed ≡ length (told_chain core.now) }
-        ensures whole { All (λ b. HasTaken (told_chain core.now) (length (told_chain core.now)) (consumed b)) consumers.new.items }
+        ensures whole { All (λ b. HasTaken (told_chain core.now) self.old.passed (consumed b)) consumers.old.items → All (λ b. HasTaken (told_chain core.now) (length (told_chain core.now)) (consumed b)) consumers.new.items }
         ensures room { length consumers.new.items ≤ length self.new.places }
     {
         let from = self.passed;

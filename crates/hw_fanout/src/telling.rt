@@ -3,7 +3,7 @@
 ghost use Rattle.std.specs.Prelude.{◌≡◌, ℕ, ◌≤◌, length};
 ghost use Rattle.hw_fanout.specs.Fates.{seen, ending_of};
 ghost use Rattle.hw_fanout.specs.Chain.{told_chain};
-ghost use Rattle.hw_fanout.specs.Told.{HasTaken, IsTold};
+ghost use Rattle.hw_fanout.specs.Told.{IsTold};
 
 use crate::chain::{block_at, chain_length};
 use crate::ending::Ending;
@@ -13,8 +13,7 @@ use hw_io::Consumer;
 
 /// Gives a consumer the decided blocks from this place on, until it fails.
 pub(crate) fn tell(consumer: &mut Box<dyn Consumer>, core: &Core, from: u64) -> Result<(), Ending>
-    requires from { from ≤ length (told_chain core.now) }
-    requires taken { HasTaken (told_chain core.now) from (consumed consumer.old) }
+    requires { from ≤ length (told_chain core.now) }
     ensures { (place : ℕ) → IsTold (seen (λ b. consumed b) (λ b. faults b) (λ b. b.vtable)) (told_chain core.now) from (record { place = place; before = consumer.old; after = consumer.new; ended = ending_of result }) }
 {
     for index in from..chain_length(core) {

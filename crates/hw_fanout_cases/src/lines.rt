@@ -1,7 +1,5 @@
 //! Lines of words.
 
-ghost use Rattle.std.specs.Prelude.{◌≡◌, None, All};
-
 use crate::passes::pass_along;
 use crate::planned::consumer_of;
 use hw_fanout::Fanout;
@@ -28,15 +26,13 @@ fn passed(alloc: Global, each: bool, log: &str, plans: &[&str]) -> Result<String
     replayed(alloc, each, log, &mut consumers)
 }
 
-/// The same of consumers that tell nothing.
+/// The same of these consumers.
 fn replayed(
     alloc: Global,
     each: bool,
     log: &str,
     consumers: &mut Vec<Box<dyn Consumer>>,
-) -> Result<String, OutOfMemory>
-    requires { All (λ b. consumed b ≡ None) consumers.old.items }
-{
+) -> Result<String, OutOfMemory> {
     let mut fanout = Fanout::new(alloc);
     fanout.reserve(consumers.len())?;
     let mut files = log_file(alloc, log)?;

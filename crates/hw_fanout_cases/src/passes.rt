@@ -1,12 +1,11 @@
 //! Passes while a log is replayed.
 
-ghost use Rattle.std.specs.Prelude.{◌≤◌, ◌<◌, IsTrue, length, All};
+ghost use Rattle.std.specs.Prelude.{◌≤◌, ◌<◌, IsTrue, length};
 ghost use Rattle.hw_io.specs.Memory.{mem_allowance};
 ghost use Rattle.hw_log.specs.Reader.{ahead_of};
 ghost use Rattle.hw_replay.specs.Replay.{GrowsByOne};
 ghost use Rattle.hw_replay.specs.Steps.{HasRoom};
 ghost use Rattle.hw_fanout.specs.Chain.{told_chain};
-ghost use Rattle.hw_fanout.specs.Told.{HasTaken};
 
 use hw_core::Core;
 use hw_fanout::Fanout;
@@ -25,7 +24,6 @@ pub fn pass_along(
     requires replay { HasRoom replay.old (mem_allowance files.old) }
     requires room { length consumers.old.items ≤ length fanout.old.places }
     requires passed { fanout.old.passed ≤ length (told_chain replay.old.core) }
-    requires taken { All (λ b. HasTaken (told_chain replay.old.core) fanout.old.passed (consumed b)) consumers.old.items }
 {
     'entries: while goes_on(files, replay) {
         pass_if(each, fanout, consumers, &replay.core);
@@ -51,10 +49,8 @@ fn goes_on(files: &mut MemFiles, replay: &mut Replay) -> bool
 fn pass_if(is_due: bool, fanout: &mut Fanout, consumers: &mut Vec<Box<dyn Consumer>>, core: &Core)
     requires room { length consumers.old.items ≤ length fanout.old.places }
     requires passed { fanout.old.passed ≤ length (told_chain core.now) }
-    requires taken { All (λ b. HasTaken (told_chain core.now) fanout.old.passed (consumed b)) consumers.old.items }
     ensures room { length consumers.new.items ≤ length fanout.new.places }
     ensures passed { fanout.new.passed ≤ length (told_chain core.now) }
-    ensures taken { All (λ b. HasTaken (told_chain core.now) fanout.new.passed (consumed b)) consumers.new.items }
 {
     if is_due {
         fanout.pass(consumers, core);

@@ -1,10 +1,8 @@
 use Rattle.std.proofs.Common.{◌≤◌, length}
-use Rattle.std.specs.Prelude.{All}
 use Rattle.hw_io.specs.Memory.{mem_allowance}
 use Rattle.hw_log.specs.Reader.{ahead_of}
 use Rattle.hw_replay.specs.Steps.{HasRoom}
 use Rattle.hw_fanout.specs.Chain.{told_chain}
-use Rattle.hw_fanout.specs.Told.{HasTaken}
 use Rattle.hw_fanout_cases.proofs.passes.pass_along.Given as goal
 
 abbrev pub invariant-entries : goal.invariant-entries
@@ -12,7 +10,6 @@ invariant-entries g l = record {
   replay : HasRoom l.replay (mem_allowance l.files);
   room : length l.consumers.items ≤ length l.fanout.places;
   passed : l.fanout.passed ≤ length (told_chain l.replay.core);
-  taken : All (λ b. HasTaken (told_chain l.replay.core) l.fanout.passed ((goal.Consumer-dyn g (b.vtable, b.value)).consumed b.value)) l.consumers.items;
 }
 
 abbrev pub decreases-entries : goal.decreases-entries

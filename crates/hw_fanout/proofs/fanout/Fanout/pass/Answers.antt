@@ -1,18 +1,13 @@
 use Rattle.std.proofs.Common.{ℕ, slice_index, ap, ◌∙◌, subst, sym, arith}
+use Rattle.std.specs.Prelude.{All}
 use Rattle.std.proofs.lemmas.Grind.{common_steps}
 use Rattle.std.proofs.lemmas.List.Edits.{length-remove}
 use Rattle.hw_fanout.specs.State.{FanoutState}
 use Rattle.hw_fanout.specs.Chain.{told_chain}
 use Rattle.hw_fanout.specs.Told.{HasTaken}
-use Rattle.hw_fanout.proofs.Serving.{leaves, drops, ends, later_served, has_places, after_drop, next_has}
+use Rattle.hw_fanout.proofs.Serving.{leaves, drops, ends, later_served, has_places, after_drop}
 use Rattle.hw_fanout.proofs.TellingLaws.{all_whole, told_from}
 use Rattle.hw_fanout.proofs.fanout.Fanout.pass.Goals as goal
-
-pub tell-requires-clause-taken : goal.tell-requires-clause-taken
-tell-requires-clause-taken g c =
-    let P : ℕ → Type 0 = λ n. HasTaken (told_chain c.args.core.now) n ((goal.Consumer-dyn g (c.index_mut.result.now.vtable, c.index_mut.result.now.value)).consumed c.index_mut.result.now.value) in
-    subst P (ap (λ (f : FanoutState). f.passed) (sym c.self.view_is))
-    (next_has _ (λ b. HasTaken (told_chain c.args.core.now) c.args.self.now.passed ((goal.Consumer-dyn g (b.vtable, b.value)).consumed b.value)) _ _ _ _ c.loop-index.index c.index_mut.result.now c.loop-index.invariant.served (omega (arith, c.loop-index-test.true, c.len.ensures)) c.index_mut.ensures.value c.requires.taken)
 
 pub loop-index-preserved-in-Ok : goal.loop-index-preserved-in-Ok
 loop-index-preserved-in-Ok g c =
@@ -34,4 +29,6 @@ returns-clause-told g c =
     (told_from _ _ _ _ _ _ _ _ (ap (λ (f : FanoutState). f.passed) c.self.view_is) (ends _ _ _ _ _ _ c.loop-index.invariant.served (omega (arith, c.loop-index-test.false, c.len.ensures))))
 
 pub returns-clause-whole : goal.returns-clause-whole
-returns-clause-whole g c = all_whole _ _ _ _ _ _ _ (ends _ _ _ _ _ _ c.loop-index.invariant.served (omega (arith, c.loop-index-test.false, c.len.ensures)))
+returns-clause-whole g c = λ so.
+    let P : ℕ → Type 0 = λ n. All (λ b. HasTaken (told_chain c.args.core.now) n ((goal.Consumer-dyn g (b.vtable, b.value)).consumed b.value)) c.args.consumers.now.items in
+    all_whole _ _ _ _ _ _ _ (ends _ _ _ _ _ _ c.loop-index.invariant.served (omega (arith, c.loop-index-test.false, c.len.ensures))) (subst P (ap (λ (f : FanoutState). f.passed) (sym c.self.view_is)) so)
