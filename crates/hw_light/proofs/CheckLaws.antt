@@ -1,7 +1,7 @@
 -- The vertices of a certificate in turn, and what a yes shows.
-use Rattle.std.proofs.Common.{◌≡◌, ◌≢◌, ℕ, ◌+◌, ◌<◌, ◌≤◌, Bool, true, false, cond, ltb, List, [], ◌∷◌, length, get_or, drop, map, fold, Option, Some, None, Result, Ok, Err, refl, sym, ap, subst, ◌∙◌, arith}
+use Rattle.std.proofs.Common.{◌≡◌, ◌≢◌, ℕ, ◌+◌, ◌<◌, ◌≤◌, Bool, true, false, cond, ltb, List, [], ◌∷◌, length, get_or, drop, fold, Option, Some, None, Result, Ok, Err, refl, sym, ap, subst, ◌∙◌, arith}
 use Rattle.std.specs.Prelude.{IsOk, IfOk}
-use Rattle.std.specs.List.{All, AllByRecursion, zip}
+use Rattle.std.specs.List.{AllByRecursion, zip}
 use Rattle.std.proofs.lemmas.Bool.{ltb-false}
 use Rattle.std.proofs.lemmas.List.{drop_more, drop_all}
 use Rattle.std.proofs.lemmas.List.Elements.{All-from_recursion}
@@ -16,7 +16,7 @@ use Rattle.hw_types.specs.Journal.{Setting, answer, journal_after, journal_of, a
 use Rattle.hw_types.specs.Real.{CoreState, setting_of, weight_in, answer_in, after_in}
 use Rattle.hw_core.specs.Deliver.{IsRefusal}
 use Rattle.hw_core.specs.Readers.{exceeded_in}
-use Rattle.hw_certificates.specs.Certificates.{delivered, journal_from, Certifies}
+use Rattle.hw_certificates.specs.Certificates.{delivered, journal_from}
 use Rattle.hw_light.specs.declared.certificate.Certificate.{Certificate}
 use Rattle.hw_light.specs.declared.answers.Checked.{Checked}
 use Rattle.hw_light.specs.declared.answers.Checked.TheVariants.{Yes, No}
@@ -189,14 +189,14 @@ refused_is c bs first later fault lawful config empty is = refused_answer c bs l
 
 -- ---- a yes
 
-few_faulty : (core : CoreState) → exceeded_in core ≡ None → weight_in core ≤ core.config.ftt
+pub few_faulty : (core : CoreState) → exceeded_in core ≡ None → weight_in core ≤ core.config.ftt
 few_faulty core is = go (ltb core.config.ftt (weight_in core)) refl is
   where
     go : (b : Bool) → ltb core.config.ftt (weight_in core) ≡ b → cond b (Some (weight_in core)) None ≡ None → weight_in core ≤ core.config.ftt
     go true over is' = absurd cc
     go false within is' = ltb-false _ _ within
 
-same_core : (core : CoreState) (config : Config) (journal : List Vertex) → core.config ≡ config → core.journal ≡ journal → core ≡ record { config = config; journal = journal }
+pub same_core : (core : CoreState) (config : Config) (journal : List Vertex) → core.config ≡ config → core.journal ≡ journal → core ≡ record { config = config; journal = journal }
 same_core core config journal e f = ap (λ (k : Config). record { config = k; journal = core.journal }) e ∙ ap (λ (j : List Vertex). record { config = config; journal = j }) f
 
 certified : (c : Certificate) (bs : List Bool) (core : CoreState) → length bs ≡ length c.vertices → IsStanding c bs core → IsCertified c core

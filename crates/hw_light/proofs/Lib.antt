@@ -5,3 +5,11 @@ pub mod Spelled
 pub mod CheckLaws
 pub mod StandingLaws
 pub mod YesLaws
+pub mod UnderLaws
+pub mod GatherLaws
+pub mod DeliveredLaws
+pub mod EvidenceLaws
+pub mod MadeLaws
+pub mod CertifyLaws
+pub mod SummitLaws
+pub mod PutLaws

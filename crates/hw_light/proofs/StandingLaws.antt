@@ -1,5 +1,5 @@
 -- A block stands for a node where the unit of its number has a summit of some level.
-use Rattle.std.proofs.Common.{◌≡◌, ℕ, ◌+◌, ◌^◌, ◌<◌, ◌≤◌, inl, inr, List, Some, None, refl, sym, ap, subst, ◌∙◌, arith}
+use Rattle.std.proofs.Common.{◌≡◌, ℕ, ◌+◌, ◌<◌, ◌≤◌, inl, inr, List, sym, ap, subst, ◌∙◌, arith}
 use Rattle.std.specs.Prelude.{sum, ◌↔◌}
 use Rattle.std.proofs.lemmas.Bool.{cases_lt}
 use Rattle.hw_types.specs.declared.config.Config.{Config}
@@ -8,38 +8,31 @@ use Rattle.hw_types.specs.declared.unit.Obs.{Obs}
 use Rattle.hw_types.specs.Graph.{Node}
 use Rattle.hw_types.specs.Below.{Among}
 use Rattle.hw_types.specs.Quorum.{IsQuorum}
-use Rattle.hw_types.specs.Summit.{HasSummit, Stands}
-use Rattle.hw_types.specs.Real.{CoreState, received_in, settled_in, panorama_in}
+use Rattle.hw_types.specs.Summit.{HasSummit}
+use Rattle.hw_types.specs.Real.{CoreState, settled_in, panorama_in}
 use Rattle.hw_dag.specs.Dag.{UnitGraph, graph, count_of, unit_at, node_at, observations}
 use Rattle.hw_dag.specs.declared.numbers.View.{View}
-use Rattle.hw_dag.specs.Admission.{IsGraph, IsNew}
+use Rattle.hw_dag.specs.Admission.{IsNew}
 use Rattle.hw_dag.proofs.NodeLaws.{among_node, node_among}
 use Rattle.hw_admit.specs.State.{NodeState}
 use Rattle.hw_finality.proofs.LevelLaws.{quorum_same}
-use Rattle.hw_light.specs.Standing.{BlockStands, HasLevelWithin}
-
--- the state is that of the node
-pub record IsStateOf (core : CoreState) (state : NodeState) : Type 0 where
-  pub config : state.config ≡ core.config
-  pub graph_is : IsGraph state.dag
-  pub settled : graph state.dag ≡ settled_in core
-  pub panorama : observations state.dag state.panorama ≡ panorama_in core
+use Rattle.hw_light.specs.Standing.{BlockStands, IsStateOf, HasLevelWithin}
 
 module _ (core : CoreState) (state : NodeState) (of : IsStateOf core state) (block : Digest) where
   -- the unit of that name is the one of the number
-  same_unit : (n : ℕ) → n < count_of state.dag → (unit_at state.dag n).digest ≡ block → (x : Node) → Among x (settled_in core) → x.digest ≡ block → node_at state.dag n ≡ x
+  pub same_unit : (n : ℕ) → n < count_of state.dag → (unit_at state.dag n).digest ≡ block → (x : Node) → Among x (settled_in core) → x.digest ≡ block → node_at state.dag n ≡ x
   same_unit n lt name x inside named =
       let m = among_node state.dag x (subst (λ (xs : List Node). Among x xs) (sym of.settled) inside) in
       let apart = of.graph_is.distinct n m.0 lt m.1 (name ∙ sym named ∙ sym (ap (λ (y : Node). y.digest) m.2)) in
       ap (node_at state.dag) apart ∙ m.2
 
-  summit_there : (x : Node) (level quorum : ℕ) → HasSummit state.config.weights (graph state.dag) (observations state.dag state.panorama) x level quorum → HasSummit core.config.weights (settled_in core) (panorama_in core) x level quorum
+  pub summit_there : (x : Node) (level quorum : ℕ) → HasSummit state.config.weights (graph state.dag) (observations state.dag state.panorama) x level quorum → HasSummit core.config.weights (settled_in core) (panorama_in core) x level quorum
   summit_there x level quorum summit =
       subst (λ (k : Config). HasSummit k.weights (settled_in core) (panorama_in core) x level quorum) of.config
       (subst (λ (p : List Obs). HasSummit state.config.weights (settled_in core) p x level quorum) of.panorama
       (subst (λ (xs : List Node). HasSummit state.config.weights xs (observations state.dag state.panorama) x level quorum) of.settled summit))
 
-  summit_here : (x : Node) (level quorum : ℕ) → HasSummit core.config.weights (settled_in core) (panorama_in core) x level quorum → HasSummit state.config.weights (graph state.dag) (observations state.dag state.panorama) x level quorum
+  pub summit_here : (x : Node) (level quorum : ℕ) → HasSummit core.config.weights (settled_in core) (panorama_in core) x level quorum → HasSummit state.config.weights (graph state.dag) (observations state.dag state.panorama) x level quorum
   summit_here x level quorum summit =
       subst (λ (xs : List Node). HasSummit state.config.weights xs (observations state.dag state.panorama) x level quorum) (sym of.settled)
       (subst (λ (p : List Obs). HasSummit state.config.weights (settled_in core) p x level quorum) (sym of.panorama)

@@ -1,22 +1,16 @@
 -- A yes is accountable.
-use Rattle.std.proofs.Common.{◌≡◌, Bool, List, Any, sym, subst, ◌∙◌}
+use Rattle.std.proofs.Common.{◌≡◌, List, subst}
 use Rattle.hw_types.specs.declared.config.Config.{Config}
 use Rattle.hw_types.specs.declared.unit.Vertex.{Vertex}
-use Rattle.hw_types.specs.declared.answers.Decision.{Decision}
-use Rattle.hw_types.specs.Below.{Among}
 use Rattle.hw_types.specs.Decisions.{AreDecisions}
-use Rattle.hw_types.specs.Journal.{Setting, journal_of}
+use Rattle.hw_types.specs.Journal.{journal_of}
 use Rattle.hw_types.specs.Real.{CoreState, setting_of}
 use Rattle.hw_core.specs.Decided.{decided_in}
-use Rattle.hw_summit.specs.Decided.{decisions_of}
 use Rattle.hw_summit.proofs.DecidedLaws.{decisions_are}
 use Rattle.hw_summit.proofs.HeightLaws.{one_block_each}
 use Rattle.hw_certificates.specs.Certificates.{journal_from}
 use Rattle.hw_certificates.proofs.CertificateLaws.{decided as certified_is_decided, accountable as certified_is_accountable}
-use Rattle.hw_verdicts.specs.declared.verdict.Verdict.{Verdict}
 use Rattle.hw_verdicts.specs.Verdicts.{IsVerdict}
-use Rattle.hw_light.specs.declared.certificate.Certificate.{Certificate}
-use Rattle.hw_light.specs.Checked.{IsCertified}
 use Rattle.hw_light.specs.Laws.{YesIsDecided, YesIsAccountable}
 
 -- the decided blocks of a node with this configuration and journal

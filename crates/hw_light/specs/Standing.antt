@@ -6,8 +6,9 @@ use Rattle.hw_types.specs.Graph.{Node}
 use Rattle.hw_types.specs.Below.{Among}
 use Rattle.hw_types.specs.Quorum.{IsQuorum}
 use Rattle.hw_types.specs.Summit.{HasSummit, Stands}
-use Rattle.hw_types.specs.Real.{CoreState, received_in, settled_in}
+use Rattle.hw_types.specs.Real.{CoreState, received_in, settled_in, panorama_in}
 use Rattle.hw_dag.specs.Dag.{UnitGraph, graph, node_at, observations}
+use Rattle.hw_dag.specs.Admission.{IsGraph}
 use Rattle.hw_horizon.specs.Search.{Search}
 use Rattle.hw_horizon.specs.Kept.{AreKept}
 use Rattle.hw_admit.specs.State.{NodeState}
@@ -22,6 +23,13 @@ pub record BlockStands (core : CoreState) (block : Digest) : Type 0 where
   pub stands : Stands core.config (received_in core) unit level quorum
 
 -- ---- in a state, by number
+
+-- the state is that of the node
+pub record IsStateOf (core : CoreState) (state : NodeState) : Type 0 where
+  pub config : state.config ≡ core.config
+  pub graph_is : IsGraph state.dag
+  pub settled : graph state.dag ≡ settled_in core
+  pub panorama : observations state.dag state.panorama ≡ panorama_in core
 
 -- the unit of that number has a summit of some level, with its quorum
 pub record HasLevelWithin (state : NodeState) (block top : ℕ) : Type 0 where

@@ -1,5 +1,6 @@
-//! What a check answers.
+//! What a check answers, and what the making of a certificate.
 
+use crate::certificate::Certificate;
 use hw_core::Core;
 use hw_types::{Cause, ConfigFault};
 
@@ -23,4 +24,15 @@ pub enum Checked {
     Yes(Core),
     /// It isn't shown to.
     No(CheckFault),
+}
+
+/// What is answered where a certificate is asked for.
+#[derive(Drop)]
+pub enum Certified {
+    /// The certificate.
+    Made(Certificate),
+    /// The faulty validators weigh more than the threshold, or the decided block has no summit now.
+    NotNow,
+    /// It would have so many vertices, more than a journal may have.
+    TooLong(u64),
 }

@@ -5,24 +5,34 @@
 //! A certificate has one spelling. Reading answers the certificate exactly where all of the bytes
 //! are its spelling, and otherwise the first error in the order of the bytes with its place.
 //!
+//! `certify` makes the certificate of a decided block: the settled units that its greatest summit rests on,
+//! with the evidence and the endorsements that they need.
+//!
 //! A check delivers the vertices to a new node and answers it where the block stands there. So a yes shows
 //! that the vertices certify the block: its block is decided, and another node that decided another block of
-//! that height is in a conflict with it whose culprits weigh more than the threshold.
+//! that height is in a conflict with it whose culprits weigh more than the threshold. A certificate that was
+//! made is answered yes where its signatures are right.
 #![tactic(auto)]
 
 mod answers;
 mod certificate;
+mod certifying;
 mod checking;
 mod decoding;
 mod encoding;
 mod error;
+mod extract;
 mod laws;
+mod needed;
 mod ranges;
 mod reader;
 mod standing;
+mod summit;
+mod under;
 
-pub use answers::{CheckFault, Checked};
+pub use answers::{Certified, CheckFault, Checked};
 pub use certificate::{Certificate, VertexList};
+pub use certifying::certify;
 pub use checking::check;
 pub use decoding::decode_certificate;
 pub use encoding::encode_certificate;

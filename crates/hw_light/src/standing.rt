@@ -21,7 +21,7 @@ pub(crate) fn stands(alloc: Global, core: &Core, block: &Digest) -> Result<bool,
 
 /// A search for the summits of this node, of which nothing is kept yet.
 #[tactic(auto, using(hw_types::proofs::LimitLaws::within_limits))]
-fn search_for(alloc: Global, core: &Core) -> Result<Horizons, OutOfMemory>
+pub(crate) fn search_for(alloc: Global, core: &Core) -> Result<Horizons, OutOfMemory>
     ensures { IfOk result (λ search. IsFresh search core.now.config) }
 {
     let config = core.state().config();

@@ -25,7 +25,7 @@ pub fn read_text(alloc: Global, bytes: &[u8]) -> Result<String, OutOfMemory> {
 }
 
 /// The error of bytes that are no certificate.
-fn error_text(alloc: Global, error: CertError) -> Result<String, OutOfMemory> {
+pub fn error_text(alloc: Global, error: CertError) -> Result<String, OutOfMemory> {
     match error {
         CertError::OutOfMemory => Err(OutOfMemory),
         _ => Ok(format!(in alloc; "{error:?}")?),

@@ -1,6 +1,7 @@
 //! Lines of words.
 
 use crate::certificates::{by_digits, by_keys, read_text};
+use crate::making::made_text;
 use hw_types::OutOfMemory;
 use std::alloc::Global;
 
@@ -9,6 +10,7 @@ pub fn answer(alloc: Global, line: &str) -> Result<String, OutOfMemory> {
     let words: Vec<&str> = line.split(' ').collect(alloc)?;
     match words.as_slice() {
         ["read", bytes] => read_text(alloc, bytes_of(alloc, bytes)?.as_slice()),
+        ["certify", bytes] => made_text(alloc, bytes_of(alloc, bytes)?.as_slice()),
         ["check", bytes, keys] => {
             let keys = with_line_feeds(alloc, keys)?;
             by_keys(alloc, bytes_of(alloc, bytes)?.as_slice(), keys.as_slice())

@@ -1,4 +1,4 @@
-use Rattle.std.proofs.Common.{◌≡◌, List, length, Option, Some, None, Ok, rules, sym, ap, subst, ◌∙◌}
+use Rattle.std.proofs.Common.{◌≡◌, List, length, Option, Ok, rules, sym, ap, subst, ◌∙◌}
 use Rattle.std.specs.List.{All, zip}
 use Rattle.hw_types.specs.declared.unit.Vertex.{Vertex}
 use Rattle.hw_types.specs.Real.{setting_of}

@@ -1,4 +1,4 @@
-use Rattle.std.proofs.Common.{◌≡◌, ◌+◌, ◌≤◌, ◌<◌, ℕ, true, false, sym, ap, subst, ◌∙◌, arith}
+use Rattle.std.proofs.Common.{◌≡◌, ◌+◌, ◌≤◌, ℕ, sym, ap, subst, ◌∙◌, arith}
 use Rattle.std.specs.Prelude.{sum}
 use Rattle.hw_types.specs.declared.config.Config.{Config}
 use Rattle.hw_finality.proofs.LevelLaws.{quorum_limits}

@@ -1,9 +1,8 @@
-use Rattle.std.proofs.Common.{◌≡◌, ◌<◌, ℕ, true, refl, subst}
-use Rattle.hw_types.specs.Real.{CoreState}
+use Rattle.std.proofs.Common.{◌≡◌, ◌<◌, refl, subst}
 use Rattle.hw_dag.specs.Dag.{UnitGraph, count_of, unit_at}
 use Rattle.hw_dag.specs.Admission.{IsNew}
-use Rattle.hw_admit.specs.State.{NodeState}
-use Rattle.hw_light.proofs.StandingLaws.{IsStateOf, level_is_standing, unknown_stands_not}
+use Rattle.hw_light.specs.Standing.{IsStateOf}
+use Rattle.hw_light.proofs.StandingLaws.{level_is_standing, unknown_stands_not}
 use Rattle.hw_light.proofs.standing.stands_in.Goals as goal
 
 pub returns-in-Some : goal.returns-in-Some

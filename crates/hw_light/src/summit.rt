@@ -1,0 +1,61 @@
+//! The units under the summit of a decided block.
+
+ghost use Rattle.std.specs.Prelude.{◌≡◌, ◌<◌, Some, slice_get, IfOk};
+ghost use Rattle.hw_horizon.specs.Search.{committees_of};
+ghost use Rattle.hw_core.specs.Decided.{decided_in};
+ghost use Rattle.hw_core.specs.Shown.{HasSummitNow};
+ghost use Rattle.hw_light.specs.Standing.{IsStateOf, IsFresh};
+ghost use Rattle.hw_light.specs.Certify.{IsGreatestNow};
+ghost use Rattle.hw_light.specs.Under.{AreUnder};
+
+use crate::standing::search_for;
+use crate::under::numbers_under;
+use hw_admit::State;
+use hw_core::Core;
+use hw_dag::UnitNo;
+use hw_horizon::Horizons;
+use hw_types::{Decision, OutOfMemory};
+use std::alloc::Global;
+
+/// The numbers of the units at or below the latest units of the first committee of the greatest summit
+/// that this decided block has now, in the order in which they settled.
+pub(crate) fn summit_units(
+    alloc: Global,
+    core: &Core,
+    state: &State,
+    decision: &Decision,
+    index: u64,
+) -> Result<Vec<UnitNo>, OutOfMemory>
+    requires of { IsStateOf core.now state.now }
+    requires at { slice_get (decided_in core.now) index ≡ Some decision.now }
+    requires stands { HasSummitNow core.now index }
+    ensures { IfOk result (λ numbers. AreUnder core.now index decision.now state.now.dag numbers.items) }
+{
+    let mut search = search_for(alloc, core)?;
+    find_summit(&mut search, core, state, decision, index);
+    numbers_under(alloc, &search, state.dag(), state.panorama())
+}
+
+/// Finds the greatest summit that this decided block has now.
+fn find_summit(search: &mut Horizons, core: &Core, state: &State, decision: &Decision, index: u64)
+    requires fresh { IsFresh search.old core.now.config }
+    requires of { IsStateOf core.now state.now }
+    requires at { slice_get (decided_in core.now) index ≡ Some decision.now }
+    requires stands { HasSummitNow core.now index }
+    ensures { IsGreatestNow core.now index decision.now (committees_of search.new) }
+{
+    let dag = state.dag();
+    let weights = &state.config().weights;
+    let panorama = state.panorama();
+    let Some(block) = dag.find(&decision.block) else {
+        unreachable!()
+    };
+    let _found = search.greatest(
+        dag,
+        weights,
+        panorama,
+        block,
+        decision.level,
+        decision.quorum,
+    );
+}
