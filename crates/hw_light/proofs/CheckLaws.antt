@@ -1,6 +1,6 @@
 -- The vertices of a certificate in turn, and what a yes shows.
 use Rattle.std.proofs.Common.{◌≡◌, ◌≢◌, ℕ, ◌+◌, ◌<◌, ◌≤◌, Bool, true, false, cond, ltb, List, [], ◌∷◌, length, get_or, drop, fold, Option, Some, None, Result, Ok, Err, refl, sym, ap, subst, ◌∙◌, arith}
-use Rattle.std.specs.Prelude.{IsOk, IfOk}
+use Rattle.std.specs.Prelude.{All, IsOk, IfOk}
 use Rattle.std.specs.List.{AllByRecursion, zip}
 use Rattle.std.proofs.lemmas.Bool.{ltb-false}
 use Rattle.std.proofs.lemmas.List.{drop_more, drop_all}
@@ -232,3 +232,18 @@ yes_of c bs (No fault) size is = tt
 pub yes_certifies : {E : Type 0} (c : Certificate) (bs : List Bool) (result : Result Checked E) → length bs ≡ length c.vertices → IfOk result (IsAnswer c bs) → IfOk result (IfYes (IsCertified c))
 yes_certifies c bs (Ok checked) size is = yes_of c bs checked size is
 yes_certifies c bs (Err e) size is = tt
+
+-- and each verdict is true
+all_true : (vs : List Vertex) (bs : List Bool) → length bs ≡ length vs → AllByRecursion (λ (d : Vertex × Bool). d.1 ≡ true) (zip vs bs) → AllByRecursion (λ (b : Bool). b ≡ true) bs
+all_true vs [] size each = tt
+all_true [] (b ∷ bs) size each = absurd (omega arith)
+all_true (v ∷ vs) (b ∷ bs) size each = (each.0, all_true vs bs (omega arith) each.1)
+
+signed_of : (c : Certificate) (bs : List Bool) (checked : Checked) → length bs ≡ length c.vertices → IsAnswer c bs checked → IfYes (λ core. All (λ (b : Bool). b ≡ true) bs) checked
+signed_of c bs (Yes core) size is =
+    All-from_recursion (λ (b : Bool). b ≡ true) bs (all_true c.vertices bs size (was_taken (setting_of c.config) 0 [] (zip c.vertices bs) core.journal is.taken.journal).verdicts)
+signed_of c bs (No fault) size is = tt
+
+pub yes_signed : {E : Type 0} (c : Certificate) (bs : List Bool) (result : Result Checked E) → length bs ≡ length c.vertices → IfOk result (IsAnswer c bs) → IfOk result (IfYes (λ core. All (λ (b : Bool). b ≡ true) bs))
+yes_signed c bs (Ok checked) size is = signed_of c bs checked size is
+yes_signed c bs (Err e) size is = tt

@@ -1,6 +1,6 @@
 //! The check of a certificate.
 
-ghost use Rattle.std.specs.Prelude.{◌≡◌, ℕ, [], ◌∷◌, length, None, Some, IfOk, OnOk};
+ghost use Rattle.std.specs.Prelude.{◌≡◌, ℕ, [], ◌∷◌, length, None, Some, IsTrue, IfOk, OnOk};
 ghost use Rattle.std.specs.List.{All, zip};
 ghost use Rattle.hw_types.specs.Limits.{config_fault};
 ghost use Rattle.hw_types.specs.Real.{CoreState, setting_of};
@@ -20,7 +20,6 @@ use std::alloc::Global;
 ///
 /// The vertices are delivered in order to a new node. A yes answers that node, in which the block is
 /// decided.
-#[tactic(auto, using(crate::proofs::CheckLaws::yes_certifies))]
 pub fn check(
     alloc: Global,
     certificate: &Certificate,
@@ -31,8 +30,9 @@ pub fn check(
     // Each answer is given exactly where it is due.
     ensures answer { IfOk result (IsAnswer certificate.now verdicts.now) }
 
-    // A yes shows that the vertices certify the block, and the node has their journal.
+    // A yes shows that the vertices certify the block, the node has their journal, and each verdict is true.
     ensures yes { IfOk result (IfYes (IsCertified certificate.now)) }
+    ensures signed { IfOk result (IfYes (λ core. All (λ verdict. IsTrue verdict) verdicts.now)) }
 {
     // The node stands in a list, so that it is dropped in one place, whatever is answered.
     let mut nodes = Vec::new(alloc);
