@@ -2,6 +2,7 @@
 
 ghost use Rattle.std.specs.List.{All};
 ghost use Rattle.hw_types.specs.Spelling.{VertexFits};
+ghost use Rattle.hw_light.specs.Spelling.{CertificateFits};
 
 use hw_core::Core;
 use hw_keys::{Keys, KeysFault};
@@ -14,14 +15,26 @@ use std::alloc::Global;
 /// How many vertices the certificate has that these bytes spell.
 pub fn read_text(alloc: Global, bytes: &[u8]) -> Result<String, OutOfMemory> {
     match decode_certificate(alloc, bytes) {
-        Ok(certificate) => {
-            let again = encode_certificate(alloc, &certificate)?;
-            let is_same = again.as_slice() == bytes;
-            let count = certificate.vertices.len();
-            Ok(format!(in alloc; "vertices {count} again {is_same}")?)
-        }
+        Ok(certificate) => again_text(alloc, &certificate, bytes),
         Err(error) => error_text(alloc, error),
     }
+}
+
+/// How many vertices the certificate has, and whether these bytes are its spelling.
+fn again_text(alloc: Global, certificate: &Certificate, bytes: &[u8]) -> Result<String, OutOfMemory>
+    requires { CertificateFits certificate.now }
+{
+    let count = certificate.vertices.len();
+    let is_same = is_spelled(alloc, certificate, bytes)?;
+    Ok(format!(in alloc; "vertices {count} again {is_same}")?)
+}
+
+/// Whether these bytes are the certificate's spelling.
+fn is_spelled(alloc: Global, certificate: &Certificate, bytes: &[u8]) -> Result<bool, OutOfMemory>
+    requires { CertificateFits certificate.now }
+{
+    let again = encode_certificate(alloc, certificate)?;
+    Ok(again.as_slice() == bytes)
 }
 
 /// The error of bytes that are no certificate.
@@ -37,17 +50,34 @@ pub fn by_keys(alloc: Global, bytes: &[u8], text: &[u8]) -> Result<String, OutOf
     match decode_certificate(alloc, bytes) {
         Ok(certificate) => {
             let validators = certificate.config.weights.len() as u32;
-            match Keys::read(alloc, text, validators) {
-                Ok(keys) => {
-                    let verdicts = verdicts_by(alloc, &keys, certificate.vertices.as_slice())?;
-                    checked_text(alloc, &certificate, verdicts.as_slice())
-                }
-                Err(KeysFault::At(place)) => Ok(format!(in alloc; "keys at {place}")?),
-                Err(KeysFault::OutOfMemory) => Err(OutOfMemory),
-            }
+            keys_text(alloc, &certificate, validators, text)
         }
         Err(error) => error_text(alloc, error),
     }
+}
+
+/// The answer with the keys of this text, one for each validator.
+fn keys_text(
+    alloc: Global,
+    certificate: &Certificate,
+    validators: u32,
+    text: &[u8],
+) -> Result<String, OutOfMemory>
+    requires { All VertexFits certificate.now.vertices }
+{
+    match Keys::read(alloc, text, validators) {
+        Ok(keys) => signed_text(alloc, certificate, &keys),
+        Err(KeysFault::At(place)) => Ok(format!(in alloc; "keys at {place}")?),
+        Err(KeysFault::OutOfMemory) => Err(OutOfMemory),
+    }
+}
+
+/// The answer with these keys.
+fn signed_text(alloc: Global, certificate: &Certificate, keys: &Keys) -> Result<String, OutOfMemory>
+    requires { All VertexFits certificate.now.vertices }
+{
+    let verdicts = verdicts_by(alloc, keys, certificate.vertices.as_slice())?;
+    checked_text(alloc, certificate, verdicts.as_slice())
 }
 
 /// The verdict on each vertex by these keys.
@@ -64,12 +94,30 @@ fn verdicts_by(alloc: Global, keys: &Keys, vertices: &[Vertex]) -> Result<Vec<bo
 /// The answer to the certificate with a digit for each verdict.
 pub fn by_digits(alloc: Global, bytes: &[u8], digits: &str) -> Result<String, OutOfMemory> {
     match decode_certificate(alloc, bytes) {
-        Ok(certificate) => {
-            let verdicts: Vec<bool> = digits.bytes().map(|digit| digit == b'1').collect(alloc)?;
-            checked_text(alloc, &certificate, verdicts.as_slice())
-        }
+        Ok(certificate) => digits_text(alloc, &certificate, digits.as_bytes()),
         Err(error) => error_text(alloc, error),
     }
+}
+
+/// The answer with a verdict for each of these digits.
+fn digits_text(
+    alloc: Global,
+    certificate: &Certificate,
+    digits: &[u8],
+) -> Result<String, OutOfMemory>
+    requires { All VertexFits certificate.now.vertices }
+{
+    let verdicts = verdicts_of(alloc, digits)?;
+    checked_text(alloc, certificate, verdicts.as_slice())
+}
+
+/// A verdict for each digit, true for a 1.
+fn verdicts_of(alloc: Global, digits: &[u8]) -> Result<Vec<bool>, OutOfMemory> {
+    let mut verdicts = Vec::new(alloc);
+    for digit in digits {
+        verdicts.push(*digit == b'1')?;
+    }
+    Ok(verdicts)
 }
 
 /// The answer to the certificate with these verdicts.
@@ -83,9 +131,15 @@ fn checked_text(
     if verdicts.len() != certificate.vertices.len() {
         return Ok("other count".to_string(alloc)?);
     }
-    match check(alloc, certificate, verdicts)? {
-        Checked::Yes(core) => yes_text(alloc, &core, &certificate.block),
-        Checked::No(fault) => fault_text(alloc, fault),
+    let checked = check(alloc, certificate, verdicts)?;
+    answer_text(alloc, &checked, &certificate.block)
+}
+
+/// What the certificate of this block was answered.
+fn answer_text(alloc: Global, checked: &Checked, block: &Digest) -> Result<String, OutOfMemory> {
+    match checked {
+        Checked::Yes(core) => yes_text(alloc, core, block),
+        Checked::No(fault) => fault_text(alloc, *fault),
     }
 }
 

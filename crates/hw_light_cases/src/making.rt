@@ -1,32 +1,47 @@
 //! Certificates that are made.
 
-ghost use Rattle.std.specs.Prelude.{◌<◌, length};
+ghost use Rattle.std.specs.Prelude.{◌<◌, length, IfSome};
 ghost use Rattle.std.specs.List.{All};
 ghost use Rattle.hw_types.specs.Spelling.{VertexFits};
 ghost use Rattle.hw_core.specs.Decided.{decided_in};
+ghost use Rattle.hw_light.specs.Spelling.{CertificateFits};
 
 use crate::certificates::error_text;
 use hw_admit::StateStart;
 use hw_core::Core;
-use hw_light::{Certified, certify, decode_certificate, encode_certificate};
+use hw_light::{Certificate, Certified, certify, decode_certificate, encode_certificate};
 use hw_types::{Cause, Config, Digest, OutOfMemory, Vertex};
 use std::alloc::Global;
 
 /// The certificate of a certificate's block, asked of a node that took its vertices.
 pub fn made_text(alloc: Global, bytes: &[u8]) -> Result<String, OutOfMemory> {
     match decode_certificate(alloc, bytes) {
-        Ok(certificate) => {
-            let mut nodes = node_of(alloc, &certificate.config)?;
-            match nodes.first_mut() {
-                Some(core) => {
-                    take_all(core, certificate.vertices.as_slice())?;
-                    block_text(alloc, core, &certificate.block)
-                }
-                None => Ok("no config".to_string(alloc)?),
-            }
-        }
+        Ok(certificate) => taken_text(alloc, &certificate),
         Err(error) => error_text(alloc, error),
     }
+}
+
+/// The same of a certificate that was read.
+fn taken_text(alloc: Global, certificate: &Certificate) -> Result<String, OutOfMemory>
+    requires { All VertexFits certificate.now.vertices }
+{
+    let mut nodes = node_of(alloc, &certificate.config)?;
+    match nodes.first_mut() {
+        Some(core) => asked_text(alloc, core, certificate),
+        None => Ok("no config".to_string(alloc)?),
+    }
+}
+
+/// The same asked of a node that takes its vertices now.
+fn asked_text(
+    alloc: Global,
+    core: &mut Core,
+    certificate: &Certificate,
+) -> Result<String, OutOfMemory>
+    requires { All VertexFits certificate.now.vertices }
+{
+    take_all(core, certificate.vertices.as_slice())?;
+    block_text(alloc, core, &certificate.block)
 }
 
 /// A node of this configuration, where there is one.
@@ -47,23 +62,47 @@ fn take_all(core: &mut Core, vertices: &[Vertex]) -> Result<(), OutOfMemory>
     requires { All VertexFits vertices.now }
 {
     for vertex in vertices {
-        if let Err(refused) = core.deliver(vertex.copy()?, true) {
-            if refused.cause == Cause::OutOfMemory {
-                return Err(OutOfMemory);
-            }
-        }
+        take(core, vertex)?;
     }
     Ok(())
 }
 
+/// Delivers one vertex.
+fn take(core: &mut Core, vertex: &Vertex) -> Result<(), OutOfMemory>
+    requires { VertexFits vertex.now }
+{
+    match core.deliver(vertex.copy()?, true) {
+        Ok(_receipt) => Ok(()),
+        Err(refused) => taken_anyway(refused.cause),
+    }
+}
+
+/// A refusal is let go, but for want of memory.
+fn taken_anyway(cause: Cause) -> Result<(), OutOfMemory> {
+    match cause {
+        Cause::OutOfMemory => Err(OutOfMemory),
+        _ => Ok(()),
+    }
+}
+
 /// The certificate of this block, if it is decided.
 fn block_text(alloc: Global, core: &mut Core, block: &Digest) -> Result<String, OutOfMemory> {
+    match place_of(core, block) {
+        Some(index) => certified_text(alloc, core, index),
+        None => Ok("no decision".to_string(alloc)?),
+    }
+}
+
+/// The place of this block among the decided ones.
+fn place_of(core: &Core, block: &Digest) -> Option<u64>
+    ensures { IfSome result (λ index. index < length (decided_in core.now)) }
+{
     for index in 0..core.decision_count() {
         if core.decision(index).block == *block {
-            return certified_text(alloc, core, index);
+            return Some(index);
         }
     }
-    Ok("no decision".to_string(alloc)?)
+    None
 }
 
 /// The certificate of the decided block of that place.
@@ -71,13 +110,18 @@ fn certified_text(alloc: Global, core: &mut Core, index: u64) -> Result<String, 
     requires { index < length (decided_in core.old) }
 {
     match certify(alloc, core, index)? {
-        Certified::Made(certificate) => {
-            let count = certificate.vertices.len();
-            let bytes = encode_certificate(alloc, &certificate)?;
-            let text = hex::encode(alloc, bytes.as_slice())?;
-            Ok(format!(in alloc; "certified {count} {text}")?)
-        }
+        Certified::Made(certificate) => spelled_text(alloc, &certificate),
         Certified::NotNow => Ok("no standing".to_string(alloc)?),
         Certified::TooLong(count) => Ok(format!(in alloc; "no length {count}")?),
     }
+}
+
+/// How many vertices a certificate has, and its bytes.
+fn spelled_text(alloc: Global, certificate: &Certificate) -> Result<String, OutOfMemory>
+    requires { CertificateFits certificate.now }
+{
+    let count = certificate.vertices.len();
+    let bytes = encode_certificate(alloc, certificate)?;
+    let text = hex::encode(alloc, bytes.as_slice())?;
+    Ok(format!(in alloc; "certified {count} {text}")?)
 }
