@@ -1,0 +1,17 @@
+//! What two nodes that meet say to each other, and what each owes the other.
+//!
+//! Each tells by a summary what its journal has of each validator: no unit, so many units on the lane of
+//! one of them, or a tangle. Where the two don't fit, the validator is torn for a side, which says so. Then
+//! each sends what the other lacks. This crate has their frames as bytes, and what a node's journal tells.
+#![tactic(auto)]
+
+mod decoding;
+mod encoding;
+mod field;
+mod frame;
+mod reader;
+
+pub use decoding::decode_meeting;
+pub use encoding::encode_meeting;
+pub use frame::{FrameFault, MeetingFrame, SummaryList};
+pub use hw_converge::LaneSummary;
