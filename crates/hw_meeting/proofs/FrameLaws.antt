@@ -1,20 +1,19 @@
 -- Frames: what is read is spelled so, and what is spelled so is read.
-use Rattle.std.proofs.Common.{◌≡◌, ℕ, zero, suc, ◌^◌, ◌<◌, ◌⊎◌, inl, inr, Bool, true, false, cond, List, [], ◌∷◌, length, Result, Ok, Err, refl, sym, ap, subst, ◌∙◌, arith, eqb-true}
+use Rattle.std.proofs.Common.{◌≡◌, ℕ, zero, suc, ◌^◌, ◌<◌, cond, List, [], ◌∷◌, length, Result, Ok, Err, refl, ap, subst, ◌∙◌, arith, eqb-true}
 use Rattle.std.specs.Prelude.{◌==◌}
 use Rattle.std.specs.List.{All}
 use Rattle.std.proofs.lemmas.List.{nil_from_length}
 use Rattle.std.proofs.lemmas.List.Elements.{All-tail, All-weaker}
 use Rattle.hw_types.specs.declared.answers.CodecError.{CodecError}
 use Rattle.hw_types.specs.declared.answers.CodecError.TheVariants as error
-use Rattle.hw_types.specs.Reading.{◌>>=◌, Fails, Gives, vertex_of, whole, digest_at}
+use Rattle.hw_types.specs.Reading.{◌>>=◌, Fails, vertex_of, whole, digest_at}
 use Rattle.hw_converge.specs.declared.summary.LaneSummary.{LaneSummary}
 use Rattle.hw_codec.specs.Ranges.{AreBytes}
 use Rattle.hw_codec.proofs.Readings.{bind_ok, ok_is, done, test_ok}
-use Rattle.hw_codec.proofs.Fields.{digest_reading, AreCounted}
+use Rattle.hw_codec.proofs.Fields.{digest_reading}
 use Rattle.hw_codec.proofs.Spelled.{whole_takes, whole_again, vertex_read_spells, vertex_read_in_range, vertex_spelled_reads}
 use Rattle.hw_meeting.specs.declared.frame.MeetingFrame.{MeetingFrame}
 use Rattle.hw_meeting.specs.declared.frame.MeetingFrame.TheVariants.{Hello, Vertex, Summary, Torn, Done}
-use Rattle.hw_meeting.specs.declared.frame.FrameFault.{FrameFault}
 use Rattle.hw_meeting.specs.declared.frame.FrameFault.TheVariants as fault
 use Rattle.hw_meeting.specs.Frames.{meeting_bytes, HasUnits, PartInRange, IsSaid, SpellsMeeting, MeetingInRange, summary_at, torn_at, meeting_behind, meeting_of, fault_of}
 use Rattle.hw_meeting.proofs.PartLaws.{IsPart, summary_reading, torn_reading, few_validators}

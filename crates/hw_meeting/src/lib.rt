@@ -9,9 +9,14 @@ mod decoding;
 mod encoding;
 mod field;
 mod frame;
+mod highest;
+mod mark;
+mod marks;
 mod reader;
+mod summary;
 
 pub use decoding::decode_meeting;
 pub use encoding::encode_meeting;
 pub use frame::{FrameFault, MeetingFrame, SummaryList};
 pub use hw_converge::LaneSummary;
+pub use summary::summary_of;

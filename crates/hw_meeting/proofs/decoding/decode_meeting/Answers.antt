@@ -1,4 +1,4 @@
-use Rattle.std.proofs.Common.{◌≡◌, Ok, Err, inl, inr, sym, ap, ◌∙◌, arith}
+use Rattle.std.proofs.Common.{Ok, Err, inl, inr, sym, ap, ◌∙◌, arith}
 use Rattle.hw_codec.proofs.Fields.{bytes_are}
 use Rattle.hw_codec.proofs.Readings.{ok_is}
 use Rattle.hw_meeting.proofs.FrameLaws.{meeting_takes, found, wants}
