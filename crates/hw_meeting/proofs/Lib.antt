@@ -1,3 +1,4 @@
+pub mod DueLaws
 pub mod FrameLaws
 pub mod LocalLaws
 pub mod MarkLaws
@@ -5,3 +6,4 @@ pub mod PartLaws
 pub mod RiseLaws
 pub mod SeqLaws
 pub mod SummaryLaws
+pub mod TornLaws

@@ -1,5 +1,5 @@
 -- Units of a journal, vertex by vertex.
-use Rattle.std.proofs.Common.{◌≡◌, ℕ, ◌+◌, ◌<◌, Bool, true, false, List, [], ◌∷◌, ◌++◌, length, take, Option, Some, None, Result, Ok, Err, is_none, refl, sym, ap, ◌∙◌, leb-false, if◌then◌else◌}
+use Rattle.std.proofs.Common.{◌≡◌, ℕ, ◌+◌, ◌<◌, true, false, List, [], ◌∷◌, ◌++◌, length, take, Option, Some, None, Result, is_none, refl, sym, ap, ◌∙◌, leb-false, if◌then◌else◌}
 use Rattle.std.specs.Prelude.{filter_map, slice_get, is_ok}
 use Rattle.std.proofs.lemmas.List.Elements.{filter_map-append}
 use Rattle.std.proofs.lemmas.Option.{slice_get_within}

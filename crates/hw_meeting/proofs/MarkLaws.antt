@@ -1,5 +1,5 @@
 -- Marks of validators, unit by unit.
-use Rattle.std.proofs.Common.{◌≡◌, ◌≢◌, ℕ, ◌<◌, ◌⊎◌, inl, inr, Bool, true, false, IsTrue, ◌↔◌, List, [], ◌∷◌, ◌++◌, length, set, get_or, Option, Some, refl, sym, ap, subst, ◌∙◌, arith, eqb-true}
+use Rattle.std.proofs.Common.{◌≡◌, ◌≢◌, ℕ, ◌<◌, inl, inr, Bool, true, false, IsTrue, ◌↔◌, List, [], ◌∷◌, ◌++◌, set, Option, refl, sym, ap, subst, ◌∙◌, arith, eqb-true}
 use Rattle.std.proofs.lemmas.List.{get_or-set_same, get_or-set_other, length-set}
 use Rattle.std.proofs.lemmas.Bool.{cases_eq}
 use Rattle.hw_types.specs.declared.unit.WireUnit.{WireUnit}
@@ -15,7 +15,7 @@ use Rattle.hw_dag.specs.Lanes.{IsLaneAt}
 use Rattle.hw_dag.proofs.LaneLaws.{never_higher, on_lane_by_number}
 use Rattle.hw_meeting.specs.declared.mark.Mark.{Mark}
 use Rattle.hw_meeting.specs.declared.mark.Mark.TheVariants as mark
-use Rattle.hw_meeting.specs.Lanes.{IsOnLaneOf, IsOnTip, HasUnitBy, HasOther, IsMark, marked, tip_at, mark_at, AreMarks}
+use Rattle.hw_meeting.specs.Lanes.{IsOnLaneOf, IsOnTip, IsMark, marked, tip_at, mark_at, AreMarks}
 
 -- ---- one unit
 
@@ -49,14 +49,14 @@ module _ (IsSo : WireUnit → Type 0) (v : ℕ) (units : List Node) (x : Node) w
   -- by its creator
   pub one_more : (m : Mark) (b : Bool) → x.unit.creator ≡ v → (IsTrue b ↔ IsSo x.unit) → IsMark IsSo v units m → IsMark IsSo v (units ++ x ∷ []) (marked m b)
   one_more mark.Unseen true made so none = (
-      record { unit = x; among = more; creator_is = made },
-      λ y k e. elim (append_cases y units (x ∷ []) k) [ inl old ↦ absurd (none y old e) | inr new ↦ subst (λ (z : Node). IsSo z.unit) (one_of y x new) (so.0 refl) ],
-    )
+    record { unit = x; among = more; creator_is = made },
+    λ y k e. elim (append_cases y units (x ∷ []) k) [ inl old ↦ absurd (none y old e) | inr new ↦ subst (λ (z : Node). IsSo z.unit) (one_of y x new) (so.0 refl) ],
+  )
   one_more mark.Unseen false made so none = record { unit = x; among = more; creator_is = made; other = λ h. absurd (let e : false ≡ true = so.1 h in cc) }
   one_more mark.Whole true made so whole = (
-      record { unit = whole.0.unit; among = from_left whole.0.unit units (x ∷ []) whole.0.among; creator_is = whole.0.creator_is },
-      λ y k e. elim (append_cases y units (x ∷ []) k) [ inl old ↦ whole.1 y old e | inr new ↦ subst (λ (z : Node). IsSo z.unit) (one_of y x new) (so.0 refl) ],
-    )
+    record { unit = whole.0.unit; among = from_left whole.0.unit units (x ∷ []) whole.0.among; creator_is = whole.0.creator_is },
+    λ y k e. elim (append_cases y units (x ∷ []) k) [ inl old ↦ whole.1 y old e | inr new ↦ subst (λ (z : Node). IsSo z.unit) (one_of y x new) (so.0 refl) ],
+  )
   one_more mark.Whole false made so whole = record { unit = x; among = more; creator_is = made; other = λ h. absurd (let e : false ≡ true = so.1 h in cc) }
   one_more mark.Broken b made so broken = record { unit = broken.unit; among = from_left broken.unit units (x ∷ []) broken.among; creator_is = broken.creator_is; other = broken.other }
 
@@ -67,9 +67,9 @@ module _ (IsSo : WireUnit → Type 0) (v : ℕ) (units : List Node) (x : Node) w
   pub no_more : (m : Mark) → x.unit.creator ≢ v → IsMark IsSo v units m → IsMark IsSo v (units ++ x ∷ []) m
   no_more mark.Unseen apart none = λ y k e. none y (old_one apart y k e) e
   no_more mark.Whole apart whole = (
-      record { unit = whole.0.unit; among = from_left whole.0.unit units (x ∷ []) whole.0.among; creator_is = whole.0.creator_is },
-      λ y k e. whole.1 y (old_one apart y k e) e,
-    )
+    record { unit = whole.0.unit; among = from_left whole.0.unit units (x ∷ []) whole.0.among; creator_is = whole.0.creator_is },
+    λ y k e. whole.1 y (old_one apart y k e) e,
+  )
   no_more mark.Broken apart broken = record { unit = broken.unit; among = from_left broken.unit units (x ∷ []) broken.among; creator_is = broken.creator_is; other = broken.other }
 
 -- the table with one unit more

@@ -1,12 +1,12 @@
 -- What the highest units and the marks tell is the summary.
-use Rattle.std.proofs.Common.{◌≡◌, ℕ, suc, ◌+◌, ◌<◌, ◌≤◌, inl, inr, Bool, true, false, cond, List, [], ◌∷◌, length, Option, Some, None, refl, sym, ap, subst, ◌∙◌, arith, eqb-true, eq-eqb}
-use Rattle.std.specs.Prelude.{◌&&◌, ◌==◌, find, map}
+use Rattle.std.proofs.Common.{◌≡◌, ℕ, ◌+◌, ◌<◌, ◌≤◌, inl, inr, Bool, true, false, cond, List, [], ◌∷◌, length, Option, Some, None, refl, sym, ap, subst, ◌∙◌, arith, eqb-true, eq-eqb}
+use Rattle.std.specs.Prelude.{◌==◌, find, map}
 use Rattle.std.specs.List.{range_with_len}
 use Rattle.hw_types.specs.declared.unit.WireUnit.{WireUnit}
 use Rattle.hw_types.specs.declared.unit.Vertex.{Vertex}
 use Rattle.hw_types.specs.Graph.{Node, is_among, is_on_lane, lane_of}
 use Rattle.hw_types.specs.Below.{Among}
-use Rattle.hw_types.specs.Settled.{settled_of, is_faulty}
+use Rattle.hw_types.specs.Settled.{is_faulty}
 use Rattle.hw_types.specs.Journal.{Setting, named, unit_of_vertex, received_of}
 use Rattle.hw_types.specs.laws.StateLaws.{units_in, NamesApart}
 use Rattle.hw_types.proofs.ClosureLaws.{Among-filter, filter-Among}
@@ -19,7 +19,7 @@ use Rattle.hw_types.proofs.OrderLaws.{unit_vertex, in_known, received_in}
 use Rattle.hw_types.proofs.LaneLaws as lanes
 use Rattle.hw_safety.proofs.AccountLaws.{lawful_journal, in_journal}
 use Rattle.hw_dag.specs.declared.numbers.UnitNo.{UnitNo}
-use Rattle.hw_dag.specs.Dag.{UnitGraph, unit_at, count_of, creator_of, seq_of, node_at, graph}
+use Rattle.hw_dag.specs.Dag.{UnitGraph, unit_at, count_of, seq_of, node_at, graph}
 use Rattle.hw_dag.specs.Admission.{IsGraph}
 use Rattle.hw_dag.specs.Lanes.{is_lane_below}
 use Rattle.hw_dag.proofs.NodeLaws.{among_node, node_among}
@@ -29,7 +29,7 @@ use Rattle.hw_converge.specs.Converge.{units_by, is_settled_below, is_line_of, s
 use Rattle.hw_converge.proofs.LineLaws.{IsLine, settled, count_is, no_higher}
 use Rattle.hw_meeting.specs.declared.mark.Mark.{Mark}
 use Rattle.hw_meeting.specs.declared.mark.Mark.TheVariants as mark
-use Rattle.hw_meeting.specs.Lanes.{IsHighest, IsOnLaneOf, IsOnTip, HasUnitBy, HasOther, IsMark, told_by, AreHighest, AreMarks, tip_at, mark_at}
+use Rattle.hw_meeting.specs.Lanes.{IsHighest, IsOnTip, HasOther, IsMark, told_by, AreHighest, AreMarks, tip_at, mark_at}
 
 -- units of a journal are named by what they are
 named_so : (s : Setting) (journal : List Vertex) (x : Node) → Among x (units_in s journal) → x ≡ named s x.unit
@@ -90,9 +90,11 @@ module _ (s : Setting) (journal : List Vertex) (dag : UnitGraph) (g : IsGraph da
   -- what the test says of a line
   line_has : (t x : Node) → is_line_of s journal v t ≡ true → Among x units → Among x (settled s journal) × (is_on_lane (settled s journal) x t ≡ true)
   line_has t x is m =
-      let p = and_parts (is_among (settled s journal) x) (is_on_lane (settled s journal) x t) (all_of (is_settled_below (settled s journal) t) units is x m) in
-      (named_among (received_of s journal).units (settled s journal) x (rising_one_name (received_of s journal).units (received_rising s journal)) (in_journal s journal)
-      (Among-filter (λ y. y.unit.creator == v) x (received_of s journal).units m).0 p.0, p.1)
+      let p = and_parts (is_among (settled s journal) x) (is_on_lane (settled s journal) x t) (all_of (is_settled_below (settled s journal) t) units is x m) in (
+        named_among (received_of s journal).units (settled s journal) x (rising_one_name (received_of s journal).units (received_rising s journal)) (in_journal s journal)
+            (Among-filter (λ y. y.unit.creator == v) x (received_of s journal).units m).0 p.0,
+        p.1,
+      )
 
   -- a line has one tip, which is the highest
   one_tip : (t x : Node) → is_line_of s journal v t ≡ true → Among t units → Among x units → t.unit.seq ≤ x.unit.seq → x ≡ t
@@ -100,7 +102,7 @@ module _ (s : Setting) (journal : List Vertex) (dag : UnitGraph) (g : IsGraph da
       let low = line_has t x is mx in
       let top = (line_has t t is mt).0 in
       let lane = named_among (settled s journal) (lane_of (settled s journal) t) x (rising_one_name (settled s journal) (lawful_journal s journal).in_order)
-          (lanes.lane_within s.config.weights (is_faulty (received_of s journal) (settled s journal)) (settled s journal) (lawful_journal s journal) t) low.0 low.1 in
+      (lanes.lane_within s.config.weights (is_faulty (received_of s journal) (settled s journal)) (settled s journal) (lawful_journal s journal) t) low.0 low.1 in
       elim (lanes.lane_seq s.config.weights (is_faulty (received_of s journal) (settled s journal)) (settled s journal) (lawful_journal s journal) t x top lane) [
         | inl e ↦ e
         | inr lower ↦ absurd (omega (arith, lower, high))
@@ -122,11 +124,12 @@ module _ (s : Setting) (journal : List Vertex) (dag : UnitGraph) (g : IsGraph da
       let inside = number_settled tip.0 high.0 in
       let made = of_creator t (number_known tip.0 high.0) high.1 in
       let each : (x : Node) → Among x units → Among x (settled s journal) × (is_on_lane (settled s journal) x t ≡ true) = λ x m.
-          let p = by_creator x m in
-          let on = whole.1 x p.0 p.1 in
-          let is : node_at dag on.number ≡ x = number_is on.number x on.known p.0 on.is in
-          (subst (λ (y : Node). Among y (settled s journal)) is (number_settled on.number on.known),
-          subst (λ (y : Node). is_on_lane (settled s journal) y t ≡ true) is (sym (lane_settled on.number tip.0) ∙ on.on_lane)) in
+      let p = by_creator x m in
+      let on = whole.1 x p.0 p.1 in
+      let is : node_at dag on.number ≡ x = number_is on.number x on.known p.0 on.is in (
+        subst (λ (y : Node). Among y (settled s journal)) is (number_settled on.number on.known),
+        subst (λ (y : Node). is_on_lane (settled s journal) y t ≡ true) is (sym (lane_settled on.number tip.0) ∙ on.on_lane),
+      ) in
       let line : IsLine s journal v t = record { inside = inside; made = high.1; each = each } in
       let test : is_line_of s journal v t ≡ true = each_all (is_settled_below (settled s journal) t) units (λ x m. let p = each x m in and_whole (is_among (settled s journal) x) (is_on_lane (settled s journal) x t) (among_is x (settled s journal) p.0) p.1) in
       let only : (y : Node) → Among y units → is_line_of s journal v y ≡ true → y ≡ t = λ y m is. sym (one_tip y t is m made (no_higher s journal v t line y m)) in
@@ -150,7 +153,7 @@ module _ (s : Setting) (journal : List Vertex) (dag : UnitGraph) (g : IsGraph da
       let on = line_has t x is (of_creator x other.among other.creator_is) in
       let k = settled_number x on.0 in
       let lane : is_lane_below dag k.0 tip.0 ≡ true = lane_settled k.0 tip.0
-          ∙ subst (λ (y : Node). is_on_lane (settled s journal) y h ≡ true) (sym k.2) (subst (λ (y : Node). is_on_lane (settled s journal) x y ≡ true) (sym top) on.1) in
+      ∙ subst (λ (y : Node). is_on_lane (settled s journal) y h ≡ true) (sym k.2) (subst (λ (y : Node). is_on_lane (settled s journal) x y ≡ true) (sym top) on.1) in
       other.other (record { number = k.0; known = k.1; on_lane = lane; is = ap (λ (y : Node). y.unit) k.2 })
 
   broken_told : (tip : Option UnitNo) → IsHighest dag (count_of dag) v tip → HasOther (IsOnTip dag tip) v (units_in s journal) → Tangled ≡ summary_of s journal v

@@ -47,11 +47,7 @@ fn fault_of(error: CodecError) -> FrameFault
 }
 
 #[tactic(auto, unfolding(crate::specs::Frames::meeting_of))]
-fn whole_frame(
-    alloc: Global,
-    validators: u32,
-    body: &[u8],
-) -> Result<MeetingFrame, CodecError>
+fn whole_frame(alloc: Global, validators: u32, body: &[u8]) -> Result<MeetingFrame, CodecError>
     ensures { Gives (λ frame. frame) result (meeting_of validators body.now) }
 {
     match body {

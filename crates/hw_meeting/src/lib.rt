@@ -6,6 +6,7 @@
 #![tactic(auto)]
 
 mod decoding;
+mod due;
 mod encoding;
 mod field;
 mod frame;
@@ -14,9 +15,12 @@ mod mark;
 mod marks;
 mod reader;
 mod summary;
+mod torn;
 
 pub use decoding::decode_meeting;
+pub use due::{PlaceList, due_places};
 pub use encoding::encode_meeting;
 pub use frame::{FrameFault, MeetingFrame, SummaryList};
 pub use hw_converge::LaneSummary;
 pub use summary::summary_of;
+pub use torn::torn_for;

@@ -82,13 +82,7 @@ fn marked(mark: Mark, is_on: bool) -> Mark
 {
     match mark {
         Mark::Broken => Mark::Broken,
-        Mark::Unseen | Mark::Whole => {
-            if is_on {
-                Mark::Whole
-            } else {
-                Mark::Broken
-            }
-        }
+        Mark::Unseen | Mark::Whole => { if is_on { Mark::Whole } else { Mark::Broken } }
     }
 }
 

@@ -1,4 +1,4 @@
-use Rattle.std.proofs.Common.{◌≡◌, ◌∷◌, [], ◌++◌, ◌+◌, List, None, length, take, drop, sym, ap, ◌∙◌, subst}
+use Rattle.std.proofs.Common.{◌≡◌, ◌∷◌, [], ◌++◌, ◌+◌, List, length, take, drop, sym, ap, ◌∙◌, subst}
 use Rattle.std.proofs.lemmas.List.{take_at}
 use Rattle.hw_types.specs.declared.config.Config.{Config}
 use Rattle.hw_types.specs.Graph.{Node}

@@ -5,7 +5,7 @@ use Rattle.hw_types.specs.Graph.{Node}
 use Rattle.hw_types.specs.Rules.{local_rule}
 use Rattle.hw_types.specs.Journal.{named}
 use Rattle.hw_types.specs.Real.{setting_of}
-use Rattle.hw_types.specs.Spelling.{digest_of, instance_of}
+use Rattle.hw_types.specs.Spelling.{digest_of}
 use Rattle.hw_types.specs.laws.StateLaws.{units_in}
 use Rattle.hw_meeting.specs.Lanes.{AreMarks}
 use Rattle.hw_meeting.proofs.LocalLaws.{keeps_rules, creator_below, one_unit}

@@ -1,4 +1,3 @@
-use Rattle.std.proofs.Common.{sym}
 use Rattle.hw_meeting.specs.Lanes.{node_named}
 use Rattle.hw_meeting.proofs.MarkLaws.{marks_more}
 use Rattle.hw_meeting.proofs.marks.see_unit.Goals as goal

@@ -1,7 +1,6 @@
-use Rattle.std.proofs.Common.{◌≡◌, ◌∷◌, [], ◌++◌, map, sym, ap, ◌∙◌, arith}
+use Rattle.std.proofs.Common.{◌∷◌, [], ◌++◌, map, sym, ap, ◌∙◌, arith}
 use Rattle.std.specs.List.{range_with_len}
 use Rattle.std.proofs.lemmas.List.FromFn.{map-range_with_len_more}
-use Rattle.hw_converge.specs.declared.summary.LaneSummary.{LaneSummary}
 use Rattle.hw_meeting.specs.Lanes.{tip_at, mark_at, told_by}
 use Rattle.hw_meeting.proofs.summary.told.Goals as goal
 
