@@ -93,3 +93,12 @@ wants (error.Trailing at) read f h is = absurd cc
 wants (error.BadTag at) read f h is = absurd cc
 wants (error.TooLong at) read f h is = absurd cc
 wants (error.OutOfRange at) read f h is = absurd cc
+
+-- another error is of the form
+pub misses : (e : CodecError) (read : Result MeetingFrame CodecError) → Fails e read → fault_of e ≡ fault.Form → (c : CodecError) × (read ≡ Err c)
+misses error.OutOfMemory read h is = absurd cc
+misses (error.Truncated at) read h is = (error.Truncated at, h)
+misses (error.Trailing at) read h is = (error.Trailing at, h)
+misses (error.BadTag at) read h is = (error.BadTag at, h)
+misses (error.TooLong at) read h is = (error.TooLong at, h)
+misses (error.OutOfRange at) read h is = (error.OutOfRange at, h)

@@ -1,3 +1,4 @@
 pub mod Due
 pub mod Frames
 pub mod Lanes
+pub mod Samples

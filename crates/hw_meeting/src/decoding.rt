@@ -1,7 +1,8 @@
 //! Frames from all of their bytes.
 
-ghost use Rattle.std.specs.Prelude.{◌≡◌, ◌⊎◌, ◌==◌, ◌&&◌, nat_lt, length, Ok, Err, IfOk, if◌then◌else◌};
+ghost use Rattle.std.specs.Prelude.{◌≡◌, ◌⊎◌, ◌==◌, ◌&&◌, nat_lt, length, Ok, Err, IfOk, IfErr, if◌then◌else◌};
 ghost use Rattle.std.specs.List.{list_all};
+ghost use Rattle.hw_types.specs.declared.answers.CodecError.{CodecError};
 ghost use Rattle.hw_types.specs.Reading.{Gives, vertex_of, whole, digest_at};
 ghost use Rattle.hw_meeting.specs.declared.frame.MeetingFrame.{MeetingFrame};
 ghost use Rattle.hw_meeting.specs.declared.frame.FrameFault.TheVariants as Faults;
@@ -30,6 +31,10 @@ pub fn decode_meeting(
     // What is spelled so is read, unless memory runs out.
     ensures read { (frame : MeetingFrame) → MeetingInRange frame → SpellsMeeting validators body.now frame
         → (result ≡ Ok frame) ⊎ (result ≡ Err Faults.OutOfMemory) }
+
+    // It is what reading from left to right gives.
+    ensures value { IfOk result (λ frame. meeting_of validators body.now ≡ Ok frame) }
+    ensures form { IfErr result (λ fault. fault ≡ Faults.Form → (e : CodecError) × (meeting_of validators body.now ≡ Err e)) }
 {
     match whole_frame(alloc, validators, body) {
         Ok(frame) => Ok(frame),

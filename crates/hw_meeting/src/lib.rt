@@ -14,6 +14,7 @@ mod highest;
 mod mark;
 mod marks;
 mod reader;
+mod samples;
 mod summary;
 mod torn;
 
@@ -22,5 +23,6 @@ pub use due::{PlaceList, due_places};
 pub use encoding::encode_meeting;
 pub use frame::{FrameFault, MeetingFrame, SummaryList};
 pub use hw_converge::LaneSummary;
+pub use samples::small_meetings_are_told;
 pub use summary::summary_of;
 pub use torn::torn_for;

@@ -10,9 +10,7 @@ pub fn answer(alloc: Global, line: &str) -> Result<String, OutOfMemory> {
     let words: Vec<&str> = line.split(' ').collect(alloc)?;
     match words.as_slice() {
         ["meet", config, left, right] => met(alloc, config, left, right),
-        ["frame", validators, body] => {
-            frame_text(alloc, validators.parse().unwrap_or(0), body)
-        }
+        ["frame", validators, body] => { frame_text(alloc, validators.parse().unwrap_or(0), body) }
         _ => Ok(String::new(alloc)),
     }
 }

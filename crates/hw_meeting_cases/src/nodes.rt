@@ -6,51 +6,53 @@ use hw_admit::StateStart;
 use hw_codec::{decode_config, decode_vertex};
 use hw_core::Core;
 use hw_meeting::{LaneSummary, due_places, summary_of, torn_for};
-use hw_types::{CodecError, IndexList, OutOfMemory};
+use hw_types::{CodecError, Config, IndexList, OutOfMemory};
 use std::alloc::Global;
 
 /// What two nodes of these vertices tell and owe each other.
-pub fn met(
+pub fn met(alloc: Global, config: &str, left: &str, right: &str) -> Result<String, OutOfMemory> {
+    let mut nodes = Vec::new(alloc);
+    met_in(alloc, &mut nodes, config, left, right)
+}
+
+fn met_in(
     alloc: Global,
+    nodes: &mut Vec<Core>,
     config: &str,
     left: &str,
     right: &str,
 ) -> Result<String, OutOfMemory> {
-    let mut nodes = Vec::new(alloc);
-    begin(alloc, &mut nodes, config, left)?;
-    begin(alloc, &mut nodes, config, right)?;
-    match nodes.as_slice() {
-        [left, right] => told(alloc, left, right),
+    begin(alloc, nodes, config)?;
+    begin(alloc, nodes, config)?;
+    match nodes.as_mut_slice() {
+        [first, second] => {
+            deliver_all(alloc, first, left)?;
+            deliver_all(alloc, second, right)?;
+            told(alloc, first, second)
+        }
         _ => Ok("no node".to_string(alloc)?),
     }
 }
 
-/// Puts a node of these vertices last, where the configuration has one.
-fn begin(
-    alloc: Global,
-    nodes: &mut Vec<Core>,
-    config: &str,
-    vertices: &str,
-) -> Result<(), OutOfMemory> {
+/// Puts a node last, where the configuration has one.
+fn begin(alloc: Global, nodes: &mut Vec<Core>, config: &str) -> Result<(), OutOfMemory> {
     let bytes = bytes_of(alloc, config)?;
-    let config = match decode_config(alloc, bytes.as_slice()) {
-        Ok(config) => config,
-        Err(CodecError::OutOfMemory) => return Err(OutOfMemory),
-        Err(_) => return Ok(()),
-    };
+    match decode_config(alloc, bytes.as_slice()) {
+        Ok(config) => begin_with(alloc, nodes, config),
+        Err(CodecError::OutOfMemory) => Err(OutOfMemory),
+        Err(_) => Ok(()),
+    }
+}
+
+fn begin_with(alloc: Global, nodes: &mut Vec<Core>, config: Config) -> Result<(), OutOfMemory> {
     match Core::new(alloc, config) {
-        Ok(core) => {
-            if nodes.push(core).is_err() {
-                return Err(OutOfMemory);
-            }
-        }
-        Err(StateStart::Fault(_)) => return Ok(()),
-        Err(StateStart::OutOfMemory) => return Err(OutOfMemory),
+        Ok(core) => match nodes.push(core) {
+            Ok(()) => Ok(()),
+            Err(_unpushed) => Err(OutOfMemory),
+        },
+        Err(StateStart::Fault(_)) => Ok(()),
+        Err(StateStart::OutOfMemory) => Err(OutOfMemory),
     }
-    if let Some(core) = nodes.last_mut() {
-        deliver_all(alloc, core, vertices)?;
-    }
-    Ok(())
 }
 
 fn deliver_all(alloc: Global, core: &mut Core, vertices: &str) -> Result<(), OutOfMemory> {
@@ -66,7 +68,7 @@ fn deliver(alloc: Global, core: &mut Core, digits: &str) -> Result<(), OutOfMemo
     let bytes = bytes_of(alloc, digits)?;
     match decode_vertex(alloc, bytes.as_slice()) {
         Ok(vertex) => {
-            let _ = core.deliver(vertex, true);
+            let _answer = core.deliver(vertex, true);
             Ok(())
         }
         Err(CodecError::OutOfMemory) => Err(OutOfMemory),
@@ -82,8 +84,22 @@ fn told(alloc: Global, left: &Core, right: &Core) -> Result<String, OutOfMemory>
     let right_torn = torn_for(alloc, right, right_parts.as_slice(), left_parts.as_slice())?;
     let mut torn = left_torn.copy()?;
     torn.extend(right_torn.as_slice())?;
-    let first = side_text(alloc, left, &left_torn, &torn, left_parts.as_slice(), right_parts.as_slice())?;
-    let second = side_text(alloc, right, &right_torn, &torn, right_parts.as_slice(), left_parts.as_slice())?;
+    let first = side_text(
+        alloc,
+        left,
+        &left_torn,
+        &torn,
+        left_parts.as_slice(),
+        right_parts.as_slice(),
+    )?;
+    let second = side_text(
+        alloc,
+        right,
+        &right_torn,
+        &torn,
+        right_parts.as_slice(),
+        left_parts.as_slice(),
+    )?;
     Ok(format!(in alloc; "{first} | {second}")?)
 }
 
@@ -96,7 +112,14 @@ fn side_text(
     mine: &[LaneSummary],
     theirs: &[LaneSummary],
 ) -> Result<String, OutOfMemory> {
-    let places = due_places(alloc, core, core.journal_count(), torn.as_slice(), mine, theirs)?;
+    let places = due_places(
+        alloc,
+        core,
+        core.journal_count(),
+        torn.as_slice(),
+        mine,
+        theirs,
+    )?;
     let told = parts_text(alloc, mine)?;
     let own = numbers_text(alloc, own_torn.as_slice())?;
     let due = places_text(alloc, places.as_slice())?;
