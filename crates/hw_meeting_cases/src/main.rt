@@ -5,7 +5,7 @@
 //!
 //! | Line | Answer |
 //! |---|---|
-//! | `meet CONFIG LEFT RIGHT` | of each of the two nodes: what it tells of each validator, `-` for nothing, `COUNT:TIP` for a line and `!` for a tangle; the validators that are torn for it; and the places in its journal of what it owes |
+//! | `meet CONFIG LEFT RIGHT` | of each of the two nodes: what it tells of each validator, `-` for nothing, `COUNT:TIP` for a line and `!` for a tangle; the validators that are torn for it; and the places in its journal of what it owes; `no node` where the configuration breaks a limit |
 //! | `frame VALIDATORS BODY` | the kind of the frame that the digits spell, or `none` |
 #![tactic(auto)]
 
