@@ -1,0 +1,52 @@
+use Rattle.std.proofs.Common.{◌+◌, List, length, refl, sym, subst, arith}
+use Rattle.indexmap.specs.IndexMap.{spare as room_of}
+use Rattle.hw_types.specs.declared.unit.Vertex.{Vertex}
+use Rattle.hw_types.specs.declared.unit.Vertex.TheVariants as vertex
+use Rattle.hw_types.specs.Real.{CoreState, setting_of}
+use Rattle.hw_dag.specs.Dag.{graph}
+use Rattle.hw_core.specs.Deliver.{IsTaken}
+use Rattle.hw_core.specs.Followed.{HasFollowed}
+use Rattle.hw_core.specs.Keeps.{IsNode, AreRules}
+use Rattle.hw_core.proofs.DecidedLaws.{no_room_more, room_less}
+use Rattle.hw_core.proofs.KeptLaws.{table_other, fit_more, pairs_more}
+use Rattle.hw_core.proofs.FollowLaws.{follow_told, kept_followed}
+use Rattle.hw_core.proofs.kept.Kept.take_endorsement.Goals as goal
+
+pub add_endorsement-added-requires-clause-taken : goal.add_endorsement-added-requires-clause-taken
+add_endorsement-added-requires-clause-taken c = subst (λ (k : CoreState). IsTaken k.config k.journal (vertex.Endorsement c.args.endorsement)) (sym c.self.view_is) c.requires
+
+pub follow-self-inside-requires-clause-told : goal.follow-self-inside-requires-clause-told
+follow-self-inside-requires-clause-told c =
+    let core = c.self.inside in
+    let done = c.add_endorsement-added.new in
+    let e = c.in-Ok.ensures in
+    let node = subst (λ (vs : List Vertex). IsNode vs done.park done.state) e.journal c.add_endorsement-added.ensures.node in
+    let few = room_less core.decided (length (graph done.state.dag) + length done.park.waiting) (length (graph core.state.dag) + length core.park.waiting) e.room c.self.invariant.decided_is.room in
+    follow_told core.instance core.journal.items core.names.entries core.park core.dropped.entries (room_of core.dropped) core.state core.fork core.decided core.shown c.self.invariant
+    (vertex.Endorsement c.args.endorsement) done.state done.park core.decided node c.add_endorsement-added.ensures.config e.grows c.dag-before.ensures.graph c.dag-after.ensures.graph (no_room_more core.decided) few
+
+pub follow-self-inside-requires-clause-room : goal.follow-self-inside-requires-clause-room
+follow-self-inside-requires-clause-room c =
+    let core = c.self.inside in
+    let done = c.add_endorsement-added.new in
+    let few = room_less core.decided (length (graph done.state.dag) + length done.park.waiting) (length (graph core.state.dag) + length core.park.waiting) c.in-Ok.ensures.room c.self.invariant.decided_is.room in
+    room_less core.decided (length (graph done.state.dag)) (length (graph done.state.dag) + length done.park.waiting) (omega arith) few
+
+pub invariant_of-self : goal.invariant_of-self
+invariant_of-self c =
+    let core = c.self.inside in
+    let done = c.add_endorsement-added.new in
+    let e = c.in-Ok.ensures in
+    let v : Vertex = vertex.Endorsement c.args.endorsement in
+    let run = c.follow-self-inside in
+    let node = subst (λ (vs : List Vertex). IsNode vs done.park done.state) e.journal c.add_endorsement-added.ensures.node in
+    let few = room_less core.decided (length (graph done.state.dag) + length done.park.waiting) (length (graph core.state.dag) + length core.park.waiting) e.room c.self.invariant.decided_is.room in
+    let followed = subst (λ (vs : List Vertex). HasFollowed done.state (length vs) core.decided run.new.decided run.result) c.as_slice.ensures.value run.ensures.followed in
+    kept_followed core.instance core.journal.items core.names.entries core.park core.dropped.entries (room_of core.dropped) core.state core.fork core.decided core.shown c.self.invariant
+    v done.state done.park core.decided node c.add_endorsement-added.ensures.config e.grows c.dag-before.ensures.graph c.dag-after.ensures.graph (no_room_more core.decided) few
+    done.journal.items e.journal core.names.entries done.dropped.entries (room_of done.dropped)
+    (table_other (setting_of core.state.config) core.journal.items core.names.entries v refl (λ u is. absurd cc) c.self.invariant.table)
+    (subst (λ (vs : List Vertex). AreRules (setting_of core.state.config) vs done.dropped.entries) e.journal c.add_endorsement-added.ensures.rules) c.add_endorsement-added.ensures.places
+    (fit_more core.instance core.journal.items core.names.entries core.park core.dropped.entries (room_of core.dropped) core.state core.fork core.decided core.shown c.self.invariant v tt)
+    (pairs_more core.instance core.journal.items core.names.entries core.park core.dropped.entries (room_of core.dropped) core.state core.fork core.decided core.shown c.self.invariant v (λ e is. absurd cc))
+    run.new.decided run.result followed run.new.shown run.ensures.shown run.new.state run.ensures.state

@@ -1,0 +1,320 @@
+//! A node and its deliveries.
+
+mod readers;
+
+ghost use Rattle.std.specs.Prelude.{◌≡◌, ◌<◌, [], true, false, length, slice_get, Some, None, Ok, Err, IfOk, IfErr, IfSome, OnOk, OnErr};
+ghost use Rattle.hw_types.specs.declared.answers.Receipt.TheVariants as receipt;
+ghost use Rattle.hw_types.specs.declared.unit.Vertex.TheVariants as vertex;
+ghost use Rattle.hw_types.specs.Limits.{config_fault};
+ghost use Rattle.hw_types.specs.Real.{CoreState, answer_in, after_in, settled_in, received_in, weight_in};
+ghost use Rattle.hw_types.specs.Settled.{parked_of};
+ghost use Rattle.hw_types.specs.Spelling.{VertexFits};
+ghost use Rattle.hw_admit.specs.State.{IsStartFault};
+ghost use Rattle.hw_core.specs.Deliver.{IsRefusal, IsTaken};
+ghost use Rattle.hw_core.specs.Units.{IsNewUnit};
+
+use crate::decided::Decided;
+use crate::endorsements::{add_endorsement, test_endorsement};
+use crate::evidence::{add_evidence, test_evidence};
+use crate::follow::follow;
+use crate::journal::Journal;
+use crate::shown::Shown;
+use crate::start::begin;
+use crate::units::{UnitRefused, add_unit, test_unit};
+use hw_admit::{State, StateStart};
+use hw_dag::{Prepared, UnitNo};
+use hw_park::Park;
+use hw_types::{
+    Cause, Config, Digest, Endorsement, Evidence, OutOfMemory, Receipt, Rule, SignedUnit, Vertex,
+};
+use indexmap::IndexMap;
+use std::alloc::Global;
+use std::marker::Model;
+
+/// A vertex that was refused, and why.
+#[derive(Drop)]
+pub struct Refused {
+    pub cause: Cause,
+    pub vertex: Vertex,
+}
+
+/// All that a node keeps. Contracts see its configuration and its journal, and nothing else.
+#[derive(Drop)]
+pub(crate) struct Kept {
+    /// The digest of its configuration.
+    instance: Digest,
+    journal: Journal,
+    /// The place in the journal of each unit, by its name.
+    names: IndexMap<Digest, u32>,
+    /// The units that miss something.
+    park: Park<Prepared>,
+    /// The rule that each dropped unit breaks, by its name.
+    dropped: IndexMap<Digest, Rule>,
+    /// The settled units, and what follows from them.
+    state: State,
+    /// The fork choice of the state.
+    fork: Option<UnitNo>,
+    decided: Decided,
+    /// The summit that was asked for last.
+    shown: Shown,
+}
+
+impl Model for Kept {
+    ghost use Rattle.hw_types.specs.Real.{CoreState};
+    ghost use Rattle.indexmap.specs.IndexMap.{spare as room_of};
+    ghost use Rattle.hw_core.specs.Keeps.{IsKept};
+
+    ghost Value = { CoreState };
+
+    ghost view = { λ c. record {
+      config = c.state.config;
+      journal = c.journal.items;
+    } };
+
+    ghost invariant = { λ c. IsKept c.instance c.journal.items c.names.entries c.park c.dropped.entries (room_of c.dropped) c.state c.fork c.decided c.shown };
+}
+
+impl Kept {
+    /// A node that has received nothing.
+    pub(crate) fn new(alloc: Global, config: Config) -> Result<Kept, StateStart>
+        ensures lawful { IfOk result (λ core. config_fault config ≡ None) }
+        ensures fault { IfErr result (IsStartFault (config_fault config)) }
+        ensures config { IfOk result (λ core. core.config ≡ config) }
+        ensures empty { IfOk result (λ core. core.journal ≡ []) }
+    {
+        let state = State::new(alloc, config)?;
+        match begin(alloc, state.config()) {
+            Ok(start) => {
+                let _graph = state.dag();
+                let journal = Journal::new(alloc);
+                let names = IndexMap::new(alloc);
+                let dropped = IndexMap::new(alloc);
+                Ok(Kept {
+                    instance: start.instance,
+                    journal,
+                    names,
+                    park: start.park,
+                    dropped,
+                    state,
+                    fork: None,
+                    decided: start.decided,
+                    shown: start.shown,
+                })
+            }
+            Err(OutOfMemory) => Err(StateStart::OutOfMemory),
+        }
+    }
+
+    /// Takes a vertex with the verdict on its signatures, and says what became of it.
+    ///
+    /// A refusal gives the vertex back and changes nothing. Want of memory may stand in place of each
+    /// answer but those of the first three tests.
+    pub(crate) fn deliver(&mut self, vertex: Vertex, verdict: bool) -> Result<Receipt, Refused>
+        requires { VertexFits vertex }
+        // The answer is that of the definitions on the journal so far.
+        ensures accepted { IfOk result (λ receipt. answer_in self.old vertex verdict ≡ Ok receipt) }
+        ensures refused { IfErr result (λ r. IsRefusal r.cause (answer_in self.old vertex verdict)) }
+        ensures returned { IfErr result (λ r. r.vertex ≡ vertex) }
+
+        // An accepted vertex goes last in the journal; nothing else changes.
+        ensures journal { OnOk result (self.new ≡ after_in self.old vertex verdict) }
+        ensures unchanged { OnErr result (self.new ≡ self.old) }
+    {
+        if !verdict {
+            return Err(sent_back(Cause::BadSignature, vertex));
+        }
+        match vertex {
+            Vertex::Unit(unit) => self.deliver_unit(unit),
+            Vertex::Evidence(evidence) => self.deliver_evidence(evidence),
+            Vertex::Endorsement(endorsement) => self.deliver_endorsement(endorsement),
+        }
+    }
+
+    /// Takes a unit whose signature is right.
+    fn deliver_unit(&mut self, unit: SignedUnit) -> Result<Receipt, Refused>
+        requires { VertexFits (vertex.Unit unit) }
+        ensures accepted { IfOk result (λ receipt. answer_in self.old (vertex.Unit unit) true ≡ Ok receipt) }
+        ensures refused { IfErr result (λ r. IsRefusal r.cause (answer_in self.old (vertex.Unit unit) true)) }
+        ensures returned { IfErr result (λ r. r.vertex ≡ vertex.Unit unit) }
+        ensures journal { OnOk result (self.new ≡ after_in self.old (vertex.Unit unit) true) }
+        ensures unchanged { OnErr result (self.new ≡ self.old) }
+    {
+        match self.test_unit(&unit) {
+            Ok(Some(name)) => self.take_unit(unit, name),
+            Ok(None) => Ok(Receipt::Repeat),
+            Err(cause) => Err(sent_back(cause, Vertex::Unit(unit))),
+        }
+    }
+
+    /// The tests of a unit in their order, but that of the park. Its name where it is new, None where it is
+    /// a repeat.
+    fn test_unit(&self, unit: &SignedUnit) -> Result<Option<Digest>, Cause>
+        requires { VertexFits (vertex.Unit unit.now) }
+        ensures repeat { IfOk result (λ name. name ≡ None → answer_in self.now (vertex.Unit unit.now) true ≡ Ok receipt.Repeat) }
+        ensures new { IfOk result (λ name. IfSome name (IsNewUnit self.now.config self.now.journal unit.now)) }
+        ensures refused { IfErr result (λ cause. IsRefusal cause (answer_in self.now (vertex.Unit unit.now) true)) }
+    {
+        test_unit(
+            self.journal.allocator(),
+            &self.instance,
+            &self.names,
+            self.journal.as_slice(),
+            &self.park,
+            &self.state,
+            unit,
+        )
+    }
+
+    /// Takes a unit that passed the tests, but where the park is full.
+    fn take_unit(&mut self, unit: SignedUnit, name: Digest) -> Result<Receipt, Refused>
+        requires new { IsNewUnit self.old.config self.old.journal unit name }
+        requires fits { VertexFits (vertex.Unit unit) }
+        ensures accepted { IfOk result (λ receipt. answer_in self.old (vertex.Unit unit) true ≡ Ok receipt) }
+        ensures refused { IfErr result (λ r. IsRefusal r.cause (answer_in self.old (vertex.Unit unit) true)) }
+        ensures returned { IfErr result (λ r. r.vertex ≡ vertex.Unit unit) }
+        ensures journal { OnOk result (self.new ≡ after_in self.old (vertex.Unit unit) true) }
+        ensures unchanged { OnErr result (self.new ≡ self.old) }
+    {
+        let added = add_unit(
+            &mut self.names,
+            &mut self.journal,
+            &mut self.park,
+            &mut self.dropped,
+            &mut self.state,
+            &mut self.decided,
+            unit,
+            name,
+        );
+        let _graph = self.state.dag();
+        match added {
+            Ok(receipt) => {
+                self.fork = follow(
+                    self.journal.as_slice(),
+                    &mut self.state,
+                    &mut self.decided,
+                    &mut self.shown,
+                );
+                Ok(receipt)
+            }
+            Err(UnitRefused { cause, unit }) => Err(sent_back(cause, Vertex::Unit(unit))),
+        }
+    }
+
+    /// Takes an endorsement whose signature is right.
+    fn deliver_endorsement(&mut self, endorsement: Endorsement) -> Result<Receipt, Refused>
+        ensures accepted { IfOk result (λ receipt. answer_in self.old (vertex.Endorsement endorsement) true ≡ Ok receipt) }
+        ensures refused { IfErr result (λ r. IsRefusal r.cause (answer_in self.old (vertex.Endorsement endorsement) true)) }
+        ensures returned { IfErr result (λ r. r.vertex ≡ vertex.Endorsement endorsement) }
+        ensures journal { OnOk result (self.new ≡ after_in self.old (vertex.Endorsement endorsement) true) }
+        ensures unchanged { OnErr result (self.new ≡ self.old) }
+    {
+        match test_endorsement(
+            self.journal.as_slice(),
+            &self.park,
+            &self.state,
+            &endorsement,
+        ) {
+            Ok(true) => Ok(Receipt::Repeat),
+            Ok(false) => self.take_endorsement(endorsement),
+            Err(cause) => Err(sent_back(cause, Vertex::Endorsement(endorsement))),
+        }
+    }
+
+    /// Takes an endorsement that passed the tests.
+    fn take_endorsement(&mut self, endorsement: Endorsement) -> Result<Receipt, Refused>
+        requires { IsTaken self.old.config self.old.journal (vertex.Endorsement endorsement) }
+        ensures accepted { IfOk result (λ receipt. answer_in self.old (vertex.Endorsement endorsement) true ≡ Ok receipt) }
+        ensures refused { IfErr result (λ r. IsRefusal r.cause (answer_in self.old (vertex.Endorsement endorsement) true)) }
+        ensures returned { IfErr result (λ r. r.vertex ≡ vertex.Endorsement endorsement) }
+        ensures journal { OnOk result (self.new ≡ after_in self.old (vertex.Endorsement endorsement) true) }
+        ensures unchanged { OnErr result (self.new ≡ self.old) }
+    {
+        let _before = self.state.dag();
+        let added = add_endorsement(
+            &mut self.journal,
+            &mut self.park,
+            &mut self.dropped,
+            &mut self.state,
+            endorsement,
+        );
+        let _after = self.state.dag();
+        match added {
+            Ok(settled) => {
+                self.fork = follow(
+                    self.journal.as_slice(),
+                    &mut self.state,
+                    &mut self.decided,
+                    &mut self.shown,
+                );
+                Ok(Receipt::Admitted { settled })
+            }
+            Err(OutOfMemory) => Err(sent_back(
+                Cause::OutOfMemory,
+                Vertex::Endorsement(endorsement),
+            )),
+        }
+    }
+
+    /// Takes an evidence whose signatures are right.
+    fn deliver_evidence(&mut self, evidence: Evidence) -> Result<Receipt, Refused>
+        requires { VertexFits (vertex.Evidence evidence) }
+        ensures accepted { IfOk result (λ receipt. answer_in self.old (vertex.Evidence evidence) true ≡ Ok receipt) }
+        ensures refused { IfErr result (λ r. IsRefusal r.cause (answer_in self.old (vertex.Evidence evidence) true)) }
+        ensures returned { IfErr result (λ r. r.vertex ≡ vertex.Evidence evidence) }
+        ensures journal { OnOk result (self.new ≡ after_in self.old (vertex.Evidence evidence) true) }
+        ensures unchanged { OnErr result (self.new ≡ self.old) }
+    {
+        let alloc = self.journal.allocator();
+        match test_evidence(
+            alloc,
+            &self.instance,
+            self.journal.as_slice(),
+            &self.park,
+            &self.state,
+            &evidence,
+        ) {
+            Ok(true) => Ok(Receipt::Repeat),
+            Ok(false) => self.take_evidence(evidence),
+            Err(cause) => Err(sent_back(cause, Vertex::Evidence(evidence))),
+        }
+    }
+
+    /// Takes an evidence that passed the tests.
+    fn take_evidence(&mut self, evidence: Evidence) -> Result<Receipt, Refused>
+        requires taken { IsTaken self.old.config self.old.journal (vertex.Evidence evidence) }
+        requires fits { VertexFits (vertex.Evidence evidence) }
+        ensures accepted { IfOk result (λ receipt. answer_in self.old (vertex.Evidence evidence) true ≡ Ok receipt) }
+        ensures refused { IfErr result (λ r. IsRefusal r.cause (answer_in self.old (vertex.Evidence evidence) true)) }
+        ensures returned { IfErr result (λ r. r.vertex ≡ vertex.Evidence evidence) }
+        ensures journal { OnOk result (self.new ≡ after_in self.old (vertex.Evidence evidence) true) }
+        ensures unchanged { OnErr result (self.new ≡ self.old) }
+    {
+        let _before = self.state.dag();
+        let added = add_evidence(
+            &mut self.journal,
+            &mut self.park,
+            &mut self.dropped,
+            &mut self.state,
+            evidence,
+        );
+        let _after = self.state.dag();
+        match added {
+            Ok(settled) => {
+                self.fork = follow(
+                    self.journal.as_slice(),
+                    &mut self.state,
+                    &mut self.decided,
+                    &mut self.shown,
+                );
+                Ok(Receipt::Admitted { settled })
+            }
+            Err(evidence) => Err(sent_back(Cause::OutOfMemory, Vertex::Evidence(evidence))),
+        }
+    }
+}
+
+fn sent_back(cause: Cause, vertex: Vertex) -> Refused
+    ensures { result ≡ record { cause = cause; vertex = vertex } }
+{
+    Refused { cause, vertex }
+}
