@@ -2,7 +2,7 @@
 
 use crate::outside::{fail_call, files_of, number, run, sink_of};
 use crate::short::ShortSink;
-use hw_io::MemSink;
+use hw_io::{MemFiles, MemSink};
 use hw_types::OutOfMemory;
 use std::alloc::Global;
 use std::rt;
@@ -38,6 +38,20 @@ pub fn answer(rt: &(impl rt::Files + AllocGlobal), line: &str) -> Result<String,
             each_write(rt, files, number(take), number(writes), command)
         }
         ["wants", files, writes, command @ ..] => each_want(rt, files, number(writes), command),
+        [
+            "anew",
+            files,
+            piece,
+            call,
+            left,
+            patches,
+            name,
+            command @ ..,
+        ] => {
+            let mut outside = files_of(rt, number(piece), files, patches)?;
+            fail_call(&mut outside, call.parse().ok(), number(left))?;
+            anew(rt.alloc(), &mut outside, name, command)
+        }
         _ => Ok(String::new(rt.alloc())),
     }
 }
@@ -60,7 +74,7 @@ fn ran(
     command: &[&str],
 ) -> Result<String, OutOfMemory> {
     let mut files = files_of(rt, outside.piece, outside.files, outside.patches)?;
-    fail_call(&mut files, outside.call)?;
+    fail_call(&mut files, outside.call, 0)?;
     let mut out = sink_of(rt.alloc(), outside.take, outside.write)?;
     let status = run(rt.alloc(), &mut files, &mut out, command)?;
     let text = text_of(rt.alloc(), &out)?;
@@ -69,6 +83,25 @@ fn ran(
         files.read_faults(),
         out.faults()
     )?)
+}
+
+/// The status, the counts of faults, what was written, and the bytes of the file of that name then.
+fn anew(
+    alloc: Global,
+    files: &mut MemFiles,
+    name: &str,
+    command: &[&str],
+) -> Result<String, OutOfMemory> {
+    let mut out = sink_of(alloc, usize::MAX, None)?;
+    let status = run(alloc, files, &mut out, command)?;
+    let (reads, appends) = (files.read_faults(), files.append_faults());
+    let text = text_of(alloc, &out)?;
+    let mut answer = format!(in alloc; "{status} faults {reads} {appends}\n{text}{name} ")?;
+    match files.file(name) {
+        Some(bytes) => answer.push_str(hex::encode(alloc, bytes)?.as_str())?,
+        None => answer.push('-')?,
+    }
+    Ok(answer)
 }
 
 /// What was written.
@@ -101,7 +134,7 @@ fn read_status(
     command: &[&str],
 ) -> Result<u8, OutOfMemory> {
     let mut files = files_of(rt, piece, names, "-")?;
-    fail_call(&mut files, Some(call))?;
+    fail_call(&mut files, Some(call), 0)?;
     let mut out = sink_of(rt.alloc(), usize::MAX, None)?;
     run(rt.alloc(), &mut files, &mut out, command)
 }

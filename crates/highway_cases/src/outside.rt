@@ -32,13 +32,23 @@ fn put_file(
 ) -> Result<(), OutOfMemory> {
     let mut bytes = Vec::new(rt.alloc());
     let mut real = HostFiles::new(rt);
+    let (file, length) = first_bytes(file);
     if real.begin(file).is_err() || read_all(&mut real, &mut bytes).is_err() {
         return Err(OutOfMemory);
     }
+    bytes.truncate(length);
     patch(bytes.as_mut_slice(), patches);
     match files.put(name, bytes.as_slice()) {
         Ok(()) => Ok(()),
         Err(_) => Err(OutOfMemory),
+    }
+}
+
+/// The file that a word names, and how many of its bytes are meant.
+fn first_bytes(word: &str) -> (&str, usize) {
+    match word.split_once('@') {
+        Some((file, length)) => (file, number(length)),
+        None => (word, usize::MAX),
     }
 }
 
@@ -68,11 +78,11 @@ pub fn number(word: &str) -> usize {
     word.parse().unwrap_or(0)
 }
 
-/// Plans the call of the files that is to fail, if one is.
-pub fn fail_call(files: &mut MemFiles, call: Option<u64>) -> Result<(), OutOfMemory> {
+/// Plans the call of the files that is to fail, if one is, and how many bytes it writes if it is an append.
+pub fn fail_call(files: &mut MemFiles, call: Option<u64>, left: usize) -> Result<(), OutOfMemory> {
     match call {
         None => Ok(()),
-        Some(call) => match files.fail_at(call, 0) {
+        Some(call) => match files.fail_at(call, left) {
             Ok(()) => Ok(()),
             Err(_) => Err(OutOfMemory),
         },

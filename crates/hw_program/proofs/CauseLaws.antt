@@ -1,5 +1,5 @@
 -- One part of a run after another: what becomes of the count of reads that failed, and of the files.
-use Rattle.std.proofs.Common.{◌≡◌, ℕ, ◌≤◌, List, Option, Some, Result, Ok, Err, IfErr, inl, inr, sym, subst, ◌∙◌}
+use Rattle.std.proofs.Common.{◌≡◌, ℕ, ◌≤◌, List, Option, Some, Result, Ok, Err, IfErr, inl, inr, subst, ◌∙◌}
 use Rattle.std.specs.Prelude.{◌⊎◌}
 use Rattle.hw_io.specs.Faults.{Rose}
 use Rattle.hw_log.specs.declared.error.LogError.TheVariants as log
@@ -9,7 +9,7 @@ use Rattle.hw_replay.specs.Causes.{IsReplayAbout}
 use Rattle.hw_io.specs.Files.{SameFiles}
 use Rattle.hw_program.specs.declared.ended.Ended.{Ended}
 use Rattle.hw_program.specs.declared.ended.RunFault.{RunFault}
-use Rattle.hw_program.specs.declared.ended.RunFault.TheVariants.{Read, OutOfMemory}
+use Rattle.hw_program.specs.declared.ended.RunFault.TheVariants.{Read, Append, OutOfMemory}
 use Rattle.hw_program.specs.Faults.{HasReadFault}
 
 -- a part before it left the count
@@ -21,6 +21,7 @@ pub no_fault : (before now : ℕ) (r : Result Ended RunFault) → before ≤ now
 no_fault before now (Ok e) later same none = record { later = later; counted = same }
 no_fault before now (Err OutOfMemory) later same none = record { later = later; counted = same }
 no_fault before now (Err Read) later same none = absurd cc
+no_fault before now (Err Append) later same none = absurd cc
 
 -- files that stay, and stay again
 pub files_then : (old mid new : List ℕ → Option (List ℕ)) → SameFiles old mid → SameFiles mid new → SameFiles old new
@@ -39,6 +40,7 @@ pub no_read : (P : Type 0) (r : Result Ended RunFault) → IfErr r (λ f. f ≡ 
 no_read P (Ok e) none = tt
 no_read P (Err OutOfMemory) none = λ is. absurd cc
 no_read P (Err Read) none = λ is. absurd (let e = none in cc)
+no_read P (Err Append) none = λ is. absurd cc
 
 -- of two logs the second one's read failed, behind a first one that left the counts
 pub read_second : (left right : List ℕ) (before mid now : List ℕ → ℕ) (r : Result Ended RunFault) → mid ≡ before → IfErr r (λ f. f ≡ Read → Rose (mid right) (now right))

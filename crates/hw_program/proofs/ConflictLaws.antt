@@ -5,7 +5,6 @@ use Rattle.hw_types.specs.declared.config.Config.{Config}
 use Rattle.hw_types.specs.Real.{setting_of}
 use Rattle.hw_summit.specs.Decided.{decisions_of}
 use Rattle.hw_verdicts.specs.Verdicts.{chain_of}
-use Rattle.hw_verdicts.proofs.ApartLaws.{conflict}
 use Rattle.hw_audit.specs.declared.chains.Parting.{Parting}
 use Rattle.hw_audit.specs.Clashes.{UnitPair}
 use Rattle.hw_audit.specs.Chains.{parting_of}

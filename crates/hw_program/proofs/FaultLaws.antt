@@ -11,7 +11,7 @@ use Rattle.hw_replay.specs.Replay.{IsOutside}
 use Rattle.hw_replay.specs.Causes.{IsFaultCounted}
 use Rattle.hw_program.specs.declared.ended.Ended.{Ended}
 use Rattle.hw_program.specs.declared.ended.RunFault.{RunFault}
-use Rattle.hw_program.specs.declared.ended.RunFault.TheVariants.{Read, OutOfMemory}
+use Rattle.hw_program.specs.declared.ended.RunFault.TheVariants.{Read, Append, OutOfMemory}
 use Rattle.hw_program.specs.Faults.{IsReadEnd, IsReadCounted}
 use Rattle.hw_program.specs.Texts.{log_text, input_ended, limit_ended, clash_ended, stopped_ended}
 
@@ -104,6 +104,7 @@ pub counted_same : {T : Type 0} (before now : ℕ) (r : Result T RunFault) → n
 counted_same before now (Ok x) same none = same
 counted_same before now (Err OutOfMemory) same none = same
 counted_same before now (Err Read) same none = absurd (let e = none in cc)
+counted_same before now (Err Append) same none = absurd (let e = none in cc)
 
 -- what follows of each text that is given
 pub if_ok : {A E : Type 0} (P Q : A → Type 0) (r : Result A E) → IfOk r P → ((x : A) → P x → Q x) → IfOk r Q

@@ -22,7 +22,7 @@ took_file wanted (Some bytes) r took = record { bytes = bytes; file_is = refl; t
 took_file wanted None r took = absurd took
 
 -- what the definition says of a file
-abbrev file_replayed : Option Config → Word → Option (List ℕ) → Part Taken
+abbrev pub file_replayed : Option Config → Word → Option (List ℕ) → Part Taken
 file_replayed wanted name file = elim file as (λ z. Part (List ℕ)) [ None ↦ Err read_fault_ended | Some bytes ↦ Ok bytes ] >>= λ bytes. or_stopped name (replay_of wanted bytes)
 
 pub replayed : (held : Held) (wanted : Option Config) (name : Word) (t : Taken) → TookFile wanted (held name) t → log_replayed held wanted name ≡ Ok t

@@ -1,4 +1,5 @@
 pub mod RunLaws
+pub mod CommandLaws
 pub mod FaultLaws
 pub mod ConfigLaws
 pub mod VerdictLaws
@@ -8,3 +9,6 @@ pub mod ScriptLaws
 pub mod CauseLaws
 pub mod AuditLaws
 pub mod ConflictLaws
+pub mod RewriteLaws
+pub mod MigratedLaws
+pub mod EndLaws

@@ -1,21 +1,10 @@
 -- What the replay of a log left.
-use Rattle.std.proofs.Common.{◌≡◌, ℕ, ◌<◌, inl, inr, Bool, true, List, ◌++◌, Option, Some, sym, ap, subst, ◌∙◌}
-use Rattle.hw_types.specs.declared.unit.Digest.{Digest}
-use Rattle.hw_types.specs.declared.unit.Vertex.{Vertex}
+use Rattle.std.proofs.Common.{◌≡◌, ℕ, inl, inr, true, List, ◌++◌, Option, Some, sym, ap, subst, ◌∙◌}
 use Rattle.hw_types.specs.declared.config.Config.{Config}
-use Rattle.hw_types.specs.declared.answers.Culprit.{Culprit}
-use Rattle.hw_types.specs.Journal.{journal_of}
-use Rattle.hw_types.specs.Decisions.{AreDecisions}
-use Rattle.hw_types.specs.Real.{CoreState, setting_of}
+use Rattle.hw_types.specs.Real.{CoreState}
 use Rattle.hw_types.proofs.EntryLaws.{append_cases}
-use Rattle.hw_summit.specs.Decided.{decisions_of}
-use Rattle.hw_summit.proofs.DecidedLaws.{decisions_are}
-use Rattle.hw_summit.proofs.HeightLaws.{one_block_each}
 use Rattle.hw_core.proofs.PromiseLaws.{deliveries_are}
-use Rattle.hw_verdicts.specs.declared.verdict.Verdict.TheVariants as verdict
-use Rattle.hw_verdicts.specs.Verdicts.{IsVerdict}
 use Rattle.hw_verdicts.proofs.ClashLaws.{held_among}
-use Rattle.hw_verdicts.proofs.ApartLaws.{conflict}
 use Rattle.hw_audit.proofs.ToldLaws.{AreSigned}
 use Rattle.hw_replay.specs.Taken.{Taken}
 use Rattle.hw_replay.specs.Replay.{same_config}

@@ -2,7 +2,7 @@
 use Rattle.std.specs.Prelude.{◌≤◌, Option, Some, None}
 use Rattle.hw_program.specs.declared.command.Command.{Command}
 use Rattle.hw_program.specs.declared.command.Command.TheVariants as command
-use Rattle.hw_program.specs.Commands.{Request, Replay, Explain, Audit, Script, Gen, Sim}
+use Rattle.hw_program.specs.Commands.{Request, Replay, Explain, Audit, Script, Mend, Migrate, Gen, Sim}
 
 -- what a command asks for
 abbrev pub request : Command → Request
@@ -10,6 +10,8 @@ request (command.Replay log) = Replay log.now
 request (command.Explain log) = Explain log.now
 request (command.Audit left right) = Audit left.now right.now
 request (command.Script file) = Script file.now
+request (command.Mend log new) = Mend log.now new.now
+request (command.Migrate log new) = Migrate log.now new.now
 request (command.Gen number rounds) = Gen number rounds
 request (command.Sim number nodes steps) = Sim number nodes steps
 
@@ -24,5 +26,7 @@ IsInRange (command.Replay log) = Unit {0}
 IsInRange (command.Explain log) = Unit {0}
 IsInRange (command.Audit left right) = Unit {0}
 IsInRange (command.Script file) = Unit {0}
+IsInRange (command.Mend log new) = Unit {0}
+IsInRange (command.Migrate log new) = Unit {0}
 IsInRange (command.Gen number rounds) = (1 ≤ rounds) × (rounds ≤ 4096)
 IsInRange (command.Sim number nodes steps) = (1 ≤ nodes) × (nodes ≤ 16) × (steps ≤ 20000)

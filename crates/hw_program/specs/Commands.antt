@@ -13,6 +13,8 @@ pub data Request : Type 0 where
   Explain : Word → Request
   Audit : Word → Word → Request
   Script : Word → Request
+  Mend : Word → Word → Request
+  Migrate : Word → Word → Request
   Gen : ℕ → ℕ → Request
   Sim : ℕ → ℕ → ℕ → Request
 
@@ -39,6 +41,8 @@ gen_of None rounds = None
 abbrev pub of_two : Word → Word → Word → Option Request
 of_two command a b =
     if bytes_eq command (codes "audit") then Some (Audit a b)
+    else if bytes_eq command (codes "mend") then Some (Mend a b)
+    else if bytes_eq command (codes "migrate") then Some (Migrate a b)
     else if bytes_eq command (codes "gen") then gen_of (number_below (2 ^ 64) a) (number_below 4097 b)
     else None
 
@@ -75,5 +79,19 @@ OnlyReads (Some (Replay log)) = Unit {0}
 OnlyReads (Some (Explain log)) = Unit {0}
 OnlyReads (Some (Audit left right)) = Unit {0}
 OnlyReads (Some (Script file)) = Unit {0}
+OnlyReads (Some (Mend log new)) = ⊥
+OnlyReads (Some (Migrate log new)) = ⊥
 OnlyReads (Some (Gen number rounds)) = Unit {0}
 OnlyReads (Some (Sim number nodes steps)) = Unit {0}
+
+-- a run of it uses files and the output, and nothing else of the outside
+abbrev pub UsesFilesAlone : Option Request → Type 0
+UsesFilesAlone None = Unit {0}
+UsesFilesAlone (Some (Replay log)) = Unit {0}
+UsesFilesAlone (Some (Explain log)) = Unit {0}
+UsesFilesAlone (Some (Audit left right)) = Unit {0}
+UsesFilesAlone (Some (Script file)) = Unit {0}
+UsesFilesAlone (Some (Mend log new)) = Unit {0}
+UsesFilesAlone (Some (Migrate log new)) = Unit {0}
+UsesFilesAlone (Some (Gen number rounds)) = Unit {0}
+UsesFilesAlone (Some (Sim number nodes steps)) = Unit {0}

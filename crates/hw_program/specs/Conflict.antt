@@ -1,5 +1,5 @@
 -- Two logs that report conflicting final blocks.
-use Rattle.std.specs.Prelude.{◌≡◌, ℕ, ◌<◌, false, List, Option, Some, None, Ok}
+use Rattle.std.specs.Prelude.{◌≡◌, ℕ, ◌<◌, false, List, Some, None, Ok}
 use Rattle.hw_types.specs.declared.unit.Digest.{Digest}
 use Rattle.hw_types.specs.declared.answers.Culprit.{Culprit}
 use Rattle.hw_types.specs.Real.{CoreState, setting_of}

@@ -2,21 +2,43 @@
 use Rattle.std.specs.Prelude.{◌≡◌, ℕ, ◌≤◌, ◌⊎◌, List, Option, Some, None, Result, Ok, Err}
 use Rattle.hw_io.specs.Faults.{Rose}
 use Rattle.hw_program.specs.declared.ended.Ended.{Ended}
-use Rattle.hw_program.specs.Commands.{Request, Replay, Explain, Audit, Script, Gen, Sim}
+use Rattle.hw_program.specs.Commands.{Request, Replay, Explain, Audit, Script, Mend, Migrate, Gen, Sim}
 use Rattle.hw_program.specs.Texts.{usage_line}
 use Rattle.hw_program.specs.declared.ended.RunFault.{RunFault}
-use Rattle.hw_program.specs.declared.ended.RunFault.TheVariants.{Read, OutOfMemory}
+use Rattle.hw_program.specs.declared.ended.RunFault.TheVariants.{Read, Append, OutOfMemory}
 
--- a failed read raises the count, and nothing else changes it
+-- a failed read raises the count, and nothing else changes it; there is no failed append
 abbrev pub IsReadCounted : {T : Type 0} → ℕ → ℕ → Result T RunFault → Type 0
 IsReadCounted before now (Ok x) = now ≡ before
 IsReadCounted before now (Err Read) = Rose before now
+IsReadCounted before now (Err Append) = ⊥
 IsReadCounted before now (Err OutOfMemory) = now ≡ before
 
 -- the read count didn't fall, and it rose where a read failed and nowhere else
 pub record HasReadFault {T : Type 0} (before now : ℕ) (result : Result T RunFault) : Type 0 where
   pub later : before ≤ now
   pub counted : IsReadCounted before now result
+
+-- of a run that may append too: a failed read raises the count, and nothing else changes it
+abbrev pub IsRunReadCounted : {T : Type 0} → ℕ → ℕ → Result T RunFault → Type 0
+IsRunReadCounted before now (Ok x) = now ≡ before
+IsRunReadCounted before now (Err Read) = Rose before now
+IsRunReadCounted before now (Err Append) = now ≡ before
+IsRunReadCounted before now (Err OutOfMemory) = now ≡ before
+
+-- a failed append raises its count, and nothing else changes it
+abbrev pub IsAppendCounted : {T : Type 0} → ℕ → ℕ → Result T RunFault → Type 0
+IsAppendCounted before now (Ok x) = now ≡ before
+IsAppendCounted before now (Err Read) = now ≡ before
+IsAppendCounted before now (Err Append) = Rose before now
+IsAppendCounted before now (Err OutOfMemory) = now ≡ before
+
+-- the counts didn't fall, and each rose where the answer says so and nowhere else
+pub record HasRunFault {T : Type 0} (reads_before reads appends_before appends : ℕ) (result : Result T RunFault) : Type 0 where
+  pub later : reads_before ≤ reads
+  pub counted : IsRunReadCounted reads_before reads result
+  pub later_appends : appends_before ≤ appends
+  pub appends_counted : IsAppendCounted appends_before appends result
 
 -- a call about a file that was asked for failed, and was counted for it
 abbrev pub FailsOf : Option Request → (List ℕ → ℕ) → (List ℕ → ℕ) → Type 0
@@ -25,6 +47,8 @@ FailsOf (Some (Replay log)) before now = Rose (before log) (now log)
 FailsOf (Some (Explain log)) before now = Rose (before log) (now log)
 FailsOf (Some (Audit left right)) before now = Rose (before left) (now left) ⊎ Rose (before right) (now right)
 FailsOf (Some (Script file)) before now = Rose (before file) (now file)
+FailsOf (Some (Mend log new)) before now = Rose (before log) (now log) ⊎ Rose (before new) (now new)
+FailsOf (Some (Migrate log new)) before now = Rose (before log) (now log) ⊎ Rose (before new) (now new)
 FailsOf (Some (Gen number rounds)) before now = ⊥
 FailsOf (Some (Sim number nodes steps)) before now = ⊥
 
@@ -43,5 +67,7 @@ IsEndOf (Some (Replay log)) ended = IsReadEnd ended.status
 IsEndOf (Some (Explain log)) ended = IsReadEnd ended.status
 IsEndOf (Some (Audit left right)) ended = IsAuditEnd ended.status
 IsEndOf (Some (Script file)) ended = IsReadEnd ended.status
+IsEndOf (Some (Mend log new)) ended = IsReadEnd ended.status
+IsEndOf (Some (Migrate log new)) ended = IsReadEnd ended.status
 IsEndOf (Some (Gen number rounds)) ended = ended.status ≡ 0
 IsEndOf (Some (Sim number nodes steps)) ended = ended.status ≡ 0

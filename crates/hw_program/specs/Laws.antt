@@ -1,12 +1,13 @@
--- What follows of an audit: the statement.
-use Rattle.std.specs.Prelude.{◌≡◌, false, List, Some, None, Ok}
+-- What follows of a run: the statements.
+use Rattle.std.specs.Prelude.{◌≡◌, ◌↔◌, ℕ, false, List, Some, None, Ok}
 use Rattle.hw_types.specs.Real.{setting_of}
 use Rattle.hw_chain.specs.Chain.{Begins}
 use Rattle.hw_summit.specs.Decided.{decisions_of}
 use Rattle.hw_verdicts.specs.Verdicts.{journals_clash, chain_of}
 use Rattle.hw_replay.specs.Taken.{Taken}
 use Rattle.hw_program.specs.Commands.{Word, Audit, request_of}
-use Rattle.hw_program.specs.Program.{Held, log_replayed, run_of}
+use Rattle.hw_rewrite.specs.Migrated.{HoldsAnew}
+use Rattle.hw_program.specs.Program.{Held, done, log_replayed, replay_said, explain_said, run_of}
 
 -- Where two logs of one configuration report conflicting final blocks, neither chain beginning the other, and no two units clash, the run of their audit says so.
 abbrev pub ConflictIsTold : Type 0
@@ -16,3 +17,8 @@ ConflictIsTold = (words : List Word) (held : Held) (left right : Word) (first se
     → (Begins (chain_of (decisions_of (setting_of first.core.config) first.core.journal)) (chain_of (decisions_of (setting_of first.core.config) second.core.journal)) → ⊥)
     → (Begins (chain_of (decisions_of (setting_of first.core.config) second.core.journal)) (chain_of (decisions_of (setting_of first.core.config) first.core.journal)) → ⊥)
     → (run_of words held).status ≡ 3
+
+-- Of a log that was written anew in version 2, the report on the new one is the report on the old one, and what is told of each decided block too.
+abbrev pub ReadsTheSame : Type 0
+ReadsTheSame = (before now : Held) (log new : Word) (text : List ℕ) → HoldsAnew (before log) (now new)
+    → ((replay_said before log ≡ done text) ↔ (replay_said now new ≡ done text)) × ((explain_said before log ≡ done text) ↔ (explain_said now new ≡ done text))

@@ -9,3 +9,5 @@ pub mod Laws
 pub mod Program
 pub mod Faults
 pub mod Run
+pub mod Files
+pub mod Rewritten

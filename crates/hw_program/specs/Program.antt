@@ -1,5 +1,5 @@
 -- How a run of the program ends and what it writes.
-use Rattle.std.specs.Prelude.{ℕ, List, ◌++◌, Option, Some, None, Result, Ok, Err}
+use Rattle.std.specs.Prelude.{ℕ, List, [], ◌∷◌, codes, Option, Some, None, Result, Ok, Err}
 use Rattle.hw_types.specs.declared.config.Config.{Config}
 use Rattle.hw_types.specs.Real.{CoreState, setting_of}
 use Rattle.hw_explain.specs.Report.{report_text}
@@ -7,14 +7,19 @@ use Rattle.hw_explain.specs.Explain.{explained_in}
 use Rattle.hw_replay.specs.declared.fault.StartFault.{StartFault}
 use Rattle.hw_replay.specs.Taken.{Taken}
 use Rattle.hw_replay.specs.Replay.{replay_of}
+use Rattle.hw_log.specs.declared.error.LogError.{LogError}
+use Rattle.hw_text.specs.Text.{number_text}
+use Rattle.hw_text.specs.Lines.{line_of}
+use Rattle.hw_rewrite.specs.declared.whole.Rewritten.{Rewritten}
+use Rattle.hw_rewrite.specs.Rewritten.{mended_of, migrated_of}
 use Rattle.hw_cluster.specs.Worked.{gen_totals, sim_numbers}
 use Rattle.hw_program.specs.declared.ended.Ended.{Ended}
-use Rattle.hw_program.specs.Texts.{usage_line, read_fault_ended, stopped_ended}
+use Rattle.hw_program.specs.Texts.{usage_line, log_text, input_ended, read_fault_ended, stopped_ended}
 use Rattle.hw_script.specs.Output.{output_of}
 use Rattle.hw_program.specs.Audited.{audit_ended}
 use Rattle.hw_program.specs.Scripted.{script_ended}
 use Rattle.hw_program.specs.Workloads.{gen_line, sim_line}
-use Rattle.hw_program.specs.Commands.{Word, Request, Replay, Explain, Audit, Script, Gen, Sim, request_of}
+use Rattle.hw_program.specs.Commands.{Word, Request, Replay, Explain, Audit, Script, Mend, Migrate, Gen, Sim, request_of}
 
 -- the bytes held under each name, where there is a file
 abbrev pub Held : Type 0
@@ -80,6 +85,26 @@ audit_said held left right = log_replayed held None left >>= λ l. audited_again
 abbrev pub script_said : Held → Word → Part Ended
 script_said held file = file_of held file >>= λ bytes. Ok (script_ended file (output_of bytes))
 
+-- what was written anew, or the line of the log's error
+abbrev pub or_unwritten : Word → Result Rewritten LogError → Part Rewritten
+or_unwritten log (Ok r) = Ok r
+or_unwritten log (Err e) = Err (input_ended log (log_text e))
+
+-- a log written anew into a file that isn't there, which is tested first
+abbrev pub rewrite_said : (List ℕ → Result Rewritten LogError) → List ℕ → Held → Word → Word → Part Ended
+rewrite_said rewritten_of word held log new = elim (held new) [
+  | None ↦ file_of held log >>= λ bytes. or_unwritten log (rewritten_of bytes) >>= λ r. done (line_of (word ∷ number_text r.count ∷ []))
+  | Some there ↦ Err (input_ended new (codes "exists"))
+]
+
+-- a log without its torn end
+abbrev pub mend_said : Held → Word → Word → Part Ended
+mend_said = rewrite_said mended_of (codes "mended")
+
+-- a log in version 2
+abbrev pub migrate_said : Held → Word → Word → Part Ended
+migrate_said = rewrite_said migrated_of (codes "migrated")
+
 -- the line of a generated journal
 abbrev pub gen_said : ℕ → ℕ → Part Ended
 gen_said number rounds = done (gen_line rounds (gen_totals number rounds))
@@ -97,6 +122,8 @@ request_said held (Some (Replay log)) = replay_said held log
 request_said held (Some (Explain log)) = explain_said held log
 request_said held (Some (Audit left right)) = audit_said held left right
 request_said held (Some (Script file)) = script_said held file
+request_said held (Some (Mend log new)) = mend_said held log new
+request_said held (Some (Migrate log new)) = migrate_said held log new
 request_said held (Some (Gen number rounds)) = gen_said number rounds
 request_said held (Some (Sim number nodes steps)) = sim_said number nodes steps
 

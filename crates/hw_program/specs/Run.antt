@@ -3,9 +3,9 @@ use Rattle.std.specs.Prelude.{◌≡◌, ℕ, ◌==◌, ◌||◌, List, ◌++◌
 use Rattle.std.specs.Io.KnownBytes.{Appends}
 use Rattle.hw_io.specs.Faults.{Rose}
 use Rattle.hw_io.specs.Sinks.{AppendsPrefix}
-use Rattle.hw_program.specs.Texts.{read_fault_line, out_of_memory_line}
+use Rattle.hw_program.specs.Texts.{read_fault_line, append_fault_line, out_of_memory_line}
 
--- 0 all was done, 1 the words, 2 a file's bytes, 3 a conflict, 4 a read, 5 a write, 7 memory, 8 a limit, 9 a clash
+-- 0 all was done, 1 the words, 2 a file's bytes or a file that is to be new, 3 a conflict, 4 a read, 5 a write or an append, 7 memory, 8 a limit, 9 a clash
 abbrev pub IsStatus : ℕ → Type 0
 IsStatus status = (status ≡ 0) ⊎ (status ≡ 1) ⊎ (status ≡ 2) ⊎ (status ≡ 3) ⊎ (status ≡ 4) ⊎ (status ≡ 5) ⊎ (status ≡ 7) ⊎ (status ≡ 8) ⊎ (status ≡ 9)
 
@@ -44,6 +44,10 @@ WritesToNoMemory old new text = Rose old.wants new.wants × ((n m : ℕ) × Appe
 -- There was no memory up to the text; or a write of the text, or of the line of a failed read, found none.
 abbrev pub EndsWithoutMemory : Output → Output → List ℕ → Type 0
 EndsWithoutMemory old new text = WritesMemoryLine old new ⊎ (WritesToNoMemory old new text ⊎ WritesToNoMemory old new read_fault_line)
+
+-- of a run that may append too: or an append failed, and a write of its line found none
+abbrev pub EndsAppending : Output → Output → List ℕ → ℕ → ℕ → Type 0
+EndsAppending old new text appends_before appends = EndsWithoutMemory old new text ⊎ (Rose appends_before appends × WritesToNoMemory old new append_fault_line)
 
 -- How a run that has this status and text ends: the text is written whole; or a write failed, and a run that had done all
 -- says so; or a write found no memory.

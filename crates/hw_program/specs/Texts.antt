@@ -57,7 +57,7 @@ log_text log.OutOfMemory = []
 abbrev pub usage_line : List ℕ
 usage_line = codes "usage: highway COMMAND WORDS" ++ line_feed
 
--- 2: a file's bytes aren't in the grammar that its command needs
+-- 2: a file's bytes aren't in the grammar that its command needs, or a file that is to be new is there
 unfoldable pub input_ended : List ℕ → List ℕ → Ended
 input_ended name text = record { status = 2; text = codes "input " ++ name ++ codes ": " ++ text ++ line_feed }
 
@@ -67,6 +67,10 @@ read_fault_line = codes "read fault" ++ line_feed
 
 abbrev pub read_fault_ended : Ended
 read_fault_ended = record { status = 4; text = read_fault_line }
+
+-- 5: an append failed
+abbrev pub append_fault_line : List ℕ
+append_fault_line = codes "append fault" ++ line_feed
 
 -- 7: there was no memory
 abbrev pub out_of_memory_line : List ℕ

@@ -28,6 +28,10 @@ pub enum Command<'w> {
     Audit { left: &'w str, right: &'w str },
     /// Delivers what a script says, and tells what becomes of it.
     Script { file: &'w str },
+    /// Writes the header and the whole entries of a log into a new file.
+    Mend { log: &'w str, new: &'w str },
+    /// Writes a log into a new file, in version 2.
+    Migrate { log: &'w str, new: &'w str },
     /// Gives a node the units of so many rounds, which a number makes, and tells what comes of them.
     Gen { number: u64, rounds: u32 },
     /// Lets the words of a number choose so many steps of so many nodes, and tells what comes of it.
@@ -81,6 +85,16 @@ fn of_two<'w>(command: &str, first: &'w str, second: &'w str) -> Option<Command<
         Some(Command::Audit {
             left: first,
             right: second,
+        })
+    } else if command == "mend" {
+        Some(Command::Mend {
+            log: first,
+            new: second,
+        })
+    } else if command == "migrate" {
+        Some(Command::Migrate {
+            log: first,
+            new: second,
         })
     } else if command == "gen" {
         generation(first, second)

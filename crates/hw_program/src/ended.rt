@@ -11,7 +11,7 @@ pub const DONE: u8 = 0;
 /// The words aren't in the grammar.
 pub const USAGE: u8 = 1;
 
-/// A file's bytes aren't in the grammar that the command needs.
+/// A file's bytes aren't in the grammar that the command needs, or a file that is to be new is there.
 pub const INPUT: u8 = 2;
 
 /// Two logs report conflicting final blocks.
@@ -20,7 +20,7 @@ pub const CONFLICT: u8 = 3;
 /// A read of the files failed.
 pub const READ_FAULT: u8 = 4;
 
-/// A write of the output failed.
+/// A write of the output, or an append to a file, failed.
 pub const WRITE_FAULT: u8 = 5;
 
 /// There was no memory.
@@ -44,6 +44,8 @@ pub struct Ended {
 pub enum RunFault {
     /// A read of the files failed.
     Read,
+    /// An append to a file failed.
+    Append,
     /// There was no memory.
     OutOfMemory,
 }

@@ -63,7 +63,7 @@ fn unread(alloc: Global, name: &str, error: LogError) -> Result<Ended, RunFault>
 
 /// The log can't be read on, for what stands in it.
 #[tactic(auto, using(std::proofs::Common::append_assoc), unfolding(crate::specs::Texts::input_ended))]
-fn bad_log(alloc: Global, name: &str, error: LogError) -> Result<Ended, OutOfMemory>
+pub fn bad_log(alloc: Global, name: &str, error: LogError) -> Result<Ended, OutOfMemory>
     ensures { IfOk result (λ ended. ended ≡ input_ended name.now (log_text error)) }
 {
     let mut text = input(alloc, name)?;

@@ -1,9 +1,15 @@
-//! What follows of an audit.
+//! What follows of a run.
 
-ghost use Rattle.hw_program.specs.Laws.{ConflictIsTold};
+ghost use Rattle.hw_program.specs.Laws.{ConflictIsTold, ReadsTheSame};
 
 /// Where two logs report conflicting final blocks, and no two of their units clash, the status is that of a
 /// conflict. So the top call's clause on it holds: culprits that weigh more than the threshold are named.
 pub fn a_conflict_is_told()
     ensures { ConflictIsTold }
+{}
+
+/// A log that was written anew in version 2 says what the old one says: `replay` and `explain` tell the same of
+/// both. After `migrate` with status 0 the two files are so, by the top call's clause on what a run leaves.
+pub fn a_migrated_log_reads_the_same()
+    ensures { ReadsTheSame }
 {}

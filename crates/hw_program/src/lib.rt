@@ -11,6 +11,7 @@ mod explain;
 mod faults;
 mod laws;
 mod replay;
+mod rewrite;
 mod run;
 mod script;
 mod texts;
@@ -18,6 +19,6 @@ mod words;
 mod workloads;
 
 pub use ended::OUT_OF_MEMORY;
-pub use laws::a_conflict_is_told;
+pub use laws::{a_conflict_is_told, a_migrated_log_reads_the_same};
 pub use run::highway;
 pub use words::Words;

@@ -5,12 +5,13 @@ ghost use Rattle.std.specs.Io.KnownBytes.{Appends};
 ghost use Rattle.hw_io.specs.Faults.{Rose};
 ghost use Rattle.hw_io.specs.Files.{SameFiles};
 ghost use Rattle.hw_io.specs.Sinks.{AppendsPrefix};
-ghost use Rattle.hw_program.specs.Commands.{request_of, OnlyReads};
-ghost use Rattle.hw_program.specs.Texts.{usage_line, read_fault_line, out_of_memory_line};
-ghost use Rattle.hw_program.specs.Faults.{HasReadFault, FailsOf, IsEndOf};
+ghost use Rattle.hw_program.specs.Commands.{request_of, OnlyReads, UsesFilesAlone};
+ghost use Rattle.hw_program.specs.Texts.{usage_line, read_fault_line, append_fault_line, out_of_memory_line};
+ghost use Rattle.hw_program.specs.Faults.{HasReadFault, HasRunFault, FailsOf, IsEndOf};
+ghost use Rattle.hw_program.specs.Files.{FilesAfter, IsAllowed, status_of};
 ghost use Rattle.hw_program.specs.Program.{run_of};
 ghost use Rattle.hw_program.specs.Conflict.{ReportsConflict};
-ghost use Rattle.hw_program.specs.Run.{IsStatus, IsDone, IsSaid, IsRefusal, WritesLine, WritesMemoryLine, EndsWithoutMemory, Finishes};
+ghost use Rattle.hw_program.specs.Run.{IsStatus, IsDone, IsSaid, IsRefusal, WritesLine, WritesMemoryLine, EndsWithoutMemory, EndsAppending, Finishes};
 ghost use Rattle.hw_program.specs.declared.ended.RunFault.TheVariants as RunFaults;
 
 use crate::audit::audit_logs;
@@ -19,6 +20,7 @@ use crate::ended::{CONFLICT, DONE, Ended, OUT_OF_MEMORY, READ_FAULT, RunFault, W
 use crate::explain::explain;
 use crate::faults::usage;
 use crate::replay::replay;
+use crate::rewrite::{mended, migrated};
 use crate::script::script;
 use crate::words::Words;
 use crate::workloads::{generated, simulated};
@@ -27,15 +29,18 @@ use std::alloc::Global;
 
 const READ_FAULT_LINE: &str = "read fault\n";
 
+const APPEND_FAULT_LINE: &str = "append fault\n";
+
 const OUT_OF_MEMORY_LINE: &str = "out of memory\n";
 
 /// Runs the command that the words ask for, and answers the exit status.
 ///
 /// Its text is made whole before the first byte of it is written. The status is 0 where all was
-/// done, 1 where the words aren't in the grammar, 2 where a file's bytes aren't, 3 where two logs
-/// report conflicting final blocks, 4 where a read of the files failed, 5 where a write of the output
-/// failed, 7 where there was no memory, 8 where a log meets a limit, and 9 where two different units
-/// have one digest. A fault has one line, which is written if the output takes it.
+/// done, 1 where the words aren't in the grammar, 2 where a file's bytes aren't or a file that is to
+/// be new is there, 3 where two logs report conflicting final blocks, 4 where a read of the files
+/// failed, 5 where a write of the output or an append to a file failed, 7 where there was no memory,
+/// 8 where a log meets a limit, and 9 where two different units have one digest. A fault has one line,
+/// which is written if the output takes it.
 pub fn highway<F: Files, S: Sink, C: Clock, D: Door>(
     alloc: Global,
     words: &Words,
@@ -59,11 +64,13 @@ pub fn highway<F: Files, S: Sink, C: Clock, D: Door>(
     ensures write_fault { result ≡ 5 → Rose (S.faults out.old) (S.faults out.new) ⊎ Rose (F.append_faults files.old) (F.append_faults files.new) }
     ensures unwritten { IsTrue F.tells → result ≡ 5 → IsDone (run_of words.now (F.held files.old)).status ⊎ Rose (F.append_faults files.old) (F.append_faults files.new) }
 
-    // A read that failed is told: with each other status the count is what it was, unless the output found no memory.
+    // A read or an append that failed is told: with each other status its count is what it was, unless the output found no memory.
     ensures reads { result ≢ 4 → (F.read_faults files.new ≡ F.read_faults files.old) ⊎ ((result ≡ 7) × Rose (S.wants out.old) (S.wants out.new)) }
+    ensures appended { result ≢ 5 → (F.append_faults files.new ≡ F.append_faults files.old) ⊎ ((result ≡ 7) × Rose (S.wants out.old) (S.wants out.new)) }
 
-    // Where no count rose, the answer is the one that the words and the bytes have, or want of memory.
-    ensures complete { IsTrue F.tells → (Rose (F.read_faults files.old) (F.read_faults files.new) → ⊥) → (Rose (S.faults out.old) (S.faults out.new) → ⊥) → (result ≡ (run_of words.now (F.held files.old)).status) ⊎ (result ≡ 7) }
+    // Where no count rose, the answer is the one that the words and the bytes have, or want of memory. Where it is allowed to write a log anew, that is done.
+    ensures complete { IsTrue F.tells → (Rose (F.read_faults files.old) (F.read_faults files.new) → ⊥) → (Rose (S.faults out.old) (S.faults out.new) → ⊥) → OnlyReads (request_of words.now) ⊎ (Rose (F.append_faults files.old) (F.append_faults files.new) → ⊥) → (result ≡ (run_of words.now (F.held files.old)).status) ⊎ (result ≡ 7) }
+    ensures allowed { IsTrue F.tells → IsAllowed (request_of words.now) (F.held files.old) → (Rose (F.read_faults files.old) (F.read_faults files.new) → ⊥) → (Rose (S.faults out.old) (S.faults out.new) → ⊥) → (Rose (F.append_faults files.old) (F.append_faults files.new) → ⊥) → (result ≡ 0) ⊎ (result ≡ 7) }
 
     // Where two logs report conflicting final blocks, the audit names culprits, each by two signed units, and they weigh more than the threshold.
     ensures conflict { IsTrue F.tells → result ≡ 3 → ReportsConflict words.now (F.held files.old) (run_of words.now (F.held files.old)).text }
@@ -73,19 +80,25 @@ pub fn highway<F: Files, S: Sink, C: Clock, D: Door>(
     ensures line { IsTrue F.tells → IsRefusal result → WritesLine (S.taken out.old) (S.taken out.new) (run_of words.now (F.held files.old)).text (S.faults out.old) (S.faults out.new) }
     ensures usage_line { result ≡ 1 → WritesLine (S.taken out.old) (S.taken out.new) usage_line (S.faults out.old) (S.faults out.new) }
     ensures read_line { result ≡ 4 → WritesLine (S.taken out.old) (S.taken out.new) read_fault_line (S.faults out.old) (S.faults out.new) }
-    ensures cut { IsTrue F.tells → result ≡ 5 → AppendsPrefix (S.taken out.old) (S.taken out.new) (run_of words.now (F.held files.old)).text }
-    ensures memory_line { IsTrue F.tells → result ≡ 7 → EndsWithoutMemory (record { taken = S.taken out.old; faults = S.faults out.old; wants = S.wants out.old }) (record { taken = S.taken out.new; faults = S.faults out.new; wants = S.wants out.new }) (run_of words.now (F.held files.old)).text }
+    ensures cut { IsTrue F.tells → OnlyReads (request_of words.now) → result ≡ 5 → AppendsPrefix (S.taken out.old) (S.taken out.new) (run_of words.now (F.held files.old)).text }
+    ensures append_line { IsTrue F.tells → result ≡ 5 → (Rose (S.faults out.old) (S.faults out.new) × AppendsPrefix (S.taken out.old) (S.taken out.new) (run_of words.now (F.held files.old)).text) ⊎ (Rose (F.append_faults files.old) (F.append_faults files.new) × WritesLine (S.taken out.old) (S.taken out.new) append_fault_line (S.faults out.old) (S.faults out.new)) }
+    ensures memory_line { IsTrue F.tells → OnlyReads (request_of words.now) → result ≡ 7 → EndsWithoutMemory (record { taken = S.taken out.old; faults = S.faults out.old; wants = S.wants out.old }) (record { taken = S.taken out.new; faults = S.faults out.new; wants = S.wants out.new }) (run_of words.now (F.held files.old)).text }
+    ensures any_memory_line { IsTrue F.tells → result ≡ 7 → EndsAppending (record { taken = S.taken out.old; faults = S.faults out.old; wants = S.wants out.old }) (record { taken = S.taken out.new; faults = S.faults out.new; wants = S.wants out.new }) (run_of words.now (F.held files.old)).text (F.append_faults files.old) (F.append_faults files.new) }
+
+    // What a run leaves of the files.
+    ensures left { IsTrue F.tells → FilesAfter (request_of words.now) result (F.held files.old) (F.held files.new) }
 
     // What a command doesn't use stays as it was.
     ensures files { OnlyReads (request_of words.now) → SameFiles (F.held files.old) (F.held files.new) }
     ensures appends { OnlyReads (request_of words.now) → F.append_faults files.new ≡ F.append_faults files.old }
-    ensures clock { OnlyReads (request_of words.now) → clock.new ≡ clock.old }
-    ensures door { OnlyReads (request_of words.now) → door.new ≡ door.old }
-    ensures consumers { OnlyReads (request_of words.now) → consumers.new ≡ consumers.old }
+    ensures clock { UsesFilesAlone (request_of words.now) → clock.new ≡ clock.old }
+    ensures door { UsesFilesAlone (request_of words.now) → door.new ≡ door.old }
+    ensures consumers { UsesFilesAlone (request_of words.now) → consumers.new ≡ consumers.old }
 {
     match run(alloc, words, files) {
         Ok(ended) => finish(out, ended.status, ended.text.as_slice()),
         Err(RunFault::Read) => finish(out, READ_FAULT, READ_FAULT_LINE.as_bytes()),
+        Err(RunFault::Append) => finish(out, WRITE_FAULT, APPEND_FAULT_LINE.as_bytes()),
         Err(RunFault::OutOfMemory) => out_of_memory(out),
     }
 }
@@ -96,18 +109,22 @@ fn run<F: Files>(alloc: Global, words: &Words, files: &mut F) -> Result<Ended, R
     ensures said { IsTrue F.tells → IfOk result (λ ended. ended ≡ run_of words.now (F.held files.old)) }
     ensures conflict { IsTrue F.tells → IfOk result (λ ended. ended.status ≡ 3 → ReportsConflict words.now (F.held files.old) ended.text) }
     ensures status { IfOk result (λ ended. IsEndOf (request_of words.now) ended) }
-    ensures fault { HasReadFault (F.read_faults files.old) (F.read_faults files.new) result }
+    ensures fault { HasRunFault (F.read_faults files.old) (F.read_faults files.new) (F.append_faults files.old) (F.append_faults files.new) result }
+    ensures only { OnlyReads (request_of words.now) → HasReadFault (F.read_faults files.old) (F.read_faults files.new) result }
     ensures about { IsTrue F.tells → IfErr result (λ fault. fault ≡ RunFaults.Read → FailsOf (request_of words.now) (F.faults_about files.old) (F.faults_about files.new)) }
     ensures usage { request_of words.now ≡ None → IfErr result (λ fault. fault ≡ RunFaults.OutOfMemory) }
 
-    ensures files { SameFiles (F.held files.old) (F.held files.new) }
-    ensures appends { F.append_faults files.new ≡ F.append_faults files.old }
+    ensures left { IsTrue F.tells → FilesAfter (request_of words.now) (status_of result) (F.held files.old) (F.held files.new) }
+    ensures files { OnlyReads (request_of words.now) → SameFiles (F.held files.old) (F.held files.new) }
+    ensures appends { OnlyReads (request_of words.now) → F.append_faults files.new ≡ F.append_faults files.old }
 {
     match command_of(words) {
         Some(Command::Replay { log }) => replay(alloc, files, log),
         Some(Command::Explain { log }) => explain(alloc, files, log),
         Some(Command::Audit { left, right }) => audit_logs(alloc, files, left, right),
         Some(Command::Script { file }) => script(alloc, files, file),
+        Some(Command::Mend { log, new }) => mended(alloc, files, log, new),
+        Some(Command::Migrate { log, new }) => migrated(alloc, files, log, new),
         Some(Command::Gen { number, rounds }) => generated(alloc, number, rounds),
         Some(
             Command::Sim {

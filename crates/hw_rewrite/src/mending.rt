@@ -4,7 +4,7 @@ ghost use Rattle.std.specs.Prelude.{◌≡◌, ◌≢◌, ◌⊎◌, ℕ, List, 
 ghost use Rattle.hw_io.specs.Files.{SameFiles};
 ghost use Rattle.hw_log.specs.Causes.{HasReadCause, IsReadAbout, IsOutside as IsUnreadError};
 ghost use Rattle.hw_rewrite.specs.Rewritten.{mended_of, bytes_before, Says, HasRewritten, IsCutShort};
-ghost use Rattle.hw_rewrite.specs.Causes.{IsAbsentFault, IsOutside, IsWhy, HasRewriteCause, IsReadAbout as IsRewriteAbout};
+ghost use Rattle.hw_rewrite.specs.Causes.{IsAbsentFault, IsPutFault, IsOutside, IsWhy, HasRewriteCause, IsReadAbout as IsRewriteAbout};
 
 use crate::fault::RewriteFault;
 use crate::measure::measure;
@@ -31,6 +31,7 @@ pub fn mend<F: Files>(
     ensures done { IsTrue F.tells → IfOk result (HasRewritten mended_of (F.held files.old log.now) (F.held files.old new.now) (F.held files.new new.now)) }
     ensures why { IsTrue F.tells → IfErr result (λ fault. IsOutside fault ⊎ IsWhy mended_of (F.held files.old log.now) (F.held files.old new.now) fault) }
     ensures first { IsTrue F.tells → IsSome (F.held files.old new.now) → MatchResult result (λ _. ⊥) IsAbsentFault }
+    ensures unwritten { IfErr result (λ fault. IsPutFault fault ⊎ SameFiles (F.held files.old) (F.held files.new)) }
     ensures cut { IsTrue F.tells → OnErr result (IsCutShort mended_of (F.held files.old log.now) (F.held files.old new.now) (F.held files.new new.now)) }
     ensures others { IsTrue F.tells → (name : List ℕ) → name ≢ new.now → F.held files.new name ≡ F.held files.old name }
     ensures cause { HasRewriteCause (F.read_faults files.old) (F.read_faults files.new) (F.append_faults files.old) (F.append_faults files.new) result }

@@ -8,7 +8,7 @@ ghost use Rattle.hw_log.specs.Causes.{Gives, HasReadCause, IsReadAbout};
 ghost use Rattle.hw_log.specs.Reader.{PlacesFit, StandsBehind};
 ghost use Rattle.hw_rewrite.specs.Rewritten.{migrated_of, Says, HasRewritten, IsCutShort};
 ghost use Rattle.hw_rewrite.specs.Migrated.{StandsBehindSpelled, Spells, SaysAnew, HoldsAnew};
-ghost use Rattle.hw_rewrite.specs.Causes.{IsAbsentFault, IsOutside, IsWhy, HasRewriteCause, IsReadAbout as IsRewriteAbout};
+ghost use Rattle.hw_rewrite.specs.Causes.{IsAbsentFault, IsPutFault, IsOutside, IsWhy, HasRewriteCause, IsReadAbout as IsRewriteAbout};
 
 use crate::fault::RewriteFault;
 use crate::spelling::{VERSION, spell_entry, spelled_header};
@@ -34,6 +34,7 @@ pub fn migrate<F: Files>(
     ensures same { IsTrue F.tells → OnOk result (HoldsAnew (F.held files.old log.now) (F.held files.new new.now)) }
     ensures why { IsTrue F.tells → IfErr result (λ fault. IsOutside fault ⊎ IsWhy migrated_of (F.held files.old log.now) (F.held files.old new.now) fault) }
     ensures first { IsTrue F.tells → IsSome (F.held files.old new.now) → MatchResult result (λ _. ⊥) IsAbsentFault }
+    ensures unwritten { IfErr result (λ fault. IsPutFault fault ⊎ SameFiles (F.held files.old) (F.held files.new)) }
     ensures cut { IsTrue F.tells → OnErr result (IsCutShort migrated_of (F.held files.old log.now) (F.held files.old new.now) (F.held files.new new.now)) }
     ensures others { IsTrue F.tells → (name : List ℕ) → name ≢ new.now → F.held files.new name ≡ F.held files.old name }
     ensures cause { HasRewriteCause (F.read_faults files.old) (F.read_faults files.new) (F.append_faults files.old) (F.append_faults files.new) result }
