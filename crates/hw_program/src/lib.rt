@@ -1,7 +1,8 @@
 //! The program over any outside: one top call, which runs the command that its words ask for.
 //!
-//! `specs/Program.antt` says how a run ends and what it writes, by its words and what the files hold. Each
-//! command is one case there, one variant of `Command`, and one module here.
+//! `specs/Program.antt` says how a run ends and what it writes, by its words and what the files hold, and
+//! `specs/Files.antt` what it leaves of the files. Each command is one case in both, one variant of `Command`, and
+//! one module here, or one with its like.
 #![tactic(auto)]
 
 mod audit;
