@@ -1,0 +1,3 @@
+pub mod FrameReadLaws
+pub mod HearsLaws
+pub mod LengthLaws

@@ -1,0 +1,32 @@
+//! How a session ends by the link.
+
+ghost use Rattle.std.specs.Prelude.{◌≡◌, ℕ, ◌+◌, ◌<◌, ◌^◌, List, length};
+ghost use Rattle.hw_link.specs.Frames.{rest_at, cut_end};
+ghost use Rattle.hw_link.specs.Links.{end_of_fault};
+
+use hw_io::IoFault;
+use hw_link::{BYTE_LIMIT, SessionEnd};
+
+/// How a session ends by this fault of the door.
+pub(crate) fn end_of_fault(fault: IoFault) -> SessionEnd
+    ensures { result ≡ end_of_fault fault }
+{
+    match fault {
+        IoFault::Failed => SessionEnd::LinkFault,
+        IoFault::OutOfMemory => SessionEnd::OutOfMemory,
+    }
+}
+
+/// How a session ends whose bytes end so many bytes behind the place where a frame begins.
+pub(crate) fn cut_end(place: u64, count: usize) -> SessionEnd
+    requires { place + count < 2 ^ 64 }
+    ensures { (part : List ℕ) → length part ≡ count → result ≡ cut_end (rest_at place part) }
+{
+    if place + count as u64 >= BYTE_LIMIT {
+        SessionEnd::ByteLimit
+    } else if count == 0 {
+        SessionEnd::EndOfInput
+    } else {
+        SessionEnd::BadFrame(place)
+    }
+}
