@@ -5,3 +5,8 @@ pub mod StartLaws
 pub mod RestartLaws
 pub mod LineLaws
 pub mod AcceptLaws
+pub mod GrowsLaws
+pub mod ServingLaws
+pub mod ReactLaws
+pub mod NextLaws
+pub mod SendLaws

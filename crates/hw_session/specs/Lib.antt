@@ -4,3 +4,7 @@ pub mod Start
 pub mod Make
 pub mod Restart
 pub mod Accept
+pub mod Grows
+pub mod Serving
+pub mod Handling
+pub mod Sessions

@@ -3,18 +3,24 @@
 //! A [`Node`] starts from its log, or begins a new one. What it accepts goes last in its journal, and then
 //! its entry goes last in the log, before anything else is answered. So a node that starts again from its
 //! log stands where it stood, and a unit whose entry is torn was never handed out.
+//!
+//! It serves a peer frame by frame: what it does at a frame is a reaction of the definitions, and a session
+//! is the talk that these make over the frames of the peer's bytes, however the reads are cut.
 #![tactic(auto)]
 
 mod accept;
+mod answer;
 mod entry;
 mod fault;
 mod laws;
 mod make;
 mod node;
+mod serve;
 mod start;
 
 pub use fault::{AcceptFault, MakeFault};
 pub use hw_keys::{Keys, KeysFault};
+pub use hw_link::SessionEnd;
 pub use hw_replay::StartFault;
 pub use laws::{a_log_gives_its_journal_back, a_node_keeps_the_log_of_its_journal};
 pub use node::{ClashUnits, Node};

@@ -1,10 +1,10 @@
-//! What a peer's vertices do to a node.
+//! What peers do to a node.
 
 use crate::lines::bytes_of;
 use crate::nodes::word;
 use hw_codec::decode_vertex;
-use hw_io::MemFiles;
-use hw_session::{AcceptFault, Node};
+use hw_io::{MemDoor, MemFiles};
+use hw_session::{AcceptFault, Node, SessionEnd};
 use hw_types::{OutOfMemory, Receipt};
 use std::alloc::Global;
 
@@ -42,5 +42,60 @@ fn tell_accepted(
         Ok(Receipt::Repeat) => word(text, "Repeat"),
         Err(AcceptFault::OutOfMemory) => Err(OutOfMemory),
         Err(fault) => word(text, format!(in alloc; "{fault:?}")?.as_str()),
+    }
+}
+
+/// Lets the node serve a peer, and tells how the session ended, how often the peer's bytes ended, and what
+/// was written.
+pub fn serve(
+    alloc: Global,
+    files: &mut MemFiles,
+    node: &mut Node,
+    peer: &str,
+    text: &mut String,
+) -> Result<(), OutOfMemory> {
+    let words: Vec<&str> = peer.split(':').collect(alloc)?;
+    match words.as_slice() {
+        [said, piece, call] => {
+            let mut door = door_of(alloc, said, piece, call)?;
+            let end = node.serve_one(&mut door, files);
+            tell_served(alloc, &door, end, text)
+        }
+        _ => word(text, "-"),
+    }
+}
+
+/// A door with a peer that says these bytes.
+fn door_of(alloc: Global, said: &str, piece: &str, call: &str) -> Result<MemDoor, OutOfMemory> {
+    let mut door = MemDoor::in_pieces(alloc, piece.parse().unwrap_or(usize::MAX));
+    if door.expect(bytes_of(alloc, said)?.as_slice()).is_err() {
+        return Err(OutOfMemory);
+    }
+    if let Ok(call) = call.parse() {
+        if door.fail_at(call).is_err() {
+            return Err(OutOfMemory);
+        }
+    }
+    Ok(door)
+}
+
+/// Tells what came of a session.
+fn tell_served(
+    alloc: Global,
+    door: &MemDoor,
+    end: SessionEnd,
+    text: &mut String,
+) -> Result<(), OutOfMemory> {
+    match (end, door.sessions()) {
+        (SessionEnd::OutOfMemory, _) => Err(OutOfMemory),
+        (_, [.., session]) => {
+            let written = hex::encode(alloc, session.written())?;
+            let ends = door.numbers().ends;
+            word(
+                text,
+                format!(in alloc; "{end:?}:{ends}:{written}")?.as_str(),
+            )
+        }
+        (_, []) => word(text, "no session"),
     }
 }

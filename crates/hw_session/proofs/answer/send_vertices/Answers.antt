@@ -1,0 +1,41 @@
+use Rattle.std.proofs.Common.{length, map, Ok, Err, refl, ◌∙◌}
+use Rattle.std.proofs.lemmas.List.{map-append}
+use Rattle.std.proofs.lemmas.Option.{slice_get_read}
+use Rattle.hw_types.specs.declared.answers.Frame.TheVariants as frame
+use Rattle.hw_session.proofs.SendLaws.{sends_nothing, sends_one, sends_next, sends_broken}
+use Rattle.hw_session.proofs.answer.send_vertices.Goals as goal
+
+pub loop-vertex-init : goal.loop-vertex-init
+loop-vertex-init g c = record {
+  sent = sends_nothing (g.D.Door.sessions c.args.door.now);
+  session = c.requires.open;
+  ends = refl;
+  faults = refl;
+  accepts = refl;
+  dials = refl;
+}
+
+pub returns-in-Err-clause-sent : goal.returns-in-Err-clause-sent
+returns-in-Err-clause-sent g c =
+    let l = c.loop-vertex in
+    let v = c.vertex-item.result in
+    sends_broken (map frame.Vertex) (map-append frame.Vertex) c.args.vertices.now (g.D.Door.sessions c.args.door.now) (g.D.Door.sessions l.door) (g.D.Door.sessions c.send_vertex.new.door) l.vertex-index l.invariant.sent v c.in-Err.end
+    (slice_get_read c.args.vertices.now (length c.args.vertices.now) l.vertex-index v refl c.loop-vertex-test.true c.vertex-item.is)
+    (sends_one (Unit {0}) (frame.Vertex v) (g.D.Door.sessions l.door) (g.D.Door.sessions c.send_vertex.new.door) (Err c.in-Err.end) c.in-Err.ensures.sent)
+
+pub loop-vertex-preserved : goal.loop-vertex-preserved
+loop-vertex-preserved g c =
+    let l = c.loop-vertex in
+    let v = c.vertex-item.result in
+    let e = c.in-Ok.ensures in
+    record {
+      sent =
+          sends_next (map frame.Vertex) (map-append frame.Vertex) c.args.vertices.now (g.D.Door.sessions c.args.door.now) (g.D.Door.sessions l.door) (g.D.Door.sessions c.send_vertex.new.door) l.vertex-index l.invariant.sent v
+          (slice_get_read c.args.vertices.now (length c.args.vertices.now) l.vertex-index v refl c.loop-vertex-test.true c.vertex-item.is)
+          (sends_one (Unit {0}) (frame.Vertex v) (g.D.Door.sessions l.door) (g.D.Door.sessions c.send_vertex.new.door) (Ok tt) e.sent);
+      session = e.open;
+      ends = e.ends ∙ l.invariant.ends;
+      faults = e.cause ∙ l.invariant.faults;
+      accepts = e.accepts ∙ l.invariant.accepts;
+      dials = e.dials ∙ l.invariant.dials;
+    }

@@ -1,0 +1,48 @@
+use Rattle.std.proofs.Common.{[], get_or, Ok, Err, refl, ◌∙◌}
+use Rattle.std.proofs.lemmas.Option.{slice_get-get_or}
+use Rattle.hw_types.specs.declared.unit.Digest.{Digest}
+use Rattle.hw_types.specs.declared.unit.Need.{Need}
+use Rattle.hw_types.specs.declared.unit.Need.TheVariants as need
+use Rattle.hw_session.proofs.SendLaws.{sends_nothing, sends_next, sends_broken, sent_for_all, needs_join, sends_need}
+use Rattle.hw_session.proofs.answer.send_wanted.Goals as goal
+
+pub loop-need-init : goal.loop-need-init
+loop-need-init g c = record {
+  sent = sends_nothing (g.D.Door.sessions c.args.door.now);
+  session = c.requires.open;
+  ends = refl;
+  faults = refl;
+  accepts = refl;
+  dials = refl;
+}
+
+-- what is read past the end
+abbrev no_need : Need
+no_need = let zero : Digest = record { 0 = [] } in need.Unit zero
+
+pub returns-in-Err-clause-sent : goal.returns-in-Err-clause-sent
+returns-in-Err-clause-sent g c =
+    let l = c.loop-need in
+    let x : Need = get_or c.args.needs.now l.need-index no_need in
+    let core = c.args.core.now in
+    sends_broken (sent_for_all core) (needs_join core) c.args.needs.now (g.D.Door.sessions c.args.door.now) (g.D.Door.sessions l.door) (g.D.Door.sessions c.send_for.new.door) l.need-index l.invariant.sent x c.in-Err.end
+    (slice_get-get_or c.args.needs.now l.need-index no_need c.loop-need-test.true)
+    (sends_need core x (g.D.Door.sessions l.door) (g.D.Door.sessions c.send_for.new.door) (Err c.in-Err.end) c.in-Err.ensures.sent)
+
+pub loop-need-preserved : goal.loop-need-preserved
+loop-need-preserved g c =
+    let l = c.loop-need in
+    let x : Need = get_or c.args.needs.now l.need-index no_need in
+    let core = c.args.core.now in
+    let e = c.in-Ok.ensures in
+    record {
+      sent =
+          sends_next (sent_for_all core) (needs_join core) c.args.needs.now (g.D.Door.sessions c.args.door.now) (g.D.Door.sessions l.door) (g.D.Door.sessions c.send_for.new.door) l.need-index l.invariant.sent x
+          (slice_get-get_or c.args.needs.now l.need-index no_need c.loop-need-test.true)
+          (sends_need core x (g.D.Door.sessions l.door) (g.D.Door.sessions c.send_for.new.door) (Ok tt) e.sent);
+      session = e.open;
+      ends = e.ends ∙ l.invariant.ends;
+      faults = e.cause ∙ l.invariant.faults;
+      accepts = e.accepts ∙ l.invariant.accepts;
+      dials = e.dials ∙ l.invariant.dials;
+    }

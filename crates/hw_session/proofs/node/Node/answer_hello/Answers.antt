@@ -1,0 +1,15 @@
+use Rattle.std.proofs.Common.{◌≡◌, false, sym, ap, ◌∙◌}
+use Rattle.hw_types.specs.declared.unit.Digest.{Digest}
+use Rattle.hw_types.specs.declared.answers.Frame.TheVariants as frame
+use Rattle.hw_types.specs.Graph.{digest_eq}
+use Rattle.hw_session.specs.Serving.{serve_first}
+use Rattle.hw_session.proofs.NextLaws.{other_instance, answer_wants}
+use Rattle.hw_session.proofs.node.Node.answer_hello.Goals as goal
+
+pub returns-else-eq-clause-answers : goal.returns-else-eq-clause-answers
+returns-else-eq-clause-answers g c =
+    let other : digest_eq c.args.instance c.in-Ok.own ≡ false = sym c.eq.ensures ∙ c.if-eq.false in
+    other_instance c.args.self.now c.args.instance (g.D.Door.sessions c.args.door.now) (ap (λ (d : Digest). digest_eq c.args.instance d) (sym c.in-Ok.ensures) ∙ other)
+
+pub returns-in-Err-clause-answers : goal.returns-in-Err-clause-answers
+returns-in-Err-clause-answers g c = answer_wants (serve_first c.args.self.now (frame.Hello c.args.instance)) (g.D.Door.sessions c.args.door.now)

@@ -1,0 +1,51 @@
+use Rattle.std.proofs.Common.{ℕ, refl, subst, arith, ◌∙◌}
+use Rattle.hw_link.specs.declared.end.SessionEnd.TheVariants as end
+use Rattle.hw_session.specs.Sessions.{ServesThere}
+use Rattle.hw_session.proofs.ServingLaws.{serving_begins, next_leads, next_counts, next_serves, limit_serves}
+use Rattle.hw_session.proofs.node.Node.serve.Goals as goal
+
+pub loop-place-init : goal.loop-place-init
+loop-place-init g c = record {
+  serving = serving_begins c.args.self.now g.F.Files.tells (g.F.Files.held c.args.files.now) (g.D.Door.sessions c.args.door.now);
+  within = omega arith;
+  session = c.requires.open;
+  ends = refl;
+  faults = refl;
+  accepts = refl;
+  dials = refl;
+  appends = refl;
+  begun = refl;
+  allowance = refl;
+  reads = refl;
+}
+
+pub loop-place-preserved : goal.loop-place-preserved
+loop-place-preserved g c =
+    let l = c.loop-place in
+    let e = c.in-Ok.ensures in
+    record {
+      serving = next_leads _ _ _ _ _ _ _ _ l.invariant.serving _ _ _ _ _ c.in-Ok.next e.served;
+      within = e.next.1;
+      session = e.open;
+      ends = next_counts _ _ _ _ _ _ _ _ l.invariant.serving _ _ _ _ _ c.in-Ok.next e.served ∙ l.invariant.ends;
+      faults = e.link ∙ l.invariant.faults;
+      accepts = e.accepts ∙ l.invariant.accepts;
+      dials = e.dials ∙ l.invariant.dials;
+      appends = e.appends ∙ l.invariant.appends;
+      begun = e.begun ∙ l.invariant.begun;
+      allowance = e.allowance ∙ l.invariant.allowance;
+      reads = e.reads ∙ l.invariant.reads;
+    }
+
+pub returns-in-Err-clause-served : goal.returns-in-Err-clause-served
+returns-in-Err-clause-served g c =
+    let l = c.loop-place in
+    next_serves _ _ _ _ _ _ _ _ l.invariant.serving _ _ _ _ _ _ c.in-Err.end l.invariant.ends c.in-Err.ensures.served
+
+pub returns-clause-served : goal.returns-clause-served
+returns-clause-served g c =
+    let l = c.loop-place in
+    let d = g.D.Door in
+    let f = g.F.Files in
+    subst (λ (x : ℕ). ServesThere c.args.self.now l.self f.tells (f.held c.args.files.now) (f.held l.files) (d.sessions c.args.door.now) (d.sessions l.door) x (d.ends l.door) end.ByteLimit) l.invariant.ends
+    (limit_serves _ _ _ _ _ _ _ _ l.invariant.serving c.loop-place-test.false (d.ends l.door))

@@ -1,0 +1,16 @@
+use Rattle.std.proofs.Common.{inl}
+use Rattle.hw_session.proofs.ServingLaws.{serves_accepted, serves_nobody, fault_counted, fault_unlogged}
+use Rattle.hw_session.proofs.node.Node.serve_one.Goals as goal
+
+pub returns-in-Ok-clause-served : goal.returns-in-Ok-clause-served
+returns-in-Ok-clause-served g c =
+    inl (serves_accepted _ _ _ _ _ _ _ _ _ _ _ _ _ c.serve-end.result c.in-Ok.ensures.sessions c.in-Ok.ensures.ends c.serve-end.ensures.served c.hang_up.ensures.sessions c.hang_up.ensures.ends)
+
+pub returns-in-Err-clause-served : goal.returns-in-Err-clause-served
+returns-in-Err-clause-served g c = rw c.end_of_fault.ensures (serves_nobody _ _ _ _ _ _ _ c.in-Err.ensures.ends c.in-Err.fault c.in-Err.ensures.sessions)
+
+pub returns-in-Err-clause-link : goal.returns-in-Err-clause-link
+returns-in-Err-clause-link g c = rw c.end_of_fault.ensures (fault_counted _ _ c.in-Err.fault c.in-Err.ensures.cause)
+
+pub returns-in-Err-clause-appends : goal.returns-in-Err-clause-appends
+returns-in-Err-clause-appends g c = rw c.end_of_fault.ensures (fault_unlogged _ c.in-Err.fault)

@@ -1,0 +1,108 @@
+-- What a node did at a frame.
+-- Source: ours.
+use Rattle.std.specs.Prelude.{◌≡◌, ◌⊎◌, ℕ, ◌+◌, ◌≤◌, Bool, true, false, IsTrue, List, [], ◌∷◌, ◌++◌, length, Option, Some, None, Result, Ok, Err, IfOk}
+use Rattle.hw_types.specs.declared.unit.Digest.{Digest}
+use Rattle.hw_types.specs.declared.unit.Vertex.{Vertex}
+use Rattle.hw_types.specs.declared.answers.Frame.{Frame}
+use Rattle.hw_types.specs.declared.answers.Frame.TheVariants as frame
+use Rattle.hw_types.specs.declared.answers.Receipt.{Receipt}
+use Rattle.hw_types.specs.declared.answers.Receipt.TheVariants as receipt
+use Rattle.hw_io.specs.Doors.{Session}
+use Rattle.hw_io.specs.Faults.{Rose}
+use Rattle.hw_io.specs.Files.{SameFiles}
+use Rattle.hw_link.specs.declared.end.SessionEnd.{SessionEnd}
+use Rattle.hw_link.specs.declared.end.SessionEnd.TheVariants as end
+use Rattle.hw_link.specs.declared.read.Heard.{Heard}
+use Rattle.hw_link.specs.Frames.{sent_bytes, byte_limit}
+use Rattle.hw_link.specs.Talk.{Reaction, IsPrefixOf}
+use Rattle.hw_link.specs.Links.{after_part, IsLinkCounted}
+use Rattle.hw_link.specs.UnderWay.{HasFrame}
+use Rattle.hw_link.specs.Heard.{Hears, IsHeard}
+use Rattle.hw_session.specs.Node.{NodeState}
+use Rattle.hw_session.specs.Grows.{Logs, LogsAllBut}
+use Rattle.hw_session.specs.Serving.{serve_step}
+
+-- ---- what it did by a reaction
+
+-- it stands where the reaction says, with its log, and sent this
+pub record Took (n : NodeState) (r : Reaction NodeState) (sent : List ℕ) (failed : Bool) (m : NodeState) (tells : Bool) (held_old held_new : List ℕ → Option (List ℕ)) (old new : Option (List Session)) : Type 0 where
+  pub state : m ≡ r.state
+  pub logs : Logs n m tells held_old held_new
+  pub told : new ≡ after_part [] sent failed old
+
+-- it did nothing
+pub record Stayed (n m : NodeState) (tells : Bool) (held_old held_new : List ℕ → Option (List ℕ)) (old new : Option (List Session)) : Type 0 where
+  pub state : m ≡ n
+  pub files : IsTrue tells → SameFiles held_old held_new
+  pub told : new ≡ old
+
+-- it accepted the frame's vertex, whose entry may be cut, and sent nothing
+pub record WasCut (n : NodeState) (f : Frame) (m : NodeState) (tells : Bool) (held_old held_new : List ℕ → Option (List ℕ)) (old new : Option (List Session)) : Type 0 where
+  pub vertex : Vertex
+  pub frame_is : f ≡ frame.Vertex vertex
+  pub logs : LogsAllBut n n vertex m tells held_old held_new
+  pub told : new ≡ old
+
+-- It did what the reaction says, and sent all of the answer; or a fault of the link or want of memory cut that short.
+abbrev pub Reacts : {T : Type 0} → NodeState → Frame → Reaction NodeState → NodeState → Bool → (List ℕ → Option (List ℕ)) → (List ℕ → Option (List ℕ)) → Option (List Session) → Option (List Session) → Result T SessionEnd → Type 0
+Reacts n f r m tells held_old held_new old new (Ok x) = (r.end ≡ None) × Took n r (sent_bytes r.says) false m tells held_old held_new old new
+Reacts n f r m tells held_old held_new old new (Err end.LinkFault) = (part : List ℕ) × IsPrefixOf part (sent_bytes r.says) × Took n r part true m tells held_old held_new old new
+Reacts n f r m tells held_old held_new old new (Err end.AppendFault) = WasCut n f m tells held_old held_new old new
+Reacts n f r m tells held_old held_new old new (Err end.OutOfMemory) =
+    Stayed n m tells held_old held_new old new
+    ⊎ ((part : List ℕ) × IsPrefixOf part (sent_bytes r.says) × Took n r part false m tells held_old held_new old new)
+    ⊎ WasCut n f m tells held_old held_new old new
+Reacts n f r m tells held_old held_new old new (Err e) = (r.end ≡ Some e) × Took n r (sent_bytes r.says) false m tells held_old held_new old new
+
+-- The same of a reaction that leaves the node as it is: what was sent, and how that ended.
+abbrev pub Answers : {T : Type 0} → Reaction NodeState → Option (List Session) → Option (List Session) → Result T SessionEnd → Type 0
+Answers r old new (Ok x) = (r.end ≡ None) × (new ≡ after_part [] (sent_bytes r.says) false old)
+Answers r old new (Err end.LinkFault) = (part : List ℕ) × IsPrefixOf part (sent_bytes r.says) × (new ≡ after_part [] part true old)
+Answers r old new (Err end.AppendFault) = ⊥
+Answers r old new (Err end.OutOfMemory) = (part : List ℕ) × IsPrefixOf part (sent_bytes r.says) × (new ≡ after_part [] part false old)
+Answers r old new (Err e) = (r.end ≡ Some e) × (new ≡ after_part [] (sent_bytes r.says) false old)
+
+-- the instance of a Hello
+abbrev pub hello_of : Frame → Option Digest
+hello_of (frame.Hello instance) = Some instance
+hello_of f = None
+
+-- a vertex of which more is wanted is the journal's last one
+abbrev pub StandsLast : Receipt → Vertex → List Vertex → Type 0
+StandsLast (receipt.Parked count) v journal = (before : List Vertex) × (journal ≡ before ++ v ∷ [])
+StandsLast r v journal = Unit {0}
+
+-- ---- what it did at a place of the session
+
+-- there was no frame
+pub record Quits {T : Type 0} (n : NodeState) (place : ℕ) (m : NodeState) (tells : Bool) (held_old held_new : List ℕ → Option (List ℕ)) (old new : Option (List Session)) (ends_old ends_new : ℕ) (result : Result T SessionEnd) : Type 0 where
+  pub how : SessionEnd
+  pub is : result ≡ Err how
+  pub state : m ≡ n
+  pub files : IsTrue tells → SameFiles held_old held_new
+  pub heard : Hears {T = Heard} IsHeard place [] old new ends_old ends_new (Err how)
+
+-- there was a frame, and it reacted as a node that serves
+pub record Handles (n : NodeState) (place : ℕ) (m : NodeState) (tells : Bool) (held_old held_new : List ℕ → Option (List ℕ)) (old new : Option (List Session)) (ends_old ends_new : ℕ) (result : Result ℕ SessionEnd) : Type 0 where
+  pub part : List ℕ
+  pub frame : Frame
+  pub has : HasFrame place part frame
+  pub within : place + length part ≤ byte_limit
+  pub ends : ends_new ≡ ends_old
+  pub next : IfOk result (λ next. next ≡ place + length part)
+  pub reacts : Reacts n frame (serve_step n (record { at = place; frame = frame })) m tells held_old held_new (after_part part [] false old) new result
+
+-- ---- causes
+
+-- a failed append raises the append count, and nothing else changes it
+abbrev pub IsLogCounted : {T : Type 0} → ℕ → ℕ → Result T SessionEnd → Type 0
+IsLogCounted before now (Err end.AppendFault) = Rose before now
+IsLogCounted before now _ = now ≡ before
+
+-- the same of a session that ended so
+abbrev pub IsLogEnd : ℕ → ℕ → SessionEnd → Type 0
+IsLogEnd before now e = IsLogCounted {T = Unit {0}} before now (Err e)
+
+-- a failed call of the door raises its count, and nothing else changes it
+abbrev pub IsLinkEnd : ℕ → ℕ → SessionEnd → Type 0
+IsLinkEnd before now e = IsLinkCounted {T = Unit {0}} before now (Err e)

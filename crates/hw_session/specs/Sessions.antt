@@ -1,0 +1,107 @@
+-- What a session in which a node serves comes to, by the bytes that were read in it.
+-- Source: ours.
+use Rattle.std.specs.Prelude.{◌≡◌, ◌⊎◌, ℕ, ◌≤◌, Bool, List, [], ◌∷◌, ◌++◌, length, IsTrue, Option, None, Err}
+use Rattle.std.specs.Option.{option_map}
+use Rattle.hw_types.specs.declared.unit.Vertex.{Vertex}
+use Rattle.hw_types.specs.declared.answers.Frame.{Frame}
+use Rattle.hw_types.specs.declared.answers.Frame.TheVariants as frame
+use Rattle.hw_io.specs.Doors.{Session}
+use Rattle.hw_io.specs.Faults.{raised}
+use Rattle.hw_io.specs.Files.{SameFiles}
+use Rattle.hw_link.specs.declared.end.SessionEnd.{SessionEnd}
+use Rattle.hw_link.specs.declared.end.SessionEnd.TheVariants as end
+use Rattle.hw_link.specs.Frames.{byte_limit}
+use Rattle.hw_link.specs.Talk.{said_bytes, before_last, IsWritten}
+use Rattle.hw_link.specs.Links.{after_part, is_link_fault}
+use Rattle.hw_link.specs.UnderWay.{HasFrame}
+use Rattle.hw_session.specs.Node.{NodeState}
+use Rattle.hw_session.specs.Grows.{Logs, LogsAllBut}
+use Rattle.hw_session.specs.Serving.{served}
+
+-- ---- how it ended
+
+-- the outside failed, or there was no memory
+abbrev pub IsOfOutside : SessionEnd → Type 0
+IsOfOutside end.LinkFault = Unit {0}
+IsOfOutside end.AppendFault = Unit {0}
+IsOfOutside end.OutOfMemory = Unit {0}
+IsOfOutside e = ⊥
+
+-- it ended as the bytes say, or the outside ended it
+abbrev pub EndsAs : SessionEnd → SessionEnd → Type 0
+EndsAs e said = (e ≡ said) ⊎ IsOfOutside e
+
+-- The number of ends rose where the peer's bytes ended. A frame that is refused whatever comes behind it needs no end. As many bytes were
+-- read as may be where that ends the session.
+abbrev pub IsEndOf : NodeState → List ℕ → ℕ → ℕ → SessionEnd → Type 0
+IsEndOf n read before now end.EndOfInput = now ≡ raised before
+IsEndOf n read before now (end.BadFrame at) = (now ≡ raised before) ⊎ ((more : List ℕ) → length (read ++ more) ≤ byte_limit → (served n (read ++ more)).end ≡ end.BadFrame at)
+IsEndOf n read before now end.ByteLimit = byte_limit ≤ length read
+IsEndOf n read before now e = Unit {0}
+
+-- Each frame but the last was answered whole before the next was read.
+abbrev pub IsAnswered : SessionEnd → List (List Frame) → List ℕ → Type 0
+IsAnswered end.OutOfMemory said written = Unit {0}
+IsAnswered e said written = length (said_bytes (before_last said)) ≤ length written
+
+-- ---- what it left
+
+-- it stands where the first of these bytes leave it
+pub record StandsBefore (n : NodeState) (read : List ℕ) (m : NodeState) (tells : Bool) (held_old held_new : List ℕ → Option (List ℕ)) : Type 0 where
+  pub first : List ℕ
+  pub part : List ℕ
+  pub split : read ≡ first ++ part
+  pub state : m ≡ (served n first).state
+  pub logs : Logs n m tells held_old held_new
+
+-- The last frame's vertex was accepted, and its entry may be cut.
+pub record StandsCut (n : NodeState) (read : List ℕ) (m : NodeState) (tells : Bool) (held_old held_new : List ℕ → Option (List ℕ)) : Type 0 where
+  pub first : List ℕ
+  pub part : List ℕ
+  pub vertex : Vertex
+  pub split : read ≡ first ++ part
+  pub has : HasFrame (length first) part (frame.Vertex vertex)
+  pub logs : LogsAllBut n (served n first).state vertex m tells held_old held_new
+
+-- The node stands where the bytes leave it, and so does its log. Where an append failed the last entry may be cut, and where there was
+-- no memory the node may stand before the last bytes.
+abbrev pub Leaves : SessionEnd → NodeState → List ℕ → NodeState → Bool → (List ℕ → Option (List ℕ)) → (List ℕ → Option (List ℕ)) → Type 0
+Leaves end.AppendFault n read m tells held_old held_new = StandsCut n read m tells held_old held_new
+Leaves end.OutOfMemory n read m tells held_old held_new = StandsBefore n read m tells held_old held_new ⊎ StandsCut n read m tells held_old held_new
+Leaves e n read m tells held_old held_new = (m ≡ (served n read).state) × Logs n m tells held_old held_new
+
+-- ---- one session
+
+-- A node served a peer that sent these bytes: how the session ended, what was written, and where the node stands.
+pub record Serves (n : NodeState) (read written : List ℕ) (m : NodeState) (tells : Bool) (held_old held_new : List ℕ → Option (List ℕ)) (ends_old ends_new : ℕ) (e : SessionEnd) : Type 0 where
+  pub within : length read ≤ byte_limit
+  pub ended : EndsAs e (served n read).end
+  pub end_counted : IsEndOf n read ends_old ends_new e
+  pub wrote : IsWritten e (served n read).said written
+  pub answered : IsAnswered e (served n read).said written
+  pub left : Leaves e n read m tells held_old held_new
+
+-- A node served the peer of the session that is there.
+pub record ServesThere (n m : NodeState) (tells : Bool) (held_old held_new : List ℕ → Option (List ℕ)) (old new : Option (List Session)) (ends_old ends_new : ℕ) (e : SessionEnd) : Type 0 where
+  pub read : List ℕ
+  pub written : List ℕ
+  pub serves : Serves n read written m tells held_old held_new ends_old ends_new e
+  pub told : new ≡ after_part read written (is_link_fault {T = Unit {0}} (Err e)) old
+
+-- a session in which these bytes were read and those written; a call failed in it where it ended by that
+abbrev pub session_of : List ℕ → List ℕ → SessionEnd → Session
+session_of read written e = record { address = None; read = read; written = written; failed = is_link_fault {T = Unit {0}} (Err e) }
+
+-- A node served a peer, in a session that the door tells behind the others.
+pub record ServesPeer (n m : NodeState) (tells : Bool) (held_old held_new : List ℕ → Option (List ℕ)) (old new : Option (List Session)) (ends_old ends_new : ℕ) (e : SessionEnd) : Type 0 where
+  pub read : List ℕ
+  pub written : List ℕ
+  pub serves : Serves n read written m tells held_old held_new ends_old ends_new e
+  pub told : new ≡ option_map (λ (sessions : List Session). sessions ++ session_of read written e ∷ []) old
+
+-- there was no memory to take a peer, and nothing was done
+pub record ServesNone (n m : NodeState) (tells : Bool) (held_old held_new : List ℕ → Option (List ℕ)) (old new : Option (List Session)) (e : SessionEnd) : Type 0 where
+  pub ended : e ≡ end.OutOfMemory
+  pub state : m ≡ n
+  pub files : IsTrue tells → SameFiles held_old held_new
+  pub told : new ≡ old

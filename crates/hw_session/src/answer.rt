@@ -1,0 +1,268 @@
+//! What a node sends in answer to a peer's frame.
+
+ghost use Rattle.std.specs.Prelude.{◌≡◌, ◌+◌, ◌<◌, ◌≤◌, ℕ, List, [], ◌∷◌, ◌++◌, true, length, map, take, drop, IfOk};
+ghost use Rattle.std.specs.List.{All, flat_map};
+ghost use Rattle.hw_types.specs.Spelling.{VertexFits};
+ghost use Rattle.hw_types.specs.declared.unit.Vertex.{Vertex};
+ghost use Rattle.hw_types.specs.declared.answers.Frame.TheVariants as frame;
+ghost use Rattle.hw_core.specs.Readers.{missing_needs};
+ghost use Rattle.hw_link.specs.Frames.{framed, sent_bytes};
+ghost use Rattle.hw_link.specs.Links.{IsLinkCounted};
+ghost use Rattle.hw_link.specs.Sent.{Sends};
+ghost use Rattle.hw_needs.specs.Needs.{vertices_of};
+ghost use Rattle.hw_session.specs.Serving.{part_from, answer_to_have, answer_to_want, sent_for, first_missing, wanted_by};
+ghost use Rattle.hw_session.specs.Handling.{StandsLast};
+
+use hw_codec::digest_of;
+use hw_core::Core;
+use hw_io::Door;
+use hw_link::{SessionEnd, send_frame};
+use hw_needs::vertices_of;
+use hw_types::{Digest, Frame, Need, NeedList, OutOfMemory, Receipt, Vertex};
+use std::alloc::Global;
+
+/// How many vertices are sent in answer to one Have.
+const MOST_VERTICES: u64 = 256;
+
+/// How many needs a Want names.
+const MOST_NEEDS: u32 = 256;
+
+/// Answers a Have: sends the journal's vertices from this place on, 256 at most, and then a Have of the
+/// place behind the last one.
+pub fn answer_have<D: Door>(
+    alloc: Global,
+    core: &Core,
+    door: &mut D,
+    place: u64,
+) -> Result<(), SessionEnd>
+    requires open { D.is_open door.old ≡ true }
+    ensures sent { Sends (sent_bytes (answer_to_have core.now.journal place)) (D.sessions door.old) (D.sessions door.new) result }
+    ensures cause { IsLinkCounted (D.faults door.old) (D.faults door.new) result }
+
+    ensures open { D.is_open door.new ≡ true }
+    ensures ends { D.ends door.new ≡ D.ends door.old }
+    ensures accepts { D.accepts door.new ≡ D.accepts door.old }
+    ensures dials { D.dials door.new ≡ D.dials door.old }
+{
+    let next = place + part_length(core.journal_count(), place);
+    match send_part(alloc, core, door, place, next) {
+        Ok(()) => send_frame(alloc, door, &Frame::Have(next)),
+        Err(end) => Err(end),
+    }
+}
+
+/// How many vertices of a journal of this length are sent from this place on.
+#[tactic(auto, using(crate::proofs::SendLaws::part_count))]
+fn part_length(journal: u64, place: u64) -> u64
+    ensures part { (vs : List Vertex) → length vs ≡ journal → result ≡ length (part_from vs place) }
+    ensures within { 0 < result → place + result ≤ journal }
+{
+    journal.saturating_sub(place).min(MOST_VERTICES)
+}
+
+/// Sends the journal's vertices from this place on, up to the next one that isn't sent.
+fn send_part<D: Door>(
+    alloc: Global,
+    core: &Core,
+    door: &mut D,
+    place: u64,
+    next: u64,
+) -> Result<(), SessionEnd>
+    requires part { next ≡ place + length (part_from core.now.journal place) }
+    requires open { D.is_open door.old ≡ true }
+    ensures sent { Sends (sent_bytes (map frame.Vertex (part_from core.now.journal place))) (D.sessions door.old) (D.sessions door.new) result }
+    ensures cause { IsLinkCounted (D.faults door.old) (D.faults door.new) result }
+
+    ensures open { D.is_open door.new ≡ true }
+    ensures ends { D.ends door.new ≡ D.ends door.old }
+    ensures accepts { D.accepts door.new ≡ D.accepts door.old }
+    ensures dials { D.dials door.new ≡ D.dials door.old }
+{
+    for at in place..next {
+        match send_vertex(alloc, door, core.journal_at(at)) {
+            Ok(()) => {}
+            Err(end) => return Err(end),
+        }
+    }
+    Ok(())
+}
+
+/// Answers a Want: sends for each need in order what there is, and then a Have of the journal's length.
+pub fn answer_want<D: Door>(
+    alloc: Global,
+    core: &Core,
+    door: &mut D,
+    needs: &[Need],
+) -> Result<(), SessionEnd>
+    requires open { D.is_open door.old ≡ true }
+    ensures sent { Sends (sent_bytes (answer_to_want core.now needs.now)) (D.sessions door.old) (D.sessions door.new) result }
+    ensures cause { IsLinkCounted (D.faults door.old) (D.faults door.new) result }
+
+    ensures open { D.is_open door.new ≡ true }
+    ensures ends { D.ends door.new ≡ D.ends door.old }
+    ensures accepts { D.accepts door.new ≡ D.accepts door.old }
+    ensures dials { D.dials door.new ≡ D.dials door.old }
+{
+    match send_wanted(alloc, core, door, needs) {
+        Ok(()) => send_frame(alloc, door, &Frame::Have(core.journal_count())),
+        Err(end) => Err(end),
+    }
+}
+
+/// Sends for each need in order what there is.
+fn send_wanted<D: Door>(
+    alloc: Global,
+    core: &Core,
+    door: &mut D,
+    needs: &[Need],
+) -> Result<(), SessionEnd>
+    requires open { D.is_open door.old ≡ true }
+    ensures sent { Sends (sent_bytes (flat_map (λ need. sent_for need (vertices_of core.now need)) needs.now)) (D.sessions door.old) (D.sessions door.new) result }
+    ensures cause { IsLinkCounted (D.faults door.old) (D.faults door.new) result }
+
+    ensures open { D.is_open door.new ≡ true }
+    ensures ends { D.ends door.new ≡ D.ends door.old }
+    ensures accepts { D.accepts door.new ≡ D.accepts door.old }
+    ensures dials { D.dials door.new ≡ D.dials door.old }
+{
+    for need in needs {
+        match send_for(alloc, core, door, need) {
+            Ok(()) => {}
+            Err(end) => return Err(end),
+        }
+    }
+    Ok(())
+}
+
+/// Sends the vertices of a need, or the need as missing where there is none.
+fn send_for<D: Door>(
+    alloc: Global,
+    core: &Core,
+    door: &mut D,
+    need: &Need,
+) -> Result<(), SessionEnd>
+    requires open { D.is_open door.old ≡ true }
+    ensures sent { Sends (sent_bytes (sent_for need.now (vertices_of core.now need.now))) (D.sessions door.old) (D.sessions door.new) result }
+    ensures cause { IsLinkCounted (D.faults door.old) (D.faults door.new) result }
+
+    ensures open { D.is_open door.new ≡ true }
+    ensures ends { D.ends door.new ≡ D.ends door.old }
+    ensures accepts { D.accepts door.new ≡ D.accepts door.old }
+    ensures dials { D.dials door.new ≡ D.dials door.old }
+{
+    match vertices_of(alloc, core, need) {
+        Ok(vertices) => send_found(alloc, door, need, vertices.as_slice()),
+        Err(OutOfMemory) => Err(SessionEnd::OutOfMemory),
+    }
+}
+
+/// Sends these vertices of a need, or the need as missing where there is none.
+fn send_found<D: Door>(
+    alloc: Global,
+    door: &mut D,
+    need: &Need,
+    vertices: &[Vertex],
+) -> Result<(), SessionEnd>
+    requires fit { All VertexFits vertices.now }
+    requires open { D.is_open door.old ≡ true }
+    ensures sent { Sends (sent_bytes (sent_for need.now vertices.now)) (D.sessions door.old) (D.sessions door.new) result }
+    ensures cause { IsLinkCounted (D.faults door.old) (D.faults door.new) result }
+
+    ensures open { D.is_open door.new ≡ true }
+    ensures ends { D.ends door.new ≡ D.ends door.old }
+    ensures accepts { D.accepts door.new ≡ D.accepts door.old }
+    ensures dials { D.dials door.new ≡ D.dials door.old }
+{
+    if vertices.is_empty() {
+        send_frame(alloc, door, &Frame::Missing(*need))
+    } else {
+        send_vertices(alloc, door, vertices)
+    }
+}
+
+/// Sends vertices, one after the other.
+fn send_vertices<D: Door>(
+    alloc: Global,
+    door: &mut D,
+    vertices: &[Vertex],
+) -> Result<(), SessionEnd>
+    requires fit { All VertexFits vertices.now }
+    requires open { D.is_open door.old ≡ true }
+    ensures sent { Sends (sent_bytes (map frame.Vertex vertices.now)) (D.sessions door.old) (D.sessions door.new) result }
+    ensures cause { IsLinkCounted (D.faults door.old) (D.faults door.new) result }
+
+    ensures open { D.is_open door.new ≡ true }
+    ensures ends { D.ends door.new ≡ D.ends door.old }
+    ensures accepts { D.accepts door.new ≡ D.accepts door.old }
+    ensures dials { D.dials door.new ≡ D.dials door.old }
+{
+    for vertex in vertices {
+        match send_vertex(alloc, door, vertex) {
+            Ok(()) => {}
+            Err(end) => return Err(end),
+        }
+    }
+    Ok(())
+}
+
+/// Sends a vertex.
+pub fn send_vertex<D: Door>(alloc: Global, door: &mut D, vertex: &Vertex) -> Result<(), SessionEnd>
+    requires fits { VertexFits vertex.now }
+    requires open { D.is_open door.old ≡ true }
+    ensures sent { Sends (framed (frame.Vertex vertex.now)) (D.sessions door.old) (D.sessions door.new) result }
+    ensures cause { IsLinkCounted (D.faults door.old) (D.faults door.new) result }
+
+    ensures open { D.is_open door.new ≡ true }
+    ensures ends { D.ends door.new ≡ D.ends door.old }
+    ensures accepts { D.accepts door.new ≡ D.accepts door.old }
+    ensures dials { D.dials door.new ≡ D.dials door.old }
+{
+    match vertex.copy() {
+        Ok(copy) => send_frame(alloc, door, &Frame::Vertex(copy)),
+        Err(OutOfMemory) => Err(SessionEnd::OutOfMemory),
+    }
+}
+
+/// What is wanted of a peer whose vertex had this receipt: where it is parked, which is then the journal's
+/// last one, the first 256 needs that it misses.
+pub fn wanted(alloc: Global, core: &Core, receipt: Receipt) -> Result<NeedList, OutOfMemory>
+    ensures wanted { IfOk result (λ needs. (v : Vertex) → StandsLast receipt v core.now.journal → needs ≡ wanted_by core.now receipt v) }
+    ensures few { IfOk result (λ needs. length needs ≤ 256) }
+{
+    match receipt {
+        Receipt::Parked { .. } => wanted_for_last(alloc, core),
+        Receipt::Admitted { .. } | Receipt::Dropped(_) | Receipt::Repeat => {
+            Ok(NeedList::new(alloc))
+        }
+    }
+}
+
+/// The first 256 needs that the last vertex of the journal misses, if it is a unit.
+fn wanted_for_last(alloc: Global, core: &Core) -> Result<NeedList, OutOfMemory>
+    ensures wanted { IfOk result (λ needs. (v : Vertex) (before : List Vertex) → core.now.journal ≡ before ++ v ∷ [] → needs ≡ first_missing core.now v) }
+    ensures few { IfOk result (λ needs. length needs ≤ 256) }
+{
+    let count = core.journal_count();
+    if count == 0 {
+        return Ok(NeedList::new(alloc));
+    }
+    match core.journal_at(count - 1) {
+        Vertex::Unit(signed) => first_missing(alloc, core, &digest_of(alloc, &signed.unit)?),
+        Vertex::Evidence(_) | Vertex::Endorsement(_) => Ok(NeedList::new(alloc)),
+    }
+}
+
+/// The first 256 needs that the journal's unit of this digest misses.
+fn first_missing(alloc: Global, core: &Core, unit: &Digest) -> Result<NeedList, OutOfMemory>
+    ensures first { IfOk result (λ needs. needs ≡ take 256 (missing_needs core.now unit.now)) }
+    ensures few { IfOk result (λ needs. length needs ≤ 256) }
+{
+    let mut needs = NeedList::new(alloc);
+    for place in 0..MOST_NEEDS {
+        match core.missing(unit, place) {
+            Some(need) => needs.push(need)?,
+            None => return Ok(needs),
+        }
+    }
+    Ok(needs)
+}

@@ -1,0 +1,340 @@
+//! Serving a peer.
+
+ghost use Rattle.std.specs.Prelude.{◌≡◌, ◌⊎◌, ◌<◌, ◌≤◌, true, false, Err, IfOk};
+ghost use Rattle.hw_types.specs.Spelling.{FrameFits, VertexFits, instance_of};
+ghost use Rattle.hw_types.specs.declared.unit.Vertex.{Vertex};
+ghost use Rattle.hw_types.specs.declared.answers.Frame.TheVariants as frame;
+ghost use Rattle.hw_io.specs.Faults.{raised};
+ghost use Rattle.hw_link.specs.Frames.{framed};
+ghost use Rattle.hw_link.specs.Links.{IsLinkCounted, end_of_fault};
+ghost use Rattle.hw_link.specs.Sent.{Sends};
+ghost use Rattle.hw_session.specs.Serving.{answer_to_vertex, is_clash, serve_first, serve_frame, serve_vertex, serve_step, wanted_by};
+ghost use Rattle.hw_session.specs.Handling.{Reacts, Answers, hello_of, StandsLast, Quits, Handles, IsLogCounted, IsLogEnd, IsLinkEnd};
+ghost use Rattle.hw_session.specs.Sessions.{ServesThere, ServesPeer, ServesNone};
+
+use crate::answer::{answer_have, answer_want, wanted};
+use crate::fault::AcceptFault;
+use crate::node::Node;
+use hw_codec::instance_of;
+use hw_io::{Door, Files, IoFault};
+use hw_link::{BYTE_LIMIT, SessionEnd, read_frame, send_frame};
+use hw_types::{Cause, Digest, Frame, NeedList, OutOfMemory, Receipt, Vertex};
+
+impl Node {
+    /// Takes a peer and answers its frames, each before the next is read, up to the end of the session. Then
+    /// it hangs up.
+    ///
+    /// The peer begins with a Hello, which is answered with one where it is of the own instance. A vertex is
+    /// delivered with its verdict, an accepted one goes last in the log, and then it is answered with a Want
+    /// of the first 256 needs that it misses. A Have of a place is answered with the journal's vertices from
+    /// there on, 256 at most, and a Have of the place behind them; a Want with what there is of each need
+    /// and a Have of the journal's length; a Missing with nothing; and Done with Done, which ends the session.
+    ///
+    /// Another frame than is due, one that spells nothing and one that is cut end it as `BadFrame` with the
+    /// place of the frame's first byte; the peer's end behind a frame as `EndOfInput`; and 268,435,456 bytes
+    /// as `ByteLimit`, once the frame that ends with them was answered. After `AppendFault` and `Clash` that
+    /// frame has no answer. A failed call of the door is `LinkFault`.
+    pub fn serve_one<D: Door, F: Files>(&mut self, door: &mut D, files: &mut F) -> SessionEnd
+        ensures served { ServesPeer self.old self.new F.tells (F.held files.old) (F.held files.new) (D.sessions door.old) (D.sessions door.new) (D.ends door.old) (D.ends door.new) result
+            ⊎ ServesNone self.old self.new F.tells (F.held files.old) (F.held files.new) (D.sessions door.old) (D.sessions door.new) result }
+        ensures link { IsLinkEnd (D.faults door.old) (D.faults door.new) result }
+        ensures appends { IsLogEnd (F.append_faults files.old) (F.append_faults files.new) result }
+
+        ensures closed { D.is_open door.new ≡ false }
+        ensures accepts { D.accepts door.new ≡ raised (D.accepts door.old) }
+        ensures dials { D.dials door.new ≡ D.dials door.old }
+        ensures begun { F.begun files.new ≡ F.begun files.old }
+        ensures allowance { F.allowance files.new ≡ F.allowance files.old }
+        ensures reads { F.read_faults files.new ≡ F.read_faults files.old }
+    {
+        match door.accept() {
+            Ok(()) => {
+                let end = self.serve(door, files);
+                door.hang_up();
+                end
+            }
+            Err(fault) => end_of_fault(fault),
+        }
+    }
+
+    /// Answers the frames of the peer that is there, up to the end of the session.
+    fn serve<D: Door, F: Files>(&mut self, door: &mut D, files: &mut F) -> SessionEnd
+        requires open { D.is_open door.old ≡ true }
+        ensures served { ServesThere self.old self.new F.tells (F.held files.old) (F.held files.new) (D.sessions door.old) (D.sessions door.new) (D.ends door.old) (D.ends door.new) result }
+        ensures link { IsLinkEnd (D.faults door.old) (D.faults door.new) result }
+        ensures appends { IsLogEnd (F.append_faults files.old) (F.append_faults files.new) result }
+
+        ensures accepts { D.accepts door.new ≡ D.accepts door.old }
+        ensures dials { D.dials door.new ≡ D.dials door.old }
+        ensures begun { F.begun files.new ≡ F.begun files.old }
+        ensures allowance { F.allowance files.new ≡ F.allowance files.old }
+        ensures reads { F.read_faults files.new ≡ F.read_faults files.old }
+    {
+        let mut place = 0;
+        while place < BYTE_LIMIT {
+            match self.serve_next(door, files, place) {
+                Ok(next) => place = next,
+                Err(end) => return end,
+            }
+        }
+        SessionEnd::ByteLimit
+    }
+
+    /// Reads the frame that begins at this place of the session and answers it. The place behind it, or how
+    /// the session ends.
+    fn serve_next<D: Door, F: Files>(
+        &mut self,
+        door: &mut D,
+        files: &mut F,
+        place: u64,
+    ) -> Result<u64, SessionEnd>
+        requires place { place ≤ BYTE_LIMIT }
+        requires open { D.is_open door.old ≡ true }
+        ensures served { Quits self.old place self.new F.tells (F.held files.old) (F.held files.new) (D.sessions door.old) (D.sessions door.new) (D.ends door.old) (D.ends door.new) result
+            ⊎ Handles self.old place self.new F.tells (F.held files.old) (F.held files.new) (D.sessions door.old) (D.sessions door.new) (D.ends door.old) (D.ends door.new) result }
+        ensures next { IfOk result (λ next. (place < next) × (next ≤ BYTE_LIMIT)) }
+        ensures link { IsLinkCounted (D.faults door.old) (D.faults door.new) result }
+        ensures appends { IsLogCounted (F.append_faults files.old) (F.append_faults files.new) result }
+
+        ensures open { D.is_open door.new ≡ true }
+        ensures accepts { D.accepts door.new ≡ D.accepts door.old }
+        ensures dials { D.dials door.new ≡ D.dials door.old }
+        ensures begun { F.begun files.new ≡ F.begun files.old }
+        ensures allowance { F.allowance files.new ≡ F.allowance files.old }
+        ensures reads { F.read_faults files.new ≡ F.read_faults files.old }
+    {
+        match read_frame(self.alloc, door, place) {
+            Ok(heard) => match self.answer(door, files, place, heard.frame) {
+                Ok(()) => Ok(heard.next),
+                Err(end) => Err(end),
+            },
+            Err(end) => Err(end),
+        }
+    }
+
+    /// Answers the frame that begins at this place of the session.
+    fn answer<D: Door, F: Files>(
+        &mut self,
+        door: &mut D,
+        files: &mut F,
+        place: u64,
+        frame: Frame,
+    ) -> Result<(), SessionEnd>
+        requires fits { FrameFits frame }
+        requires open { D.is_open door.old ≡ true }
+        ensures reacts { Reacts self.old frame (serve_step self.old (record { at = place; frame = frame })) self.new F.tells (F.held files.old) (F.held files.new) (D.sessions door.old) (D.sessions door.new) result }
+        ensures link { IsLinkCounted (D.faults door.old) (D.faults door.new) result }
+        ensures appends { IsLogCounted (F.append_faults files.old) (F.append_faults files.new) result }
+
+        ensures open { D.is_open door.new ≡ true }
+        ensures ends { D.ends door.new ≡ D.ends door.old }
+        ensures accepts { D.accepts door.new ≡ D.accepts door.old }
+        ensures dials { D.dials door.new ≡ D.dials door.old }
+        ensures begun { F.begun files.new ≡ F.begun files.old }
+        ensures allowance { F.allowance files.new ≡ F.allowance files.old }
+        ensures reads { F.read_faults files.new ≡ F.read_faults files.old }
+    {
+        if place == 0 {
+            self.answer_first(door, &frame)
+        } else {
+            self.answer_later(door, files, place, frame)
+        }
+    }
+
+    /// Answers the first frame, which is a Hello of the own instance.
+    fn answer_first<D: Door>(&self, door: &mut D, frame: &Frame) -> Result<(), SessionEnd>
+        requires open { D.is_open door.old ≡ true }
+        ensures answers { Answers (serve_first self.now frame.now) (D.sessions door.old) (D.sessions door.new) result }
+        ensures link { IsLinkCounted (D.faults door.old) (D.faults door.new) result }
+
+        ensures open { D.is_open door.new ≡ true }
+        ensures ends { D.ends door.new ≡ D.ends door.old }
+        ensures accepts { D.accepts door.new ≡ D.accepts door.old }
+        ensures dials { D.dials door.new ≡ D.dials door.old }
+    {
+        match hello_of(frame) {
+            Some(instance) => self.answer_hello(door, instance),
+            None => Err(SessionEnd::BadFrame(0)),
+        }
+    }
+
+    /// Answers a Hello with one, if it is of the own instance.
+    fn answer_hello<D: Door>(&self, door: &mut D, instance: Digest) -> Result<(), SessionEnd>
+        requires open { D.is_open door.old ≡ true }
+        ensures answers { Answers (serve_first self.now (frame.Hello instance)) (D.sessions door.old) (D.sessions door.new) result }
+        ensures link { IsLinkCounted (D.faults door.old) (D.faults door.new) result }
+
+        ensures open { D.is_open door.new ≡ true }
+        ensures ends { D.ends door.new ≡ D.ends door.old }
+        ensures accepts { D.accepts door.new ≡ D.accepts door.old }
+        ensures dials { D.dials door.new ≡ D.dials door.old }
+    {
+        match self.instance() {
+            Ok(own) => {
+                if instance == own {
+                    send_frame(self.alloc, door, &Frame::Hello(own))
+                } else {
+                    Err(SessionEnd::WrongInstance)
+                }
+            }
+            Err(OutOfMemory) => Err(SessionEnd::OutOfMemory),
+        }
+    }
+
+    /// The digest of its configuration.
+    pub(crate) fn instance(&self) -> Result<Digest, OutOfMemory>
+        ensures { IfOk result (λ instance. instance ≡ instance_of self.now.core.config) }
+    {
+        instance_of(self.alloc, self.core.state().config())
+    }
+
+    /// Answers a frame behind the first one.
+    fn answer_later<D: Door, F: Files>(
+        &mut self,
+        door: &mut D,
+        files: &mut F,
+        place: u64,
+        frame: Frame,
+    ) -> Result<(), SessionEnd>
+        requires fits { FrameFits frame }
+        requires open { D.is_open door.old ≡ true }
+        ensures reacts { Reacts self.old frame (serve_frame self.old place frame) self.new F.tells (F.held files.old) (F.held files.new) (D.sessions door.old) (D.sessions door.new) result }
+        ensures link { IsLinkCounted (D.faults door.old) (D.faults door.new) result }
+        ensures appends { IsLogCounted (F.append_faults files.old) (F.append_faults files.new) result }
+
+        ensures open { D.is_open door.new ≡ true }
+        ensures ends { D.ends door.new ≡ D.ends door.old }
+        ensures accepts { D.accepts door.new ≡ D.accepts door.old }
+        ensures dials { D.dials door.new ≡ D.dials door.old }
+        ensures begun { F.begun files.new ≡ F.begun files.old }
+        ensures allowance { F.allowance files.new ≡ F.allowance files.old }
+        ensures reads { F.read_faults files.new ≡ F.read_faults files.old }
+    {
+        match frame {
+            Frame::Vertex(vertex) => self.answer_vertex(door, files, vertex),
+            Frame::Hello(_instance) => Err(SessionEnd::BadFrame(place)),
+            Frame::Have(from) => answer_have(self.alloc, &self.core, door, from),
+            Frame::Want(needs) => answer_want(self.alloc, &self.core, door, needs.as_slice()),
+            Frame::Missing(_need) => Ok(()),
+            Frame::Done => self.answer_done(door),
+        }
+    }
+
+    /// Answers Done with Done, which ends the session.
+    fn answer_done<D: Door>(&self, door: &mut D) -> Result<(), SessionEnd>
+        requires open { D.is_open door.old ≡ true }
+        ensures answers { Answers (serve_frame self.now 1 frame.Done) (D.sessions door.old) (D.sessions door.new) result }
+        ensures link { IsLinkCounted (D.faults door.old) (D.faults door.new) result }
+
+        ensures open { D.is_open door.new ≡ true }
+        ensures ends { D.ends door.new ≡ D.ends door.old }
+        ensures accepts { D.accepts door.new ≡ D.accepts door.old }
+        ensures dials { D.dials door.new ≡ D.dials door.old }
+    {
+        match send_frame(self.alloc, door, &Frame::Done) {
+            Ok(()) => Err(SessionEnd::Done),
+            Err(end) => Err(end),
+        }
+    }
+
+    /// Takes a vertex, and answers it with a Want. A clash ends the session without an answer.
+    fn answer_vertex<D: Door, F: Files>(
+        &mut self,
+        door: &mut D,
+        files: &mut F,
+        vertex: Vertex,
+    ) -> Result<(), SessionEnd>
+        requires fits { VertexFits vertex }
+        requires open { D.is_open door.old ≡ true }
+        ensures reacts { Reacts self.old (frame.Vertex vertex) (serve_vertex self.old vertex) self.new F.tells (F.held files.old) (F.held files.new) (D.sessions door.old) (D.sessions door.new) result }
+        ensures link { IsLinkCounted (D.faults door.old) (D.faults door.new) result }
+        ensures appends { IsLogCounted (F.append_faults files.old) (F.append_faults files.new) result }
+
+        ensures open { D.is_open door.new ≡ true }
+        ensures ends { D.ends door.new ≡ D.ends door.old }
+        ensures accepts { D.accepts door.new ≡ D.accepts door.old }
+        ensures dials { D.dials door.new ≡ D.dials door.old }
+        ensures begun { F.begun files.new ≡ F.begun files.old }
+        ensures allowance { F.allowance files.new ≡ F.allowance files.old }
+        ensures reads { F.read_faults files.new ≡ F.read_faults files.old }
+    {
+        match self.accept(files, vertex) {
+            Ok(receipt) => self.answer_receipt(door, receipt),
+            Err(AcceptFault::Refused(cause)) => self.answer_refusal(door, &cause),
+            Err(AcceptFault::AppendFault) => Err(SessionEnd::AppendFault),
+            Err(AcceptFault::OutOfMemory) => Err(SessionEnd::OutOfMemory),
+        }
+    }
+
+    /// Answers a vertex that was refused by this cause with a Want of nothing, unless it clashed.
+    fn answer_refusal<D: Door>(&self, door: &mut D, cause: &Cause) -> Result<(), SessionEnd>
+        requires open { D.is_open door.old ≡ true }
+        ensures answers { (v : Vertex) → Answers (answer_to_vertex self.now v (Err cause.now)) (D.sessions door.old) (D.sessions door.new) result }
+        ensures link { IsLinkCounted (D.faults door.old) (D.faults door.new) result }
+
+        ensures open { D.is_open door.new ≡ true }
+        ensures ends { D.ends door.new ≡ D.ends door.old }
+        ensures accepts { D.accepts door.new ≡ D.accepts door.old }
+        ensures dials { D.dials door.new ≡ D.dials door.old }
+    {
+        if is_clash(cause) {
+            Err(SessionEnd::Clash)
+        } else {
+            let none = NeedList::new(self.alloc);
+            send_frame(self.alloc, door, &Frame::Want(none))
+        }
+    }
+
+    /// Answers a vertex that had this receipt with a Want of what it misses.
+    fn answer_receipt<D: Door>(&self, door: &mut D, receipt: Receipt) -> Result<(), SessionEnd>
+        requires open { D.is_open door.old ≡ true }
+        ensures sent { (v : Vertex) → StandsLast receipt v self.now.core.journal → Sends (framed (frame.Want (wanted_by self.now.core receipt v))) (D.sessions door.old) (D.sessions door.new) result }
+        ensures link { IsLinkCounted (D.faults door.old) (D.faults door.new) result }
+
+        ensures open { D.is_open door.new ≡ true }
+        ensures ends { D.ends door.new ≡ D.ends door.old }
+        ensures accepts { D.accepts door.new ≡ D.accepts door.old }
+        ensures dials { D.dials door.new ≡ D.dials door.old }
+    {
+        match wanted(self.alloc, &self.core, receipt) {
+            Ok(needs) => send_frame(self.alloc, door, &Frame::Want(needs)),
+            Err(OutOfMemory) => Err(SessionEnd::OutOfMemory),
+        }
+    }
+}
+
+/// The instance of a Hello, None of another frame.
+pub(crate) fn hello_of(frame: &Frame) -> Option<Digest>
+    ensures { result ≡ hello_of frame.now }
+{
+    match frame {
+        Frame::Hello(instance) => Some(*instance),
+        Frame::Vertex(_) | Frame::Have(_) | Frame::Want(_) | Frame::Done | Frame::Missing(_) =>
+            None,
+    }
+}
+
+/// Whether two different units have one digest.
+pub(crate) fn is_clash(cause: &Cause) -> bool
+    ensures { result ≡ is_clash cause.now }
+{
+    match cause {
+        Cause::Clash { .. } => true,
+        Cause::BadSignature
+        | Cause::Local(_)
+        | Cause::Pair(_)
+        | Cause::RecordsFull
+        | Cause::ParkFull
+        | Cause::OutOfMemory => false,
+    }
+}
+
+/// How a session ends by this fault of the door.
+pub(crate) fn end_of_fault(fault: IoFault) -> SessionEnd
+    ensures { result ≡ end_of_fault fault }
+{
+    match fault {
+        IoFault::Failed => SessionEnd::LinkFault,
+        IoFault::OutOfMemory => SessionEnd::OutOfMemory,
+    }
+}
