@@ -10,3 +10,5 @@ pub mod ServingLaws
 pub mod ReactLaws
 pub mod NextLaws
 pub mod SendLaws
+pub mod DrivingLaws
+pub mod DriveLaws

@@ -26,7 +26,7 @@ use Rattle.hw_session.proofs.ReactLaws.{one_sent, none_sent, sends_answers, send
 -- ---- a frame that was read, and then answered
 
 -- an end is the same whatever the value would be
-reacts_alike : (A B : Type 0) (n : NodeState) (f : Frame) (r : Reaction NodeState) (m : NodeState) (tells : Bool) (held_old held_new : List ℕ → Option (List ℕ)) (old new : Option (List Session)) (e : SessionEnd)
+pub reacts_alike : (A B : Type 0) (n : NodeState) (f : Frame) (r : Reaction NodeState) (m : NodeState) (tells : Bool) (held_old held_new : List ℕ → Option (List ℕ)) (old new : Option (List Session)) (e : SessionEnd)
     → Reacts {T = A} n f r m tells held_old held_new old new (Err e) → Reacts {T = B} n f r m tells held_old held_new old new (Err e)
 reacts_alike A B n f r m tells held_old held_new old new end.Done x = x
 reacts_alike A B n f r m tells held_old held_new old new end.EndOfInput x = x

@@ -41,12 +41,12 @@ use Rattle.hw_session.proofs.GrowsLaws.{logs_nothing, logs_then, logs_but}
 
 -- ---- what was said
 
-before_last_one : (said : List (List Frame)) (x : List Frame) → before_last (said ++ x ∷ []) ≡ said
+pub before_last_one : (said : List (List Frame)) (x : List Frame) → before_last (said ++ x ∷ []) ≡ said
 before_last_one said x =
     let n : length (said ++ x ∷ []) - 1 ≡ length said = omega (arith, length-append said (x ∷ [])) in
     ap (λ (k : ℕ). take k (said ++ x ∷ [])) n ∙ take-append-le (length said) said (x ∷ []) (omega arith) ∙ take_all (length said) said (omega arith)
 
-said_more : (said : List (List Frame)) (x : List Frame) → said_bytes (said ++ x ∷ []) ≡ said_bytes said ++ sent_bytes x
+pub said_more : (said : List (List Frame)) (x : List Frame) → said_bytes (said ++ x ∷ []) ≡ said_bytes said ++ sent_bytes x
 said_more said x = flat_map-append sent_bytes said (x ∷ []) ∙ ap (λ (b : List ℕ). said_bytes said ++ b) (append-nil (sent_bytes x))
 
 fewer_said : (k : ℕ) (said : List (List Frame)) → length (said_bytes (take k said)) ≤ length (said_bytes said)
@@ -59,7 +59,7 @@ fewer_said (suc k) (x ∷ said) =
     let some : length (sent_bytes x ++ said_bytes (take k said)) ≡ length (sent_bytes x) + length (said_bytes (take k said)) = length-append (sent_bytes x) (said_bytes (take k said)) in
     omega arith
 
-before_less : (said : List (List Frame)) → length (said_bytes (before_last said)) ≤ length (said_bytes said)
+pub before_less : (said : List (List Frame)) → length (said_bytes (before_last said)) ≤ length (said_bytes said)
 before_less said = fewer_said (length said - 1) said
 
 -- ---- how far a session came
@@ -131,17 +131,17 @@ module _ (n m : NodeState) (read : List ℕ) (said : List (List Frame)) (heard :
 
 -- ---- the door
 
-told_read : (read part written : List ℕ) (failed : Bool) (old now new : Option (List Session)) → now ≡ after_part read written false old → new ≡ after_part part [] failed now → new ≡ after_part (read ++ part) written failed old
+pub told_read : (read part written : List ℕ) (failed : Bool) (old now new : Option (List Session)) → now ≡ after_part read written false old → new ≡ after_part part [] failed now → new ≡ after_part (read ++ part) written failed old
 told_read read part written failed old now new first then =
     then ∙ ap (after_part part [] failed) first ∙ after_parts read part written [] failed old ∙ ap (λ (w : List ℕ). after_part (read ++ part) w failed old) (append-nil written)
 
-told_then : (read part written sent : List ℕ) (failed : Bool) (old now new : Option (List Session)) → now ≡ after_part read written false old → new ≡ after_part [] sent failed (after_part part [] false now)
+pub told_then : (read part written sent : List ℕ) (failed : Bool) (old now new : Option (List Session)) → now ≡ after_part read written false old → new ≡ after_part [] sent failed (after_part part [] false now)
     → new ≡ after_part (read ++ part) (written ++ sent) failed old
 told_then read part written sent failed old now new first then =
     then ∙ ap (after_part [] sent failed) (told_read read part written false old now (after_part part [] false now) first refl)
     ∙ after_parts (read ++ part) [] written sent failed old ∙ ap (λ (b : List ℕ). after_part b (written ++ sent) failed old) (append-nil (read ++ part))
 
-fault_alike : (A B : Type 0) (e : SessionEnd) → is_link_fault {T = A} (Err e) ≡ is_link_fault {T = B} (Err e)
+pub fault_alike : (A B : Type 0) (e : SessionEnd) → is_link_fault {T = A} (Err e) ≡ is_link_fault {T = B} (Err e)
 fault_alike A B end.Done = refl
 fault_alike A B end.EndOfInput = refl
 fault_alike A B end.WrongInstance = refl
@@ -155,14 +155,14 @@ fault_alike A B end.OutOfMemory = refl
 -- ---- how a frame ends a session
 
 -- a frame that is served ends a session so, or not at all
-abbrev IsOfFrame : SessionEnd → Type 0
+abbrev pub IsOfFrame : SessionEnd → Type 0
 IsOfFrame end.Done = Unit {0}
 IsOfFrame end.WrongInstance = Unit {0}
 IsOfFrame (end.BadFrame at) = Unit {0}
 IsOfFrame end.Clash = Unit {0}
 IsOfFrame e = ⊥
 
-some_of : (x e : SessionEnd) → IsOfFrame x → Some x ≡ Some e → IsOfFrame e
+pub some_of : (x e : SessionEnd) → IsOfFrame x → Some x ≡ Some e → IsOfFrame e
 some_of x e of is = let same : x ≡ e = cc in subst IsOfFrame same of
 
 first_ends : (m : NodeState) (f : Frame) (e : SessionEnd) → (serve_first m f).end ≡ Some e → IsOfFrame e
@@ -204,14 +204,14 @@ step_ends m f e is = go (f.at == 0) is
 -- ---- how a session ends where there is no frame
 
 -- it ends so by what is there
-abbrev IsOfBytes : Rest → SessionEnd → Type 0
+abbrev pub IsOfBytes : Rest → SessionEnd → Type 0
 IsOfBytes r end.EndOfInput = Unit {0}
 IsOfBytes r (end.BadFrame at) = Unit {0}
 IsOfBytes r end.ByteLimit = byte_limit ≤ r.place + length r.bytes
 IsOfBytes r e = ⊥
 
 -- if it ends, it ends so
-abbrev EndsSo : {A : Type 0} → Rest → Result A SessionEnd → Type 0
+abbrev pub EndsSo : {A : Type 0} → Rest → Result A SessionEnd → Type 0
 EndsSo r (Ok x) = Unit {0}
 EndsSo r (Err e) = IsOfBytes r e
 
@@ -253,12 +253,12 @@ here_so r =
     then_so r (front_of (4 + n) r) _ (front_so (4 + n) r) (λ whole.
     then_so r (decoded r (frame_of (drop 4 whole))) _ (decoded_so r (frame_of (drop 4 whole))) (λ f. tt))))
 
-no_frame_so : (place : ℕ) (part : List ℕ) (e : SessionEnd) → EndsIn place part e → IsOfBytes (rest_at place part) e
+pub no_frame_so : (place : ℕ) (part : List ℕ) (e : SessionEnd) → EndsIn place part e → IsOfBytes (rest_at place part) e
 no_frame_so place part e ends = subst (λ (x : Result (Placed × Rest) SessionEnd). EndsSo (rest_at place part) x) ends (here_so (rest_at place part))
 
 -- ---- prefixes
 
-prefix_of_more : (bytes : List ℕ) (said more : List (List Frame)) → IsPrefixOf bytes (said_bytes said) → IsPrefixOf bytes (said_bytes (said ++ more))
+pub prefix_of_more : (bytes : List ℕ) (said more : List (List Frame)) → IsPrefixOf bytes (said_bytes said) → IsPrefixOf bytes (said_bytes (said ++ more))
 prefix_of_more bytes said more (k, is) =
     let joined : said_bytes (said ++ more) ≡ said_bytes said ++ said_bytes more = flat_map-append sent_bytes said more in
     elim (cases_lt k (length (said_bytes said))) [
@@ -267,20 +267,20 @@ prefix_of_more bytes said more (k, is) =
     ]
 
 -- a first part of the last answer, behind all others
-prefix_of_last : (said : List (List Frame)) (says : List Frame) (part : List ℕ) → IsPrefixOf part (sent_bytes says) → IsPrefixOf (said_bytes said ++ part) (said_bytes (said ++ says ∷ []))
+pub prefix_of_last : (said : List (List Frame)) (says : List Frame) (part : List ℕ) → IsPrefixOf part (sent_bytes says) → IsPrefixOf (said_bytes said ++ part) (said_bytes (said ++ says ∷ []))
 prefix_of_last said says part (k, is) =
     (length (said_bytes said) + k, ap (λ (p : List ℕ). said_bytes said ++ p) is ∙ sym (take-append-add (said_bytes said) (sent_bytes says) k) ∙ ap (take (length (said_bytes said) + k)) (sym (said_more said says)))
 
 -- ---- what a session comes to
 
 -- the outside didn't cut it short
-abbrev IsPlain : SessionEnd → Type 0
+abbrev pub IsPlain : SessionEnd → Type 0
 IsPlain end.AppendFault = ⊥
 IsPlain end.OutOfMemory = ⊥
 IsPlain e = Unit {0}
 
 -- all was written that was said
-all_written : (e : SessionEnd) (said : List (List Frame)) (written : List ℕ) → IsPlain e → written ≡ said_bytes said → IsWritten e said written
+pub all_written : (e : SessionEnd) (said : List (List Frame)) (written : List ℕ) → IsPlain e → written ≡ said_bytes said → IsWritten e said written
 all_written end.Done said written plain is = is
 all_written end.EndOfInput said written plain is = is
 all_written end.WrongInstance said written plain is = is
@@ -292,7 +292,7 @@ all_written end.OutOfMemory said written plain is = absurd plain
 all_written end.ByteLimit said written plain is =
     ((length (said_bytes said), is ∙ sym (take_all (length (said_bytes said)) (said_bytes said) (omega arith))), subst (λ (w : List ℕ). length (said_bytes (before_last said)) ≤ length w) (sym is) (before_less said))
 
-is_answered : (e : SessionEnd) (said : List (List Frame)) (written : List ℕ) → length (said_bytes (before_last said)) ≤ length written → IsAnswered e said written
+pub is_answered : (e : SessionEnd) (said : List (List Frame)) (written : List ℕ) → length (said_bytes (before_last said)) ≤ length written → IsAnswered e said written
 is_answered end.Done said written all = all
 is_answered end.EndOfInput said written all = all
 is_answered end.WrongInstance said written all = all

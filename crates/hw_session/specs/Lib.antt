@@ -8,3 +8,6 @@ pub mod Grows
 pub mod Serving
 pub mod Handling
 pub mod Sessions
+pub mod Driving
+pub mod DriveHandling
+pub mod Drives

@@ -10,12 +10,14 @@
 
 mod accept;
 mod answer;
+mod drive;
 mod entry;
 mod fault;
 mod laws;
 mod make;
 mod node;
 mod serve;
+mod stage;
 mod start;
 
 pub use fault::{AcceptFault, MakeFault};
@@ -24,3 +26,4 @@ pub use hw_link::SessionEnd;
 pub use hw_replay::StartFault;
 pub use laws::{a_log_gives_its_journal_back, a_node_keeps_the_log_of_its_journal};
 pub use node::{ClashUnits, Node};
+pub use stage::PeerMark;

@@ -1,0 +1,51 @@
+use Rattle.std.proofs.Common.{refl, arith, ◌∙◌}
+use Rattle.hw_session.proofs.DrivingLaws.{driving_begins, next_leads, next_counts, next_due, next_drives, limit_drives}
+use Rattle.hw_session.proofs.node.Node.drive_frames.Goals as goal
+
+pub loop-place-init : goal.loop-place-init
+loop-place-init g c = record {
+  driving = λ first is. driving_begins c.args.self.now c.args.mark.now g.F.Files.tells (g.F.Files.held c.args.files.now) first _ is;
+  within = omega arith;
+  session = c.requires.open;
+  ends = refl;
+  faults = refl;
+  accepts = refl;
+  dials = refl;
+  appends = refl;
+  begun = refl;
+  allowance = refl;
+  reads = refl;
+  due = tt;
+}
+
+pub drive_next-requires-clause-due : goal.drive_next-requires-clause-due
+drive_next-requires-clause-due g c = c.loop-place.invariant.due
+
+pub loop-place-preserved : goal.loop-place-preserved
+loop-place-preserved g c =
+    let l = c.loop-place in
+    let e = c.in-Ok.ensures in
+    record {
+      driving = λ first is. next_leads _ _ _ _ _ _ _ _ _ (l.invariant.driving first is) _ _ _ _ _ _ c.in-Ok.onward e.driven;
+      within = e.next.1;
+      session = e.open;
+      ends = next_counts _ l.place _ _ _ _ _ _ _ _ _ c.in-Ok.onward e.driven ∙ l.invariant.ends;
+      faults = e.link ∙ l.invariant.faults;
+      accepts = e.accepts ∙ l.invariant.accepts;
+      dials = e.dials ∙ l.invariant.dials;
+      appends = e.appends ∙ l.invariant.appends;
+      begun = e.begun ∙ l.invariant.begun;
+      allowance = e.allowance ∙ l.invariant.allowance;
+      reads = e.reads ∙ l.invariant.reads;
+      due = next_due _ l.place _ _ _ _ _ _ _ _ _ c.in-Ok.onward e.driven;
+    }
+
+pub returns-in-Err-clause-driven : goal.returns-in-Err-clause-driven
+returns-in-Err-clause-driven g c =
+    let l = c.loop-place in
+    λ first is. next_drives _ _ _ _ _ _ _ _ _ (l.invariant.driving first is) _ _ _ _ _ _ _ c.in-Err.end l.invariant.ends c.in-Err.ensures.driven
+
+pub returns-clause-driven : goal.returns-clause-driven
+returns-clause-driven g c =
+    let l = c.loop-place in
+    λ first is. limit_drives _ _ _ _ _ _ _ _ _ (l.invariant.driving first is) (omega (arith, c.loop-place-test.false)) _ _ l.invariant.ends

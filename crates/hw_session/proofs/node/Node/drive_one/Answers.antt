@@ -1,0 +1,17 @@
+use Rattle.std.proofs.Common.{inl}
+use Rattle.hw_session.proofs.ServingLaws.{fault_counted, fault_unlogged}
+use Rattle.hw_session.proofs.DrivingLaws.{drives_dialled, drives_nobody}
+use Rattle.hw_session.proofs.node.Node.drive_one.Goals as goal
+
+pub returns-in-Ok-clause-driven : goal.returns-in-Ok-clause-driven
+returns-in-Ok-clause-driven g c =
+    inl (drives_dialled _ _ _ _ _ _ _ _ _ _ _ _ _ _ _ _ c.drive-end.result c.in-Ok.ensures.sessions c.in-Ok.ensures.ends c.drive-end.ensures.driven c.hang_up.ensures.sessions c.hang_up.ensures.ends)
+
+pub returns-in-Err-clause-driven : goal.returns-in-Err-clause-driven
+returns-in-Err-clause-driven g c = rw c.end_of_fault.ensures (drives_nobody _ _ _ _ _ _ _ _ _ c.in-Err.ensures.ends c.in-Err.fault c.in-Err.ensures.sessions)
+
+pub returns-in-Err-clause-link : goal.returns-in-Err-clause-link
+returns-in-Err-clause-link g c = rw c.end_of_fault.ensures (fault_counted _ _ c.in-Err.fault c.in-Err.ensures.cause)
+
+pub returns-in-Err-clause-appends : goal.returns-in-Err-clause-appends
+returns-in-Err-clause-appends g c = rw c.end_of_fault.ensures (fault_unlogged _ c.in-Err.fault)

@@ -1,0 +1,30 @@
+use Rattle.std.proofs.Common.{refl, sym, subst}
+use Rattle.hw_types.specs.declared.answers.Frame.{Frame}
+use Rattle.hw_types.specs.declared.answers.Frame.TheVariants as frame
+use Rattle.hw_link.specs.Talk.{Reaction}
+use Rattle.hw_session.specs.declared.stage.Stage.TheVariants as stage
+use Rattle.hw_session.specs.Driving.{Driver, greeting, drive_pulling}
+use Rattle.hw_session.specs.DriveHandling.{ReactsAs}
+use Rattle.hw_session.proofs.DriveLaws.{as_reacts, bad_reacts, pulling_bad, told_node, told_alike}
+use Rattle.hw_session.proofs.node.Node.drive_pulling.Goals as goal
+
+pub returns-in-Vertex-clause-reacts : goal.returns-in-Vertex-clause-reacts
+returns-in-Vertex-clause-reacts g c =
+    subst (λ (f : Frame). ReactsAs c.args.self.now f (drive_pulling (record { stage = stage.Pulling c.args.again; node = c.args.self.now; mark = c.args.mark.now }) c.args.again c.args.place f) c.take_vertex.new.self c.args.mark.now g.F.Files.tells (g.F.Files.held c.args.files.now) (g.F.Files.held c.take_vertex.new.files) (g.D.Door.sessions c.args.door.now) (g.D.Door.sessions c.args.door.now) c.take_vertex.result)
+    (sym c.in-Vertex.is) (c.take_vertex.ensures.reacts (g.D.Door.sessions c.args.door.now))
+
+pub returns-in-Vertex-clause-link : goal.returns-in-Vertex-clause-link
+returns-in-Vertex-clause-link g c = c.take_vertex.ensures.link (g.D.Door.faults c.args.door.now)
+
+pub returns-clause-reacts : goal.returns-clause-reacts
+returns-clause-reacts g c =
+    bad_reacts c.args.self.now c.args.frame c.args.mark.now (record { stage = stage.Pulling c.args.again; node = c.args.self.now; mark = c.args.mark.now }) c.args.place _ _ _ _ refl refl
+    (pulling_bad (record { stage = stage.Pulling c.args.again; node = c.args.self.now; mark = c.args.mark.now }) c.args.again c.args.place c.args.frame c.in_default.not-Vertex c.in_default.not-Have)
+
+pub returns-in-Have-clause-reacts : goal.returns-in-Have-clause-reacts
+returns-in-Have-clause-reacts g c =
+    let AtFrame : Frame → Type 0 = λ f. ReactsAs c.args.self.now f (drive_pulling (record { stage = stage.Pulling c.args.again; node = c.args.self.now; mark = c.args.mark.now }) c.args.again c.args.place f) c.args.self.now c.drive_told.new.mark g.F.Files.tells (g.F.Files.held c.args.files.now) (g.F.Files.held c.args.files.now) (g.D.Door.sessions c.args.door.now) (g.D.Door.sessions c.drive_told.new.door) c.drive_told.result in
+    let By : Reaction Driver → Type 0 = λ r. ReactsAs c.args.self.now (frame.Have c.in-Have.told) r c.args.self.now c.drive_told.new.mark g.F.Files.tells (g.F.Files.held c.args.files.now) (g.F.Files.held c.args.files.now) (g.D.Door.sessions c.args.door.now) (g.D.Door.sessions c.drive_told.new.door) c.drive_told.result in
+    subst AtFrame (sym c.in-Have.is)
+    (subst By (told_alike c.args.self.now c.args.mark.now stage.Greeting (stage.Pulling c.args.again) c.args.again c.in-Have.told)
+      (as_reacts c.args.self.now _ c.drive_told.new.mark _ _ _ _ _ _ (told_node (greeting c.args.self.now c.args.mark.now) c.args.again c.in-Have.told) c.drive_told.ensures.marks c.drive_told.ensures.answers))

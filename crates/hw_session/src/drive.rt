@@ -1,0 +1,555 @@
+//! Driving a session with a peer.
+
+ghost use Rattle.std.specs.Prelude.{◌≡◌, ◌⊎◌, ◌<◌, ◌≤◌, [], ℕ, List, Option, take, true, false, length, Err, IfOk};
+ghost use Rattle.hw_types.specs.Spelling.{FrameFits, VertexFits};
+ghost use Rattle.hw_types.specs.Spelling.{instance_of};
+ghost use Rattle.hw_types.specs.declared.answers.Frame.TheVariants as frame;
+ghost use Rattle.hw_io.specs.Faults.{raised};
+ghost use Rattle.hw_link.specs.Frames.{byte_limit, framed, sent_bytes};
+ghost use Rattle.hw_link.specs.Links.{after_part, IsLinkCounted};
+ghost use Rattle.hw_link.specs.Sent.{Sends};
+ghost use Rattle.hw_session.specs.declared.stage.Stage.TheVariants as stage;
+ghost use Rattle.hw_session.specs.Node.{NodeState};
+ghost use Rattle.hw_io.specs.Doors.{Session};
+ghost use Rattle.hw_core.specs.Readers.{unmet_in};
+ghost use Rattle.hw_session.specs.Driving.{Driver, hello, greeting, leave, want, pull, push, to_push, drive_step, drive_at, drive_greeting, drive_pushing, drive_told, drive_pulling, drive_wanting, drive_vertex};
+ghost use Rattle.hw_session.specs.Handling.{Quits, IsLogCounted, IsLogEnd, IsLinkEnd};
+ghost use Rattle.hw_session.specs.DriveHandling.{IsDue, ReactsAs, AnswersAs, HandlesAs};
+ghost use Rattle.hw_session.specs.Drives.{DrivesThere, DrivesPeer, DrivesNone};
+
+use crate::answer::send_vertex;
+use crate::fault::AcceptFault;
+use crate::node::Node;
+use crate::serve::end_of_fault;
+use crate::stage::{Onward, PeerMark, Stage};
+use hw_io::{Door, Files};
+use hw_link::{BYTE_LIMIT, SessionEnd, read_frame, send_frame};
+use hw_types::{Cause, Digest, Frame, Need, NeedList, OutOfMemory, Vertex};
+
+/// How many vertices are pushed in one session.
+const MOST_PUSHED: u64 = 256;
+
+/// How many more times a peer is asked for its journal after the first.
+const MOST_AGAIN: u64 = 64;
+
+/// How many needs are wanted of a peer.
+const MOST_WANTED: usize = 64;
+
+impl Node {
+    /// Dials the peer of this address and drives a session with it. Then it hangs up.
+    ///
+    /// It says Hello, and the peer's Hello is of the same instance. It pushes the vertices of its journal behind
+    /// the mark `pushed`, 256 at most, each answered with a Want, which moves the mark and isn't acted on. It asks
+    /// for the peer's journal from the mark `pulled` on, which each Have moves, again while it moved but no more
+    /// than 64 times; what comes is delivered with its verdict, and an accepted vertex goes last in the log. It
+    /// wants the first 64 needs that parked units miss, if there are some, and then says Done. The marks keep
+    /// what they reached, however the session ends.
+    ///
+    /// Another frame than is due, one that spells nothing and one that is cut end it as `BadFrame` with the place
+    /// of the frame's first byte; the peer's end behind a frame as `EndOfInput`; and 268,435,456 bytes as
+    /// `ByteLimit`, once the frame that ends with them was handled. A failed call of the door is `LinkFault`.
+    pub fn drive_one<D: Door, F: Files>(
+        &mut self,
+        mark: &mut PeerMark,
+        address: &str,
+        door: &mut D,
+        files: &mut F,
+    ) -> SessionEnd
+        ensures driven { DrivesPeer self.old mark.old address.now self.new mark.new F.tells (F.held files.old) (F.held files.new) (D.sessions door.old) (D.sessions door.new) (D.ends door.old) (D.ends door.new) result
+            ⊎ DrivesNone self.old mark.old self.new mark.new F.tells (F.held files.old) (F.held files.new) (D.sessions door.old) (D.sessions door.new) result }
+        ensures link { IsLinkEnd (D.faults door.old) (D.faults door.new) result }
+        ensures appends { IsLogEnd (F.append_faults files.old) (F.append_faults files.new) result }
+
+        ensures closed { D.is_open door.new ≡ false }
+        ensures dials { D.dials door.new ≡ raised (D.dials door.old) }
+        ensures accepts { D.accepts door.new ≡ D.accepts door.old }
+        ensures begun { F.begun files.new ≡ F.begun files.old }
+        ensures allowance { F.allowance files.new ≡ F.allowance files.old }
+        ensures reads { F.read_faults files.new ≡ F.read_faults files.old }
+    {
+        match door.dial(address) {
+            Ok(()) => {
+                let end = self.drive(mark, door, files);
+                door.hang_up();
+                end
+            }
+            Err(fault) => end_of_fault(fault),
+        }
+    }
+
+    /// Drives a session with the peer that is there, up to its end.
+    fn drive<D: Door, F: Files>(
+        &mut self,
+        mark: &mut PeerMark,
+        door: &mut D,
+        files: &mut F,
+    ) -> SessionEnd
+        requires open { D.is_open door.old ≡ true }
+        ensures driven { DrivesThere self.old mark.old self.new mark.new F.tells (F.held files.old) (F.held files.new) (D.sessions door.old) (D.sessions door.new) (D.ends door.old) (D.ends door.new) result }
+        ensures link { IsLinkEnd (D.faults door.old) (D.faults door.new) result }
+        ensures appends { IsLogEnd (F.append_faults files.old) (F.append_faults files.new) result }
+
+        ensures accepts { D.accepts door.new ≡ D.accepts door.old }
+        ensures dials { D.dials door.new ≡ D.dials door.old }
+        ensures begun { F.begun files.new ≡ F.begun files.old }
+        ensures allowance { F.allowance files.new ≡ F.allowance files.old }
+        ensures reads { F.read_faults files.new ≡ F.read_faults files.old }
+    {
+        match self.say_hello(door) {
+            Ok(()) => self.drive_frames(mark, door, files),
+            Err(end) => end,
+        }
+    }
+
+    /// Says Hello.
+    fn say_hello<D: Door>(&self, door: &mut D) -> Result<(), SessionEnd>
+        requires open { D.is_open door.old ≡ true }
+        ensures sent { Sends (framed (frame.Hello (instance_of self.now.core.config))) (D.sessions door.old) (D.sessions door.new) result }
+        ensures link { IsLinkCounted (D.faults door.old) (D.faults door.new) result }
+
+        ensures open { D.is_open door.new ≡ true }
+        ensures ends { D.ends door.new ≡ D.ends door.old }
+        ensures accepts { D.accepts door.new ≡ D.accepts door.old }
+        ensures dials { D.dials door.new ≡ D.dials door.old }
+    {
+        match self.instance() {
+            Ok(instance) => send_frame(self.alloc, door, &Frame::Hello(instance)),
+            Err(OutOfMemory) => Err(SessionEnd::OutOfMemory),
+        }
+    }
+
+    /// Handles the frames of a peer to which it said Hello, up to the end of the session.
+    fn drive_frames<D: Door, F: Files>(
+        &mut self,
+        mark: &mut PeerMark,
+        door: &mut D,
+        files: &mut F,
+    ) -> SessionEnd
+        requires open { D.is_open door.old ≡ true }
+        ensures driven { (first : Option (List Session)) → D.sessions door.old ≡ after_part [] (sent_bytes (hello self.old)) false first → DrivesThere self.old mark.old self.new mark.new F.tells (F.held files.old) (F.held files.new) first (D.sessions door.new) (D.ends door.old) (D.ends door.new) result }
+        ensures link { IsLinkEnd (D.faults door.old) (D.faults door.new) result }
+        ensures appends { IsLogEnd (F.append_faults files.old) (F.append_faults files.new) result }
+
+        ensures accepts { D.accepts door.new ≡ D.accepts door.old }
+        ensures dials { D.dials door.new ≡ D.dials door.old }
+        ensures begun { F.begun files.new ≡ F.begun files.old }
+        ensures allowance { F.allowance files.new ≡ F.allowance files.old }
+        ensures reads { F.read_faults files.new ≡ F.read_faults files.old }
+    {
+        let mut place = 0;
+        let mut stage = Stage::Greeting;
+        while place < BYTE_LIMIT {
+            match self.drive_next(mark, door, files, place, stage) {
+                Ok(onward) => {
+                    place = onward.place;
+                    stage = onward.stage;
+                }
+                Err(end) => return end,
+            }
+        }
+        SessionEnd::ByteLimit
+    }
+
+    /// Reads the frame that begins at this place of the session and handles it, waiting for this. The place
+    /// behind it and what is waited for then, or how the session ends.
+    fn drive_next<D: Door, F: Files>(
+        &mut self,
+        mark: &mut PeerMark,
+        door: &mut D,
+        files: &mut F,
+        place: u64,
+        stage: Stage,
+    ) -> Result<Onward, SessionEnd>
+        requires place { place ≤ BYTE_LIMIT }
+        requires due { IsDue stage self.old mark.old }
+        requires open { D.is_open door.old ≡ true }
+        ensures driven { (Quits self.old place self.new F.tells (F.held files.old) (F.held files.new) (D.sessions door.old) (D.sessions door.new) (D.ends door.old) (D.ends door.new) result × (mark.new ≡ mark.old))
+            ⊎ HandlesAs (record { stage = stage; node = self.old; mark = mark.old }) place self.new mark.new F.tells (F.held files.old) (F.held files.new) (D.sessions door.old) (D.sessions door.new) (D.ends door.old) (D.ends door.new) result }
+        ensures next { IfOk result (λ onward. (place < onward.place) × (onward.place ≤ BYTE_LIMIT)) }
+        ensures link { IsLinkCounted (D.faults door.old) (D.faults door.new) result }
+        ensures appends { IsLogCounted (F.append_faults files.old) (F.append_faults files.new) result }
+
+        ensures open { D.is_open door.new ≡ true }
+        ensures accepts { D.accepts door.new ≡ D.accepts door.old }
+        ensures dials { D.dials door.new ≡ D.dials door.old }
+        ensures begun { F.begun files.new ≡ F.begun files.old }
+        ensures allowance { F.allowance files.new ≡ F.allowance files.old }
+        ensures reads { F.read_faults files.new ≡ F.read_faults files.old }
+    {
+        match read_frame(self.alloc, door, place) {
+            Ok(heard) => match self.drive_frame(mark, door, files, place, stage, heard.frame) {
+                Ok(stage) => Ok(Onward {
+                    place: heard.next,
+                    stage,
+                }),
+                Err(end) => Err(end),
+            },
+            Err(end) => Err(end),
+        }
+    }
+
+    /// Handles the frame that begins at this place of the session, waiting for this. What is waited for then.
+    fn drive_frame<D: Door, F: Files>(
+        &mut self,
+        mark: &mut PeerMark,
+        door: &mut D,
+        files: &mut F,
+        place: u64,
+        stage: Stage,
+        frame: Frame,
+    ) -> Result<Stage, SessionEnd>
+        requires fits { FrameFits frame }
+        requires due { IsDue stage self.old mark.old }
+        requires open { D.is_open door.old ≡ true }
+        ensures reacts { ReactsAs self.old frame (drive_at stage (record { stage = stage; node = self.old; mark = mark.old }) place frame) self.new mark.new F.tells (F.held files.old) (F.held files.new) (D.sessions door.old) (D.sessions door.new) result }
+        ensures link { IsLinkCounted (D.faults door.old) (D.faults door.new) result }
+        ensures appends { IsLogCounted (F.append_faults files.old) (F.append_faults files.new) result }
+
+        ensures open { D.is_open door.new ≡ true }
+        ensures ends { D.ends door.new ≡ D.ends door.old }
+        ensures accepts { D.accepts door.new ≡ D.accepts door.old }
+        ensures dials { D.dials door.new ≡ D.dials door.old }
+        ensures begun { F.begun files.new ≡ F.begun files.old }
+        ensures allowance { F.allowance files.new ≡ F.allowance files.old }
+        ensures reads { F.read_faults files.new ≡ F.read_faults files.old }
+    {
+        match stage {
+            Stage::Greeting => self.drive_greeting(*mark, door, place, &frame),
+            Stage::Pushing(left) => self.drive_pushing(mark, door, place, left, &frame),
+            Stage::Pulling(again) => self.drive_pulling(mark, door, files, place, again, frame),
+            Stage::Wanting => self.drive_wanting(*mark, door, files, place, frame),
+            Stage::Leaving => match frame {
+                Frame::Done => Err(SessionEnd::Done),
+                _ => Err(SessionEnd::BadFrame(place)),
+            },
+        }
+    }
+
+    /// Handles the first frame, which is a Hello of the own instance.
+    fn drive_greeting<D: Door>(
+        &self,
+        mark: PeerMark,
+        door: &mut D,
+        place: u64,
+        frame: &Frame,
+    ) -> Result<Stage, SessionEnd>
+        requires open { D.is_open door.old ≡ true }
+        ensures answers { AnswersAs self.now mark (drive_greeting (greeting self.now mark) place frame.now) (D.sessions door.old) (D.sessions door.new) result }
+        ensures link { IsLinkCounted (D.faults door.old) (D.faults door.new) result }
+
+        ensures open { D.is_open door.new ≡ true }
+        ensures ends { D.ends door.new ≡ D.ends door.old }
+        ensures accepts { D.accepts door.new ≡ D.accepts door.old }
+        ensures dials { D.dials door.new ≡ D.dials door.old }
+    {
+        match frame {
+            Frame::Hello(instance) => self.drive_hello(mark, door, *instance),
+            _ => Err(SessionEnd::BadFrame(place)),
+        }
+    }
+
+    /// Begins to push where the Hello is of the own instance.
+    fn drive_hello<D: Door>(
+        &self,
+        mark: PeerMark,
+        door: &mut D,
+        instance: Digest,
+    ) -> Result<Stage, SessionEnd>
+        requires open { D.is_open door.old ≡ true }
+        ensures answers { AnswersAs self.now mark (drive_greeting (greeting self.now mark) 0 (frame.Hello instance)) (D.sessions door.old) (D.sessions door.new) result }
+        ensures link { IsLinkCounted (D.faults door.old) (D.faults door.new) result }
+
+        ensures open { D.is_open door.new ≡ true }
+        ensures ends { D.ends door.new ≡ D.ends door.old }
+        ensures accepts { D.accepts door.new ≡ D.accepts door.old }
+        ensures dials { D.dials door.new ≡ D.dials door.old }
+    {
+        match self.instance() {
+            Ok(own) => {
+                if instance == own {
+                    self.push(mark, door, self.to_push(mark))
+                } else {
+                    Err(SessionEnd::WrongInstance)
+                }
+            }
+            Err(OutOfMemory) => Err(SessionEnd::OutOfMemory),
+        }
+    }
+
+    /// How many vertices are pushed in a session.
+    fn to_push(&self, mark: PeerMark) -> u64
+        ensures { result ≡ to_push (greeting self.now mark) }
+    {
+        self.core
+            .journal_count()
+            .saturating_sub(mark.pushed)
+            .min(MOST_PUSHED)
+    }
+
+    /// Pushes the next vertex, if so many are still to be pushed, and begins to pull otherwise.
+    fn push<D: Door>(
+        &self,
+        mark: PeerMark,
+        door: &mut D,
+        left: u64,
+    ) -> Result<Stage, SessionEnd>
+        requires open { D.is_open door.old ≡ true }
+        ensures answers { AnswersAs self.now mark (push (greeting self.now mark) left) (D.sessions door.old) (D.sessions door.new) result }
+        ensures link { IsLinkCounted (D.faults door.old) (D.faults door.new) result }
+
+        ensures open { D.is_open door.new ≡ true }
+        ensures ends { D.ends door.new ≡ D.ends door.old }
+        ensures accepts { D.accepts door.new ≡ D.accepts door.old }
+        ensures dials { D.dials door.new ≡ D.dials door.old }
+    {
+        if left == 0 || mark.pushed >= self.core.journal_count() {
+            return self.pull(mark, door, MOST_AGAIN);
+        }
+        match send_vertex(self.alloc, door, self.core.journal_at(mark.pushed)) {
+            Ok(()) => Ok(Stage::Pushing(left - 1)),
+            Err(end) => Err(end),
+        }
+    }
+
+    /// Handles the Want for the vertex that was pushed.
+    fn drive_pushing<D: Door>(
+        &self,
+        mark: &mut PeerMark,
+        door: &mut D,
+        place: u64,
+        left: u64,
+        frame: &Frame,
+    ) -> Result<Stage, SessionEnd>
+        requires due { mark.old.pushed < length self.now.core.journal }
+        requires open { D.is_open door.old ≡ true }
+        ensures answers { AnswersAs self.now mark.new (drive_pushing (record { stage = stage.Pushing left; node = self.now; mark = mark.old }) left place frame.now) (D.sessions door.old) (D.sessions door.new) result }
+        ensures marks { mark.new ≡ (drive_pushing (record { stage = stage.Pushing left; node = self.now; mark = mark.old }) left place frame.now).state.mark }
+        ensures link { IsLinkCounted (D.faults door.old) (D.faults door.new) result }
+
+        ensures open { D.is_open door.new ≡ true }
+        ensures ends { D.ends door.new ≡ D.ends door.old }
+        ensures accepts { D.accepts door.new ≡ D.accepts door.old }
+        ensures dials { D.dials door.new ≡ D.dials door.old }
+    {
+        match frame {
+            Frame::Want(_) => {
+                let _count = self.core.journal_count();
+                mark.pushed += 1;
+                self.push(*mark, door, left)
+            }
+            _ => Err(SessionEnd::BadFrame(place)),
+        }
+    }
+
+    /// Asks for the peer's journal behind the mark, which may be asked for so many times more.
+    fn pull<D: Door>(
+        &self,
+        mark: PeerMark,
+        door: &mut D,
+        again: u64,
+    ) -> Result<Stage, SessionEnd>
+        requires open { D.is_open door.old ≡ true }
+        ensures answers { AnswersAs self.now mark (pull (greeting self.now mark) again) (D.sessions door.old) (D.sessions door.new) result }
+        ensures link { IsLinkCounted (D.faults door.old) (D.faults door.new) result }
+
+        ensures open { D.is_open door.new ≡ true }
+        ensures ends { D.ends door.new ≡ D.ends door.old }
+        ensures accepts { D.accepts door.new ≡ D.accepts door.old }
+        ensures dials { D.dials door.new ≡ D.dials door.old }
+    {
+        match send_frame(self.alloc, door, &Frame::Have(mark.pulled)) {
+            Ok(()) => Ok(Stage::Pulling(again)),
+            Err(end) => Err(end),
+        }
+    }
+
+    /// Handles a vertex of the peer's journal, or the place up to which it has told.
+    fn drive_pulling<D: Door, F: Files>(
+        &mut self,
+        mark: &mut PeerMark,
+        door: &mut D,
+        files: &mut F,
+        place: u64,
+        again: u64,
+        frame: Frame,
+    ) -> Result<Stage, SessionEnd>
+        requires fits { FrameFits frame }
+        requires open { D.is_open door.old ≡ true }
+        ensures reacts { ReactsAs self.old frame (drive_pulling (record { stage = stage.Pulling again; node = self.old; mark = mark.old }) again place frame) self.new mark.new F.tells (F.held files.old) (F.held files.new) (D.sessions door.old) (D.sessions door.new) result }
+        ensures link { IsLinkCounted (D.faults door.old) (D.faults door.new) result }
+        ensures appends { IsLogCounted (F.append_faults files.old) (F.append_faults files.new) result }
+
+        ensures open { D.is_open door.new ≡ true }
+        ensures ends { D.ends door.new ≡ D.ends door.old }
+        ensures accepts { D.accepts door.new ≡ D.accepts door.old }
+        ensures dials { D.dials door.new ≡ D.dials door.old }
+        ensures begun { F.begun files.new ≡ F.begun files.old }
+        ensures allowance { F.allowance files.new ≡ F.allowance files.old }
+        ensures reads { F.read_faults files.new ≡ F.read_faults files.old }
+    {
+        match frame {
+            Frame::Vertex(vertex) => self.take_vertex(*mark, files, vertex, Stage::Pulling(again)),
+            Frame::Have(told) => self.drive_told(mark, door, again, told),
+            _ => Err(SessionEnd::BadFrame(place)),
+        }
+    }
+
+    /// Notes the place up to which the peer has told. It is asked again while that moved, if it may be.
+    fn drive_told<D: Door>(
+        &self,
+        mark: &mut PeerMark,
+        door: &mut D,
+        again: u64,
+        told: u64,
+    ) -> Result<Stage, SessionEnd>
+        requires open { D.is_open door.old ≡ true }
+        ensures answers { AnswersAs self.now mark.new (drive_told (greeting self.now mark.old) again told) (D.sessions door.old) (D.sessions door.new) result }
+        ensures marks { mark.new ≡ (drive_told (greeting self.now mark.old) again told).state.mark }
+        ensures link { IsLinkCounted (D.faults door.old) (D.faults door.new) result }
+
+        ensures open { D.is_open door.new ≡ true }
+        ensures ends { D.ends door.new ≡ D.ends door.old }
+        ensures accepts { D.accepts door.new ≡ D.accepts door.old }
+        ensures dials { D.dials door.new ≡ D.dials door.old }
+    {
+        let before = mark.pulled;
+        mark.pulled = told;
+        if again == 0 || told == before {
+            return self.want(*mark, door);
+        }
+        self.pull(*mark, door, again - 1)
+    }
+
+    /// Wants what parked units miss, if they miss something, and says Done otherwise.
+    fn want<D: Door>(&self, mark: PeerMark, door: &mut D) -> Result<Stage, SessionEnd>
+        requires open { D.is_open door.old ≡ true }
+        ensures answers { AnswersAs self.now mark (want (greeting self.now mark)) (D.sessions door.old) (D.sessions door.new) result }
+        ensures link { IsLinkCounted (D.faults door.old) (D.faults door.new) result }
+
+        ensures open { D.is_open door.new ≡ true }
+        ensures ends { D.ends door.new ≡ D.ends door.old }
+        ensures accepts { D.accepts door.new ≡ D.accepts door.old }
+        ensures dials { D.dials door.new ≡ D.dials door.old }
+    {
+        match self.unmet() {
+            Ok(needs) => self.want_these(mark, door, needs),
+            Err(OutOfMemory) => Err(SessionEnd::OutOfMemory),
+        }
+    }
+
+    /// Wants these needs, which are what parked units miss first, and says Done where there are none.
+    fn want_these<D: Door>(
+        &self,
+        mark: PeerMark,
+        door: &mut D,
+        needs: NeedList,
+    ) -> Result<Stage, SessionEnd>
+        requires needs { needs ≡ take 64 (unmet_in self.now.core) }
+        requires few { length needs ≤ 64 }
+        requires open { D.is_open door.old ≡ true }
+        ensures answers { AnswersAs self.now mark (want (greeting self.now mark)) (D.sessions door.old) (D.sessions door.new) result }
+        ensures link { IsLinkCounted (D.faults door.old) (D.faults door.new) result }
+
+        ensures open { D.is_open door.new ≡ true }
+        ensures ends { D.ends door.new ≡ D.ends door.old }
+        ensures accepts { D.accepts door.new ≡ D.accepts door.old }
+        ensures dials { D.dials door.new ≡ D.dials door.old }
+    {
+        if needs.len() == 0 {
+            return self.leave(mark, door);
+        }
+        match send_frame(self.alloc, door, &Frame::Want(needs)) {
+            Ok(()) => Ok(Stage::Wanting),
+            Err(end) => Err(end),
+        }
+    }
+
+    /// The first 64 needs that parked units miss.
+    fn unmet(&self) -> Result<NeedList, OutOfMemory>
+        ensures unmet { IfOk result (λ needs. needs ≡ take 64 (unmet_in self.now.core)) }
+        ensures few { IfOk result (λ needs. length needs ≤ 64) }
+    {
+        let mut list = [Need::Evidence(0); MOST_WANTED];
+        let count = self.core.first_unmet(&mut list);
+        let mut needs = NeedList::new(self.alloc);
+        needs.extend(&list[..count])?;
+        Ok(needs)
+    }
+
+    /// Handles what was wanted, or that it is missing, and the Have behind it.
+    fn drive_wanting<D: Door, F: Files>(
+        &mut self,
+        mark: PeerMark,
+        door: &mut D,
+        files: &mut F,
+        place: u64,
+        frame: Frame,
+    ) -> Result<Stage, SessionEnd>
+        requires fits { FrameFits frame }
+        requires open { D.is_open door.old ≡ true }
+        ensures reacts { ReactsAs self.old frame (drive_wanting (record { stage = stage.Wanting; node = self.old; mark = mark }) place frame) self.new mark F.tells (F.held files.old) (F.held files.new) (D.sessions door.old) (D.sessions door.new) result }
+        ensures link { IsLinkCounted (D.faults door.old) (D.faults door.new) result }
+        ensures appends { IsLogCounted (F.append_faults files.old) (F.append_faults files.new) result }
+
+        ensures open { D.is_open door.new ≡ true }
+        ensures ends { D.ends door.new ≡ D.ends door.old }
+        ensures accepts { D.accepts door.new ≡ D.accepts door.old }
+        ensures dials { D.dials door.new ≡ D.dials door.old }
+        ensures begun { F.begun files.new ≡ F.begun files.old }
+        ensures allowance { F.allowance files.new ≡ F.allowance files.old }
+        ensures reads { F.read_faults files.new ≡ F.read_faults files.old }
+    {
+        match frame {
+            Frame::Vertex(vertex) => self.take_vertex(mark, files, vertex, Stage::Wanting),
+            Frame::Missing(_) => Ok(Stage::Wanting),
+            Frame::Have(_) => self.leave(mark, door),
+            _ => Err(SessionEnd::BadFrame(place)),
+        }
+    }
+
+    /// Says Done.
+    fn leave<D: Door>(&self, mark: PeerMark, door: &mut D) -> Result<Stage, SessionEnd>
+        requires open { D.is_open door.old ≡ true }
+        ensures answers { AnswersAs self.now mark (leave (greeting self.now mark)) (D.sessions door.old) (D.sessions door.new) result }
+        ensures link { IsLinkCounted (D.faults door.old) (D.faults door.new) result }
+
+        ensures open { D.is_open door.new ≡ true }
+        ensures ends { D.ends door.new ≡ D.ends door.old }
+        ensures accepts { D.accepts door.new ≡ D.accepts door.old }
+        ensures dials { D.dials door.new ≡ D.dials door.old }
+    {
+        match send_frame(self.alloc, door, &Frame::Done) {
+            Ok(()) => Ok(Stage::Leaving),
+            Err(end) => Err(end),
+        }
+    }
+
+    /// Takes a vertex of the peer, and goes on to wait for this. A clash ends the session.
+    fn take_vertex<F: Files>(
+        &mut self,
+        mark: PeerMark,
+        files: &mut F,
+        vertex: Vertex,
+        stage: Stage,
+    ) -> Result<Stage, SessionEnd>
+        requires fits { VertexFits vertex }
+        requires due { (n : NodeState) → IsDue stage n mark }
+        ensures reacts { (sessions : Option (List Session)) → ReactsAs self.old (frame.Vertex vertex) (drive_vertex (record { stage = stage; node = self.old; mark = mark }) vertex) self.new mark F.tells (F.held files.old) (F.held files.new) sessions sessions result }
+        ensures appends { IsLogCounted (F.append_faults files.old) (F.append_faults files.new) result }
+        ensures link { (count : ℕ) → IsLinkCounted count count result }
+
+        ensures begun { F.begun files.new ≡ F.begun files.old }
+        ensures allowance { F.allowance files.new ≡ F.allowance files.old }
+        ensures reads { F.read_faults files.new ≡ F.read_faults files.old }
+    {
+        match self.accept(files, vertex) {
+            Ok(_receipt) => Ok(stage),
+            Err(AcceptFault::Refused(cause)) => match cause {
+                Cause::Clash { .. } => Err(SessionEnd::Clash),
+                _ => Ok(stage),
+            },
+            Err(AcceptFault::AppendFault) => Err(SessionEnd::AppendFault),
+            Err(AcceptFault::OutOfMemory) => Err(SessionEnd::OutOfMemory),
+        }
+    }
+}
