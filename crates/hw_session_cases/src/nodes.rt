@@ -4,7 +4,7 @@ ghost use Rattle.std.specs.Prelude.{◌≡◌, length, IfOk, IfSome, None, strin
 ghost use Rattle.hw_types.specs.Limits.{config_fault};
 
 use crate::lines::bytes_of;
-use crate::peers::{accept, serve};
+use crate::peers::{accept, drive, serve};
 use hw_codec::decode_config;
 use hw_io::MemFiles;
 use hw_session::{Keys, MakeFault, Node, StartFault};
@@ -50,6 +50,7 @@ fn step(
     match (act.split_once(':'), nodes.as_mut_slice()) {
         (Some(("accept", vertex)), [node]) => accept(scene.alloc, files, node, vertex, text),
         (Some(("serve", peer)), [node]) => serve(scene.alloc, files, node, peer, text),
+        (Some(("drive", peer)), [node]) => drive(scene.alloc, files, node, peer, text),
         (Some(_), _) => make(scene.alloc, files, nodes, act, text),
         (None, _) => word(text, "-"),
     }

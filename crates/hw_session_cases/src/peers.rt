@@ -4,7 +4,7 @@ use crate::lines::bytes_of;
 use crate::nodes::word;
 use hw_codec::decode_vertex;
 use hw_io::{MemDoor, MemFiles};
-use hw_session::{AcceptFault, Node, SessionEnd};
+use hw_session::{AcceptFault, Node, PeerMark, SessionEnd};
 use hw_types::{OutOfMemory, Receipt};
 use std::alloc::Global;
 
@@ -60,6 +60,31 @@ pub fn serve(
             let mut door = door_of(alloc, said, piece, call)?;
             let end = node.serve_one(&mut door, files);
             tell_served(alloc, &door, end, text)
+        }
+        _ => word(text, "-"),
+    }
+}
+
+/// Lets the node drive a session with a peer, and tells the same and the marks then.
+pub fn drive(
+    alloc: Global,
+    files: &mut MemFiles,
+    node: &mut Node,
+    peer: &str,
+    text: &mut String,
+) -> Result<(), OutOfMemory> {
+    let words: Vec<&str> = peer.split(':').collect(alloc)?;
+    match words.as_slice() {
+        [said, piece, call, pushed, pulled] => {
+            let mut door = door_of(alloc, said, piece, call)?;
+            let mut mark = PeerMark {
+                pushed: pushed.parse().unwrap_or(0),
+                pulled: pulled.parse().unwrap_or(0),
+            };
+            let end = node.drive_one(&mut mark, "peer", &mut door, files);
+            tell_served(alloc, &door, end, text)?;
+            let PeerMark { pushed, pulled } = mark;
+            word(text, format!(in alloc; "{pushed}:{pulled}")?.as_str())
         }
         _ => word(text, "-"),
     }
