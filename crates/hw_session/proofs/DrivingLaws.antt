@@ -259,7 +259,6 @@ module _ (n : NodeState) (mark : PeerMark) where
 -- ---- the steps of a session
 
 module _ (n : NodeState) (mark : PeerMark) (d : Driver) (place : ℕ) (tells : Bool) (held_old held_now : List ℕ → Option (List ℕ)) (old now : Option (List Session)) (s : IsDriving n mark d place tells held_old held_now old now) where
-
   -- ---- there is no frame
 
   limit_is_reached : (place : ℕ) (part : List ℕ) → place ≡ length s.read → byte_limit ≤ place + length part → byte_limit ≤ length (s.read ++ part)
@@ -307,7 +306,7 @@ module _ (n : NodeState) (mark : PeerMark) (d : Driver) (place : ℕ) (tells : B
       refused at (inr none) = inr (λ more fits.
           subst (λ (bytes : List ℕ). (driven n mark bytes).end ≡ end.BadFrame at) (sym (append_assoc s.read h.part more))
           (ap (λ (t : Talk Driver). t.end)
-            ((reads_frame_by_frame Driver).no_frame_ends drive_step (hello n) (greeting n mark) s.read s.said d (h.part ++ more) (end.BadFrame at) s.heard (none more) (subst (λ (bytes : List ℕ). length bytes ≤ byte_limit) (append_assoc s.read h.part more) fits))))
+          ((reads_frame_by_frame Driver).no_frame_ends drive_step (hello n) (greeting n mark) s.read s.said d (h.part ++ more) (end.BadFrame at) s.heard (none more) (subst (λ (bytes : List ℕ). length bytes ≤ byte_limit) (append_assoc s.read h.part more) fits))))
 
       by : (how : SessionEnd) → Says {T = Heard} IsHeard (length s.read) h.part (Err how) → IsEndCounted {T = Heard} ends_now ends_new (length s.read) h.part (Err how)
           → new ≡ after_part (s.read ++ h.part) (said_bytes s.said) (is_link_fault {T = Unit {0}} (Err how)) old → DrivesThere n mark d.node d.mark tells held_old held_new old new ends_now ends_new how
@@ -337,9 +336,9 @@ module _ (n : NodeState) (mark : PeerMark) (d : Driver) (place : ℕ) (tells : B
       let how : e ≡ q.how = cc (q.is) in
       subst (λ (x : NodeState). DrivesThere n mark x now_mark tells held_old held_new old new ends_now ends_new e) (sym q.state)
       (subst (λ (x : PeerMark). DrivesThere n mark d.node x tells held_old held_new old new ends_now ends_new e) (sym marks)
-        (subst (λ (x : SessionEnd). DrivesThere n mark d.node d.mark tells held_old held_new old new ends_now ends_new x) (sym how)
-          (quit q.how ends_now ends_new new held_new (logs_then tells n d.node d.node held_old held_now held_new s.logs (logs_nothing tells d.node held_now held_new q.files))
-            (subst (λ (p : ℕ). Hears {T = Heard} IsHeard p [] now new ends_now ends_new (Err q.how)) s.place_is q.heard))))
+      (subst (λ (x : SessionEnd). DrivesThere n mark d.node d.mark tells held_old held_new old new ends_now ends_new x) (sym how)
+      (quit q.how ends_now ends_new new held_new (logs_then tells n d.node d.node held_old held_now held_new s.logs (logs_nothing tells d.node held_now held_new q.files))
+      (subst (λ (p : ℕ). Hears {T = Heard} IsHeard p [] now new ends_now ends_new (Err q.how)) s.place_is q.heard))))
 
   -- ---- there is a frame
 
@@ -637,9 +636,9 @@ pub drives_dialled : (n : NodeState) (mark : PeerMark) (address : List ℕ) (m :
 drives_dialled n mark address m now_mark tells held_old held_new old now then new ends_old ends_now ends_then ends_new e dialled same drives hung ended =
     subst (λ (x : Option (List Session)). DrivesPeer n mark address m now_mark tells held_old held_new old x ends_old ends_new e) (sym hung)
     (subst (λ (x : ℕ). DrivesPeer n mark address m now_mark tells held_old held_new old then ends_old x e) (sym ended)
-      (drives_peer n mark address m now_mark tells held_old held_new old ends_old ends_then e then
-        (subst (λ (x : Option (List Session)). DrivesThere n mark m now_mark tells held_old held_new x then ends_old ends_then e) dialled
-          (subst (λ (x : ℕ). DrivesThere n mark m now_mark tells held_old held_new now then x ends_then e) same drives))))
+    (drives_peer n mark address m now_mark tells held_old held_new old ends_old ends_then e then
+    (subst (λ (x : Option (List Session)). DrivesThere n mark m now_mark tells held_old held_new x then ends_old ends_then e) dialled
+    (subst (λ (x : ℕ). DrivesThere n mark m now_mark tells held_old held_new now then x ends_then e) same drives))))
 
 -- no peer was reached, or there was no memory to dial
 module _ (n : NodeState) (mark : PeerMark) (address : List ℕ) (tells : Bool) (held : List ℕ → Option (List ℕ)) (old new : Option (List Session)) (ends_old ends_new : ℕ) (same : ends_new ≡ ends_old) where
@@ -651,5 +650,5 @@ module _ (n : NodeState) (mark : PeerMark) (address : List ℕ) (tells : Bool) (
       → DrivesPeer n mark address n mark tells held held old new ends_old ends_new (end_of_fault fault) ⊎ DrivesNone n mark n mark tells held held old new (end_of_fault fault)
   drives_nobody Failed told =
       inl (subst (λ (x : Option (List Session)). DrivesPeer n mark address n mark tells held held old x ends_old ends_new end.LinkFault) (sym told)
-        (subst (λ (x : ℕ). DrivesPeer n mark address n mark tells held held old (option_map (λ (sessions : List Session). sessions ++ with_failure (fresh_session (Some address)) ∷ []) old) ends_old x end.LinkFault) (sym same) (drives_failed n mark address tells held old ends_old)))
+      (subst (λ (x : ℕ). DrivesPeer n mark address n mark tells held held old (option_map (λ (sessions : List Session). sessions ++ with_failure (fresh_session (Some address)) ∷ []) old) ends_old x end.LinkFault) (sym same) (drives_failed n mark address tells held old ends_old)))
   drives_nobody NoMemory told = inr (record { ended = refl; state = refl; mark_is = refl; files = λ t name. refl; told = told ∙ nobody old })

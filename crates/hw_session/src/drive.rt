@@ -287,12 +287,7 @@ impl Node {
     }
 
     /// Pushes the next vertex, if so many are still to be pushed, and begins to pull otherwise.
-    fn push<D: Door>(
-        &self,
-        mark: PeerMark,
-        door: &mut D,
-        left: u64,
-    ) -> Result<Stage, SessionEnd>
+    fn push<D: Door>(&self, mark: PeerMark, door: &mut D, left: u64) -> Result<Stage, SessionEnd>
         requires open { D.is_open door.old ≡ true }
         ensures answers { AnswersAs self.now mark (push (greeting self.now mark) left) (D.sessions door.old) (D.sessions door.new) result }
         ensures link { IsLinkCounted (D.faults door.old) (D.faults door.new) result }
@@ -342,12 +337,7 @@ impl Node {
     }
 
     /// Asks for the peer's journal behind the mark, which may be asked for so many times more.
-    fn pull<D: Door>(
-        &self,
-        mark: PeerMark,
-        door: &mut D,
-        again: u64,
-    ) -> Result<Stage, SessionEnd>
+    fn pull<D: Door>(&self, mark: PeerMark, door: &mut D, again: u64) -> Result<Stage, SessionEnd>
         requires open { D.is_open door.old ≡ true }
         ensures answers { AnswersAs self.now mark (pull (greeting self.now mark) again) (D.sessions door.old) (D.sessions door.new) result }
         ensures link { IsLinkCounted (D.faults door.old) (D.faults door.new) result }

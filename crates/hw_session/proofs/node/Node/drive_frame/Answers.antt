@@ -27,7 +27,7 @@ returns-in-Done-clause-reacts g c =
     let d : Driver = record { stage = stage.Leaving; node = c.args.self.now; mark = c.args.mark.now } in
     subst (λ (s : Stage). At s c.args.frame) (sym c.in-Leaving.is)
     (subst (λ (f : Frame). At stage.Leaving f) (sym c.in-Done.is)
-      (as_reacts c.args.self.now _ c.args.mark.now _ _ _ _ _ _ refl refl (done_answers c.args.self.now d _)))
+    (as_reacts c.args.self.now _ c.args.mark.now _ _ _ _ _ _ refl refl (done_answers c.args.self.now d _)))
 
 pub returns-clause-reacts : goal.returns-clause-reacts
 returns-clause-reacts g c =

@@ -27,4 +27,4 @@ returns-in-Have-clause-reacts g c =
     let By : Reaction Driver → Type 0 = λ r. ReactsAs c.args.self.now (frame.Have c.in-Have.told) r c.args.self.now c.drive_told.new.mark g.F.Files.tells (g.F.Files.held c.args.files.now) (g.F.Files.held c.args.files.now) (g.D.Door.sessions c.args.door.now) (g.D.Door.sessions c.drive_told.new.door) c.drive_told.result in
     subst AtFrame (sym c.in-Have.is)
     (subst By (told_alike c.args.self.now c.args.mark.now stage.Greeting (stage.Pulling c.args.again) c.args.again c.in-Have.told)
-      (as_reacts c.args.self.now _ c.drive_told.new.mark _ _ _ _ _ _ (told_node (greeting c.args.self.now c.args.mark.now) c.args.again c.in-Have.told) c.drive_told.ensures.marks c.drive_told.ensures.answers))
+    (as_reacts c.args.self.now _ c.drive_told.new.mark _ _ _ _ _ _ (told_node (greeting c.args.self.now c.args.mark.now) c.args.again c.in-Have.told) c.drive_told.ensures.marks c.drive_told.ensures.answers))
