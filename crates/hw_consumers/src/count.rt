@@ -1,6 +1,6 @@
 //! How many blocks there were.
 
-ghost use Rattle.std.specs.Prelude.{◌≡◌, ◌++◌, None, OnOk, IfOk};
+ghost use Rattle.std.specs.Prelude.{◌≡◌, ◌+◌, ◌-◌, ◌^◌, ◌++◌, min, None, OnOk, IfOk};
 ghost use Rattle.std.specs.Io.KnownBytes.{Appends};
 ghost use Rattle.hw_io.specs.Faults.{HasCause};
 ghost use Rattle.hw_text.specs.Text.{number_text};
@@ -22,12 +22,30 @@ pub struct BlockCount<S: Sink> {
 
 impl<S: Sink> BlockCount<S> {
     /// No block was taken yet.
-    pub fn new(alloc: Global, out: S) -> BlockCount<S> {
+    pub fn new(alloc: Global, out: S) -> BlockCount<S>
+        ensures out { result.out ≡ out }
+        ensures blocks { result.blocks ≡ 0 }
+    {
         BlockCount {
             alloc,
             out,
             blocks: 0,
         }
+    }
+
+    /// The output, with what was written to it.
+    pub fn into_out(self) -> S
+        ensures { result ≡ self.out }
+    {
+        self.out
+    }
+
+    /// Counts one block more, up to the greatest number.
+    fn count_one(&mut self)
+        ensures blocks { self.new.blocks ≡ min (self.old.blocks + 1) (2 ^ 64 - 1) }
+        ensures out { self.new.out ≡ self.old.out }
+    {
+        self.blocks = self.blocks.saturating_add(1);
     }
 }
 
@@ -37,7 +55,7 @@ impl<S: Sink + Drop> Consumer for BlockCount<S> {
     ghost faults = { λ consumer. S.faults consumer.out };
 
     fn take(&mut self, _height: u64, _value: &[u8]) -> Result<(), IoFault> {
-        self.blocks = self.blocks.saturating_add(1);
+        self.count_one();
         Ok(())
     }
 

@@ -21,8 +21,17 @@ pub struct ValueFile<F: Files> {
 
 impl<F: Files> ValueFile<F> {
     /// A consumer over these files.
-    pub fn new(alloc: Global, files: F) -> ValueFile<F> {
+    pub fn new(alloc: Global, files: F) -> ValueFile<F>
+        ensures { result.files ≡ files }
+    {
         ValueFile { alloc, files }
+    }
+
+    /// The files, with what was appended to them.
+    pub fn into_files(self) -> F
+        ensures { result ≡ self.files }
+    {
+        self.files
     }
 }
 

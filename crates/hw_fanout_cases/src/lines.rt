@@ -3,15 +3,17 @@
 use crate::passes::pass_along;
 use crate::planned::consumer_of;
 use hw_fanout::Fanout;
+use hw_feed::{put_drops, replay_fed};
 use hw_io::{Consumer, IoFault, MemFiles};
 use hw_replay::Replay;
-use hw_types::OutOfMemory;
+use hw_types::{Bytes, OutOfMemory};
 use std::alloc::Global;
 
 /// The answer to a line.
 pub fn answer(alloc: Global, line: &str) -> Result<String, OutOfMemory> {
     let words: Vec<&str> = line.split(' ').collect(alloc)?;
     match words.as_slice() {
+        ["feed", log, plans @ ..] => fed(alloc, log, plans),
         [when, log, plans @ ..] => passed(alloc, *when == "each", log, plans),
         _ => Ok(String::new(alloc)),
     }
@@ -40,6 +42,31 @@ fn replayed(
         pass_along(&mut files, &mut replay, &mut fanout, consumers, each);
     }
     told(alloc, consumers.len(), &fanout)
+}
+
+/// How many are left, and the lines of those that were dropped, where consumers of these plans are fed while the log is replayed.
+fn fed(alloc: Global, log: &str, plans: &[&str]) -> Result<String, OutOfMemory> {
+    let mut consumers: Vec<Box<dyn Consumer>> = Vec::new(alloc);
+    for plan in plans {
+        consumers.push(Box::new(alloc, consumer_of(alloc, plan)?)?)?;
+    }
+    let mut fanout = Fanout::new(alloc);
+    fanout.reserve(consumers.len())?;
+    let mut files = log_file(alloc, log)?;
+    let _ = replay_fed(alloc, &mut files, "LOG", None, &mut fanout, &mut consumers);
+    fanout.finish(&mut consumers);
+    drop_text(alloc, consumers.len(), &fanout)
+}
+
+/// How many are left, and the lines of the others.
+fn drop_text(alloc: Global, left: usize, fanout: &Fanout) -> Result<String, OutOfMemory> {
+    let mut lines = Bytes::new(alloc);
+    put_drops(&mut lines, fanout)?;
+    let mut text = format!(in alloc; "left {left}\n")?;
+    for byte in lines.as_slice() {
+        text.push(char::from(*byte))?;
+    }
+    Ok(text)
 }
 
 /// A file with these bytes.

@@ -7,6 +7,9 @@
 //!
 //! The answer is how many consumers are left, and of each that was dropped, in order, `consumer PLACE dropped at HEIGHT`,
 //! with `out of memory` in place of `dropped` where it found none, and `finish` in place of the height behind the last block.
+//!
+//! Of a line `feed LOG PLAN ..` the replay itself passes the blocks on after each entry. The answer is how many are left, then
+//! the lines of those that were dropped, then an empty line.
 #![tactic(auto)]
 
 mod lines;

@@ -1,7 +1,7 @@
 use hw_consumers::{BLOCKS_FILE, BlockCount, ValueFile};
 use hw_io::{
     Clock, Consumer, Door, DoorNumbers, Files, HostClock, HostDoor, HostFiles, HostSink, IoFault,
-    write_all,
+    MemSink, write_all,
 };
 use std::fs;
 use std::test::Fail;
@@ -203,4 +203,11 @@ fn values_go_into_a_real_file(rt: HostRuntime) -> Result<(), Fail> {
 fn blocks_are_counted_onto_a_real_output(rt: HostRuntime) {
     let mut count = BlockCount::new(rt.alloc(), HostSink::new(rt.stdout()));
     assert_eq!(rt; consume(&mut count), [Ok(0); 3]);
+}
+
+#[test]
+fn the_count_of_blocks_is_a_line(rt: HostRuntime) {
+    let mut count = BlockCount::new(rt.alloc(), MemSink::new(rt.alloc()));
+    assert_eq!(rt; consume(&mut count), [Ok(0); 3]);
+    assert_eq!(rt; count.into_out().taken(), b"2\n".as_slice());
 }
