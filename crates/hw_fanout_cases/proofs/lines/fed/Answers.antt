@@ -3,5 +3,5 @@ use Rattle.hw_fanout_cases.proofs.GrownLaws.{enough_room}
 use Rattle.hw_fanout_cases.proofs.lines.fed.Goals as goal
 
 pub replay_fed-requires-clause-room : goal.replay_fed-requires-clause-room
-replay_fed-requires-clause-room g c =
-    enough_room c.new-fanout.result c.reserve.new.self.places (length c.args.consumers.now.items) c.len.result c.new-fanout.ensures c.in_ok-reserve.ensures.room (omega (arith, c.len.ensures, c.args.consumers.now.ok))
+replay_fed-requires-clause-room g =
+    enough_room g.new-fanout.result g.reserve.new.self.places (length g.loop-plan.consumers.items) g.len.result g.new-fanout.ensures g.in_ok-reserve.ensures.room (omega (arith, g.len.ensures))
