@@ -1,6 +1,7 @@
 //! The program: its top call, over the real files, output and arguments.
 #![tactic(auto)]
 
+use hw_consumers::{BlockCount, ValueFile};
 use hw_io::{Consumer, HostFiles, HostSink, SetClock, SureDoor};
 use hw_program::{OUT_OF_MEMORY, Words, highway};
 use hw_types::OutOfMemory;
@@ -10,20 +11,32 @@ use std::rt::{Env, Runtime};
 use std::{env, io};
 
 fn main(rt: HostRuntime) -> ExitCode {
-    let status = match command_line(&rt) {
-        Ok(words) => run_on_host(&rt, &words),
-        Err(_) => OUT_OF_MEMORY,
-    };
-    ExitCode::from(status)
+    ExitCode::from(run_on_host(rt).unwrap_or(OUT_OF_MEMORY))
 }
 
-/// Runs over the files and the output of the host. There is no clock, no peer and no consumer yet.
-fn run_on_host<R: Runtime + AllocGlobal>(rt: &R, words: &Words) -> u8 {
+/// Runs with the words of the command line. The values of decided blocks go into a file, and their count onto
+/// standard error.
+fn run_on_host(rt: HostRuntime) -> Result<u8, OutOfMemory> {
+    let alloc = rt.alloc();
+    let words = command_line(&rt)?;
+    let values = ValueFile::new(alloc, HostFiles::new(rt));
+    let count = BlockCount::new(alloc, HostSink::new(rt.stderr()));
+    let mut consumers: Vec<Box<dyn Consumer>> = Vec::new(alloc);
+    consumers.push(Box::new(alloc, values)?)?;
+    consumers.push(Box::new(alloc, count)?)?;
+    Ok(run_with(&rt, &words, &mut consumers))
+}
+
+/// Runs over the files and the output of the host, with these consumers. There is no clock and no peer yet.
+fn run_with<R: Runtime + AllocGlobal>(
+    rt: &R,
+    words: &Words,
+    consumers: &mut Vec<Box<dyn Consumer>>,
+) -> u8 {
     let mut files = HostFiles::new(rt);
     let mut out = HostSink::new(io::writer(rt));
     let mut clock = SetClock::new(Vec::new(rt.alloc()));
     let mut door = SureDoor::new(rt.alloc());
-    let mut consumers: Vec<Box<dyn Consumer>> = Vec::new(rt.alloc());
     highway(
         rt.alloc(),
         words,
@@ -31,7 +44,7 @@ fn run_on_host<R: Runtime + AllocGlobal>(rt: &R, words: &Words) -> u8 {
         &mut out,
         &mut clock,
         &mut door,
-        &mut consumers,
+        consumers,
     )
 }
 

@@ -1,8 +1,9 @@
 //! The lines.
 
-use crate::outside::{fail_call, files_of, number, run, sink_of};
+use crate::outside::{fail_call, files_of, number, run, run_with, sink_of};
+use crate::planned::Planned;
 use crate::short::ShortSink;
-use hw_io::{MemFiles, MemSink};
+use hw_io::{Consumer, MemFiles, MemSink};
 use hw_types::OutOfMemory;
 use std::alloc::Global;
 use std::rt;
@@ -52,6 +53,7 @@ pub fn answer(rt: &(impl rt::Files + AllocGlobal), line: &str) -> Result<String,
             fail_call(&mut outside, call.parse().ok(), number(left))?;
             anew(rt.alloc(), &mut outside, name, command)
         }
+        ["fed", files, plans, command @ ..] => fed(rt, files, plans, command),
         _ => Ok(String::new(rt.alloc())),
     }
 }
@@ -193,4 +195,32 @@ fn want_text(
     let mut out = ShortSink::new(rt.alloc(), write);
     let status = run(rt.alloc(), &mut files, &mut out, command)?;
     Ok(format!(in rt.alloc(); "{status}:{} ", out.taken_count())?)
+}
+
+/// The status, what was written, and how many consumers are left, where there is one for each of the plans.
+fn fed(
+    rt: &(impl rt::Files + AllocGlobal),
+    files: &str,
+    plans: &str,
+    command: &[&str],
+) -> Result<String, OutOfMemory> {
+    let mut consumers: Vec<Box<dyn Consumer>> = Vec::new(rt.alloc());
+    for plan in plans.split(';') {
+        consumers.push(Box::new(rt.alloc(), Planned::new(rt.alloc(), plan)?)?)?;
+    }
+    fed_by(rt, files, &mut consumers, command)
+}
+
+/// The same with these consumers.
+fn fed_by(
+    rt: &(impl rt::Files + AllocGlobal),
+    files: &str,
+    consumers: &mut Vec<Box<dyn Consumer>>,
+    command: &[&str],
+) -> Result<String, OutOfMemory> {
+    let mut files = files_of(rt, usize::MAX, files, "-")?;
+    let mut out = sink_of(rt.alloc(), usize::MAX, None)?;
+    let status = run_with(rt.alloc(), &mut files, &mut out, consumers, command)?;
+    let text = text_of(rt.alloc(), &out)?;
+    Ok(format!(in rt.alloc(); "{status}\n{text}left {}", consumers.len())?)
 }

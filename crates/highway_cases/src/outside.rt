@@ -101,25 +101,30 @@ pub fn sink_of(alloc: Global, take: usize, write: Option<u64>) -> Result<MemSink
     }
 }
 
-/// Runs the program with these words.
+/// Runs the program with these words, and no consumers.
 pub fn run<S: Sink>(
     alloc: Global,
     files: &mut MemFiles,
     out: &mut S,
     command: &[&str],
 ) -> Result<u8, OutOfMemory> {
+    let mut consumers: Vec<Box<dyn Consumer>> = Vec::new(alloc);
+    run_with(alloc, files, out, &mut consumers, command)
+}
+
+/// Runs the program with these words and consumers.
+pub fn run_with<S: Sink>(
+    alloc: Global,
+    files: &mut MemFiles,
+    out: &mut S,
+    consumers: &mut Vec<Box<dyn Consumer>>,
+    command: &[&str],
+) -> Result<u8, OutOfMemory> {
     let words = words_of(alloc, command)?;
     let mut clock = SetClock::new(Vec::new(alloc));
     let mut door = SureDoor::new(alloc);
-    let mut consumers: Vec<Box<dyn Consumer>> = Vec::new(alloc);
     Ok(highway(
-        alloc,
-        &words,
-        files,
-        out,
-        &mut clock,
-        &mut door,
-        &mut consumers,
+        alloc, &words, files, out, &mut clock, &mut door, consumers,
     ))
 }
 

@@ -18,10 +18,10 @@ use Rattle.hw_program.proofs.RewriteLaws.{said_done}
 -- ---- the status
 
 -- Each status but 5 and 7 is the one with which the run came to its text.
-abbrev IsKept : ℕ → ℕ → Type 0
+abbrev pub IsKept : ℕ → ℕ → Type 0
 IsKept status result = (k : ℕ) → result ≡ k → (k ≡ 5 → ⊥) → (k ≡ 7 → ⊥) → status ≡ k
 
-finished : (status : ℕ) (text : List ℕ) (result : ℕ) (old new : Output) → Finishes status text result old new → IsKept status result
+pub finished : (status : ℕ) (text : List ℕ) (result : ℕ) (old new : Output) → Finishes status text result old new → IsKept status result
 finished status text result old new (inl whole) k is five seven = sym whole.0 ∙ is
 finished status text result old new (inr (inl cut)) k is five seven = go ((status == 0) || (status == 3)) cut.0
   where
@@ -30,7 +30,7 @@ finished status text result old new (inr (inl cut)) k is five seven = go ((statu
     go false e = sym e ∙ is
 finished status text result old new (inr (inr want)) k is five seven = absurd (seven (sym is ∙ want.0))
 
-without_memory : (status result : ℕ) → result ≡ 7 → IsKept status result
+pub without_memory : (status result : ℕ) → result ≡ 7 → IsKept status result
 without_memory status result memory k is five seven = absurd (seven (sym is ∙ memory))
 
 -- ---- the files
@@ -125,7 +125,7 @@ append_told result old new before now (inl whole) rose five = (rose, inl whole.1
 append_told result old new before now (inr (inl cut)) rose five = (rose, inr (cut.1, cut.2))
 append_told result old new before now (inr (inr want)) rose five = absurd (let seven = want.0 in omega (arith, seven, five))
 
-pub append_untold : (text : List ℕ) (result : ℕ) (old new : Output) (before now : ℕ) → Finishes 5 append_fault_line result old new → Rose before now → result ≡ 7 → EndsAppending old new text before now
-append_untold text result old new before now (inl whole) rose seven = absurd (let five = whole.0 in omega (arith, five, seven))
-append_untold text result old new before now (inr (inl cut)) rose seven = absurd (let five : result ≡ 5 = cut.0 in omega (arith, five, seven))
-append_untold text result old new before now (inr (inr want)) rose seven = inr (rose, want.1)
+pub append_untold : (is_text : List ℕ → Type 0) (result : ℕ) (old new : Output) (before now : ℕ) → Finishes 5 append_fault_line result old new → Rose before now → result ≡ 7 → EndsAppending old new is_text before now
+append_untold is_text result old new before now (inl whole) rose seven = absurd (let five = whole.0 in omega (arith, five, seven))
+append_untold is_text result old new before now (inr (inl cut)) rose seven = absurd (let five : result ≡ 5 = cut.0 in omega (arith, five, seven))
+append_untold is_text result old new before now (inr (inr want)) rose seven = inr (rose, want.1)

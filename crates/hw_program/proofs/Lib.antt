@@ -11,4 +11,7 @@ pub mod AuditLaws
 pub mod ConflictLaws
 pub mod RewriteLaws
 pub mod MigratedLaws
+pub mod FedLaws
+pub mod ToldLaws
 pub mod EndLaws
+pub mod WrittenLaws

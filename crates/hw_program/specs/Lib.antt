@@ -10,4 +10,5 @@ pub mod Program
 pub mod Faults
 pub mod Run
 pub mod Files
+pub mod Fed
 pub mod Rewritten

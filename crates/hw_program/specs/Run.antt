@@ -41,13 +41,21 @@ WritesMemoryLine old new =
 abbrev pub WritesToNoMemory : Output → Output → List ℕ → Type 0
 WritesToNoMemory old new text = Rose old.wants new.wants × ((n m : ℕ) × Appends old.taken new.taken (take n text ++ take m out_of_memory_line))
 
+-- all of a text of this kind was taken
+abbrev pub WritesText : (List ℕ → Type 0) → Option (List ℕ) → Option (List ℕ) → Type 0
+WritesText is_text old new = (text : List ℕ) × (is_text text × Appends old new text)
+
+-- a prefix of one was
+abbrev pub WritesPrefix : (List ℕ → Type 0) → Option (List ℕ) → Option (List ℕ) → Type 0
+WritesPrefix is_text old new = (text : List ℕ) × (is_text text × AppendsPrefix old new text)
+
 -- There was no memory up to the text; or a write of the text, or of the line of a failed read, found none.
-abbrev pub EndsWithoutMemory : Output → Output → List ℕ → Type 0
-EndsWithoutMemory old new text = WritesMemoryLine old new ⊎ (WritesToNoMemory old new text ⊎ WritesToNoMemory old new read_fault_line)
+abbrev pub EndsWithoutMemory : Output → Output → (List ℕ → Type 0) → Type 0
+EndsWithoutMemory old new is_text = WritesMemoryLine old new ⊎ (((text : List ℕ) × (is_text text × WritesToNoMemory old new text)) ⊎ WritesToNoMemory old new read_fault_line)
 
 -- of a run that may append too: or an append failed, and a write of its line found none
-abbrev pub EndsAppending : Output → Output → List ℕ → ℕ → ℕ → Type 0
-EndsAppending old new text appends_before appends = EndsWithoutMemory old new text ⊎ (Rose appends_before appends × WritesToNoMemory old new append_fault_line)
+abbrev pub EndsAppending : Output → Output → (List ℕ → Type 0) → ℕ → ℕ → Type 0
+EndsAppending old new is_text appends_before appends = EndsWithoutMemory old new is_text ⊎ (Rose appends_before appends × WritesToNoMemory old new append_fault_line)
 
 -- How a run that has this status and text ends: the text is written whole; or a write failed, and a run that had done all
 -- says so; or a write found no memory.

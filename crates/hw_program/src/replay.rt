@@ -1,23 +1,39 @@
-//! `replay`: the report on a log.
+//! `replay`: the report on a log, of which consumers are told the decided blocks.
 
-ghost use Rattle.std.specs.Prelude.{◌≡◌, IsTrue, IfOk, IfErr};
+ghost use Rattle.std.specs.Prelude.{◌≡◌, ◌≤◌, ◌++◌, None, length, IsTrue, IfOk, IfErr};
 ghost use Rattle.hw_io.specs.Faults.{Rose};
 ghost use Rattle.hw_io.specs.Files.{SameFiles};
 ghost use Rattle.hw_replay.specs.Replay.{taken_in};
+ghost use Rattle.hw_fanout.specs.Fates.{seen, AreServed};
+ghost use Rattle.hw_fanout.specs.Told.{IsFinished};
+ghost use Rattle.hw_feed.specs.Feed.{file_replayed};
+ghost use Rattle.hw_feed.specs.Lines.{drop_lines};
 ghost use Rattle.hw_program.specs.Faults.{HasReadFault, IsReadEnd};
+ghost use Rattle.hw_program.specs.Fed.{first_kept, IsReplayTold, IsReplayText};
+ghost use Rattle.hw_program.specs.Files.{status_of};
 ghost use Rattle.hw_program.specs.Program.{ended, report_of, replay_said};
 ghost use Rattle.hw_program.specs.declared.ended.RunFault.TheVariants as RunFaults;
 
 use crate::ended::{DONE, Ended, RunFault};
 use crate::faults::stopped;
 use hw_explain::report;
-use hw_io::Files;
-use hw_replay::{Replay, replay_log};
+use hw_fanout::Fanout;
+use hw_feed::{put_drops, replay_fed};
+use hw_io::{Consumer, Files};
+use hw_replay::Replay;
+use hw_types::OutOfMemory;
 use std::alloc::Global;
 
-/// Replays the log under this word, and says how the run ends.
-pub fn replay<F: Files>(alloc: Global, files: &mut F, log: &str) -> Result<Ended, RunFault>
-    ensures said { IsTrue F.tells → IfOk result (λ e. e ≡ ended (replay_said (F.held files.old) log.now)) }
+/// Replays the log under this word, with the consumers as they were handed in, and says how the run ends.
+pub fn replay<F: Files>(
+    alloc: Global,
+    files: &mut F,
+    log: &str,
+    consumers: &mut Vec<Box<dyn Consumer>>,
+) -> Result<Ended, RunFault>
+    ensures said { IsTrue F.tells → IfOk result (λ e. e.status ≡ (ended (replay_said (F.held files.old) log.now)).status) }
+    ensures text { IsTrue F.tells → IfOk result (λ e. IsReplayText (seen (λ b. consumed b) (λ b. faults b) (λ b. b.vtable)) F.tells (file_replayed None (F.held files.old log.now)) (ended (replay_said (F.held files.old) log.now)) consumers.old.items consumers.new.items e.text) }
+    ensures told { IsReplayTold (seen (λ b. consumed b) (λ b. faults b) (λ b. b.vtable)) F.tells (file_replayed None (F.held files.old log.now)) (status_of result) consumers.old.items consumers.new.items }
     ensures status { IfOk result (λ e. IsReadEnd e.status) }
     ensures fault { HasReadFault (F.read_faults files.old) (F.read_faults files.new) result }
     ensures about { IsTrue F.tells → IfErr result (λ fault. fault ≡ RunFaults.Read → Rose (F.faults_about files.old log.now) (F.faults_about files.new log.now)) }
@@ -25,17 +41,53 @@ pub fn replay<F: Files>(alloc: Global, files: &mut F, log: &str) -> Result<Ended
     ensures files { SameFiles (F.held files.old) (F.held files.new) }
     ensures appends { F.append_faults files.new ≡ F.append_faults files.old }
 {
-    match replay_log(alloc, files, log, None) {
-        Ok(replay) => reported(alloc, &replay),
+    let mut fanout = Fanout::new(alloc);
+    match fanout.reserve(consumers.len()) {
+        Ok(()) => replay_told(alloc, files, log, &mut fanout, consumers),
+        Err(OutOfMemory) => Err(RunFault::OutOfMemory),
+    }
+}
+
+/// The same, where there is room for the consumers.
+fn replay_told<F: Files>(
+    alloc: Global,
+    files: &mut F,
+    log: &str,
+    fanout: &mut Fanout,
+    consumers: &mut Vec<Box<dyn Consumer>>,
+) -> Result<Ended, RunFault>
+    requires { fanout.old ≡ first_kept consumers.old.items }
+    ensures said { IsTrue F.tells → IfOk result (λ e. e.status ≡ (ended (replay_said (F.held files.old) log.now)).status) }
+    ensures text { IsTrue F.tells → IfOk result (λ e. IsReplayText (seen (λ b. consumed b) (λ b. faults b) (λ b. b.vtable)) F.tells (file_replayed None (F.held files.old log.now)) (ended (replay_said (F.held files.old) log.now)) consumers.old.items consumers.new.items e.text) }
+    ensures told { IsReplayTold (seen (λ b. consumed b) (λ b. faults b) (λ b. b.vtable)) F.tells (file_replayed None (F.held files.old log.now)) (status_of result) consumers.old.items consumers.new.items }
+    ensures status { IfOk result (λ e. IsReadEnd e.status) }
+    ensures fault { HasReadFault (F.read_faults files.old) (F.read_faults files.new) result }
+    ensures about { IsTrue F.tells → IfErr result (λ fault. fault ≡ RunFaults.Read → Rose (F.faults_about files.old log.now) (F.faults_about files.new log.now)) }
+
+    ensures files { SameFiles (F.held files.old) (F.held files.new) }
+    ensures appends { F.append_faults files.new ≡ F.append_faults files.old }
+{
+    match replay_fed(alloc, files, log, None, fanout, consumers) {
+        Ok(replay) => reported(alloc, &replay, fanout, consumers),
         Err(fault) => stopped(alloc, log, fault),
     }
 }
 
-/// The report on what a replay left.
-fn reported(alloc: Global, replay: &Replay) -> Result<Ended, RunFault>
-    ensures text { IfOk result (λ e. e ≡ record { status = 0; text = report_of (taken_in replay.now) }) }
+/// Tells the consumers that no block follows, and makes the report on what a replay left. The consumers that
+/// were dropped are named behind it.
+fn reported(
+    alloc: Global,
+    replay: &Replay,
+    fanout: &mut Fanout,
+    consumers: &mut Vec<Box<dyn Consumer>>,
+) -> Result<Ended, RunFault>
+    requires { length consumers.old.items ≤ length fanout.old.places }
+    ensures finished { AreServed (IsFinished (seen (λ b. consumed b) (λ b. faults b) (λ b. b.vtable))) consumers.old.items consumers.new.items fanout.old fanout.new }
+    ensures text { IfOk result (λ e. e ≡ record { status = 0; text = report_of (taken_in replay.now) ++ drop_lines fanout.new.drops }) }
     ensures fault { IfErr result (λ fault. fault ≡ RunFaults.OutOfMemory) }
 {
-    let text = report(alloc, &replay.core, replay.refused, replay.repeats)?;
+    fanout.finish(consumers);
+    let mut text = report(alloc, &replay.core, replay.refused, replay.repeats)?;
+    put_drops(&mut text, fanout)?;
     Ok(Ended { status: DONE, text })
 }

@@ -11,7 +11,9 @@ ghost use Rattle.hw_program.specs.Faults.{HasReadFault, HasRunFault, FailsOf, Is
 ghost use Rattle.hw_program.specs.Files.{FilesAfter, IsAllowed, status_of};
 ghost use Rattle.hw_program.specs.Program.{run_of};
 ghost use Rattle.hw_program.specs.Conflict.{ReportsConflict};
-ghost use Rattle.hw_program.specs.Run.{IsStatus, IsDone, IsSaid, IsRefusal, WritesLine, WritesMemoryLine, EndsWithoutMemory, EndsAppending, Finishes};
+ghost use Rattle.hw_fanout.specs.Fates.{seen};
+ghost use Rattle.hw_program.specs.Fed.{CallsNone, ConsumersAfter, IsTextOf};
+ghost use Rattle.hw_program.specs.Run.{IsStatus, IsDone, IsSaid, IsRefusal, WritesLine, WritesText, WritesPrefix, WritesMemoryLine, EndsWithoutMemory, EndsAppending, Finishes};
 ghost use Rattle.hw_program.specs.declared.ended.RunFault.TheVariants as RunFaults;
 
 use crate::audit::audit_logs;
@@ -35,7 +37,9 @@ const OUT_OF_MEMORY_LINE: &str = "out of memory\n";
 
 /// Runs the command that the words ask for, and answers the exit status.
 ///
-/// Its text is made whole before the first byte of it is written. The status is 0 where all was
+/// Its text is made whole before the first byte of it is written. In `replay` the consumers are given
+/// the decided blocks after each entry, and are told that no block follows before the report is made; one
+/// that answers an error is dropped, leaves the list, and is named behind the report. The status is 0 where all was
 /// done, 1 where the words aren't in the grammar, 2 where a file's bytes aren't or a file that is to
 /// be new is there, 3 where two logs report conflicting final blocks, 4 where a read of the files
 /// failed, 5 where a write of the output or an append to a file failed, 7 where there was no memory,
@@ -75,27 +79,30 @@ pub fn highway<F: Files, S: Sink, C: Clock, D: Door>(
     // Where two logs report conflicting final blocks, the audit names culprits, each by two signed units, and they weigh more than the threshold.
     ensures conflict { IsTrue F.tells → result ≡ 3 → ReportsConflict words.now (F.held files.old) (run_of words.now (F.held files.old)).text }
 
-    // What is written with each status.
-    ensures text { IsTrue F.tells → IsDone result → Appends (S.taken out.old) (S.taken out.new) (run_of words.now (F.held files.old)).text }
+    // What is written with each status. Behind a report the text names the consumers that were dropped.
+    ensures text { IsTrue F.tells → IsDone result → WritesText (IsTextOf (seen (λ b. consumed b) (λ b. (⟦<dyn Consumer as Consumer>⟧ b.vtable).faults b.value) (λ b. b.vtable)) F.tells words.now (F.held files.old) consumers.old.items consumers.new.items) (S.taken out.old) (S.taken out.new) }
     ensures line { IsTrue F.tells → IsRefusal result → WritesLine (S.taken out.old) (S.taken out.new) (run_of words.now (F.held files.old)).text (S.faults out.old) (S.faults out.new) }
     ensures usage_line { result ≡ 1 → WritesLine (S.taken out.old) (S.taken out.new) usage_line (S.faults out.old) (S.faults out.new) }
     ensures read_line { result ≡ 4 → WritesLine (S.taken out.old) (S.taken out.new) read_fault_line (S.faults out.old) (S.faults out.new) }
-    ensures cut { IsTrue F.tells → OnlyReads (request_of words.now) → result ≡ 5 → AppendsPrefix (S.taken out.old) (S.taken out.new) (run_of words.now (F.held files.old)).text }
-    ensures append_line { IsTrue F.tells → result ≡ 5 → (Rose (S.faults out.old) (S.faults out.new) × AppendsPrefix (S.taken out.old) (S.taken out.new) (run_of words.now (F.held files.old)).text) ⊎ (Rose (F.append_faults files.old) (F.append_faults files.new) × WritesLine (S.taken out.old) (S.taken out.new) append_fault_line (S.faults out.old) (S.faults out.new)) }
-    ensures memory_line { IsTrue F.tells → OnlyReads (request_of words.now) → result ≡ 7 → EndsWithoutMemory (record { taken = S.taken out.old; faults = S.faults out.old; wants = S.wants out.old }) (record { taken = S.taken out.new; faults = S.faults out.new; wants = S.wants out.new }) (run_of words.now (F.held files.old)).text }
-    ensures any_memory_line { IsTrue F.tells → result ≡ 7 → EndsAppending (record { taken = S.taken out.old; faults = S.faults out.old; wants = S.wants out.old }) (record { taken = S.taken out.new; faults = S.faults out.new; wants = S.wants out.new }) (run_of words.now (F.held files.old)).text (F.append_faults files.old) (F.append_faults files.new) }
+    ensures cut { IsTrue F.tells → OnlyReads (request_of words.now) → result ≡ 5 → WritesPrefix (IsTextOf (seen (λ b. consumed b) (λ b. (⟦<dyn Consumer as Consumer>⟧ b.vtable).faults b.value) (λ b. b.vtable)) F.tells words.now (F.held files.old) consumers.old.items consumers.new.items) (S.taken out.old) (S.taken out.new) }
+    ensures append_line { IsTrue F.tells → result ≡ 5 → (Rose (S.faults out.old) (S.faults out.new) × WritesPrefix (IsTextOf (seen (λ b. consumed b) (λ b. (⟦<dyn Consumer as Consumer>⟧ b.vtable).faults b.value) (λ b. b.vtable)) F.tells words.now (F.held files.old) consumers.old.items consumers.new.items) (S.taken out.old) (S.taken out.new)) ⊎ (Rose (F.append_faults files.old) (F.append_faults files.new) × WritesLine (S.taken out.old) (S.taken out.new) append_fault_line (S.faults out.old) (S.faults out.new)) }
+    ensures memory_line { IsTrue F.tells → OnlyReads (request_of words.now) → result ≡ 7 → EndsWithoutMemory (record { taken = S.taken out.old; faults = S.faults out.old; wants = S.wants out.old }) (record { taken = S.taken out.new; faults = S.faults out.new; wants = S.wants out.new }) (IsTextOf (seen (λ b. consumed b) (λ b. (⟦<dyn Consumer as Consumer>⟧ b.vtable).faults b.value) (λ b. b.vtable)) F.tells words.now (F.held files.old) consumers.old.items consumers.new.items) }
+    ensures any_memory_line { IsTrue F.tells → result ≡ 7 → EndsAppending (record { taken = S.taken out.old; faults = S.faults out.old; wants = S.wants out.old }) (record { taken = S.taken out.new; faults = S.faults out.new; wants = S.wants out.new }) (IsTextOf (seen (λ b. consumed b) (λ b. (⟦<dyn Consumer as Consumer>⟧ b.vtable).faults b.value) (λ b. b.vtable)) F.tells words.now (F.held files.old) consumers.old.items consumers.new.items) (F.append_faults files.old) (F.append_faults files.new) }
 
     // What a run leaves of the files.
     ensures left { IsTrue F.tells → FilesAfter (request_of words.now) result (F.held files.old) (F.held files.new) }
+
+    // What the consumers were told.
+    ensures consumers { ConsumersAfter (seen (λ b. consumed b) (λ b. (⟦<dyn Consumer as Consumer>⟧ b.vtable).faults b.value) (λ b. b.vtable)) F.tells (request_of words.now) (F.held files.old) result consumers.old.items consumers.new.items }
 
     // What a command doesn't use stays as it was.
     ensures files { OnlyReads (request_of words.now) → SameFiles (F.held files.old) (F.held files.new) }
     ensures appends { OnlyReads (request_of words.now) → F.append_faults files.new ≡ F.append_faults files.old }
     ensures clock { UsesFilesAlone (request_of words.now) → clock.new ≡ clock.old }
     ensures door { UsesFilesAlone (request_of words.now) → door.new ≡ door.old }
-    ensures consumers { UsesFilesAlone (request_of words.now) → consumers.new ≡ consumers.old }
+    ensures uncalled { CallsNone (request_of words.now) → consumers.new ≡ consumers.old }
 {
-    match run(alloc, words, files) {
+    match run(alloc, words, files, consumers) {
         Ok(ended) => finish(out, ended.status, ended.text.as_slice()),
         Err(RunFault::Read) => finish(out, READ_FAULT, READ_FAULT_LINE.as_bytes()),
         Err(RunFault::Append) => finish(out, WRITE_FAULT, APPEND_FAULT_LINE.as_bytes()),
@@ -105,21 +112,30 @@ pub fn highway<F: Files, S: Sink, C: Clock, D: Door>(
 
 /// Runs the command up to its text.
 #[tactic(auto, using(crate::proofs::AuditLaws::no_conflict, crate::proofs::AuditLaws::reports), unfolding(crate::specs::Program::run_of))]
-fn run<F: Files>(alloc: Global, words: &Words, files: &mut F) -> Result<Ended, RunFault>
-    ensures said { IsTrue F.tells → IfOk result (λ ended. ended ≡ run_of words.now (F.held files.old)) }
-    ensures conflict { IsTrue F.tells → IfOk result (λ ended. ended.status ≡ 3 → ReportsConflict words.now (F.held files.old) ended.text) }
+fn run<F: Files>(
+    alloc: Global,
+    words: &Words,
+    files: &mut F,
+    consumers: &mut Vec<Box<dyn Consumer>>,
+) -> Result<Ended, RunFault>
+    ensures said { IsTrue F.tells → IfOk result (λ ended. ended.status ≡ (run_of words.now (F.held files.old)).status) }
+    ensures text { IsTrue F.tells → IfOk result (λ ended. IsTextOf (seen (λ b. consumed b) (λ b. faults b) (λ b. b.vtable)) F.tells words.now (F.held files.old) consumers.old.items consumers.new.items ended.text) }
+    ensures conflict { IsTrue F.tells → IfOk result (λ ended. ended.status ≡ 3 → ReportsConflict words.now (F.held files.old) (run_of words.now (F.held files.old)).text) }
     ensures status { IfOk result (λ ended. IsEndOf (request_of words.now) ended) }
     ensures fault { HasRunFault (F.read_faults files.old) (F.read_faults files.new) (F.append_faults files.old) (F.append_faults files.new) result }
     ensures only { OnlyReads (request_of words.now) → HasReadFault (F.read_faults files.old) (F.read_faults files.new) result }
     ensures about { IsTrue F.tells → IfErr result (λ fault. fault ≡ RunFaults.Read → FailsOf (request_of words.now) (F.faults_about files.old) (F.faults_about files.new)) }
     ensures usage { request_of words.now ≡ None → IfErr result (λ fault. fault ≡ RunFaults.OutOfMemory) }
 
+    ensures consumers { ConsumersAfter (seen (λ b. consumed b) (λ b. faults b) (λ b. b.vtable)) F.tells (request_of words.now) (F.held files.old) (status_of result) consumers.old.items consumers.new.items }
+    ensures uncalled { CallsNone (request_of words.now) → consumers.new ≡ consumers.old }
+
     ensures left { IsTrue F.tells → FilesAfter (request_of words.now) (status_of result) (F.held files.old) (F.held files.new) }
     ensures files { OnlyReads (request_of words.now) → SameFiles (F.held files.old) (F.held files.new) }
     ensures appends { OnlyReads (request_of words.now) → F.append_faults files.new ≡ F.append_faults files.old }
 {
     match command_of(words) {
-        Some(Command::Replay { log }) => replay(alloc, files, log),
+        Some(Command::Replay { log }) => replay(alloc, files, log, consumers),
         Some(Command::Explain { log }) => explain(alloc, files, log),
         Some(Command::Audit { left, right }) => audit_logs(alloc, files, left, right),
         Some(Command::Script { file }) => script(alloc, files, file),
