@@ -1,9 +1,8 @@
 //! The lines.
 
-use crate::outside::{fail_call, files_of, number, run, run_with, sink_of};
-use crate::planned::Planned;
+use crate::outside::{fail_call, files_of, number, run, run_fed, sink_of};
 use crate::short::ShortSink;
-use hw_io::{Consumer, MemFiles, MemSink};
+use hw_io::{MemFiles, MemSink};
 use hw_types::OutOfMemory;
 use std::alloc::Global;
 use std::rt;
@@ -204,23 +203,10 @@ fn fed(
     plans: &str,
     command: &[&str],
 ) -> Result<String, OutOfMemory> {
-    let mut consumers: Vec<Box<dyn Consumer>> = Vec::new(rt.alloc());
-    for plan in plans.split(';') {
-        consumers.push(Box::new(rt.alloc(), Planned::new(rt.alloc(), plan)?)?)?;
-    }
-    fed_by(rt, files, &mut consumers, command)
-}
-
-/// The same with these consumers.
-fn fed_by(
-    rt: &(impl rt::Files + AllocGlobal),
-    files: &str,
-    consumers: &mut Vec<Box<dyn Consumer>>,
-    command: &[&str],
-) -> Result<String, OutOfMemory> {
     let mut files = files_of(rt, usize::MAX, files, "-")?;
     let mut out = sink_of(rt.alloc(), usize::MAX, None)?;
-    let status = run_with(rt.alloc(), &mut files, &mut out, consumers, command)?;
+    let plans: Vec<&str> = plans.split(';').collect(rt.alloc())?;
+    let (status, left) = run_fed(rt.alloc(), &mut files, &mut out, plans.as_slice(), command)?;
     let text = text_of(rt.alloc(), &out)?;
-    Ok(format!(in rt.alloc(); "{status}\n{text}left {}", consumers.len())?)
+    Ok(format!(in rt.alloc(); "{status}\n{text}left {left}")?)
 }

@@ -1,5 +1,6 @@
 //! The outside of one run.
 
+use crate::planned::Planned;
 use hw_io::{Consumer, Files, HostFiles, IoFault, MemFiles, MemSink, SetClock, Sink, SureDoor};
 use hw_program::{Words, highway};
 use hw_types::OutOfMemory;
@@ -108,24 +109,35 @@ pub fn run<S: Sink>(
     out: &mut S,
     command: &[&str],
 ) -> Result<u8, OutOfMemory> {
-    let mut consumers: Vec<Box<dyn Consumer>> = Vec::new(alloc);
-    run_with(alloc, files, out, &mut consumers, command)
+    let (status, _) = run_fed(alloc, files, out, &[], command)?;
+    Ok(status)
 }
 
-/// Runs the program with these words and consumers.
-pub fn run_with<S: Sink>(
+/// Runs the program with these words and a consumer for each of the plans, and answers how many are left too.
+pub fn run_fed<S: Sink>(
     alloc: Global,
     files: &mut MemFiles,
     out: &mut S,
-    consumers: &mut Vec<Box<dyn Consumer>>,
+    plans: &[&str],
     command: &[&str],
-) -> Result<u8, OutOfMemory> {
+) -> Result<(u8, usize), OutOfMemory> {
     let words = words_of(alloc, command)?;
     let mut clock = SetClock::new(Vec::new(alloc));
     let mut door = SureDoor::new(alloc);
-    Ok(highway(
-        alloc, &words, files, out, &mut clock, &mut door, consumers,
-    ))
+    let mut consumers: Vec<Box<dyn Consumer>> = Vec::new(alloc);
+    for plan in plans {
+        consumers.push(Box::new(alloc, Planned::new(alloc, plan)?)?)?;
+    }
+    let status = highway(
+        alloc,
+        &words,
+        files,
+        out,
+        &mut clock,
+        &mut door,
+        &mut consumers,
+    );
+    Ok((status, consumers.len()))
 }
 
 fn words_of(alloc: Global, command: &[&str]) -> Result<Words, OutOfMemory> {

@@ -1,17 +1,16 @@
 //! The top call.
 
 ghost use Rattle.std.specs.Prelude.{◌≡◌, ◌≢◌, ℕ, ◌≤◌, None, Some, IsTrue, IfOk, IfErr, ◌⊎◌};
-ghost use Rattle.std.specs.Io.KnownBytes.{Appends};
 ghost use Rattle.hw_io.specs.Faults.{Rose};
 ghost use Rattle.hw_io.specs.Files.{SameFiles};
 ghost use Rattle.hw_io.specs.Sinks.{AppendsPrefix};
+ghost use Rattle.hw_fanout.specs.Fates.{seen};
 ghost use Rattle.hw_program.specs.Commands.{request_of, OnlyReads, UsesFilesAlone};
 ghost use Rattle.hw_program.specs.Texts.{usage_line, read_fault_line, append_fault_line, out_of_memory_line};
 ghost use Rattle.hw_program.specs.Faults.{HasReadFault, HasRunFault, FailsOf, IsEndOf};
 ghost use Rattle.hw_program.specs.Files.{FilesAfter, IsAllowed, status_of};
 ghost use Rattle.hw_program.specs.Program.{run_of};
 ghost use Rattle.hw_program.specs.Conflict.{ReportsConflict};
-ghost use Rattle.hw_fanout.specs.Fates.{seen};
 ghost use Rattle.hw_program.specs.Fed.{CallsNone, ConsumersAfter, IsTextOf};
 ghost use Rattle.hw_program.specs.Run.{IsStatus, IsDone, IsSaid, IsRefusal, WritesLine, WritesText, WritesPrefix, WritesMemoryLine, EndsWithoutMemory, EndsAppending, Finishes};
 ghost use Rattle.hw_program.specs.declared.ended.RunFault.TheVariants as RunFaults;
@@ -38,13 +37,13 @@ const OUT_OF_MEMORY_LINE: &str = "out of memory\n";
 /// Runs the command that the words ask for, and answers the exit status.
 ///
 /// Its text is made whole before the first byte of it is written. In `replay` the consumers are given
-/// the decided blocks after each entry, and are told that no block follows before the report is made; one
-/// that answers an error is dropped, leaves the list, and is named behind the report. The status is 0 where all was
-/// done, 1 where the words aren't in the grammar, 2 where a file's bytes aren't or a file that is to
-/// be new is there, 3 where two logs report conflicting final blocks, 4 where a read of the files
-/// failed, 5 where a write of the output or an append to a file failed, 7 where there was no memory,
-/// 8 where a log meets a limit, and 9 where two different units have one digest. A fault has one line,
-/// which is written if the output takes it.
+/// the decided blocks after each entry, and are told that no block follows before the report is made;
+/// one that answers an error is dropped, leaves the list, and is named behind the report. The status is
+/// 0 where all was done, 1 where the words aren't in the grammar, 2 where a file's bytes aren't or a file
+/// that is to be new is there, 3 where two logs report conflicting final blocks, 4 where a read of the
+/// files failed, 5 where a write of the output or an append to a file failed, 7 where there was no
+/// memory, 8 where a log meets a limit, and 9 where two different units have one digest. A fault has one
+/// line, which is written if the output takes it.
 pub fn highway<F: Files, S: Sink, C: Clock, D: Door>(
     alloc: Global,
     words: &Words,
