@@ -2,7 +2,8 @@
 //!
 //! `specs/Program.antt` says how a run ends and what it writes, by its words and what the files hold, and
 //! `specs/Files.antt` what it leaves of the files. Each command is one case in both, one variant of `Command`, and
-//! one module here, or one with its like.
+//! one module here, or one with its like. `specs/Fed.antt` says what a command that calls consumers tells them, and
+//! which of them its text names.
 #![tactic(auto)]
 
 mod audit;
