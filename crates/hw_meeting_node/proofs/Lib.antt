@@ -1,0 +1,9 @@
+pub mod FrameLaws
+pub mod TalkLaws
+pub mod EndLaws
+pub mod MeetingLaws
+pub mod SayLaws
+pub mod ReactLaws
+pub mod DoneLaws
+pub mod ConvergeLaws
+pub mod VertexLaws

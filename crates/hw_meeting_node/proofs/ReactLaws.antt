@@ -1,0 +1,67 @@
+-- What a node did at a frame of a meeting.
+use Rattle.std.proofs.Common.{◌≡◌, ◌⊎◌, ℕ, ◌<◌, ◌≤◌, Bool, true, false, cond, List, [], ◌∷◌, ◌++◌, length, take, Option, Some, None, Result, Ok, Err, inl, inr, refl, sym, ap, subst, ◌∙◌, arith}
+use Rattle.hw_types.specs.declared.unit.Digest.{Digest}
+use Rattle.hw_types.specs.declared.unit.Vertex.{Vertex}
+use Rattle.hw_types.specs.declared.answers.Receipt.{Receipt}
+use Rattle.hw_types.specs.declared.answers.Cause.{Cause}
+use Rattle.hw_types.specs.declared.answers.Cause.TheVariants as cause
+use Rattle.hw_types.specs.Graph.{digest_eq}
+use Rattle.hw_types.specs.Spelling.{instance_of}
+use Rattle.hw_types.specs.Real.{CoreState}
+use Rattle.hw_io.specs.Doors.{Session}
+use Rattle.hw_link.specs.declared.end.SessionEnd.{SessionEnd}
+use Rattle.hw_link.specs.declared.end.SessionEnd.TheVariants as end
+use Rattle.hw_link.specs.Links.{after_part}
+use Rattle.hw_link.specs.Sent.{Sends}
+use Rattle.hw_link.proofs.LinkLaws.{after_nothing}
+use Rattle.hw_meeting_link.specs.Frames.{sent_bytes}
+use Rattle.hw_meeting_node.specs.declared.meeter.Side.{Side}
+use Rattle.hw_meeting_node.specs.Talk.{Reaction, goes_on, ends}
+use Rattle.hw_meeting_node.specs.Meeting.{Meeting, greeted, not_due}
+use Rattle.hw_meeting_node.specs.Handling.{Reacts}
+
+-- nothing was sent
+pub none_sent : (old : Option (List Session)) → old ≡ after_part [] (sent_bytes []) false old
+none_sent old = sym (after_nothing old)
+
+take_none : (xs : List ℕ) → [] ≡ take 0 xs
+take_none [] = refl
+take_none (x ∷ xs) = refl
+
+module _ (c : CoreState) (r : Reaction Meeting) (now : Meeting) (old new : Option (List Session)) where
+  -- it stands where the reaction says, which goes on, and sent its answer or a first part of it
+  pub sends_reacts : (result : Result (Unit {0}) SessionEnd) → r.end ≡ None → now ≡ r.state → Sends {T = Unit {0}} (sent_bytes r.says) old new result → Reacts {T = Unit {0}} c r now old new result
+  sends_reacts (Ok x) goes stands s = (goes, stands, s.told ∙ ap (λ (part : List ℕ). after_part [] part false old) s.whole)
+  sends_reacts (Err end.LinkFault) goes stands s = (ap (λ (m : Meeting). m.core) stands, s.part, s.first, s.told)
+  sends_reacts (Err end.OutOfMemory) goes stands s = (inr (ap (λ (m : Meeting). m.core) stands), s.part, s.first, s.told)
+  sends_reacts (Err end.Done) goes stands s = absurd s.error
+  sends_reacts (Err end.EndOfInput) goes stands s = absurd s.error
+  sends_reacts (Err end.WrongInstance) goes stands s = absurd s.error
+  sends_reacts (Err (end.BadFrame at)) goes stands s = absurd s.error
+  sends_reacts (Err end.AppendFault) goes stands s = absurd s.error
+  sends_reacts (Err end.ByteLimit) goes stands s = absurd s.error
+  sends_reacts (Err end.Clash) goes stands s = absurd s.error
+
+  -- the same where the reaction ends the session: the answer was sent
+  pub sent_ends : (e : SessionEnd) → r.end ≡ Some end.Done → now ≡ r.state → Sends {T = Unit {0}} (sent_bytes r.says) old new (Ok tt) → Reacts {T = Unit {0}} c r now old new (Err end.Done)
+  sent_ends e is stands s = (is, stands, s.told ∙ ap (λ (part : List ℕ). after_part [] part false old) s.whole)
+
+  -- or wasn't sent whole
+  pub unsent_ends : (e : SessionEnd) → now ≡ r.state → Sends {T = Unit {0}} (sent_bytes r.says) old new (Err e) → Reacts {T = Unit {0}} c r now old new (Err e)
+  unsent_ends end.LinkFault stands s = (ap (λ (m : Meeting). m.core) stands, s.part, s.first, s.told)
+  unsent_ends end.OutOfMemory stands s = (inr (ap (λ (m : Meeting). m.core) stands), s.part, s.first, s.told)
+  unsent_ends end.Done stands s = absurd s.error
+  unsent_ends end.EndOfInput stands s = absurd s.error
+  unsent_ends end.WrongInstance stands s = absurd s.error
+  unsent_ends (end.BadFrame at) stands s = absurd s.error
+  unsent_ends end.AppendFault stands s = absurd s.error
+  unsent_ends end.ByteLimit stands s = absurd s.error
+  unsent_ends end.Clash stands s = absurd s.error
+
+-- there was no memory, and nothing was done
+pub wants_reacts : (c : CoreState) (r : Reaction Meeting) (now : Meeting) (old : Option (List Session)) → now.core ≡ c → Reacts {T = Unit {0}} c r now old old (Err end.OutOfMemory)
+wants_reacts c r now old same = (inl same, [], (0, take_none (sent_bytes r.says)), none_sent old)
+
+-- a Hello, by whether it is of the own instance
+pub greeted_by : (side : Side) (m : Meeting) (instance : Digest) (b : Bool) → digest_eq instance (instance_of m.core.config) ≡ b → greeted side m instance ≡ cond b (goes_on (record m { stage = Rattle.hw_meeting_node.specs.declared.meeter.Stage.TheVariants.Telling }) (Rattle.hw_meeting_node.specs.Meeting.to_hello side m.core)) (ends m [] end.WrongInstance)
+greeted_by side m instance b is = ap (λ (x : Bool). cond x (goes_on (record m { stage = Rattle.hw_meeting_node.specs.declared.meeter.Stage.TheVariants.Telling }) (Rattle.hw_meeting_node.specs.Meeting.to_hello side m.core)) (ends m [] end.WrongInstance)) is

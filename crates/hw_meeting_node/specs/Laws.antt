@@ -1,0 +1,101 @@
+-- Laws of meetings: the statements.
+-- Source: ours.
+use Rattle.std.specs.Prelude.{◌≡◌, ◌⊎◌, ℕ, ◌≤◌, Bool, true, List, [], ◌∷◌, ◌++◌, length, map, fold, is_ok, Result, if◌then◌else◌}
+use Rattle.hw_types.specs.declared.unit.Vertex.{Vertex}
+use Rattle.hw_types.specs.declared.config.Config.{Config}
+use Rattle.hw_types.specs.declared.answers.Receipt.{Receipt}
+use Rattle.hw_types.specs.declared.answers.Cause.{Cause}
+use Rattle.hw_types.specs.Journal.{Setting, received_of, journal_after, journal_of, answers_from}
+use Rattle.hw_types.specs.Spelling.{instance_of}
+use Rattle.hw_types.specs.Real.{CoreState, setting_of}
+use Rattle.hw_types.specs.laws.StateLaws.{SaysTheSame, HasSameState}
+use Rattle.hw_io.specs.Faults.{Rose, raised}
+use Rattle.hw_link.specs.declared.end.SessionEnd.TheVariants as by
+use Rattle.hw_link.specs.Frames.{byte_limit}
+use Rattle.hw_converge.specs.declared.summary.LaneSummary.{LaneSummary}
+use Rattle.hw_converge.specs.Converge.{UnitsClash}
+use Rattle.hw_meeting.specs.declared.frame.MeetingFrame.{MeetingFrame}
+use Rattle.hw_meeting.specs.declared.frame.MeetingFrame.TheVariants as frame
+use Rattle.hw_meeting_node.specs.declared.end.MeetEnd.{MeetEnd}
+use Rattle.hw_meeting_node.specs.declared.end.MeetEnd.TheVariants as end
+use Rattle.hw_meeting_node.specs.declared.meeter.Side.{Side}
+use Rattle.hw_meeting_node.specs.declared.meeter.Side.TheVariants.{Caller, Host}
+use Rattle.hw_meeting_node.specs.Talk.{frames_of}
+use Rattle.hw_meeting_node.specs.Meeting.{told_of, torn_by, owed_by, all_due, met}
+use Rattle.hw_meeting_node.specs.Sessions.{Meets, IsLinkEnd, IsTakerEnd}
+
+-- ---- a meeting that is done
+
+-- the frames in these bytes
+abbrev pub heard_in : ℕ → List ℕ → List MeetingFrame
+heard_in validators bytes = map (λ f. f.frame) (frames_of validators bytes).given
+
+-- vertices, each with its verdict
+abbrev pub judged : (Vertex → Bool) → List Vertex → List (Vertex × Bool)
+judged judge vertices = map (λ v. (v, judge v)) vertices
+
+-- how many of these answers refuse
+abbrev pub refusals : List (Result Receipt Cause) → ℕ
+refusals answers = fold (λ k a. if is_ok a then k else raised k) 0 answers
+
+-- all that a node says that has received this, by what the other tells
+abbrev pub all_words : CoreState → List LaneSummary → List ℕ → List MeetingFrame
+all_words c theirs torn = frame.Hello (instance_of c.config) ∷ frame.Summary (told_of c) ∷ frame.Torn (torn_by c theirs) ∷ all_due (owed_by c theirs torn)
+
+-- The peer said Hello of this instance, what it has of each validator, which are torn for it, vertices, and Done. The node said Hello, what
+-- it has of each, which are torn for it, all that is due, and Done. Its journal is the one after these vertices, and as many were refused as
+-- it counted.
+pub record WasDone (side : Side) (c : CoreState) (judge : Vertex → Bool) (bytes : List ℕ) : Type 0 where
+  pub theirs : List LaneSummary
+  pub torn : List ℕ
+  pub vertices : List Vertex
+  pub rest : List MeetingFrame
+  pub heard : heard_in (length c.config.weights) bytes ≡ frame.Hello (instance_of c.config) ∷ frame.Summary theirs ∷ frame.Torn torn ∷ (map frame.Vertex vertices ++ frame.Done ∷ rest)
+  pub said : (met side c judge bytes).said ≡ all_words c theirs torn
+  pub config : (met side c judge bytes).state.core.config ≡ c.config
+  pub journal : (met side c judge bytes).state.core.journal ≡ fold (journal_after (setting_of c.config)) c.journal (judged judge vertices)
+  pub refused : (met side c judge bytes).state.refused ≡ refusals (answers_from (setting_of c.config) c.journal (judged judge vertices))
+
+-- So it is where a meeting ended as both said.
+abbrev pub MeetingsAreDone : Type 0
+MeetingsAreDone = (side : Side) (c : CoreState) (judge : Vertex → Bool) (bytes : List ℕ) → (met side c judge bytes).end ≡ by.Done → WasDone side c judge bytes
+
+-- ---- completeness
+
+-- Where the peer sends the frames that are due, with what it would still send, and doesn't end, and no count of the outside rose, a meeting
+-- ends as both said, or for want of memory.
+abbrev pub MeetingsAreComplete : Type 0
+MeetingsAreComplete = (side : Side) (c : CoreState) (judge : Vertex → Bool) (read written : List ℕ) (m : CoreState) (ends_old ends_new : ℕ) (e : MeetEnd) → Meets side c judge read written m ends_old ends_new e
+    → (more : List ℕ) → length (read ++ more) ≤ byte_limit → (met side c judge (read ++ more)).end ≡ by.Done → (ends_new ≡ raised ends_old → ⊥)
+    → (door_old door_new : ℕ) → IsLinkEnd door_old door_new e → (Rose door_old door_new → ⊥)
+    → (taker_old taker_new : ℕ) → IsTakerEnd taker_old taker_new e → (Rose taker_old taker_new → ⊥)
+    → ((refused : ℕ) × (e ≡ end.Done refused)) ⊎ (e ≡ end.OutOfMemory)
+
+-- ---- convergence
+
+-- a node that these deliveries reached
+abbrev pub node_of : Config → List (Vertex × Bool) → CoreState
+node_of config deliveries = record { config = config; journal = journal_of (setting_of config) deliveries }
+
+-- A caller and a host of one configuration met, each read the frames that the other wrote, both sessions ended as done, and nothing was refused.
+pub record HaveMet (config : Config) (left right : List (Vertex × Bool)) (judge_left judge_right : Vertex → Bool) (read_left read_right : List ℕ) : Type 0 where
+  pub left_done : (met Caller (node_of config left) judge_left read_left).end ≡ by.Done
+  pub right_done : (met Host (node_of config right) judge_right read_right).end ≡ by.Done
+  pub left_heard : heard_in (length config.weights) read_left ≡ (met Host (node_of config right) judge_right read_right).said
+  pub right_heard : heard_in (length config.weights) read_right ≡ (met Caller (node_of config left) judge_left read_left).said
+  pub left_refused : (met Caller (node_of config left) judge_left read_left).state.refused ≡ 0
+  pub right_refused : (met Host (node_of config right) judge_right read_right).state.refused ≡ 0
+
+-- Then the two journals say the same, or two different units of one digest stand in the two.
+abbrev pub MeetingsConverge : Type 0
+MeetingsConverge = (config : Config) (left right : List (Vertex × Bool)) (judge_left judge_right : Vertex → Bool) (read_left read_right : List ℕ) → HaveMet config left right judge_left judge_right read_left read_right
+    → let one = (met Caller (node_of config left) judge_left read_left).state.core.journal in
+    let other = (met Host (node_of config right) judge_right read_right).state.core.journal in
+    SaysTheSame (setting_of config) one other ⊎ UnitsClash (setting_of config) one other
+
+-- And the two nodes are in one state, or so.
+abbrev pub MetNodesAreOne : Type 0
+MetNodesAreOne = (config : Config) (left right : List (Vertex × Bool)) (judge_left judge_right : Vertex → Bool) (read_left read_right : List ℕ) → HaveMet config left right judge_left judge_right read_left read_right
+    → let one = (met Caller (node_of config left) judge_left read_left).state.core.journal in
+    let other = (met Host (node_of config right) judge_right read_right).state.core.journal in
+    HasSameState config (received_of (setting_of config) one) (received_of (setting_of config) other) ⊎ UnitsClash (setting_of config) one other

@@ -1,0 +1,7 @@
+pub mod Taker
+pub mod Memory
+pub mod Talk
+pub mod Meeting
+pub mod Sessions
+pub mod Handling
+pub mod Laws

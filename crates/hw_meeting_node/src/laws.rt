@@ -1,0 +1,17 @@
+//! Laws of meetings.
+
+ghost use Rattle.hw_meeting_node.specs.Laws.{MeetingsAreDone, MeetingsAreComplete, MeetingsConverge, MetNodesAreOne};
+
+/// What was heard and said in a meeting that ended as done, and what the node has then; and that a meeting ends
+/// so where the peer sends what is due and nothing fails.
+pub fn meetings_are_done()
+    ensures done { MeetingsAreDone }
+    ensures complete { MeetingsAreComplete }
+{}
+
+/// Where two nodes met, each read what the other wrote, and nothing was refused, their journals say the same and
+/// leave one state, or two different units of one digest stand in the two.
+pub fn meetings_converge()
+    ensures converge { MeetingsConverge }
+    ensures states { MetNodesAreOne }
+{}

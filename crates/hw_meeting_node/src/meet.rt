@@ -1,0 +1,274 @@
+//! A meeting, frame by frame.
+
+ghost use Rattle.std.specs.Prelude.{◌≡◌, ◌⊎◌, ◌<◌, ◌≤◌, [], ℕ, List, Option, Some, None, true, false, length, OnOk, IfOk};
+ghost use Rattle.hw_types.specs.Real.{CoreState};
+ghost use Rattle.hw_io.specs.Doors.{Session};
+ghost use Rattle.hw_io.specs.Faults.{raised};
+ghost use Rattle.hw_link.specs.Links.{after_part, IsLinkCounted};
+ghost use Rattle.hw_link.specs.Sent.{Sends};
+ghost use Rattle.hw_meeting.specs.Frames.{IsSaid};
+ghost use Rattle.hw_meeting_link.specs.Frames.{sent_bytes};
+ghost use Rattle.hw_meeting_node.specs.declared.meeter.Side.TheVariants as side;
+ghost use Rattle.hw_meeting_node.specs.Meeting.{begun, first_word, meet_step, at_stage};
+ghost use Rattle.hw_meeting_node.specs.Handling.{meeting_of, IsKept, Reacts, Quits, Handles, IsTakerCounted};
+ghost use Rattle.hw_meeting_node.specs.Sessions.{MeetsThere, MeetsPeer, MeetsNone, IsLinkEnd, IsTakerEnd};
+
+use crate::end::{MeetEnd, end_of_fault, meet_end};
+use crate::frames::{at_done, at_hello, at_summary, at_torn, at_vertex};
+use crate::meeter::{Meeter, Side, Stage, begin, validators};
+use crate::say::say_hello;
+use crate::taker::Taker;
+use hw_core::Core;
+use hw_io::Door;
+use hw_link::{BYTE_LIMIT, SessionEnd};
+use hw_meeting::MeetingFrame;
+use hw_meeting_link::read_meeting;
+use hw_types::OutOfMemory;
+use std::alloc::Global;
+
+/// Dials the node at this address and meets it. Then it hangs up.
+///
+/// Each node says Hello, what it has of each validator, and which validators are torn for it, the caller each
+/// time first. Then the caller sends its vertices that are due, and Done, and then the other. What comes is
+/// taken; `Done` tells how many vertices were refused.
+///
+/// Another frame than is due, one that spells nothing and one that is cut end the meeting as `BadFrame` with the
+/// place of the frame's first byte; a Hello of another instance as `WrongInstance`; the peer's end behind a frame
+/// as `EndOfInput`; and 268,435,456 bytes as `ByteLimit`, once the frame that ends with them was handled. A
+/// failed call of the door is `LinkFault`. `AppendFault` comes from the taker, and `Clash` where it refused a
+/// vertex so.
+pub fn meet_one<D: Door, T: Taker>(
+    alloc: Global,
+    taker: &mut T,
+    address: &str,
+    door: &mut D,
+) -> MeetEnd
+    ensures met { MeetsPeer side.Caller (Some address.now) (T.received taker.old) (T.verdict taker.old) (T.received taker.new) (D.sessions door.old) (D.sessions door.new) (D.ends door.old) (D.ends door.new) result
+        ⊎ MeetsNone (T.received taker.old) (T.received taker.new) (D.sessions door.old) (D.sessions door.new) result }
+    ensures link { IsLinkEnd (D.faults door.old) (D.faults door.new) result }
+    ensures appends { IsTakerEnd (T.faults taker.old) (T.faults taker.new) result }
+
+    ensures config { (T.received taker.new).config ≡ (T.received taker.old).config }
+    ensures verdict { T.verdict taker.new ≡ T.verdict taker.old }
+    ensures closed { D.is_open door.new ≡ false }
+    ensures dials { D.dials door.new ≡ raised (D.dials door.old) }
+    ensures accepts { D.accepts door.new ≡ D.accepts door.old }
+{
+    match door.dial(address) {
+        Ok(()) => {
+            let end = meet(alloc, taker, door, Side::Caller);
+            door.hang_up();
+            end
+        }
+        Err(fault) => meet_end(end_of_fault(fault), 0),
+    }
+}
+
+/// Takes a node that dials and meets it, as the other side of `meet_one`. Then it hangs up.
+pub fn host_one<D: Door, T: Taker>(alloc: Global, taker: &mut T, door: &mut D) -> MeetEnd
+    ensures met { MeetsPeer side.Host None (T.received taker.old) (T.verdict taker.old) (T.received taker.new) (D.sessions door.old) (D.sessions door.new) (D.ends door.old) (D.ends door.new) result
+        ⊎ MeetsNone (T.received taker.old) (T.received taker.new) (D.sessions door.old) (D.sessions door.new) result }
+    ensures link { IsLinkEnd (D.faults door.old) (D.faults door.new) result }
+    ensures appends { IsTakerEnd (T.faults taker.old) (T.faults taker.new) result }
+
+    ensures config { (T.received taker.new).config ≡ (T.received taker.old).config }
+    ensures verdict { T.verdict taker.new ≡ T.verdict taker.old }
+    ensures closed { D.is_open door.new ≡ false }
+    ensures accepts { D.accepts door.new ≡ raised (D.accepts door.old) }
+    ensures dials { D.dials door.new ≡ D.dials door.old }
+{
+    match door.accept() {
+        Ok(()) => {
+            let end = meet(alloc, taker, door, Side::Host);
+            door.hang_up();
+            end
+        }
+        Err(fault) => meet_end(end_of_fault(fault), 0),
+    }
+}
+
+/// Meets the node of the session that is there, up to its end.
+fn meet<D: Door, T: Taker>(alloc: Global, taker: &mut T, door: &mut D, side: Side) -> MeetEnd
+    requires open { D.is_open door.old ≡ true }
+    ensures met { MeetsThere side (T.received taker.old) (T.verdict taker.old) (T.received taker.new) (D.sessions door.old) (D.sessions door.new) (D.ends door.old) (D.ends door.new) result }
+    ensures link { IsLinkEnd (D.faults door.old) (D.faults door.new) result }
+    ensures appends { IsTakerEnd (T.faults taker.old) (T.faults taker.new) result }
+
+    ensures config { (T.received taker.new).config ≡ (T.received taker.old).config }
+    ensures verdict { T.verdict taker.new ≡ T.verdict taker.old }
+    ensures accepts { D.accepts door.new ≡ D.accepts door.old }
+    ensures dials { D.dials door.new ≡ D.dials door.old }
+{
+    match say_first(alloc, taker.core(), door, side) {
+        Ok(mut meeter) => meet_frames(alloc, taker, door, side, &mut meeter),
+        Err(end) => meet_end(end, 0),
+    }
+}
+
+/// Begins a meeting: the caller says Hello.
+fn say_first<D: Door>(
+    alloc: Global,
+    core: &Core,
+    door: &mut D,
+    side: Side,
+) -> Result<Meeter, SessionEnd>
+    requires open { D.is_open door.old ≡ true }
+    ensures begins { IfOk result (λ meeter. meeting_of meeter core.now ≡ begun core.now) }
+    ensures kept { IfOk result (λ meeter. IsKept meeter core.now) }
+    ensures sent { Sends (sent_bytes (first_word side core.now)) (D.sessions door.old) (D.sessions door.new) result }
+    ensures cause { IsLinkCounted (D.faults door.old) (D.faults door.new) result }
+
+    ensures open { D.is_open door.new ≡ true }
+    ensures ends { D.ends door.new ≡ D.ends door.old }
+    ensures accepts { D.accepts door.new ≡ D.accepts door.old }
+    ensures dials { D.dials door.new ≡ D.dials door.old }
+{
+    match begin(alloc, core) {
+        Ok(meeter) => match first_word(alloc, core, door, side) {
+            Ok(()) => Ok(meeter),
+            Err(end) => Err(end),
+        },
+        Err(OutOfMemory) => Err(SessionEnd::OutOfMemory),
+    }
+}
+
+/// What is said before anything is read: by the caller Hello.
+fn first_word<D: Door>(
+    alloc: Global,
+    core: &Core,
+    door: &mut D,
+    side: Side,
+) -> Result<(), SessionEnd>
+    requires open { D.is_open door.old ≡ true }
+    ensures sent { Sends (sent_bytes (first_word side core.now)) (D.sessions door.old) (D.sessions door.new) result }
+    ensures cause { IsLinkCounted (D.faults door.old) (D.faults door.new) result }
+
+    ensures open { D.is_open door.new ≡ true }
+    ensures ends { D.ends door.new ≡ D.ends door.old }
+    ensures accepts { D.accepts door.new ≡ D.accepts door.old }
+    ensures dials { D.dials door.new ≡ D.dials door.old }
+{
+    match side {
+        Side::Caller => say_hello(alloc, core, door),
+        Side::Host => Ok(()),
+    }
+}
+
+/// Handles the frames of the other, up to the end of the session.
+fn meet_frames<D: Door, T: Taker>(
+    alloc: Global,
+    taker: &mut T,
+    door: &mut D,
+    side: Side,
+    meeter: &mut Meeter,
+) -> MeetEnd
+    requires begins { meeting_of meeter.old (T.received taker.old) ≡ begun (T.received taker.old) }
+    requires kept { IsKept meeter.old (T.received taker.old) }
+    requires open { D.is_open door.old ≡ true }
+    ensures met { (first : Option (List Session)) → D.sessions door.old ≡ after_part [] (sent_bytes (first_word side (T.received taker.old))) false first
+        → MeetsThere side (T.received taker.old) (T.verdict taker.old) (T.received taker.new) first (D.sessions door.new) (D.ends door.old) (D.ends door.new) result }
+    ensures link { IsLinkEnd (D.faults door.old) (D.faults door.new) result }
+    ensures appends { IsTakerEnd (T.faults taker.old) (T.faults taker.new) result }
+
+    ensures config { (T.received taker.new).config ≡ (T.received taker.old).config }
+    ensures verdict { T.verdict taker.new ≡ T.verdict taker.old }
+    ensures accepts { D.accepts door.new ≡ D.accepts door.old }
+    ensures dials { D.dials door.new ≡ D.dials door.old }
+{
+    let mut place = 0;
+    while place < BYTE_LIMIT {
+        match meet_next(alloc, taker, door, side, meeter, place) {
+            Ok(next) => place = next,
+            Err(end) => return meet_end(end, meeter.refused),
+        }
+    }
+    MeetEnd::ByteLimit
+}
+
+/// Reads the frame that begins at this place of the session and handles it. The place behind it, or how the
+/// session ends.
+fn meet_next<D: Door, T: Taker>(
+    alloc: Global,
+    taker: &mut T,
+    door: &mut D,
+    side: Side,
+    meeter: &mut Meeter,
+    place: u64,
+) -> Result<u64, SessionEnd>
+    requires place { place ≤ BYTE_LIMIT }
+    requires kept { IsKept meeter.old (T.received taker.old) }
+    requires open { D.is_open door.old ≡ true }
+    ensures met { Quits (length (T.received taker.old).config.weights) place (meeting_of meeter.old (T.received taker.old)) (meeting_of meeter.new (T.received taker.new)) (D.sessions door.old) (D.sessions door.new) (D.ends door.old) (D.ends door.new) result
+        ⊎ Handles (length (T.received taker.old).config.weights) place (meeting_of meeter.old (T.received taker.old)) (meet_step side (T.verdict taker.old) (meeting_of meeter.old (T.received taker.old))) (meeting_of meeter.new (T.received taker.new)) (D.sessions door.old) (D.sessions door.new) (D.ends door.old) (D.ends door.new) result }
+    ensures kept { OnOk result (IsKept meeter.new (T.received taker.new)) }
+    ensures next { IfOk result (λ next. (place < next) × (next ≤ BYTE_LIMIT)) }
+    ensures link { IsLinkCounted (D.faults door.old) (D.faults door.new) result }
+    ensures appends { IsTakerCounted (T.faults taker.old) (T.faults taker.new) result }
+
+    ensures config { (T.received taker.new).config ≡ (T.received taker.old).config }
+    ensures verdict { T.verdict taker.new ≡ T.verdict taker.old }
+    ensures open { D.is_open door.new ≡ true }
+    ensures accepts { D.accepts door.new ≡ D.accepts door.old }
+    ensures dials { D.dials door.new ≡ D.dials door.old }
+{
+    let count = validators(taker.core());
+    match read_meeting(alloc, door, count, place) {
+        Ok(heard) => match meet_frame(alloc, taker, door, side, meeter, place, heard.frame) {
+            Ok(()) => Ok(heard.next),
+            Err(end) => Err(end),
+        },
+        Err(end) => Err(end),
+    }
+}
+
+/// Handles the frame that begins at this place of the session.
+fn meet_frame<D: Door, T: Taker>(
+    alloc: Global,
+    taker: &mut T,
+    door: &mut D,
+    side: Side,
+    meeter: &mut Meeter,
+    place: u64,
+    frame: MeetingFrame,
+) -> Result<(), SessionEnd>
+    requires said { IsSaid (length (T.received taker.old).config.weights) frame }
+    requires kept { IsKept meeter.old (T.received taker.old) }
+    requires open { D.is_open door.old ≡ true }
+    ensures reacts { Reacts (T.received taker.old) (at_stage meeter.old.stage side (T.verdict taker.old) (meeting_of meeter.old (T.received taker.old)) place frame) (meeting_of meeter.new (T.received taker.new)) (D.sessions door.old) (D.sessions door.new) result }
+    ensures kept { OnOk result (IsKept meeter.new (T.received taker.new)) }
+    ensures link { IsLinkCounted (D.faults door.old) (D.faults door.new) result }
+    ensures appends { IsTakerCounted (T.faults taker.old) (T.faults taker.new) result }
+
+    ensures config { (T.received taker.new).config ≡ (T.received taker.old).config }
+    ensures verdict { T.verdict taker.new ≡ T.verdict taker.old }
+    ensures open { D.is_open door.new ≡ true }
+    ensures ends { D.ends door.new ≡ D.ends door.old }
+    ensures accepts { D.accepts door.new ≡ D.accepts door.old }
+    ensures dials { D.dials door.new ≡ D.dials door.old }
+{
+    match meeter.stage {
+        Stage::Greeting => match frame {
+            MeetingFrame::Hello(other) => {
+                at_hello(alloc, taker.core(), door, meeter, side, other)
+            }
+            _ => Err(SessionEnd::BadFrame(place)),
+        },
+        Stage::Telling => match frame {
+            MeetingFrame::Summary(theirs) => {
+                at_summary(alloc, taker.core(), door, meeter, side, theirs)
+            }
+            _ => Err(SessionEnd::BadFrame(place)),
+        },
+        Stage::Tearing => match frame {
+            MeetingFrame::Torn(torn) => {
+                at_torn(alloc, taker.core(), door, meeter, side, torn.as_slice())
+            }
+            _ => Err(SessionEnd::BadFrame(place)),
+        },
+        Stage::Taking => match frame {
+            MeetingFrame::Vertex(vertex) => at_vertex(taker, meeter, vertex),
+            MeetingFrame::Done => at_done(alloc, taker.core(), door, meeter, side),
+            _ => Err(SessionEnd::BadFrame(place)),
+        },
+    }
+}

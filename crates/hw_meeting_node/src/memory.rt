@@ -1,0 +1,72 @@
+//! A taker in memory.
+
+ghost use Rattle.std.specs.Prelude.{◌≡◌};
+ghost use Rattle.hw_meeting_node.specs.Memory.{verdict_by, take_fault};
+
+use crate::same::is_same_vertex;
+use crate::taker::{TakeFault, Taker};
+use hw_core::{Core, Refused};
+use hw_types::{Cause, Items, Receipt, Vertex};
+
+/// Vertices, in order.
+pub type VertexList = Items<Vertex>;
+
+/// A core that gives each vertex of a list a false verdict, and all others a true one.
+#[derive(Drop)]
+pub struct MemTaker {
+    core: Core,
+    refused: VertexList,
+}
+
+impl MemTaker {
+    /// A taker with this core, which gives these vertices a false verdict.
+    pub fn new(core: Core, refused: VertexList) -> MemTaker
+        ensures core { result.core ≡ core }
+        ensures refused { result.refused ≡ refused }
+    {
+        MemTaker { core, refused }
+    }
+
+    /// Its core, which takes no more.
+    pub fn into_core(self) -> Core
+        ensures { result ≡ self.core }
+    {
+        self.core
+    }
+
+    fn verdict(&self, vertex: &Vertex) -> bool
+        ensures { result ≡ verdict_by self.now.refused vertex.now }
+    {
+        !self.refused.as_slice().iter().any(|listed| is_same_vertex(listed, vertex))
+    }
+}
+
+impl Taker for MemTaker {
+    ghost received = { λ taker. taker.core };
+
+    ghost verdict = { λ taker. verdict_by taker.refused };
+
+    ghost faults = { λ _. 0 };
+
+    fn core(&self) -> &Core {
+        &self.core
+    }
+
+    fn take(&mut self, vertex: Vertex) -> Result<Receipt, TakeFault> {
+        let verdict = self.verdict(&vertex);
+        match self.core.deliver(vertex, verdict) {
+            Ok(receipt) => Ok(receipt),
+            Err(refused) => Err(take_fault(refused.cause)),
+        }
+    }
+}
+
+/// Why a vertex isn't taken that the core refuses by this cause.
+fn take_fault(cause: Cause) -> TakeFault
+    ensures { result ≡ take_fault cause }
+{
+    match cause {
+        Cause::OutOfMemory => TakeFault::OutOfMemory,
+        cause => TakeFault::Refused(cause),
+    }
+}

@@ -1,0 +1,187 @@
+//! What a node says at a meeting.
+
+ghost use Rattle.std.specs.Prelude.{◌≡◌, ◌<◌, [], ◌∷◌, true, length, map, filter_map, slice_get, All, IfOk};
+ghost use Rattle.hw_types.specs.Spelling.{VertexFits, instance_of};
+ghost use Rattle.hw_link.specs.Links.{IsLinkCounted};
+ghost use Rattle.hw_link.specs.Sent.{Sends};
+ghost use Rattle.hw_meeting.specs.declared.frame.MeetingFrame.TheVariants as frame;
+ghost use Rattle.hw_meeting.specs.Frames.{IsSaid};
+ghost use Rattle.hw_meeting_link.specs.Frames.{sent_bytes};
+ghost use Rattle.hw_meeting_node.specs.Meeting.{told_of, hello, summary, torn, all_due};
+
+use crate::meeter::validators;
+use hw_codec::instance_of;
+use hw_core::Core;
+use hw_io::Door;
+use hw_link::SessionEnd;
+use hw_meeting::{LaneSummary, MeetingFrame, SummaryList, torn_for};
+use hw_meeting_link::send_meeting;
+use hw_types::{Digest, OutOfMemory, Vertex};
+use std::alloc::Global;
+
+/// The digest of a node's configuration.
+pub(crate) fn instance(alloc: Global, core: &Core) -> Result<Digest, OutOfMemory>
+    ensures { IfOk result (λ instance. instance ≡ instance_of core.now.config) }
+{
+    instance_of(alloc, core.state().config())
+}
+
+/// Says Hello.
+pub(crate) fn say_hello<D: Door>(
+    alloc: Global,
+    core: &Core,
+    door: &mut D,
+) -> Result<(), SessionEnd>
+    requires open { D.is_open door.old ≡ true }
+    ensures sent { Sends (sent_bytes (hello core.now)) (D.sessions door.old) (D.sessions door.new) result }
+    ensures cause { IsLinkCounted (D.faults door.old) (D.faults door.new) result }
+
+    ensures open { D.is_open door.new ≡ true }
+    ensures ends { D.ends door.new ≡ D.ends door.old }
+    ensures accepts { D.accepts door.new ≡ D.accepts door.old }
+    ensures dials { D.dials door.new ≡ D.dials door.old }
+{
+    match instance(alloc, core) {
+        Ok(instance) => send(alloc, core, door, &MeetingFrame::Hello(instance)),
+        Err(OutOfMemory) => Err(SessionEnd::OutOfMemory),
+    }
+}
+
+/// Tells what the node has of each validator.
+pub(crate) fn say_summary<D: Door>(
+    alloc: Global,
+    core: &Core,
+    door: &mut D,
+    mine: &SummaryList,
+) -> Result<(), SessionEnd>
+    requires mine { mine.now ≡ told_of core.now }
+    requires open { D.is_open door.old ≡ true }
+    ensures sent { Sends (sent_bytes (summary core.now)) (D.sessions door.old) (D.sessions door.new) result }
+    ensures cause { IsLinkCounted (D.faults door.old) (D.faults door.new) result }
+
+    ensures open { D.is_open door.new ≡ true }
+    ensures ends { D.ends door.new ≡ D.ends door.old }
+    ensures accepts { D.accepts door.new ≡ D.accepts door.old }
+    ensures dials { D.dials door.new ≡ D.dials door.old }
+{
+    match mine.copy() {
+        Ok(parts) => send(alloc, core, door, &MeetingFrame::Summary(parts)),
+        Err(OutOfMemory) => Err(SessionEnd::OutOfMemory),
+    }
+}
+
+/// Tells which validators are torn for the node, by what the other tells.
+pub(crate) fn say_torn<D: Door>(
+    alloc: Global,
+    core: &Core,
+    door: &mut D,
+    mine: &[LaneSummary],
+    theirs: &[LaneSummary],
+) -> Result<(), SessionEnd>
+    requires mine { mine.now ≡ told_of core.now }
+    requires open { D.is_open door.old ≡ true }
+    ensures sent { Sends (sent_bytes (torn core.now theirs.now)) (D.sessions door.old) (D.sessions door.new) result }
+    ensures cause { IsLinkCounted (D.faults door.old) (D.faults door.new) result }
+
+    ensures open { D.is_open door.new ≡ true }
+    ensures ends { D.ends door.new ≡ D.ends door.old }
+    ensures accepts { D.accepts door.new ≡ D.accepts door.old }
+    ensures dials { D.dials door.new ≡ D.dials door.old }
+{
+    match torn_for(alloc, core, mine, theirs) {
+        Ok(torn) => send(alloc, core, door, &MeetingFrame::Torn(torn)),
+        Err(OutOfMemory) => Err(SessionEnd::OutOfMemory),
+    }
+}
+
+/// Sends the vertices at these places of the journal, and then Done.
+pub(crate) fn say_due<D: Door>(
+    alloc: Global,
+    core: &Core,
+    door: &mut D,
+    places: &[u64],
+) -> Result<(), SessionEnd>
+    requires within { All (λ place. place < length core.now.journal) places.now }
+    requires open { D.is_open door.old ≡ true }
+    ensures sent { Sends (sent_bytes (all_due (filter_map (slice_get core.now.journal) places.now))) (D.sessions door.old) (D.sessions door.new) result }
+    ensures cause { IsLinkCounted (D.faults door.old) (D.faults door.new) result }
+
+    ensures open { D.is_open door.new ≡ true }
+    ensures ends { D.ends door.new ≡ D.ends door.old }
+    ensures accepts { D.accepts door.new ≡ D.accepts door.old }
+    ensures dials { D.dials door.new ≡ D.dials door.old }
+{
+    match send_vertices(alloc, core, door, places) {
+        Ok(()) => send(alloc, core, door, &MeetingFrame::Done),
+        Err(end) => Err(end),
+    }
+}
+
+/// Sends the vertices at these places of the journal.
+fn send_vertices<D: Door>(
+    alloc: Global,
+    core: &Core,
+    door: &mut D,
+    places: &[u64],
+) -> Result<(), SessionEnd>
+    requires within { All (λ place. place < length core.now.journal) places.now }
+    requires open { D.is_open door.old ≡ true }
+    ensures sent { Sends (sent_bytes (map frame.Vertex (filter_map (slice_get core.now.journal) places.now))) (D.sessions door.old) (D.sessions door.new) result }
+    ensures cause { IsLinkCounted (D.faults door.old) (D.faults door.new) result }
+
+    ensures open { D.is_open door.new ≡ true }
+    ensures ends { D.ends door.new ≡ D.ends door.old }
+    ensures accepts { D.accepts door.new ≡ D.accepts door.old }
+    ensures dials { D.dials door.new ≡ D.dials door.old }
+{
+    for place in places {
+        match send_vertex(alloc, core, door, core.journal_at(*place)) {
+            Ok(()) => {}
+            Err(end) => return Err(end),
+        }
+    }
+    Ok(())
+}
+
+/// Sends a vertex.
+fn send_vertex<D: Door>(
+    alloc: Global,
+    core: &Core,
+    door: &mut D,
+    vertex: &Vertex,
+) -> Result<(), SessionEnd>
+    requires fits { VertexFits vertex.now }
+    requires open { D.is_open door.old ≡ true }
+    ensures sent { Sends (sent_bytes (frame.Vertex vertex.now ∷ [])) (D.sessions door.old) (D.sessions door.new) result }
+    ensures cause { IsLinkCounted (D.faults door.old) (D.faults door.new) result }
+
+    ensures open { D.is_open door.new ≡ true }
+    ensures ends { D.ends door.new ≡ D.ends door.old }
+    ensures accepts { D.accepts door.new ≡ D.accepts door.old }
+    ensures dials { D.dials door.new ≡ D.dials door.old }
+{
+    match vertex.copy() {
+        Ok(copy) => send(alloc, core, door, &MeetingFrame::Vertex(copy)),
+        Err(OutOfMemory) => Err(SessionEnd::OutOfMemory),
+    }
+}
+
+/// Sends a frame, which is one among the node's validators.
+fn send<D: Door>(
+    alloc: Global,
+    core: &Core,
+    door: &mut D,
+    frame: &MeetingFrame,
+) -> Result<(), SessionEnd>
+    requires said { IsSaid (length core.now.config.weights) frame.now }
+    requires open { D.is_open door.old ≡ true }
+    ensures sent { Sends (sent_bytes (frame.now ∷ [])) (D.sessions door.old) (D.sessions door.new) result }
+    ensures cause { IsLinkCounted (D.faults door.old) (D.faults door.new) result }
+
+    ensures open { D.is_open door.new ≡ true }
+    ensures ends { D.ends door.new ≡ D.ends door.old }
+    ensures accepts { D.accepts door.new ≡ D.accepts door.old }
+    ensures dials { D.dials door.new ≡ D.dials door.old }
+{
+    send_meeting(alloc, door, validators(core), frame)
+}
