@@ -31,23 +31,23 @@ from k answers = fold (λ k a. cond (is_ok a) k (raised k)) k answers
 -- what was counted stays counted
 still : (k : ℕ) (answers : List (Result Receipt Cause)) → 0 < k → 0 < from k answers
 still k [] some = some
-still k (Ok r ∷ as) some = still k as some
-still k (Err c ∷ as) some = still (raised k) as (omega arith)
+still k (Ok r ∷ more) some = still k more some
+still k (Err c ∷ more) some = still (raised k) more (omega arith)
 
 all_ok : (answers : List (Result Receipt Cause)) → from 0 answers ≡ 0 → AllByRecursion (λ a. IsOk a) answers
 all_ok [] none = tt
-all_ok (Ok r ∷ as) none = (tt, all_ok as none)
-all_ok (Err c ∷ as) none = absurd (let more = still (raised 0) as (omega arith) in omega arith)
+all_ok (Ok r ∷ more) none = (refl, all_ok more none)
+all_ok (Err c ∷ more) none = absurd (let some = still (raised 0) more (omega arith) in omega arith)
 
 module _ (s : Setting) (judge : Vertex → Bool) where
   -- what isn't refused has a true verdict
   verdict_true : (journal : List Vertex) (v : Vertex) → IsOk (answer s journal v (judge v)) → judge v ≡ true
+  unfolding answer
   verdict_true journal v ok = go (judge v) refl ok
     where
       go : (b : Bool) → judge v ≡ b → IsOk (answer s journal v b) → b ≡ true
-      unfolding answer
       go true is h = refl
-      go false is h = absurd h
+      go false is h = absurd cc
 
   record IsTaken (journal : List Vertex) (vs : List Vertex) : Type 0 where
     same : fold (journal_after s) journal (judged judge vs) ≡ taken s journal vs
@@ -69,8 +69,8 @@ module _ (s : Setting) (judge : Vertex → Bool) where
     pub none : NoneRefused s journal vs
 
   takes_all : (journal vs end : List Vertex) (refused : ℕ) → end ≡ fold (journal_after s) journal (judged judge vs) → refused ≡ refusals (answers_from s journal (judged judge vs)) → refused ≡ 0 → TakesAll journal vs end
-  takes_all journal vs end refused is count zero =
-      let t = all_taken journal vs (all_ok (answers_from s journal (judged judge vs)) (sym count ∙ zero)) in
+  takes_all journal vs end refused is count none =
+      let t = all_taken journal vs (all_ok (answers_from s journal (judged judge vs)) (sym count ∙ none)) in
       record { journal_is = is ∙ t.same; none = All-from_recursion (λ a. IsOk a) (answers_from s journal (map (λ v. (v, true)) vs)) t.none }
 
 -- ---- what one heard is what the other said
@@ -82,16 +82,16 @@ up_to_done (v ∷ vs) [] rest is = absurd cc
 up_to_done (v ∷ vs) (w ∷ ws) rest is = (let head : v ≡ w = cc in let tail : map frame.Vertex vs ++ frame.Done ∷ rest ≡ map frame.Vertex ws ++ frame.Done ∷ [] = cc in let others = up_to_done vs ws rest tail in λ i. head i ∷ others i)
 
 record Agrees (d : CoreState) (theirs own_theirs : List LaneSummary) (torn own_torn : List ℕ) (vertices : List Vertex) : Type 0 where
-  pub summary : theirs ≡ told_of d
-  pub torn : torn ≡ torn_by d own_theirs
-  pub vertices : vertices ≡ owed_by d own_theirs own_torn
+  pub summary_is : theirs ≡ told_of d
+  pub torn_is : torn ≡ torn_by d own_theirs
+  pub vertices_are : vertices ≡ owed_by d own_theirs own_torn
 
 agrees : (d : CoreState) (instance : Rattle.hw_types.specs.declared.unit.Digest.Digest) (theirs own_theirs : List LaneSummary) (torn own_torn : List ℕ) (vertices : List Vertex) (rest : List MeetingFrame)
     → frame.Hello instance ∷ frame.Summary theirs ∷ frame.Torn torn ∷ (map frame.Vertex vertices ++ frame.Done ∷ rest) ≡ all_words d own_theirs own_torn → Agrees d theirs own_theirs torn own_torn vertices
 agrees d instance theirs own_theirs torn own_torn vertices rest is = record {
-  summary = cc;
-  torn = cc;
-  vertices = up_to_done vertices (owed_by d own_theirs own_torn) rest cc;
+  summary_is = cc;
+  torn_is = cc;
+  vertices_are = up_to_done vertices (owed_by d own_theirs own_torn) rest cc;
 }
 
 -- ---- both
@@ -121,15 +121,15 @@ module _ (config : Config) (left right : List (Vertex × Bool)) (judge_left judg
   -- each took what was due to it
   left_due : of_left.vertices ≡ due_to s r.journal l.journal
   left_due =
-      left_agrees.vertices
-      ∙ ap (λ (t : List LaneSummary). owed_by r t of_right.torn) right_agrees.summary
-      ∙ ap (λ (t : List ℕ). owed_by r (told_of l) t) (right_agrees.torn ∙ ap (torn_by l) left_agrees.summary)
+      left_agrees.vertices_are
+      ∙ ap (λ (t : List LaneSummary). owed_by r t of_right.torn) right_agrees.summary_is
+      ∙ ap (λ (t : List ℕ). owed_by r (told_of l) t) (right_agrees.torn_is ∙ ap (torn_by l) left_agrees.summary_is)
 
   right_due : of_right.vertices ≡ due_to s l.journal r.journal
   right_due =
-      right_agrees.vertices
-      ∙ ap (λ (t : List LaneSummary). owed_by l t of_left.torn) left_agrees.summary
-      ∙ ap (λ (t : List ℕ). owed_by l (told_of r) t) (left_agrees.torn ∙ ap (torn_by r) right_agrees.summary)
+      right_agrees.vertices_are
+      ∙ ap (λ (t : List LaneSummary). owed_by l t of_left.torn) left_agrees.summary_is
+      ∙ ap (λ (t : List ℕ). owed_by l (told_of r) t) (left_agrees.torn_is ∙ ap (torn_by r) right_agrees.summary_is)
 
   abbrev one : List Vertex
   one = (met Caller l judge_left read_left).state.core.journal

@@ -1,5 +1,5 @@
 -- A meeting that ended as both said.
-use Rattle.std.proofs.Common.{◌≡◌, ◌⊎◌, ℕ, ◌+◌, ◌≤◌, Bool, true, false, cond, inl, inr, List, [], ◌∷◌, ◌++◌, length, map, Option, Some, None, Result, Ok, Err, refl, sym, ap, subst, ◌∙◌, arith, length-append}
+use Rattle.std.proofs.Common.{◌≡◌, ◌⊎◌, ℕ, zero, suc, ◌+◌, ◌≤◌, Bool, true, false, cond, inl, inr, List, [], ◌∷◌, ◌++◌, length, map, Option, Some, None, Result, Ok, Err, refl, sym, ap, subst, ◌∙◌, arith, length-append}
 use Rattle.std.specs.Prelude.{fold, is_ok}
 use Rattle.std.proofs.lemmas.List.{append-nil}
 use Rattle.hw_types.specs.declared.unit.Digest.{Digest}
@@ -48,11 +48,11 @@ no_done r by.OutOfMemory so is = absurd so
 behind_all : (validators steps : ℕ) (r : Rest) → (frames_in validators steps r).end ≡ by.Done → ⊥
 unfolding frames_in
 behind_all validators zero r is = no_done r (cut_end r) (cut_so r) is
-behind_all validators (suc steps) r is = go (frame_here validators r) refl is
+behind_all validators (suc steps) r is = go (λ rest h. behind_all validators steps rest h) (frame_here validators r) refl is
   where
-    go : (x : Result (Placed × Rest) SessionEnd) → frame_here validators r ≡ x → (with_next x (frames_in validators steps)).end ≡ by.Done → ⊥
-    go (Ok (f, rest)) e h = behind_all validators steps rest h
-    go (Err d) e h = no_done r d (subst (λ (x : Result (Placed × Rest) SessionEnd). Rattle.hw_meeting_node.proofs.EndLaws.EndsSo r x) e (here_so validators r)) h
+    go : ((rest : Rest) → (frames_in validators steps rest).end ≡ by.Done → ⊥) → (x : Result (Placed × Rest) SessionEnd) → frame_here validators r ≡ x → (with_next x (frames_in validators steps)).end ≡ by.Done → ⊥
+    go others (Ok (f, rest)) e h = others rest h
+    go others (Err d) e h = no_done r d (subst (λ (x : Result (Placed × Rest) SessionEnd). Rattle.hw_meeting_node.proofs.EndLaws.EndsSo r x) e (here_so validators r)) h
 
 -- ---- by frames
 
@@ -82,7 +82,7 @@ module _ (side : Side) (judge : Vertex → Bool) (last : SessionEnd) (not_done :
   taken : (c : CoreState) (k : ℕ) (theirs : List LaneSummary) (due : List Vertex) (fs : List Placed) → (over (taking c k theirs due) fs).end ≡ by.Done → Taken c k theirs due fs
   unfolding talk meet_step answers_from
   taken c k theirs due [] is = absurd (not_done is)
-  taken c k theirs due (f ∷ fs) is = go f.frame refl is
+  taken c k theirs due (f ∷ fs) is = go (λ v n h. taken (after_in c v (judge v)) n theirs due fs h) f.frame refl is
     where
       m : Meeting
       m = taking c k theirs due
@@ -90,7 +90,7 @@ module _ (side : Side) (judge : Vertex → Bool) (last : SessionEnd) (not_done :
       next : Meeting → Talk Meeting
       next x = talk (meet_step side judge) last x fs
 
-      abbrev by_frame : MeetingFrame → Talk Meeting
+      by_frame : MeetingFrame → Talk Meeting
       by_frame x = with_reaction (at_taking side judge m f.at x) next
 
       after : Vertex → CoreState
@@ -115,20 +115,23 @@ module _ (side : Side) (judge : Vertex → Bool) (last : SessionEnd) (not_done :
       counted : (v : Vertex) (a : Result Receipt Cause) → answer_in c v (judge v) ≡ a → cond (is_ok a) k (raised k) ≡ cond (is_ok (answer_in c v (judge v))) k (raised k)
       counted v a answer = ap (λ (x : Result Receipt Cause). cond (is_ok x) k (raised k)) (sym answer)
 
-      -- a vertex, by its answer
-      vertex : (v : Vertex) → f.frame ≡ frame.Vertex v → (a : Result Receipt Cause) → answer_in c v (judge v) ≡ a → (with_reaction (answered (taking (after v) k theirs due) a) next).end ≡ by.Done → Taken c k theirs due (f ∷ fs)
-      vertex v here (Ok r) answer h = one v k here (by_answer v here (Ok r) answer) (counted v (Ok r) answer) (taken (after v) k theirs due fs h)
-      vertex v here (Err cause.BadSignature) answer h = one v (raised k) here (by_answer v here (Err cause.BadSignature) answer) (counted v (Err cause.BadSignature) answer) (taken (after v) (raised k) theirs due fs h)
-      vertex v here (Err (cause.Local rule)) answer h = one v (raised k) here (by_answer v here (Err (cause.Local rule)) answer) (counted v (Err (cause.Local rule)) answer) (taken (after v) (raised k) theirs due fs h)
-      vertex v here (Err (cause.Pair fault)) answer h = one v (raised k) here (by_answer v here (Err (cause.Pair fault)) answer) (counted v (Err (cause.Pair fault)) answer) (taken (after v) (raised k) theirs due fs h)
-      vertex v here (Err (cause.Clash known)) answer h = absurd cc
-      vertex v here (Err cause.RecordsFull) answer h = one v (raised k) here (by_answer v here (Err cause.RecordsFull) answer) (counted v (Err cause.RecordsFull) answer) (taken (after v) (raised k) theirs due fs h)
-      vertex v here (Err cause.ParkFull) answer h = one v (raised k) here (by_answer v here (Err cause.ParkFull) answer) (counted v (Err cause.ParkFull) answer) (taken (after v) (raised k) theirs due fs h)
-      vertex v here (Err cause.OutOfMemory) answer h = one v (raised k) here (by_answer v here (Err cause.OutOfMemory) answer) (counted v (Err cause.OutOfMemory) answer) (taken (after v) (raised k) theirs due fs h)
+      Others : Type 0
+      Others = (v : Vertex) (n : ℕ) → (next (taking (after v) n theirs due)).end ≡ by.Done → Taken (after v) n theirs due fs
 
-      go : (x : MeetingFrame) → f.frame ≡ x → (by_frame x).end ≡ by.Done → Taken c k theirs due (f ∷ fs)
-      go (frame.Vertex v) here h = vertex v here (answer_in c v (judge v)) refl h
-      go frame.Done here h = record {
+      -- a vertex, by its answer
+      vertex : Others → (v : Vertex) → f.frame ≡ frame.Vertex v → (a : Result Receipt Cause) → answer_in c v (judge v) ≡ a → (with_reaction (answered (taking (after v) k theirs due) a) next).end ≡ by.Done → Taken c k theirs due (f ∷ fs)
+      vertex others v here (Ok r) answer h = one v k here (by_answer v here (Ok r) answer) (counted v (Ok r) answer) (others v k h)
+      vertex others v here (Err cause.BadSignature) answer h = one v (raised k) here (by_answer v here (Err cause.BadSignature) answer) (counted v (Err cause.BadSignature) answer) (others v (raised k) h)
+      vertex others v here (Err (cause.Local rule)) answer h = one v (raised k) here (by_answer v here (Err (cause.Local rule)) answer) (counted v (Err (cause.Local rule)) answer) (others v (raised k) h)
+      vertex others v here (Err (cause.Pair fault)) answer h = one v (raised k) here (by_answer v here (Err (cause.Pair fault)) answer) (counted v (Err (cause.Pair fault)) answer) (others v (raised k) h)
+      vertex others v here (Err (cause.Clash known)) answer h = absurd cc
+      vertex others v here (Err cause.RecordsFull) answer h = one v (raised k) here (by_answer v here (Err cause.RecordsFull) answer) (counted v (Err cause.RecordsFull) answer) (others v (raised k) h)
+      vertex others v here (Err cause.ParkFull) answer h = one v (raised k) here (by_answer v here (Err cause.ParkFull) answer) (counted v (Err cause.ParkFull) answer) (others v (raised k) h)
+      vertex others v here (Err cause.OutOfMemory) answer h = one v (raised k) here (by_answer v here (Err cause.OutOfMemory) answer) (counted v (Err cause.OutOfMemory) answer) (others v (raised k) h)
+
+      go : Others → (x : MeetingFrame) → f.frame ≡ x → (by_frame x).end ≡ by.Done → Taken c k theirs due (f ∷ fs)
+      go others (frame.Vertex v) here h = vertex others v here (answer_in c v (judge v)) refl h
+      go others frame.Done here h = record {
         vertices = [];
         rest = frames fs;
         heard = ap (λ (x : MeetingFrame). x ∷ frames fs) here;
@@ -137,9 +140,9 @@ module _ (side : Side) (judge : Vertex → Bool) (last : SessionEnd) (not_done :
         journal = ap (λ (x : MeetingFrame). (by_frame x).state.core.journal) here;
         refused = ap (λ (x : MeetingFrame). (by_frame x).state.refused) here;
       }
-      go (frame.Hello d) here h = absurd cc
-      go (frame.Summary parts) here h = absurd cc
-      go (frame.Torn numbers) here h = absurd cc
+      go others (frame.Hello d) here h = absurd cc
+      go others (frame.Summary parts) here h = absurd cc
+      go others (frame.Torn numbers) here h = absurd cc
 
   -- ---- from the first frame on
 

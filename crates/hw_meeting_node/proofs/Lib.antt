@@ -7,3 +7,5 @@ pub mod ReactLaws
 pub mod DoneLaws
 pub mod ConvergeLaws
 pub mod VertexLaws
+pub mod SameLaws
+pub mod NextLaws

@@ -6,6 +6,7 @@ use Rattle.std.proofs.lemmas.List.Concat.{flat_map-append}
 use Rattle.std.proofs.Math.Seq.{take-append-add}
 use Rattle.std.proofs.lemmas.Bool.{cases_lt, le-leb}
 use Rattle.hw_types.specs.declared.unit.Vertex.{Vertex}
+use Rattle.hw_types.specs.declared.config.Config.{Config}
 use Rattle.hw_types.specs.Real.{CoreState}
 use Rattle.hw_io.specs.declared.outside.IoFault.{IoFault}
 use Rattle.hw_io.specs.declared.outside.IoFault.TheVariants.{Failed, OutOfMemory as NoMemory}
@@ -85,27 +86,27 @@ link_of T by.Clash k = refl
 link_of T by.OutOfMemory k = refl
 
 -- the counts of a session that ended so
-pub link_ended : {T : Type 0} (before now : ℕ) (e : SessionEnd) (k : ℕ) → IsLinkCounted {T = T} before now (Err e) → IsLinkEnd before now (meet_end e k)
-link_ended before now by.Done k c = c
-link_ended before now by.EndOfInput k c = c
-link_ended before now by.WrongInstance k c = c
-link_ended before now (by.BadFrame at) k c = c
-link_ended before now by.LinkFault k c = c
-link_ended before now by.AppendFault k c = c
-link_ended before now by.ByteLimit k c = c
-link_ended before now by.Clash k c = c
-link_ended before now by.OutOfMemory k c = c
+pub link_ended : (T : Type 0) (before now : ℕ) (e : SessionEnd) (k : ℕ) → IsLinkCounted {T = T} before now (Err e) → IsLinkEnd before now (meet_end e k)
+link_ended T before now by.Done k c = c
+link_ended T before now by.EndOfInput k c = c
+link_ended T before now by.WrongInstance k c = c
+link_ended T before now (by.BadFrame at) k c = c
+link_ended T before now by.LinkFault k c = c
+link_ended T before now by.AppendFault k c = c
+link_ended T before now by.ByteLimit k c = c
+link_ended T before now by.Clash k c = c
+link_ended T before now by.OutOfMemory k c = c
 
-pub taker_ended : {T : Type 0} (before now : ℕ) (e : SessionEnd) (k : ℕ) → IsTakerCounted {T = T} before now (Err e) → IsTakerEnd before now (meet_end e k)
-taker_ended before now by.Done k c = c
-taker_ended before now by.EndOfInput k c = c
-taker_ended before now by.WrongInstance k c = c
-taker_ended before now (by.BadFrame at) k c = c
-taker_ended before now by.LinkFault k c = c
-taker_ended before now by.AppendFault k c = c
-taker_ended before now by.ByteLimit k c = c
-taker_ended before now by.Clash k c = c
-taker_ended before now by.OutOfMemory k c = c
+pub taker_ended : (T : Type 0) (before now : ℕ) (e : SessionEnd) (k : ℕ) → IsTakerCounted {T = T} before now (Err e) → IsTakerEnd before now (meet_end e k)
+taker_ended T before now by.Done k c = c
+taker_ended T before now by.EndOfInput k c = c
+taker_ended T before now by.WrongInstance k c = c
+taker_ended T before now (by.BadFrame at) k c = c
+taker_ended T before now by.LinkFault k c = c
+taker_ended T before now by.AppendFault k c = c
+taker_ended T before now by.ByteLimit k c = c
+taker_ended T before now by.Clash k c = c
+taker_ended T before now by.OutOfMemory k c = c
 
 -- ---- the door
 
@@ -223,7 +224,7 @@ module _ (side : Side) (c : CoreState) (judge : Vertex → Bool) where
         over : (by_bytes : SessionEnd) → EndsIn n (length s.read) h.part by_bytes → Whole (s.read ++ h.part) m s.said by_bytes
         over by_bytes ends = no_frame_ends n step first (begun c) s.read s.said m s.heard h.part by_bytes ends few
 
-        abbrev Told : MeetEnd → Type 0
+        Told : MeetEnd → Type 0
         Told e = new ≡ after_part (s.read ++ h.part) (sent_bytes s.said) (is_link_end e) old
 
         plain : (how by_bytes : SessionEnd) → EndsIn n (length s.read) h.part by_bytes → EndsAs (meet_end how m.refused) (record { state = m; said = s.said; end = by_bytes }) → IsEndOf side c judge (s.read ++ h.part) ends_now ends_new (meet_end how m.refused)
@@ -278,33 +279,33 @@ module _ (side : Side) (c : CoreState) (judge : Vertex → Bool) where
       abbrev said : List MeetingFrame
       said = s.said ++ reaction.says
 
-      abbrev read : List ℕ
-      read = s.read ++ part
+      abbrev bytes : List ℕ
+      bytes = s.read ++ part
 
-      fits : length read ≤ byte_limit
+      fits : length bytes ≤ byte_limit
       fits = let all = length-append s.read part in omega arith
 
-      fits_more : length (read ++ []) ≤ byte_limit
-      fits_more = subst (λ (bytes : List ℕ). length bytes ≤ byte_limit) (sym (append-nil read)) fits
+      fits_more : length (bytes ++ []) ≤ byte_limit
+      fits_more = subst (λ (bytes : List ℕ). length bytes ≤ byte_limit) (sym (append-nil bytes)) fits
 
-      stops : (e : SessionEnd) → reaction.end ≡ Some e → (more : List ℕ) → length (read ++ more) ≤ byte_limit → Whole (read ++ more) reaction.state said e
+      stops : (e : SessionEnd) → reaction.end ≡ Some e → (more : List ℕ) → length (bytes ++ more) ≤ byte_limit → Whole (bytes ++ more) reaction.state said e
       stops e some more few = frame_ends n step first (begun c) s.read s.said m s.heard part f has e some more few
 
-      stops_here : (e : SessionEnd) → reaction.end ≡ Some e → Whole read reaction.state said e
-      stops_here e some = subst (λ (bytes : List ℕ). Whole bytes reaction.state said e) (append-nil read) (stops e some [] fits_more)
+      stops_here : (e : SessionEnd) → reaction.end ≡ Some e → Whole bytes reaction.state said e
+      stops_here e some = subst (λ (bytes : List ℕ). Whole bytes reaction.state said e) (append-nil bytes) (stops e some [] fits_more)
 
-      final : (e : SessionEnd) → reaction.end ≡ Some e → IsFinal side c judge read
+      final : (e : SessionEnd) → reaction.end ≡ Some e → IsFinal side c judge bytes
       final e some more few = stops e some more few ∙ sym (stops_here e some)
 
       -- whether the frame ends the session or not
-      whole_by : (o : Option SessionEnd) → reaction.end ≡ o → (e : SessionEnd) × Whole read reaction.state said e
-      whole_by None is = (cut_end (rest_at (length read) []), heard_here n step first (begun c) read said reaction.state (leads_on n step first (begun c) s.read s.said m s.heard part f has is) fits)
+      whole_by : (o : Option SessionEnd) → reaction.end ≡ o → (e : SessionEnd) × Whole bytes reaction.state said e
+      whole_by None is = (cut_end (rest_at (length bytes) []), heard_here n step first (begun c) bytes said reaction.state (leads_on n step first (begun c) s.read s.said m s.heard part f has is) fits)
       whole_by (Some e) is = (e, stops_here e is)
 
-      whole : (e : SessionEnd) × Whole read reaction.state said e
+      whole : (e : SessionEnd) × Whole bytes reaction.state said e
       whole = whole_by reaction.end refl
 
-      told : (sent : List ℕ) (failed : Bool) → new ≡ after_part [] sent failed (after_part part [] false now) → new ≡ after_part read (sent_bytes s.said ++ sent) failed old
+      told : (sent : List ℕ) (failed : Bool) → new ≡ after_part [] sent failed (after_part part [] false now) → new ≡ after_part bytes (sent_bytes s.said ++ sent) failed old
       told sent failed is = told_then s.read part (sent_bytes s.said) sent failed old now new s.told is
 
       all_said : sent_bytes s.said ++ sent_bytes reaction.says ≡ sent_bytes said
@@ -314,13 +315,13 @@ module _ (side : Side) (c : CoreState) (judge : Vertex → Bool) where
       ended : (k : Meeting) (e : SessionEnd) (ends : ℕ) → reaction.end ≡ Some e → k ≡ reaction.state → new ≡ after_part [] (sent_bytes reaction.says) false (after_part part [] false now) → MeetsThere side c judge k.core old new ends ends (meet_end e k.refused)
       ended k e ends is stands sent = subst (λ (x : Meeting). MeetsThere side c judge x.core old new ends ends (meet_end e x.refused)) (sym stands) (go e is (step_ends side judge m (placed_behind s.read f) e is))
         where
-          at_end : (how : SessionEnd) → reaction.end ≡ Some how → IsEndOf side c judge read ends ends (meet_end how reaction.state.refused) → IsWritten (meet_end how reaction.state.refused) said (sent_bytes s.said ++ sent_bytes reaction.says)
+          at_end : (how : SessionEnd) → reaction.end ≡ Some how → IsEndOf side c judge bytes ends ends (meet_end how reaction.state.refused) → IsWritten (meet_end how reaction.state.refused) said (sent_bytes s.said ++ sent_bytes reaction.says)
               → (how ≡ by.OutOfMemory → ⊥) → is_link_end (meet_end how reaction.state.refused) ≡ false → MeetsThere side c judge reaction.state.core old new ends ends (meet_end how reaction.state.refused)
           at_end how some counted wrote others linked = record {
-            read = read;
+            read = bytes;
             written = sent_bytes s.said ++ sent_bytes reaction.says;
-            meets = plain_meets read (sent_bytes s.said ++ sent_bytes reaction.says) said reaction.state ends ends how how fits (stops_here how some) (inl refl) counted wrote others;
-            told = told (sent_bytes reaction.says) false sent ∙ ap (λ (b : Bool). after_part read (sent_bytes s.said ++ sent_bytes reaction.says) b old) (sym linked);
+            meets = plain_meets bytes (sent_bytes s.said ++ sent_bytes reaction.says) said reaction.state ends ends how how fits (stops_here how some) (inl refl) counted wrote others;
+            told = told (sent_bytes reaction.says) false sent ∙ ap (λ (b : Bool). after_part bytes (sent_bytes s.said ++ sent_bytes reaction.says) b old) (sym linked);
           }
 
           go : (how : SessionEnd) → reaction.end ≡ Some how → IsOfFrame how → MeetsThere side c judge reaction.state.core old new ends ends (meet_end how reaction.state.refused)
@@ -335,43 +336,43 @@ module _ (side : Side) (c : CoreState) (judge : Vertex → Bool) where
           go by.OutOfMemory some of = absurd of
 
       -- the link failed in its answer, or an append
-      cut_short : (k : Meeting) (how : SessionEnd) (sent : List ℕ) (failed : Bool) (ends : ℕ) → k.core ≡ reaction.state.core → IsOfOutside (meet_end how reaction.state.refused) → IsEndOf side c judge read ends ends (meet_end how reaction.state.refused)
+      cut_short : (k : Meeting) (how : SessionEnd) (sent : List ℕ) (failed : Bool) (ends : ℕ) → k.core ≡ reaction.state.core → IsOfOutside (meet_end how reaction.state.refused) → IsEndOf side c judge bytes ends ends (meet_end how reaction.state.refused)
           → IsWritten (meet_end how reaction.state.refused) said (sent_bytes s.said ++ sent) → (how ≡ by.OutOfMemory → ⊥) → failed ≡ is_link_end (meet_end how reaction.state.refused) → new ≡ after_part [] sent failed (after_part part [] false now)
           → MeetsThere side c judge k.core old new ends ends (meet_end how reaction.state.refused)
       cut_short k how sent failed ends stands of counted wrote others linked is =
           subst (λ (x : CoreState). MeetsThere side c judge x old new ends ends (meet_end how reaction.state.refused)) (sym stands) (record {
-            read = read;
+            read = bytes;
             written = sent_bytes s.said ++ sent;
-            meets = plain_meets read (sent_bytes s.said ++ sent) said reaction.state ends ends how whole.0 fits whole.1 (inr of) counted wrote others;
-            told = told sent failed is ∙ ap (λ (b : Bool). after_part read (sent_bytes s.said ++ sent) b old) linked;
+            meets = plain_meets bytes (sent_bytes s.said ++ sent) said reaction.state ends ends how whole.0 fits whole.1 (inr of) counted wrote others;
+            told = told sent failed is ∙ ap (λ (b : Bool). after_part bytes (sent_bytes s.said ++ sent) b old) linked;
           })
 
       -- there was no memory
       wanted : (k : Meeting) (sent : List ℕ) (ends : ℕ) → (k.core ≡ m.core) ⊎ (k.core ≡ reaction.state.core) → IsPrefixOf sent (sent_bytes reaction.says) → new ≡ after_part [] sent false (after_part part [] false now)
           → MeetsThere side c judge k.core old new ends ends end.OutOfMemory
       wanted k sent ends (inl stays) prefix is = record {
-        read = read;
+        read = bytes;
         written = sent_bytes s.said ++ sent;
         meets = wanting_meets s.read part (sent_bytes s.said ++ sent) said [] k.core ends ends fits (stays ∙ ap (λ (t : Talk Meeting). t.state.core) (sym here)) (ap (λ (t : Talk Meeting). t.said) whole.1 ∙ sym (append-nil said)) (first_of_last s.said reaction.says sent prefix);
         told = told sent false is;
       }
       wanted k sent ends (inr stands) prefix is = record {
-        read = read ++ [];
+        read = bytes ++ [];
         written = sent_bytes s.said ++ sent;
-        meets = wanting_meets read [] (sent_bytes s.said ++ sent) said [] k.core ends ends fits_more (stands ∙ ap (λ (t : Talk Meeting). t.state.core) (sym whole.1))
-            (ap (λ (bytes : List ℕ). (met side c judge bytes).said) (append-nil read) ∙ ap (λ (t : Talk Meeting). t.said) whole.1 ∙ sym (append-nil said)) (first_of_last s.said reaction.says sent prefix);
-        told = told sent false is ∙ ap (λ (bytes : List ℕ). after_part bytes (sent_bytes s.said ++ sent) false old) (sym (append-nil read));
+        meets = wanting_meets bytes [] (sent_bytes s.said ++ sent) said [] k.core ends ends fits_more (stands ∙ ap (λ (t : Talk Meeting). t.state.core) (sym whole.1))
+            (ap (λ (bytes : List ℕ). (met side c judge bytes).said) (append-nil bytes) ∙ ap (λ (t : Talk Meeting). t.said) whole.1 ∙ sym (append-nil said)) (first_of_last s.said reaction.says sent prefix);
+        told = told sent false is ∙ ap (λ (bytes : List ℕ). after_part bytes (sent_bytes s.said ++ sent) false old) (sym (append-nil bytes));
       }
 
       -- the session goes on
       goes_meeting : (k : Meeting) → Reacts {T = ℕ} m.core reaction k (after_part part [] false now) new (Ok (length s.read + length part)) → IsMeeting k (length s.read + length part) old new
       goes_meeting k r = record {
-        read = read;
+        read = bytes;
         said = said;
         place_is = sym (length-append s.read part);
         within = fits;
-        heard = subst (λ (x : Meeting). Heard read said x) (sym r.1) (leads_on n step first (begun c) s.read s.said m s.heard part f has r.0);
-        told = told (sent_bytes reaction.says) false r.2 ∙ ap (λ (w : List ℕ). after_part read w false old) all_said;
+        heard = subst (λ (x : Meeting). Heard bytes said x) (sym r.1) (leads_on n step first (begun c) s.read s.said m s.heard part f has r.0);
+        told = told (sent_bytes reaction.says) false r.2 ∙ ap (λ (w : List ℕ). after_part bytes w false old) all_said;
       }
 
       -- or it ends
@@ -390,6 +391,13 @@ module _ (side : Side) (c : CoreState) (judge : Vertex → Bool) where
 
     abbrev pub Next : Meeting → Option (List Session) → ℕ → ℕ → Result ℕ SessionEnd → Type 0
     Next k new ends_now ends_new result = Quits {T = ℕ} n place m k now new ends_now ends_new result ⊎ Handles n place m (step m) k now new ends_now ends_new result
+
+    -- the same by what the node has now
+    pub next_same : (config : Config) (verdict : Vertex → Bool) → config ≡ c.config → verdict ≡ judge → (k : Meeting) (new : Option (List Session)) (ends_now ends_new : ℕ) (result : Result ℕ SessionEnd)
+        → Quits {T = ℕ} (length config.weights) place m k now new ends_now ends_new result ⊎ Handles (length config.weights) place m (meet_step side verdict m) k now new ends_now ends_new result → Next k new ends_now ends_new result
+    next_same config verdict same_config same_verdict k new ends_now ends_new result is =
+        subst (λ (x : Config). Quits {T = ℕ} (length x.weights) place m k now new ends_now ends_new result ⊎ Handles (length x.weights) place m (meet_step side judge m) k now new ends_now ends_new result) same_config
+        (subst (λ (x : Vertex → Bool). Quits {T = ℕ} (length config.weights) place m k now new ends_now ends_new result ⊎ Handles (length config.weights) place m (meet_step side x m) k now new ends_now ends_new result) same_verdict is)
 
     pub next_leads : (k : Meeting) (new : Option (List Session)) (ends_now ends_new next : ℕ) → Next k new ends_now ends_new (Ok next) → IsMeeting k next old new
     next_leads k new ends_now ends_new next (inl q) = absurd (let is = q.is in cc)
@@ -410,26 +418,26 @@ module _ (side : Side) (c : CoreState) (judge : Vertex → Bool) where
   start : met side c judge [] ≡ record { state = begun c; said = first; end = cut_end (rest_at 0 []) }
   start = heard_here n step first (begun c) [] first (begun c) (begins n step first (begun c)) (omega arith)
 
-  pub first_cut : {T : Type 0} (old new : Option (List Session)) (ends : ℕ) (e : SessionEnd) → Sends {T = T} (sent_bytes first) old new (Err e) → MeetsThere side c judge c old new ends ends (meet_end e 0)
-  first_cut old new ends by.LinkFault s = record {
+  pub first_cut : (T : Type 0) (old new : Option (List Session)) (ends : ℕ) (e : SessionEnd) → Sends {T = T} (sent_bytes first) old new (Err e) → MeetsThere side c judge c old new ends ends (meet_end e 0)
+  first_cut T old new ends by.LinkFault s = record {
     read = [];
     written = s.part;
     meets = plain_meets [] s.part first (begun c) ends ends by.LinkFault (cut_end (rest_at 0 [])) (omega arith) start (inr tt) tt s.first (λ e. cc);
     told = s.told;
   }
-  first_cut old new ends by.OutOfMemory s = record {
+  first_cut T old new ends by.OutOfMemory s = record {
     read = [] ++ [];
     written = s.part;
     meets = wanting_meets [] [] s.part first [] c ends ends (omega arith) (ap (λ (t : Talk Meeting). t.state.core) (sym start)) (ap (λ (t : Talk Meeting). t.said) start ∙ sym (append-nil first)) s.first;
     told = s.told;
   }
-  first_cut old new ends by.Done s = absurd s.error
-  first_cut old new ends by.EndOfInput s = absurd s.error
-  first_cut old new ends by.WrongInstance s = absurd s.error
-  first_cut old new ends (by.BadFrame at) s = absurd s.error
-  first_cut old new ends by.AppendFault s = absurd s.error
-  first_cut old new ends by.ByteLimit s = absurd s.error
-  first_cut old new ends by.Clash s = absurd s.error
+  first_cut T old new ends by.Done s = absurd s.error
+  first_cut T old new ends by.EndOfInput s = absurd s.error
+  first_cut T old new ends by.WrongInstance s = absurd s.error
+  first_cut T old new ends (by.BadFrame at) s = absurd s.error
+  first_cut T old new ends by.AppendFault s = absurd s.error
+  first_cut T old new ends by.ByteLimit s = absurd s.error
+  first_cut T old new ends by.Clash s = absurd s.error
 
   -- ---- the door
 
@@ -484,3 +492,9 @@ fault_counted before now NoMemory c = c.failed
 pub fault_stored : (count : ℕ) (fault : IoFault) → IsTakerEnd count count (meet_end (end_of_fault fault) 0)
 fault_stored count Failed = refl
 fault_stored count NoMemory = refl
+
+-- a frame that was handled, or one that ended the session: no end was counted
+pub next_counts : (n place : ℕ) (m : Meeting) (step : Placed → Reaction Meeting) (k : Meeting) (now new : Option (List Session)) (ends_now ends_new next : ℕ)
+    → Quits {T = ℕ} n place m k now new ends_now ends_new (Ok next) ⊎ Handles n place m step k now new ends_now ends_new (Ok next) → ends_new ≡ ends_now
+next_counts n place m step k now new ends_now ends_new next (inl q) = absurd (let is = q.is in cc)
+next_counts n place m step k now new ends_now ends_new next (inr h) = h.ends

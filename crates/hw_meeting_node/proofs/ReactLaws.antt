@@ -16,9 +16,13 @@ use Rattle.hw_link.specs.Sent.{Sends}
 use Rattle.hw_link.proofs.LinkLaws.{after_nothing}
 use Rattle.hw_meeting_link.specs.Frames.{sent_bytes}
 use Rattle.hw_meeting_node.specs.declared.meeter.Side.{Side}
+use Rattle.hw_meeting_node.specs.declared.meeter.Stage.TheVariants.{Telling}
 use Rattle.hw_meeting_node.specs.Talk.{Reaction, goes_on, ends}
-use Rattle.hw_meeting_node.specs.Meeting.{Meeting, greeted, not_due}
-use Rattle.hw_meeting_node.specs.Handling.{Reacts}
+use Rattle.hw_converge.specs.declared.summary.LaneSummary.{LaneSummary}
+use Rattle.hw_meeting.specs.declared.frame.MeetingFrame.{MeetingFrame}
+use Rattle.hw_meeting.specs.declared.frame.MeetingFrame.TheVariants as frame
+use Rattle.hw_meeting_node.specs.Meeting.{Meeting, to_hello, greeted, not_due, at_greeting, at_telling, at_tearing, at_taking}
+use Rattle.hw_meeting_node.specs.Handling.{Reacts, IsTakerCounted}
 
 -- nothing was sent
 pub none_sent : (old : Option (List Session)) → old ≡ after_part [] (sent_bytes []) false old
@@ -63,5 +67,67 @@ pub wants_reacts : (c : CoreState) (r : Reaction Meeting) (now : Meeting) (old :
 wants_reacts c r now old same = (inl same, [], (0, take_none (sent_bytes r.says)), none_sent old)
 
 -- a Hello, by whether it is of the own instance
-pub greeted_by : (side : Side) (m : Meeting) (instance : Digest) (b : Bool) → digest_eq instance (instance_of m.core.config) ≡ b → greeted side m instance ≡ cond b (goes_on (record m { stage = Rattle.hw_meeting_node.specs.declared.meeter.Stage.TheVariants.Telling }) (Rattle.hw_meeting_node.specs.Meeting.to_hello side m.core)) (ends m [] end.WrongInstance)
-greeted_by side m instance b is = ap (λ (x : Bool). cond x (goes_on (record m { stage = Rattle.hw_meeting_node.specs.declared.meeter.Stage.TheVariants.Telling }) (Rattle.hw_meeting_node.specs.Meeting.to_hello side m.core)) (ends m [] end.WrongInstance)) is
+pub greeted_by : (side : Side) (m : Meeting) (instance : Digest) (b : Bool) → digest_eq instance (instance_of m.core.config) ≡ b → greeted side m instance ≡ cond b (goes_on (record m { stage = Telling }) (to_hello side m.core)) (ends m [] end.WrongInstance)
+greeted_by side m instance b is = ap (λ (x : Bool). cond x (goes_on (record m { stage = Telling }) (to_hello side m.core)) (ends m [] end.WrongInstance)) is
+
+-- no answer ends as a failed append
+pub sent_unstored : (bytes : List ℕ) (old new : Option (List Session)) (result : Result (Unit {0}) SessionEnd) → Sends {T = Unit {0}} bytes old new result → (count : ℕ) → IsTakerCounted {T = Unit {0}} count count result
+sent_unstored bytes old new (Ok x) s count = refl
+sent_unstored bytes old new (Err end.LinkFault) s count = refl
+sent_unstored bytes old new (Err end.OutOfMemory) s count = refl
+sent_unstored bytes old new (Err end.Done) s count = refl
+sent_unstored bytes old new (Err end.EndOfInput) s count = refl
+sent_unstored bytes old new (Err end.WrongInstance) s count = refl
+sent_unstored bytes old new (Err (end.BadFrame at)) s count = refl
+sent_unstored bytes old new (Err end.AppendFault) s count = absurd s.error
+sent_unstored bytes old new (Err end.ByteLimit) s count = refl
+sent_unstored bytes old new (Err end.Clash) s count = refl
+
+-- ---- a frame that isn't due
+
+module _ (c : CoreState) (m : Meeting) (at : ℕ) (f : MeetingFrame) (old : Option (List Session)) where
+  abbrev Bad : Reaction Meeting → Type 0
+  Bad r = Reacts {T = Unit {0}} c r m old old (Err (end.BadFrame at))
+
+  bad : (r : Reaction Meeting) → r ≡ not_due m at → Bad r
+  bad r is = subst Bad (sym is) (refl, refl, none_sent old)
+
+  pub greeting_bad : (side : Side) → ((d : Digest) → f ≡ frame.Hello d → ⊥) → Bad (at_greeting side m at f)
+  greeting_bad side other = bad (at_greeting side m at f) (go f other)
+    where
+      go : (x : MeetingFrame) → ((d : Digest) → x ≡ frame.Hello d → ⊥) → at_greeting side m at x ≡ not_due m at
+      go (frame.Hello d) no = absurd (no d refl)
+      go (frame.Vertex v) no = refl
+      go (frame.Summary parts) no = refl
+      go (frame.Torn numbers) no = refl
+      go frame.Done no = refl
+
+  pub telling_bad : (side : Side) → ((parts : List LaneSummary) → f ≡ frame.Summary parts → ⊥) → Bad (at_telling side m at f)
+  telling_bad side other = bad (at_telling side m at f) (go f other)
+    where
+      go : (x : MeetingFrame) → ((parts : List LaneSummary) → x ≡ frame.Summary parts → ⊥) → at_telling side m at x ≡ not_due m at
+      go (frame.Summary parts) no = absurd (no parts refl)
+      go (frame.Hello d) no = refl
+      go (frame.Vertex v) no = refl
+      go (frame.Torn numbers) no = refl
+      go frame.Done no = refl
+
+  pub tearing_bad : (side : Side) → ((numbers : List ℕ) → f ≡ frame.Torn numbers → ⊥) → Bad (at_tearing side m at f)
+  tearing_bad side other = bad (at_tearing side m at f) (go f other)
+    where
+      go : (x : MeetingFrame) → ((numbers : List ℕ) → x ≡ frame.Torn numbers → ⊥) → at_tearing side m at x ≡ not_due m at
+      go (frame.Torn numbers) no = absurd (no numbers refl)
+      go (frame.Hello d) no = refl
+      go (frame.Vertex v) no = refl
+      go (frame.Summary parts) no = refl
+      go frame.Done no = refl
+
+  pub taking_bad : (side : Side) (judge : Vertex → Bool) → ((v : Vertex) → f ≡ frame.Vertex v → ⊥) → (f ≡ frame.Done → ⊥) → Bad (at_taking side judge m at f)
+  taking_bad side judge no_vertex no_done = bad (at_taking side judge m at f) (go f no_vertex no_done)
+    where
+      go : (x : MeetingFrame) → ((v : Vertex) → x ≡ frame.Vertex v → ⊥) → (x ≡ frame.Done → ⊥) → at_taking side judge m at x ≡ not_due m at
+      go (frame.Vertex v) no none = absurd (no v refl)
+      go frame.Done no none = absurd (none refl)
+      go (frame.Hello d) no none = refl
+      go (frame.Summary parts) no none = refl
+      go (frame.Torn numbers) no none = refl

@@ -1,7 +1,7 @@
 -- What a node says at a meeting: frames one after the other.
 use Rattle.std.proofs.Common.{◌≡◌, ℕ, zero, suc, ◌+◌, ◌<◌, ◌≤◌, Bool, true, false, cond, List, [], ◌∷◌, ◌++◌, length, take, drop, map, Option, Some, None, Result, Ok, Err, refl, sym, ap, subst, ◌∙◌, arith}
-use Rattle.std.specs.Prelude.{slice_get, filter_map, find, ◌==◌}
-use Rattle.std.specs.List.{All}
+use Rattle.std.specs.Prelude.{slice_get, slice_index_or, filter_map, find, ◌==◌}
+use Rattle.std.specs.List.{All, cons_option}
 use Rattle.std.proofs.lemmas.List.{append-nil, take_all, take-append-drop, map-append, length-map}
 use Rattle.std.proofs.lemmas.List.Elements.{filter_map-append, All-map, All-from_recursion}
 use Rattle.std.proofs.lemmas.List.Concat.{flat_map-append}
@@ -83,7 +83,7 @@ module _ (journal : List Vertex) where
   joins xs ys = ap (map frame.Vertex) (filter_map-append (slice_get journal) xs ys) ∙ map-append frame.Vertex (filter_map (slice_get journal) xs) (filter_map (slice_get journal) ys)
 
   one : (place : ℕ) (v : Vertex) → slice_get journal place ≡ Some v → sent_at (place ∷ []) ≡ frame.Vertex v ∷ []
-  one place v at = ap (λ (o : Option Vertex). map frame.Vertex (elim o as (λ z. List Vertex) [ None ↦ [] | Some w ↦ w ∷ [] ])) at
+  one place v at = ap (λ (o : Option Vertex). map frame.Vertex (cons_option o [])) at
 
   module _ (places : List ℕ) (old now new : Option (List Session)) (i : ℕ) (sent : Sends {T = Unit {0}} (sent_bytes (sent_at (take i places))) old now (Ok tt)) where
     module _ (place : ℕ) (v : Vertex) (at : slice_get places i ≡ Some place) (here : slice_get journal place ≡ Some v) where
@@ -106,3 +106,17 @@ module _ (journal : List Vertex) where
 
     pub sends_all : length places ≤ i → Sends {T = Unit {0}} (sent_bytes (sent_at places)) old now (Ok tt)
     sends_all done = subst (λ (xs : List ℕ). Sends {T = Unit {0}} (sent_bytes (sent_at xs)) old now (Ok tt)) (take_all i places done) sent
+
+-- there was no memory, and nothing was sent
+pub unsaid : (T : Type 0) (fs : List MeetingFrame) (old : Option (List Session)) → Sends {T = T} (sent_bytes fs) old old (Err Rattle.hw_link.specs.declared.end.SessionEnd.TheVariants.OutOfMemory)
+unsaid T fs old = record { part = []; first = (0, take_none (sent_bytes fs)); whole = tt; told = sym (after_nothing old); error = tt }
+  where
+    take_none : (xs : List ℕ) → [] ≡ take 0 xs
+    take_none [] = refl
+    take_none (x ∷ xs) = refl
+
+-- the item at a place of a list
+pub at_index : (xs : List ℕ) (i d : ℕ) → i < length xs → slice_get xs i ≡ Some (slice_index_or xs i d)
+at_index [] i d less = absurd (omega arith)
+at_index (x ∷ xs) zero d less = refl
+at_index (x ∷ xs) (suc i) d less = at_index xs i d (omega arith)

@@ -1,7 +1,7 @@
 -- A vertex of the other.
 use Rattle.std.proofs.Common.{◌≡◌, ◌⊎◌, ℕ, zero, suc, ◌+◌, ◌<◌, Bool, true, false, cond, List, [], ◌∷◌, ◌++◌, length, Option, Some, None, Result, Ok, Err, inl, inr, refl, sym, ap, subst, ◌∙◌, arith, length-append}
 use Rattle.std.specs.Prelude.{slice_get, filter_map}
-use Rattle.std.specs.List.{All, AllByRecursion}
+use Rattle.std.specs.List.{All, AllByRecursion, cons_option}
 use Rattle.std.proofs.lemmas.List.Elements.{recursion_from_All, All-from_recursion}
 use Rattle.hw_types.specs.declared.unit.Vertex.{Vertex}
 use Rattle.hw_types.specs.declared.answers.Receipt.{Receipt}
@@ -35,8 +35,8 @@ get_before (x ∷ xs) ys (suc i) less = get_before xs ys i (omega arith)
 places_stay : (journal more : List Vertex) (places : List ℕ) → AllByRecursion (λ place. place < length journal) places → filter_map (slice_get (journal ++ more)) places ≡ filter_map (slice_get journal) places
 places_stay journal more [] all = refl
 places_stay journal more (p ∷ ps) all =
-    ap (λ (o : Option Vertex). elim o as (λ z. List Vertex) [ None ↦ filter_map (slice_get (journal ++ more)) ps | Some v ↦ v ∷ filter_map (slice_get (journal ++ more)) ps ]) (get_before journal more p all.0)
-    ∙ ap (λ (vs : List Vertex). elim (slice_get journal p) as (λ z. List Vertex) [ None ↦ vs | Some v ↦ v ∷ vs ]) (places_stay journal more ps all.1)
+    ap (λ (o : Option Vertex). cons_option o (filter_map (slice_get (journal ++ more)) ps)) (get_before journal more p all.0)
+    ∙ ap (cons_option (slice_get journal p)) (places_stay journal more ps all.1)
 
 within_more : (journal more : List Vertex) (places : List ℕ) → AllByRecursion (λ place. place < length journal) places → AllByRecursion (λ place. place < length (journal ++ more)) places
 within_more journal more [] all = tt

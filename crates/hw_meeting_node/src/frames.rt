@@ -21,6 +21,7 @@ use hw_types::{Cause, Digest, IndexList, OutOfMemory, Vertex};
 use std::alloc::Global;
 
 /// Handles the other's Hello, which is of the own instance.
+#[tactic(auto, using(crate::proofs::ReactLaws::sent_unstored))]
 pub(crate) fn at_hello<D: Door>(
     alloc: Global,
     core: &Core,
@@ -35,6 +36,7 @@ pub(crate) fn at_hello<D: Door>(
     ensures reacts { Reacts core.now (greeted side (meeting_of meeter.old core.now) other) (meeting_of meeter.new core.now) (D.sessions door.old) (D.sessions door.new) result }
     ensures kept { OnOk result (IsKept meeter.new core.now) }
     ensures cause { IsLinkCounted (D.faults door.old) (D.faults door.new) result }
+    ensures stored { (count : ℕ) → IsTakerCounted count count result }
 
     ensures open { D.is_open door.new ≡ true }
     ensures ends { D.ends door.new ≡ D.ends door.old }
@@ -79,6 +81,7 @@ fn answer_hello<D: Door>(
 }
 
 /// Handles what the other has of each validator.
+#[tactic(auto, using(crate::proofs::ReactLaws::sent_unstored))]
 pub(crate) fn at_summary<D: Door>(
     alloc: Global,
     core: &Core,
@@ -93,6 +96,7 @@ pub(crate) fn at_summary<D: Door>(
     ensures reacts { Reacts core.now (told side (meeting_of meeter.old core.now) theirs) (meeting_of meeter.new core.now) (D.sessions door.old) (D.sessions door.new) result }
     ensures kept { OnOk result (IsKept meeter.new core.now) }
     ensures cause { IsLinkCounted (D.faults door.old) (D.faults door.new) result }
+    ensures stored { (count : ℕ) → IsTakerCounted count count result }
 
     ensures open { D.is_open door.new ≡ true }
     ensures ends { D.ends door.new ≡ D.ends door.old }
@@ -131,6 +135,7 @@ fn answer_summary<D: Door>(
 }
 
 /// Handles the validators that are torn for the other. From now on it is known what is owed.
+#[tactic(auto, using(crate::proofs::ReactLaws::sent_unstored))]
 pub(crate) fn at_torn<D: Door>(
     alloc: Global,
     core: &Core,
@@ -145,6 +150,7 @@ pub(crate) fn at_torn<D: Door>(
     ensures reacts { Reacts core.now (given_torn side (meeting_of meeter.old core.now) torn.now) (meeting_of meeter.new core.now) (D.sessions door.old) (D.sessions door.new) result }
     ensures kept { OnOk result (IsKept meeter.new core.now) }
     ensures cause { IsLinkCounted (D.faults door.old) (D.faults door.new) result }
+    ensures stored { (count : ℕ) → IsTakerCounted count count result }
 
     ensures open { D.is_open door.new ≡ true }
     ensures ends { D.ends door.new ≡ D.ends door.old }
@@ -205,6 +211,7 @@ fn answer_torn<D: Door>(
 }
 
 /// Handles the other's Done, which ends the session: the host first sends what it owes.
+#[tactic(auto, using(crate::proofs::ReactLaws::sent_unstored))]
 pub(crate) fn at_done<D: Door>(
     alloc: Global,
     core: &Core,
@@ -216,6 +223,7 @@ pub(crate) fn at_done<D: Door>(
     requires open { D.is_open door.old ≡ true }
     ensures reacts { Reacts core.now (finished side (meeting_of meeter.now core.now)) (meeting_of meeter.now core.now) (D.sessions door.old) (D.sessions door.new) result }
     ensures cause { IsLinkCounted (D.faults door.old) (D.faults door.new) result }
+    ensures stored { (count : ℕ) → IsTakerCounted count count result }
 
     ensures open { D.is_open door.new ≡ true }
     ensures ends { D.ends door.new ≡ D.ends door.old }

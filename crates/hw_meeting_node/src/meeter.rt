@@ -62,7 +62,7 @@ pub(crate) fn begin(alloc: Global, core: &Core) -> Result<Meeter, OutOfMemory>
 /// For how many validators a node is.
 pub(crate) fn validators(core: &Core) -> u32
     ensures count { result ≡ length core.now.config.weights }
-    ensures few { result ≤ 256 }
+    ensures few { result ≤ 1024 }
 {
     core.state().config().weights.len() as u32
 }

@@ -1,0 +1,34 @@
+use Rattle.std.proofs.Common.{sym, refl, arith, ◌∙◌}
+use Rattle.hw_meeting_node.proofs.SayLaws.{sends_nothing, sends_next, sends_broken, at_index}
+use Rattle.hw_meeting_node.proofs.say.send_vertices.Goals as goal
+
+pub loop-place-init : goal.loop-place-init
+loop-place-init g c = record {
+  sent = sends_nothing (g.D.Door.sessions c.args.door.now);
+  session = c.requires.open;
+  ends = refl;
+  faults = refl;
+  accepts = refl;
+  dials = refl;
+}
+
+pub returns-in-Err-clause-sent : goal.returns-in-Err-clause-sent
+returns-in-Err-clause-sent g c =
+    let l = c.loop-place in
+    sends_broken c.args.core.now.journal c.args.places.now (g.D.Door.sessions c.args.door.now) (g.D.Door.sessions l.door) (g.D.Door.sessions c.send_vertex.new.door) l.place-index l.invariant.sent _ c.journal_at.result.now
+    (at_index c.args.places.now l.place-index 0 (omega (arith, c.loop-place-test.true))) (sym c.journal_at.ensures.vertex) c.in-Err.end c.in-Err.ensures.sent
+
+pub loop-place-preserved : goal.loop-place-preserved
+loop-place-preserved g c =
+    let l = c.loop-place in
+    let e = c.in-Ok.ensures in
+    record {
+      sent =
+          sends_next c.args.core.now.journal c.args.places.now (g.D.Door.sessions c.args.door.now) (g.D.Door.sessions l.door) (g.D.Door.sessions c.send_vertex.new.door) l.place-index l.invariant.sent _ c.journal_at.result.now
+          (at_index c.args.places.now l.place-index 0 (omega (arith, c.loop-place-test.true))) (sym c.journal_at.ensures.vertex) e.sent;
+      session = e.open;
+      ends = e.ends ∙ l.invariant.ends;
+      faults = e.cause ∙ l.invariant.faults;
+      accepts = e.accepts ∙ l.invariant.accepts;
+      dials = e.dials ∙ l.invariant.dials;
+    }
