@@ -96,38 +96,38 @@ module _ (c : CoreState) (m : Meeting) (at : ℕ) (f : MeetingFrame) (old : Opti
   greeting_bad side other = bad (at_greeting side m at f) (go f other)
     where
       go : (x : MeetingFrame) → ((d : Digest) → x ≡ frame.Hello d → ⊥) → at_greeting side m at x ≡ not_due m at
-      go (frame.Hello d) no = absurd (no d refl)
-      go (frame.Vertex v) no = refl
-      go (frame.Summary parts) no = refl
-      go (frame.Torn numbers) no = refl
-      go frame.Done no = refl
+      go (frame.Hello d) other = absurd (other d refl)
+      go (frame.Vertex v) other = refl
+      go (frame.Summary parts) other = refl
+      go (frame.Torn numbers) other = refl
+      go frame.Done other = refl
 
   pub telling_bad : (side : Side) → ((parts : List LaneSummary) → f ≡ frame.Summary parts → ⊥) → Bad (at_telling side m at f)
   telling_bad side other = bad (at_telling side m at f) (go f other)
     where
       go : (x : MeetingFrame) → ((parts : List LaneSummary) → x ≡ frame.Summary parts → ⊥) → at_telling side m at x ≡ not_due m at
-      go (frame.Summary parts) no = absurd (no parts refl)
-      go (frame.Hello d) no = refl
-      go (frame.Vertex v) no = refl
-      go (frame.Torn numbers) no = refl
-      go frame.Done no = refl
+      go (frame.Summary parts) other = absurd (other parts refl)
+      go (frame.Hello d) other = refl
+      go (frame.Vertex v) other = refl
+      go (frame.Torn numbers) other = refl
+      go frame.Done other = refl
 
   pub tearing_bad : (side : Side) → ((numbers : List ℕ) → f ≡ frame.Torn numbers → ⊥) → Bad (at_tearing side m at f)
   tearing_bad side other = bad (at_tearing side m at f) (go f other)
     where
       go : (x : MeetingFrame) → ((numbers : List ℕ) → x ≡ frame.Torn numbers → ⊥) → at_tearing side m at x ≡ not_due m at
-      go (frame.Torn numbers) no = absurd (no numbers refl)
-      go (frame.Hello d) no = refl
-      go (frame.Vertex v) no = refl
-      go (frame.Summary parts) no = refl
-      go frame.Done no = refl
+      go (frame.Torn numbers) other = absurd (other numbers refl)
+      go (frame.Hello d) other = refl
+      go (frame.Vertex v) other = refl
+      go (frame.Summary parts) other = refl
+      go frame.Done other = refl
 
   pub taking_bad : (side : Side) (judge : Vertex → Bool) → ((v : Vertex) → f ≡ frame.Vertex v → ⊥) → (f ≡ frame.Done → ⊥) → Bad (at_taking side judge m at f)
   taking_bad side judge no_vertex no_done = bad (at_taking side judge m at f) (go f no_vertex no_done)
     where
       go : (x : MeetingFrame) → ((v : Vertex) → x ≡ frame.Vertex v → ⊥) → (x ≡ frame.Done → ⊥) → at_taking side judge m at x ≡ not_due m at
-      go (frame.Vertex v) no none = absurd (no v refl)
-      go frame.Done no none = absurd (none refl)
-      go (frame.Hello d) no none = refl
-      go (frame.Summary parts) no none = refl
-      go (frame.Torn numbers) no none = refl
+      go (frame.Vertex v) other none = absurd (other v refl)
+      go frame.Done other none = absurd (none refl)
+      go (frame.Hello d) other none = refl
+      go (frame.Summary parts) other none = refl
+      go (frame.Torn numbers) other none = refl

@@ -22,7 +22,7 @@ abbrev pub signed_eq : SignedUnit → SignedUnit → Bool
 signed_eq x y = signature_eq x.signature y.signature && unit_eq x.unit y.unit
 
 -- the two vertices are equal, with their signatures
-abbrev pub vertex_eq : Vertex → Vertex → Bool
+unfoldable pub vertex_eq : Vertex → Vertex → Bool
 vertex_eq (vertex.Unit x) (vertex.Unit y) = signed_eq x y
 vertex_eq (vertex.Evidence x) (vertex.Evidence y) = signed_eq x.left y.left && signed_eq x.right y.right
 vertex_eq (vertex.Endorsement x) (vertex.Endorsement y) = digest_eq x.unit y.unit && (x.endorser == y.endorser) && signature_eq x.signature y.signature

@@ -1,7 +1,8 @@
 //! A taker in memory.
 
 ghost use Rattle.std.specs.Prelude.{◌≡◌};
-ghost use Rattle.hw_meeting_node.specs.Memory.{verdict_by, take_fault};
+ghost use Rattle.std.specs.List.{list_any};
+ghost use Rattle.hw_meeting_node.specs.Memory.{vertex_eq, verdict_by, take_fault};
 
 use crate::same::is_same_vertex;
 use crate::taker::{TakeFault, Taker};
@@ -37,7 +38,7 @@ impl MemTaker {
     fn verdict(&self, vertex: &Vertex) -> bool
         ensures { result ≡ verdict_by self.now.refused vertex.now }
     {
-        !self.refused.as_slice().iter().any(|listed| is_same_vertex(listed, vertex))
+        !has_vertex(self.refused.as_slice(), vertex)
     }
 }
 
@@ -59,6 +60,13 @@ impl Taker for MemTaker {
             Err(refused) => Err(take_fault(refused.cause)),
         }
     }
+}
+
+/// Whether the vertex is one of these.
+fn has_vertex(vertices: &[Vertex], vertex: &Vertex) -> bool
+    ensures { result ≡ list_any (λ listed. vertex_eq listed vertex.now) vertices.now }
+{
+    vertices.iter().any(|listed| is_same_vertex(listed, vertex))
 }
 
 /// Why a vertex isn't taken that the core refuses by this cause.

@@ -6,6 +6,7 @@ ghost use Rattle.hw_meeting_node.specs.Memory.{vertex_eq, signed_eq};
 use hw_types::{SignedUnit, Vertex, is_same_unit};
 
 /// Whether the two vertices are equal, with their signatures.
+#[tactic(auto, unfolding(crate::specs::Memory::vertex_eq))]
 pub(crate) fn is_same_vertex(left: &Vertex, right: &Vertex) -> bool
     ensures { result ≡ vertex_eq left.now right.now }
 {
