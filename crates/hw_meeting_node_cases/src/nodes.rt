@@ -1,5 +1,8 @@
 //! Nodes from words.
 
+ghost use Rattle.std.specs.Prelude.{IfOk, IfSome};
+ghost use Rattle.hw_types.specs.Spelling.{VertexFits};
+
 use crate::lines::bytes_of;
 use hw_admit::StateStart;
 use hw_codec::{decode_config, decode_vertex};
@@ -63,7 +66,9 @@ fn vertices(alloc: Global, words: &str) -> Result<VertexList, OutOfMemory> {
 }
 
 /// The vertex that the digits spell, if they spell one.
-fn vertex(alloc: Global, digits: &str) -> Result<Option<Vertex>, OutOfMemory> {
+fn vertex(alloc: Global, digits: &str) -> Result<Option<Vertex>, OutOfMemory>
+    ensures { IfOk result (λ found. IfSome found (λ vertex. VertexFits vertex)) }
+{
     let bytes = bytes_of(alloc, digits)?;
     match decode_vertex(alloc, bytes.as_slice()) {
         Ok(vertex) => Ok(Some(vertex)),
