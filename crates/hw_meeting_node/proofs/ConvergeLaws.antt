@@ -1,13 +1,13 @@
 -- Two nodes that met converge.
-use Rattle.std.proofs.Common.{◌≡◌, ◌⊎◌, ℕ, zero, suc, ◌+◌, ◌<◌, ◌≤◌, Bool, true, false, cond, inl, inr, List, [], ◌∷◌, ◌++◌, length, map, Result, Ok, Err, refl, sym, ap, subst, ◌∙◌, arith}
+use Rattle.std.proofs.Common.{◌≡◌, ◌⊎◌, ℕ, ◌<◌, Bool, true, false, cond, List, [], ◌∷◌, ◌++◌, map, Result, Ok, Err, refl, sym, ap, subst, ◌∙◌, arith}
 use Rattle.std.specs.Prelude.{fold, is_ok, IsOk}
-use Rattle.std.specs.List.{All, AllByRecursion}
+use Rattle.std.specs.List.{AllByRecursion}
 use Rattle.std.proofs.lemmas.List.Elements.{All-from_recursion}
 use Rattle.hw_types.specs.declared.config.Config.{Config}
 use Rattle.hw_types.specs.declared.unit.Vertex.{Vertex}
 use Rattle.hw_types.specs.declared.answers.Receipt.{Receipt}
 use Rattle.hw_types.specs.declared.answers.Cause.{Cause}
-use Rattle.hw_types.specs.Journal.{Setting, received_of, answer, journal_after, journal_of, answers_from}
+use Rattle.hw_types.specs.Journal.{Setting, received_of, answer, journal_after, answers_from}
 use Rattle.hw_types.specs.Spelling.{instance_of}
 use Rattle.hw_types.specs.Real.{CoreState, setting_of}
 use Rattle.hw_types.specs.laws.StateLaws.{SaysTheSame, HasSameState}
@@ -19,8 +19,8 @@ use Rattle.hw_converge.proofs.ConvergeLaws as laws
 use Rattle.hw_meeting.specs.declared.frame.MeetingFrame.{MeetingFrame}
 use Rattle.hw_meeting.specs.declared.frame.MeetingFrame.TheVariants as frame
 use Rattle.hw_meeting_node.specs.declared.meeter.Side.TheVariants.{Caller, Host}
-use Rattle.hw_meeting_node.specs.Meeting.{told_of, torn_by, owed_by, all_due, met}
-use Rattle.hw_meeting_node.specs.Laws.{judged, refusals, all_words, heard_in, WasDone, node_of, HaveMet, MeetingsConverge, MetNodesAreOne}
+use Rattle.hw_meeting_node.specs.Meeting.{told_of, torn_by, owed_by, met}
+use Rattle.hw_meeting_node.specs.Laws.{judged, refusals, all_words, WasDone, node_of, HaveMet, MeetingsConverge, MetNodesAreOne}
 use Rattle.hw_meeting_node.proofs.DoneLaws.{done}
 
 -- ---- none was refused

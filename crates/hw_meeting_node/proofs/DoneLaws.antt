@@ -1,5 +1,5 @@
 -- A meeting that ended as both said.
-use Rattle.std.proofs.Common.{◌≡◌, ◌⊎◌, ℕ, zero, suc, ◌+◌, ◌≤◌, Bool, true, false, cond, inl, inr, List, [], ◌∷◌, ◌++◌, length, map, Option, Some, None, Result, Ok, Err, refl, sym, ap, subst, ◌∙◌, arith, length-append}
+use Rattle.std.proofs.Common.{◌≡◌, ℕ, zero, suc, ◌≤◌, Bool, true, false, cond, inl, inr, List, [], ◌∷◌, ◌++◌, length, map, Result, Ok, Err, refl, sym, ap, subst, ◌∙◌, arith, length-append}
 use Rattle.std.specs.Prelude.{fold, is_ok}
 use Rattle.std.proofs.lemmas.List.{append-nil}
 use Rattle.hw_types.specs.declared.unit.Digest.{Digest}
@@ -26,10 +26,10 @@ use Rattle.hw_meeting_node.specs.declared.end.MeetEnd.TheVariants as end
 use Rattle.hw_meeting_node.specs.declared.meeter.Side.{Side}
 use Rattle.hw_meeting_node.specs.declared.meeter.Side.TheVariants.{Caller, Host}
 use Rattle.hw_meeting_node.specs.declared.meeter.Stage.TheVariants as stage
-use Rattle.hw_meeting_node.specs.Talk.{Frames, with_next, frames_in, frames_of, Reaction, Talk, goes_on, ends, with_reaction, talk}
+use Rattle.hw_meeting_node.specs.Talk.{with_next, frames_in, frames_of, Talk, goes_on, ends, with_reaction, talk}
 use Rattle.hw_meeting_node.specs.Meeting.{Meeting, begun, told_of, owed_by, all_due, first_word, to_hello, to_summary, to_torn, to_done, answered, greeted, at_greeting, at_telling, at_tearing, at_taking, meet_step, met}
-use Rattle.hw_meeting_node.specs.Sessions.{meet_end, end_of, IsOfOutside, EndsAs, IsFinal, Meets}
-use Rattle.hw_meeting_node.specs.Laws.{judged, all_words, WasDone, MeetingsAreDone, MeetingsAreComplete}
+use Rattle.hw_meeting_node.specs.Sessions.{meet_end, IsOfOutside, EndsAs, IsFinal}
+use Rattle.hw_meeting_node.specs.Laws.{judged, all_words, MeetingsAreDone, MeetingsAreComplete}
 use Rattle.hw_meeting_node.proofs.EndLaws.{IsOfBytes, here_so, cut_so}
 
 -- ---- the end behind all frames is not that both said so

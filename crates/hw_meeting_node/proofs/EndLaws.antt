@@ -23,7 +23,7 @@ use Rattle.hw_meeting_link.specs.Frames.{Placed, decoded, frame_here, EndsIn}
 use Rattle.hw_meeting_node.specs.declared.meeter.Side.{Side}
 use Rattle.hw_meeting_node.specs.declared.meeter.Stage.{Stage}
 use Rattle.hw_meeting_node.specs.declared.meeter.Stage.TheVariants as stage
-use Rattle.hw_meeting_node.specs.Talk.{Reaction, goes_on, ends}
+use Rattle.hw_meeting_node.specs.Talk.{goes_on, ends}
 use Rattle.hw_meeting_node.specs.Meeting.{Meeting, to_hello, answered, at_stage, meet_step}
 
 -- ---- by a frame

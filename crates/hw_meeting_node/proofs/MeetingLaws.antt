@@ -10,7 +10,7 @@ use Rattle.hw_types.specs.declared.config.Config.{Config}
 use Rattle.hw_types.specs.Real.{CoreState}
 use Rattle.hw_io.specs.declared.outside.IoFault.{IoFault}
 use Rattle.hw_io.specs.declared.outside.IoFault.TheVariants.{Failed, OutOfMemory as NoMemory}
-use Rattle.hw_io.specs.Doors.{Session, fresh_session, with_failure, with_last, sessions_after}
+use Rattle.hw_io.specs.Doors.{Session, fresh_session, with_last, sessions_after}
 use Rattle.hw_io.specs.Faults.{raised, HasCause}
 use Rattle.hw_link.specs.declared.end.SessionEnd.{SessionEnd}
 use Rattle.hw_link.specs.declared.end.SessionEnd.TheVariants as by
@@ -26,9 +26,9 @@ use Rattle.hw_meeting_link.specs.Heard.{Says, IsEndCounted, Hears, IsHeard}
 use Rattle.hw_meeting_node.specs.declared.end.MeetEnd.{MeetEnd}
 use Rattle.hw_meeting_node.specs.declared.end.MeetEnd.TheVariants as end
 use Rattle.hw_meeting_node.specs.declared.meeter.Side.{Side}
-use Rattle.hw_meeting_node.specs.Talk.{Reaction, Talk, talk_over, HasHeard, placed_behind}
+use Rattle.hw_meeting_node.specs.Talk.{Reaction, Talk, HasHeard, placed_behind}
 use Rattle.hw_meeting_node.specs.Meeting.{Meeting, first_word, begun, meet_step, met}
-use Rattle.hw_meeting_node.specs.Sessions.{meet_end, end_of, IsOfOutside, EndsAs, IsFinal, IsEndOf, IsWritten, Leaves, Meets, is_link_end, MeetsThere, MeetsPeer, MeetsNone, IsLinkEnd, IsTakerEnd}
+use Rattle.hw_meeting_node.specs.Sessions.{meet_end, IsOfOutside, EndsAs, IsFinal, IsEndOf, IsWritten, Leaves, Meets, is_link_end, MeetsThere, MeetsPeer, MeetsNone, IsLinkEnd, IsTakerEnd}
 use Rattle.hw_meeting_node.specs.Handling.{Reacts, Quits, Handles, IsTakerCounted}
 use Rattle.hw_meeting_node.proofs.TalkLaws.{begins, leads_on, frame_ends, no_frame_ends, heard_here, heard_first}
 use Rattle.hw_meeting_node.proofs.EndLaws.{IsOfFrame, step_ends, no_frame_so}

@@ -1,5 +1,5 @@
 -- The next frame of a meeting.
-use Rattle.std.proofs.Common.{◌≡◌, ℕ, ◌+◌, Bool, false, List, [], length, Option, Result, Ok, Err, refl, sym, subst, ◌∙◌}
+use Rattle.std.proofs.Common.{◌≡◌, ℕ, Bool, false, List, [], Option, Result, Ok, Err, refl, subst, ◌∙◌}
 use Rattle.hw_types.specs.declared.unit.Vertex.{Vertex}
 use Rattle.hw_types.specs.Real.{CoreState}
 use Rattle.hw_io.specs.Doors.{Session}
@@ -7,9 +7,7 @@ use Rattle.hw_link.specs.declared.end.SessionEnd.{SessionEnd}
 use Rattle.hw_link.specs.declared.end.SessionEnd.TheVariants as end
 use Rattle.hw_link.specs.Links.{after_part}
 use Rattle.hw_meeting_link.specs.declared.read.HeardMeeting.{HeardMeeting}
-use Rattle.hw_meeting_link.specs.Frames.{Placed}
 use Rattle.hw_meeting_link.specs.Heard.{Hears, IsHeard}
-use Rattle.hw_meeting.specs.declared.frame.MeetingFrame.{MeetingFrame}
 use Rattle.hw_meeting_node.specs.declared.meeter.Side.{Side}
 use Rattle.hw_meeting_node.specs.Talk.{Reaction}
 use Rattle.hw_meeting_node.specs.Meeting.{Meeting, at_stage, meet_step}

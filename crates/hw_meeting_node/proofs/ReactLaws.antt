@@ -1,10 +1,7 @@
 -- What a node did at a frame of a meeting.
-use Rattle.std.proofs.Common.{◌≡◌, ◌⊎◌, ℕ, ◌<◌, ◌≤◌, Bool, true, false, cond, List, [], ◌∷◌, ◌++◌, length, take, Option, Some, None, Result, Ok, Err, inl, inr, refl, sym, ap, subst, ◌∙◌, arith}
+use Rattle.std.proofs.Common.{◌≡◌, ℕ, Bool, false, cond, List, [], ◌∷◌, take, Option, Some, None, Result, Ok, Err, inl, inr, refl, sym, ap, subst, ◌∙◌}
 use Rattle.hw_types.specs.declared.unit.Digest.{Digest}
 use Rattle.hw_types.specs.declared.unit.Vertex.{Vertex}
-use Rattle.hw_types.specs.declared.answers.Receipt.{Receipt}
-use Rattle.hw_types.specs.declared.answers.Cause.{Cause}
-use Rattle.hw_types.specs.declared.answers.Cause.TheVariants as cause
 use Rattle.hw_types.specs.Graph.{digest_eq}
 use Rattle.hw_types.specs.Spelling.{instance_of}
 use Rattle.hw_types.specs.Real.{CoreState}

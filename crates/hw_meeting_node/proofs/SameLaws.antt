@@ -1,5 +1,5 @@
 -- Equality of units as a test.
-use Rattle.std.proofs.Common.{◌≡◌, Bool, true, false, IsTrue, refl, sym, ap, subst, ◌∙◌}
+use Rattle.std.proofs.Common.{◌≡◌, Bool, true, false, IsTrue, refl, sym, subst}
 use Rattle.std.specs.Prelude.{◌↔◌}
 use Rattle.hw_types.specs.declared.unit.WireUnit.{WireUnit}
 use Rattle.hw_types.specs.Same.{unit_eq}

@@ -3,7 +3,7 @@ use Rattle.std.proofs.Common.{◌≡◌, ℕ, zero, suc, ◌+◌, ◌<◌, ◌�
 use Rattle.std.specs.Prelude.{slice_get, slice_index_or, filter_map, find, ◌==◌}
 use Rattle.std.specs.List.{All, cons_option}
 use Rattle.std.proofs.lemmas.List.{append-nil, take_all, take-append-drop, map-append, length-map}
-use Rattle.std.proofs.lemmas.List.Elements.{filter_map-append, All-map, All-from_recursion}
+use Rattle.std.proofs.lemmas.List.Elements.{filter_map-append, All-map}
 use Rattle.std.proofs.lemmas.List.Concat.{flat_map-append}
 use Rattle.hw_types.specs.declared.unit.Vertex.{Vertex}
 use Rattle.hw_types.specs.Graph.{Node}
@@ -43,9 +43,10 @@ part_said s journal v = go (length (units_by s journal v) == 0) refl
     go false e = found (find (is_line_of s journal v) (units_by s journal v)) e
 
 pub summary_said : (s : Setting) (journal : List Vertex) → (length (summaries s journal) ≡ length s.config.weights) × All HasUnits (summaries s journal)
-summary_said s journal =
-    (length-map (validators s.config) (summary_of s journal) ∙ range_length 0 (length s.config.weights),
-    All-map HasUnits (summary_of s journal) (validators s.config) (λ k d lt. part_said s journal _))
+summary_said s journal = (
+  length-map (validators s.config) (summary_of s journal) ∙ range_length 0 (length s.config.weights),
+  All-map HasUnits (summary_of s journal) (validators s.config) (λ k d lt. part_said s journal _),
+)
 
 -- ---- one after the other
 

@@ -1,12 +1,12 @@
 -- A session that is read frame by frame.
-use Rattle.std.proofs.Common.{◌≡◌, ℕ, ◌+◌, ◌≤◌, List, [], ◌∷◌, ◌++◌, length, take, Option, Some, None, Result, Ok, Err, refl, sym, ap, subst, ◌∙◌, arith, length-append}
+use Rattle.std.proofs.Common.{◌≡◌, ℕ, ◌+◌, ◌≤◌, List, [], ◌++◌, length, Option, Some, None, Result, Ok, Err, refl, sym, ap, subst, ◌∙◌, length-append}
 use Rattle.std.proofs.lemmas.List.{append_assoc, append-nil, take_all}
 use Rattle.hw_types.specs.Reading.{Rest}
 use Rattle.hw_link.specs.declared.end.SessionEnd.{SessionEnd}
 use Rattle.hw_link.specs.Frames.{rest_at, byte_limit, cut_end}
 use Rattle.hw_meeting.specs.declared.frame.MeetingFrame.{MeetingFrame}
 use Rattle.hw_meeting_link.specs.Frames.{Placed, frame_here, HasFrame, EndsIn}
-use Rattle.hw_meeting_node.specs.Talk.{Frames, with_next, frames_in, frames_from, Reaction, Talk, with_reaction, talk, talk_with, behind_said, talk_from, talk_over, HasHeard, placed_behind}
+use Rattle.hw_meeting_node.specs.Talk.{with_next, frames_in, frames_from, Reaction, Talk, with_reaction, talk, talk_with, behind_said, talk_from, talk_over, HasHeard, placed_behind}
 use Rattle.hw_meeting_node.proofs.FrameLaws.{frames_next}
 
 module _ {S : Type 0} (validators : ℕ) (step : S → Placed → Reaction S) where

@@ -1,11 +1,11 @@
 -- Laws of meetings: the statements.
 -- Source: ours.
-use Rattle.std.specs.Prelude.{◌≡◌, ◌⊎◌, ℕ, ◌≤◌, Bool, true, List, [], ◌∷◌, ◌++◌, length, map, fold, is_ok, Result, if◌then◌else◌}
+use Rattle.std.specs.Prelude.{◌≡◌, ◌⊎◌, ℕ, ◌≤◌, Bool, List, ◌∷◌, ◌++◌, length, map, fold, is_ok, Result, if◌then◌else◌}
 use Rattle.hw_types.specs.declared.unit.Vertex.{Vertex}
 use Rattle.hw_types.specs.declared.config.Config.{Config}
 use Rattle.hw_types.specs.declared.answers.Receipt.{Receipt}
 use Rattle.hw_types.specs.declared.answers.Cause.{Cause}
-use Rattle.hw_types.specs.Journal.{Setting, received_of, journal_after, journal_of, answers_from}
+use Rattle.hw_types.specs.Journal.{received_of, journal_after, journal_of, answers_from}
 use Rattle.hw_types.specs.Spelling.{instance_of}
 use Rattle.hw_types.specs.Real.{CoreState, setting_of}
 use Rattle.hw_types.specs.laws.StateLaws.{SaysTheSame, HasSameState}

@@ -1,6 +1,6 @@
 -- A taker in memory: equality of vertices as a test, and the verdicts of a list.
 -- Source: ours.
-use Rattle.std.specs.Prelude.{Bool, true, false, ◌&&◌, not, ◌==◌, List, bytes_eq}
+use Rattle.std.specs.Prelude.{Bool, false, ◌&&◌, not, ◌==◌, List, bytes_eq}
 use Rattle.std.specs.List.{list_any}
 use Rattle.hw_types.specs.declared.unit.Signature.{Signature}
 use Rattle.hw_types.specs.declared.unit.SignedUnit.{SignedUnit}

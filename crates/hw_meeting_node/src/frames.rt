@@ -157,7 +157,13 @@ pub(crate) fn at_torn<D: Door>(
     ensures accepts { D.accepts door.new ≡ D.accepts door.old }
     ensures dials { D.dials door.new ≡ D.dials door.old }
 {
-    match owed(alloc, core, meeter.mine.as_slice(), meeter.theirs.as_slice(), torn) {
+    match owed(
+        alloc,
+        core,
+        meeter.mine.as_slice(),
+        meeter.theirs.as_slice(),
+        torn,
+    ) {
         Ok(due) => {
             meeter.due = due;
             meeter.stage = Stage::Taking;
@@ -181,7 +187,14 @@ fn owed(
 {
     let mut all = torn_for(alloc, core, mine, theirs)?;
     all.extend(torn)?;
-    due_places(alloc, core, core.journal_count(), all.as_slice(), mine, theirs)
+    due_places(
+        alloc,
+        core,
+        core.journal_count(),
+        all.as_slice(),
+        mine,
+        theirs,
+    )
 }
 
 /// Answers the validators that are torn for the other: the caller sends what it owes, the host tells which
@@ -206,7 +219,13 @@ fn answer_torn<D: Door>(
 {
     match side {
         Side::Caller => say_due(alloc, core, door, meeter.due.as_slice()),
-        Side::Host => say_torn(alloc, core, door, meeter.mine.as_slice(), meeter.theirs.as_slice()),
+        Side::Host => say_torn(
+            alloc,
+            core,
+            door,
+            meeter.mine.as_slice(),
+            meeter.theirs.as_slice(),
+        ),
     }
 }
 

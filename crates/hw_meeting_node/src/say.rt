@@ -27,11 +27,7 @@ pub(crate) fn instance(alloc: Global, core: &Core) -> Result<Digest, OutOfMemory
 }
 
 /// Says Hello.
-pub(crate) fn say_hello<D: Door>(
-    alloc: Global,
-    core: &Core,
-    door: &mut D,
-) -> Result<(), SessionEnd>
+pub(crate) fn say_hello<D: Door>(alloc: Global, core: &Core, door: &mut D) -> Result<(), SessionEnd>
     requires open { D.is_open door.old ≡ true }
     ensures sent { Sends (sent_bytes (hello core.now)) (D.sessions door.old) (D.sessions door.new) result }
     ensures cause { IsLinkCounted (D.faults door.old) (D.faults door.new) result }

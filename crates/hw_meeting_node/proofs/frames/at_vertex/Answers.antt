@@ -1,5 +1,5 @@
 use Rattle.std.proofs.Common.{Err, refl}
-use Rattle.hw_meeting_node.proofs.VertexLaws.{takes_vertex, clash_ends, refused_goes, append_failed, memory_wanted, kept_after, kept_refused, config_stays}
+use Rattle.hw_meeting_node.proofs.VertexLaws.{takes_vertex, clash_ends, refused_goes, append_failed, memory_wanted, kept_refused, config_stays}
 use Rattle.hw_meeting_node.specs.declared.taker.TakeFault.TheVariants as fault
 use Rattle.hw_meeting_node.proofs.frames.at_vertex.Goals as goal
 

@@ -1,7 +1,7 @@
 use Rattle.std.proofs.Common.{ℕ, subst, sym}
 use Rattle.hw_meeting_node.specs.Sessions.{meet_end, MeetsThere}
 use Rattle.hw_meeting_node.specs.declared.meeter.Meeter.{Meeter}
-use Rattle.hw_meeting_node.proofs.MeetingLaws.{first_cut, link_ended}
+use Rattle.hw_meeting_node.proofs.MeetingLaws.{first_cut}
 use Rattle.hw_meeting_node.proofs.meet.meet.Goals as goal
 
 pub returns-in-Err-clause-met : goal.returns-in-Err-clause-met

@@ -1,4 +1,4 @@
-use Rattle.std.proofs.Common.{ℕ, ◌≡◌, Ok, Err, refl, subst, arith, ◌∙◌}
+use Rattle.std.proofs.Common.{ℕ, Ok, Err, refl, subst, arith, ◌∙◌}
 use Rattle.hw_meeting_node.proofs.MeetingLaws.{meeting_begins, next_same, next_leads, next_meets, next_counts, limit_meets, link_ended, taker_ended}
 use Rattle.hw_link.specs.Links.{IsLinkCounted}
 use Rattle.hw_meeting_node.specs.declared.end.MeetEnd.TheVariants.{ByteLimit}

@@ -1,6 +1,6 @@
 use Rattle.std.proofs.Common.{Some, inl}
 use Rattle.hw_meeting_node.specs.declared.meeter.Side.TheVariants.{Caller}
-use Rattle.hw_meeting_node.proofs.MeetingLaws.{meets_peer, meets_nobody, fault_counted, fault_stored}
+use Rattle.hw_meeting_node.proofs.MeetingLaws.{meets_peer, meets_nobody}
 use Rattle.hw_meeting_node.proofs.meet.meet_one.Goals as goal
 
 pub returns-in-Ok-clause-met : goal.returns-in-Ok-clause-met
