@@ -1,5 +1,5 @@
 -- Two nodes that met converge.
-use Rattle.std.proofs.Common.{◌≡◌, ◌⊎◌, ℕ, ◌<◌, Bool, true, false, cond, List, [], ◌∷◌, ◌++◌, map, Result, Ok, Err, refl, sym, ap, subst, ◌∙◌, arith}
+use Rattle.std.proofs.Common.{◌≤◌, ◌≡◌, ◌⊎◌, ℕ, ◌<◌, Bool, true, false, cond, List, [], length, ◌∷◌, ◌++◌, map, Result, Ok, Err, refl, sym, ap, subst, ◌∙◌, arith}
 use Rattle.std.specs.Prelude.{fold, is_ok, IsOk}
 use Rattle.std.specs.List.{AllByRecursion}
 use Rattle.std.proofs.lemmas.List.Elements.{All-from_recursion}
@@ -20,7 +20,9 @@ use Rattle.hw_meeting.specs.declared.frame.MeetingFrame.{MeetingFrame}
 use Rattle.hw_meeting.specs.declared.frame.MeetingFrame.TheVariants as frame
 use Rattle.hw_meeting_node.specs.declared.meeter.Side.TheVariants.{Caller, Host}
 use Rattle.hw_meeting_node.specs.Meeting.{told_of, torn_by, owed_by, met}
-use Rattle.hw_meeting_node.specs.Laws.{judged, refusals, all_words, WasDone, node_of, HaveMet, MeetingsConverge, MetNodesAreOne}
+use Rattle.hw_meeting_node.specs.Laws.{heard_in, judged, refusals, all_words, WasDone, node_of, HaveMet, MeetingsConverge, MetNodesAreOne}
+use Rattle.hw_types.proofs.LimitLaws.{within_limits}
+use Rattle.hw_meeting_node.proofs.ReadLaws.{words_read}
 use Rattle.hw_meeting_node.proofs.DoneLaws.{done}
 
 -- ---- none was refused
@@ -112,11 +114,20 @@ module _ (config : Config) (left right : List (Vertex × Bool)) (judge_left judg
   of_right : WasDone Host r judge_right read_right
   of_right = done Host r judge_right read_right h.right_done
 
+  few : length config.weights ≤ 1024
+  few = (within_limits config h.lawful).few
+
+  left_heard : heard_in (length config.weights) read_left ≡ (met Host r judge_right read_right).said
+  left_heard = words_read r h.right_fit few of_right.theirs of_right.torn (met Host r judge_right read_right).said read_left of_right.said h.right_in_range h.left_read h.left_within
+
+  right_heard : heard_in (length config.weights) read_right ≡ (met Caller l judge_left read_left).said
+  right_heard = words_read l h.left_fit few of_left.theirs of_left.torn (met Caller l judge_left read_left).said read_right of_left.said h.left_in_range h.right_read h.right_within
+
   left_agrees : Agrees r of_left.theirs of_right.theirs of_left.torn of_right.torn of_left.vertices
-  left_agrees = agrees r (instance_of config) of_left.theirs of_right.theirs of_left.torn of_right.torn of_left.vertices of_left.rest (sym of_left.heard ∙ h.left_heard ∙ of_right.said)
+  left_agrees = agrees r (instance_of config) of_left.theirs of_right.theirs of_left.torn of_right.torn of_left.vertices of_left.rest (sym of_left.heard ∙ left_heard ∙ of_right.said)
 
   right_agrees : Agrees l of_right.theirs of_left.theirs of_right.torn of_left.torn of_right.vertices
-  right_agrees = agrees l (instance_of config) of_right.theirs of_left.theirs of_right.torn of_left.torn of_right.vertices of_right.rest (sym of_right.heard ∙ h.right_heard ∙ of_left.said)
+  right_agrees = agrees l (instance_of config) of_right.theirs of_left.theirs of_right.torn of_left.torn of_right.vertices of_right.rest (sym of_right.heard ∙ right_heard ∙ of_left.said)
 
   -- each took what was due to it
   left_due : of_left.vertices ≡ due_to s r.journal l.journal

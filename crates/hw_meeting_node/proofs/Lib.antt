@@ -9,3 +9,4 @@ pub mod ConvergeLaws
 pub mod VertexLaws
 pub mod SameLaws
 pub mod NextLaws
+pub mod ReadLaws

@@ -1,12 +1,15 @@
 -- Laws of meetings: the statements.
 -- Source: ours.
-use Rattle.std.specs.Prelude.{◌≡◌, ◌⊎◌, ℕ, ◌≤◌, Bool, List, ◌∷◌, ◌++◌, length, map, fold, is_ok, Result, if◌then◌else◌}
+use Rattle.std.specs.Prelude.{◌≡◌, ◌⊎◌, ℕ, ◌≤◌, Bool, List, ◌∷◌, ◌++◌, length, map, fold, is_ok, None, Result, if◌then◌else◌}
+use Rattle.std.specs.List.{All}
 use Rattle.hw_types.specs.declared.unit.Vertex.{Vertex}
 use Rattle.hw_types.specs.declared.config.Config.{Config}
 use Rattle.hw_types.specs.declared.answers.Receipt.{Receipt}
 use Rattle.hw_types.specs.declared.answers.Cause.{Cause}
 use Rattle.hw_types.specs.Journal.{received_of, journal_after, journal_of, answers_from}
-use Rattle.hw_types.specs.Spelling.{instance_of}
+use Rattle.hw_types.specs.Below.{Among}
+use Rattle.hw_types.specs.Limits.{config_fault}
+use Rattle.hw_types.specs.Spelling.{instance_of, VertexFits}
 use Rattle.hw_types.specs.Real.{CoreState, setting_of}
 use Rattle.hw_types.specs.laws.StateLaws.{SaysTheSame, HasSameState}
 use Rattle.hw_io.specs.Faults.{Rose, raised}
@@ -16,6 +19,8 @@ use Rattle.hw_converge.specs.declared.summary.LaneSummary.{LaneSummary}
 use Rattle.hw_converge.specs.Converge.{UnitsClash}
 use Rattle.hw_meeting.specs.declared.frame.MeetingFrame.{MeetingFrame}
 use Rattle.hw_meeting.specs.declared.frame.MeetingFrame.TheVariants as frame
+use Rattle.hw_meeting.specs.Frames.{MeetingInRange}
+use Rattle.hw_meeting_link.specs.Frames.{sent_bytes}
 use Rattle.hw_meeting_node.specs.declared.end.MeetEnd.{MeetEnd}
 use Rattle.hw_meeting_node.specs.declared.end.MeetEnd.TheVariants as end
 use Rattle.hw_meeting_node.specs.declared.meeter.Side.{Side}
@@ -77,14 +82,22 @@ MeetingsAreComplete = (side : Side) (c : CoreState) (judge : Vertex → Bool) (r
 abbrev pub node_of : Config → List (Vertex × Bool) → CoreState
 node_of config deliveries = record { config = config; journal = journal_of (setting_of config) deliveries }
 
--- A caller and a host of one configuration met, each read the frames that the other wrote, both sessions ended as done, and nothing was refused.
+-- A caller and a host of one configuration met: both meetings ended as done, each read what the other wrote, and nothing was refused. Each
+-- number that was written is in its type's range, and the units of the two journals keep the limits of their format, as a node's do.
 pub record HaveMet (config : Config) (left right : List (Vertex × Bool)) (judge_left judge_right : Vertex → Bool) (read_left read_right : List ℕ) : Type 0 where
   pub left_done : (met Caller (node_of config left) judge_left read_left).end ≡ by.Done
   pub right_done : (met Host (node_of config right) judge_right read_right).end ≡ by.Done
-  pub left_heard : heard_in (length config.weights) read_left ≡ (met Host (node_of config right) judge_right read_right).said
-  pub right_heard : heard_in (length config.weights) read_right ≡ (met Caller (node_of config left) judge_left read_left).said
+  pub left_read : read_left ≡ sent_bytes (met Host (node_of config right) judge_right read_right).said
+  pub right_read : read_right ≡ sent_bytes (met Caller (node_of config left) judge_left read_left).said
+  pub left_within : length read_left ≤ byte_limit
+  pub right_within : length read_right ≤ byte_limit
   pub left_refused : (met Caller (node_of config left) judge_left read_left).state.refused ≡ 0
   pub right_refused : (met Host (node_of config right) judge_right read_right).state.refused ≡ 0
+  pub lawful : config_fault config ≡ None
+  pub left_fit : (v : Vertex) → Among v (node_of config left).journal → VertexFits v
+  pub right_fit : (v : Vertex) → Among v (node_of config right).journal → VertexFits v
+  pub left_in_range : All MeetingInRange (met Caller (node_of config left) judge_left read_left).said
+  pub right_in_range : All MeetingInRange (met Host (node_of config right) judge_right read_right).said
 
 -- Then the two journals say the same, or two different units of one digest stand in the two.
 abbrev pub MeetingsConverge : Type 0

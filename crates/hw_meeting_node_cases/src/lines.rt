@@ -10,7 +10,16 @@ pub fn answer(alloc: Global, line: &str) -> Result<String, OutOfMemory> {
     let words: Vec<&str> = line.split(' ').collect(alloc)?;
     match words.as_slice() {
         [side, config, has, refused, piece, fault, says] => {
-            met(alloc, side, config, has, refused, piece.parse().unwrap_or(0), fault, says)
+            met(
+                alloc,
+                side,
+                config,
+                has,
+                refused,
+                piece.parse().unwrap_or(0),
+                fault,
+                says,
+            )
         }
         _ => Ok(String::new(alloc)),
     }
@@ -29,7 +38,14 @@ fn met(
     let said = bytes_of(alloc, says)?;
     match taker(alloc, config, has, refused)? {
         Some(mut taker) => {
-            session_text(alloc, side == "meet", &mut taker, piece, fault, said.as_slice())
+            session_text(
+                alloc,
+                side == "meet",
+                &mut taker,
+                piece,
+                fault,
+                said.as_slice(),
+            )
         }
         None => Ok("no node".to_string(alloc)?),
     }
