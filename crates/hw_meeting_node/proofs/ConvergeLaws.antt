@@ -1,5 +1,5 @@
 -- Two nodes that met converge.
-use Rattle.std.proofs.Common.{◌≤◌, ◌≡◌, ◌⊎◌, ℕ, ◌<◌, Bool, true, false, cond, List, [], length, ◌∷◌, ◌++◌, map, Result, Ok, Err, refl, sym, ap, subst, ◌∙◌, arith}
+use Rattle.std.proofs.Common.{◌≤◌, inl, inr, ◌≡◌, ◌⊎◌, ℕ, ◌<◌, Bool, true, false, cond, List, [], length, ◌∷◌, ◌++◌, map, Result, Ok, Err, refl, sym, ap, subst, ◌∙◌, arith}
 use Rattle.std.specs.Prelude.{fold, is_ok, IsOk}
 use Rattle.std.specs.List.{AllByRecursion}
 use Rattle.std.proofs.lemmas.List.Elements.{All-from_recursion}
@@ -18,8 +18,13 @@ use Rattle.hw_converge.specs.Converge.{due_to, UnitsClash}
 use Rattle.hw_converge.proofs.ConvergeLaws as laws
 use Rattle.hw_meeting.specs.declared.frame.MeetingFrame.{MeetingFrame}
 use Rattle.hw_meeting.specs.declared.frame.MeetingFrame.TheVariants as frame
+use Rattle.hw_link.specs.declared.end.SessionEnd.{SessionEnd}
+use Rattle.hw_link.specs.declared.end.SessionEnd.TheVariants as by
+use Rattle.hw_meeting_node.specs.declared.end.MeetEnd.TheVariants as end
 use Rattle.hw_meeting_node.specs.declared.meeter.Side.TheVariants.{Caller, Host}
-use Rattle.hw_meeting_node.specs.Meeting.{told_of, torn_by, owed_by, met}
+use Rattle.hw_meeting_node.specs.Talk.{Talk}
+use Rattle.hw_meeting_node.specs.Sessions.{meet_end, EndsAs}
+use Rattle.hw_meeting_node.specs.Meeting.{Meeting, told_of, torn_by, owed_by, met}
 use Rattle.hw_meeting_node.specs.Laws.{heard_in, judged, refusals, all_words, WasDone, node_of, HaveMet, MeetingsConverge, MetNodesAreOne}
 use Rattle.hw_types.proofs.LimitLaws.{within_limits}
 use Rattle.hw_meeting_node.proofs.ReadLaws.{words_read}
@@ -98,7 +103,23 @@ agrees d instance theirs own_theirs torn own_torn vertices rest is = record {
 
 -- ---- both
 
-module _ (config : Config) (left right : List (Vertex × Bool)) (judge_left judge_right : Vertex → Bool) (read_left read_right : List ℕ) (h : HaveMet config left right judge_left judge_right read_left read_right) where
+-- a meeting that ended as done ended so by its bytes
+done_of : (x : SessionEnd) (k : ℕ) → end.Done 0 ≡ meet_end x k → (x ≡ by.Done) × (k ≡ 0)
+done_of by.Done k is = (refl, cc)
+done_of by.EndOfInput k is = absurd cc
+done_of by.WrongInstance k is = absurd cc
+done_of (by.BadFrame at) k is = absurd cc
+done_of by.LinkFault k is = absurd cc
+done_of by.AppendFault k is = absurd cc
+done_of by.ByteLimit k is = absurd cc
+done_of by.Clash k is = absurd cc
+done_of by.OutOfMemory k is = absurd cc
+
+by_bytes : (t : Talk Meeting) → EndsAs (end.Done 0) t → (t.end ≡ by.Done) × (t.state.refused ≡ 0)
+by_bytes t (inl is) = done_of t.end t.state.refused is
+by_bytes t (inr of) = absurd of
+
+module _ (config : Config) (left right : List (Vertex × Bool)) (judge_left judge_right : Vertex → Bool) (one other : CoreState) (h : HaveMet config left right judge_left judge_right one other) where
   abbrev s : Setting
   s = setting_of config
 
@@ -108,20 +129,32 @@ module _ (config : Config) (left right : List (Vertex × Bool)) (judge_left judg
   abbrev r : CoreState
   r = node_of config right
 
+  abbrev read_left : List ℕ
+  read_left = h.read_left
+
+  abbrev read_right : List ℕ
+  read_right = h.read_right
+
+  left_end : ((met Caller l judge_left read_left).end ≡ by.Done) × ((met Caller l judge_left read_left).state.refused ≡ 0)
+  left_end = by_bytes (met Caller l judge_left read_left) h.left_met.ended
+
+  right_end : ((met Host r judge_right read_right).end ≡ by.Done) × ((met Host r judge_right read_right).state.refused ≡ 0)
+  right_end = by_bytes (met Host r judge_right read_right) h.right_met.ended
+
   of_left : WasDone Caller l judge_left read_left
-  of_left = done Caller l judge_left read_left h.left_done
+  of_left = done Caller l judge_left read_left left_end.0
 
   of_right : WasDone Host r judge_right read_right
-  of_right = done Host r judge_right read_right h.right_done
+  of_right = done Host r judge_right read_right right_end.0
 
   few : length config.weights ≤ 1024
   few = (within_limits config h.lawful).few
 
   left_heard : heard_in (length config.weights) read_left ≡ (met Host r judge_right read_right).said
-  left_heard = words_read r h.right_fit few of_right.theirs of_right.torn (met Host r judge_right read_right).said read_left of_right.said h.right_in_range h.left_read h.left_within
+  left_heard = words_read r h.right_fit few of_right.theirs of_right.torn (met Host r judge_right read_right).said read_left of_right.said h.right_in_range h.right_met.wrote h.left_met.within
 
   right_heard : heard_in (length config.weights) read_right ≡ (met Caller l judge_left read_left).said
-  right_heard = words_read l h.left_fit few of_left.theirs of_left.torn (met Caller l judge_left read_left).said read_right of_left.said h.left_in_range h.right_read h.right_within
+  right_heard = words_read l h.left_fit few of_left.theirs of_left.torn (met Caller l judge_left read_left).said read_right of_left.said h.left_in_range h.left_met.wrote h.right_met.within
 
   left_agrees : Agrees r of_left.theirs of_right.theirs of_left.torn of_right.torn of_left.vertices
   left_agrees = agrees r (instance_of config) of_left.theirs of_right.theirs of_left.torn of_right.torn of_left.vertices of_left.rest (sym of_left.heard ∙ left_heard ∙ of_right.said)
@@ -142,32 +175,26 @@ module _ (config : Config) (left right : List (Vertex × Bool)) (judge_left judg
       ∙ ap (λ (t : List LaneSummary). owed_by l t of_left.torn) left_agrees.summary_is
       ∙ ap (λ (t : List ℕ). owed_by l (told_of r) t) (left_agrees.torn_is ∙ ap (torn_by r) right_agrees.summary_is)
 
-  abbrev one : List Vertex
-  one = (met Caller l judge_left read_left).state.core.journal
+  left_takes : TakesAll s judge_left l.journal (due_to s r.journal l.journal) one.journal
+  left_takes = subst (λ (vs : List Vertex). TakesAll s judge_left l.journal vs one.journal) left_due (takes_all s judge_left l.journal of_left.vertices one.journal _ (ap (λ (c : CoreState). c.journal) h.left_met.left ∙ of_left.journal) of_left.refused left_end.1)
 
-  abbrev other : List Vertex
-  other = (met Host r judge_right read_right).state.core.journal
+  right_takes : TakesAll s judge_right r.journal (due_to s l.journal r.journal) other.journal
+  right_takes = subst (λ (vs : List Vertex). TakesAll s judge_right r.journal vs other.journal) right_due (takes_all s judge_right r.journal of_right.vertices other.journal _ (ap (λ (c : CoreState). c.journal) h.right_met.left ∙ of_right.journal) of_right.refused right_end.1)
 
-  left_takes : TakesAll s judge_left l.journal (due_to s r.journal l.journal) one
-  left_takes = subst (λ (vs : List Vertex). TakesAll s judge_left l.journal vs one) left_due (takes_all s judge_left l.journal of_left.vertices one _ of_left.journal of_left.refused h.left_refused)
-
-  right_takes : TakesAll s judge_right r.journal (due_to s l.journal r.journal) other
-  right_takes = subst (λ (vs : List Vertex). TakesAll s judge_right r.journal vs other) right_due (takes_all s judge_right r.journal of_right.vertices other _ of_right.journal of_right.refused h.right_refused)
-
-  same : SaysTheSame s one other ⊎ UnitsClash s one other
+  same : SaysTheSame s one.journal other.journal ⊎ UnitsClash s one.journal other.journal
   same =
-      subst (λ (a : List Vertex). SaysTheSame s a other ⊎ UnitsClash s a other) (sym left_takes.journal_is)
+      subst (λ (a : List Vertex). SaysTheSame s a other.journal ⊎ UnitsClash s a other.journal) (sym left_takes.journal_is)
       (subst (λ (b : List Vertex). SaysTheSame s (taken s l.journal (due_to s r.journal l.journal)) b ⊎ UnitsClash s (taken s l.journal (due_to s r.journal l.journal)) b) (sym right_takes.journal_is)
       (laws.converge s left right left_takes.none right_takes.none))
 
-  one_state : HasSameState config (received_of s one) (received_of s other) ⊎ UnitsClash s one other
+  one_state : HasSameState config (received_of s one.journal) (received_of s other.journal) ⊎ UnitsClash s one.journal other.journal
   one_state =
-      subst (λ (a : List Vertex). HasSameState config (received_of s a) (received_of s other) ⊎ UnitsClash s a other) (sym left_takes.journal_is)
+      subst (λ (a : List Vertex). HasSameState config (received_of s a) (received_of s other.journal) ⊎ UnitsClash s a other.journal) (sym left_takes.journal_is)
       (subst (λ (b : List Vertex). HasSameState config (received_of s (taken s l.journal (due_to s r.journal l.journal))) (received_of s b) ⊎ UnitsClash s (taken s l.journal (due_to s r.journal l.journal)) b) (sym right_takes.journal_is)
       (laws.states s left right left_takes.none right_takes.none))
 
 pub converge : MeetingsConverge
-converge config left right judge_left judge_right read_left read_right h = same config left right judge_left judge_right read_left read_right h
+converge config left right judge_left judge_right one other h = same config left right judge_left judge_right one other h
 
 pub states : MetNodesAreOne
-states config left right judge_left judge_right read_left read_right h = one_state config left right judge_left judge_right read_left read_right h
+states config left right judge_left judge_right one other h = one_state config left right judge_left judge_right one other h

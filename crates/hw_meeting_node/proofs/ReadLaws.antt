@@ -1,6 +1,5 @@
 -- What was written is read as it was said.
-use Rattle.std.proofs.Common.{◌≡◌, inl, inr, ℕ, zero, suc, ◌+◌, ◌*◌, ◌^◌, ◌<◌, ◌≤◌, Bool, true, false, IsTrue, List, [], ◌∷◌, ◌++◌, length, map, take, Result, Ok, Err, refl, sym, ap, subst, ◌∙◌, arith, length-append}
-use Rattle.std.specs.Prelude.{filter}
+use Rattle.std.proofs.Common.{◌≡◌, inl, inr, ℕ, ◌+◌, ◌*◌, ◌≤◌, true, IsTrue, List, [], ◌∷◌, ◌++◌, length, map, refl, sym, ap, subst, ◌∙◌, arith, length-append}
 use Rattle.std.specs.Int.{w32, from_be_bytes}
 use Rattle.std.specs.List.{flat_map, All, AllByRecursion}
 use Rattle.std.proofs.lemmas.Bool.{le-leb}
@@ -18,23 +17,22 @@ use Rattle.hw_types.specs.Spelling.{u32_bytes, signed_bytes, vertex_bytes, Verte
 use Rattle.hw_types.specs.Settled.{settled_of}
 use Rattle.hw_types.specs.Journal.{received_of}
 use Rattle.hw_types.proofs.ClosureLaws.{Among-filter}
-use Rattle.hw_codec.specs.Ranges.{SignedInRange, VertexInRange}
+use Rattle.hw_codec.specs.Ranges.{VertexInRange}
 use Rattle.hw_log.proofs.LengthLaws.{vertex_short}
-use Rattle.hw_link.specs.declared.end.SessionEnd.{SessionEnd}
 use Rattle.hw_link.specs.Frames.{rest_at, byte_limit}
 use Rattle.hw_link.specs.Heard.{IsLength}
 use Rattle.hw_converge.specs.declared.summary.LaneSummary.{LaneSummary}
 use Rattle.hw_converge.specs.declared.summary.LaneSummary.TheVariants.{Nothing, Line, Tangled}
-use Rattle.hw_converge.specs.Converge.{summaries, part, is_torn, torn_for, is_due}
+use Rattle.hw_converge.specs.Converge.{summaries, part, is_torn, is_due}
 use Rattle.hw_meeting.specs.declared.frame.MeetingFrame.{MeetingFrame}
 use Rattle.hw_meeting.specs.declared.frame.MeetingFrame.TheVariants as frame
-use Rattle.hw_meeting.specs.Frames.{part_bytes, meeting_bytes, HasUnits, IsSaid, are_validators, PartInRange, MeetingInRange, meeting_of}
+use Rattle.hw_meeting.specs.Frames.{part_bytes, meeting_bytes, IsSaid, are_validators, PartInRange, MeetingInRange}
 use Rattle.hw_meeting.proofs.FrameLaws.{meeting_again}
 use Rattle.hw_meeting.proofs.PartLaws.{few_validators}
 use Rattle.hw_meeting.proofs.TornLaws.{passing_are_validators}
-use Rattle.hw_meeting_link.specs.Frames.{Placed, framed, sent_bytes, frame_here, HasFrame}
+use Rattle.hw_meeting_link.specs.Frames.{framed, sent_bytes, HasFrame}
 use Rattle.hw_meeting_link.proofs.FrameReadLaws.{frame_is_read}
-use Rattle.hw_meeting_node.specs.Talk.{Frames, with_next, frames_in, frames_from, frames_of}
+use Rattle.hw_meeting_node.specs.Talk.{Frames, with_next, frames_in, frames_from}
 use Rattle.hw_meeting_node.specs.Meeting.{told_of, torn_by, owed_by}
 use Rattle.hw_meeting_node.specs.Laws.{heard_in, all_words}
 use Rattle.hw_meeting_node.proofs.FrameLaws.{frames_next}
@@ -144,8 +142,17 @@ module _ (c : CoreState) (fit : (v : Vertex) → Among v c.journal → VertexFit
   torn_said theirs = passing_are_validators (λ v. is_torn (settled_of c.config (received_of (setting_of c.config) c.journal)) (part (summaries (setting_of c.config) c.journal) v) (part theirs v)) n
 
   pub words_said : (theirs : List LaneSummary) (torn : List ℕ) → AllByRecursion (IsSaid n) (all_words c theirs torn)
-  words_said theirs torn = (tt, (summary_said (setting_of c.config) c.journal, (torn_said theirs, due_said (owed_by c theirs torn)
-      (λ v m. fit v (Among-filter (is_due (torn_by c theirs ++ torn) (told_of c) theirs) v c.journal m).0))))
+  words_said theirs torn = (
+    tt,
+    (
+      summary_said (setting_of c.config) c.journal,
+      (
+        torn_said theirs,
+        due_said (owed_by c theirs torn)
+            (λ v m. fit v (Among-filter (is_due (torn_by c theirs ++ torn) (told_of c) theirs) v c.journal m).0),
+      ),
+    ),
+  )
 
 both_good : (n : ℕ) (few : n ≤ 1024) (fs : List MeetingFrame) → AllByRecursion (IsSaid n) fs → AllByRecursion MeetingInRange fs → AllByRecursion (IsGood n few) fs
 both_good n few [] said range = tt

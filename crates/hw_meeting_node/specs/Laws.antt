@@ -20,7 +20,6 @@ use Rattle.hw_converge.specs.Converge.{UnitsClash}
 use Rattle.hw_meeting.specs.declared.frame.MeetingFrame.{MeetingFrame}
 use Rattle.hw_meeting.specs.declared.frame.MeetingFrame.TheVariants as frame
 use Rattle.hw_meeting.specs.Frames.{MeetingInRange}
-use Rattle.hw_meeting_link.specs.Frames.{sent_bytes}
 use Rattle.hw_meeting_node.specs.declared.end.MeetEnd.{MeetEnd}
 use Rattle.hw_meeting_node.specs.declared.end.MeetEnd.TheVariants as end
 use Rattle.hw_meeting_node.specs.declared.meeter.Side.{Side}
@@ -82,17 +81,16 @@ MeetingsAreComplete = (side : Side) (c : CoreState) (judge : Vertex → Bool) (r
 abbrev pub node_of : Config → List (Vertex × Bool) → CoreState
 node_of config deliveries = record { config = config; journal = journal_of (setting_of config) deliveries }
 
--- A caller and a host of one configuration met: both meetings ended as done, each read what the other wrote, and nothing was refused. Each
--- number that was written is in its type's range, and the units of the two journals keep the limits of their format, as a node's do.
-pub record HaveMet (config : Config) (left right : List (Vertex × Bool)) (judge_left judge_right : Vertex → Bool) (read_left read_right : List ℕ) : Type 0 where
-  pub left_done : (met Caller (node_of config left) judge_left read_left).end ≡ by.Done
-  pub right_done : (met Host (node_of config right) judge_right read_right).end ≡ by.Done
-  pub left_read : read_left ≡ sent_bytes (met Host (node_of config right) judge_right read_right).said
-  pub right_read : read_right ≡ sent_bytes (met Caller (node_of config left) judge_left read_left).said
-  pub left_within : length read_left ≤ byte_limit
-  pub right_within : length read_right ≤ byte_limit
-  pub left_refused : (met Caller (node_of config left) judge_left read_left).state.refused ≡ 0
-  pub right_refused : (met Host (node_of config right) judge_right read_right).state.refused ≡ 0
+-- A caller and a host of one configuration met, as a meeting promises it: both meetings ended as done with nothing refused, and each read what
+-- the other wrote. Each number that was written is in its type's range, and the units of the two journals keep the limits of their format, as a
+-- node's do.
+pub record HaveMet (config : Config) (left right : List (Vertex × Bool)) (judge_left judge_right : Vertex → Bool) (one other : CoreState) : Type 0 where
+  pub read_left : List ℕ
+  pub read_right : List ℕ
+  pub ends_left : ℕ × ℕ
+  pub ends_right : ℕ × ℕ
+  pub left_met : Meets Caller (node_of config left) judge_left read_left read_right one ends_left.0 ends_left.1 (end.Done 0)
+  pub right_met : Meets Host (node_of config right) judge_right read_right read_left other ends_right.0 ends_right.1 (end.Done 0)
   pub lawful : config_fault config ≡ None
   pub left_fit : (v : Vertex) → Among v (node_of config left).journal → VertexFits v
   pub right_fit : (v : Vertex) → Among v (node_of config right).journal → VertexFits v
@@ -101,14 +99,10 @@ pub record HaveMet (config : Config) (left right : List (Vertex × Bool)) (judge
 
 -- Then the two journals say the same, or two different units of one digest stand in the two.
 abbrev pub MeetingsConverge : Type 0
-MeetingsConverge = (config : Config) (left right : List (Vertex × Bool)) (judge_left judge_right : Vertex → Bool) (read_left read_right : List ℕ) → HaveMet config left right judge_left judge_right read_left read_right
-    → let one = (met Caller (node_of config left) judge_left read_left).state.core.journal in
-    let other = (met Host (node_of config right) judge_right read_right).state.core.journal in
-    SaysTheSame (setting_of config) one other ⊎ UnitsClash (setting_of config) one other
+MeetingsConverge = (config : Config) (left right : List (Vertex × Bool)) (judge_left judge_right : Vertex → Bool) (one other : CoreState) → HaveMet config left right judge_left judge_right one other
+    → SaysTheSame (setting_of config) one.journal other.journal ⊎ UnitsClash (setting_of config) one.journal other.journal
 
 -- And the two nodes are in one state, or so.
 abbrev pub MetNodesAreOne : Type 0
-MetNodesAreOne = (config : Config) (left right : List (Vertex × Bool)) (judge_left judge_right : Vertex → Bool) (read_left read_right : List ℕ) → HaveMet config left right judge_left judge_right read_left read_right
-    → let one = (met Caller (node_of config left) judge_left read_left).state.core.journal in
-    let other = (met Host (node_of config right) judge_right read_right).state.core.journal in
-    HasSameState config (received_of (setting_of config) one) (received_of (setting_of config) other) ⊎ UnitsClash (setting_of config) one other
+MetNodesAreOne = (config : Config) (left right : List (Vertex × Bool)) (judge_left judge_right : Vertex → Bool) (one other : CoreState) → HaveMet config left right judge_left judge_right one other
+    → HasSameState config (received_of (setting_of config) one.journal) (received_of (setting_of config) other.journal) ⊎ UnitsClash (setting_of config) one.journal other.journal
