@@ -1,0 +1,4 @@
+pub mod Asked
+pub mod Texts
+pub mod Checked
+pub mod Keys
