@@ -2,6 +2,7 @@
 
 use crate::certificates::{by_digits, by_keys, read_text};
 use crate::making::made_text;
+use crate::printed::{ask_line, check_line};
 use hw_types::OutOfMemory;
 use std::alloc::Global;
 
@@ -11,6 +12,11 @@ pub fn answer(alloc: Global, line: &str) -> Result<String, OutOfMemory> {
     match words.as_slice() {
         ["read", bytes] => read_text(alloc, bytes_of(alloc, bytes)?.as_slice()),
         ["certify", bytes] => made_text(alloc, bytes_of(alloc, bytes)?.as_slice()),
+        ["ask", bytes] => ask_line(alloc, bytes_of(alloc, bytes)?.as_slice()),
+        ["print", bytes, keys] => {
+            let keys = with_line_feeds(alloc, keys)?;
+            check_line(alloc, bytes_of(alloc, bytes)?.as_slice(), keys.as_slice())
+        }
         ["check", bytes, keys] => {
             let keys = with_line_feeds(alloc, keys)?;
             by_keys(alloc, bytes_of(alloc, bytes)?.as_slice(), keys.as_slice())

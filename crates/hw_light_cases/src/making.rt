@@ -25,23 +25,22 @@ pub fn made_text(alloc: Global, bytes: &[u8]) -> Result<String, OutOfMemory> {
 fn taken_text(alloc: Global, certificate: &Certificate) -> Result<String, OutOfMemory>
     requires { All VertexFits certificate.now.vertices }
 {
-    let mut nodes = node_of(alloc, &certificate.config)?;
+    let mut nodes = node_with(alloc, certificate)?;
     match nodes.first_mut() {
-        Some(core) => asked_text(alloc, core, certificate),
+        Some(core) => block_text(alloc, core, &certificate.block),
         None => Ok("no config".to_string(alloc)?),
     }
 }
 
-/// The same asked of a node that takes its vertices now.
-fn asked_text(
-    alloc: Global,
-    core: &mut Core,
-    certificate: &Certificate,
-) -> Result<String, OutOfMemory>
+/// A node of the certificate's configuration that took its vertices, where there is one.
+pub fn node_with(alloc: Global, certificate: &Certificate) -> Result<Vec<Core>, OutOfMemory>
     requires { All VertexFits certificate.now.vertices }
 {
-    take_all(core, certificate.vertices.as_slice())?;
-    block_text(alloc, core, &certificate.block)
+    let mut nodes = node_of(alloc, &certificate.config)?;
+    for core in nodes.iter_mut() {
+        take_all(core, certificate.vertices.as_slice())?;
+    }
+    Ok(nodes)
 }
 
 /// A node of this configuration, where there is one.
