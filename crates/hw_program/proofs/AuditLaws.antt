@@ -20,7 +20,7 @@ use Rattle.hw_program.specs.declared.ended.RunFault.{RunFault}
 use Rattle.hw_program.specs.declared.ended.Ended.{Ended}
 use Rattle.hw_program.specs.Commands.{Word, Audit, request_of}
 use Rattle.hw_program.specs.Texts.{stopped_ended}
-use Rattle.hw_program.specs.Faults.{IsReadEnd}
+use Rattle.hw_program.specs.Faults.{IsReadEnd, IsCertifyEnd}
 use Rattle.hw_program.specs.Audited.{audit_ended, status_of, verdict_ended, TellsVerdict}
 use Rattle.hw_program.specs.Program.{◌>>=◌, Held, Part, ended, log_replayed, audited_against, audit_said}
 use Rattle.hw_program.specs.Conflict.{IsConflictWith, IsConflictOf, ReportsConflict, IsAudited}
@@ -125,6 +125,11 @@ logs_not_audited held left right fault e stops is =
 -- the words ask for the audit
 pub reports : (words : List Word) (held : Held) (left right text : Word) → request_of words ≡ Some (Audit left right) → IsConflictOf held left right text → ReportsConflict words held text
 reports words held left right text asked conflict = record { left = left; right = right; asked = asked; conflict = conflict }
+
+-- nor does a command that asks a log for a certificate
+pub no_conflict_asked : (n : ℕ) → n ≡ 3 → IsCertifyEnd n → ⊥
+no_conflict_asked n is (inl e) = let no : ◌≡◌ {A = ℕ} 3 10 = sym is ∙ e in absurd (omega (arith, no))
+no_conflict_asked n is (inr e) = no_conflict n is e
 
 -- ---- the same, by what calls answered
 

@@ -7,13 +7,17 @@ use Rattle.hw_log.specs.declared.error.LogError.{LogError}
 use Rattle.hw_rewrite.specs.declared.whole.Rewritten.{Rewritten}
 use Rattle.hw_rewrite.specs.Rewritten.{mended_of, migrated_of}
 use Rattle.hw_program.specs.declared.ended.Ended.{Ended}
-use Rattle.hw_program.specs.Commands.{Word, Request, Replay, Explain, Audit, Script, Mend, Migrate, Gen, Sim, request_of}
+use Rattle.hw_program.specs.Commands.{Word, Request, Replay, Explain, Audit, Script, Mend, Migrate, Certify, Check, Gen, Sim, request_of}
 use Rattle.hw_program.specs.Program.{Held, ended, request_said, rewrite_said, run_of}
-use Rattle.hw_program.specs.Faults.{IsAuditEnd, IsEndOf}
+use Rattle.hw_types.specs.declared.unit.Digest.{Digest}
+use Rattle.hw_program.specs.Faults.{IsAuditEnd, IsCheckEnd, IsEndOf}
+use Rattle.hw_program.specs.Certified.{IsCertified}
 use Rattle.hw_program.specs.Files.{IsRewrite, FilesAfter, MayBeWritten, IsAllowed}
 use Rattle.hw_program.specs.Texts.{append_fault_line}
 use Rattle.hw_program.specs.Run.{Output, Finishes, WritesLine, EndsAppending}
+use Rattle.hw_program.specs.Shown.{IsShown, IfChecks, ShowsCertificate}
 use Rattle.hw_program.proofs.RewriteLaws.{said_done}
+use Rattle.hw_program.proofs.ShownLaws.{shows}
 
 -- ---- the status
 
@@ -44,6 +48,14 @@ rewrite_after rewritten_of log new status result before now kept w = record {
   others = w.others;
 }
 
+certified_after : (log : Word) (block : Digest) (new : Word) (status result : ℕ) (before now : Held) → IsKept status result → IsCertified log block new status before now → IsCertified log block new result before now
+certified_after log block new status result before now kept c = record {
+  done = λ zero. c.done (kept 0 zero (λ h. omega (arith, h)) (λ h. omega (arith, h)));
+  unwritten = λ zero five seven. let same = kept result refl five seven in c.unwritten (λ h. zero (sym same ∙ h)) (λ h. five (sym same ∙ h)) (λ h. seven (sym same ∙ h));
+  cut = c.cut;
+  others = c.others;
+}
+
 files_after : (request : Option Request) (status result : ℕ) (before now : Held) → IsKept status result → FilesAfter request status before now → FilesAfter request result before now
 files_after None status result before now kept same = same
 files_after (Some (Replay log)) status result before now kept same = same
@@ -53,6 +65,8 @@ files_after (Some (Script file)) status result before now kept same = same
 files_after (Some (Mend log new)) status result before now kept w = rewrite_after mended_of log new status result before now kept w
 files_after (Some (Migrate log new)) status result before now kept w =
     (rewrite_after migrated_of log new status result before now kept w.0, λ zero. w.1 (kept 0 zero (λ h. omega (arith, h)) (λ h. omega (arith, h))))
+files_after (Some (Certify log block new)) status result before now kept c = certified_after log block new status result before now kept c
+files_after (Some (Check file keys log)) status result before now kept same = same
 files_after (Some (Gen number rounds)) status result before now kept same = same
 files_after (Some (Sim number nodes steps)) status result before now kept same = same
 
@@ -79,6 +93,8 @@ request_status held (Some (Replay log)) may = absurd may
 request_status held (Some (Explain log)) may = absurd may
 request_status held (Some (Audit left right)) may = absurd may
 request_status held (Some (Script file)) may = absurd may
+request_status held (Some (Certify log block new)) may = absurd may
+request_status held (Some (Check file keys log)) may = absurd may
 request_status held (Some (Gen number rounds)) may = absurd may
 request_status held (Some (Sim number nodes steps)) may = absurd may
 
@@ -100,6 +116,10 @@ not_five n (inr (inr (inl e))) five = omega (arith, e, five)
 not_five n (inr (inr (inr (inl e)))) five = omega (arith, e, five)
 not_five n (inr (inr (inr (inr e)))) five = omega (arith, e, five)
 
+not_five_checked : (n : ℕ) → IsCheckEnd n → n ≡ 5 → ⊥
+not_five_checked n (inl e) five = omega (arith, e, five)
+not_five_checked n (inr e) five = not_five n e five
+
 end_not_five : (request : Option Request) (e : Ended) → IsEndOf request e → e.status ≡ 5 → ⊥
 end_not_five None e end five = let one : e.status ≡ 1 = ap (λ (x : Ended). x.status) end in omega (arith, one, five)
 end_not_five (Some (Replay log)) e end five = not_five e.status (inr end) five
@@ -108,6 +128,9 @@ end_not_five (Some (Audit left right)) e end five = not_five e.status end five
 end_not_five (Some (Script file)) e end five = not_five e.status (inr end) five
 end_not_five (Some (Mend log new)) e end five = not_five e.status (inr end) five
 end_not_five (Some (Migrate log new)) e end five = not_five e.status (inr end) five
+end_not_five (Some (Certify log block new)) e (inl end) five = omega (arith, end, five)
+end_not_five (Some (Certify log block new)) e (inr end) five = not_five e.status (inr end) five
+end_not_five (Some (Check file keys log)) e end five = not_five_checked e.status end five
 end_not_five (Some (Gen number rounds)) e end five = omega (arith, end, five)
 end_not_five (Some (Sim number nodes steps)) e end five = omega (arith, end, five)
 
@@ -129,3 +152,30 @@ pub append_untold : (is_text : List ℕ → Type 0) (result : ℕ) (old new : Ou
 append_untold is_text result old new before now (inl whole) rose seven = absurd (let five = whole.0 in omega (arith, five, seven))
 append_untold is_text result old new before now (inr (inl cut)) rose seven = absurd (let five : result ≡ 5 = cut.0 in omega (arith, five, seven))
 append_untold is_text result old new before now (inr (inr want)) rose seven = inr (rose, want.1)
+
+-- ---- a check that shows something
+
+shown_as : (words : List Word) (held : Held) (status result : ℕ) → IsKept status result → status ≡ (run_of words held).status → IsShown result → IfChecks (ShowsCertificate held) (request_of words)
+shown_as words held status result kept is (inl zero) = shows words held (inl (sym is ∙ kept 0 zero (λ h. omega (arith, h)) (λ h. omega (arith, h))))
+shown_as words held status result kept is (inr (inl three)) = shows words held (inr (inl (sym is ∙ kept 3 three (λ h. omega (arith, h)) (λ h. omega (arith, h)))))
+shown_as words held status result kept is (inr (inr nine)) = shows words held (inr (inr (sym is ∙ kept 9 nine (λ h. omega (arith, h)) (λ h. omega (arith, h)))))
+
+pub finished_shown : (words : List Word) (held : Held) (e : Ended) (result : ℕ) (old new : Output) → Finishes e.status e.text result old new → e.status ≡ (run_of words held).status → IsShown result → IfChecks (ShowsCertificate held) (request_of words)
+finished_shown words held e result old new finishes is = shown_as words held e.status result (finished e.status e.text result old new finishes) is
+
+-- a fault has a status that shows nothing
+not_kept : {P : Type 0} (status result n : ℕ) → IsKept status result → status ≡ n → (n ≡ 0 → ⊥) → (n ≡ 3 → ⊥) → (n ≡ 9 → ⊥) → IsShown result → P
+not_kept status result n kept is zero three nine (inl h) = absurd (zero (sym is ∙ kept 0 h (λ k. omega (arith, k)) (λ k. omega (arith, k))))
+not_kept status result n kept is zero three nine (inr (inl h)) = absurd (three (sym is ∙ kept 3 h (λ k. omega (arith, k)) (λ k. omega (arith, k))))
+not_kept status result n kept is zero three nine (inr (inr h)) = absurd (nine (sym is ∙ kept 9 h (λ k. omega (arith, k)) (λ k. omega (arith, k))))
+
+pub four_shows_nothing : {P : Type 0} (text : List ℕ) (result : ℕ) (old new : Output) → Finishes 4 text result old new → IsShown result → P
+four_shows_nothing text result old new finishes = not_kept 4 result 4 (finished 4 text result old new finishes) refl (λ h. omega (arith, h)) (λ h. omega (arith, h)) (λ h. omega (arith, h))
+
+pub five_shows_nothing : {P : Type 0} (text : List ℕ) (result : ℕ) (old new : Output) → Finishes 5 text result old new → IsShown result → P
+five_shows_nothing text result old new finishes = not_kept 5 result 5 (finished 5 text result old new finishes) refl (λ h. omega (arith, h)) (λ h. omega (arith, h)) (λ h. omega (arith, h))
+
+pub seven_shows_nothing : {P : Type 0} (result : ℕ) → result ≡ 7 → IsShown result → P
+seven_shows_nothing result seven (inl h) = absurd (omega (arith, seven, h))
+seven_shows_nothing result seven (inr (inl h)) = absurd (omega (arith, seven, h))
+seven_shows_nothing result seven (inr (inr h)) = absurd (omega (arith, seven, h))

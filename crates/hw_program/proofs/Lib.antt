@@ -13,5 +13,9 @@ pub mod RewriteLaws
 pub mod MigratedLaws
 pub mod FedLaws
 pub mod ToldLaws
+pub mod CertifyLaws
+pub mod AgainstLaws
+pub mod ShownLaws
+pub mod CheckRunLaws
 pub mod EndLaws
 pub mod WrittenLaws

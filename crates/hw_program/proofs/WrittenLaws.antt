@@ -8,7 +8,7 @@ use Rattle.std.specs.Prelude.{Result}
 use Rattle.hw_fanout.specs.Fates.{Sight}
 use Rattle.hw_feed.specs.Feed.{file_replayed}
 use Rattle.hw_program.specs.declared.ended.Ended.{Ended}
-use Rattle.hw_program.specs.Commands.{Request, Replay, Explain, Audit, Script, Mend, Migrate, Gen, Sim}
+use Rattle.hw_program.specs.Commands.{Request, Replay, Explain, Audit, Script, Mend, Migrate, Certify, Check, Gen, Sim}
 use Rattle.hw_program.specs.Program.{Held}
 use Rattle.hw_program.specs.Faults.{IsReadEnd, IsAuditEnd, IsEndOf}
 use Rattle.hw_program.specs.Run.{Output, IsDone, IsRefusal, Finishes, WritesLine, WritesToNoMemory}
@@ -145,6 +145,10 @@ end_not_seven (Some (Audit left right)) e end seven = audit_end_seven e.status e
 end_not_seven (Some (Script file)) e end seven = audit_end_seven e.status (inr end) seven
 end_not_seven (Some (Mend log new)) e end seven = audit_end_seven e.status (inr end) seven
 end_not_seven (Some (Migrate log new)) e end seven = audit_end_seven e.status (inr end) seven
+end_not_seven (Some (Certify log block new)) e (inl end) seven = omega (arith, end, seven)
+end_not_seven (Some (Certify log block new)) e (inr end) seven = audit_end_seven e.status (inr end) seven
+end_not_seven (Some (Check file keys log)) e (inl end) seven = omega (arith, end, seven)
+end_not_seven (Some (Check file keys log)) e (inr end) seven = audit_end_seven e.status end seven
 end_not_seven (Some (Gen number rounds)) e end seven = omega (arith, end, seven)
 end_not_seven (Some (Sim number nodes steps)) e end seven = omega (arith, end, seven)
 

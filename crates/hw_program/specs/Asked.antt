@@ -2,7 +2,7 @@
 use Rattle.std.specs.Prelude.{◌≤◌, Option, Some, None}
 use Rattle.hw_program.specs.declared.command.Command.{Command}
 use Rattle.hw_program.specs.declared.command.Command.TheVariants as command
-use Rattle.hw_program.specs.Commands.{Request, Replay, Explain, Audit, Script, Mend, Migrate, Gen, Sim}
+use Rattle.hw_program.specs.Commands.{Request, Replay, Explain, Audit, Script, Mend, Migrate, Certify, Check, Gen, Sim}
 
 -- what a command asks for
 abbrev pub request : Command → Request
@@ -12,6 +12,9 @@ request (command.Audit left right) = Audit left.now right.now
 request (command.Script file) = Script file.now
 request (command.Mend log new) = Mend log.now new.now
 request (command.Migrate log new) = Migrate log.now new.now
+request (command.Certify log block new) = Certify log.now block new.now
+request (command.Check file keys) = Check file.now keys.now None
+request (command.CheckLog file keys log) = Check file.now keys.now (Some log.now)
 request (command.Gen number rounds) = Gen number rounds
 request (command.Sim number nodes steps) = Sim number nodes steps
 
@@ -28,5 +31,8 @@ IsInRange (command.Audit left right) = Unit {0}
 IsInRange (command.Script file) = Unit {0}
 IsInRange (command.Mend log new) = Unit {0}
 IsInRange (command.Migrate log new) = Unit {0}
+IsInRange (command.Certify log block new) = Unit {0}
+IsInRange (command.Check file keys) = Unit {0}
+IsInRange (command.CheckLog file keys log) = Unit {0}
 IsInRange (command.Gen number rounds) = (1 ≤ rounds) × (rounds ≤ 4096)
 IsInRange (command.Sim number nodes steps) = (1 ≤ nodes) × (nodes ≤ 16) × (steps ≤ 20000)

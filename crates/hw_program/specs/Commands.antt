@@ -1,7 +1,12 @@
 -- The grammar of a command line.
 use Rattle.std.specs.Prelude.{ℕ, ◌^◌, Bool, false, not, ◌==◌, List, [], ◌∷◌, Option, Some, None, codes, bytes_eq, if◌then◌else◌}
 use Rattle.std.specs.List.{list_all}
+use Rattle.std.specs.Option.{option_map}
+use Rattle.std.specs.Result.{result_ok}
+use Rattle.hex.specs.Hex.{decode_sized}
+use Rattle.hw_types.specs.declared.unit.Digest.{Digest}
 use Rattle.hw_script_grammar.specs.Numbers.{number_below}
+use Rattle.hw_keys.specs.Keys.{is_lower_digit}
 
 -- a word of the command line
 abbrev pub Word : Type 0
@@ -15,6 +20,8 @@ pub data Request : Type 0 where
   Script : Word → Request
   Mend : Word → Word → Request
   Migrate : Word → Word → Request
+  Certify : Word → Digest → Word → Request
+  Check : Word → Word → Option Word → Request
   Gen : ℕ → ℕ → Request
   Sim : ℕ → ℕ → ℕ → Request
 
@@ -38,11 +45,12 @@ gen_of (Some number) None = None
 gen_of None rounds = None
 
 -- of two words behind the command
-abbrev pub of_two : Word → Word → Word → Option Request
+unfoldable pub of_two : Word → Word → Word → Option Request
 of_two command a b =
     if bytes_eq command (codes "audit") then Some (Audit a b)
     else if bytes_eq command (codes "mend") then Some (Mend a b)
     else if bytes_eq command (codes "migrate") then Some (Migrate a b)
+    else if bytes_eq command (codes "check") then Some (Check a b None)
     else if bytes_eq command (codes "gen") then gen_of (number_below (2 ^ 64) a) (number_below 4097 b)
     else None
 
@@ -53,10 +61,21 @@ sim_of (Some number) (Some nodes) None = None
 sim_of (Some number) None steps = None
 sim_of None nodes steps = None
 
+-- the digest that a word tells by 64 digits in lower case
+unfoldable pub digest_told : Word → Option Digest
+digest_told word = if list_all is_lower_digit word then option_map (λ bytes. record { 0 = bytes }) (result_ok (decode_sized word 32)) else None
+
+-- the certificate of a block
+abbrev pub certify_of : Word → Option Digest → Word → Option Request
+certify_of log None new = None
+certify_of log (Some block) new = Some (Certify log block new)
+
 -- of three words behind the command
-abbrev pub of_three : Word → Word → Word → Word → Option Request
+unfoldable pub of_three : Word → Word → Word → Word → Option Request
 of_three command a b c =
     if bytes_eq command (codes "sim") then sim_of (number_below (2 ^ 64) a) (number_below 17 b) (number_below 20001 c)
+    else if bytes_eq command (codes "certify") then certify_of a (digest_told b) c
+    else if bytes_eq command (codes "check") then Some (Check a b (Some c))
     else None
 
 -- of these words behind the command
@@ -81,6 +100,8 @@ OnlyReads (Some (Audit left right)) = Unit {0}
 OnlyReads (Some (Script file)) = Unit {0}
 OnlyReads (Some (Mend log new)) = ⊥
 OnlyReads (Some (Migrate log new)) = ⊥
+OnlyReads (Some (Certify log block new)) = ⊥
+OnlyReads (Some (Check file keys log)) = Unit {0}
 OnlyReads (Some (Gen number rounds)) = Unit {0}
 OnlyReads (Some (Sim number nodes steps)) = Unit {0}
 
@@ -93,5 +114,7 @@ UsesFilesAlone (Some (Audit left right)) = Unit {0}
 UsesFilesAlone (Some (Script file)) = Unit {0}
 UsesFilesAlone (Some (Mend log new)) = Unit {0}
 UsesFilesAlone (Some (Migrate log new)) = Unit {0}
+UsesFilesAlone (Some (Certify log block new)) = Unit {0}
+UsesFilesAlone (Some (Check file keys log)) = Unit {0}
 UsesFilesAlone (Some (Gen number rounds)) = Unit {0}
 UsesFilesAlone (Some (Sim number nodes steps)) = Unit {0}

@@ -2,7 +2,7 @@
 use Rattle.std.specs.Prelude.{◌≡◌, ℕ, ◌≤◌, ◌⊎◌, List, Option, Some, None, Result, Ok, Err}
 use Rattle.hw_io.specs.Faults.{Rose}
 use Rattle.hw_program.specs.declared.ended.Ended.{Ended}
-use Rattle.hw_program.specs.Commands.{Request, Replay, Explain, Audit, Script, Mend, Migrate, Gen, Sim}
+use Rattle.hw_program.specs.Commands.{Word, Request, Replay, Explain, Audit, Script, Mend, Migrate, Certify, Check, Gen, Sim}
 use Rattle.hw_program.specs.Texts.{usage_line}
 use Rattle.hw_program.specs.declared.ended.RunFault.{RunFault}
 use Rattle.hw_program.specs.declared.ended.RunFault.TheVariants.{Read, Append, OutOfMemory}
@@ -40,6 +40,17 @@ pub record HasRunFault {T : Type 0} (reads_before reads appends_before appends :
   pub later_appends : appends_before ≤ appends
   pub appends_counted : IsAppendCounted appends_before appends result
 
+-- a failed read is counted for this file, and where the answer has no fault no count changes
+abbrev pub IsReadOf : {T : Type 0} → Word → (List ℕ → ℕ) → (List ℕ → ℕ) → Result T RunFault → Type 0
+IsReadOf name before now (Ok x) = now ≡ before
+IsReadOf name before now (Err Read) = Rose (before name) (now name)
+IsReadOf name before now (Err fault) = Unit {0}
+
+-- a call about the file failed, if there is one
+abbrev pub FailsOn : Option Word → (List ℕ → ℕ) → (List ℕ → ℕ) → Type 0
+FailsOn None before now = ⊥
+FailsOn (Some name) before now = Rose (before name) (now name)
+
 -- a call about a file that was asked for failed, and was counted for it
 abbrev pub FailsOf : Option Request → (List ℕ → ℕ) → (List ℕ → ℕ) → Type 0
 FailsOf None before now = ⊥
@@ -49,6 +60,8 @@ FailsOf (Some (Audit left right)) before now = Rose (before left) (now left) ⊎
 FailsOf (Some (Script file)) before now = Rose (before file) (now file)
 FailsOf (Some (Mend log new)) before now = Rose (before log) (now log) ⊎ Rose (before new) (now new)
 FailsOf (Some (Migrate log new)) before now = Rose (before log) (now log) ⊎ Rose (before new) (now new)
+FailsOf (Some (Certify log block new)) before now = Rose (before log) (now log) ⊎ Rose (before new) (now new)
+FailsOf (Some (Check file keys log)) before now = Rose (before file) (now file) ⊎ Rose (before keys) (now keys) ⊎ FailsOn log before now
 FailsOf (Some (Gen number rounds)) before now = ⊥
 FailsOf (Some (Sim number nodes steps)) before now = ⊥
 
@@ -60,6 +73,14 @@ IsReadEnd status = (status ≡ 0) ⊎ (status ≡ 2) ⊎ (status ≡ 8) ⊎ (sta
 abbrev pub IsAuditEnd : ℕ → Type 0
 IsAuditEnd status = (status ≡ 3) ⊎ IsReadEnd status
 
+-- a certificate is made, or there is no answer for the block, or the log is read so
+abbrev pub IsCertifyEnd : ℕ → Type 0
+IsCertifyEnd status = (status ≡ 10) ⊎ IsReadEnd status
+
+-- a certificate shows its block, or shows nothing, or its files are read so, or a log is audited so
+abbrev pub IsCheckEnd : ℕ → Type 0
+IsCheckEnd status = (status ≡ 10) ⊎ IsAuditEnd status
+
 -- words outside the grammar end with the usage line, and commands as they do
 abbrev pub IsEndOf : Option Request → Ended → Type 0
 IsEndOf None ended = ended ≡ record { status = 1; text = usage_line }
@@ -69,5 +90,7 @@ IsEndOf (Some (Audit left right)) ended = IsAuditEnd ended.status
 IsEndOf (Some (Script file)) ended = IsReadEnd ended.status
 IsEndOf (Some (Mend log new)) ended = IsReadEnd ended.status
 IsEndOf (Some (Migrate log new)) ended = IsReadEnd ended.status
+IsEndOf (Some (Certify log block new)) ended = IsCertifyEnd ended.status
+IsEndOf (Some (Check file keys log)) ended = IsCheckEnd ended.status
 IsEndOf (Some (Gen number rounds)) ended = ended.status ≡ 0
 IsEndOf (Some (Sim number nodes steps)) ended = ended.status ≡ 0

@@ -9,8 +9,9 @@ use Rattle.hw_rewrite.specs.Migrated.{HoldsAnew}
 use Rattle.hw_program.specs.declared.ended.Ended.{Ended}
 use Rattle.hw_program.specs.declared.ended.RunFault.{RunFault}
 use Rattle.hw_program.specs.declared.ended.RunFault.TheVariants.{Read, Append, OutOfMemory}
-use Rattle.hw_program.specs.Commands.{Word, Request, Replay, Explain, Audit, Script, Mend, Migrate, Gen, Sim}
+use Rattle.hw_program.specs.Commands.{Word, Request, Replay, Explain, Audit, Script, Mend, Migrate, Certify, Check, Gen, Sim}
 use Rattle.hw_program.specs.Program.{Held}
+use Rattle.hw_program.specs.Certified.{IsCertified}
 
 -- the status with which a run up to its text ends
 abbrev pub status_of : Result Ended RunFault → ℕ
@@ -37,6 +38,8 @@ FilesAfter (Some (Audit left right)) status before now = SameFiles before now
 FilesAfter (Some (Script file)) status before now = SameFiles before now
 FilesAfter (Some (Mend log new)) status before now = IsRewrite mended_of log new status before now
 FilesAfter (Some (Migrate log new)) status before now = IsRewrite migrated_of log new status before now × (status ≡ 0 → HoldsAnew (before log) (now new))
+FilesAfter (Some (Certify log block new)) status before now = IsCertified log block new status before now
+FilesAfter (Some (Check file keys log)) status before now = SameFiles before now
 FilesAfter (Some (Gen number rounds)) status before now = SameFiles before now
 FilesAfter (Some (Sim number nodes steps)) status before now = SameFiles before now
 
@@ -57,5 +60,7 @@ IsAllowed (Some (Audit left right)) held = ⊥
 IsAllowed (Some (Script file)) held = ⊥
 IsAllowed (Some (Mend log new)) held = MayBeWritten mended_of held log new
 IsAllowed (Some (Migrate log new)) held = MayBeWritten migrated_of held log new
+IsAllowed (Some (Certify log block new)) held = ⊥
+IsAllowed (Some (Check file keys log)) held = ⊥
 IsAllowed (Some (Gen number rounds)) held = ⊥
 IsAllowed (Some (Sim number nodes steps)) held = ⊥

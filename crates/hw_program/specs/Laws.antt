@@ -1,12 +1,15 @@
 -- What follows of a run: the statements.
-use Rattle.std.specs.Prelude.{◌≡◌, ◌↔◌, ℕ, false, List, Some, None, Ok}
+use Rattle.std.specs.Prelude.{◌≡◌, ◌⊎◌, ◌↔◌, ℕ, false, List, Option, Some, None, Ok}
 use Rattle.hw_types.specs.Real.{setting_of}
 use Rattle.hw_chain.specs.Chain.{Begins}
 use Rattle.hw_summit.specs.Decided.{decisions_of}
 use Rattle.hw_verdicts.specs.Verdicts.{journals_clash, chain_of}
 use Rattle.hw_replay.specs.Taken.{Taken}
-use Rattle.hw_program.specs.Commands.{Word, Audit, request_of}
+use Rattle.hw_types.specs.declared.unit.Digest.{Digest}
+use Rattle.hw_light.specs.declared.certificate.Certificate.{Certificate}
+use Rattle.hw_program.specs.Commands.{Word, Audit, Certify, Check, request_of}
 use Rattle.hw_rewrite.specs.Migrated.{HoldsAnew}
+use Rattle.hw_program.specs.Shown.{IsShown, CanBeChecked, CanBeReplayed}
 use Rattle.hw_program.specs.Program.{Held, done, log_replayed, replay_said, explain_said, run_of}
 
 -- Where two logs of one configuration report conflicting final blocks, neither chain beginning the other, and no two units clash, the run of their audit says so.
@@ -22,3 +25,15 @@ ConflictIsTold = (words : List Word) (held : Held) (left right : Word) (first se
 abbrev pub ReadsTheSame : Type 0
 ReadsTheSame = (before now : Held) (log new : Word) (text : List ℕ) → HoldsAnew (before log) (now new)
     → ((replay_said before log ≡ done text) ↔ (replay_said now new ≡ done text)) × ((explain_said before log ≡ done text) ↔ (explain_said now new ≡ done text))
+
+-- A log that can be replayed is answered where it is asked for a certificate into a file that isn't there: one is written, or it is said that there is none.
+abbrev pub LogIsAnswered : Type 0
+LogIsAnswered = (words : List Word) (held : Held) (log : Word) (block : Digest) (new : Word) (t : Taken)
+    → request_of words ≡ Some (Certify log block new) → held new ≡ None → log_replayed held None log ≡ Ok t
+    → ((run_of words held).status ≡ 0) ⊎ ((run_of words held).status ≡ 10)
+
+-- A certificate that can be checked is answered: it shows its block, and a log agrees with it, is in conflict with it, or clashes with it; or it is said why it shows nothing.
+abbrev pub CheckIsAnswered : Type 0
+CheckIsAnswered = (words : List Word) (held : Held) (file keys : Word) (log : Option Word) (c : Certificate)
+    → request_of words ≡ Some (Check file keys log) → CanBeChecked held file keys c → CanBeReplayed held c log
+    → IsShown (run_of words held).status ⊎ ((run_of words held).status ≡ 10)

@@ -5,6 +5,9 @@ pub mod Audited
 pub mod Scripted
 pub mod Workloads
 pub mod Conflict
+pub mod Told
+pub mod Certified
+pub mod Shown
 pub mod Laws
 pub mod Program
 pub mod Faults

@@ -1,10 +1,14 @@
 -- How a run of the program ends and what it writes.
-use Rattle.std.specs.Prelude.{ℕ, List, [], ◌∷◌, codes, Option, Some, None, Result, Ok, Err}
+use Rattle.std.specs.Prelude.{ℕ, List, [], ◌∷◌, ◌++◌, length, codes, Option, Some, None, Result, Ok, Err}
 use Rattle.hw_types.specs.declared.config.Config.{Config}
+use Rattle.hw_types.specs.declared.config.ConfigFault.{ConfigFault}
+use Rattle.hw_types.specs.declared.unit.Digest.{Digest}
+use Rattle.hw_types.specs.Limits.{config_fault}
 use Rattle.hw_types.specs.Real.{CoreState, setting_of}
 use Rattle.hw_explain.specs.Report.{report_text}
 use Rattle.hw_explain.specs.Explain.{explained_in}
 use Rattle.hw_replay.specs.declared.fault.StartFault.{StartFault}
+use Rattle.hw_replay.specs.declared.fault.StartFault.TheVariants as start
 use Rattle.hw_replay.specs.Taken.{Taken}
 use Rattle.hw_replay.specs.Replay.{replay_of}
 use Rattle.hw_log.specs.declared.error.LogError.{LogError}
@@ -13,13 +17,24 @@ use Rattle.hw_text.specs.Lines.{line_of}
 use Rattle.hw_rewrite.specs.declared.whole.Rewritten.{Rewritten}
 use Rattle.hw_rewrite.specs.Rewritten.{mended_of, migrated_of}
 use Rattle.hw_cluster.specs.Worked.{gen_totals, sim_numbers}
+use Rattle.hw_light.specs.declared.certificate.Certificate.{Certificate}
+use Rattle.hw_light.specs.declared.error.CertError.{CertError}
+use Rattle.hw_light.specs.declared.answers.Checked.{Checked}
+use Rattle.hw_light.specs.declared.answers.Checked.TheVariants.{Yes, No}
+use Rattle.hw_light.specs.declared.answers.CheckFault.TheVariants.{Config as BadLimit}
+use Rattle.hw_light.specs.Reading.{certificate_of}
+use Rattle.hw_light_texts.specs.Asked.{told_of}
+use Rattle.hw_light_texts.specs.Texts.{error_text}
+use Rattle.hw_light_texts.specs.Checked.{verdicts_by, checked_of, checked_line}
+use Rattle.hw_light_texts.specs.Keys.{keys_of}
 use Rattle.hw_program.specs.declared.ended.Ended.{Ended}
 use Rattle.hw_program.specs.Texts.{usage_line, log_text, input_ended, read_fault_ended, stopped_ended}
 use Rattle.hw_script.specs.Output.{output_of}
 use Rattle.hw_program.specs.Audited.{audit_ended}
 use Rattle.hw_program.specs.Scripted.{script_ended}
+use Rattle.hw_program.specs.Told.{told_ended, no_ended}
 use Rattle.hw_program.specs.Workloads.{gen_line, sim_line}
-use Rattle.hw_program.specs.Commands.{Word, Request, Replay, Explain, Audit, Script, Mend, Migrate, Gen, Sim, request_of}
+use Rattle.hw_program.specs.Commands.{Word, Request, Replay, Explain, Audit, Script, Mend, Migrate, Certify, Check, Gen, Sim, request_of}
 
 -- the bytes held under each name, where there is a file
 abbrev pub Held : Type 0
@@ -105,6 +120,61 @@ mend_said = rewrite_said mended_of (codes "mended")
 abbrev pub migrate_said : Held → Word → Word → Part Ended
 migrate_said = rewrite_said migrated_of (codes "migrated")
 
+-- the line of what is told where the certificate of a block is asked of a log; it is written into a file that isn't there, which is tested first
+abbrev pub certify_said : Held → Word → Digest → Word → Part Ended
+certify_said held log block new = elim (held new) [
+  | None ↦ log_replayed held None log >>= λ t. Ok (told_ended (told_of t.core block))
+  | Some there ↦ Err (input_ended new (codes "exists"))
+]
+
+-- a certificate, or the line of the first error in its bytes
+abbrev pub or_misread : Word → Result Certificate CertError → Part Certificate
+or_misread file (Ok c) = Ok c
+or_misread file (Err e) = Err (input_ended file (error_text e))
+
+-- the certificate in a file
+abbrev pub certificate_said : Held → Word → Part Certificate
+certificate_said held file = file_of held file >>= λ bytes. or_misread file (certificate_of bytes)
+
+-- keys, or the line of the first place that is wrong
+abbrev pub or_no_keys : Word → Result (List (List ℕ)) ℕ → Part (List (List ℕ))
+or_no_keys name (Ok keys) = Ok keys
+or_no_keys name (Err place) = Err (input_ended name (codes "keys at " ++ number_text place))
+
+-- the keys in a file, one for each of so many validators
+abbrev pub keys_said : Held → Word → ℕ → Part (List (List ℕ))
+keys_said held name validators = file_of held name >>= λ bytes. or_no_keys name (keys_of validators bytes)
+
+-- a replay of a log of the certificate's configuration, or the line of what stopped it; another configuration is told of the certificate
+abbrev pub or_parted : Word → Word → Result Taken StartFault → Part Taken
+or_parted file log (Ok t) = Ok t
+or_parted file log (Err start.OtherConfig) = Err (input_ended file (codes "other config"))
+or_parted file log (Err fault) = Err (stopped_ended log fault)
+
+-- the audit of the log against the certificate's node
+abbrev pub audited_with : Held → Word → Certificate → CoreState → Word → Part Ended
+audited_with held file c core log =
+    file_of held log >>= λ bytes. or_parted file log (replay_of (Some c.config) bytes) >>= λ t. Ok (audit_ended (setting_of c.config) t.core.journal core.journal)
+
+-- what a yes says: the block and its height, or the audit of the log that is named
+abbrev pub yes_said : Held → Word → Certificate → CoreState → Option Word → Part Ended
+yes_said held file c core None = done (checked_line c.block (Yes core))
+yes_said held file c core (Some log) = audited_with held file c core log
+
+-- what an answer says
+abbrev pub answer_said : Held → Word → Certificate → Option Word → Checked → Part Ended
+answer_said held file c log (Yes core) = yes_said held file c core log
+answer_said held file c log (No fault) = Err (no_ended fault)
+
+-- what is said of a certificate; no keys are read where its configuration breaks a limit
+abbrev pub checked_said : Held → Word → Word → Option Word → Certificate → Option ConfigFault → Part Ended
+checked_said held file keys log c None = keys_said held keys (length c.config.weights) >>= λ given. answer_said held file c log (checked_of c (verdicts_by given c.vertices))
+checked_said held file keys log c (Some fault) = Err (no_ended (BadLimit fault))
+
+-- the check of a certificate by keys, and the audit of a log that is named, which is read only after a yes
+abbrev pub check_said : Held → Word → Word → Option Word → Part Ended
+check_said held file keys log = certificate_said held file >>= λ c. checked_said held file keys log c (config_fault c.config)
+
 -- the line of a generated journal
 abbrev pub gen_said : ℕ → ℕ → Part Ended
 gen_said number rounds = done (gen_line rounds (gen_totals number rounds))
@@ -124,6 +194,8 @@ request_said held (Some (Audit left right)) = audit_said held left right
 request_said held (Some (Script file)) = script_said held file
 request_said held (Some (Mend log new)) = mend_said held log new
 request_said held (Some (Migrate log new)) = migrate_said held log new
+request_said held (Some (Certify log block new)) = certify_said held log block new
+request_said held (Some (Check file keys log)) = check_said held file keys log
 request_said held (Some (Gen number rounds)) = gen_said number rounds
 request_said held (Some (Sim number nodes steps)) = sim_said number nodes steps
 

@@ -5,17 +5,18 @@ use Rattle.hw_io.specs.Faults.{Rose}
 use Rattle.hw_io.specs.Sinks.{AppendsPrefix}
 use Rattle.hw_program.specs.Texts.{read_fault_line, append_fault_line, out_of_memory_line}
 
--- 0 all was done, 1 the words, 2 a file's bytes or a file that is to be new, 3 a conflict, 4 a read, 5 a write or an append, 7 memory, 8 a limit, 9 a clash
+-- 0 all was done, 1 the words, 2 a file's bytes or a file that is to be new, 3 a conflict, 4 a read, 5 a write or an append, 7 memory, 8 a limit, 9 a clash,
+-- 10 no certificate, or none that shows anything
 abbrev pub IsStatus : ℕ → Type 0
-IsStatus status = (status ≡ 0) ⊎ (status ≡ 1) ⊎ (status ≡ 2) ⊎ (status ≡ 3) ⊎ (status ≡ 4) ⊎ (status ≡ 5) ⊎ (status ≡ 7) ⊎ (status ≡ 8) ⊎ (status ≡ 9)
+IsStatus status = (status ≡ 0) ⊎ (status ≡ 1) ⊎ (status ≡ 2) ⊎ (status ≡ 3) ⊎ (status ≡ 4) ⊎ (status ≡ 5) ⊎ (status ≡ 7) ⊎ (status ≡ 8) ⊎ (status ≡ 9) ⊎ (status ≡ 10)
 
 -- a status with which the whole text of a command is written
 abbrev pub IsDone : ℕ → Type 0
 IsDone status = (status ≡ 0) ⊎ (status ≡ 3)
 
--- a status whose text is the line of what is wrong with the words or the bytes
+-- a status whose text is the line of what is wrong with the words or the bytes, or of what can't be shown
 abbrev pub IsRefusal : ℕ → Type 0
-IsRefusal status = (status ≡ 1) ⊎ (status ≡ 2) ⊎ (status ≡ 8) ⊎ (status ≡ 9)
+IsRefusal status = (status ≡ 1) ⊎ (status ≡ 2) ⊎ (status ≡ 8) ⊎ (status ≡ 9) ⊎ (status ≡ 10)
 
 -- a status that words and bytes alone decide
 abbrev pub IsSaid : ℕ → Type 0

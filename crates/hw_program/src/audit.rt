@@ -1,14 +1,18 @@
 //! `audit`: what two logs say of each other.
 
-ghost use Rattle.std.specs.Prelude.{◌≡◌, ℕ, List, None, Some, Ok, true, IsTrue, IfOk, IfErr, ◌⊎◌};
+ghost use Rattle.std.specs.Prelude.{◌≡◌, ℕ, List, None, Some, Ok, Err, true, IsTrue, IfOk, IfErr, ◌⊎◌};
 ghost use Rattle.hw_io.specs.Faults.{Rose};
 ghost use Rattle.hw_io.specs.Files.{SameFiles};
 ghost use Rattle.hw_replay.specs.Taken.{Taken};
-ghost use Rattle.hw_replay.specs.Replay.{same_config, replay_of, Replays};
-ghost use Rattle.hw_replay.specs.Causes.{HasReplayCause, IsReplayAbout};
+ghost use Rattle.hw_log.specs.declared.error.LogError.TheVariants as LogErrors;
+ghost use Rattle.hw_replay.specs.declared.fault.StartFault.TheVariants as StartFaults;
+ghost use Rattle.hw_replay.specs.Replay.{same_config, replay_of, IsOutside, Replays};
+ghost use Rattle.hw_replay.specs.Causes.{HasReplayCause, IsReplayAbout, IsReadCounted as IsReplayCounted};
 ghost use Rattle.hw_program.specs.declared.ended.RunFault.TheVariants as RunFaults;
-ghost use Rattle.hw_program.specs.Faults.{HasReadFault, IsAuditEnd};
-ghost use Rattle.hw_program.specs.Program.{ended, audit_said};
+ghost use Rattle.hw_program.specs.Faults.{HasReadFault, IsReadCounted, IsReadEnd, IsAuditEnd};
+ghost use Rattle.hw_light.specs.Checked.{IsCertified};
+ghost use Rattle.hw_program.specs.Program.{ended, audit_said, or_parted, audited_with};
+ghost use Rattle.hw_program.specs.Shown.{IsAlike};
 ghost use Rattle.hw_program.specs.Audited.{status_of, verdict_ended, TellsVerdict};
 ghost use Rattle.hw_program.specs.Conflict.{IsAudited, IsConflictOf};
 
@@ -18,6 +22,7 @@ use hw_audit::{AuditError, Verdict, audit, audit_text};
 use hw_codec::config_is_in_range;
 use hw_core::Core;
 use hw_io::Files;
+use hw_light::{Certificate, certificate_is_in_range};
 use hw_replay::{Replay, StartFault, replay_log};
 use hw_types::{Config, OutOfMemory};
 use std::alloc::Global;
@@ -47,6 +52,47 @@ pub fn audit_logs<F: Files>(
     }
 }
 
+/// Audits the log under the other word against the node of a certificate that the file under the one word holds.
+///
+/// The log is the left one. Where it is of another configuration, the certificate's file is named.
+pub fn audit_certified<F: Files>(
+    alloc: Global,
+    files: &mut F,
+    file: &str,
+    certificate: &Certificate,
+    right: &Core,
+    log: &str,
+) -> Result<Ended, RunFault>
+    requires { IsCertified certificate.now right.now }
+    ensures said { IsTrue F.tells → IfOk result (λ e. e ≡ ended (audited_with (F.held files.old) file.now certificate.now right.now log.now)) }
+    ensures alike { IsTrue F.tells → IfOk result (λ e. IsAlike (F.held files.old) certificate.now (Some log.now)) }
+    ensures status { IfOk result (λ e. IsAuditEnd e.status) }
+    ensures fault { HasReadFault (F.read_faults files.old) (F.read_faults files.new) result }
+    ensures about { IsTrue F.tells → IfErr result (λ fault. fault ≡ RunFaults.Read → Rose (F.faults_about files.old log.now) (F.faults_about files.new log.now)) }
+
+    ensures files { SameFiles (F.held files.old) (F.held files.new) }
+    ensures appends { F.append_faults files.new ≡ F.append_faults files.old }
+{
+    certificate_is_in_range(certificate);
+    match replay_against(alloc, files, right, log) {
+        Ok(replay) => or_no_memory(audited(alloc, &replay.core, right, file)),
+        Err(fault) => not_beside(alloc, file, log, fault),
+    }
+}
+
+/// The replay of the log under the other word stopped. That it is of another configuration is told of the file
+/// under the one word.
+fn not_beside(alloc: Global, file: &str, log: &str, fault: StartFault) -> Result<Ended, RunFault>
+    ensures said { IfOk result (λ e. (Err e ≡ or_parted file.now log.now (Err fault)) × IsReadEnd e.status × (IsOutside fault → ⊥)) }
+    ensures cause { (before now : ℕ) → IsReplayCounted {T = Unit {0}} before now (Err fault) → IsReadCounted before now result }
+    ensures read { IfErr result (λ f. f ≡ RunFaults.Read → fault ≡ StartFaults.Log LogErrors.ReadFault) }
+{
+    match fault {
+        StartFault::OtherConfig => Ok(other_config(alloc, file)?),
+        fault => stopped(alloc, log, fault),
+    }
+}
+
 /// Audits the log under this word against a node.
 fn audit_against<F: Files>(
     alloc: Global,
@@ -70,7 +116,7 @@ fn audit_against<F: Files>(
 }
 
 /// The end of a part that can't read.
-fn or_no_memory(part: Result<Ended, OutOfMemory>) -> Result<Ended, RunFault>
+pub fn or_no_memory(part: Result<Ended, OutOfMemory>) -> Result<Ended, RunFault>
     ensures ended { IfOk result (λ e. part ≡ Ok e) }
     ensures fault { IfErr result (λ fault. fault ≡ RunFaults.OutOfMemory) }
 {

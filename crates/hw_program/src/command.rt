@@ -3,11 +3,13 @@
 ghost use Rattle.std.specs.Prelude.{◌≡◌, ◌<◌, ◌+◌, ◌^◌, length, drop, IfSome};
 ghost use Rattle.std.specs.List.{list_all};
 ghost use Rattle.hw_script_grammar.specs.Numbers.{number_below};
-ghost use Rattle.hw_program.specs.Commands.{is_word, of_one, of_two, of_three, gen_of, sim_of, request_of};
+ghost use Rattle.hw_program.specs.Commands.{is_word, of_one, of_two, of_three, gen_of, sim_of, certify_of, digest_told, request_of};
 ghost use Rattle.hw_program.specs.Asked.{asked, IsInRange};
 
+use crate::digits::digest_told;
 use crate::words::Words;
 use hw_script_grammar::number_up_to;
+use hw_types::Digest;
 
 /// A generated journal has at most this many rounds.
 const MAX_ROUNDS: u64 = 4_096;
@@ -21,21 +23,60 @@ const MAX_STEPS: u64 = 20_000;
 /// A command, with the words that it works on.
 pub enum Command<'w> {
     /// Takes the vertices of a log, in order, and reports on the node that they leave.
-    Replay { log: &'w str },
+    Replay {
+        log: &'w str,
+    },
     /// Takes the vertices of a log, in order, and tells each final block with its summit.
-    Explain { log: &'w str },
+    Explain {
+        log: &'w str,
+    },
     /// Takes the vertices of two logs, and tells what the two nodes say of each other.
-    Audit { left: &'w str, right: &'w str },
+    Audit {
+        left: &'w str,
+        right: &'w str,
+    },
     /// Delivers what a script says, and tells what becomes of it.
-    Script { file: &'w str },
+    Script {
+        file: &'w str,
+    },
     /// Writes the header and the whole entries of a log into a new file.
-    Mend { log: &'w str, new: &'w str },
+    Mend {
+        log: &'w str,
+        new: &'w str,
+    },
     /// Writes a log into a new file, in version 2.
-    Migrate { log: &'w str, new: &'w str },
+    Migrate {
+        log: &'w str,
+        new: &'w str,
+    },
+    /// Writes the certificate of a block that a log decided into a new file.
+    Certify {
+        log: &'w str,
+        block: Digest,
+        new: &'w str,
+    },
+    /// Checks a certificate by keys.
+    Check {
+        file: &'w str,
+        keys: &'w str,
+    },
+    /// Checks a certificate by keys, and tells what a log and the node of a yes say of each other.
+    CheckLog {
+        file: &'w str,
+        keys: &'w str,
+        log: &'w str,
+    },
     /// Gives a node the units of so many rounds, which a number makes, and tells what comes of them.
-    Gen { number: u64, rounds: u32 },
+    Gen {
+        number: u64,
+        rounds: u32,
+    },
     /// Lets the words of a number choose so many steps of so many nodes, and tells what comes of it.
-    Sim { number: u64, nodes: u32, steps: u32 },
+    Sim {
+        number: u64,
+        nodes: u32,
+        steps: u32,
+    },
 }
 
 /// The command that the words ask for, if they are in the grammar.
@@ -77,6 +118,7 @@ fn of_one<'w>(command: &str, word: &'w str) -> Option<Command<'w>>
 }
 
 /// The command of two words.
+#[tactic(auto, unfolding(crate::specs::Commands::of_two))]
 fn of_two<'w>(command: &str, first: &'w str, second: &'w str) -> Option<Command<'w>>
     ensures asked { asked result ≡ of_two command.now first.now second.now }
     ensures range { IfSome result IsInRange }
@@ -95,6 +137,11 @@ fn of_two<'w>(command: &str, first: &'w str, second: &'w str) -> Option<Command<
         Some(Command::Migrate {
             log: first,
             new: second,
+        })
+    } else if command == "check" {
+        Some(Command::Check {
+            file: first,
+            keys: second,
         })
     } else if command == "gen" {
         generation(first, second)
@@ -120,15 +167,38 @@ fn generation<'w>(number: &str, rounds: &str) -> Option<Command<'w>>
 }
 
 /// The command of three words.
-fn of_three<'w>(command: &str, first: &str, second: &str, third: &str) -> Option<Command<'w>>
+#[tactic(auto, unfolding(crate::specs::Commands::of_three))]
+fn of_three<'w>(
+    command: &str,
+    first: &'w str,
+    second: &'w str,
+    third: &'w str,
+) -> Option<Command<'w>>
     ensures asked { asked result ≡ of_three command.now first.now second.now third.now }
     ensures range { IfSome result IsInRange }
 {
     if command == "sim" {
         simulation(first, second, third)
+    } else if command == "certify" {
+        certification(first, second, third)
+    } else if command == "check" {
+        Some(Command::CheckLog {
+            file: first,
+            keys: second,
+            log: third,
+        })
     } else {
         None
     }
+}
+
+/// The certificate of the block that a word names, which a log decided, in a new file.
+fn certification<'w>(log: &'w str, block: &str, new: &'w str) -> Option<Command<'w>>
+    ensures asked { asked result ≡ certify_of log.now (digest_told block.now) new.now }
+    ensures range { IfSome result IsInRange }
+{
+    let block = digest_told(block)?;
+    Some(Command::Certify { log, block, new })
 }
 
 /// A simulated run of a number, with so many nodes and steps.

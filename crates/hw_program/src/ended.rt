@@ -32,6 +32,9 @@ pub const LIMIT: u8 = 8;
 /// Two different units have one digest.
 pub const CLASH: u8 = 9;
 
+/// No certificate could be made, or one shows nothing.
+pub const NO: u8 = 10;
+
 /// How a run ends: its status, and all that it writes.
 #[derive(Drop)]
 pub struct Ended {

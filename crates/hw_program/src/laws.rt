@@ -1,6 +1,6 @@
 //! What follows of a run.
 
-ghost use Rattle.hw_program.specs.Laws.{ConflictIsTold, ReadsTheSame};
+ghost use Rattle.hw_program.specs.Laws.{ConflictIsTold, ReadsTheSame, LogIsAnswered, CheckIsAnswered};
 
 /// Where two logs report conflicting final blocks, and no two of their units clash, the status is that of a
 /// conflict. So the top call's clause on it holds: culprits that weigh more than the threshold are named.
@@ -12,4 +12,11 @@ pub fn a_conflict_is_told()
 /// both. After `migrate` with status 0 the two files are so, by the top call's clause on what a run leaves.
 pub fn a_migrated_log_reads_the_same()
     ensures { ReadsTheSame }
+{}
+
+/// With files that can be read, a request about a certificate is answered: by the top call's clause on what is complete,
+/// where nothing of the outside fails the status is this one, or that of want of memory.
+pub fn certificates_are_answered()
+    ensures asked { LogIsAnswered }
+    ensures checked { CheckIsAnswered }
 {}

@@ -7,7 +7,10 @@
 #![tactic(auto)]
 
 mod audit;
+mod certify;
+mod check;
 mod command;
+mod digits;
 mod ended;
 mod explain;
 mod faults;
@@ -21,6 +24,6 @@ mod words;
 mod workloads;
 
 pub use ended::OUT_OF_MEMORY;
-pub use laws::{a_conflict_is_told, a_migrated_log_reads_the_same};
+pub use laws::{a_conflict_is_told, a_migrated_log_reads_the_same, certificates_are_answered};
 pub use run::highway;
 pub use words::Words;

@@ -89,7 +89,7 @@ fn unwritten(alloc: Global, log: &str, new: &str, fault: RewriteFault) -> Result
 
 /// The file that was to be new is there.
 #[tactic(auto, using(std::proofs::Common::append_assoc), unfolding(crate::specs::Texts::input_ended))]
-fn there(alloc: Global, name: &str) -> Result<Ended, OutOfMemory>
+pub fn there(alloc: Global, name: &str) -> Result<Ended, OutOfMemory>
     ensures { IfOk result (λ ended. ended ≡ input_ended name.now (codes "exists")) }
 {
     let mut text = input(alloc, name)?;

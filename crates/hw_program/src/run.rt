@@ -12,10 +12,13 @@ ghost use Rattle.hw_program.specs.Files.{FilesAfter, IsAllowed, status_of};
 ghost use Rattle.hw_program.specs.Program.{run_of};
 ghost use Rattle.hw_program.specs.Conflict.{ReportsConflict};
 ghost use Rattle.hw_program.specs.Fed.{CallsNone, ConsumersAfter, IsTextOf};
+ghost use Rattle.hw_program.specs.Shown.{IsShown, IfChecks, ShowsCertificate, ContradictsCertificate};
 ghost use Rattle.hw_program.specs.Run.{IsStatus, IsDone, IsSaid, IsRefusal, WritesLine, WritesText, WritesPrefix, WritesMemoryLine, EndsWithoutMemory, EndsAppending, Finishes};
 ghost use Rattle.hw_program.specs.declared.ended.RunFault.TheVariants as RunFaults;
 
 use crate::audit::audit_logs;
+use crate::certify::certified;
+use crate::check::checked;
 use crate::command::{Command, command_of};
 use crate::ended::{CONFLICT, DONE, Ended, OUT_OF_MEMORY, READ_FAULT, RunFault, WRITE_FAULT};
 use crate::explain::explain;
@@ -40,10 +43,11 @@ const OUT_OF_MEMORY_LINE: &str = "out of memory\n";
 /// the decided blocks after each entry, and are told that no block follows before the report is made;
 /// one that answers an error is dropped, leaves the list, and is named behind the report. The status is
 /// 0 where all was done, 1 where the words aren't in the grammar, 2 where a file's bytes aren't or a file
-/// that is to be new is there, 3 where two logs report conflicting final blocks, 4 where a read of the
-/// files failed, 5 where a write of the output or an append to a file failed, 7 where there was no
-/// memory, 8 where a log meets a limit, and 9 where two different units have one digest. A fault has one
-/// line, which is written if the output takes it.
+/// that is to be new is there, 3 where two logs, or a log and a certificate, report conflicting final
+/// blocks, 4 where a read of the files failed, 5 where a write of the output or an append to a file
+/// failed, 7 where there was no memory, 8 where a log meets a limit, 9 where two different units have one
+/// digest, and 10 where no certificate could be made or one shows nothing. A fault has one line, which is
+/// written if the output takes it.
 pub fn highway<F: Files, S: Sink, C: Clock, D: Door>(
     alloc: Global,
     words: &Words,
@@ -75,8 +79,11 @@ pub fn highway<F: Files, S: Sink, C: Clock, D: Door>(
     ensures complete { IsTrue F.tells → (Rose (F.read_faults files.old) (F.read_faults files.new) → ⊥) → (Rose (S.faults out.old) (S.faults out.new) → ⊥) → OnlyReads (request_of words.now) ⊎ (Rose (F.append_faults files.old) (F.append_faults files.new) → ⊥) → (result ≡ (run_of words.now (F.held files.old)).status) ⊎ (result ≡ 7) }
     ensures allowed { IsTrue F.tells → IsAllowed (request_of words.now) (F.held files.old) → (Rose (F.read_faults files.old) (F.read_faults files.new) → ⊥) → (Rose (S.faults out.old) (S.faults out.new) → ⊥) → (Rose (F.append_faults files.old) (F.append_faults files.new) → ⊥) → (result ≡ 0) ⊎ (result ≡ 7) }
 
-    // Where two logs report conflicting final blocks, the audit names culprits, each by two signed units, and they weigh more than the threshold.
-    ensures conflict { IsTrue F.tells → result ≡ 3 → ReportsConflict words.now (F.held files.old) (run_of words.now (F.held files.old)).text }
+    // Where two logs, or a log and a certificate, report conflicting final blocks, the audit names culprits, each by two signed units, and they weigh more than the threshold.
+    ensures conflict { IsTrue F.tells → result ≡ 3 → ReportsConflict words.now (F.held files.old) (run_of words.now (F.held files.old)).text ⊎ ContradictsCertificate words.now (F.held files.old) (run_of words.now (F.held files.old)).text }
+
+    // Where a check has one of these statuses, the certificate's vertices alone make its block stand, and by the keys each is signed.
+    ensures certified { IsTrue F.tells → IsShown result → IfChecks (ShowsCertificate (F.held files.old)) (request_of words.now) }
 
     // What is written with each status. Behind a report the text names the consumers that were dropped.
     ensures text { IsTrue F.tells → IsDone result → WritesText (IsTextOf (seen (λ b. consumed b) (λ b. (⟦<dyn Consumer as Consumer>⟧ b.vtable).faults b.value) (λ b. b.vtable)) F.tells words.now (F.held files.old) consumers.old.items consumers.new.items) (S.taken out.old) (S.taken out.new) }
@@ -110,7 +117,7 @@ pub fn highway<F: Files, S: Sink, C: Clock, D: Door>(
 }
 
 /// Runs the command up to its text.
-#[tactic(auto, using(crate::proofs::AuditLaws::no_conflict, crate::proofs::AuditLaws::reports), unfolding(crate::specs::Program::run_of))]
+#[tactic(auto, using(crate::proofs::AuditLaws::no_conflict, crate::proofs::AuditLaws::no_conflict_asked, crate::proofs::AuditLaws::reports), unfolding(crate::specs::Program::run_of))]
 fn run<F: Files>(
     alloc: Global,
     words: &Words,
@@ -119,7 +126,7 @@ fn run<F: Files>(
 ) -> Result<Ended, RunFault>
     ensures said { IsTrue F.tells → IfOk result (λ ended. ended.status ≡ (run_of words.now (F.held files.old)).status) }
     ensures text { IsTrue F.tells → IfOk result (λ ended. IsTextOf (seen (λ b. consumed b) (λ b. faults b) (λ b. b.vtable)) F.tells words.now (F.held files.old) consumers.old.items consumers.new.items ended.text) }
-    ensures conflict { IsTrue F.tells → IfOk result (λ ended. ended.status ≡ 3 → ReportsConflict words.now (F.held files.old) (run_of words.now (F.held files.old)).text) }
+    ensures conflict { IsTrue F.tells → IfOk result (λ ended. ended.status ≡ 3 → ReportsConflict words.now (F.held files.old) (run_of words.now (F.held files.old)).text ⊎ ContradictsCertificate words.now (F.held files.old) (run_of words.now (F.held files.old)).text) }
     ensures status { IfOk result (λ ended. IsEndOf (request_of words.now) ended) }
     ensures fault { HasRunFault (F.read_faults files.old) (F.read_faults files.new) (F.append_faults files.old) (F.append_faults files.new) result }
     ensures only { OnlyReads (request_of words.now) → HasReadFault (F.read_faults files.old) (F.read_faults files.new) result }
@@ -140,6 +147,9 @@ fn run<F: Files>(
         Some(Command::Script { file }) => script(alloc, files, file),
         Some(Command::Mend { log, new }) => mended(alloc, files, log, new),
         Some(Command::Migrate { log, new }) => migrated(alloc, files, log, new),
+        Some(Command::Certify { log, block, new }) => certified(alloc, files, log, &block, new),
+        Some(Command::Check { file, keys }) => checked(alloc, files, file, keys, None),
+        Some(Command::CheckLog { file, keys, log }) => checked(alloc, files, file, keys, Some(log)),
         Some(Command::Gen { number, rounds }) => generated(alloc, number, rounds),
         Some(
             Command::Sim {

@@ -2,7 +2,7 @@ use Rattle.std.proofs.Common.{refl, ◌∙◌, inl, inr, arith}
 use Rattle.hw_program.specs.Commands.{request_of}
 use Rattle.hw_fanout.specs.Fates.{seen}
 use Rattle.hw_program.specs.Program.{run_of}
-use Rattle.hw_program.proofs.EndLaws.{finished_files, memory_files, allowed_run, allowed_end, write_failed, append_told, append_untold}
+use Rattle.hw_program.proofs.EndLaws.{finished_files, memory_files, allowed_run, allowed_end, write_failed, append_told, append_untold, finished_shown, four_shows_nothing, five_shows_nothing, seven_shows_nothing}
 use Rattle.hw_program.proofs.WrittenLaws.{end_consumers, fault_consumers, memory_consumers, line_written, text_written, want_written}
 use Rattle.hw_program.proofs.run.highway.Goals as goal
 
@@ -87,3 +87,17 @@ pub returns-in-Err-OutOfMemory-clause-consumers : goal.returns-in-Err-OutOfMemor
 returns-in-Err-OutOfMemory-clause-consumers g c =
     memory_consumers (seen (λ b. (goal.Consumer-dyn g (b.vtable, b.value)).consumed b.value) (λ b. (goal.Consumer-dyn g (b.vtable, b.value)).faults b.value) (λ b. b.vtable)) g.F.Files.tells (g.F.Files.held c.args.files.now)
     c.args.consumers.now.items c.run.new.consumers.items (request_of c.args.words.now) _ _ c.out_of_memory.ensures.status c.in-Err-OutOfMemory.ensures.consumers
+
+-- ---- what a check shows
+
+pub returns-in-Ok-clause-certified : goal.returns-in-Ok-clause-certified
+returns-in-Ok-clause-certified g c = λ tells. finished_shown c.args.words.now (g.F.Files.held c.args.files.now) c.in-Ok.ended _ _ _ (rw c.as_slice.ensures at c.finish.ensures) (c.in-Ok.ensures.said tells)
+
+pub returns-in-Err-Read-clause-certified : goal.returns-in-Err-Read-clause-certified
+returns-in-Err-Read-clause-certified g c = λ tells. four_shows_nothing _ _ _ _ c.finish-in-Err-Read.ensures
+
+pub returns-in-Err-Append-clause-certified : goal.returns-in-Err-Append-clause-certified
+returns-in-Err-Append-clause-certified g c = λ tells. five_shows_nothing _ _ _ _ c.finish-in-Err-Append.ensures
+
+pub returns-in-Err-OutOfMemory-clause-certified : goal.returns-in-Err-OutOfMemory-clause-certified
+returns-in-Err-OutOfMemory-clause-certified g c = λ tells. seven_shows_nothing _ c.out_of_memory.ensures.status
