@@ -86,7 +86,8 @@ module _ {B K : Type 0} (sight : Sight B K) (tells : Bool) (held : Held) (o n : 
           no_zero r z (inl h) = omega (arith, z, h)
           no_zero r z (inr (inl h)) = omega (arith, z, h)
           no_zero r z (inr (inr (inl h))) = omega (arith, z, h)
-          no_zero r z (inr (inr (inr h))) = omega (arith, z, h)
+          no_zero r z (inr (inr (inr (inl h)))) = omega (arith, z, h)
+          no_zero r z (inr (inr (inr (inr h)))) = omega (arith, z, h)
 
       lines : e.status ≡ result → WritesLine o.taken n.taken e.text o.faults n.faults → WritesLine o.taken n.taken said.text o.faults n.faults
       lines kept wrote = subst (λ t. WritesLine o.taken n.taken t o.faults n.faults) (plain kept) wrote
@@ -98,7 +99,8 @@ module _ {B K : Type 0} (sight : Sight B K) (tells : Bool) (held : Held) (o n : 
           no_five r z (inl h) = omega (arith, z, h)
           no_five r z (inr (inl h)) = omega (arith, z, h)
           no_five r z (inr (inr (inl h))) = omega (arith, z, h)
-          no_five r z (inr (inr (inr h))) = omega (arith, z, h)
+          no_five r z (inr (inr (inr (inl h)))) = omega (arith, z, h)
+          no_five r z (inr (inr (inr (inr h)))) = omega (arith, z, h)
       cut false kept wrote = lines (sym kept) wrote
 
       go : Finishes e.status e.text result o n → WritesLine o.taken n.taken said.text o.faults n.faults
@@ -110,7 +112,8 @@ module _ {B K : Type 0} (sight : Sight B K) (tells : Bool) (held : Held) (o n : 
           no_seven r z (inl h) = omega (arith, z, h)
           no_seven r z (inr (inl h)) = omega (arith, z, h)
           no_seven r z (inr (inr (inl h))) = omega (arith, z, h)
-          no_seven r z (inr (inr (inr h))) = omega (arith, z, h)
+          no_seven r z (inr (inr (inr (inl h)))) = omega (arith, z, h)
+          no_seven r z (inr (inr (inr (inr h)))) = omega (arith, z, h)
 
 -- with a whole text the status is that of one
 pub text_written : (status : ℕ) (text : List ℕ) (result : ℕ) (old new : Output) → Finishes status text result old new → IsDone result → Appends old.taken new.taken text
