@@ -19,6 +19,7 @@ use Rattle.hw_chain.proofs.ListLaws.{numbered}
 use Rattle.hw_chain.proofs.DecidedLaws.{heights}
 use Rattle.hw_chain.proofs.StoodLaws.{record_in, record_height}
 use Rattle.hw_audit.specs.Audit.{IsVerdictOn}
+use Rattle.hw_audit.specs.First.{ShowsFirstClash}
 use Rattle.hw_audit.specs.declared.nodes.AuditError.{AuditError}
 use Rattle.hw_audit.specs.declared.nodes.AuditError.TheVariants as fault_of
 use Rattle.hw_core.specs.Decided.{decided_in}
@@ -28,7 +29,7 @@ use Rattle.hw_eras.specs.Eras.{journal_in, config_after, VerdictIn, ErasAgree, E
 use Rattle.hw_eras.specs.Nodes.{real, era_of, IsMadeAgain, next_of, AreErasFrom, first_config, AreNodeEras}
 use Rattle.hw_eras.proofs.EraLaws.{one_next, agreeing, differ as differing}
 use Rattle.hw_eras.proofs.NodeLaws.{era_decisions, nodes_eras}
-use Rattle.hw_era_audit.specs.EraAudit.{AreOfDifferent, IsVerdictOnEras, IsAccounted, IsShort}
+use Rattle.hw_era_audit.specs.EraAudit.{AreOfDifferent, IsVerdictOnEras, AreAgreed, IsVerdictByEras, IsAccounted, IsShort}
 use Rattle.hw_era_audit.proofs.SameLaws.{same_configs}
 
 -- ---- the verdict on one era
@@ -50,13 +51,6 @@ module _ (c d : CoreState) (same : c.config ≡ d.config) (made_c : IsMadeAgain 
       (subst (λ (k : Config). config_after (setting_of k) (era_of d) ≡ Some q) (sym same) f)
 
 -- ---- eras that agreed
-
--- the first so many eras of the two agree, in so many blocks together
-abbrev pub AreAgreed : List CoreState → List CoreState → ℕ → ℕ → Type 0
-AreAgreed cs ds zero common = common ≡ 0
-AreAgreed [] ds (suc n) common = ⊥
-AreAgreed (c ∷ cs) [] (suc n) common = ⊥
-AreAgreed (c ∷ cs) (d ∷ ds) (suc n) common = (here : ℕ) × (later : ℕ) × (c.config ≡ d.config) × IsVerdictOn c d (verdict.Agree here) × AreAgreed cs ds n later × (common ≡ here + later)
 
 -- one more era agrees
 agreed_one : (n : ℕ) (cs ds : List CoreState) (common here : ℕ) (c d : CoreState) → slice_get cs n ≡ Some c → slice_get ds n ≡ Some d → c.config ≡ d.config → IsVerdictOn c d (verdict.Agree here)
@@ -309,6 +303,20 @@ module _ (cs ds : List CoreState) (left : AreNodeEras cs) (right : AreNodeEras d
       pub at_verdict : IsVerdictOnEras cs ds (eras.At era v)
       at_verdict = one_differs cs ds left right first era common so_far.agreed c d i j v (no_agreement v other) is
 
+      pub at_eras : ShowsFirstClash (setting_of c.config) c.journal d.journal v → IsVerdictByEras cs ds (eras.At era v)
+      at_eras first_shown = record {
+        before = common;
+        agreed = so_far.agreed;
+        first = c;
+        first_is = i;
+        second = d;
+        second_is = j;
+        one_config = same;
+        is_verdict = is;
+        shows_first = first_shown;
+        other = no_agreement v other;
+      }
+
       pub at_accounted : IsAccounted cs ds (eras.At era v)
       at_accounted = one_accounted cs ds left right first era common so_far.agreed c d i j v (no_agreement v other) is
 
@@ -318,6 +326,9 @@ module _ (cs ds : List CoreState) (left : AreNodeEras cs) (right : AreNodeEras d
 
   pub end_verdict : IsVerdictOnEras cs ds (eras.Agree common)
   end_verdict = all_agreed cs ds left right (so_far.first begun) era common so_far.agreed (shorter (length cs) (length ds) era end)
+
+  pub end_eras : era ≤ min (length cs) (length ds) → IsVerdictByEras cs ds (eras.Agree common)
+  end_eras le = subst (λ (n : ℕ). AreAgreed cs ds n common) (omega arith) so_far.agreed
 
   pub end_accounted : IsAccounted cs ds (eras.Agree common)
   end_accounted = all_accounted cs ds left right (so_far.first begun) era common so_far.agreed (shorter (length cs) (length ds) era end)

@@ -1,9 +1,11 @@
 //! Two nodes side by side, era by era.
 
 ghost use Rattle.std.specs.Prelude.{◌≡◌, ◌≢◌, ◌↔◌, Err, IfOk};
+ghost use Rattle.hw_types.specs.Real.{setting_of};
 ghost use Rattle.hw_audit.specs.Audit.{IsVerdictOn};
+ghost use Rattle.hw_audit.specs.First.{ShowsFirstClash};
 ghost use Rattle.hw_audit.specs.declared.nodes.AuditError.TheVariants as AuditErrors;
-ghost use Rattle.hw_era_audit.specs.EraAudit.{AreOfDifferent, IsVerdictOnEras, IsAccounted, IsShort};
+ghost use Rattle.hw_era_audit.specs.EraAudit.{AreOfDifferent, IsVerdictOnEras, IsVerdictByEras, IsAccounted, IsShort};
 
 use hw_audit::{AuditError, Verdict, audit};
 use hw_core::Core;
@@ -19,6 +21,7 @@ use std::alloc::Global;
 pub fn audit_eras(alloc: Global, left: &Eras, right: &Eras) -> Result<EraVerdict, AuditError>
     ensures instances { AreOfDifferent left.now right.now ↔ (result ≡ Err AuditErrors.Instances) }
     ensures verdict { IfOk result (IsVerdictOnEras left.now right.now) }
+    ensures by_eras { IfOk result (IsVerdictByEras left.now right.now) }
 
     // One chain over all eras begins the other, or the culprits weigh more than their era's threshold.
     ensures accounted { IfOk result (IsAccounted left.now right.now) }
@@ -44,6 +47,7 @@ pub fn audit_eras(alloc: Global, left: &Eras, right: &Eras) -> Result<EraVerdict
 fn audit_era(alloc: Global, left: &Core, right: &Core) -> Result<Verdict, AuditError>
     ensures instances { (left.now.config ≢ right.now.config) ↔ (result ≡ Err AuditErrors.Instances) }
     ensures verdict { IfOk result (λ verdict. IsVerdictOn left.now right.now verdict) }
+    ensures first { IfOk result (λ verdict. ShowsFirstClash (setting_of left.now.config) left.now.journal right.now.journal verdict) }
     ensures short { IfOk result IsShort }
 {
     // For the prover: no more blocks are decided than units are settled.

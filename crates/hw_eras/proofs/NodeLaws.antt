@@ -1,5 +1,5 @@
 -- The nodes of eras, and what deliveries and openings make of them.
-use Rattle.std.proofs.Common.{◌≡◌, ℕ, zero, suc, ◌+◌, ◌≤◌, ◌<◌, Bool, true, false, cond, List, [], ◌∷◌, ◌++◌, length, map, fold, Option, Some, None, Ok, refl, sym, ap, subst, ◌∙◌, arith}
+use Rattle.std.proofs.Common.{◌≡◌, ℕ, zero, suc, ◌+◌, ◌-◌, ◌≤◌, ◌<◌, Bool, true, false, cond, List, [], ◌∷◌, ◌++◌, length, map, fold, Option, Some, None, Ok, IfSome, refl, sym, ap, subst, ◌∙◌, arith}
 use Rattle.std.proofs.Math.ListN.{set, length-set, get_or}
 use Rattle.std.specs.Prelude.{◌==◌, find, slice_get}
 use Rattle.std.specs.Option.{option_map, option_and_then, option_or}
@@ -137,6 +137,37 @@ delivered cores era core v verdict are e = record {
   eras = subst (λ o. AreErasFrom o (set cores era (after_in core v verdict))) (sym (first_stays cores era core v verdict e)) (delivered_from (first_config cores) cores era core v verdict are.eras e);
 }
 
+-- another node in the place of the last one
+put_from : (next : Option Config) (cores : List CoreState) (k : ℕ) (old core : CoreState) → AreErasFrom next cores → length cores ≡ suc k → slice_get cores k ≡ Some old → core.config ≡ old.config → IsMadeAgain core
+    → AreErasFrom next (set cores k core)
+put_from next [] k old core are long e config made = absurd (omega arith)
+put_from next (c ∷ []) zero old core are long e config made =
+    let same : old ≡ c = cc in
+    (are.0 ∙ ap (λ (x : CoreState). Some x.config) (sym same) ∙ ap Some (sym config), made, tt)
+put_from next (c ∷ []) (suc k) old core are long e config made = absurd (omega arith)
+put_from next (c ∷ d ∷ ds) zero old core are long e config made = absurd (omega arith)
+put_from next (c ∷ d ∷ ds) (suc k) old core are long e config made = (are.0, are.1, put_from (next_of c) (d ∷ ds) k old core are.2 (omega arith) e config made)
+
+-- its configuration was the same
+pub first_put : (cores : List CoreState) (k : ℕ) (old core : CoreState) → slice_get cores k ≡ Some old → core.config ≡ old.config → first_config (set cores k core) ≡ first_config cores
+first_put [] k old core e config = absurd cc
+first_put (c ∷ cs) zero old core e config = (let same : old ≡ c = cc in ap Some (config ∙ ap (λ (x : CoreState). x.config) same))
+first_put (c ∷ cs) (suc k) old core e config = refl
+
+pub put_last : (cores : List CoreState) (old core : CoreState) → AreNodeEras cores → last_core cores ≡ Some old → core.config ≡ old.config → IsMadeAgain core → AreNodeEras (set cores (length cores - 1) core)
+put_last [] old core are e config made = absurd cc
+put_last (c ∷ cs) old core are e config made =
+    let k = length cs in
+    let at : length (c ∷ cs) - 1 ≡ k = omega arith in
+    let its : slice_get (c ∷ cs) k ≡ Some old = subst (λ (n : ℕ). slice_get (c ∷ cs) n ≡ Some old) at e in
+    record {
+      some = subst (λ (n : ℕ). 1 ≤ n) (sym (length-set (c ∷ cs) (length (c ∷ cs) - 1) core)) are.some;
+      few = subst (λ (n : ℕ). n ≤ 64) (sym (length-set (c ∷ cs) (length (c ∷ cs) - 1) core)) are.few;
+      eras = subst (λ (n : ℕ). AreErasFrom (first_config (set (c ∷ cs) n core)) (set (c ∷ cs) n core)) (sym at)
+          (subst (λ (o : Option Config). AreErasFrom o (set (c ∷ cs) k core)) (sym (first_put (c ∷ cs) k old core its config))
+          (put_from (first_config (c ∷ cs)) (c ∷ cs) k old core are.eras (omega arith) its config made));
+    }
+
 -- one more era
 opened_from : (next : Option Config) (cores : List CoreState) (k : ℕ) (core : CoreState) (config : Config) → AreErasFrom next cores → length cores ≡ suc k → slice_get cores k ≡ Some core → next_of core ≡ Some config
     → AreErasFrom next (cores ++ begun_core config ∷ [])
@@ -196,6 +227,15 @@ module _ (cores : List CoreState) (era : ℕ) (core new : CoreState) (v : Vertex
 
   pub as_it_was : new ≡ core → set cores era new ≡ cores
   as_it_was same = ap (λ (k : CoreState). set cores era k) same ∙ put_back cores era core its
+
+-- another one in the place of the last one
+pub has_put : (cores : List CoreState) (k : ℕ) (last core new : CoreState) → k ≡ length cores - 1 → last ≡ get_or cores k last → AreNodeEras cores → IsMadeAgain core → IfSome (last_core cores) (λ x. core.config ≡ x.config) → new ≡ core
+    → AreNodeEras (set cores k new)
+has_put cores k last core new at is are made config same =
+    let some = are.some in
+    let its : last_core cores ≡ Some last = subst (λ (n : ℕ). slice_get cores n ≡ Some last) at (got cores k last (omega arith) is) in
+    let like : core.config ≡ last.config = subst (λ (o : Option CoreState). IfSome o (λ x. core.config ≡ x.config)) its config in
+    subst (λ (n : ℕ). AreNodeEras (set cores n new)) (sym at) (subst (λ (x : CoreState). AreNodeEras (set cores (length cores - 1) x)) (sym same) (put_last cores last core are its like made))
 
 -- ---- they are eras
 

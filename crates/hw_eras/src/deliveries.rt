@@ -1,12 +1,13 @@
 //! What comes in one of a node's eras.
 
-ghost use Rattle.std.specs.Prelude.{◌≡◌, IfOk, IfErr, OnErr};
+ghost use Rattle.std.specs.Prelude.{◌≡◌, ◌-◌, length, slice_set, Some, IfOk, IfErr, IfSome, OnErr};
 ghost use Rattle.hw_types.specs.Spelling.{VertexFits};
-ghost use Rattle.hw_eras.specs.Nodes.{AreNodeEras, HasDelivered, IsEraRefusal};
+ghost use Rattle.hw_eras.specs.Nodes.{IsMadeAgain, last_core, AreNodeEras, HasDelivered, IsEraRefusal};
 
 use crate::answers::{EraCause, EraRefused};
 use hw_core::{Core, Refused};
 use hw_types::{Receipt, Vertex};
+use std::mem;
 
 /// Takes a vertex in an era of these nodes.
 pub fn deliver_to(
@@ -44,4 +45,17 @@ fn of_era(refused: Refused) -> EraRefused
         cause: EraCause::Core(refused.cause),
         vertex: refused.vertex,
     }
+}
+
+/// Lets a node that its journal's vertices make again change places with the last one, whose configuration it has.
+pub fn put_last(cores: &mut Vec<Core>, core: &mut Core)
+    requires eras { AreNodeEras cores.old.items }
+    requires made { IsMadeAgain core.old }
+    requires config { IfSome (last_core cores.old.items) (λ last. core.old.config ≡ last.config) }
+    ensures put { cores.new.items ≡ slice_set cores.old.items (length cores.old.items - 1) core.old }
+    ensures out { last_core cores.old.items ≡ Some core.new }
+    ensures eras { AreNodeEras cores.new.items }
+{
+    let last = cores.len() - 1;
+    mem::swap(&mut cores[last], core);
 }

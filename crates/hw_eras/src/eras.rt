@@ -1,16 +1,16 @@
 //! The eras of a node, and what comes in them.
 
-ghost use Rattle.std.specs.Prelude.{◌≡◌, ◌<◌, ◌↔◌, ◌∷◌, [], length, slice_get, None, Ok, Err, IfOk, IfErr, IfSome, OnErr};
+ghost use Rattle.std.specs.Prelude.{◌≡◌, ◌<◌, ◌-◌, ◌↔◌, ◌∷◌, [], length, slice_get, slice_set, None, Some, Ok, Err, IfOk, IfErr, IfSome, OnErr};
 ghost use Rattle.std.specs.Option.{option_copied};
 ghost use Rattle.hw_types.specs.Limits.{config_fault};
 ghost use Rattle.hw_types.specs.Spelling.{VertexFits};
 ghost use Rattle.hw_admit.specs.State.{IsStartFault};
 ghost use Rattle.hw_core.specs.Promises.{begun};
 ghost use Rattle.hw_eras.specs.declared.answers.EraOpen.TheVariants as opening;
-ghost use Rattle.hw_eras.specs.Nodes.{AreNodeEras, HasDelivered, IsEraRefusal, IsLastUnended, IsFull, HasOpened};
+ghost use Rattle.hw_eras.specs.Nodes.{IsMadeAgain, last_core, AreNodeEras, HasDelivered, IsEraRefusal, IsLastUnended, IsFull, HasOpened};
 
 use crate::answers::{EraOpen, EraRefused};
-use crate::deliveries::deliver_to;
+use crate::deliveries::{deliver_to, put_last};
 use crate::opening::{add, open_after};
 use hw_admit::StateStart;
 use hw_core::Core;
@@ -73,6 +73,18 @@ impl Eras {
         ensures eras { AreNodeEras self.new }
     {
         deliver_to(&mut self.cores, era, vertex, verdict)
+    }
+
+    /// Puts a node in the place of the last era's, whose configuration it has, and gives that one out. Its
+    /// journal's vertices make the node again, as they do for each that came to it by deliveries.
+    pub fn put_last(&mut self, core: &mut Core)
+        requires made { IsMadeAgain core.old }
+        requires config { IfSome (last_core self.old) (λ last. core.old.config ≡ last.config) }
+        ensures put { self.new ≡ slice_set self.old (length self.old - 1) core.old }
+        ensures out { last_core self.old ≡ Some core.new }
+        ensures eras { AreNodeEras self.new }
+    {
+        put_last(&mut self.cores, core);
     }
 
     /// Opens the next era, once the last block of the last one is decided, and answers its number.

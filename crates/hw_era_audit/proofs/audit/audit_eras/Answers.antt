@@ -1,6 +1,6 @@
 use Rattle.std.proofs.Common.{◌≡◌, ℕ, sym, arith}
 use Rattle.hw_verdicts.specs.declared.verdict.Verdict.TheVariants as verdict
-use Rattle.hw_era_audit.proofs.AuditLaws.{fault_is, more, at_instances, at_verdict, at_accounted, end_verdict, end_accounted}
+use Rattle.hw_era_audit.proofs.AuditLaws.{fault_is, more, at_instances, at_verdict, at_eras, at_accounted, end_verdict, end_eras, end_accounted}
 use Rattle.hw_era_audit.proofs.audit.audit_eras.Goals as goal
 
 pub returns-in-Err-clause-instances : goal.returns-in-Err-clause-instances
@@ -21,6 +21,7 @@ returns-in_default-verdict c =
     record {
       instances = at_instances cs ds left right c.loop-era.era c.loop-era.common c.loop-era.invariant c.in-Some-Some.first.now c.in-Some-Some.second.now i j v c.in-Ok.ensures.instances c.in-Ok.ensures.verdict other;
       verdict = at_verdict cs ds left right c.loop-era.era c.loop-era.common c.loop-era.invariant c.in-Some-Some.first.now c.in-Some-Some.second.now i j v c.in-Ok.ensures.instances c.in-Ok.ensures.verdict other;
+      by_eras = at_eras cs ds left right c.loop-era.era c.loop-era.common c.loop-era.invariant c.in-Some-Some.first.now c.in-Some-Some.second.now i j v c.in-Ok.ensures.instances c.in-Ok.ensures.verdict other c.in-Ok.ensures.first;
       accounted = at_accounted cs ds left right c.loop-era.era c.loop-era.common c.loop-era.invariant c.in-Some-Some.first.now c.in-Some-Some.second.now i j v c.in-Ok.ensures.instances c.in-Ok.ensures.verdict other;
     }
 
@@ -35,3 +36,6 @@ returns-clause-verdict c = end_verdict c.args.left.now c.args.right.now c.count.
 
 pub returns-clause-accounted : goal.returns-clause-accounted
 returns-clause-accounted c = end_accounted c.args.left.now c.args.right.now c.count.ensures.eras c.count-2.ensures.eras c.loop-era.era c.loop-era.common c.loop-era.invariant (omega arith)
+
+pub returns-clause-by_eras : goal.returns-clause-by_eras
+returns-clause-by_eras c = end_eras c.args.left.now c.args.right.now c.count.ensures.eras c.count-2.ensures.eras c.loop-era.era c.loop-era.common c.loop-era.invariant (omega arith) (omega arith)
