@@ -1,0 +1,5 @@
+pub mod FilledLaws
+pub mod LogLaws
+pub mod StopLaws
+pub mod ReportLaws
+pub mod TellLaws

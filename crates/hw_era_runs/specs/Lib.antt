@@ -1,0 +1,5 @@
+pub mod Logs
+pub mod Reports
+pub mod Audits
+pub mod Stops
+pub mod Filled

@@ -1,0 +1,224 @@
+//! The audit of the eras of two nodes.
+
+ghost use Rattle.std.specs.Prelude.{◌≡◌, ◌+◌, ◌<◌, ◌≤◌, ◌++◌, length, map, slice_get, string_bytes, Some, Ok, IsTrue, IfOk, IfErr};
+ghost use Rattle.hw_io.specs.Files.{SameFiles};
+ghost use Rattle.hw_eras.specs.Nodes.{first_config};
+ghost use Rattle.hw_eras.specs.declared.verdict.EraVerdict.TheVariants as EraVerdicts;
+ghost use Rattle.hw_era_runs.specs.Audits.{agreed, status_of, TellsVerdict, logs_audited, IsAudit, IsAuditOfLogs, IsAuditEnd, AuditsAgainst, AuditsRight};
+ghost use Rattle.hw_era_runs.specs.Stops.{Says, IsOfLogs, HasEraCause, IsEraAbout};
+ghost use Rattle.hw_era_runs.specs.Filled.{logs_in, eras_in, ahead_in, IsFilled};
+
+use crate::filled::Filled;
+use crate::reports::put_era;
+use crate::stop::EraStop;
+use hw_audit::{Verdict, audit_text};
+use hw_core::Core;
+use hw_era_audit::{AuditError, EraVerdict, audit_eras};
+use hw_eras::Eras;
+use hw_io::Files;
+use hw_text::{end_line, put_numbered};
+use hw_types::{Bytes, OutOfMemory};
+use std::alloc::Global;
+
+/// The eras agree.
+const AGREE: u8 = 0;
+
+/// The eras are in conflict.
+const CONFLICT: u8 = 3;
+
+/// Two different units have one digest.
+const CLASH: u8 = 9;
+
+/// What is told of the eras of two nodes.
+#[derive(Drop)]
+pub struct EraAudit {
+    /// 0 where they agree, 3 where they are in conflict, and 9 where two different units have one digest.
+    pub status: u8,
+    pub text: Bytes,
+}
+
+/// Replays these logs into the eras of two nodes, and says what the eras say of each other.
+///
+/// The left logs are all replayed before the first right one, which must be of the left ones' first configuration;
+/// each other one must be of its era's. Where the two don't agree in an era, the first such era is told; otherwise in
+/// how many blocks of all eras together they agree.
+pub fn audit_logs<'a, F: Files>(
+    alloc: Global,
+    files: &mut F,
+    left: &'a [String],
+    right: &'a [String],
+) -> Result<EraAudit, EraStop<'a>>
+    requires left_some { 1 ≤ length left.now }
+    requires left_few { length left.now ≤ 64 }
+    requires right_some { 1 ≤ length right.now }
+    requires right_few { length right.now ≤ 64 }
+    ensures said { IsTrue F.tells → Says (logs_audited (F.held files.old) (map string_bytes left.now) (map string_bytes right.now)) result }
+    ensures audit { IsTrue F.tells → IfOk result (IsAuditOfLogs (F.held files.old) (map string_bytes left.now) (map string_bytes right.now)) }
+    ensures status { IfOk result (λ e. IsAuditEnd e.status) }
+    ensures named { IfErr result (IsOfLogs (map string_bytes left.now ++ map string_bytes right.now)) }
+    ensures cause { HasEraCause (F.read_faults files.old) (F.read_faults files.new) result }
+    ensures about { IsTrue F.tells → IsEraAbout (F.faults_about files.old) (F.faults_about files.new) result }
+
+    ensures files { SameFiles (F.held files.old) (F.held files.new) }
+    ensures appends { F.append_faults files.new ≡ F.append_faults files.old }
+{
+    let first = left[0].as_str();
+    match Filled::begin(alloc, files, first) {
+        Ok(mut filled) => audit_left(files, &mut filled, &left[1..], right),
+        Err(fault) => Err(EraStop::Stopped(first, fault)),
+    }
+}
+
+/// The same, where the left eras before these left logs are filled.
+fn audit_left<'a, F: Files>(
+    files: &mut F,
+    left: &mut Filled,
+    logs: &'a [String],
+    right: &'a [String],
+) -> Result<EraAudit, EraStop<'a>>
+    requires filled { IsFilled left.old }
+    requires few { logs_in left.old + length logs.now ≤ 64 }
+    requires right_some { 1 ≤ length right.now }
+    requires right_few { length right.now ≤ 64 }
+    ensures said { IsTrue F.tells → AuditsAgainst (F.held files.old) (ahead_in (F.held files.old) left.old (map string_bytes logs.now)) (map string_bytes right.now) result }
+    ensures status { IfOk result (λ e. IsAuditEnd e.status) }
+    ensures named { IfErr result (IsOfLogs (map string_bytes logs.now ++ map string_bytes right.now)) }
+    ensures cause { HasEraCause (F.read_faults files.old) (F.read_faults files.new) result }
+    ensures about { IsTrue F.tells → IsEraAbout (F.faults_about files.old) (F.faults_about files.new) result }
+
+    ensures files { SameFiles (F.held files.old) (F.held files.new) }
+    ensures appends { F.append_faults files.new ≡ F.append_faults files.old }
+{
+    match left.take_all(files, logs) {
+        Ok(()) => audit_against(files, left, right),
+        Err(stop) => Err(stop),
+    }
+}
+
+/// The same, where the left eras are all filled.
+fn audit_against<'a, F: Files>(
+    files: &mut F,
+    left: &Filled,
+    right: &'a [String],
+) -> Result<EraAudit, EraStop<'a>>
+    requires right_some { 1 ≤ length right.now }
+    requires right_few { length right.now ≤ 64 }
+    ensures said { IsTrue F.tells → AuditsAgainst (F.held files.old) (Ok (eras_in left.now)) (map string_bytes right.now) result }
+    ensures status { IfOk result (λ e. IsAuditEnd e.status) }
+    ensures named { IfErr result (IsOfLogs (map string_bytes right.now)) }
+    ensures cause { HasEraCause (F.read_faults files.old) (F.read_faults files.new) result }
+    ensures about { IsTrue F.tells → IsEraAbout (F.faults_about files.old) (F.faults_about files.new) result }
+
+    ensures files { SameFiles (F.held files.old) (F.held files.new) }
+    ensures appends { F.append_faults files.new ≡ F.append_faults files.old }
+{
+    let first = right[0].as_str();
+    match Filled::begin_like(left.alloc, files, first_core(&left.eras), first) {
+        Ok(mut filled) => audit_right(files, left, &mut filled, &right[1..]),
+        Err(fault) => Err(EraStop::Stopped(first, fault)),
+    }
+}
+
+/// The same, where the right eras before these logs are filled.
+fn audit_right<'a, F: Files>(
+    files: &mut F,
+    left: &Filled,
+    right: &mut Filled,
+    logs: &'a [String],
+) -> Result<EraAudit, EraStop<'a>>
+    requires filled { IsFilled right.old }
+    requires few { logs_in right.old + length logs.now ≤ 64 }
+    requires like { first_config right.old.eras ≡ first_config left.now.eras }
+    ensures said { IsTrue F.tells → AuditsRight left.now.eras (ahead_in (F.held files.old) right.old (map string_bytes logs.now)) result }
+    ensures status { IfOk result (λ e. IsAuditEnd e.status) }
+    ensures named { IfErr result (IsOfLogs (map string_bytes logs.now)) }
+    ensures cause { HasEraCause (F.read_faults files.old) (F.read_faults files.new) result }
+    ensures about { IsTrue F.tells → IsEraAbout (F.faults_about files.old) (F.faults_about files.new) result }
+
+    ensures files { SameFiles (F.held files.old) (F.held files.new) }
+    ensures appends { F.append_faults files.new ≡ F.append_faults files.old }
+{
+    match right.take_all(files, logs) {
+        Ok(()) => match audited(left.alloc, &left.eras, &right.eras) {
+            Ok(audit) => Ok(audit),
+            Err(OutOfMemory) => Err(EraStop::OutOfMemory),
+        },
+        Err(stop) => Err(stop),
+    }
+}
+
+/// The node of era 0.
+fn first_core(eras: &Eras) -> &Core
+    ensures { slice_get eras.now 0 ≡ Some result.now }
+{
+    // For the prover: there is an era.
+    let _count = eras.count();
+    match eras.core(0) {
+        Some(core) => core,
+        None => unreachable!(),
+    }
+}
+
+/// What is told of the eras of two nodes, which begin with one configuration.
+fn audited(alloc: Global, left: &Eras, right: &Eras) -> Result<EraAudit, OutOfMemory>
+    requires { first_config left.now ≡ first_config right.now }
+    ensures audit { IfOk result (IsAudit left.now right.now) }
+    ensures status { IfOk result (λ e. IsAuditEnd e.status) }
+{
+    match audit_eras(alloc, left, right) {
+        Ok(EraVerdict::Agree { common }) => agreed(alloc, common),
+        Ok(EraVerdict::At { era, verdict }) => differing(alloc, left, era, &verdict),
+        Err(AuditError::OutOfMemory) => Err(OutOfMemory),
+        // They begin with one configuration.
+        Err(AuditError::Instances) => unreachable!(),
+    }
+}
+
+/// The eras agree in so many blocks.
+#[tactic(auto, using(std::proofs::Common::append_assoc), unfolding(hw_audit::specs::Text::agree_line))]
+fn agreed(alloc: Global, common: u64) -> Result<EraAudit, OutOfMemory>
+    ensures { IfOk result (λ e. e ≡ agreed common) }
+{
+    let mut text = Bytes::new(alloc);
+    put_numbered(&mut text, "agree ", common)?;
+    end_line(&mut text)?;
+    Ok(EraAudit {
+        status: AGREE,
+        text,
+    })
+}
+
+/// This is the first era that doesn't agree, with its verdict.
+fn differing(
+    alloc: Global,
+    left: &Eras,
+    era: u32,
+    verdict: &Verdict,
+) -> Result<EraAudit, OutOfMemory>
+    requires { era < length left.now }
+    ensures { IfOk result (TellsVerdict left.now (EraVerdicts.At era verdict.now)) }
+{
+    let Some(core) = left.core(era) else {
+        // The era is there.
+        unreachable!()
+    };
+    let told = audit_text(alloc, verdict, core.state().config())?;
+    let mut text = Bytes::new(alloc);
+    put_era(&mut text, era)?;
+    text.extend(told.as_slice())?;
+    Ok(EraAudit {
+        status: status_of(verdict),
+        text,
+    })
+}
+
+/// The status of the verdict on an era.
+fn status_of(verdict: &Verdict) -> u8
+    ensures { result ≡ status_of verdict.now }
+{
+    match verdict {
+        Verdict::Agree { .. } => AGREE,
+        Verdict::Conflict { .. } => CONFLICT,
+        Verdict::Clash { .. } => CLASH,
+    }
+}

@@ -1,0 +1,231 @@
+//! The eras of a node, as its logs fill them.
+
+ghost use Rattle.std.specs.Prelude.{◌≡◌, ◌+◌, ◌<◌, ◌≤◌, ◌==◌, ◌∷◌, ◌++◌, [], length, map, string_bytes, None, Some, IsTrue, IfOk, IfErr, IfSome, OnOk, if◌then◌else◌};
+ghost use Rattle.hw_io.specs.Files.{SameFiles};
+ghost use Rattle.hw_types.specs.Real.{CoreState};
+ghost use Rattle.hw_core.specs.Promises.{begun};
+ghost use Rattle.hw_eras.specs.Nodes.{IsMadeAgain, next_of, first_config, last_core};
+ghost use Rattle.hw_replay.specs.declared.fault.StartFault.TheVariants as Faults;
+ghost use Rattle.hw_replay.specs.Replay.{taken_in, Replays};
+ghost use Rattle.hw_replay.specs.Causes.{HasReplayCause, IsReplayAbout};
+ghost use Rattle.hw_era_runs.specs.Stops.{IsOfLogs, HasEraCause, IsEraAbout};
+ghost use Rattle.hw_era_runs.specs.Filled.{logs_in, ahead_in, IsFilled, opened, HasTaken, HasFirst, HasBegun, TakesLog, TakesAll};
+
+use crate::stop::EraStop;
+use hw_codec::config_is_in_range;
+use hw_core::Core;
+use hw_admit::StateStart;
+use hw_eras::{EraOpen, Eras};
+use hw_io::Files;
+use hw_replay::{Replay, StartFault, replay_log};
+use hw_types::OutOfMemory;
+use std::alloc::Global;
+
+/// Behind so many logs no further era is opened.
+const MAX_LOGS: usize = 64;
+
+/// How many entries of an era's log were refused, and how many came again.
+#[derive(Clone, Copy)]
+pub struct EraCounts {
+    pub refused: u64,
+    pub repeats: u64,
+}
+
+/// The eras of a node, of which the last one may still lack its log.
+#[derive(Drop)]
+pub struct Filled {
+    pub alloc: Global,
+    pub eras: Eras,
+    /// What was counted in each era that got its log.
+    pub counts: Vec<EraCounts>,
+}
+
+impl Filled {
+    /// Begins with the log under this name, in era 0.
+    pub fn begin<F: Files>(alloc: Global, files: &mut F, log: &str) -> Result<Filled, StartFault>
+        ensures said { IsTrue F.tells → HasBegun None (F.held files.old log.now) result }
+        ensures filled { IfOk result IsFilled }
+        ensures one { IfOk result (λ filled. logs_in filled ≡ 1) }
+        ensures cause { HasReplayCause (F.read_faults files.old) (F.read_faults files.new) result }
+        ensures about { IsTrue F.tells → IsReplayAbout (Some log.now) (F.faults_about files.old) (F.faults_about files.new) result }
+
+        ensures files { SameFiles (F.held files.old) (F.held files.new) }
+        ensures appends { F.append_faults files.new ≡ F.append_faults files.old }
+    {
+        match replay_log(alloc, files, log, None) {
+            Ok(mut replay) => first(alloc, &mut replay),
+            Err(fault) => Err(fault),
+        }
+    }
+
+    /// Begins with the log under this name, if it is of the configuration of this node.
+    pub fn begin_like<F: Files>(
+        alloc: Global,
+        files: &mut F,
+        core: &Core,
+        log: &str,
+    ) -> Result<Filled, StartFault>
+        ensures said { IsTrue F.tells → HasBegun (Some core.now.config) (F.held files.old log.now) result }
+        ensures filled { IfOk result IsFilled }
+        ensures one { IfOk result (λ filled. logs_in filled ≡ 1) }
+        ensures like { IfOk result (λ filled. first_config filled.eras ≡ Some core.now.config) }
+        ensures cause { HasReplayCause (F.read_faults files.old) (F.read_faults files.new) result }
+        ensures about { IsTrue F.tells → IsReplayAbout (Some log.now) (F.faults_about files.old) (F.faults_about files.new) result }
+
+        ensures files { SameFiles (F.held files.old) (F.held files.new) }
+        ensures appends { F.append_faults files.new ≡ F.append_faults files.old }
+    {
+        match replay_like(alloc, files, core, log) {
+            Ok(mut replay) => first(alloc, &mut replay),
+            Err(fault) => Err(fault),
+        }
+    }
+
+    /// Replays these logs into the next eras, one into each.
+    pub fn take_all<'a, F: Files>(
+        &mut self,
+        files: &mut F,
+        logs: &'a [String],
+    ) -> Result<(), EraStop<'a>>
+        requires filled { IsFilled self.old }
+        requires few { logs_in self.old + length logs.now ≤ 64 }
+        ensures said { IsTrue F.tells → TakesAll (ahead_in (F.held files.old) self.old (map string_bytes logs.now)) self.new result }
+        ensures filled { OnOk result (IsFilled self.new) }
+        ensures first { OnOk result (first_config self.new.eras ≡ first_config self.old.eras) }
+        ensures named { IfErr result (IsOfLogs (map string_bytes logs.now)) }
+        ensures cause { HasEraCause (F.read_faults files.old) (F.read_faults files.new) result }
+        ensures about { IsTrue F.tells → IsEraAbout (F.faults_about files.old) (F.faults_about files.new) result }
+
+        ensures files { SameFiles (F.held files.old) (F.held files.new) }
+        ensures appends { F.append_faults files.new ≡ F.append_faults files.old }
+    {
+        for log in logs {
+            match self.take(files, log.as_str()) {
+                Ok(()) => {}
+                Err(stop) => return Err(stop),
+            }
+        }
+        Ok(())
+    }
+
+    /// Replays the log under this name into the next era.
+    fn take<'a, F: Files>(&mut self, files: &mut F, log: &'a str) -> Result<(), EraStop<'a>>
+        requires filled { IsFilled self.old }
+        requires room { logs_in self.old < 64 }
+        ensures said { IsTrue F.tells → TakesLog (F.held files.old) self.old log.now self.new result }
+        ensures filled { OnOk result (IsFilled self.new) }
+        ensures one { OnOk result (logs_in self.new ≡ logs_in self.old + 1) }
+        ensures first { OnOk result (first_config self.new.eras ≡ first_config self.old.eras) }
+        ensures named { IfErr result (IsOfLogs (log.now ∷ [])) }
+        ensures cause { HasEraCause (F.read_faults files.old) (F.read_faults files.new) result }
+        ensures about { IsTrue F.tells → IsEraAbout (F.faults_about files.old) (F.faults_about files.new) result }
+
+        ensures files { SameFiles (F.held files.old) (F.held files.new) }
+        ensures appends { F.append_faults files.new ≡ F.append_faults files.old }
+    {
+        let Some(core) = self.eras.core(self.counts.len() as u32) else {
+            return Err(EraStop::NoEra(log));
+        };
+        match replay_like(self.alloc, files, core, log) {
+            Ok(mut replay) => match self.put(&mut replay) {
+                Ok(()) => Ok(()),
+                Err(OutOfMemory) => Err(EraStop::OutOfMemory),
+            },
+            Err(fault) => Err(EraStop::Stopped(log, fault)),
+        }
+    }
+
+    /// Puts what a log left into the last era, and opens the next one.
+    fn put(&mut self, replay: &mut Replay) -> Result<(), OutOfMemory>
+        requires filled { IsFilled self.old }
+        requires there { logs_in self.old < length self.old.eras }
+        requires made { IsMadeAgain replay.old.core }
+        requires config { IfSome (last_core self.old.eras) (λ last. replay.old.core.config ≡ last.config) }
+        ensures taken { OnOk result (HasTaken self.old self.new (taken_in replay.old)) }
+    {
+        self.eras.put_last(&mut replay.core);
+        self.counts.push(EraCounts {
+            refused: replay.refused,
+            repeats: replay.repeats,
+        })?;
+        self.open()
+    }
+
+    /// Opens the next era, but behind the last log that there may be.
+    fn open(&mut self) -> Result<(), OutOfMemory>
+        requires { logs_in self.old ≡ length self.old.eras }
+        ensures eras { OnOk result ((core : CoreState) → last_core self.old.eras ≡ Some core → self.new.eras ≡ self.old.eras ++ (if logs_in self.old == 64 then [] else opened (next_of core))) }
+        ensures counts { self.new.counts ≡ self.old.counts }
+    {
+        if self.counts.len() == MAX_LOGS {
+            return Ok(());
+        }
+        match self.eras.open_next() {
+            Ok(_) => Ok(()),
+            Err(EraOpen::OutOfMemory) => Err(OutOfMemory),
+            // There are as many eras as logs.
+            Err(EraOpen::Full) => unreachable!(),
+        }
+    }
+}
+
+/// Replays the log under this name, if it is of the configuration of this node.
+fn replay_like<F: Files>(
+    alloc: Global,
+    files: &mut F,
+    core: &Core,
+    log: &str,
+) -> Result<Replay, StartFault>
+    ensures said { IsTrue F.tells → Replays (Some core.now.config) (F.held files.old log.now) result }
+    ensures like { IfOk result (λ replay. replay.core.config ≡ core.now.config) }
+    ensures made { IfOk result (λ replay. IsMadeAgain replay.core) }
+    ensures cause { HasReplayCause (F.read_faults files.old) (F.read_faults files.new) result }
+    ensures about { IsTrue F.tells → IsReplayAbout (Some log.now) (F.faults_about files.old) (F.faults_about files.new) result }
+
+    ensures files { SameFiles (F.held files.old) (F.held files.new) }
+    ensures appends { F.append_faults files.new ≡ F.append_faults files.old }
+{
+    let config = core.state().config();
+    config_is_in_range(config);
+    match replay_log(alloc, files, log, Some(config)) {
+        Ok(replay) => {
+            config_is_in_range(replay.core.state().config());
+            Ok(replay)
+        }
+        Err(fault) => Err(fault),
+    }
+}
+
+/// Era 0 with what its log left, and the next era, if it is opened.
+fn first(alloc: Global, replay: &mut Replay) -> Result<Filled, StartFault>
+    requires { IsMadeAgain replay.old.core }
+    ensures taken { IfOk result (λ filled. HasFirst filled (taken_in replay.old)) }
+    ensures fault { IfErr result (λ fault. fault ≡ Faults.OutOfMemory) }
+{
+    match era_of(alloc, &replay.core) {
+        Ok(eras) => {
+            let mut filled = Filled {
+                alloc,
+                eras,
+                counts: Vec::new(alloc),
+            };
+            match filled.put(replay) {
+                Ok(()) => Ok(filled),
+                Err(OutOfMemory) => Err(StartFault::OutOfMemory),
+            }
+        }
+        Err(OutOfMemory) => Err(StartFault::OutOfMemory),
+    }
+}
+
+/// Era 0 of the configuration of this node.
+fn era_of(alloc: Global, core: &Core) -> Result<Eras, OutOfMemory>
+    ensures { IfOk result (λ eras. eras ≡ begun core.now.config ∷ []) }
+{
+    match Eras::new(alloc, core.state().config().copy()?) {
+        Ok(eras) => Ok(eras),
+        Err(StateStart::OutOfMemory) => Err(OutOfMemory),
+        // A node's configuration keeps all limits.
+        Err(StateStart::Fault(_)) => unreachable!(),
+    }
+}
