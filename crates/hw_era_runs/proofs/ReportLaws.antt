@@ -42,3 +42,9 @@ one_more ts i t e =
     let next : i + 1 ≡ suc i = omega arith in
     let at : 0 + i ≡ i = omega arith in
     ap (λ (n : ℕ). reports_from 0 (take n ts)) next ∙ report_more 0 ts i t e ∙ ap (λ (n : ℕ). reports_from 0 (take i ts) ++ era_report n t) at
+
+-- an era below the count is there
+pub is_some : (cs : List CoreState) (i : ℕ) → i < length cs → slice_get cs i ≡ None → ⊥
+is_some [] i lt e = absurd (omega arith)
+is_some (c ∷ cs) zero lt e = absurd cc
+is_some (c ∷ cs) (suc i) lt e = is_some cs i (omega arith) e

@@ -1,5 +1,5 @@
 -- What an audit of eras tells is what the definitions give of the nodes.
-use Rattle.std.proofs.Common.{◌≡◌, ℕ, zero, suc, ◌+◌, false, List, [], ◌∷◌, ◌++◌, length, min, Option, Some, None, Result, Ok, Err, refl, sym, ap, subst, ◌∙◌, arith}
+use Rattle.std.proofs.Common.{◌≡◌, ℕ, zero, suc, ◌+◌, false, List, [], ◌∷◌, ◌++◌, length, min, Option, Some, None, Result, Ok, Err, IfOk, refl, sym, ap, subst, ◌∙◌, arith}
 use Rattle.std.specs.Prelude.{slice_get}
 use Rattle.std.specs.Option.{option_map}
 use Rattle.hw_types.specs.declared.unit.Vertex.{Vertex}
@@ -22,7 +22,8 @@ use Rattle.hw_audit.proofs.ToldLaws.{AreSigned, conflict_told, agree_part, confl
 use Rattle.hw_eras.specs.declared.verdict.EraVerdict.{EraVerdict}
 use Rattle.hw_eras.specs.declared.verdict.EraVerdict.TheVariants as eras
 use Rattle.hw_eras.specs.Eras.{IsNoAgreement}
-use Rattle.hw_era_audit.specs.EraAudit.{AreAgreed, DifferIn, IsVerdictByEras}
+use Rattle.hw_eras.specs.Nodes.{AreNodeEras}
+use Rattle.hw_era_audit.specs.EraAudit.{IsVerdictOnEras, AreAgreed, IsVerdictByEras, IsAccounted}
 use Rattle.hw_era_runs.specs.declared.audits.EraAudit.{EraAudit}
 use Rattle.hw_era_runs.specs.Audits.{agreed, chains_said, clash_or, era_said, in_era, told_or, eras_audited, status_of, threshold_in, TellsVerdict, IsAudit}
 use Rattle.hw_era_runs.proofs.LogLaws.{IsSignedNode, AreSignedNodes, both_signed}
@@ -129,3 +130,17 @@ audit_told ls rs e left right a = go a.said a.by_eras a.told
         let ftt : told.0 ≡ c.config.ftt = (let one : Some told.0 ≡ Some c.config.ftt = sym told.1 ∙ ap (option_map (λ (k : CoreState). k.config.ftt)) is.first_is in cc) in
         told.2 ∙ ap (λ (n : ℕ). in_era era (record { status = status_of v; text = audit_text n v })) ftt
         ∙ sym (differ_at era ls rs 0 0 is.before is.agreed c d is.first_is is.second_is (record { status = status_of v; text = audit_text c.config.ftt v }) said ∙ ap (λ (m : ℕ). in_era m (record { status = status_of v; text = audit_text c.config.ftt v })) at)
+
+-- what was told is the audit
+pub audit_tells : {E : Type 0} (left right : List CoreState) (r : Result EraAudit E) (v w : EraVerdict) → v ≡ w → AreNodeEras left → AreNodeEras right → IsVerdictOnEras left right v → IsVerdictByEras left right v → IsAccounted left right v
+    → IfOk r (TellsVerdict left w) → IfOk r (IsAudit left right)
+audit_tells left right (Err f) v w same left_are right_are is by accounted told = tt
+audit_tells left right (Ok e) v w same left_are right_are is by accounted told = record {
+  left_eras = left_are;
+  right_eras = right_are;
+  said = v;
+  is_verdict = is;
+  by_eras = by;
+  accounted = accounted;
+  told = subst (λ (x : EraVerdict). TellsVerdict left x e) (sym same) told;
+}

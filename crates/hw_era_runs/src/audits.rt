@@ -165,6 +165,8 @@ fn audited(alloc: Global, left: &Eras, right: &Eras) -> Result<EraAudit, OutOfMe
     ensures audit { IfOk result (IsAudit left.now right.now) }
     ensures status { IfOk result (λ e. IsAuditEnd e.status) }
 {
+    // For the prover: they are eras of nodes.
+    let (_left, _right) = (left.count(), right.count());
     match audit_eras(alloc, left, right) {
         Ok(EraVerdict::Agree { common }) => agreed(alloc, common),
         Ok(EraVerdict::At { era, verdict }) => differing(alloc, left, era, &verdict),
