@@ -1,11 +1,11 @@
 -- The eras of a node, as logs fill them.
-use Rattle.std.proofs.Common.{◌≡◌, ℕ, zero, suc, ◌+◌, ◌-◌, ◌≤◌, ◌<◌, ◌↔◌, Bool, true, false, cond, List, [], ◌∷◌, ◌++◌, length, take, map, Option, Some, None, Result, Ok, Err, IfSome, OnOk, refl, sym, ap, subst, ◌∙◌, arith, append_assoc}
+use Rattle.std.proofs.Common.{◌≡◌, ℕ, zero, suc, ◌+◌, ◌-◌, ◌≤◌, ◌<◌, ◌↔◌, Bool, true, false, cond, List, [], ◌∷◌, ◌++◌, length, take, Option, Some, None, Result, Ok, Err, IfSome, OnOk, refl, sym, ap, subst, ◌∙◌, arith, append_assoc}
 use Rattle.std.proofs.Math.ListN.{set, length-set}
 use Rattle.std.proofs.Math.Seq.{take-append-add}
 use Rattle.std.specs.Prelude.{◌==◌, slice_get}
 use Rattle.std.specs.Option.{option_map}
 use Rattle.std.proofs.lemmas.Bool.{eqb-true, eqb-false}
-use Rattle.std.proofs.lemmas.List.{take_all, take_at, length-take-le, length-append, append-nil}
+use Rattle.std.proofs.lemmas.List.{take_all, length-take-le, length-append, append-nil}
 use Rattle.std.proofs.lemmas.Option.{slice_get_past, slice_get_within}
 use Rattle.hw_types.specs.declared.config.Config.{Config}
 use Rattle.hw_types.specs.Real.{CoreState}
@@ -183,9 +183,9 @@ module _ (f g : Filled) (t : Taken) (few : logs_in f < 64) (filled : IsFilled f)
       let xs : List Taken = take k (eras_in f) in
       let at : length xs ≡ k = length-take-le k (eras_in f) (let count = counted_length f.eras f.counts.items in let there = filled.there in omega arith) in
       let is : eras_in g ≡ xs ++ t ∷ counted os [] =
-          ap (λ (cs : List CoreState). counted cs g.counts.items) has.eras
-          ∙ ap (λ (cs : List EraCounts). counted (take k f.eras ++ t.core ∷ os) cs) has.counts
-          ∙ counted_more f.eras os t.core f.counts.items (record { refused = t.refused; repeats = t.repeats }) filled.there in
+      ap (λ (cs : List CoreState). counted cs g.counts.items) has.eras
+      ∙ ap (λ (cs : List EraCounts). counted (take k f.eras ++ t.core ∷ os) cs) has.counts
+      ∙ counted_more f.eras os t.core f.counts.items (record { refused = t.refused; repeats = t.repeats }) filled.there in
       ap (λ (n : ℕ). take n (eras_in g)) one ∙ ap (take (k + 1)) is ∙ ap (λ (n : ℕ). take (n + 1) (xs ++ t ∷ counted os [])) (sym at) ∙ take-append-add xs (t ∷ counted os []) 1
 
   first_opened : (o : Option Config) → option_map (λ (c : CoreState). c.config) (slice_get (opened o) 0) ≡ o
@@ -199,8 +199,8 @@ module _ (f g : Filled) (t : Taken) (few : logs_in f < 64) (filled : IsFilled f)
   ahead_same held log logs config next left room =
       let xs : List Taken = take (logs_in f) (eras_in f) in
       let step : ahead_in held f (log ∷ logs) ≡ ((eras_from held (next_of t.core) logs >>= λ ts. Ok (t ∷ ts)) >>= λ ts. Ok (take 64 (xs ++ ts))) =
-          ap (λ (o : Option Config). eras_from held o (log ∷ logs) >>= λ ts. Ok (take 64 (xs ++ ts))) next
-          ∙ ap (λ (r : Result Taken Stop). (r >>= λ u. eras_from held (next_of u.core) logs >>= λ ts. Ok (u ∷ ts)) >>= λ ts. Ok (take 64 (xs ++ ts))) left in
+      ap (λ (o : Option Config). eras_from held o (log ∷ logs) >>= λ ts. Ok (take 64 (xs ++ ts))) next
+      ∙ ap (λ (r : Result Taken Stop). (r >>= λ u. eras_from held (next_of u.core) logs >>= λ ts. Ok (u ∷ ts)) >>= λ ts. Ok (take 64 (xs ++ ts))) left in
       step ∙ go (logs_in g == 64) refl
     where
       rest : (r : Result (List Taken) Stop) → ((r >>= λ ts. Ok (t ∷ ts)) >>= λ ts. Ok (take 64 (take (logs_in f) (eras_in f) ++ ts))) ≡ (r >>= λ ts. Ok (take 64 (take (logs_in g) (eras_in g) ++ ts)))
@@ -213,10 +213,10 @@ module _ (f g : Filled) (t : Taken) (few : logs_in f < 64) (filled : IsFilled f)
       last [] short at none =
           let size : length (take (logs_in f) (eras_in f)) ≡ 63 = length-take-le (logs_in f) (eras_in f) (let count = counted_length f.eras f.counts.items in let there = filled.there in omega arith) ∙ at in
           let ends : take 64 (take (logs_in f) (eras_in f) ++ t ∷ without_log (next_of t.core)) ≡ take (logs_in f) (eras_in f) ++ t ∷ [] =
-              ap (λ (n : ℕ). take (n + 1) (take (logs_in f) (eras_in f) ++ t ∷ without_log (next_of t.core))) (sym size) ∙ take-append-add (take (logs_in f) (eras_in f)) (t ∷ without_log (next_of t.core)) 1 in
+          ap (λ (n : ℕ). take (n + 1) (take (logs_in f) (eras_in f) ++ t ∷ without_log (next_of t.core))) (sym size) ∙ take-append-add (take (logs_in f) (eras_in f)) (t ∷ without_log (next_of t.core)) 1 in
           let long_ys : length (take (logs_in f) (eras_in f) ++ t ∷ []) ≡ 64 = length-append (take (logs_in f) (eras_in f)) (t ∷ []) ∙ ap (λ (n : ℕ). n + 1) size in
           let whole : take 64 (take (logs_in g) (eras_in g) ++ []) ≡ take (logs_in f) (eras_in f) ++ t ∷ [] =
-              ap (take 64) (append-nil (take (logs_in g) (eras_in g)) ∙ taken_more) ∙ take_all 64 (take (logs_in f) (eras_in f) ++ t ∷ []) (omega (arith, long_ys)) in
+          ap (take 64) (append-nil (take (logs_in g) (eras_in g)) ∙ taken_more) ∙ take_all 64 (take (logs_in f) (eras_in f) ++ t ∷ []) (omega (arith, long_ys)) in
           ap (λ (us : List Taken). Ok us) (ends ∙ sym whole) ∙ ap (λ (o : Option Config). eras_from held o [] >>= λ ts. Ok (take 64 (take (logs_in g) (eras_in g) ++ ts))) (sym none)
       last (l ∷ ls) short at none = absurd (omega arith)
 
@@ -227,7 +227,7 @@ module _ (f g : Filled) (t : Taken) (few : logs_in f < 64) (filled : IsFilled f)
           last logs (omega (arith, at)) at (ap (option_map (λ (c : CoreState). c.config)) (behind ∙ ap (λ (b : Bool). slice_get (cond b [] (opened (next_of t.core))) 0) e))
       go false e =
           let next_is : next_in g ≡ next_of t.core =
-              ap (option_map (λ (c : CoreState). c.config)) (behind ∙ ap (λ (b : Bool). slice_get (cond b [] (opened (next_of t.core))) 0) e) ∙ first_opened (next_of t.core) in
+          ap (option_map (λ (c : CoreState). c.config)) (behind ∙ ap (λ (b : Bool). slice_get (cond b [] (opened (next_of t.core))) 0) e) ∙ first_opened (next_of t.core) in
           rest (eras_from held (next_of t.core) logs) ∙ ap (λ (o : Option Config). eras_from held o logs >>= λ ts. Ok (take 64 (take (logs_in g) (eras_in g) ++ ts))) (sym next_is)
 
 -- ---- a log is put into the last era
@@ -257,7 +257,7 @@ put_taken f x g t (Ok u) filled lt put pushed opened_so same =
     let count : length x.eras ≡ k + 1 = ap length put ∙ length-set f.eras (length f.eras - 1) t.core ∙ long in
     let end : length x.eras - 1 ≡ k = omega arith in
     let last : last_core x.eras ≡ Some t.core =
-        ap (slice_get x.eras) end ∙ ap (λ (cs : List CoreState). slice_get cs k) put ∙ ap (λ (n : ℕ). slice_get (set f.eras n t.core) k) at ∙ last_set f.eras k t.core long in
+    ap (slice_get x.eras) end ∙ ap (λ (cs : List CoreState). slice_get cs k) put ∙ ap (λ (n : ℕ). slice_get (set f.eras n t.core) k) at ∙ last_set f.eras k t.core long in
     record {
       eras = opened_so t.core last
           ∙ ap (λ (cs : List CoreState). cs ++ cond (logs_in x == 64) [] (opened (next_of t.core))) is
@@ -301,13 +301,13 @@ module _ (f : Filled) (t : Taken) (has : HasFirst f t) where
   unfolding eras_of
   begun_ahead held wanted log logs left =
       let next_is : next_in f ≡ next_of t.core =
-          ap (λ (cs : List CoreState). option_map (λ (c : CoreState). c.config) (slice_get cs (logs_in f))) has.eras
-          ∙ ap (λ (n : ℕ). option_map (λ (c : CoreState). c.config) (slice_get (t.core ∷ opened (next_of t.core)) n)) one_log
-          ∙ next_opened (next_of t.core) in
+      ap (λ (cs : List CoreState). option_map (λ (c : CoreState). c.config) (slice_get cs (logs_in f))) has.eras
+      ∙ ap (λ (n : ℕ). option_map (λ (c : CoreState). c.config) (slice_get (t.core ∷ opened (next_of t.core)) n)) one_log
+      ∙ next_opened (next_of t.core) in
       let first : take (logs_in f) (eras_in f) ≡ t ∷ [] =
-          ap (λ (n : ℕ). take n (eras_in f)) one_log
-          ∙ ap (λ (cs : List CoreState). take 1 (counted cs f.counts.items)) has.eras
-          ∙ ap (λ (cs : List EraCounts). take 1 (counted (t.core ∷ opened (next_of t.core)) cs)) has.counts in
+      ap (λ (n : ℕ). take n (eras_in f)) one_log
+      ∙ ap (λ (cs : List CoreState). take 1 (counted cs f.counts.items)) has.eras
+      ∙ ap (λ (cs : List EraCounts). take 1 (counted (t.core ∷ opened (next_of t.core)) cs)) has.counts in
       ap (λ (r : Result Taken Stop). r >>= λ u. eras_from held (next_of u.core) logs >>= λ ts. Ok (take 64 (u ∷ ts))) left
       ∙ ap (λ (us : List Taken). eras_from held (next_of t.core) logs >>= λ ts. Ok (take 64 (us ++ ts))) (sym first)
       ∙ ap (λ (o : Option Config). eras_from held o logs >>= λ ts. Ok (take 64 (take (logs_in f) (eras_in f) ++ ts))) (sym next_is)
@@ -344,6 +344,6 @@ module _ (f : Filled) (filled : IsFilled f) where
           let long : length f.eras ≡ logs_in f + 1 = (let below = slice_get_within f.eras (logs_in f) c e in let most = filled.no_more in omega arith) in
           let empty : record { core = c; refused = 0; repeats = 0 } ≡ nothing_taken c.config = ap (λ (k : CoreState). record { core = k; refused = 0; repeats = 0 }) (filled.empty c e) in
           let last : take (logs_in f) (eras_in f) ++ nothing_taken c.config ∷ [] ≡ eras_in f =
-              ap (λ (t : Taken). take (logs_in f) (eras_in f) ++ t ∷ []) (sym empty) ∙ sym (counted_last f.eras f.counts.items c long e) in
+          ap (λ (t : Taken). take (logs_in f) (eras_in f) ++ t ∷ []) (sym empty) ∙ sym (counted_last f.eras f.counts.items c long e) in
           ap (λ (o : Option CoreState). eras_from held (option_map (λ (k : CoreState). k.config) o) [] >>= λ ts. Ok (take 64 (take (logs_in f) (eras_in f) ++ ts))) e
           ∙ ap (λ (us : List Taken). Ok (take 64 us)) last ∙ ap (λ (us : List Taken). Ok us) whole

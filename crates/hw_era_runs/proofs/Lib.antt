@@ -3,3 +3,4 @@ pub mod LogLaws
 pub mod StopLaws
 pub mod ReportLaws
 pub mod TellLaws
+pub mod AgainstLaws

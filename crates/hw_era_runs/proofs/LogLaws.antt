@@ -1,11 +1,10 @@
 -- What the log of an era leaves.
-use Rattle.std.proofs.Common.{◌≡◌, ℕ, zero, suc, ◌≤◌, ◌⊎◌, inl, inr, Bool, true, false, List, [], ◌∷◌, ◌++◌, length, take, map, fold, Option, Some, None, Result, Ok, Err, refl, sym, ap, subst, ◌∙◌, arith}
+use Rattle.std.proofs.Common.{◌≡◌, ℕ, zero, suc, ◌⊎◌, inl, inr, Bool, true, false, List, [], ◌∷◌, ◌++◌, length, take, fold, Option, Some, None, Result, Ok, Err, refl, sym, ap, subst}
 use Rattle.std.specs.Prelude.{not, nat_le}
 use Rattle.std.specs.List.{list_any}
 use Rattle.std.proofs.lemmas.Bool.{leb-true}
 use lib.Pointwise.{bytes_decides}
 use Rattle.hw_types.specs.declared.unit.Vertex.{Vertex}
-use Rattle.hw_types.specs.declared.unit.SignedUnit.{SignedUnit}
 use Rattle.hw_types.specs.declared.config.Config.{Config}
 use Rattle.hw_types.specs.declared.config.Leaders.{Leaders}
 use Rattle.hw_types.specs.declared.config.Leaders.TheVariants.{Table, Drawn}
@@ -19,7 +18,7 @@ use Rattle.hw_types.proofs.WordsLaws.{not_false, or_none}
 use Rattle.hw_types.proofs.EntryLaws.{append_cases}
 use Rattle.hw_codec.specs.Ranges.{ConfigInRange}
 use Rattle.hw_codec.proofs.KindLaws.{config_kind, each_spells_one}
-use Rattle.hw_core.specs.Promises.{begun, delivered}
+use Rattle.hw_core.specs.Promises.{begun}
 use Rattle.hw_verdicts.proofs.ClashLaws.{held_among}
 use Rattle.hw_audit.proofs.ToldLaws.{AreSigned}
 use Rattle.hw_eras.specs.Nodes.{IsMadeAgain, next_of}
@@ -31,7 +30,7 @@ use Rattle.hw_replay.specs.Replay.{same_config, replay_of, taken_in, IsOutside, 
 use Rattle.hw_replay.specs.Ends.{IsReached}
 use Rattle.hw_replay.specs.Laws.{IsSigned}
 use Rattle.hw_replay.proofs.DeliveredLaws.{replay_delivers}
-use Rattle.hw_era_runs.specs.Logs.{Held, Stop, NoEra, Stopped, ◌>>=◌, file_left, or_stopped, log_left, without_log, eras_from, eras_of, nodes_of}
+use Rattle.hw_era_runs.specs.Logs.{Held, Stop, ◌>>=◌, file_left, or_stopped, log_left, eras_from, eras_of, nodes_of}
 
 -- ---- the file was replayed
 

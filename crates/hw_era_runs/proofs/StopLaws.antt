@@ -1,5 +1,5 @@
 -- What stops a run over logs of eras, and what is left of it.
-use Rattle.std.proofs.Common.{◌≡◌, ℕ, zero, suc, ◌+◌, ◌-◌, ◌≤◌, ◌<◌, ◌⊎◌, inl, inr, List, [], ◌∷◌, ◌++◌, length, map, drop, take, get_or, Option, Some, None, Result, Ok, Err, IfOk, IfErr, refl, sym, ap, subst, ◌∙◌, arith}
+use Rattle.std.proofs.Common.{◌≡◌, ℕ, zero, suc, ◌+◌, ◌-◌, ◌≤◌, ◌<◌, ◌⊎◌, inl, inr, List, [], ◌∷◌, ◌++◌, length, map, drop, take, get_or, Option, Some, Result, Ok, Err, IfOk, IfErr, refl, sym, ap, subst, ◌∙◌, arith}
 use Rattle.std.proofs.lemmas.List.{take_all}
 use Rattle.hw_io.specs.Files.{SameFiles}
 use Rattle.hw_types.specs.declared.config.Config.{Config}
@@ -11,13 +11,13 @@ use Rattle.hw_replay.specs.declared.replay.Replay.{Replay}
 use Rattle.hw_replay.specs.Taken.{Taken}
 use Rattle.hw_replay.specs.Replay.{taken_in, IsOutside, Replays}
 use Rattle.hw_replay.specs.Causes.{HasReplayCause, IsReplayAbout}
-use Rattle.hw_era_runs.specs.Logs.{Held, Stop, NoEra, Stopped, ◌>>=◌, file_left, or_stopped, log_left, eras_from, eras_of}
+use Rattle.hw_era_runs.specs.Logs.{Held, Stop, Stopped, ◌>>=◌, file_left, or_stopped, log_left, eras_from, eras_of}
 use Rattle.hw_era_runs.specs.declared.filled.Filled.{Filled}
 use Rattle.hw_era_runs.specs.declared.stop.EraStop.{EraStop}
 use Rattle.hw_era_runs.specs.declared.stop.EraStop.TheVariants as stop
-use Rattle.hw_era_runs.specs.Stops.{StopsSo, Says, IsOfLogs, HasEraCause, IsEraAbout}
+use Rattle.hw_era_runs.specs.Stops.{StopsSo, IsOfLogs, HasEraCause, IsEraAbout}
 use Rattle.hw_era_runs.specs.Filled.{eras_in, ahead_in, IsFilled, HasFirst, HasBegun}
-use Rattle.hw_era_runs.proofs.LogLaws.{took_file, stopped_file}
+use Rattle.hw_era_runs.proofs.LogLaws.{took_file}
 use Rattle.hw_era_runs.proofs.FilledLaws.{begun_ahead, nothing_ahead}
 
 -- ---- the first log

@@ -25,7 +25,7 @@ use Rattle.hw_eras.specs.Eras.{IsNoAgreement}
 use Rattle.hw_eras.specs.Nodes.{AreNodeEras}
 use Rattle.hw_era_audit.specs.EraAudit.{IsVerdictOnEras, AreAgreed, IsVerdictByEras, IsAccounted}
 use Rattle.hw_era_runs.specs.declared.audits.EraAudit.{EraAudit}
-use Rattle.hw_era_runs.specs.Audits.{agreed, chains_said, clash_or, era_said, in_era, told_or, eras_audited, status_of, threshold_in, TellsVerdict, IsAudit}
+use Rattle.hw_era_runs.specs.Audits.{agreed, chains_said, clash_or, era_said, in_era, told_or, eras_audited, status_of, TellsVerdict, IsAudit}
 use Rattle.hw_era_runs.proofs.LogLaws.{IsSignedNode, AreSignedNodes, both_signed}
 
 -- ---- one era

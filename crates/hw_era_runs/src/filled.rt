@@ -12,9 +12,9 @@ ghost use Rattle.hw_era_runs.specs.Stops.{IsOfLogs, HasEraCause, IsEraAbout};
 ghost use Rattle.hw_era_runs.specs.Filled.{logs_in, ahead_in, IsFilled, opened, HasTaken, HasFirst, HasBegun, TakesLog, TakesAll};
 
 use crate::stop::EraStop;
+use hw_admit::StateStart;
 use hw_codec::config_is_in_range;
 use hw_core::Core;
-use hw_admit::StateStart;
 use hw_eras::{EraOpen, Eras};
 use hw_io::Files;
 use hw_replay::{Replay, StartFault, replay_log};

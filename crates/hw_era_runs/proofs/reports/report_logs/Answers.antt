@@ -1,4 +1,4 @@
-use Rattle.std.proofs.Common.{◌≡◌, ◌-◌, ◌∷◌, List, ℕ, length, take, None, Result, IfOk, inl, inr, map, drop, sym, ap, subst, ◌∙◌}
+use Rattle.std.proofs.Common.{◌-◌, ◌∷◌, List, ℕ, length, take, None, Result, IfOk, inl, inr, map, drop, sym, ap, subst, ◌∙◌}
 use Rattle.std.specs.Prelude.{string_bytes}
 use Rattle.hw_replay.specs.Taken.{Taken}
 use Rattle.hw_era_runs.specs.Logs.{Stop, eras_of}

@@ -1,4 +1,4 @@
-use Rattle.std.proofs.Common.{◌≡◌, ◌-◌, length, arith}
+use Rattle.std.proofs.Common.{◌-◌, arith}
 use Rattle.hw_eras.proofs.NodeLaws.{has_put}
 use Rattle.hw_eras.proofs.deliveries.put_last.Goals as goal
 

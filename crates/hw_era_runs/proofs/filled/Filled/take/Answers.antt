@@ -1,4 +1,4 @@
-use Rattle.std.proofs.Common.{Some, None, Err, inl, inr, sym, ap, ◌∙◌, arith}
+use Rattle.std.proofs.Common.{Some, inl, inr, sym, ap, ◌∙◌, arith}
 use Rattle.std.specs.Option.{option_copied}
 use Rattle.hw_replay.specs.Replay.{taken_in}
 use Rattle.hw_era_runs.specs.Logs.{Stopped, or_stopped}
