@@ -8,11 +8,7 @@ use hw_types::OutOfMemory;
 use std::alloc::Global;
 
 /// The report on the eras of these logs.
-pub fn eras(
-    alloc: Global,
-    files: &mut MemFiles,
-    logs: &[String],
-) -> Result<String, OutOfMemory> {
+pub fn eras(alloc: Global, files: &mut MemFiles, logs: &[String]) -> Result<String, OutOfMemory> {
     if logs.is_empty() || logs.len() > 64 {
         return Ok("usage".to_string(alloc)?);
     }
