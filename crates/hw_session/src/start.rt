@@ -50,8 +50,73 @@ impl Node {
     {
         match files.exists(log) {
             Ok(true) => go_on(alloc, files, log, &config, keys),
-            Ok(false) => begin(alloc, files, log, config, keys),
+            Ok(false) => Node::begin(alloc, files, log, config, keys),
             Err(fault) => Err(fault_of_read(fault)),
+        }
+    }
+
+    /// The node that a replay of its log leaves, which stands under this name. The replay wanted this
+    /// configuration, which keeps all limits, and the keys were read for as many validators. The node goes on
+    /// in the log's version.
+    pub fn replayed(alloc: Global, log: String, config: &Config, keys: Keys, replay: Replay) -> Node
+        requires lawful { config_fault config.now ≡ None }
+        requires keys { length keys ≡ length config.now.weights }
+        requires wanted { is_wanted (Some config.now) replay.core.config ≡ true }
+        requires reached { IsReached replay.core }
+        ensures taken { taken_of result ≡ taken_in replay }
+        ensures lasts { result.lasts ≡ replay.reader.lasts }
+        ensures config { result.core.config ≡ config.now }
+        ensures keys { result.keys ≡ keys }
+        ensures log { result.log ≡ string_bytes log }
+        ensures limited { result.limited ≡ 0 }
+        ensures clash { result.clash ≡ None }
+    {
+        let Replayed {
+            core,
+            lasts,
+            refused,
+            repeats,
+        } = replay.into_parts();
+        config_is_in_range(config);
+        config_is_in_range(core.state().config());
+        Node {
+            alloc,
+            core,
+            keys,
+            log,
+            lasts,
+            refused,
+            repeats,
+            limited: 0,
+            clash: None,
+        }
+    }
+
+    /// A node that has received nothing, with a new log of this name, of version 2.
+    ///
+    /// The configuration keeps all limits, and the keys were read for as many validators.
+    pub fn begin<F: Files>(
+        alloc: Global,
+        files: &mut F,
+        log: &str,
+        config: Config,
+        keys: Keys,
+    ) -> Result<Node, StartFault>
+        requires lawful { config_fault config ≡ None }
+        requires keys { length keys ≡ length config.weights }
+        ensures node { IfOk result (λ node. node ≡ new_node config keys log.now) }
+        ensures error { IfErr result IsUnwritten }
+        ensures log { IsTrue F.tells → Appended (F.held files.old) (F.held files.new) log.now (header_bytes 2 config) result }
+        ensures cause { HasAppendedCause (F.append_faults files.old) (F.append_faults files.new) result }
+
+        ensures reads { F.read_faults files.new ≡ F.read_faults files.old }
+    {
+        match put_header(alloc, files, log, &config) {
+            Ok(()) => match new_node(alloc, log, config, keys) {
+                Ok(node) => Ok(node),
+                Err(OutOfMemory) => Err(StartFault::OutOfMemory),
+            },
+            Err(fault) => Err(fault),
         }
     }
 }
@@ -77,68 +142,7 @@ fn go_on<F: Files>(
 {
     let name = name_of(alloc, log)?;
     match replay_log(alloc, files, log, Some(config)) {
-        Ok(replay) => Ok(replayed(alloc, name, config, keys, replay)),
-        Err(fault) => Err(fault),
-    }
-}
-
-/// The node that a replay of its log leaves. The replay wanted this configuration.
-fn replayed(alloc: Global, log: String, config: &Config, keys: Keys, replay: Replay) -> Node
-    requires lawful { config_fault config.now ≡ None }
-    requires keys { length keys ≡ length config.now.weights }
-    requires wanted { is_wanted (Some config.now) replay.core.config ≡ true }
-    requires reached { IsReached replay.core }
-    ensures taken { taken_of result ≡ taken_in replay }
-    ensures lasts { result.lasts ≡ replay.reader.lasts }
-    ensures config { result.core.config ≡ config.now }
-    ensures keys { result.keys ≡ keys }
-    ensures log { result.log ≡ string_bytes log }
-    ensures limited { result.limited ≡ 0 }
-    ensures clash { result.clash ≡ None }
-{
-    let Replayed {
-        core,
-        lasts,
-        refused,
-        repeats,
-    } = replay.into_parts();
-    config_is_in_range(config);
-    config_is_in_range(core.state().config());
-    Node {
-        alloc,
-        core,
-        keys,
-        log,
-        lasts,
-        refused,
-        repeats,
-        limited: 0,
-        clash: None,
-    }
-}
-
-/// A node that has received nothing, with a new log of this name.
-fn begin<F: Files>(
-    alloc: Global,
-    files: &mut F,
-    log: &str,
-    config: Config,
-    keys: Keys,
-) -> Result<Node, StartFault>
-    requires lawful { config_fault config ≡ None }
-    requires keys { length keys ≡ length config.weights }
-    ensures node { IfOk result (λ node. node ≡ new_node config keys log.now) }
-    ensures error { IfErr result IsUnwritten }
-    ensures log { IsTrue F.tells → Appended (F.held files.old) (F.held files.new) log.now (header_bytes 2 config) result }
-    ensures cause { HasAppendedCause (F.append_faults files.old) (F.append_faults files.new) result }
-
-    ensures reads { F.read_faults files.new ≡ F.read_faults files.old }
-{
-    match put_header(alloc, files, log, &config) {
-        Ok(()) => match new_node(alloc, log, config, keys) {
-            Ok(node) => Ok(node),
-            Err(OutOfMemory) => Err(StartFault::OutOfMemory),
-        },
+        Ok(replay) => Ok(Node::replayed(alloc, name, config, keys, replay)),
         Err(fault) => Err(fault),
     }
 }

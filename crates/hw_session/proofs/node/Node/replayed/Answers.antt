@@ -2,7 +2,7 @@ use Rattle.std.proofs.Common.{sym, ap, subst}
 use Rattle.hw_replay.specs.declared.replay.Replayed.{Replayed}
 use Rattle.hw_replay.specs.Ends.{IsReached}
 use Rattle.hw_session.proofs.StartLaws.{one_core, node_kept}
-use Rattle.hw_session.proofs.start.replayed.Goals as goal
+use Rattle.hw_session.proofs.node.Node.replayed.Goals as goal
 
 pub invariant_of-result : goal.invariant_of-result
 invariant_of-result c =
