@@ -1,0 +1,205 @@
+-- A session leaves the configuration of a node as it is, and its journal only grows.
+use Rattle.std.specs.Prelude.{◌==◌}
+use Rattle.std.proofs.Common.{◌≡◌, ◌⊎◌, ◌≤◌, ℕ, zero, suc, Bool, true, false, cond, List, [], ◌∷◌, ◌++◌, length, take, drop, Option, Some, None, Result, Ok, Err, inl, inr, refl, sym, ap, subst, ◌∙◌, arith, length-append}
+use Rattle.std.specs.Prelude.{All}
+use Rattle.std.proofs.lemmas.List.{append-nil, append_assoc}
+use Rattle.hw_types.specs.declared.config.Config.{Config}
+use Rattle.hw_types.specs.declared.unit.Vertex.{Vertex}
+use Rattle.hw_types.specs.declared.unit.Need.{Need}
+use Rattle.hw_types.specs.declared.answers.Frame.{Frame}
+use Rattle.hw_types.specs.declared.answers.Frame.TheVariants as frame
+use Rattle.hw_types.specs.declared.answers.Receipt.{Receipt}
+use Rattle.hw_types.specs.declared.answers.Receipt.TheVariants as receipt
+use Rattle.hw_types.specs.declared.answers.Cause.{Cause}
+use Rattle.hw_types.specs.declared.answers.Cause.TheVariants as cause
+use Rattle.hw_types.specs.Graph.{digest_eq}
+use Rattle.hw_types.specs.Spelling.{instance_of}
+use Rattle.hw_types.specs.Real.{CoreState}
+use Rattle.hw_io.specs.Consumers.{Consumed}
+use Rattle.hw_io.specs.Doors.{Session}
+use Rattle.hw_chain.specs.Chain.{Begins}
+use Rattle.hw_fanout.specs.Chain.{told_chain}
+use Rattle.hw_fanout.specs.State.{FanoutState}
+use Rattle.hw_fanout.specs.Fates.{Sight, AreServed}
+use Rattle.hw_fanout.specs.Told.{HasTaken, IsTold}
+use Rattle.hw_feed.specs.Feed.{moment, IsPassed}
+use Rattle.hw_fanout.specs.Laws.{node_with}
+use Rattle.hw_fanout.proofs.GrowLaws.{only_grows, stays_taken}
+use Rattle.hw_link.specs.declared.end.SessionEnd.{SessionEnd}
+use Rattle.hw_link.specs.declared.end.SessionEnd.TheVariants as end
+use Rattle.hw_link.specs.Frames.{Placed, frames_of}
+use Rattle.hw_link.specs.Talk.{Reaction, Talk, goes_on, ends, with_reaction, talk}
+use Rattle.hw_session.specs.Node.{NodeState}
+use Rattle.hw_session.specs.Grows.{Logs, LogsAllBut}
+use Rattle.hw_session.specs.Accept.{given_to, taken_by}
+use Rattle.hw_session.specs.Serving.{is_clash, answer_to_vertex, serve_first, serve_frame, serve_step, served}
+use Rattle.hw_session.specs.Sessions.{StandsBefore, StandsCut, Leaves, ServesPeer, ServesNone}
+
+-- ---- a node that grew
+
+-- the configuration is the same, and vertices went last in the journal
+pub record HasGrown (c d : CoreState) : Type 0 where
+  pub config : d.config ≡ c.config
+  pub journal : Begins c.journal d.journal
+
+-- it is the node with this journal
+grown_is : (c d : CoreState) → (g : HasGrown c d) → d ≡ node_with c.config (c.journal ++ g.journal.0)
+grown_is c d g = ap (λ (k : Config). let n : CoreState = record { config = k; journal = d.journal } in n) g.config ∙ ap (λ (j : List Vertex). node_with c.config j) g.journal.1
+
+-- as many blocks are told
+pub still_told : (c d : CoreState) (n : ℕ) → HasGrown c d → n ≤ length (told_chain c) → n ≤ length (told_chain d)
+still_told c d n grown le =
+    let P : CoreState → Type 0 = λ x. n ≤ length (told_chain x) in
+    let g = only_grows c.config c.journal grown.journal.0 in
+    subst P (sym (grown_is c d grown)) (omega (arith, le, ap length g.1, length-append (told_chain (node_with c.config c.journal)) g.0))
+
+-- what was taken is still the beginning
+taken_still : (c d : CoreState) (n : ℕ) (o : Option Consumed) → HasGrown c d → n ≤ length (told_chain c) → HasTaken (told_chain c) n o → HasTaken (told_chain d) n o
+taken_still c d n o grown le h = let P : CoreState → Type 0 = λ x. HasTaken (told_chain x) n o in subst P (sym (grown_is c d grown)) (stays_taken c.config c.journal grown.journal.0 n o le h)
+
+pub still_taken : {B : Type 0} (f : B → Option Consumed) (c d : CoreState) (n : ℕ) (xs : List B) → HasGrown c d → n ≤ length (told_chain c) → All (λ b. HasTaken (told_chain c) n (f b)) xs → All (λ b. HasTaken (told_chain d) n (f b)) xs
+still_taken f c d n xs grown le h = λ k b lt. taken_still c d n _ grown le (h k b lt)
+
+-- ---- what consumers are passed
+
+-- the core that is handed in is that of the node
+pub is_passed : {B K : Type 0} (sight : Sight B K) (c d k : CoreState) (old new : List B) (before after : FanoutState) → HasGrown c d → k ≡ d → AreServed (IsTold sight (told_chain k) before.passed) old new before after
+    → after.passed ≡ length (told_chain k) → IsPassed sight (moment c old before) (moment d new after)
+is_passed sight c d k old new before after grown same told passed = record {
+  config = grown.config;
+  grown = grown.journal;
+  told = subst (λ (x : CoreState). AreServed (IsTold sight (told_chain x) before.passed) old new before after) same told;
+  passed = passed ∙ ap (λ (x : CoreState). length (told_chain x)) same;
+}
+
+pub passed_whole : {B : Type 0} (f : B → Option Consumed) (c d k : CoreState) (n m : ℕ) (xs ys : List B) → (All (λ b. HasTaken (told_chain k) n (f b)) xs → All (λ b. HasTaken (told_chain k) (length (told_chain k)) (f b)) ys)
+    → HasGrown c d → k ≡ d → n ≤ length (told_chain c) → m ≡ length (told_chain d) → All (λ b. HasTaken (told_chain c) n (f b)) xs → All (λ b. HasTaken (told_chain d) m (f b)) ys
+passed_whole {B} f c d k n m xs ys whole grown same le passed so =
+    let P : CoreState → Type 0 = λ x. All (λ (b : B). HasTaken (told_chain x) n (f b)) xs → All (λ (b : B). HasTaken (told_chain x) (length (told_chain x)) (f b)) ys in
+    let Q : ℕ → Type 0 = λ j. All (λ (b : B). HasTaken (told_chain d) j (f b)) ys in
+    subst Q (sym passed) (subst P same whole (still_taken f c d n xs grown le so))
+
+-- ---- talks
+
+-- what each reaction keeps, a talk keeps
+by_reaction : {S : Type 0} (P : S → Type 0) (first : Reaction S) (others : S → Talk S) → P first.state → ((next : S) → P next → P (others next).state) → P (with_reaction first others).state
+by_reaction {S} P first others here then = go first.end
+  where
+    go : (o : Option SessionEnd) → P (with_reaction (record { state = first.state; says = first.says; end = o }) others).state
+    go (Some e) = here
+    go None = then first.state here
+
+pub talk_keeps : {S : Type 0} (P : S → Type 0) (step : S → Placed → Reaction S) → ((s : S) (f : Placed) → P s → P (step s f).state) → (end : SessionEnd) (s : S) (fs : List Placed) → P s → P (talk step end s fs).state
+unfolding talk
+talk_keeps P step keeps end s [] p = p
+talk_keeps P step keeps end s (f ∷ fs) p = by_reaction P (step s f) (λ next. talk step end next fs) (keeps s f p) (λ next q. talk_keeps P step keeps end next fs q)
+
+-- ---- vertices
+
+pub taken_config : (n : NodeState) (v : Vertex) (a : Result Receipt Cause) → (taken_by n v a).core.config ≡ n.core.config
+taken_config n v (Ok receipt.Repeat) = refl
+taken_config n v (Ok (receipt.Admitted k)) = refl
+taken_config n v (Ok (receipt.Parked k)) = refl
+taken_config n v (Ok (receipt.Dropped rule)) = refl
+taken_config n v (Err cause.BadSignature) = refl
+taken_config n v (Err (cause.Local rule)) = refl
+taken_config n v (Err (cause.Pair f)) = refl
+taken_config n v (Err (cause.Clash d)) = refl
+taken_config n v (Err cause.RecordsFull) = refl
+taken_config n v (Err cause.ParkFull) = refl
+taken_config n v (Err cause.OutOfMemory) = refl
+
+-- ---- serving
+
+module _ (P : NodeState → Type 0) (takes : (m : NodeState) (v : Vertex) → P m → P (taken_by m v (given_to m v))) where
+  vertex_keeps : (m : NodeState) (v : Vertex) (a : Result Receipt Cause) → P m → P (answer_to_vertex m v a).state
+  vertex_keeps m v (Ok r) p = p
+  vertex_keeps m v (Err c) p = go (is_clash c)
+    where
+      go : (b : Bool) → P (cond b (ends m [] end.Clash) (goes_on m (frame.Want [] ∷ []))).state
+      go true = p
+      go false = p
+
+  first_keeps : (m : NodeState) (f : Frame) → P m → P (serve_first m f).state
+  first_keeps m (frame.Hello instance) p = go (digest_eq instance (instance_of m.core.config))
+    where
+      go : (b : Bool) → P (cond b (goes_on m (frame.Hello (instance_of m.core.config) ∷ [])) (ends m [] end.WrongInstance)).state
+      go true = p
+      go false = p
+  first_keeps m (frame.Vertex v) p = p
+  first_keeps m (frame.Have place) p = p
+  first_keeps m (frame.Want needs) p = p
+  first_keeps m frame.Done p = p
+  first_keeps m (frame.Missing need) p = p
+
+  frame_keeps : (m : NodeState) (at : ℕ) (f : Frame) → P m → P (serve_frame m at f).state
+  frame_keeps m at (frame.Hello instance) p = p
+  frame_keeps m at (frame.Vertex v) p = vertex_keeps (taken_by m v (given_to m v)) v (given_to m v) (takes m v p)
+  frame_keeps m at (frame.Have place) p = p
+  frame_keeps m at (frame.Want needs) p = p
+  frame_keeps m at (frame.Missing need) p = p
+  frame_keeps m at frame.Done p = p
+
+  step_keeps : (m : NodeState) (f : Placed) → P m → P (serve_step m f).state
+  unfolding serve_step
+  step_keeps m f p = go (f.at == 0)
+    where
+      go : (b : Bool) → P (cond b (serve_first m f.frame) (serve_frame m f.at f.frame)).state
+      go true = first_keeps m f.frame p
+      go false = frame_keeps m f.at f.frame p
+
+  pub served_keeps : (n : NodeState) (bytes : List ℕ) → P n → P (served n bytes).state
+  served_keeps n bytes p = talk_keeps P serve_step step_keeps (frames_of bytes).end n (frames_of bytes).given p
+
+pub served_config : (n : NodeState) (bytes : List ℕ) → (served n bytes).state.core.config ≡ n.core.config
+served_config n bytes = served_keeps (λ m. m.core.config ≡ n.core.config) (λ m v p. taken_config m v (given_to m v) ∙ p) n bytes refl
+
+-- ---- a session
+
+-- a node that stands behind some bytes, and its log
+behind_logs : (tells : Bool) (n m : NodeState) (old new : List ℕ → Option (List ℕ)) → m.core.config ≡ n.core.config → Logs n m tells old new → HasGrown n.core m.core
+behind_logs tells n m old new config logs = record { config = config; journal = (logs.vertices, logs.gains.journal) }
+
+-- or one vertex more, whose entry may be cut
+behind_cut : (tells : Bool) (n before m : NodeState) (v : Vertex) (old new : List ℕ → Option (List ℕ)) → before.core.config ≡ n.core.config → LogsAllBut n before v m tells old new → HasGrown n.core m.core
+behind_cut tells n before m v old new config logs = record {
+  config = ap (λ (k : NodeState). k.core.config) logs.unlogged.1 ∙ config;
+  journal = (
+    logs.vertices ++ v ∷ [],
+    ap (λ (k : NodeState). k.core.journal) logs.unlogged.1 ∙ ap (λ (j : List Vertex). j ++ v ∷ []) logs.gains.journal ∙ append_assoc n.core.journal logs.vertices (v ∷ []),
+  );
+}
+
+-- a node that is the same
+pub grown_same : (n m : NodeState) → m ≡ n → HasGrown n.core m.core
+grown_same n m same = record {
+  config = ap (λ (k : NodeState). k.core.config) same;
+  journal = ([], ap (λ (k : NodeState). k.core.journal) same ∙ sym (append-nil n.core.journal));
+}
+
+module _ (tells : Bool) (n m : NodeState) (old new : List ℕ → Option (List ℕ)) (read : List ℕ) where
+  plain_grows : (m ≡ (served n read).state) × Logs n m tells old new → HasGrown n.core m.core
+  plain_grows left = behind_logs tells n m old new (ap (λ (k : NodeState). k.core.config) left.0 ∙ served_config n read) left.1
+
+  cut_grows : StandsCut n read m tells old new → HasGrown n.core m.core
+  cut_grows s = behind_cut tells n (served n s.first).state m s.vertex old new (served_config n s.first) s.logs
+
+  before_grows : StandsBefore n read m tells old new → HasGrown n.core m.core
+  before_grows s = behind_logs tells n m old new (ap (λ (k : NodeState). k.core.config) s.state ∙ served_config n s.first) s.logs
+
+  leaves_grows : (e : SessionEnd) → Leaves e n read m tells old new → HasGrown n.core m.core
+  leaves_grows end.Done left = plain_grows left
+  leaves_grows end.EndOfInput left = plain_grows left
+  leaves_grows end.WrongInstance left = plain_grows left
+  leaves_grows (end.BadFrame at) left = plain_grows left
+  leaves_grows end.LinkFault left = plain_grows left
+  leaves_grows end.ByteLimit left = plain_grows left
+  leaves_grows end.Clash left = plain_grows left
+  leaves_grows end.AppendFault left = cut_grows left
+  leaves_grows end.OutOfMemory (inl s) = before_grows s
+  leaves_grows end.OutOfMemory (inr s) = cut_grows s
+
+pub serves_grows : (tells : Bool) (n m : NodeState) (old new : List ℕ → Option (List ℕ)) (sessions later : Option (List Session)) (ends_old ends_new : ℕ) (e : SessionEnd)
+    → ServesPeer n m tells old new sessions later ends_old ends_new e ⊎ ServesNone n m tells old new sessions later e → HasGrown n.core m.core
+serves_grows tells n m old new sessions later ends_old ends_new e (inl s) = leaves_grows tells n m old new s.read e s.serves.left
+serves_grows tells n m old new sessions later ends_old ends_new e (inr s) = grown_same n m s.state

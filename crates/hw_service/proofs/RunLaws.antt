@@ -1,0 +1,84 @@
+-- A whole run.
+use Rattle.std.specs.Prelude.{◌≢◌, All}
+use Rattle.std.proofs.Common.{◌≡◌, ◌⊎◌, ℕ, Bool, List, [], length, Option, Result, Ok, Err, inl, inr, refl, sym, subst}
+use Rattle.hw_types.specs.Real.{CoreState}
+use Rattle.hw_io.specs.Consumers.{Consumed}
+use Rattle.hw_log.specs.declared.error.LogError.TheVariants as log
+use Rattle.hw_replay.specs.declared.fault.StartFault.{StartFault}
+use Rattle.hw_replay.specs.declared.fault.StartFault.TheVariants as start
+use Rattle.hw_fanout.specs.Fates.{Sight}
+use Rattle.hw_fanout.specs.Chain.{told_chain}
+use Rattle.hw_fanout.specs.Told.{HasTaken}
+use Rattle.hw_service.specs.declared.fault.ServiceFault.{ServiceFault}
+use Rattle.hw_service.specs.declared.fault.ServiceFault.TheVariants as fault
+use Rattle.hw_service.specs.declared.ended.Served.{Served}
+use Rattle.hw_service.specs.Scene.{Outside, Scene}
+use Rattle.hw_service.specs.Written.{IsOfOutput}
+use Rattle.hw_service.specs.Counts.{IsAppendCounted, IsWriteCounted}
+use Rattle.hw_service.specs.Begin.{Names, ReadsNot, HasBegun, BeginsNot, fault_of_start}
+use Rattle.hw_service.specs.Run.{StepOver, HaveTaken, Proceeds, Runs}
+
+-- ---- faults of the output
+
+pub output_appends : (T : Type 0) (f : ServiceFault) (before now : ℕ) → IsOfOutput f → now ≡ before → IsAppendCounted {T = T} before now (Err f)
+output_appends T fault.Write before now of is = is
+output_appends T fault.OutOfMemory before now of is = is
+output_appends T (fault.Settings f) before now of is = is
+output_appends T fault.NoValidator before now of is = is
+output_appends T (fault.Keys at) before now of is = is
+output_appends T (fault.Log f) before now of is = is
+output_appends T (fault.Clash units) before now of is = is
+output_appends T fault.Read before now of is = is
+output_appends T fault.Append before now of is = absurd of
+
+pub output_unread : (f : ServiceFault) → IsOfOutput f → f ≢ fault.Read
+output_unread f of is = let P : ServiceFault → Type 0 = IsOfOutput in subst P is of
+
+-- ---- a beginning that fails writes nothing
+
+reads_unwritten : (T : Type 0) (tells : Bool) (names : Names) (me : Option ℕ) (files : List ℕ → Option (List ℕ)) (e : ServiceFault) (n : ℕ) → ReadsNot tells names me files e → IsWriteCounted {T = T} n n (Err e)
+reads_unwritten T tells names me files fault.Write n not = absurd not
+reads_unwritten T tells names me files fault.OutOfMemory n not = refl
+reads_unwritten T tells names me files (fault.Settings f) n not = refl
+reads_unwritten T tells names me files fault.NoValidator n not = refl
+reads_unwritten T tells names me files (fault.Keys at) n not = refl
+reads_unwritten T tells names me files (fault.Log f) n not = refl
+reads_unwritten T tells names me files (fault.Clash units) n not = refl
+reads_unwritten T tells names me files fault.Read n not = refl
+reads_unwritten T tells names me files fault.Append n not = refl
+
+start_unwritten : (T : Type 0) (f : StartFault) (n : ℕ) → IsWriteCounted {T = T} n n (Err (fault_of_start f))
+start_unwritten T (start.Log log.ReadFault) n = refl
+start_unwritten T (start.Log log.WriteFault) n = refl
+start_unwritten T (start.Log log.OutOfMemory) n = refl
+start_unwritten T (start.Log log.BadMagic) n = refl
+start_unwritten T (start.Log (log.Version v)) n = refl
+start_unwritten T (start.Log (log.Torn at)) n = refl
+start_unwritten T (start.Log (log.TooLong at)) n = refl
+start_unwritten T (start.Log (log.BadConfig f)) n = refl
+start_unwritten T (start.Log (log.ConfigFault f)) n = refl
+start_unwritten T (start.Log (log.BadEvent at)) n = refl
+start_unwritten T (start.Log (log.BadVerdict at)) n = refl
+start_unwritten T (start.Log (log.BadVertex at f)) n = refl
+start_unwritten T start.OtherConfig n = refl
+start_unwritten T (start.Clash known other) n = refl
+start_unwritten T (start.RecordsFull at) n = refl
+start_unwritten T (start.ParkFull at) n = refl
+start_unwritten T start.OutOfMemory n = refl
+
+pub begins_unwritten : {B K : Type 0} (T : Type 0) (sight : Sight B K) (tells : Bool) (names : Names) (me : Option ℕ) (before after : Outside B) (e : ServiceFault) (n : ℕ) → BeginsNot sight tells names me before after e
+    → IsWriteCounted {T = T} n n (Err e)
+begins_unwritten T sight tells names me before after e n (inl (not, same)) = reads_unwritten T tells names me before.files e n not
+begins_unwritten T sight tells names me before after e n (inr (f, is, fails)) = subst (λ (x : ServiceFault). IsWriteCounted {T = T} n n (Err x)) (sym is) (start_unwritten T f n)
+
+-- ---- from the beginning on
+
+-- as much is taken, where the count is written otherwise
+pub taken_at : {B : Type 0} (f : B → Option Consumed) (core : CoreState) (n m : ℕ) (consumers : List B) → n ≡ m → All (λ b. HasTaken (told_chain core) n (f b)) consumers → All (λ b. HasTaken (told_chain core) m (f b)) consumers
+taken_at {B} f core n m consumers is taken = subst (λ (k : ℕ). All (λ (b : B). HasTaken (told_chain core) k (f b)) consumers) is taken
+
+pub runs_from : {B K X : Type 0} (sight : Sight B K) (tells : Bool) (names : Names) (me : Option ℕ) (step : StepOver B X) (number count : ℕ) (before : Outside B) (first : Scene B) (after : Outside B) (x y : X) (result : Result Served ServiceFault)
+    → HasBegun sight tells names me before first → (All (λ b. HasTaken [] 0 (sight.consumed b)) before.consumers → HaveTaken sight first.node.core first.kept.passed first.around.consumers)
+    → Proceeds sight step number count first after x y result → Runs sight tells names me step number count before after x y result
+runs_from sight tells names me step number count before first after x y (Ok served) begins so p = record { first = first; begins = begins; completes = p; whole = λ none. p.whole (so none) }
+runs_from sight tells names me step number count before first after x y (Err e) begins so p = inr (record { first = first; begins = begins; stops = p })

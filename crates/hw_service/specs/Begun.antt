@@ -1,0 +1,42 @@
+-- The parts of a node's beginning.
+-- Source: ours.
+use Rattle.std.specs.Prelude.{◌≡◌, ◌⊎◌, ℕ, Bool, IsTrue, List, Option, Some, Result, Err}
+use Rattle.hw_io.specs.declared.outside.IoFault.{IoFault}
+use Rattle.hw_io.specs.declared.outside.IoFault.TheVariants as io
+use Rattle.hw_io.specs.Faults.{Rose}
+use Rattle.hw_log.specs.declared.error.LogError.TheVariants as log
+use Rattle.hw_replay.specs.declared.fault.StartFault.{StartFault}
+use Rattle.hw_replay.specs.declared.fault.StartFault.TheVariants as start
+use Rattle.hw_service.specs.declared.fault.ServiceFault.{ServiceFault}
+use Rattle.hw_service.specs.declared.fault.ServiceFault.TheVariants as fault
+use Rattle.hw_service.specs.Begin.{Names, file_settings, HoldsFault}
+
+-- a file couldn't be read
+abbrev pub IsOfFile : ServiceFault → Type 0
+IsOfFile fault.Read = Unit {0}
+IsOfFile fault.OutOfMemory = Unit {0}
+IsOfFile e = ⊥
+
+-- the file couldn't be read, or its settings say no configuration
+abbrev pub IsOfSettings : Bool → Option (List ℕ) → ServiceFault → Type 0
+IsOfSettings tells file (fault.Settings f) = IsTrue tells → file_settings file ≡ Some (Err f)
+IsOfSettings tells file e = IsOfFile e
+
+-- the file couldn't be read, or its text of keys is wrong
+abbrev pub IsOfKeys : Bool → ℕ → Option (List ℕ) → ServiceFault → Type 0
+IsOfKeys tells validators file (fault.Keys at) = IsTrue tells → HoldsFault validators file at
+IsOfKeys tells validators file e = IsOfFile e
+
+-- what a failed look for the log is answered as
+abbrev pub fault_of_look : IoFault → StartFault
+fault_of_look io.Failed = start.Log log.ReadFault
+fault_of_look io.OutOfMemory = start.OutOfMemory
+
+-- a failed call was about one of these files, and was counted for it
+abbrev pub IsAbout : Names → (List ℕ → ℕ) → (List ℕ → ℕ) → Type 0
+IsAbout names before now = Rose (before names.config) (now names.config) ⊎ Rose (before names.keys) (now names.keys) ⊎ Rose (before names.log) (now names.log)
+
+-- a failed read was about the settings or the keys, and nothing else is counted for a file
+abbrev pub IsReadOf : {T : Type 0} → Names → (List ℕ → ℕ) → (List ℕ → ℕ) → Result T ServiceFault → Type 0
+IsReadOf names before now (Err fault.Read) = Rose (before names.config) (now names.config) ⊎ Rose (before names.keys) (now names.keys)
+IsReadOf names before now _ = now ≡ before

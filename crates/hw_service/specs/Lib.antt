@@ -1,0 +1,10 @@
+pub mod Scene
+pub mod Lines
+pub mod Begin
+pub mod Begun
+pub mod Steps
+pub mod Told
+pub mod Run
+pub mod Serve
+pub mod Counts
+pub mod Written

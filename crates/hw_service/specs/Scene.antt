@@ -1,0 +1,47 @@
+-- What is seen of a node's run at a moment.
+use Rattle.std.specs.Prelude.{ℕ, List, [], length, Option}
+use Rattle.std.specs.List.{range_with_len}
+use Rattle.hw_io.specs.Doors.{Session}
+use Rattle.hw_fanout.specs.State.{FanoutState}
+use Rattle.hw_feed.specs.Feed.{Moment, moment}
+use Rattle.hw_session.specs.Node.{NodeState}
+
+-- what a door tells: its sessions, how often it was asked to accept and to dial a peer, and how often a peer's bytes ended
+pub record DoorSeen : Type 0 where
+  pub sessions : Option (List Session)
+  pub accepts : ℕ
+  pub dials : ℕ
+  pub ends : ℕ
+
+-- these together
+abbrev pub door_seen : Option (List Session) → ℕ → ℕ → ℕ → DoorSeen
+door_seen sessions accepts dials ends = record { sessions = sessions; accepts = accepts; dials = dials; ends = ends }
+
+-- the outside: what the files hold, the door, what was written, and the consumers that are left
+pub record Outside (B : Type 0) : Type 0 where
+  pub files : List ℕ → Option (List ℕ)
+  pub door : DoorSeen
+  pub written : Option (List ℕ)
+  pub consumers : List B
+
+-- these together
+abbrev pub outside : {B : Type 0} → (List ℕ → Option (List ℕ)) → DoorSeen → Option (List ℕ) → List B → Outside B
+outside files door written consumers = record { files = files; door = door; written = written; consumers = consumers }
+
+-- a node, what is kept of its consumers, and what is outside of it
+pub record Scene (B : Type 0) : Type 0 where
+  pub node : NodeState
+  pub kept : FanoutState
+  pub around : Outside B
+
+-- the three together
+abbrev pub scene : {B : Type 0} → NodeState → FanoutState → Outside B → Scene B
+scene node kept around = record { node = node; kept = kept; around = around }
+
+-- the node and its consumers at that moment
+abbrev pub moment_of : {B : Type 0} → Scene B → Moment B
+moment_of s = moment s.node.core s.around.consumers s.kept
+
+-- of consumers that were told nothing, nothing is kept but their places
+abbrev pub none_told : {B : Type 0} → List B → FanoutState
+none_told consumers = record { passed = 0; places = range_with_len 0 (length consumers); drops = [] }

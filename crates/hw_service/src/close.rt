@@ -1,0 +1,42 @@
+//! How a run ends with its report.
+
+ghost use Rattle.std.specs.Prelude.{◌≡◌, ◌≤◌, ℕ, List, Option, length, IfOk, IfErr, OnOk};
+ghost use Rattle.hw_io.specs.Faults.{raised};
+ghost use Rattle.hw_fanout.specs.Fates.{seen};
+ghost use Rattle.hw_service.specs.Scene.{DoorSeen, outside, scene};
+ghost use Rattle.hw_service.specs.Run.{ReportsAs, HaveTaken};
+ghost use Rattle.hw_service.specs.Written.{IsOfOutput};
+ghost use Rattle.hw_service.specs.Counts.{IsWriteCounted};
+
+use crate::fault::ServiceFault;
+use crate::host::Host;
+use crate::lines::{closing_text, write_bytes};
+use hw_io::{Consumer, Sink};
+use hw_types::OutOfMemory;
+use std::alloc::Global;
+
+/// Tells the consumers that no block follows, and writes the report on the node. Answers how many vertices met
+/// a limit.
+pub(crate) fn close<S: Sink>(
+    alloc: Global,
+    host: &mut Host,
+    out: &mut S,
+    consumers: &mut Vec<Box<dyn Consumer>>,
+) -> Result<u64, ServiceFault>
+    requires room { length consumers.old.items ≤ length host.old.fanout.places }
+    ensures reports { (files : List ℕ → Option (List ℕ)) (door : DoorSeen) → ReportsAs (seen (λ b. consumed b) (λ b. (⟦<dyn Consumer as Consumer>⟧ b.vtable).faults b.value) (λ b. b.vtable))
+        (scene host.old.node host.old.fanout (outside files door (S.taken out.old) consumers.old.items)) (outside files door (S.taken out.new) consumers.new.items) result }
+    ensures limits { IfOk result (λ limits. limits ≡ host.old.node.limited) }
+    ensures whole { (count : ℕ) → HaveTaken (seen (λ b. consumed b) (λ b. (⟦<dyn Consumer as Consumer>⟧ b.vtable).faults b.value) (λ b. b.vtable)) host.old.node.core count consumers.old.items → HaveTaken (seen (λ b. consumed b) (λ b. (⟦<dyn Consumer as Consumer>⟧ b.vtable).faults b.value) (λ b. b.vtable)) host.old.node.core count consumers.new.items }
+    ensures fault { IfErr result IsOfOutput }
+    ensures writes { IsWriteCounted (S.faults out.old) (S.faults out.new) result }
+{
+    host.fanout.finish(consumers);
+    match closing_text(alloc, &host.node, &host.fanout) {
+        Ok(text) => match write_bytes(out, text.as_slice()) {
+            Ok(()) => Ok(host.node.limit_hits()),
+            Err(fault) => Err(fault),
+        },
+        Err(OutOfMemory) => Err(ServiceFault::OutOfMemory),
+    }
+}

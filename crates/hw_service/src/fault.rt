@@ -1,0 +1,40 @@
+//! Why a node's run ends before its report.
+
+ghost use Rattle.std.specs.Prelude.{◌≡◌};
+ghost use Rattle.hw_service.specs.declared.fault.ServiceFault.TheVariants as fault;
+
+use hw_replay::StartFault;
+use hw_session::ClashUnits;
+use hw_settings::SettingsFault;
+use hw_types::OutOfMemory;
+
+/// Why a node's run ends before its report.
+#[derive(Drop)]
+pub enum ServiceFault {
+    /// The settings say no configuration.
+    Settings(SettingsFault),
+    /// The validator that is to make units is none of the configuration.
+    NoValidator,
+    /// The text of the keys is wrong first at this byte.
+    Keys(u64),
+    /// The log gives no node, for what stands in it.
+    Log(StartFault),
+    /// Two different units have one digest, of which a peer's vertex brought one.
+    Clash(ClashUnits),
+    /// A read of a file failed.
+    Read,
+    /// An append to the log failed.
+    Append,
+    /// A write of the output failed.
+    Write,
+    /// There was no memory.
+    OutOfMemory,
+}
+
+impl From<OutOfMemory> for ServiceFault {
+    ghost from_gives = { λ _ e. e ≡ fault.OutOfMemory };
+
+    fn from(_error: OutOfMemory) -> ServiceFault {
+        ServiceFault::OutOfMemory
+    }
+}

@@ -1,0 +1,11 @@
+//! A node that runs.
+
+use hw_fanout::Fanout;
+use hw_session::Node;
+
+/// A node, and what is kept of its consumers.
+#[derive(Drop)]
+pub(crate) struct Host {
+    pub node: Node,
+    pub fanout: Fanout,
+}

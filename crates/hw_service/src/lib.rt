@@ -1,0 +1,18 @@
+//! What a node does that runs: it starts, serves sessions one after the other, and reports.
+//!
+//! What happens is told as it happens: after each session the consumers are passed what is decided now, and
+//! then the line of the session is written.
+#![tactic(auto)]
+
+mod begin;
+mod close;
+mod ended;
+mod fault;
+mod host;
+mod lines;
+mod serving;
+
+pub use begin::Sources;
+pub use ended::Served;
+pub use fault::ServiceFault;
+pub use serving::serve;
