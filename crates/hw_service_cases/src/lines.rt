@@ -19,50 +19,33 @@ pub fn answer(alloc: Global, line: &str) -> Result<String, OutOfMemory> {
     let words: Vec<&str> = line.split(' ').collect(alloc)?;
     let mut outside = outside_of(alloc, words.as_slice())?;
     match words.as_slice() {
-        [_, _, _, _, plans, command, ..] => {
-            let served = with_consumers(alloc, &mut outside, plans, command)?;
-            told(alloc, &outside, status_of(&served))
-        }
+        [_, _, _, _, plans, command, ..] => match command.split_once(':') {
+            Some(("serve", sessions)) => {
+                let status = served(alloc, &mut outside, plans, number(sessions))?;
+                told(alloc, &outside, status)
+            }
+            _ => Ok(String::new(alloc)),
+        },
         _ => Ok(String::new(alloc)),
     }
 }
 
-/// Runs the command with consumers of these plans.
-fn with_consumers(
+/// The status with which a node ends that serves so many sessions, with consumers of these plans.
+fn served(
     alloc: Global,
     outside: &mut Outside,
     plans: &str,
-    command: &str,
-) -> Result<Result<Served, ServiceFault>, OutOfMemory> {
+    sessions: u64,
+) -> Result<u8, OutOfMemory> {
     let mut consumers: Vec<Box<dyn Consumer>> = Vec::new(alloc);
     if plans != "none" {
         for plan in plans.split(',') {
             consumers.push(Box::new(alloc, consumer_of(alloc, plan)?)?)?;
         }
     }
-    run_command(alloc, outside, &mut consumers, command)
-}
-
-/// Runs the command.
-fn run_command(
-    alloc: Global,
-    outside: &mut Outside,
-    consumers: &mut Vec<Box<dyn Consumer>>,
-    command: &str,
-) -> Result<Result<Served, ServiceFault>, OutOfMemory> {
     let Outside { files, out, door } = outside;
-    match command.split_once(':') {
-        Some(("serve", sessions)) => Ok(serve(
-            alloc,
-            SOURCES,
-            number(sessions),
-            files,
-            out,
-            door,
-            consumers,
-        )),
-        _ => Ok(Err(ServiceFault::OutOfMemory)),
-    }
+    let served = serve(alloc, SOURCES, sessions, files, out, door, &mut consumers);
+    Ok(status_of(&served))
 }
 
 /// The status with which a program ends that runs so.
