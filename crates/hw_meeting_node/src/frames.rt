@@ -274,6 +274,7 @@ pub(crate) fn at_vertex<T: Taker>(
 
     ensures config { (T.received taker.new).config ≡ (T.received taker.old).config }
     ensures verdict { T.verdict taker.new ≡ T.verdict taker.old }
+    ensures holds { T.holds taker.new ≡ T.holds taker.old }
 {
     match taker.take(vertex) {
         Ok(_receipt) => Ok(()),

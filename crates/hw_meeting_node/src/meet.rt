@@ -50,6 +50,7 @@ pub fn meet_one<D: Door, T: Taker>(
 
     ensures config { (T.received taker.new).config ≡ (T.received taker.old).config }
     ensures verdict { T.verdict taker.new ≡ T.verdict taker.old }
+    ensures holds { T.holds taker.new ≡ T.holds taker.old }
     ensures closed { D.is_open door.new ≡ false }
     ensures dials { D.dials door.new ≡ raised (D.dials door.old) }
     ensures accepts { D.accepts door.new ≡ D.accepts door.old }
@@ -73,6 +74,7 @@ pub fn host_one<D: Door, T: Taker>(alloc: Global, taker: &mut T, door: &mut D) -
 
     ensures config { (T.received taker.new).config ≡ (T.received taker.old).config }
     ensures verdict { T.verdict taker.new ≡ T.verdict taker.old }
+    ensures holds { T.holds taker.new ≡ T.holds taker.old }
     ensures closed { D.is_open door.new ≡ false }
     ensures accepts { D.accepts door.new ≡ raised (D.accepts door.old) }
     ensures dials { D.dials door.new ≡ D.dials door.old }
@@ -96,6 +98,7 @@ fn meet<D: Door, T: Taker>(alloc: Global, taker: &mut T, door: &mut D, side: Sid
 
     ensures config { (T.received taker.new).config ≡ (T.received taker.old).config }
     ensures verdict { T.verdict taker.new ≡ T.verdict taker.old }
+    ensures holds { T.holds taker.new ≡ T.holds taker.old }
     ensures accepts { D.accepts door.new ≡ D.accepts door.old }
     ensures dials { D.dials door.new ≡ D.dials door.old }
 {
@@ -172,6 +175,7 @@ fn meet_frames<D: Door, T: Taker>(
 
     ensures config { (T.received taker.new).config ≡ (T.received taker.old).config }
     ensures verdict { T.verdict taker.new ≡ T.verdict taker.old }
+    ensures holds { T.holds taker.new ≡ T.holds taker.old }
     ensures accepts { D.accepts door.new ≡ D.accepts door.old }
     ensures dials { D.dials door.new ≡ D.dials door.old }
 {
@@ -207,6 +211,7 @@ fn meet_next<D: Door, T: Taker>(
 
     ensures config { (T.received taker.new).config ≡ (T.received taker.old).config }
     ensures verdict { T.verdict taker.new ≡ T.verdict taker.old }
+    ensures holds { T.holds taker.new ≡ T.holds taker.old }
     ensures open { D.is_open door.new ≡ true }
     ensures accepts { D.accepts door.new ≡ D.accepts door.old }
     ensures dials { D.dials door.new ≡ D.dials door.old }
@@ -241,6 +246,7 @@ fn meet_frame<D: Door, T: Taker>(
 
     ensures config { (T.received taker.new).config ≡ (T.received taker.old).config }
     ensures verdict { T.verdict taker.new ≡ T.verdict taker.old }
+    ensures holds { T.holds taker.new ≡ T.holds taker.old }
     ensures open { D.is_open door.new ≡ true }
     ensures ends { D.ends door.new ≡ D.ends door.old }
     ensures accepts { D.accepts door.new ≡ D.accepts door.old }

@@ -1,6 +1,6 @@
 //! A taker in memory.
 
-ghost use Rattle.std.specs.Prelude.{◌≡◌};
+ghost use Rattle.std.specs.Prelude.{◌≡◌, []};
 ghost use Rattle.std.specs.List.{list_any};
 ghost use Rattle.hw_meeting_node.specs.Memory.{vertex_eq, verdict_by, take_fault};
 
@@ -48,6 +48,8 @@ impl Taker for MemTaker {
     ghost verdict = { λ taker. verdict_by taker.refused };
 
     ghost faults = { λ _. 0 };
+
+    ghost holds = { λ _. [] };
 
     fn core(&self) -> &Core {
         &self.core

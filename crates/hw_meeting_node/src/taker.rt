@@ -1,6 +1,6 @@
 //! What takes the vertices of a peer.
 
-ghost use Rattle.std.specs.Prelude.{◌≡◌, ℕ, Bool};
+ghost use Rattle.std.specs.Prelude.{◌≡◌, ℕ, List, Bool};
 ghost use Rattle.hw_types.specs.declared.unit.Vertex.{Vertex};
 ghost use Rattle.hw_types.specs.Real.{CoreState};
 ghost use Rattle.hw_types.specs.Spelling.{VertexFits};
@@ -31,6 +31,10 @@ pub trait Taker {
     /// How many vertices it couldn't store. The count stops at the end of a `u64`.
     ghost faults: { Self → ℕ };
 
+    /// The names of the references that it holds. They stay, so that who lent it something knows what became of
+    /// that.
+    ghost holds: { Self → List ℕ };
+
     fn core(&self) -> &Core
         ensures { result.now ≡ received self.now };
 
@@ -43,5 +47,6 @@ pub trait Taker {
         ensures taken { Takes (received self.old) vertex (verdict self.old vertex) (received self.new) result }
         ensures cause { IsTakeCounted (faults self.old) (faults self.new) result }
 
-        ensures verdict { verdict self.new ≡ verdict self.old };
+        ensures verdict { verdict self.new ≡ verdict self.old }
+        ensures holds { holds self.new ≡ holds self.old };
 }

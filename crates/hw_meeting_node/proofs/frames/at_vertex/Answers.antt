@@ -32,4 +32,5 @@ returns-in_default g c =
       link = λ count. refl;
       config = config_stays core c.args.vertex (g.T.Taker.verdict c.args.taker.now c.args.vertex) (g.T.Taker.received c.take.new.self) (Err (fault.Refused c.in-Err-Refused.cause)) e.taken;
       verdict = e.verdict;
+      holds = e.holds;
     }

@@ -19,6 +19,7 @@ loop-place-init g c = record {
   stored = refl;
   config = refl;
   verdict = refl;
+  holds = refl;
 }
 
 pub loop-place-preserved : goal.loop-place-preserved
@@ -38,6 +39,7 @@ loop-place-preserved g c =
       stored = e.appends ∙ i.stored;
       config = e.config ∙ i.config;
       verdict = e.verdict ∙ i.verdict;
+      holds = e.holds ∙ i.holds;
     }
 
 pub returns-in-Err-clause-met : goal.returns-in-Err-clause-met

@@ -24,6 +24,7 @@ invariant-loop-place g l =
       stored : t.faults l.taker ≡ t.faults l.initial.taker;
       config : (t.received l.taker).config ≡ (t.received l.initial.taker).config;
       verdict : t.verdict l.taker ≡ t.verdict l.initial.taker;
+      holds : t.holds l.taker ≡ t.holds l.initial.taker;
     }
 
 abbrev pub decreases-loop-place : goal.decreases-loop-place
