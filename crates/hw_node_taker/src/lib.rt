@@ -1,0 +1,9 @@
+//! A node with its log, as what takes the vertices of a node that it meets.
+//!
+//! A vertex gets the verdict of the node's keys, and an accepted one goes last in the journal and then its entry
+//! last in the log, as in any session of the node.
+#![tactic(auto)]
+
+mod taker;
+
+pub use taker::NodeTaker;
