@@ -1,6 +1,6 @@
 -- What a meeting comes to, by the bytes that were read in it.
 -- Source: ours.
-use Rattle.std.specs.Prelude.{◌≡◌, ◌⊎◌, ℕ, ◌≤◌, Bool, true, false, List, [], ◌∷◌, ◌++◌, length, Option}
+use Rattle.std.specs.Prelude.{◌≡◌, ◌⊎◌, ℕ, ◌≤◌, Bool, true, false, List, [], ◌∷◌, ◌++◌, length, Option, Some, None}
 use Rattle.std.specs.Option.{option_map}
 use Rattle.hw_types.specs.declared.unit.Vertex.{Vertex}
 use Rattle.hw_types.specs.Real.{CoreState}
@@ -16,6 +16,7 @@ use Rattle.hw_meeting_link.specs.Frames.{sent_bytes}
 use Rattle.hw_meeting_node.specs.declared.end.MeetEnd.{MeetEnd}
 use Rattle.hw_meeting_node.specs.declared.end.MeetEnd.TheVariants as end
 use Rattle.hw_meeting_node.specs.declared.meeter.Side.{Side}
+use Rattle.hw_meeting_node.specs.declared.meeter.Side.TheVariants.{Caller, Host}
 use Rattle.hw_meeting_node.specs.Talk.{Talk}
 use Rattle.hw_meeting_node.specs.Meeting.{Meeting, met}
 
@@ -111,6 +112,13 @@ pub record MeetsPeer (side : Side) (address : Option (List ℕ)) (c : CoreState)
   pub written : List ℕ
   pub meets : Meets side c judge read written m ends_old ends_new e
   pub told : new ≡ option_map (λ (sessions : List Session). sessions ++ (record { address = address; read = read; written = written; failed = is_link_end e }) ∷ []) old
+
+-- the same of a node that dialled this address, and of one that was dialled
+abbrev pub CallsPeer : List ℕ → CoreState → (Vertex → Bool) → CoreState → Option (List Session) → Option (List Session) → ℕ → ℕ → MeetEnd → Type 0
+CallsPeer address c judge m old new ends_old ends_new e = MeetsPeer Caller (Some address) c judge m old new ends_old ends_new e
+
+abbrev pub HostsPeer : CoreState → (Vertex → Bool) → CoreState → Option (List Session) → Option (List Session) → ℕ → ℕ → MeetEnd → Type 0
+HostsPeer c judge m old new ends_old ends_new e = MeetsPeer Host None c judge m old new ends_old ends_new e
 
 -- there was no memory to take or to dial a peer, and nothing was done
 pub record MeetsNone (c m : CoreState) (old new : Option (List Session)) (e : MeetEnd) : Type 0 where

@@ -1,6 +1,6 @@
 //! A meeting, frame by frame.
 
-ghost use Rattle.std.specs.Prelude.{◌≡◌, ◌⊎◌, ◌<◌, ◌≤◌, [], ℕ, List, Option, Some, None, true, false, length, OnOk, IfOk};
+ghost use Rattle.std.specs.Prelude.{◌≡◌, ◌⊎◌, ◌<◌, ◌≤◌, [], ℕ, List, Option, true, false, length, OnOk, IfOk};
 ghost use Rattle.hw_types.specs.Real.{CoreState};
 ghost use Rattle.hw_io.specs.Doors.{Session};
 ghost use Rattle.hw_io.specs.Faults.{raised};
@@ -8,10 +8,9 @@ ghost use Rattle.hw_link.specs.Links.{after_part, IsLinkCounted};
 ghost use Rattle.hw_link.specs.Sent.{Sends};
 ghost use Rattle.hw_meeting.specs.Frames.{IsSaid};
 ghost use Rattle.hw_meeting_link.specs.Frames.{sent_bytes};
-ghost use Rattle.hw_meeting_node.specs.declared.meeter.Side.TheVariants as side;
 ghost use Rattle.hw_meeting_node.specs.Meeting.{begun, first_word, meet_step, at_stage};
 ghost use Rattle.hw_meeting_node.specs.Handling.{meeting_of, IsKept, Reacts, Quits, Handles, IsTakerCounted};
-ghost use Rattle.hw_meeting_node.specs.Sessions.{MeetsThere, MeetsPeer, MeetsNone, IsLinkEnd, IsTakerEnd};
+ghost use Rattle.hw_meeting_node.specs.Sessions.{MeetsThere, CallsPeer, HostsPeer, MeetsNone, IsLinkEnd, IsTakerEnd};
 
 use crate::end::{MeetEnd, end_of_fault, meet_end};
 use crate::frames::{at_done, at_hello, at_summary, at_torn, at_vertex};
@@ -43,7 +42,7 @@ pub fn meet_one<D: Door, T: Taker>(
     address: &str,
     door: &mut D,
 ) -> MeetEnd
-    ensures met { MeetsPeer side.Caller (Some address.now) (T.received taker.old) (T.verdict taker.old) (T.received taker.new) (D.sessions door.old) (D.sessions door.new) (D.ends door.old) (D.ends door.new) result
+    ensures met { CallsPeer address.now (T.received taker.old) (T.verdict taker.old) (T.received taker.new) (D.sessions door.old) (D.sessions door.new) (D.ends door.old) (D.ends door.new) result
         ⊎ MeetsNone (T.received taker.old) (T.received taker.new) (D.sessions door.old) (D.sessions door.new) result }
     ensures link { IsLinkEnd (D.faults door.old) (D.faults door.new) result }
     ensures appends { IsTakerEnd (T.faults taker.old) (T.faults taker.new) result }
@@ -67,7 +66,7 @@ pub fn meet_one<D: Door, T: Taker>(
 
 /// Takes a node that dials and meets it, as the other side of `meet_one`. Then it hangs up.
 pub fn host_one<D: Door, T: Taker>(alloc: Global, taker: &mut T, door: &mut D) -> MeetEnd
-    ensures met { MeetsPeer side.Host None (T.received taker.old) (T.verdict taker.old) (T.received taker.new) (D.sessions door.old) (D.sessions door.new) (D.ends door.old) (D.ends door.new) result
+    ensures met { HostsPeer (T.received taker.old) (T.verdict taker.old) (T.received taker.new) (D.sessions door.old) (D.sessions door.new) (D.ends door.old) (D.ends door.new) result
         ⊎ MeetsNone (T.received taker.old) (T.received taker.new) (D.sessions door.old) (D.sessions door.new) result }
     ensures link { IsLinkEnd (D.faults door.old) (D.faults door.new) result }
     ensures appends { IsTakerEnd (T.faults taker.old) (T.faults taker.new) result }

@@ -4,6 +4,8 @@
 //! last in the log, as in any session of the node.
 #![tactic(auto)]
 
+mod meet;
 mod taker;
 
+pub use meet::{host_node, meet_node};
 pub use taker::NodeTaker;

@@ -1,7 +1,6 @@
 //! A node and its files, which take vertices.
 
 ghost use Rattle.std.specs.Prelude.{◌≡◌, ◌∷◌, []};
-ghost use Rattle.hw_types.specs.Spelling.{VertexFits};
 ghost use Rattle.hw_keys.specs.Signed.{verdict_of};
 ghost use Rattle.hw_node_taker.specs.Taker.{take_fault};
 
@@ -14,20 +13,8 @@ use hw_types::{Receipt, Vertex};
 /// A node and the files that hold its log.
 #[derive(Drop)]
 pub struct NodeTaker<'a, F: Files> {
-    node: &'a mut Node,
-    files: &'a mut F,
-}
-
-impl<'a, F: Files> NodeTaker<'a, F> {
-    /// A taker over this node and these files.
-    pub fn new(node: &'a mut Node, files: &'a mut F) -> NodeTaker<'a, F>
-        ensures same_node { result.node.ghost_name ≡ node.entry.ghost_name }
-        ensures same_files { result.files.ghost_name ≡ files.entry.ghost_name }
-        ensures node { result.node.now ≡ node.old }
-        ensures files { result.files.now ≡ files.old }
-    {
-        NodeTaker { node, files }
-    }
+    pub node: &'a mut Node,
+    pub files: &'a mut F,
 }
 
 impl<'a, F: Files> Taker for NodeTaker<'a, F> {

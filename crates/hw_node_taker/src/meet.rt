@@ -1,0 +1,55 @@
+//! Meetings of a node with a log.
+
+ghost use Rattle.std.specs.Prelude.{◌≡◌, ◌⊎◌, false};
+ghost use Rattle.hw_io.specs.Faults.{raised};
+ghost use Rattle.hw_keys.specs.Signed.{verdict_of};
+ghost use Rattle.hw_meeting_node.specs.Sessions.{CallsPeer, HostsPeer, MeetsNone, IsLinkEnd, IsTakerEnd};
+
+use crate::taker::NodeTaker;
+use hw_io::{Door, Files};
+use hw_meeting_node::{MeetEnd, host_one, meet_one};
+use hw_session::Node;
+use std::alloc::Global;
+
+/// Dials the node at this address and meets it, as `meet_one` does. What the node accepts goes last in its log.
+pub fn meet_node<D: Door, F: Files>(
+    alloc: Global,
+    node: &mut Node,
+    files: &mut F,
+    address: &str,
+    door: &mut D,
+) -> MeetEnd
+    ensures met { CallsPeer address.now node.old.core (verdict_of node.old.keys) node.new.core (D.sessions door.old) (D.sessions door.new) (D.ends door.old) (D.ends door.new) result
+        ⊎ MeetsNone node.old.core node.new.core (D.sessions door.old) (D.sessions door.new) result }
+    ensures link { IsLinkEnd (D.faults door.old) (D.faults door.new) result }
+    ensures appends { IsTakerEnd (F.append_faults files.old) (F.append_faults files.new) result }
+
+    ensures config { node.new.core.config ≡ node.old.core.config }
+    ensures closed { D.is_open door.new ≡ false }
+    ensures dials { D.dials door.new ≡ raised (D.dials door.old) }
+    ensures accepts { D.accepts door.new ≡ D.accepts door.old }
+{
+    let mut taker = NodeTaker { node, files };
+    meet_one(alloc, &mut taker, address, door)
+}
+
+/// Takes a node that dials and meets it, as `host_one` does. What the node accepts goes last in its log.
+pub fn host_node<D: Door, F: Files>(
+    alloc: Global,
+    node: &mut Node,
+    files: &mut F,
+    door: &mut D,
+) -> MeetEnd
+    ensures met { HostsPeer node.old.core (verdict_of node.old.keys) node.new.core (D.sessions door.old) (D.sessions door.new) (D.ends door.old) (D.ends door.new) result
+        ⊎ MeetsNone node.old.core node.new.core (D.sessions door.old) (D.sessions door.new) result }
+    ensures link { IsLinkEnd (D.faults door.old) (D.faults door.new) result }
+    ensures appends { IsTakerEnd (F.append_faults files.old) (F.append_faults files.new) result }
+
+    ensures config { node.new.core.config ≡ node.old.core.config }
+    ensures closed { D.is_open door.new ≡ false }
+    ensures accepts { D.accepts door.new ≡ raised (D.accepts door.old) }
+    ensures dials { D.dials door.new ≡ D.dials door.old }
+{
+    let mut taker = NodeTaker { node, files };
+    host_one(alloc, &mut taker, door)
+}
