@@ -1,16 +1,14 @@
 -- How a node begins.
-use Rattle.std.specs.Prelude.{IsTrue, IfOk, IfErr, All}
-use Rattle.std.proofs.Common.{◌≡◌, ◌⊎◌, ◌≤◌, ◌<◌, ℕ, Bool, List, [], ◌∷◌, length, Option, Some, None, Result, Ok, Err, inl, inr, refl, sym, ap, subst, ◌∙◌, arith}
+use Rattle.std.specs.Prelude.{IsTrue, All}
+use Rattle.std.proofs.Common.{◌≡◌, ◌≤◌, ℕ, Bool, List, [], ◌∷◌, length, Option, Some, Result, Ok, Err, inl, inr, refl, sym, ap, subst, ◌∙◌, arith}
 use Rattle.std.specs.List.{range_with_len}
 use Rattle.std.proofs.lemmas.List.FromFn.{length-range_with_len}
-use Rattle.std.proofs.lemmas.List.Elements.{All-nil}
 use Rattle.hw_types.specs.declared.config.Config.{Config}
 use Rattle.hw_core.specs.Promises.{begun}
 use Rattle.hw_io.specs.Consumers.{Consumed}
-use Rattle.hw_io.specs.Faults.{Rose, FailsAbout}
+use Rattle.hw_io.specs.Faults.{FailsAbout}
 use Rattle.hw_io.specs.Files.{SameFiles}
 use Rattle.hw_types.specs.Real.{CoreState}
-use Rattle.hw_log.specs.declared.error.LogError.{LogError}
 use Rattle.hw_log.specs.declared.error.LogError.TheVariants as log
 use Rattle.hw_replay.specs.Taken.{Taken}
 use Rattle.hw_replay.specs.declared.fault.StartFault.{StartFault}
@@ -19,16 +17,15 @@ use Rattle.hw_fanout.specs.State.{FanoutState}
 use Rattle.hw_fanout.specs.Fates.{Sight}
 use Rattle.hw_fanout.specs.Chain.{told_chain}
 use Rattle.hw_fanout.specs.Told.{HasTaken}
-use Rattle.hw_feed.specs.Feed.{Moment, moment, first_moment, IsPassed, ArePassed, AreFed, AreFedSome, file_replayed}
+use Rattle.hw_feed.specs.Feed.{Moment, moment, first_moment, ArePassed, AreFed, AreFedSome, file_replayed}
 use Rattle.hw_feed.proofs.FeedLaws.{fed_none, none_told as nothing_told}
 use Rattle.hw_session.specs.Node.{NodeState, new_node}
-use Rattle.hw_session.specs.Start.{Starts, StartsLog, IsStartCounted, HasStartCause, IsReadOfLog}
+use Rattle.hw_session.specs.Start.{Starts, StartsLog, IsStartCounted, IsReadOfLog}
 use Rattle.hw_service.specs.declared.fault.ServiceFault.{ServiceFault}
 use Rattle.hw_service.specs.declared.fault.ServiceFault.TheVariants as fault
-use Rattle.hw_service.specs.Scene.{DoorSeen, Outside, outside, Scene, scene, none_told}
+use Rattle.hw_service.specs.Scene.{DoorSeen, outside, scene, none_told}
 use Rattle.hw_service.specs.Counts.{IsReadCounted, IsAppendCounted}
-use Rattle.hw_service.specs.Begin.{Names, file_settings, HoldsKeys, IsValidator, Reads, ReadsNot, HasBegun, StaysAs, StartFails, BeginsNot, fault_of_start}
-use Rattle.hw_service.specs.Begun.{IsAbout, IsReadOf}
+use Rattle.hw_service.specs.Begin.{Names, Reads, ReadsNot, HasBegun, BeginsNot, fault_of_start}
 
 -- ---- consumers that were told nothing
 

@@ -1,6 +1,6 @@
 -- What consumers took stays when they are told that no block follows.
 use Rattle.std.specs.Prelude.{All, filter}
-use Rattle.std.proofs.Common.{◌≡◌, ℕ, List, [], ◌∷◌, map, cond, is_none, Option, Some, None, Ok, Err, refl, sym, ap, subst, ◌∙◌}
+use Rattle.std.proofs.Common.{◌≡◌, ℕ, List, [], ◌∷◌, map, cond, is_none, Option, Some, None, sym, subst}
 use Rattle.std.specs.Option.{option_map}
 use Rattle.std.proofs.lemmas.List.Elements.{All-nil, All-cons, All-head, All-tail}
 use Rattle.hw_io.specs.Consumers.{Consumed, after_finish}

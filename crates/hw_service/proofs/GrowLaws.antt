@@ -1,17 +1,14 @@
 -- A session leaves the configuration of a node as it is, and its journal only grows.
 use Rattle.std.specs.Prelude.{◌==◌}
-use Rattle.std.proofs.Common.{◌≡◌, ◌⊎◌, ◌≤◌, ℕ, zero, suc, Bool, true, false, cond, List, [], ◌∷◌, ◌++◌, length, take, drop, Option, Some, None, Result, Ok, Err, inl, inr, refl, sym, ap, subst, ◌∙◌, arith, length-append}
+use Rattle.std.proofs.Common.{◌≡◌, ◌⊎◌, ◌≤◌, ℕ, Bool, true, false, cond, List, [], ◌∷◌, ◌++◌, length, Option, Result, Ok, Err, inl, inr, refl, sym, ap, subst, ◌∙◌, arith, length-append}
 use Rattle.std.specs.Prelude.{All}
 use Rattle.std.proofs.lemmas.List.{append-nil, append_assoc}
 use Rattle.hw_types.specs.declared.config.Config.{Config}
 use Rattle.hw_types.specs.declared.unit.Vertex.{Vertex}
-use Rattle.hw_types.specs.declared.unit.Need.{Need}
 use Rattle.hw_types.specs.declared.answers.Frame.{Frame}
 use Rattle.hw_types.specs.declared.answers.Frame.TheVariants as frame
 use Rattle.hw_types.specs.declared.answers.Receipt.{Receipt}
-use Rattle.hw_types.specs.declared.answers.Receipt.TheVariants as receipt
 use Rattle.hw_types.specs.declared.answers.Cause.{Cause}
-use Rattle.hw_types.specs.declared.answers.Cause.TheVariants as cause
 use Rattle.hw_types.specs.Graph.{digest_eq}
 use Rattle.hw_types.specs.Spelling.{instance_of}
 use Rattle.hw_types.specs.Real.{CoreState}
@@ -28,11 +25,12 @@ use Rattle.hw_fanout.proofs.GrowLaws.{only_grows, stays_taken}
 use Rattle.hw_link.specs.declared.end.SessionEnd.{SessionEnd}
 use Rattle.hw_link.specs.declared.end.SessionEnd.TheVariants as end
 use Rattle.hw_link.specs.Frames.{Placed, frames_of}
-use Rattle.hw_link.specs.Talk.{Reaction, Talk, goes_on, ends, with_reaction, talk}
+use Rattle.hw_link.specs.Talk.{goes_on, ends}
 use Rattle.hw_session.specs.Node.{NodeState}
 use Rattle.hw_session.specs.Grows.{Logs, LogsAllBut}
 use Rattle.hw_session.specs.Accept.{given_to, taken_by}
 use Rattle.hw_session.specs.Serving.{is_clash, answer_to_vertex, serve_first, serve_frame, serve_step, served}
+use Rattle.hw_session.proofs.ConfigLaws.{talk_keeps, taken_config}
 use Rattle.hw_session.specs.Sessions.{StandsBefore, StandsCut, Leaves, ServesPeer, ServesNone}
 
 -- ---- a node that grew
@@ -78,36 +76,6 @@ passed_whole {B} f c d k n m xs ys whole grown same le passed so =
     let P : CoreState → Type 0 = λ x. All (λ (b : B). HasTaken (told_chain x) n (f b)) xs → All (λ (b : B). HasTaken (told_chain x) (length (told_chain x)) (f b)) ys in
     let Q : ℕ → Type 0 = λ j. All (λ (b : B). HasTaken (told_chain d) j (f b)) ys in
     subst Q (sym passed) (subst P same whole (still_taken f c d n xs grown le so))
-
--- ---- talks
-
--- what each reaction keeps, a talk keeps
-by_reaction : {S : Type 0} (P : S → Type 0) (first : Reaction S) (others : S → Talk S) → P first.state → ((next : S) → P next → P (others next).state) → P (with_reaction first others).state
-by_reaction {S} P first others here then = go first.end
-  where
-    go : (o : Option SessionEnd) → P (with_reaction (record { state = first.state; says = first.says; end = o }) others).state
-    go (Some e) = here
-    go None = then first.state here
-
-pub talk_keeps : {S : Type 0} (P : S → Type 0) (step : S → Placed → Reaction S) → ((s : S) (f : Placed) → P s → P (step s f).state) → (end : SessionEnd) (s : S) (fs : List Placed) → P s → P (talk step end s fs).state
-unfolding talk
-talk_keeps P step keeps end s [] p = p
-talk_keeps P step keeps end s (f ∷ fs) p = by_reaction P (step s f) (λ next. talk step end next fs) (keeps s f p) (λ next q. talk_keeps P step keeps end next fs q)
-
--- ---- vertices
-
-pub taken_config : (n : NodeState) (v : Vertex) (a : Result Receipt Cause) → (taken_by n v a).core.config ≡ n.core.config
-taken_config n v (Ok receipt.Repeat) = refl
-taken_config n v (Ok (receipt.Admitted k)) = refl
-taken_config n v (Ok (receipt.Parked k)) = refl
-taken_config n v (Ok (receipt.Dropped rule)) = refl
-taken_config n v (Err cause.BadSignature) = refl
-taken_config n v (Err (cause.Local rule)) = refl
-taken_config n v (Err (cause.Pair f)) = refl
-taken_config n v (Err (cause.Clash d)) = refl
-taken_config n v (Err cause.RecordsFull) = refl
-taken_config n v (Err cause.ParkFull) = refl
-taken_config n v (Err cause.OutOfMemory) = refl
 
 -- ---- serving
 
@@ -157,11 +125,11 @@ served_config n bytes = served_keeps (λ m. m.core.config ≡ n.core.config) (λ
 -- ---- a session
 
 -- a node that stands behind some bytes, and its log
-behind_logs : (tells : Bool) (n m : NodeState) (old new : List ℕ → Option (List ℕ)) → m.core.config ≡ n.core.config → Logs n m tells old new → HasGrown n.core m.core
+pub behind_logs : (tells : Bool) (n m : NodeState) (old new : List ℕ → Option (List ℕ)) → m.core.config ≡ n.core.config → Logs n m tells old new → HasGrown n.core m.core
 behind_logs tells n m old new config logs = record { config = config; journal = (logs.vertices, logs.gains.journal) }
 
 -- or one vertex more, whose entry may be cut
-behind_cut : (tells : Bool) (n before m : NodeState) (v : Vertex) (old new : List ℕ → Option (List ℕ)) → before.core.config ≡ n.core.config → LogsAllBut n before v m tells old new → HasGrown n.core m.core
+pub behind_cut : (tells : Bool) (n before m : NodeState) (v : Vertex) (old new : List ℕ → Option (List ℕ)) → before.core.config ≡ n.core.config → LogsAllBut n before v m tells old new → HasGrown n.core m.core
 behind_cut tells n before m v old new config logs = record {
   config = ap (λ (k : NodeState). k.core.config) logs.unlogged.1 ∙ config;
   journal = (

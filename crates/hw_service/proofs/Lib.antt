@@ -5,3 +5,5 @@ pub mod BeginLaws
 pub mod CloseLaws
 pub mod LineLaws
 pub mod RunLaws
+pub mod DriveLaws
+pub mod OwnLaws

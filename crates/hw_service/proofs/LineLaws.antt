@@ -1,7 +1,7 @@
 -- The line of a session.
-use Rattle.std.specs.Prelude.{◌≢◌, take}
+use Rattle.std.specs.Prelude.{◌≢◌}
 use Rattle.std.specs.Io.KnownBytes.{Appends}
-use Rattle.std.proofs.Common.{◌≡◌, ℕ, Bool, false, List, [], ◌++◌, Option, Some, None, Result, Ok, Err, refl, sym}
+use Rattle.std.proofs.Common.{ℕ, false, List, [], Option, Some, None, Ok, Err, refl, sym}
 use Rattle.std.proofs.lemmas.List.{append-nil}
 use Rattle.hw_io.specs.Sinks.{AppendsPrefix}
 use Rattle.hw_link.specs.declared.end.SessionEnd.{SessionEnd}
@@ -11,7 +11,7 @@ use Rattle.hw_service.specs.declared.fault.ServiceFault.{ServiceFault}
 use Rattle.hw_service.specs.declared.fault.ServiceFault.TheVariants as fault
 use Rattle.hw_service.specs.Lines.{line_of_end, end_line}
 use Rattle.hw_service.specs.Told.{GoesOn, is_link_fault, TellsEnd}
-use Rattle.hw_service.specs.Written.{Writes, IsOfOutput, TellsClash}
+use Rattle.hw_service.specs.Written.{IsOfOutput, TellsClash}
 
 -- nothing was written
 pub appends_none : (old : Option (List ℕ)) → Appends old old []

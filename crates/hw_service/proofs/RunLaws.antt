@@ -1,6 +1,6 @@
 -- A whole run.
 use Rattle.std.specs.Prelude.{◌≢◌, All}
-use Rattle.std.proofs.Common.{◌≡◌, ◌⊎◌, ℕ, Bool, List, [], length, Option, Result, Ok, Err, inl, inr, refl, sym, subst}
+use Rattle.std.proofs.Common.{◌≡◌, ℕ, Bool, List, [], Option, Result, Ok, Err, inl, inr, refl, sym, subst}
 use Rattle.hw_types.specs.Real.{CoreState}
 use Rattle.hw_io.specs.Consumers.{Consumed}
 use Rattle.hw_log.specs.declared.error.LogError.TheVariants as log

@@ -1,5 +1,5 @@
 -- Which counts of the outside rise in a run, by its answer.
-use Rattle.std.specs.Prelude.{◌≡◌, ℕ, zero, suc, Bool, true, false, List, Option, Result, Ok, Err}
+use Rattle.std.specs.Prelude.{◌≡◌, ℕ, zero, suc, Bool, true, false, List, Option, Result, Err}
 use Rattle.hw_io.specs.Faults.{Rose, FailsAbout, raised}
 use Rattle.hw_service.specs.declared.fault.ServiceFault.{ServiceFault}
 use Rattle.hw_service.specs.declared.fault.ServiceFault.TheVariants as fault

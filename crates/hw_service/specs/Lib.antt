@@ -8,3 +8,4 @@ pub mod Run
 pub mod Serve
 pub mod Counts
 pub mod Written
+pub mod Turns

@@ -10,9 +10,14 @@ mod ended;
 mod fault;
 mod host;
 mod lines;
+mod own;
+mod peer;
 mod serving;
+mod turns;
 
 pub use begin::Sources;
 pub use ended::Served;
 pub use fault::ServiceFault;
+pub use peer::Peer;
 pub use serving::serve;
+pub use turns::run;

@@ -1,9 +1,9 @@
 //! Lines of words.
 
 use crate::outside::{Outside, consumer_of, number, outside_of};
-use hw_io::Consumer;
+use hw_io::{Consumer, SetClock};
 use hw_replay::StartFault;
-use hw_service::{Served, ServiceFault, Sources, serve};
+use hw_service::{Peer, Served, ServiceFault, Sources, run, serve};
 use hw_types::OutOfMemory;
 use std::alloc::Global;
 
@@ -22,6 +22,10 @@ pub fn answer(alloc: Global, line: &str) -> Result<String, OutOfMemory> {
         [_, _, _, _, plans, command, ..] => match command.split_once(':') {
             Some(("serve", sessions)) => {
                 let status = served(alloc, &mut outside, plans, number(sessions))?;
+                told(alloc, &outside, status)
+            }
+            Some(("run", words)) => {
+                let status = ran(alloc, &mut outside, plans, words)?;
                 told(alloc, &outside, status)
             }
             _ => Ok(String::new(alloc)),
@@ -46,6 +50,53 @@ fn served(
     let Outside { files, out, door } = outside;
     let served = serve(alloc, SOURCES, sessions, files, out, door, &mut consumers);
     Ok(status_of(&served))
+}
+
+/// The status with which a validator ends that takes turns, with consumers of these plans. The words are the
+/// validator, how many peers it has, and the moment of each turn.
+fn ran(alloc: Global, outside: &mut Outside, plans: &str, words: &str) -> Result<u8, OutOfMemory> {
+    let mut consumers: Vec<Box<dyn Consumer>> = Vec::new(alloc);
+    if plans != "none" {
+        for plan in plans.split(',') {
+            consumers.push(Box::new(alloc, consumer_of(alloc, plan)?)?)?;
+        }
+    }
+    let numbers: Vec<u64> = words.split(':').map(number).collect(alloc)?;
+    let (me, mut peers, moments) = turns_of(alloc, numbers.as_slice())?;
+    let turns = moments.len() as u64;
+    let mut clock = SetClock::new(moments);
+    let Outside { files, out, door } = outside;
+    let served = run(
+        alloc,
+        SOURCES,
+        me,
+        turns,
+        &mut peers,
+        files,
+        out,
+        &mut clock,
+        door,
+        &mut consumers,
+    );
+    Ok(status_of(&served))
+}
+
+/// The validator, its peers and the moments that these numbers tell.
+fn turns_of(alloc: Global, numbers: &[u64]) -> Result<(u32, Vec<Peer>, Vec<u64>), OutOfMemory> {
+    let mut peers = Vec::new(alloc);
+    match numbers {
+        [me, count, moments @ ..] => {
+            for _ in 0..*count {
+                peers.push(Peer::new(alloc, "peer")?)?;
+            }
+            Ok((
+                (*me % 1_024) as u32,
+                peers,
+                Vec::from_slice(alloc, moments)?,
+            ))
+        }
+        _ => Ok((0, peers, Vec::new(alloc))),
+    }
 }
 
 /// The status with which a program ends that runs so.

@@ -12,3 +12,4 @@ pub mod NextLaws
 pub mod SendLaws
 pub mod DrivingLaws
 pub mod DriveLaws
+pub mod ConfigLaws

@@ -1,6 +1,6 @@
 //! A node's own units.
 
-ghost use Rattle.std.specs.Prelude.{◌≡◌, ◌≤◌, ◌<◌, ◌^◌, length, Some, IsTrue, IfOk};
+ghost use Rattle.std.specs.Prelude.{◌≡◌, ◌≤◌, ◌<◌, ◌^◌, length, Some, IsTrue, IfOk, IfSome};
 ghost use Rattle.hw_types.specs.Spelling.{Fits};
 ghost use Rattle.hw_io.specs.Files.{Appended};
 ghost use Rattle.hw_session.specs.Entry.{IsEntryOf};
@@ -37,6 +37,7 @@ impl Node {
         requires value { length value.now ≤ 4096 }
         ensures made { Makes self.old (planned_by self.old me now value.now) self.new result }
         ensures line { KeepsLine self.old me self.new result }
+        ensures fits { IfOk result (λ made. IfSome made (λ plan. Fits plan.unit)) }
         ensures log { IsTrue F.tells → WritesOwn self.old (planned_by self.old me now value.now) (F.held files.old) (F.held files.new) result }
         ensures cause { IsMakeCounted (F.append_faults files.old) (F.append_faults files.new) result }
 

@@ -1,5 +1,5 @@
 use Rattle.std.proofs.Common.{refl, ◌∙◌, arith}
-use Rattle.hw_service.proofs.StepLaws.{none_taken, one_taken, last_taken, all_taken}
+use Rattle.hw_service.proofs.StepLaws.{none_taken, one_taken, last_taken}
 use Rattle.hw_service.proofs.CountLaws.{door_then, raised_none, raised_more}
 use Rattle.hw_service.proofs.serving.serve_sessions.Goals as goal
 

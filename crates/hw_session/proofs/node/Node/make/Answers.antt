@@ -5,6 +5,7 @@ use Rattle.hw_session.specs.Node.{NodeState, IsKept}
 use Rattle.hw_session.specs.Make.{Makes, WritesOwn}
 use Rattle.hw_session.proofs.StepLaws.{planned_is, node_plans, node_plan_fits}
 use Rattle.hw_session.proofs.LineLaws.{keeps_line}
+use Rattle.hw_session.proofs.ConfigLaws.{made_fits}
 use Rattle.hw_session.proofs.node.Node.make.Goals as goal
 
 pub make_planned-requires-clause-planned : goal.make_planned-requires-clause-planned
@@ -52,3 +53,11 @@ returns-in-Ok-None-clause-made g c =
     let m : NodeState = record { core = i.core; keys = i.keys; log = string_bytes i.log; lasts = i.lasts; refused = i.refused; repeats = i.repeats; limited = i.limited; clash = i.clash } in
     let planned = planned_is c.args.self.now m c.self.view_is c.state.result.now c.state.ensures.config c.state.ensures.settled c.state.ensures.panorama c.state.ensures.endorsements c.args.me c.args.now c.args.value.now None (rw c.in-Ok-None.field-0-is at c.in-Ok-None.ensures.step) in
     (inl planned, refl)
+
+pub returns-in-Ok-Some-clause-fits : goal.returns-in-Ok-Some-clause-fits
+returns-in-Ok-Some-clause-fits g c =
+    let i = c.self.inside in
+    let m : NodeState = record { core = i.core; keys = i.keys; log = string_bytes i.log; lasts = i.lasts; refused = i.refused; repeats = i.repeats; limited = i.limited; clash = i.clash } in
+    let planned = planned_is c.args.self.now m c.self.view_is c.state.result.now c.state.ensures.config c.state.ensures.settled c.state.ensures.panorama c.state.ensures.endorsements c.args.me c.args.now c.args.value.now (Some c.in-Ok-Some.plan) (rw c.in-Ok-Some.field-0-is at c.in-Ok-Some.ensures.step) in
+    let kept = subst IsKept c.self.view_is c.self.invariant in
+    made_fits _ _ c.in-Ok-Some.plan c.make_planned.result (node_plan_fits c.args.self.now c.args.me c.args.now c.args.value.now c.in-Ok-Some.plan kept c.requires.me c.requires.now c.requires.value planned) c.make_planned.ensures.made

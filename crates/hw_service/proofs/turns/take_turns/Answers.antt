@@ -1,0 +1,42 @@
+use Rattle.std.proofs.Common.{◌+◌, refl, ◌∙◌, arith}
+use Rattle.hw_service.proofs.StepLaws.{none_taken, one_taken, last_taken}
+use Rattle.hw_service.proofs.CountLaws.{door_then, raised_zero, raised_then}
+use Rattle.hw_service.proofs.turns.take_turns.Goals as goal
+
+pub loop-index-init : goal.loop-index-init
+loop-index-init g c = record {
+  taken = none_taken _ _ _;
+  dials = raised_zero _ _;
+  whole = λ so. so;
+  places = c.requires.room;
+  passed = c.requires.passed;
+  config = refl;
+  peers = refl;
+  accepts = refl;
+  appends = refl;
+  writes = refl;
+  link = refl;
+  reads = refl;
+}
+
+pub loop-index-preserved : goal.loop-index-preserved
+loop-index-preserved g c =
+    let i = c.loop-index.invariant in
+    let e = c.in-Ok.ensures in
+    record {
+      taken = one_taken _ _ _ (c.loop-index._index + 1) _ _ _ _ _ i.taken (omega arith) (e.turn (c.loop-index._index + 1));
+      dials = raised_then _ _ _ _ _ _ i.dials i.peers e.dials;
+      whole = λ so. e.whole (i.whole so);
+      places = e.room;
+      passed = e.passed;
+      config = e.config ∙ i.config;
+      peers = e.peers ∙ i.peers;
+      accepts = e.accepts ∙ i.accepts;
+      appends = e.appends ∙ i.appends;
+      writes = e.writes ∙ i.writes;
+      link = door_then _ _ _ _ _ i.link e.link;
+      reads = e.reads ∙ i.reads;
+    }
+
+pub returns-in-Err-clause-takes : goal.returns-in-Err-clause-takes
+returns-in-Err-clause-takes g c = last_taken _ _ _ _ (c.loop-index._index + 1) _ _ _ _ c.in-Err.fault c.loop-index.invariant.taken (omega arith) (omega arith) (c.in-Err.ensures.turn (c.loop-index._index + 1))

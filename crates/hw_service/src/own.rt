@@ -1,0 +1,163 @@
+//! A validator's own units in a run.
+
+ghost use Rattle.std.specs.Prelude.{◌≡◌, ◌≢◌, ◌≤◌, ◌<◌, ◌++◌, ◌^◌, ℕ, List, Option, length, IsTrue, IfOk, IfErr, IfSome, OnOk, Some};
+ghost use Rattle.hw_types.specs.Real.{setting_of};
+ghost use Rattle.hw_types.specs.Limits.{config_fault};
+ghost use Rattle.std.specs.Prelude.{None};
+ghost use Rattle.hw_types.specs.Spelling.{Fits};
+ghost use Rattle.hw_honest.specs.Cluster.{value_at};
+ghost use Rattle.hw_fanout.specs.Fates.{seen};
+ghost use Rattle.hw_fanout.specs.Chain.{told_chain};
+ghost use Rattle.hw_service.specs.Scene.{DoorSeen, outside, scene};
+ghost use Rattle.hw_service.specs.Run.{HaveTaken};
+ghost use Rattle.hw_service.specs.Turns.{MakesUnit, MakesWith, kind_word, made_line};
+ghost use Rattle.hw_service.specs.Written.{IsOfOutput, Writes};
+ghost use Rattle.hw_service.specs.Counts.{IsAppendCounted, IsWriteCounted};
+ghost use Rattle.hw_service.specs.declared.fault.ServiceFault.TheVariants as fault;
+
+use crate::fault::ServiceFault;
+use crate::host::Host;
+use crate::lines::write_bytes;
+use hw_codec::digest_of;
+use hw_io::{Consumer, Files, Sink};
+use hw_rounds::round_id;
+use hw_session::MakeFault;
+use hw_text::{end_line, put_digest, put_word};
+use hw_types::{Bytes, Config, OutOfMemory, Plan, PlanKind};
+use std::alloc::Global;
+
+/// Makes the unit that the validator may make at this moment, and tells of it.
+pub(crate) fn make_unit<F: Files, S: Sink>(
+    alloc: Global,
+    host: &mut Host,
+    me: u32,
+    moment: u64,
+    files: &mut F,
+    out: &mut S,
+    consumers: &mut Vec<Box<dyn Consumer>>,
+) -> Result<(), ServiceFault>
+    requires me { me < length host.old.node.core.config.weights }
+    requires moment { moment < 2 ^ 63 }
+    requires room { length consumers.old.items ≤ length host.old.fanout.places }
+    requires passed { host.old.fanout.passed ≡ length (told_chain host.old.node.core) }
+    ensures makes { (door : DoorSeen) → MakesUnit (seen (λ b. consumed b) (λ b. (⟦<dyn Consumer as Consumer>⟧ b.vtable).faults b.value) (λ b. b.vtable)) F.tells me moment (scene host.old.node host.old.fanout (outside (F.held files.old) door (S.taken out.old) consumers.old.items))
+        (scene host.new.node host.new.fanout (outside (F.held files.new) door (S.taken out.new) consumers.new.items)) result }
+    ensures whole { HaveTaken (seen (λ b. consumed b) (λ b. (⟦<dyn Consumer as Consumer>⟧ b.vtable).faults b.value) (λ b. b.vtable)) host.old.node.core host.old.fanout.passed consumers.old.items → OnOk result (HaveTaken (seen (λ b. consumed b) (λ b. (⟦<dyn Consumer as Consumer>⟧ b.vtable).faults b.value) (λ b. b.vtable)) host.new.node.core host.new.fanout.passed consumers.new.items) }
+    ensures room { length consumers.new.items ≤ length host.new.fanout.places }
+    ensures passed { OnOk result (host.new.fanout.passed ≡ length (told_chain host.new.node.core)) }
+    ensures config { host.new.node.core.config ≡ host.old.node.core.config }
+    ensures appends { IsAppendCounted (F.append_faults files.old) (F.append_faults files.new) result }
+    ensures writes { IsWriteCounted (S.faults out.old) (S.faults out.new) result }
+
+    ensures reads { F.read_faults files.new ≡ F.read_faults files.old }
+{
+    match value_at(alloc, host.node.core().state().config(), me, moment) {
+        Ok(value) => make_with(
+            alloc,
+            host,
+            me,
+            moment,
+            value.as_slice(),
+            files,
+            out,
+            consumers,
+        ),
+        Err(OutOfMemory) => Err(ServiceFault::OutOfMemory),
+    }
+}
+
+/// The value of a block: the validator's number as four bytes, and its round as eight.
+fn value_at(alloc: Global, config: &Config, me: u32, now: u64) -> Result<Bytes, OutOfMemory>
+    requires lawful { config_fault config.now ≡ None }
+    requires now { now < 2 ^ 63 }
+    ensures value { IfOk result (λ value. value ≡ value_at (setting_of config.now) me now) }
+    ensures short { IfOk result (λ value. length value ≤ 4096) }
+{
+    let round = round_id(now, config.min_exponent);
+    let mut value = Vec::from_slice(alloc, &me.to_be_bytes())?;
+    value.extend_from_slice(&round.to_be_bytes())?;
+    Ok(Bytes::from_vec(value))
+}
+
+/// Makes the unit that the validator may make at this moment, with this value for a block, and tells of it.
+fn make_with<F: Files, S: Sink>(
+    alloc: Global,
+    host: &mut Host,
+    me: u32,
+    moment: u64,
+    value: &[u8],
+    files: &mut F,
+    out: &mut S,
+    consumers: &mut Vec<Box<dyn Consumer>>,
+) -> Result<(), ServiceFault>
+    requires me { me < length host.old.node.core.config.weights }
+    requires moment { moment < 2 ^ 63 }
+    requires value { length value.now ≤ 4096 }
+    requires room { length consumers.old.items ≤ length host.old.fanout.places }
+    requires passed { host.old.fanout.passed ≡ length (told_chain host.old.node.core) }
+    ensures makes { (door : DoorSeen) → MakesWith (seen (λ b. consumed b) (λ b. (⟦<dyn Consumer as Consumer>⟧ b.vtable).faults b.value) (λ b. b.vtable)) F.tells me moment value.now (scene host.old.node host.old.fanout (outside (F.held files.old) door (S.taken out.old) consumers.old.items))
+        (scene host.new.node host.new.fanout (outside (F.held files.new) door (S.taken out.new) consumers.new.items)) result }
+    ensures whole { HaveTaken (seen (λ b. consumed b) (λ b. (⟦<dyn Consumer as Consumer>⟧ b.vtable).faults b.value) (λ b. b.vtable)) host.old.node.core host.old.fanout.passed consumers.old.items → OnOk result (HaveTaken (seen (λ b. consumed b) (λ b. (⟦<dyn Consumer as Consumer>⟧ b.vtable).faults b.value) (λ b. b.vtable)) host.new.node.core host.new.fanout.passed consumers.new.items) }
+    ensures room { length consumers.new.items ≤ length host.new.fanout.places }
+    ensures passed { OnOk result (host.new.fanout.passed ≡ length (told_chain host.new.node.core)) }
+    ensures config { host.new.node.core.config ≡ host.old.node.core.config }
+    ensures appends { IsAppendCounted (F.append_faults files.old) (F.append_faults files.new) result }
+    ensures writes { IsWriteCounted (S.faults out.old) (S.faults out.new) result }
+
+    ensures reads { F.read_faults files.new ≡ F.read_faults files.old }
+{
+    match host.node.make(files, me, moment, value) {
+        Ok(made) => {
+            host.fanout.pass(consumers, host.node.core());
+            tell_made(alloc, out, &made)
+        }
+        Err(MakeFault::RecordsFull) => {
+            host.fanout.pass(consumers, host.node.core());
+            Ok(())
+        }
+        Err(MakeFault::AppendFault) => Err(ServiceFault::Append),
+        Err(MakeFault::OutOfMemory) => Err(ServiceFault::OutOfMemory),
+    }
+}
+
+/// Writes the line of an own unit, if there is one. The unit keeps the limits of its format.
+fn tell_made<S: Sink>(alloc: Global, out: &mut S, made: &Option<Plan>) -> Result<(), ServiceFault>
+    requires fits { IfSome made.now (λ plan. Fits plan.unit) }
+    ensures written { Writes (S.taken out.old) (S.taken out.new) (made_line made.now) result }
+    ensures fault { IfErr result IsOfOutput }
+    ensures writes { IsWriteCounted (S.faults out.old) (S.faults out.new) result }
+{
+    match made {
+        Some(plan) => match made_line(alloc, plan) {
+            Ok(line) => write_bytes(out, line.as_slice()),
+            Err(OutOfMemory) => Err(ServiceFault::OutOfMemory),
+        },
+        None => Ok(()),
+    }
+}
+
+/// The line of an own unit, which keeps the limits of its format.
+#[tactic(auto, using(std::proofs::Common::append_assoc), unfolding(crate::specs::Turns::made_line, hw_text::specs::Lines::line_of))]
+fn made_line(alloc: Global, plan: &Plan) -> Result<Bytes, OutOfMemory>
+    requires fits { Fits plan.now.unit }
+    ensures { IfOk result (λ line. line ≡ made_line (Some plan.now)) }
+{
+    let mut line = Bytes::new(alloc);
+    put_word(&mut line, "made ")?;
+    put_word(&mut line, kind_word(plan.kind))?;
+    put_word(&mut line, " ")?;
+    put_digest(&mut line, &digest_of(alloc, &plan.unit)?)?;
+    end_line(&mut line)?;
+    Ok(line)
+}
+
+/// What a unit is for, in a word.
+fn kind_word(kind: PlanKind) -> &'static str
+    ensures { result.now ≡ kind_word kind }
+{
+    match kind {
+        PlanKind::Propose => "propose",
+        PlanKind::Confirm => "confirm",
+        PlanKind::Witness => "witness",
+    }
+}
