@@ -1,7 +1,7 @@
 //! Lines of words.
 
-use crate::outside::{Outside, consumer_of, number, outside_of};
-use hw_io::{Consumer, SetClock};
+use crate::outside::{Moments, Outside, consumer_of, number, outside_of};
+use hw_io::Consumer;
 use hw_replay::StartFault;
 use hw_service::{Peer, Served, ServiceFault, Sources, run, serve};
 use hw_types::OutOfMemory;
@@ -64,7 +64,7 @@ fn ran(alloc: Global, outside: &mut Outside, plans: &str, words: &str) -> Result
     let numbers: Vec<u64> = words.split(':').map(number).collect(alloc)?;
     let (me, mut peers, moments) = turns_of(alloc, numbers.as_slice())?;
     let turns = moments.len() as u64;
-    let mut clock = SetClock::new(moments);
+    let mut clock = Moments { moments, next: 0 };
     let Outside { files, out, door } = outside;
     let served = run(
         alloc,

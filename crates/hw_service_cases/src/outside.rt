@@ -1,6 +1,6 @@
 //! The outside of one run, in memory.
 
-use hw_io::{Consumer, ListConsumer, MemDoor, MemFiles, MemSink};
+use hw_io::{Clock, ListConsumer, MemDoor, MemFiles, MemSink};
 use hw_types::OutOfMemory;
 use std::alloc::{AllocError, Global};
 
@@ -10,6 +10,28 @@ pub struct Outside {
     pub files: MemFiles,
     pub out: MemSink,
     pub door: MemDoor,
+}
+
+/// A clock that gives these moments in turn, and then 0.
+#[derive(Drop)]
+pub struct Moments {
+    pub moments: Vec<u64>,
+    pub next: usize,
+}
+
+impl Clock for Moments {
+    ghost use Rattle.std.specs.Prelude.{None};
+
+    ghost given = { λ _. None };
+
+    fn now(&mut self) -> u64 {
+        let moment = match self.moments.get(self.next) {
+            Some(moment) => *moment,
+            None => 0,
+        };
+        self.next = self.next.saturating_add(1);
+        moment % (1 << 63)
+    }
 }
 
 /// The outside of these words: settings, keys, log and failures, and what peers say.
