@@ -7,7 +7,7 @@ use Rattle.hw_log.specs.declared.error.LogError.{LogError}
 use Rattle.hw_rewrite.specs.declared.whole.Rewritten.{Rewritten}
 use Rattle.hw_rewrite.specs.Rewritten.{mended_of, migrated_of}
 use Rattle.hw_program.specs.declared.ended.Ended.{Ended}
-use Rattle.hw_program.specs.Commands.{Word, Request, Replay, Explain, Audit, Script, Mend, Migrate, Certify, Check, Gen, Sim, request_of}
+use Rattle.hw_program.specs.Commands.{Word, Request, Replay, Explain, Audit, Script, Mend, Migrate, Certify, Check, Gen, Sim, Eras, EraAudit, request_of}
 use Rattle.hw_program.specs.Program.{Held, ended, request_said, rewrite_said, run_of}
 use Rattle.hw_types.specs.declared.unit.Digest.{Digest}
 use Rattle.hw_program.specs.Faults.{IsAuditEnd, IsCheckEnd, IsEndOf}
@@ -69,6 +69,8 @@ files_after (Some (Certify log block new)) status result before now kept c = cer
 files_after (Some (Check file keys log)) status result before now kept same = same
 files_after (Some (Gen number rounds)) status result before now kept same = same
 files_after (Some (Sim number nodes steps)) status result before now kept same = same
+files_after (Some (Eras logs)) status result before now kept same = same
+files_after (Some (EraAudit left right)) status result before now kept same = same
 
 -- what a run leaves whose text, or whose line of a fault, was written as far as the output took it
 pub finished_files : (request : Option Request) (status : ℕ) (text : List ℕ) (result : ℕ) (old new : Output) (before now : Held) → Finishes status text result old new
@@ -97,6 +99,8 @@ request_status held (Some (Certify log block new)) may = absurd may
 request_status held (Some (Check file keys log)) may = absurd may
 request_status held (Some (Gen number rounds)) may = absurd may
 request_status held (Some (Sim number nodes steps)) may = absurd may
+request_status held (Some (Eras logs)) may = absurd may
+request_status held (Some (EraAudit left right)) may = absurd may
 
 pub allowed_run : (words : List Word) (held : Held) → IsAllowed (request_of words) held → (run_of words held).status ≡ 0
 unfolding run_of
@@ -133,6 +137,8 @@ end_not_five (Some (Certify log block new)) e (inr end) five = not_five e.status
 end_not_five (Some (Check file keys log)) e end five = not_five_checked e.status end five
 end_not_five (Some (Gen number rounds)) e end five = omega (arith, end, five)
 end_not_five (Some (Sim number nodes steps)) e end five = omega (arith, end, five)
+end_not_five (Some (Eras logs)) e end five = not_five e.status (inr end) five
+end_not_five (Some (EraAudit left right)) e end five = not_five e.status end five
 
 pub write_failed : (request : Option Request) (e said : Ended) (result : ℕ) (old new : Output) → IsEndOf request e → e ≡ said → Finishes e.status e.text result old new → result ≡ 5
     → Rose old.faults new.faults × AppendsPrefix old.taken new.taken said.text

@@ -16,6 +16,7 @@ pub mod ToldLaws
 pub mod CertifyLaws
 pub mod AgainstLaws
 pub mod ShownLaws
+pub mod EraLaws
 pub mod CheckRunLaws
 pub mod EndLaws
 pub mod WrittenLaws

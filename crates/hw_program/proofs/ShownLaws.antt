@@ -28,8 +28,8 @@ use Rattle.hw_light_texts.specs.Keys.{keys_of}
 use Rattle.hw_light_texts.proofs.CheckedLaws.{yes_shows}
 use Rattle.hw_program.specs.declared.ended.Ended.{Ended}
 use Rattle.hw_program.specs.declared.ended.RunFault.{RunFault}
-use Rattle.hw_program.specs.Conflict.{ReportsConflict}
-use Rattle.hw_program.specs.Commands.{Word, Request, Replay, Explain, Audit, Script, Mend, Migrate, Certify, Check, Gen, Sim, request_of}
+use Rattle.hw_program.specs.Conflict.{ReportsConflict, ReportsEraConflict}
+use Rattle.hw_program.specs.Commands.{Word, Request, Replay, Explain, Audit, Script, Mend, Migrate, Certify, Check, Gen, Sim, Eras, EraAudit, request_of}
 use Rattle.hw_program.specs.Texts.{input_ended, limit_ended, clash_ended, read_fault_ended}
 use Rattle.hw_program.specs.Audited.{chains_ended, clash_or, audit_ended}
 use Rattle.hw_program.specs.Told.{told_ended}
@@ -153,6 +153,8 @@ shows words held shown = go (request_of words) shown
     go (Some (Certify old block new)) s = tt
     go (Some (Gen number rounds)) s = tt
     go (Some (Sim number nodes steps)) s = tt
+    go (Some (Eras logs)) s = tt
+    go (Some (EraAudit left right)) s = tt
 
 -- ---- a log against it
 
@@ -261,11 +263,11 @@ check_contradicts words held file keys (Some name) asked alike three =
 -- so does the run
 pub checked_conflict : (words : List Word) (held : Held) (file keys : Word) (against : Option Word) (r : Result Ended RunFault) → request_of words ≡ Some (Check file keys against)
     → IfOk r (λ e. e ≡ ended (check_said held file keys against)) → IfOk r (λ e. e.status ≡ 3 → IsAlikeIn held file against)
-    → IfOk r (λ e. e.status ≡ 3 → ReportsConflict words held (run_of words held).text ⊎ ContradictsCertificate words held (run_of words held).text)
+    → IfOk r (λ e. e.status ≡ 3 → ReportsConflict words held (run_of words held).text ⊎ ContradictsCertificate words held (run_of words held).text ⊎ ReportsEraConflict words held (run_of words held).text)
 unfolding run_of
 checked_conflict words held file keys against (Ok e) asked told alike = λ three.
     let is = ap (λ (o : Option Request). ended (request_said held o)) asked in
-    inr (subst (λ (x : Ended). ContradictsCertificate words held x.text) (sym is) (check_contradicts words held file keys against asked (alike three) (sym (ap (λ (x : Ended). x.status) told) ∙ three)))
+    inr (inl (subst (λ (x : Ended). ContradictsCertificate words held x.text) (sym is) (check_contradicts words held file keys against asked (alike three) (sym (ap (λ (x : Ended). x.status) told) ∙ three))))
 checked_conflict words held file keys against (Err f) asked told alike = tt
 
 -- ---- what is answered

@@ -8,7 +8,7 @@ use Rattle.std.specs.Prelude.{Result}
 use Rattle.hw_fanout.specs.Fates.{Sight}
 use Rattle.hw_feed.specs.Feed.{file_replayed}
 use Rattle.hw_program.specs.declared.ended.Ended.{Ended}
-use Rattle.hw_program.specs.Commands.{Request, Replay, Explain, Audit, Script, Mend, Migrate, Certify, Check, Gen, Sim}
+use Rattle.hw_program.specs.Commands.{Request, Replay, Explain, Audit, Script, Mend, Migrate, Certify, Check, Gen, Sim, Eras, EraAudit}
 use Rattle.hw_program.specs.Program.{Held}
 use Rattle.hw_program.specs.Faults.{IsReadEnd, IsAuditEnd, IsEndOf}
 use Rattle.hw_program.specs.Run.{Output, IsDone, IsRefusal, Finishes, WritesLine, WritesToNoMemory}
@@ -154,6 +154,8 @@ end_not_seven (Some (Check file keys log)) e (inl end) seven = omega (arith, end
 end_not_seven (Some (Check file keys log)) e (inr end) seven = audit_end_seven e.status end seven
 end_not_seven (Some (Gen number rounds)) e end seven = omega (arith, end, seven)
 end_not_seven (Some (Sim number nodes steps)) e end seven = omega (arith, end, seven)
+end_not_seven (Some (Eras logs)) e end seven = audit_end_seven e.status (inr end) seven
+end_not_seven (Some (EraAudit left right)) e end seven = audit_end_seven e.status end seven
 
 pub want_written : (request : Option Request) (e : Ended) (result : ℕ) (old new : Output) → IsEndOf request e → Finishes e.status e.text result old new → result ≡ 7 → WritesToNoMemory old new e.text
 want_written request e result old new end (inl whole) seven = absurd (end_not_seven request e end (sym whole.0 ∙ seven))

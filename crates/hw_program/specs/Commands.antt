@@ -1,5 +1,5 @@
 -- The grammar of a command line.
-use Rattle.std.specs.Prelude.{ℕ, ◌^◌, Bool, false, not, ◌==◌, List, [], ◌∷◌, Option, Some, None, codes, bytes_eq, if◌then◌else◌}
+use Rattle.std.specs.Prelude.{ℕ, ◌^◌, Bool, false, not, ◌==◌, nat_le, ◌&&◌, List, [], ◌∷◌, length, take, drop, Option, Some, None, codes, bytes_eq, if◌then◌else◌}
 use Rattle.std.specs.List.{list_all}
 use Rattle.std.specs.Option.{option_map}
 use Rattle.std.specs.Result.{result_ok}
@@ -24,6 +24,8 @@ pub data Request : Type 0 where
   Check : Word → Word → Option Word → Request
   Gen : ℕ → ℕ → Request
   Sim : ℕ → ℕ → ℕ → Request
+  Eras : List Word → Request
+  EraAudit : List Word → List Word → Request
 
 -- no word is empty or begins with `-`
 abbrev pub is_word : Word → Bool
@@ -78,13 +80,42 @@ of_three command a b c =
     else if bytes_eq command (codes "check") then Some (Check a b (Some c))
     else None
 
+-- of at most three words behind the command
+unfoldable pub of_few : Word → List Word → Option Request
+of_few command [] = None
+of_few command (a ∷ []) = of_one command a
+of_few command (a ∷ b ∷ []) = of_two command a b
+of_few command (a ∷ b ∷ c ∷ []) = of_three command a b c
+of_few command (a ∷ b ∷ c ∷ d ∷ more) = None
+
+-- one log or more, and at most 64, as many as a node has eras
+abbrev pub are_logs : List Word → Bool
+are_logs logs = nat_le 1 (length logs) && nat_le (length logs) 64
+
+-- the eras of these logs
+abbrev pub eras_of : List Word → Option Request
+eras_of logs = if are_logs logs then Some (Eras logs) else None
+
+-- the eras of two nodes, which these logs leave
+abbrev pub two_nodes : List Word → List Word → Option Request
+two_nodes left right = if are_logs left && are_logs right then Some (EraAudit left right) else None
+
+-- so many logs of the left node, and then those of the right one
+abbrev pub split_at : Option ℕ → List Word → Option Request
+split_at None logs = None
+split_at (Some count) logs = two_nodes (take count logs) (drop count logs)
+
+-- a number, and the logs of two nodes
+abbrev pub numbered_of : List Word → Option Request
+numbered_of [] = None
+numbered_of (number ∷ logs) = split_at (number_below 65 number) logs
+
 -- of these words behind the command
 abbrev pub of_words : Word → List Word → Option Request
-of_words command [] = None
-of_words command (a ∷ []) = of_one command a
-of_words command (a ∷ b ∷ []) = of_two command a b
-of_words command (a ∷ b ∷ c ∷ []) = of_three command a b c
-of_words command (a ∷ b ∷ c ∷ d ∷ more) = None
+of_words command words =
+    if bytes_eq command (codes "eras") then eras_of words
+    else if bytes_eq command (codes "era-audit") then numbered_of words
+    else of_few command words
 
 -- the request of these words, if they are in the grammar
 unfoldable pub request_of : List Word → Option Request
@@ -104,6 +135,8 @@ OnlyReads (Some (Certify log block new)) = ⊥
 OnlyReads (Some (Check file keys log)) = Unit {0}
 OnlyReads (Some (Gen number rounds)) = Unit {0}
 OnlyReads (Some (Sim number nodes steps)) = Unit {0}
+OnlyReads (Some (Eras logs)) = Unit {0}
+OnlyReads (Some (EraAudit left right)) = Unit {0}
 
 -- a run of it uses files and the output, and nothing else of the outside
 abbrev pub UsesFilesAlone : Option Request → Type 0
@@ -118,3 +151,5 @@ UsesFilesAlone (Some (Certify log block new)) = Unit {0}
 UsesFilesAlone (Some (Check file keys log)) = Unit {0}
 UsesFilesAlone (Some (Gen number rounds)) = Unit {0}
 UsesFilesAlone (Some (Sim number nodes steps)) = Unit {0}
+UsesFilesAlone (Some (Eras logs)) = Unit {0}
+UsesFilesAlone (Some (EraAudit left right)) = Unit {0}

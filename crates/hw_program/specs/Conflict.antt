@@ -9,7 +9,8 @@ use Rattle.hw_verdicts.specs.Verdicts.{journals_clash, AreInConflict}
 use Rattle.hw_audit.specs.Text.{audit_text}
 use Rattle.hw_replay.specs.Taken.{Taken}
 use Rattle.hw_program.specs.declared.ended.Ended.{Ended}
-use Rattle.hw_program.specs.Commands.{Word, Audit, request_of}
+use Rattle.hw_program.specs.Commands.{Word, Audit, EraAudit, request_of}
+use Rattle.hw_program.specs.Eras.{IsEraConflictOf}
 use Rattle.hw_program.specs.Program.{Held, ended, log_replayed, audited_against}
 
 -- The log of this name is in conflict with a node: the two decided different blocks at this height and at none below it;
@@ -41,6 +42,13 @@ pub record ReportsConflict (words : List Word) (held : Held) (text : List ℕ) :
   pub right : Word
   pub asked : request_of words ≡ Some (Audit left right)
   pub conflict : IsConflictOf held left right text
+
+-- the eras of two nodes that the words name by their logs are in conflict
+pub record ReportsEraConflict (words : List Word) (held : Held) (text : List ℕ) : Type 0 where
+  pub left : List Word
+  pub right : List Word
+  pub asked : request_of words ≡ Some (EraAudit left right)
+  pub conflict : IsEraConflictOf held left right text
 
 -- a log's audit against a node ends as the definitions say, and where that is a conflict, the culprits weigh more than the threshold
 pub record IsAudited (held : Held) (left : CoreState) (right : Word) (e : Ended) : Type 0 where

@@ -1,8 +1,9 @@
 -- When a run up to its text has which fault.
-use Rattle.std.specs.Prelude.{◌≡◌, ℕ, ◌≤◌, ◌⊎◌, List, Option, Some, None, Result, Ok, Err}
+use Rattle.std.specs.Prelude.{◌≡◌, ℕ, ◌≤◌, ◌⊎◌, List, ◌++◌, Option, Some, None, Result, Ok, Err}
+use Rattle.hw_types.specs.Below.{Among}
 use Rattle.hw_io.specs.Faults.{Rose}
 use Rattle.hw_program.specs.declared.ended.Ended.{Ended}
-use Rattle.hw_program.specs.Commands.{Word, Request, Replay, Explain, Audit, Script, Mend, Migrate, Certify, Check, Gen, Sim}
+use Rattle.hw_program.specs.Commands.{Word, Request, Replay, Explain, Audit, Script, Mend, Migrate, Certify, Check, Gen, Sim, Eras, EraAudit}
 use Rattle.hw_program.specs.Texts.{usage_line}
 use Rattle.hw_program.specs.declared.ended.RunFault.{RunFault}
 use Rattle.hw_program.specs.declared.ended.RunFault.TheVariants.{Read, Append, OutOfMemory}
@@ -51,6 +52,10 @@ abbrev pub FailsOn : Option Word → (List ℕ → ℕ) → (List ℕ → ℕ) �
 FailsOn None before now = ⊥
 FailsOn (Some name) before now = Rose (before name) (now name)
 
+-- a call about one of the files failed
+abbrev pub FailsAmong : List Word → (List ℕ → ℕ) → (List ℕ → ℕ) → Type 0
+FailsAmong names before now = (name : Word) × (Among name names × Rose (before name) (now name))
+
 -- a call about a file that was asked for failed, and was counted for it
 abbrev pub FailsOf : Option Request → (List ℕ → ℕ) → (List ℕ → ℕ) → Type 0
 FailsOf None before now = ⊥
@@ -64,6 +69,8 @@ FailsOf (Some (Certify log block new)) before now = Rose (before log) (now log) 
 FailsOf (Some (Check file keys log)) before now = Rose (before file) (now file) ⊎ Rose (before keys) (now keys) ⊎ FailsOn log before now
 FailsOf (Some (Gen number rounds)) before now = ⊥
 FailsOf (Some (Sim number nodes steps)) before now = ⊥
+FailsOf (Some (Eras logs)) before now = FailsAmong logs before now
+FailsOf (Some (EraAudit left right)) before now = FailsAmong (left ++ right) before now
 
 -- a command that reads logs does all, or ends by what is wrong with one: its bytes, a limit that it meets, or a clash
 abbrev pub IsReadEnd : ℕ → Type 0
@@ -94,3 +101,5 @@ IsEndOf (Some (Certify log block new)) ended = IsCertifyEnd ended.status
 IsEndOf (Some (Check file keys log)) ended = IsCheckEnd ended.status
 IsEndOf (Some (Gen number rounds)) ended = ended.status ≡ 0
 IsEndOf (Some (Sim number nodes steps)) ended = ended.status ≡ 0
+IsEndOf (Some (Eras logs)) ended = IsReadEnd ended.status
+IsEndOf (Some (EraAudit left right)) ended = IsAuditEnd ended.status

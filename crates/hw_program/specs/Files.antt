@@ -9,7 +9,7 @@ use Rattle.hw_rewrite.specs.Migrated.{HoldsAnew}
 use Rattle.hw_program.specs.declared.ended.Ended.{Ended}
 use Rattle.hw_program.specs.declared.ended.RunFault.{RunFault}
 use Rattle.hw_program.specs.declared.ended.RunFault.TheVariants.{Read, Append, OutOfMemory}
-use Rattle.hw_program.specs.Commands.{Word, Request, Replay, Explain, Audit, Script, Mend, Migrate, Certify, Check, Gen, Sim}
+use Rattle.hw_program.specs.Commands.{Word, Request, Replay, Explain, Audit, Script, Mend, Migrate, Certify, Check, Gen, Sim, Eras, EraAudit}
 use Rattle.hw_program.specs.Program.{Held}
 use Rattle.hw_program.specs.Certified.{IsCertified}
 
@@ -42,6 +42,8 @@ FilesAfter (Some (Certify log block new)) status before now = IsCertified log bl
 FilesAfter (Some (Check file keys log)) status before now = SameFiles before now
 FilesAfter (Some (Gen number rounds)) status before now = SameFiles before now
 FilesAfter (Some (Sim number nodes steps)) status before now = SameFiles before now
+FilesAfter (Some (Eras logs)) status before now = SameFiles before now
+FilesAfter (Some (EraAudit left right)) status before now = SameFiles before now
 
 -- the log is there and may be written anew, and the new file isn't there
 pub record MayBeWritten (rewritten_of : List ℕ → Result Rewritten LogError) (held : Held) (log new : Word) : Type 0 where
@@ -64,3 +66,5 @@ IsAllowed (Some (Certify log block new)) held = ⊥
 IsAllowed (Some (Check file keys log)) held = ⊥
 IsAllowed (Some (Gen number rounds)) held = ⊥
 IsAllowed (Some (Sim number nodes steps)) held = ⊥
+IsAllowed (Some (Eras logs)) held = ⊥
+IsAllowed (Some (EraAudit left right)) held = ⊥

@@ -6,6 +6,7 @@ pub mod Scripted
 pub mod Workloads
 pub mod Conflict
 pub mod Told
+pub mod Eras
 pub mod Certified
 pub mod Shown
 pub mod Laws

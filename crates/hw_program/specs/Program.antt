@@ -30,11 +30,14 @@ use Rattle.hw_light_texts.specs.Keys.{keys_of}
 use Rattle.hw_program.specs.declared.ended.Ended.{Ended}
 use Rattle.hw_program.specs.Texts.{usage_line, log_text, input_ended, read_fault_ended, stopped_ended}
 use Rattle.hw_script.specs.Output.{output_of}
+use Rattle.hw_era_runs.specs.Reports.{logs_reported}
+use Rattle.hw_era_runs.specs.Audits.{logs_audited}
 use Rattle.hw_program.specs.Audited.{audit_ended}
 use Rattle.hw_program.specs.Scripted.{script_ended}
 use Rattle.hw_program.specs.Told.{told_ended, no_ended}
 use Rattle.hw_program.specs.Workloads.{gen_line, sim_line}
-use Rattle.hw_program.specs.Commands.{Word, Request, Replay, Explain, Audit, Script, Mend, Migrate, Certify, Check, Gen, Sim, request_of}
+use Rattle.hw_program.specs.Eras.{eras_ended, era_audit_ended}
+use Rattle.hw_program.specs.Commands.{Word, Request, Replay, Explain, Audit, Script, Mend, Migrate, Certify, Check, Gen, Sim, Eras, EraAudit, request_of}
 
 -- the bytes held under each name, where there is a file
 abbrev pub Held : Type 0
@@ -183,6 +186,14 @@ gen_said number rounds = done (gen_line rounds (gen_totals number rounds))
 abbrev pub sim_said : ℕ → ℕ → ℕ → Part Ended
 sim_said number nodes steps = done (sim_line nodes steps (sim_numbers number nodes steps))
 
+-- the reports on the eras of these logs
+abbrev pub eras_said : Held → List Word → Part Ended
+eras_said held logs = Ok (eras_ended (logs_reported held logs))
+
+-- the audit of the eras of two nodes, which these logs leave
+abbrev pub era_audit_said : Held → List Word → List Word → Part Ended
+era_audit_said held left right = Ok (era_audit_ended (logs_audited held left right))
+
 -- ---- the program
 
 -- a request, by what the files hold; each command has its line
@@ -198,6 +209,8 @@ request_said held (Some (Certify log block new)) = certify_said held log block n
 request_said held (Some (Check file keys log)) = check_said held file keys log
 request_said held (Some (Gen number rounds)) = gen_said number rounds
 request_said held (Some (Sim number nodes steps)) = sim_said number nodes steps
+request_said held (Some (Eras logs)) = eras_said held logs
+request_said held (Some (EraAudit left right)) = era_audit_said held left right
 
 -- How a run ends and what it writes, by its words and what the files hold, where nothing of the outside fails and there is memory.
 unfoldable pub run_of : List Word → Held → Ended

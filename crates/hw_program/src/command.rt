@@ -1,15 +1,18 @@
 //! The grammar of a command line.
 
-ghost use Rattle.std.specs.Prelude.{◌≡◌, ◌<◌, ◌+◌, ◌^◌, length, drop, IfSome};
+ghost use Rattle.std.specs.Prelude.{◌≡◌, ◌<◌, ◌+◌, ◌^◌, length, map, string_bytes, IfSome};
 ghost use Rattle.std.specs.List.{list_all};
 ghost use Rattle.hw_script_grammar.specs.Numbers.{number_below};
-ghost use Rattle.hw_program.specs.Commands.{is_word, of_one, of_two, of_three, gen_of, sim_of, certify_of, digest_told, request_of};
+ghost use Rattle.hw_program.specs.Commands.{is_word, are_logs, eras_of, two_nodes, numbered_of, of_words, of_few, of_one, of_two, of_three, gen_of, sim_of, certify_of, digest_told, request_of};
 ghost use Rattle.hw_program.specs.Asked.{asked, IsInRange};
 
 use crate::digits::digest_told;
 use crate::words::Words;
 use hw_script_grammar::number_up_to;
 use hw_types::Digest;
+
+/// A node has at most this many logs, one for each era.
+const MAX_LOGS: u64 = 64;
 
 /// A generated journal has at most this many rounds.
 const MAX_ROUNDS: u64 = 4_096;
@@ -77,6 +80,15 @@ pub enum Command<'w> {
         nodes: u32,
         steps: u32,
     },
+    /// Takes the vertices of each log in its era, in order, and reports on each era of the node that they leave.
+    Eras {
+        logs: &'w [String],
+    },
+    /// Takes the vertices of the logs of two nodes, each in its era, and tells what the eras say of each other.
+    EraAudit {
+        left: &'w [String],
+        right: &'w [String],
+    },
 }
 
 /// The command that the words ask for, if they are in the grammar.
@@ -85,18 +97,83 @@ pub fn command_of(words: &Words) -> Option<Command<'_>>
     ensures asked { asked result ≡ request_of words.now }
     ensures range { IfSome result IsInRange }
 {
-    match words.len() {
-        2 if is_word(words.get(0)) && is_word(words.get(1)) => of_one(words.get(0), words.get(1)),
-        3 if is_word(words.get(0)) && is_word(words.get(1)) && is_word(words.get(2)) => {
-            of_two(words.get(0), words.get(1), words.get(2))
-        }
-        4
-            if is_word(words.get(0))
-                && is_word(words.get(1))
-                && is_word(words.get(2))
-                && is_word(words.get(3)) => {
-            of_three(words.get(0), words.get(1), words.get(2), words.get(3))
-        }
+    let words = words.as_slice();
+    if !are_words(words) {
+        return None;
+    }
+    let (command, words) = words.split_first()?;
+    of_words(command.as_str(), words)
+}
+
+/// The command of the words behind it.
+fn of_words<'w>(command: &str, words: &'w [String]) -> Option<Command<'w>>
+    ensures asked { asked result ≡ of_words command.now (map string_bytes words.now) }
+    ensures range { IfSome result IsInRange }
+{
+    match command {
+        "eras" => eras(words),
+        "era-audit" => era_audit(words),
+        _ => of_few(command, words),
+    }
+}
+
+/// The eras of these logs.
+fn eras<'w>(logs: &'w [String]) -> Option<Command<'w>>
+    ensures asked { asked result ≡ eras_of (map string_bytes logs.now) }
+    ensures range { IfSome result IsInRange }
+{
+    if are_logs(logs) {
+        Some(Command::Eras { logs })
+    } else {
+        None
+    }
+}
+
+/// The eras of two nodes, of which the left one has so many of the logs as the first word tells.
+fn era_audit<'w>(words: &'w [String]) -> Option<Command<'w>>
+    ensures asked { asked result ≡ numbered_of (map string_bytes words.now) }
+    ensures range { IfSome result IsInRange }
+{
+    let (number, logs) = words.split_first()?;
+    let count = number_up_to(MAX_LOGS, number.as_bytes())?;
+    let (left, right) = logs.split_at_checked(count as usize)?;
+    two_nodes(left, right)
+}
+
+/// The eras of two nodes, which these logs leave.
+fn two_nodes<'w>(left: &'w [String], right: &'w [String]) -> Option<Command<'w>>
+    ensures asked { asked result ≡ two_nodes (map string_bytes left.now) (map string_bytes right.now) }
+    ensures range { IfSome result IsInRange }
+{
+    if are_logs(left) && are_logs(right) {
+        Some(Command::EraAudit { left, right })
+    } else {
+        None
+    }
+}
+
+/// Whether a node has so many logs.
+fn are_logs(logs: &[String]) -> bool
+    ensures { result ≡ are_logs (map string_bytes logs.now) }
+{
+    (1..=MAX_LOGS as usize).contains(&logs.len())
+}
+
+/// The command of at most three words behind it.
+#[tactic(auto, unfolding(crate::specs::Commands::of_few))]
+fn of_few<'w>(command: &str, words: &'w [String]) -> Option<Command<'w>>
+    ensures asked { asked result ≡ of_few command.now (map string_bytes words.now) }
+    ensures range { IfSome result IsInRange }
+{
+    match words {
+        [first] => of_one(command, first.as_str()),
+        [first, second] => of_two(command, first.as_str(), second.as_str()),
+        [first, second, third] => of_three(
+            command,
+            first.as_str(),
+            second.as_str(),
+            third.as_str(),
+        ),
         _ => None,
     }
 }
@@ -217,6 +294,13 @@ fn simulation<'w>(number: &str, nodes: &str, steps: &str) -> Option<Command<'w>>
         nodes: nodes as u32,
         steps: steps as u32,
     })
+}
+
+/// Whether each text may be a word.
+fn are_words(texts: &[String]) -> bool
+    ensures { result ≡ list_all (λ text. is_word (string_bytes text)) texts.now }
+{
+    texts.iter().all(|text| is_word(text.as_str()))
 }
 
 /// Whether the text may be a word: it isn't empty and doesn't begin with `-`.

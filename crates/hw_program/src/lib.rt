@@ -12,6 +12,7 @@ mod check;
 mod command;
 mod digits;
 mod ended;
+mod eras;
 mod explain;
 mod faults;
 mod laws;

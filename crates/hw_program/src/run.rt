@@ -10,7 +10,7 @@ ghost use Rattle.hw_program.specs.Texts.{usage_line, read_fault_line, append_fau
 ghost use Rattle.hw_program.specs.Faults.{HasReadFault, HasRunFault, FailsOf, IsEndOf};
 ghost use Rattle.hw_program.specs.Files.{FilesAfter, IsAllowed, status_of};
 ghost use Rattle.hw_program.specs.Program.{run_of};
-ghost use Rattle.hw_program.specs.Conflict.{ReportsConflict};
+ghost use Rattle.hw_program.specs.Conflict.{ReportsConflict, ReportsEraConflict};
 ghost use Rattle.hw_program.specs.Fed.{CallsNone, ConsumersAfter, IsTextOf};
 ghost use Rattle.hw_program.specs.Shown.{IsShown, IfChecks, ShowsCertificate, ContradictsCertificate};
 ghost use Rattle.hw_program.specs.Run.{IsStatus, IsDone, IsSaid, IsRefusal, WritesLine, WritesText, WritesPrefix, WritesMemoryLine, EndsWithoutMemory, EndsAppending, Finishes};
@@ -21,6 +21,7 @@ use crate::certify::certified;
 use crate::check::checked;
 use crate::command::{Command, command_of};
 use crate::ended::{CONFLICT, DONE, Ended, OUT_OF_MEMORY, READ_FAULT, RunFault, WRITE_FAULT};
+use crate::eras::{audit_eras, eras};
 use crate::explain::explain;
 use crate::faults::usage;
 use crate::replay::replay;
@@ -43,8 +44,8 @@ const OUT_OF_MEMORY_LINE: &str = "out of memory\n";
 /// the decided blocks after each entry, and are told that no block follows before the report is made;
 /// one that answers an error is dropped, leaves the list, and is named behind the report. The status is
 /// 0 where all was done, 1 where the words aren't in the grammar, 2 where a file's bytes aren't or a file
-/// that is to be new is there, 3 where two logs, or a log and a certificate, report conflicting final
-/// blocks, 4 where a read of the files failed, 5 where a write of the output or an append to a file
+/// that is to be new is there, 3 where two logs, a log and a certificate, or the eras of two nodes report
+/// conflicting final blocks, 4 where a read of the files failed, 5 where a write of the output or an append to a file
 /// failed, 7 where there was no memory, 8 where a log meets a limit, 9 where two different units have one
 /// digest, and 10 where no certificate could be made or one shows nothing. A fault has one line, which is
 /// written if the output takes it.
@@ -79,8 +80,8 @@ pub fn highway<F: Files, S: Sink, C: Clock, D: Door>(
     ensures complete { IsTrue F.tells → (Rose (F.read_faults files.old) (F.read_faults files.new) → ⊥) → (Rose (S.faults out.old) (S.faults out.new) → ⊥) → OnlyReads (request_of words.now) ⊎ (Rose (F.append_faults files.old) (F.append_faults files.new) → ⊥) → (result ≡ (run_of words.now (F.held files.old)).status) ⊎ (result ≡ 7) }
     ensures allowed { IsTrue F.tells → IsAllowed (request_of words.now) (F.held files.old) → (Rose (F.read_faults files.old) (F.read_faults files.new) → ⊥) → (Rose (S.faults out.old) (S.faults out.new) → ⊥) → (Rose (F.append_faults files.old) (F.append_faults files.new) → ⊥) → (result ≡ 0) ⊎ (result ≡ 7) }
 
-    // Where two logs, or a log and a certificate, report conflicting final blocks, the audit names culprits, each by two signed units, and they weigh more than the threshold.
-    ensures conflict { IsTrue F.tells → result ≡ 3 → ReportsConflict words.now (F.held files.old) (run_of words.now (F.held files.old)).text ⊎ ContradictsCertificate words.now (F.held files.old) (run_of words.now (F.held files.old)).text }
+    // Where two logs, a log and a certificate, or the eras of two nodes report conflicting final blocks, the audit names culprits, each by two signed units, and they weigh more than the threshold.
+    ensures conflict { IsTrue F.tells → result ≡ 3 → ReportsConflict words.now (F.held files.old) (run_of words.now (F.held files.old)).text ⊎ ContradictsCertificate words.now (F.held files.old) (run_of words.now (F.held files.old)).text ⊎ ReportsEraConflict words.now (F.held files.old) (run_of words.now (F.held files.old)).text }
 
     // Where a check has one of these statuses, the certificate's vertices alone make its block stand, and by the keys each is signed.
     ensures certified { IsTrue F.tells → IsShown result → IfChecks (ShowsCertificate (F.held files.old)) (request_of words.now) }
@@ -126,7 +127,7 @@ fn run<F: Files>(
 ) -> Result<Ended, RunFault>
     ensures said { IsTrue F.tells → IfOk result (λ ended. ended.status ≡ (run_of words.now (F.held files.old)).status) }
     ensures text { IsTrue F.tells → IfOk result (λ ended. IsTextOf (seen (λ b. consumed b) (λ b. faults b) (λ b. b.vtable)) F.tells words.now (F.held files.old) consumers.old.items consumers.new.items ended.text) }
-    ensures conflict { IsTrue F.tells → IfOk result (λ ended. ended.status ≡ 3 → ReportsConflict words.now (F.held files.old) (run_of words.now (F.held files.old)).text ⊎ ContradictsCertificate words.now (F.held files.old) (run_of words.now (F.held files.old)).text) }
+    ensures conflict { IsTrue F.tells → IfOk result (λ ended. ended.status ≡ 3 → ReportsConflict words.now (F.held files.old) (run_of words.now (F.held files.old)).text ⊎ ContradictsCertificate words.now (F.held files.old) (run_of words.now (F.held files.old)).text ⊎ ReportsEraConflict words.now (F.held files.old) (run_of words.now (F.held files.old)).text) }
     ensures status { IfOk result (λ ended. IsEndOf (request_of words.now) ended) }
     ensures fault { HasRunFault (F.read_faults files.old) (F.read_faults files.new) (F.append_faults files.old) (F.append_faults files.new) result }
     ensures only { OnlyReads (request_of words.now) → HasReadFault (F.read_faults files.old) (F.read_faults files.new) result }
@@ -158,6 +159,8 @@ fn run<F: Files>(
                 steps,
             },
         ) => simulated(alloc, number, nodes, steps),
+        Some(Command::Eras { logs }) => eras(alloc, files, logs),
+        Some(Command::EraAudit { left, right }) => audit_eras(alloc, files, left, right),
         None => Ok(usage(alloc)?),
     }
 }

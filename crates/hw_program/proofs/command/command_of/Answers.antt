@@ -1,16 +1,12 @@
-use Rattle.std.proofs.Common.{◌≡◌, true, sym, ap, ◌∙◌}
-use Rattle.hw_program.specs.Commands.{Word, is_word}
-use Rattle.hw_program.proofs.CommandLaws.{three_words}
+use Rattle.std.specs.Prelude.{string_bytes}
+use Rattle.hw_program.specs.Asked.{asked}
+use Rattle.hw_program.proofs.CommandLaws.{told_request, untold_request}
 use Rattle.hw_program.proofs.command.command_of.Goals as goal
 
-pub returns-in-3-clause-asked : goal.returns-in-3-clause-asked
-returns-in-3-clause-asked c =
-    let a : Word = c.get-in-3.result.now in
-    let b : Word = c.get-in-3-2.result.now in
-    let d : Word = c.get-in-3-3.result.now in
-    let second : c.get-then-is_word-3.result.now ≡ b = cc in
-    let third : c.get-then-is_word-4.result.now ≡ d = cc in
-    let first : is_word a ≡ true = cc in
-    c.of_two.ensures.asked
-    ∙ sym (three_words c.args.words.now a b d (sym c.len.ensures ∙ c.in-3.is) c.get-in-3.ensures c.get-in-3-2.ensures c.get-in-3-3.ensures
-    first (ap is_word (sym second) ∙ sym c.if-is_word-4.ensures) (ap is_word (sym third) ∙ sym c.if-is_word-5.ensures))
+pub returns-then-not-are_words-clause-asked : goal.returns-then-not-are_words-clause-asked
+returns-then-not-are_words-clause-asked c = untold_request string_bytes c.args.words.now c.as_slice-words.result.now c.are_words.result c.as_slice-words.ensures c.are_words.ensures c.if-not-are_words.true
+
+pub returns-clause-asked : goal.returns-clause-asked
+returns-clause-asked c =
+    told_request string_bytes c.args.words.now c.as_slice-words.result.now c.in_ok-command.words.now c.in_ok-command.command.now c.as_str.result.now c.are_words.result (asked c.of_words.result)
+    c.as_slice-words.ensures c.are_words.ensures c.if-not-are_words.false c.in_ok-command.ensures.cases.0 c.as_str.ensures.value c.of_words.ensures.asked
