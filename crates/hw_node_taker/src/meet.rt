@@ -11,7 +11,8 @@ use hw_meeting_node::{MeetEnd, host_one, meet_one};
 use hw_session::Node;
 use std::alloc::Global;
 
-/// Dials the node at this address and meets it, as `meet_one` does. What the node accepts goes last in its log.
+/// Dials the node at this address and meets it, as `meet_one` does. The node accepts each vertex by `Node::accept`; the
+/// contract here tells what it has received, and of its files the count of failed appends alone.
 pub fn meet_node<D: Door, F: Files>(
     alloc: Global,
     node: &mut Node,
@@ -33,7 +34,7 @@ pub fn meet_node<D: Door, F: Files>(
     meet_one(alloc, &mut taker, address, door)
 }
 
-/// Takes a node that dials and meets it, as `host_one` does. What the node accepts goes last in its log.
+/// Takes a node that dials and meets it, as `host_one` does. The rest is as in `meet_node`.
 pub fn host_node<D: Door, F: Files>(
     alloc: Global,
     node: &mut Node,
