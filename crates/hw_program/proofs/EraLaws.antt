@@ -1,15 +1,10 @@
 -- How a run over the logs of eras ends, by what the run over them answers.
-use Rattle.std.proofs.Common.{◌≡◌, ℕ, ◌<◌, ◌++◌, inl, inr, List, Option, Some, None, Result, Ok, Err, IfOk, IfErr, refl, sym, ap, subst, ◌∙◌, arith}
+use Rattle.std.proofs.Common.{◌≡◌, ℕ, ◌++◌, inl, inr, List, Option, Some, Result, Ok, Err, IfOk, sym, ap, subst, ◌∙◌, arith}
 use Rattle.std.specs.Prelude.{◌⊎◌, slice_get}
 use Rattle.std.specs.Option.{option_map}
-use Rattle.hw_types.specs.Below.{Among}
 use Rattle.hw_types.specs.Real.{CoreState}
-use Rattle.hw_log.specs.declared.error.LogError.TheVariants as log
 use Rattle.hw_verdicts.specs.declared.verdict.Verdict.TheVariants as verdict
 use Rattle.hw_audit.specs.Text.{audit_text}
-use Rattle.hw_replay.specs.declared.fault.StartFault.{StartFault}
-use Rattle.hw_replay.specs.declared.fault.StartFault.TheVariants as start
-use Rattle.hw_replay.specs.Causes.{IsFaultAbout}
 use Rattle.hw_eras.specs.declared.verdict.EraVerdict.{EraVerdict}
 use Rattle.hw_eras.specs.declared.verdict.EraVerdict.TheVariants as eras
 use Rattle.hw_era_audit.specs.EraAudit.{IsVerdictByEras, IsAccounted}
@@ -22,9 +17,8 @@ use Rattle.hw_era_runs.specs.Reports.{era_line}
 use Rattle.hw_era_runs.specs.Audits.{threshold_in, TellsVerdict, IsAuditOfLogs}
 use Rattle.hw_program.specs.declared.ended.Ended.{Ended}
 use Rattle.hw_program.specs.declared.ended.RunFault.{RunFault}
-use Rattle.hw_program.specs.declared.ended.RunFault.TheVariants.{Read}
 use Rattle.hw_program.specs.Commands.{Word, Request, EraAudit as AskEraAudit, request_of}
-use Rattle.hw_program.specs.Faults.{FailsAmong, IsReadEnd}
+use Rattle.hw_program.specs.Faults.{IsReadEnd}
 use Rattle.hw_program.specs.Eras.{logs_stopped, EndsBy, IsEraConflictOf}
 use Rattle.hw_program.specs.Program.{ended, era_audit_said, request_said, run_of}
 use Rattle.hw_program.specs.Conflict.{ReportsConflict, ReportsEraConflict}
@@ -41,12 +35,6 @@ ends_so f errs said (stop.NoEra name) (Ok e) so ends = ends ∙ sym (ap f so ∙
 ends_so f errs said (stop.Stopped name fault) (Ok e) (inl out) ends = absurd (ends.1 out)
 ends_so f errs said (stop.Stopped name fault) (Ok e) (inr so) ends = ends.0 ∙ sym (ap f so ∙ errs (Stopped name.now fault))
 ends_so f errs said stop.OutOfMemory (Ok e) so ends = absurd ends
-
--- a read of one of the logs failed
-pub stopped_among : (logs : List Word) (name : Word) (before now : List ℕ → ℕ) (fault : StartFault) (r : Result Ended RunFault) → Among name logs → IsFaultAbout (Some name) before now fault
-    → IfErr r (λ f. f ≡ Read → fault ≡ start.Log log.ReadFault) → IfErr r (λ f. f ≡ Read → FailsAmong logs before now)
-stopped_among logs name before now fault (Ok e) among about read = tt
-stopped_among logs name before now fault (Err f) among about read = λ is. (name, (among, subst (λ (x : StartFault). IsFaultAbout (Some name) before now x) (read is) about))
 
 -- no conflict is told
 pub stopped_untold : (P : Ended → Type 0) (r : Result Ended RunFault) → IfOk r (λ e. IsReadEnd e.status) → IfOk r (λ e. e.status ≡ 3 → P e)
