@@ -31,9 +31,9 @@ pub fn put_error(text: &mut Bytes, error: CertError) -> Result<(), OutOfMemory>
     }
 }
 
-/// Puts the text of why bytes are no spelling last.
+/// Puts the text of why bytes are no spelling last. Want of memory has none.
 #[tactic(auto, using(std::proofs::Common::append_assoc), unfolding(crate::specs::Texts::codec_text))]
-fn put_codec(text: &mut Bytes, error: CodecError) -> Result<(), OutOfMemory>
+pub fn put_codec(text: &mut Bytes, error: CodecError) -> Result<(), OutOfMemory>
     ensures { OnOk result (text.new ≡ text.old ++ codec_text error) }
 {
     match error {
@@ -48,7 +48,7 @@ fn put_codec(text: &mut Bytes, error: CodecError) -> Result<(), OutOfMemory>
 
 /// Puts the name of a limit of configurations last.
 #[tactic(auto, unfolding(crate::specs::Texts::limit_text))]
-pub(crate) fn put_limit(text: &mut Bytes, fault: ConfigFault) -> Result<(), OutOfMemory>
+pub fn put_limit(text: &mut Bytes, fault: ConfigFault) -> Result<(), OutOfMemory>
     ensures { OnOk result (text.new ≡ text.old ++ limit_text fault) }
 {
     match fault {

@@ -22,6 +22,6 @@ mod lines;
 
 pub use asked::{Asked, certify_block, decision_of};
 pub use checked::{check_by_keys, checked_text};
-pub use errors::put_error;
+pub use errors::{put_codec, put_error, put_limit};
 pub use keys::read_keys;
 pub use lines::{put_asked, put_fault};

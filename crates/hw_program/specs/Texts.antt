@@ -1,40 +1,16 @@
 -- The lines that a run writes.
 use Rattle.std.specs.Prelude.{ℕ, List, [], ◌∷◌, ◌++◌, codes}
-use Rattle.hw_types.specs.declared.config.ConfigFault.{ConfigFault}
-use Rattle.hw_types.specs.declared.config.ConfigFault.TheVariants as limit
-use Rattle.hw_types.specs.declared.answers.CodecError.{CodecError}
-use Rattle.hw_types.specs.declared.answers.CodecError.TheVariants as codec
 use Rattle.hw_log.specs.declared.error.LogError.{LogError}
 use Rattle.hw_log.specs.declared.error.LogError.TheVariants as log
 use Rattle.hex.specs.Hex.{encode_lower}
 use Rattle.hw_text.specs.Text.{number_text}
 use Rattle.hw_text.specs.Lines.{line_of, line_feed}
+use Rattle.hw_light_texts.specs.Texts.{codec_text, limit_text}
 use Rattle.hw_replay.specs.declared.fault.StartFault.{StartFault}
 use Rattle.hw_replay.specs.declared.fault.StartFault.TheVariants as start
 use Rattle.hw_program.specs.declared.ended.Ended.{Ended}
 
 -- ---- what is wrong with the bytes of a log
-
--- why bytes are no spelling
-unfoldable pub codec_text : CodecError → List ℕ
-codec_text (codec.Truncated at) = codes "truncated at " ++ number_text at
-codec_text (codec.Trailing at) = codes "trailing at " ++ number_text at
-codec_text (codec.BadTag at) = codes "bad tag at " ++ number_text at
-codec_text (codec.TooLong at) = codes "too long at " ++ number_text at
-codec_text (codec.OutOfRange at) = codes "out of range at " ++ number_text at
-codec_text codec.OutOfMemory = []
-
--- which limit a configuration breaks
-unfoldable pub limit_text : ConfigFault → List ℕ
-limit_text limit.Validators = codes "validators"
-limit_text (limit.ZeroWeight v) = codes "zero weight " ++ number_text v
-limit_text limit.Total = codes "total"
-limit_text limit.Threshold = codes "threshold"
-limit_text limit.Levels = codes "levels"
-limit_text limit.Exponents = codes "exponents"
-limit_text limit.LeaderTable = codes "leader table"
-limit_text limit.Records = codes "records"
-limit_text limit.Parked = codes "parked"
 
 -- An error of the outside has no text here.
 unfoldable pub log_text : LogError → List ℕ
