@@ -34,7 +34,8 @@ use std::alloc::Global;
 use std::marker::Model;
 
 /// The state of one node.
-#[derive(Drop)]
+///
+/// Its `drop` is written out: a derived one is proved again, with those of all parts, in each crate that lets a state go.
 pub struct State {
     config: Config,
     leaders: LeaderTable,
@@ -52,6 +53,25 @@ pub struct State {
     own_fork: KeptFork,
     /// The fork choice of the unit that was judged last.
     judged_fork: KeptFork,
+}
+
+impl Drop for State {
+    fn drop(self) {
+        let State {
+            config: _config,
+            leaders: _leaders,
+            spare: _spare,
+            dag: _dag,
+            naivety: _naivety,
+            forks: _forks,
+            marks: _marks,
+            marked: _marked,
+            endorsements: _endorsements,
+            panorama: _panorama,
+            own_fork: _own_fork,
+            judged_fork: _judged_fork,
+        } = self;
+    }
 }
 
 impl Model for State {
