@@ -4,6 +4,7 @@ use Rattle.std.specs.Prelude.{◌&&◌, slice_get, Result, Ok, Err}
 use Rattle.std.specs.List.{list_any}
 use Rattle.std.specs.Map.{lookup}
 use Rattle.std.proofs.lemmas.Bool.Decides.{nat_tests}
+use Rattle.hw_types.specs.declared.config.Config.{Config}
 use Rattle.hw_types.specs.declared.unit.Digest.{Digest}
 use Rattle.hw_types.specs.declared.unit.SignedUnit.{SignedUnit}
 use Rattle.hw_types.specs.declared.unit.Vertex.{Vertex}
@@ -41,9 +42,33 @@ pub verdict_broken : (o : Option Rule) (rule : Rule) → Err rule ≡ verdict_of
 verdict_broken None rule e = absurd cc
 verdict_broken (Some r) rule e = cc
 
-pub verdict_kept : (o : Option Rule) (r : Result (Unit {0}) Rule) → r ≡ verdict_of o → ((rule : Rule) → r ≡ Err rule → ⊥) → o ≡ None
-verdict_kept None r e kept = refl
-verdict_kept (Some rule) r e kept = absurd (kept rule e)
+pub verdict_kept : (o : Option Rule) (x : Unit {0}) → Ok x ≡ verdict_of o → o ≡ None
+verdict_kept None x e = refl
+verdict_kept (Some rule) x e = absurd cc
+
+abbrev clashed : Option Digest → Option Cause
+clashed o = elim o as (λ z. Option Cause) [ Some d ↦ Some (cause.Clash d) | None ↦ None ]
+
+abbrev refused_by : Setting → Received → SignedUnit → Option Rule → Option Cause
+refused_by s k u o = elim o as (λ z. Option Cause) [ Some rule ↦ Some (cause.Local rule) | None ↦ clashed (clash_among s k.units u.unit) ]
+
+module _ (config : Config) (journal : List Vertex) (u : SignedUnit) where
+  pub broken_local : (rule : Rule) → local_rule config (instance_of config) u.unit ≡ Some rule → answer_to config journal (vertex.Unit u) ≡ Err (cause.Local rule)
+  broken_local rule h = let s = setting_of config in answer_refused s journal (vertex.Unit u) (cause.Local rule) (ap (λ (o : Option Rule). refused_by s (received_of s journal) u o) h)
+
+  refusal_is : local_rule config (instance_of config) u.unit ≡ None → (b : Bool) → list_any (clashes (setting_of config) u.unit) (received_of (setting_of config) journal).units ≡ b
+      → refusal (setting_of config) journal (vertex.Unit u) ≡ clashed (cond b (Some ((setting_of config).name u.unit)) None)
+  refusal_is local b e =
+      let s = setting_of config in
+      ap (λ (o : Option Rule). refused_by s (received_of s journal) u o) local ∙ ap (λ (x : Bool). clashed (cond x (Some (s.name u.unit)) None)) e
+
+  pub unit_memory : local_rule config (instance_of config) u.unit ≡ None → MayWantMemory (answer_to config journal (vertex.Unit u))
+  unit_memory local =
+      let s = setting_of config in
+      answer_memory s journal (vertex.Unit u) (elim (either (list_any (clashes s u.unit) (received_of s journal).units)) [
+        | inl t ↦ inr (s.name u.unit, refusal_is local true t)
+        | inr f ↦ inl (refusal_is local false f)
+      ])
 
 module _ (journal : List Vertex) (park : Parked PreparedUnit) (state : NodeState) (node : IsNode journal park state) (names : List (Digest × ℕ)) (table : IsTable (setting_of state.config) journal names) (u : SignedUnit) where
   abbrev s : Setting
@@ -55,25 +80,7 @@ module _ (journal : List Vertex) (park : Parked PreparedUnit) (state : NodeState
   abbrev k : Received
   k = received_of s journal
 
-  abbrev clashed : Option Digest → Option Cause
-  clashed o = elim o as (λ z. Option Cause) [ Some d ↦ Some (cause.Clash d) | None ↦ None ]
-
-  abbrev refused_by : Option Rule → Option Cause
-  refused_by o = elim o as (λ z. Option Cause) [ Some rule ↦ Some (cause.Local rule) | None ↦ clashed (clash_among s k.units u.unit) ]
-
-  pub broken_local : (rule : Rule) → local_rule state.config (instance_of state.config) u.unit ≡ Some rule → answer_to state.config journal v ≡ Err (cause.Local rule)
-  broken_local rule h = answer_refused s journal v (cause.Local rule) (ap (λ (o : Option Rule). refused_by o) h)
-
   module _ (local : local_rule state.config (instance_of state.config) u.unit ≡ None) where
-    refusal_is : (b : Bool) → list_any (clashes s u.unit) k.units ≡ b → refusal s journal v ≡ clashed (cond b (Some (s.name u.unit)) None)
-    refusal_is b e = ap (λ (o : Option Rule). refused_by o) local ∙ ap (λ (x : Bool). clashed (cond x (Some (s.name u.unit)) None)) e
-
-    pub unit_memory : MayWantMemory (answer_to state.config journal v)
-    unit_memory = answer_memory s journal v (elim (either (list_any (clashes s u.unit) k.units)) [
-      | inl t ↦ inr (s.name u.unit, refusal_is true t)
-      | inr f ↦ inl (refusal_is false f)
-    ])
-
     -- ---- a unit of that name is known
 
     module _ (w : SignedUnit) (n : ℕ) (at : lookup (digest_eq (s.name u.unit)) names ≡ Some n) (there : slice_get journal n ≡ Some (vertex.Unit w)) where
@@ -87,7 +94,7 @@ module _ (journal : List Vertex) (park : Parked PreparedUnit) (state : NodeState
       among_known = let t = table.known (s.name u.unit) n at in in_known s journal node.apart (named s w.unit) (subst (λ (x : SignedUnit). Among (named s x.unit) (units_in s journal)) (known_at t.0 t.1) t.3)
 
       pub unit_clashes : (w.unit ≡ u.unit → ⊥) → answer_to state.config journal v ≡ Err (cause.Clash (s.name u.unit))
-      unit_clashes other = answer_refused s journal v (cause.Clash (s.name u.unit)) (refusal_is true
+      unit_clashes other = answer_refused s journal v (cause.Clash (s.name u.unit)) (refusal_is state.config journal u local true
           (any_of (clashes s u.unit) (named s w.unit) k.units among_known
           (and_whole (digest_eq (s.name u.unit) (s.name w.unit)) (not (unit_eq u.unit w.unit)) (subst (λ (d : Digest). digest_eq (s.name u.unit) d ≡ true) (sym name_same) (digest_self (s.name u.unit)))
           (ap not (other_unit u.unit w.unit (λ e. other (sym e)))))))
@@ -103,7 +110,7 @@ module _ (journal : List Vertex) (park : Parked PreparedUnit) (state : NodeState
       ]
 
       pub unit_repeats : w.unit ≡ u.unit → answer_to state.config journal v ≡ Ok receipt.Repeat
-      unit_repeats same = answer_repeat s journal v (refusal_is false (none_any (clashes s u.unit) k.units (no_clash same)))
+      unit_repeats same = answer_repeat s journal v (refusal_is state.config journal u local false (none_any (clashes s u.unit) k.units (no_clash same)))
           (any_of (λ (x : Node). unit_eq x.unit u.unit) (named s w.unit) k.units among_known (same_unit w.unit u.unit same))
 
     -- ---- none is
@@ -120,14 +127,14 @@ module _ (journal : List Vertex) (park : Parked PreparedUnit) (state : NodeState
       fresh = table.unknown (s.name u.unit) unlisted
 
       pub unit_full : state.config.max_records ≤ length journal → answer_to state.config journal v ≡ Err cause.RecordsFull
-      unit_full le = answer_full s journal v (refusal_is false (none_any (clashes s u.unit) k.units (fresh_clash s journal u.unit fresh))) (none_any (λ (x : Node). unit_eq x.unit u.unit) k.units (fresh_unit s journal u.unit fresh)) (grind (arith, nat_tests))
+      unit_full le = answer_full s journal v (refusal_is state.config journal u local false (none_any (clashes s u.unit) k.units (fresh_clash s journal u.unit fresh))) (none_any (λ (x : Node). unit_eq x.unit u.unit) k.units (fresh_unit s journal u.unit fresh)) (grind (arith, nat_tests))
 
       pub new_unit : (name : Digest) → name ≡ digest_of u.unit → length journal < state.config.max_records → IsNewUnit state.config journal u name
       new_unit name is lt = record {
         name_is = is;
         local = local;
         fresh = λ x m e. fresh x m (e ∙ is);
-        not_refused = refusal_is false (none_any (clashes s u.unit) k.units (fresh_clash s journal u.unit fresh));
+        not_refused = refusal_is state.config journal u local false (none_any (clashes s u.unit) k.units (fresh_clash s journal u.unit fresh));
         not_repeat = none_any (λ (x : Node). unit_eq x.unit u.unit) k.units (fresh_unit s journal u.unit fresh);
         room = grind (arith, nat_tests);
       }

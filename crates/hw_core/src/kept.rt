@@ -8,7 +8,8 @@ ghost use Rattle.hw_types.specs.declared.unit.Vertex.TheVariants as vertex;
 ghost use Rattle.hw_types.specs.Limits.{config_fault};
 ghost use Rattle.hw_types.specs.Real.{CoreState, answer_in, after_in, settled_in, received_in, weight_in};
 ghost use Rattle.hw_types.specs.Settled.{parked_of};
-ghost use Rattle.hw_types.specs.Spelling.{VertexFits};
+ghost use Rattle.hw_types.specs.Rules.{local_rule};
+ghost use Rattle.hw_types.specs.Spelling.{VertexFits, digest_of, instance_of};
 ghost use Rattle.hw_admit.specs.State.{IsStartFault};
 ghost use Rattle.hw_core.specs.Deliver.{IsRefusal, IsTaken};
 ghost use Rattle.hw_core.specs.Units.{IsNewUnit};
@@ -20,8 +21,9 @@ use crate::follow::follow;
 use crate::journal::Journal;
 use crate::shown::Shown;
 use crate::start::begin;
-use crate::units::{UnitRefused, add_unit, test_unit};
+use crate::units::{UnitRefused, add_unit, test_local, test_named};
 use hw_admit::{State, StateStart};
+use hw_codec::digest_of;
 use hw_dag::{Prepared, UnitNo};
 use hw_park::Park;
 use hw_types::{
@@ -139,29 +141,88 @@ impl Kept {
         ensures journal { OnOk result (self.new ≡ after_in self.old (vertex.Unit unit) true) }
         ensures unchanged { OnErr result (self.new ≡ self.old) }
     {
-        match self.test_unit(&unit) {
-            Ok(Some(name)) => self.take_unit(unit, name),
-            Ok(None) => Ok(Receipt::Repeat),
+        match self.name_unit(&unit) {
+            Ok(name) => self.deliver_lawful(unit, name),
             Err(cause) => Err(sent_back(cause, Vertex::Unit(unit))),
         }
     }
 
-    /// The tests of a unit in their order, but that of the park. Its name where it is new, None where it is
-    /// a repeat.
-    fn test_unit(&self, unit: &SignedUnit) -> Result<Option<Digest>, Cause>
-        requires { VertexFits (vertex.Unit unit.now) }
-        ensures repeat { IfOk result (λ name. name ≡ None → answer_in self.now (vertex.Unit unit.now) true ≡ Ok receipt.Repeat) }
-        ensures new { IfOk result (λ name. IfSome name (IsNewUnit self.now.config self.now.journal unit.now)) }
+    /// Takes a unit whose signature is right and whose name is known.
+    pub(crate) fn deliver_named(
+        &mut self,
+        unit: SignedUnit,
+        name: Digest,
+    ) -> Result<Receipt, Refused>
+        requires fits { VertexFits (vertex.Unit unit) }
+        requires name { name ≡ digest_of unit.unit }
+        ensures accepted { IfOk result (λ receipt. answer_in self.old (vertex.Unit unit) true ≡ Ok receipt) }
+        ensures refused { IfErr result (λ r. IsRefusal r.cause (answer_in self.old (vertex.Unit unit) true)) }
+        ensures returned { IfErr result (λ r. r.vertex ≡ vertex.Unit unit) }
+        ensures journal { OnOk result (self.new ≡ after_in self.old (vertex.Unit unit) true) }
+        ensures unchanged { OnErr result (self.new ≡ self.old) }
+    {
+        match self.test_local(&unit) {
+            Ok(()) => self.deliver_lawful(unit, name),
+            Err(cause) => Err(sent_back(cause, Vertex::Unit(unit))),
+        }
+    }
+
+    /// Takes a unit of this name that keeps the local rules.
+    fn deliver_lawful(&mut self, unit: SignedUnit, name: Digest) -> Result<Receipt, Refused>
+        requires fits { VertexFits (vertex.Unit unit) }
+        requires name { name ≡ digest_of unit.unit }
+        requires local { local_rule self.old.config (instance_of self.old.config) unit.unit ≡ None }
+        ensures accepted { IfOk result (λ receipt. answer_in self.old (vertex.Unit unit) true ≡ Ok receipt) }
+        ensures refused { IfErr result (λ r. IsRefusal r.cause (answer_in self.old (vertex.Unit unit) true)) }
+        ensures returned { IfErr result (λ r. r.vertex ≡ vertex.Unit unit) }
+        ensures journal { OnOk result (self.new ≡ after_in self.old (vertex.Unit unit) true) }
+        ensures unchanged { OnErr result (self.new ≡ self.old) }
+    {
+        match self.test_named(&unit, &name) {
+            Ok(true) => self.take_unit(unit, name),
+            Ok(false) => Ok(Receipt::Repeat),
+            Err(cause) => Err(sent_back(cause, Vertex::Unit(unit))),
+        }
+    }
+
+    /// The test of a unit that the configuration alone decides.
+    fn test_local(&self, unit: &SignedUnit) -> Result<(), Cause>
+        ensures local { OnOk result (local_rule self.now.config (instance_of self.now.config) unit.now.unit ≡ None) }
         ensures refused { IfErr result (λ cause. IsRefusal cause (answer_in self.now (vertex.Unit unit.now) true)) }
     {
-        test_unit(
-            self.journal.allocator(),
-            &self.instance,
+        test_local(&self.instance, self.journal.as_slice(), &self.state, unit)
+    }
+
+    /// The name of a unit that keeps the local rules.
+    fn name_unit(&self, unit: &SignedUnit) -> Result<Digest, Cause>
+        requires { VertexFits (vertex.Unit unit.now) }
+        ensures local { OnOk result (local_rule self.now.config (instance_of self.now.config) unit.now.unit ≡ None) }
+        ensures name { IfOk result (λ name. name ≡ digest_of unit.now.unit) }
+        ensures refused { IfErr result (λ cause. IsRefusal cause (answer_in self.now (vertex.Unit unit.now) true)) }
+    {
+        self.test_local(unit)?;
+        match digest_of(self.journal.allocator(), &unit.unit) {
+            Ok(name) => Ok(name),
+            Err(OutOfMemory) => Err(Cause::OutOfMemory),
+        }
+    }
+
+    /// The tests that follow, but that of the park, of a unit that keeps the local rules and has this name. True
+    /// where it is new, false where it is a repeat.
+    fn test_named(&self, unit: &SignedUnit, name: &Digest) -> Result<bool, Cause>
+        requires name { name.now ≡ digest_of unit.now.unit }
+        requires local { local_rule self.now.config (instance_of self.now.config) unit.now.unit ≡ None }
+        ensures repeat { IfOk result (λ new. new ≡ false → answer_in self.now (vertex.Unit unit.now) true ≡ Ok receipt.Repeat) }
+        ensures new { IfOk result (λ new. new ≡ true → IsNewUnit self.now.config self.now.journal unit.now name.now) }
+        ensures refused { IfErr result (λ cause. IsRefusal cause (answer_in self.now (vertex.Unit unit.now) true)) }
+    {
+        test_named(
             &self.names,
             self.journal.as_slice(),
             &self.park,
             &self.state,
             unit,
+            name,
         )
     }
 
