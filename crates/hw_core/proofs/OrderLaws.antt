@@ -1,6 +1,6 @@
 -- Laws of what parked units miss, in the order of parking.
-use Rattle.std.proofs.Common.{◌≡◌, ◌⊎◌, inl, inr, ℕ, zero, suc, Bool, true, false, List, [], ◌∷◌, ◌++◌, length, take, Option, Some, None, refl, sym, ap, subst, ◌∙◌, arith, eqb-true}
-use Rattle.std.specs.Prelude.{◌==◌, filter_map, slice_get, is_none, if◌then◌else◌}
+use Rattle.std.proofs.Common.{◌≡◌, ◌⊎◌, inl, inr, ℕ, zero, suc, Bool, true, false, List, [], ◌∷◌, ◌++◌, length, Some, None, refl, sym, ap, subst, ◌∙◌, arith, eqb-true}
+use Rattle.std.specs.Prelude.{◌==◌, slice_get, is_none, if◌then◌else◌}
 use Rattle.std.specs.List.{cons_option, flat_map}
 use Rattle.std.specs.Map.{lookup}
 use Rattle.hw_types.specs.declared.unit.Digest.{Digest}
@@ -11,8 +11,8 @@ use Rattle.hw_types.specs.declared.unit.Vertex.TheVariants as vertex
 use Rattle.hw_types.specs.Graph.{Node, digest_eq}
 use Rattle.hw_types.specs.Below.{Among}
 use Rattle.hw_types.specs.Rules.{local_rule}
-use Rattle.hw_types.specs.Settled.{Received, distinct, missing_of, settled_of, parked_of}
-use Rattle.hw_types.specs.Journal.{Setting, named, received_of, unit_of_vertex}
+use Rattle.hw_types.specs.Settled.{Received, distinct, missing_of, settled_of}
+use Rattle.hw_types.specs.Journal.{Setting, named, received_of}
 use Rattle.hw_types.specs.Real.{setting_of}
 use Rattle.hw_types.specs.laws.StateLaws.{units_in}
 use Rattle.hw_types.proofs.WordsLaws.{either}

@@ -1,5 +1,5 @@
 -- Laws of what a node tells of evidence and endorsements.
-use Rattle.std.proofs.Common.{◌≡◌, ℕ, List, filter, find, Option, Some, None, sym, ◌∙◌}
+use Rattle.std.proofs.Common.{◌≡◌, ℕ, filter, find, Option, Some, None, sym, ◌∙◌}
 use Rattle.std.specs.Prelude.{◌==◌, filter_map, slice_get}
 use Rattle.hw_types.specs.declared.unit.Digest.{Digest}
 use Rattle.hw_types.specs.declared.unit.Need.TheVariants as need

@@ -1,4 +1,4 @@
-use Rattle.std.proofs.Common.{rules, ◌≡◌, ℕ, List, Some, sym, ap, ◌∙◌, arith}
+use Rattle.std.proofs.Common.{rules, Some, sym, ◌∙◌, arith}
 use Rattle.hw_park.proofs.NumberLaws.{same-put, same-put-then, read-put}
 use Rattle.hw_core.proofs.JournalLaws.{place_there}
 use Rattle.hw_core.proofs.told.make_place.Goals as goal
