@@ -1,9 +1,9 @@
 -- Generated journals round by round.
-use Rattle.std.proofs.Common.{◌≡◌, ℕ, zero, suc, ◌+◌, ◌-◌, ◌*◌, ◌<◌, ◌≤◌, true, List, [], ◌∷◌, ◌++◌, length, map, Option, Some, None, replicate, refl, sym, ap, subst, ◌∙◌, arith}
+use Rattle.std.proofs.Common.{◌≡◌, ℕ, zero, suc, ◌+◌, ◌-◌, ◌*◌, ◌≤◌, true, List, [], ◌∷◌, ◌++◌, length, map, Option, Some, None, replicate, refl, sym, ap, subst, ◌∙◌, arith}
 use Rattle.std.specs.Prelude.{fold, slice_get}
 use Rattle.std.specs.Option.{option_map}
 use Rattle.std.specs.List.{range_with_len}
-use Rattle.std.proofs.lemmas.List.{map-append, length-map}
+use Rattle.std.proofs.lemmas.List.{map-append}
 use Rattle.std.proofs.lemmas.List.Sums.{fold-append}
 use Rattle.hw_types.specs.declared.config.Config.{Config}
 use Rattle.hw_types.specs.declared.unit.Digest.{Digest}
@@ -12,7 +12,7 @@ use Rattle.hw_types.specs.declared.answers.Decision.{Decision}
 use Rattle.hw_types.specs.Graph.{Node}
 use Rattle.hw_types.specs.Limits.{config_fault}
 use Rattle.hw_types.specs.Journal.{Setting, journal_after}
-use Rattle.hw_types.specs.Real.{CoreState, setting_of, after_in}
+use Rattle.hw_types.specs.Real.{CoreState, setting_of}
 use Rattle.hw_types.specs.Rounds.{leader_of}
 use Rattle.hw_types.specs.Settled.{validators}
 use Rattle.rand_chacha.specs.ChaCha.{key_of}

@@ -1,6 +1,6 @@
 -- The units of a round.
-use Rattle.std.proofs.Common.{◌≡◌, ℕ, zero, suc, ◌+◌, ◌*◌, ◌^◌, ◌<◌, ◌≤◌, ◌==◌, not, inl, inr, Bool, cond, List, [], ◌∷◌, ◌++◌, length, map, get_or, Option, Some, None, refl, sym, ap, subst, ◌∙◌, arith, append_assoc, append-nil, eq-eqb}
-use Rattle.std.specs.Prelude.{fold, filter, slice_index_or, IfSome}
+use Rattle.std.proofs.Common.{◌≡◌, ℕ, zero, suc, ◌+◌, ◌*◌, ◌^◌, ◌<◌, ◌≤◌, ◌==◌, not, inl, inr, Bool, cond, List, [], ◌∷◌, ◌++◌, length, map, Option, Some, None, refl, sym, ap, subst, ◌∙◌, arith, append_assoc, eq-eqb}
+use Rattle.std.specs.Prelude.{fold, filter, IfSome}
 use Rattle.std.specs.Option.{option_map}
 use Rattle.std.specs.List.{range_with_len}
 use Rattle.std.proofs.Math.ListN.{length-set}
@@ -22,8 +22,7 @@ use Rattle.hw_types.proofs.EntryLaws.{map_among, append_cases}
 use Rattle.hw_types.proofs.WordsLaws.{range_below}
 use Rattle.hw_honest.specs.Cluster.{signed}
 use Rattle.hw_honest.specs.Generated.{next_unit, units_of_round}
-use Rattle.hw_cluster.specs.declared.lanes.LastUnit.{LastUnit}
-use Rattle.hw_cluster.specs.Lanes.{LanesState, seq_behind, highest, observed, unit_over, with_unit}
+use Rattle.hw_cluster.specs.Lanes.{LanesState, highest, observed, unit_over, with_unit}
 use Rattle.hw_cluster.specs.Made.{lanes_of, made_over, vertices_of, AreBelow, AreOurs}
 use Rattle.hw_cluster.specs.Nodes.{AllFit}
 use Rattle.hw_cluster.proofs.LanesLaws.{highest_at, highest_set, lanes_length, lanes_all, next_is, AreUnits}

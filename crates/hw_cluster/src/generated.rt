@@ -11,9 +11,9 @@ ghost use Rattle.hw_cluster.specs.Generating.{given, IsAfter};
 ghost use Rattle.hw_cluster.specs.Nodes.{AllFit};
 ghost use Rattle.hw_cluster.specs.Numbers.{word_in, totals_of};
 
-use crate::acts::give;
 use crate::lanes::Lanes;
 use crate::made::{ROUND, make_round};
+use crate::named::NamedUnit;
 use crate::nodes::begin_all;
 use crate::order::shuffle;
 use crate::simulated::ones;
@@ -21,7 +21,7 @@ use crate::words::{Words, key_for};
 use hw_codec::instance_of;
 use hw_core::Core;
 use hw_leaders::LeaderTable;
-use hw_types::{Config, Leaders, OutOfMemory, Vertex};
+use hw_types::{Config, Leaders, OutOfMemory};
 use std::alloc::Global;
 
 /// So many validators make the units of a generated journal.
@@ -171,13 +171,13 @@ fn give_round(
     give_all(core, units)
 }
 
-/// Gives these vertices to a node, one after the other.
-fn give_all(core: &mut Core, vertices: Vec<Vertex>) -> Result<(), OutOfMemory>
-    requires { AllFit vertices.items }
-    ensures { OnOk result (core.new ≡ given core.old vertices.items) }
+/// Gives these units to a node, one after the other.
+fn give_all(core: &mut Core, units: Vec<NamedUnit>) -> Result<(), OutOfMemory>
+    requires { AllFit units.items }
+    ensures { OnOk result (core.new ≡ given core.old units.items) }
 {
-    for vertex in vertices {
-        let _ = give(core, vertex)?;
+    for unit in units {
+        let _ = unit.give(core)?;
     }
     Ok(())
 }

@@ -2,7 +2,7 @@
 
 ghost use Rattle.std.specs.Prelude.{◌≡◌, ◌^◌, ◌<◌, ◌≤◌, length, map, replicate, slice_index_or, None, IfOk, OnOk};
 ghost use Rattle.std.specs.List.{range_with_len};
-ghost use Rattle.hw_types.specs.Spelling.{Fits};
+ghost use Rattle.hw_types.specs.Spelling.{Fits, digest_of};
 ghost use Rattle.hw_cluster.specs.Lanes.{seq_behind, observed, highest, unit_over, with_unit};
 
 use hw_codec::digest_of;
@@ -101,18 +101,19 @@ impl Lanes {
         }
     }
 
-    /// Takes a unit for the last one of its creator.
-    pub fn note(&mut self, unit: &WireUnit) -> Result<(), OutOfMemory>
+    /// Takes a unit for the last one of its creator, and answers its name.
+    pub fn note(&mut self, unit: &WireUnit) -> Result<Digest, OutOfMemory>
         requires fits { Fits unit.now }
         requires creator { unit.now.creator < length self.old.last }
-        ensures { OnOk result (self.new ≡ with_unit self.old unit.now) }
+        ensures name { IfOk result (λ name. name ≡ digest_of unit.now) }
+        ensures noted { OnOk result (self.new ≡ with_unit self.old unit.now) }
     {
         let name = digest_of(self.allocator(), unit)?;
         self.last[unit.creator as usize] = Some(LastUnit {
             name,
             seq: unit.seq,
         });
-        Ok(())
+        Ok(name)
     }
 }
 

@@ -17,6 +17,7 @@ mod generated;
 mod lanes;
 mod laws;
 mod made;
+mod named;
 mod nodes;
 mod order;
 mod simulated;

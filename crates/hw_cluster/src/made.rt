@@ -13,9 +13,9 @@ ghost use Rattle.hw_cluster.specs.Lanes.{highest, unit_over, with_unit};
 ghost use Rattle.hw_cluster.specs.Made.{lanes_of, made_over, vertices_of, AreOurs, AreBelow};
 ghost use Rattle.hw_cluster.specs.Nodes.{AllFit};
 
-use crate::acts::signed;
 use crate::lanes::Lanes;
-use hw_types::{Bytes, OutOfMemory, Vertex, WireUnit};
+use crate::named::NamedUnit;
+use hw_types::{Bytes, OutOfMemory, WireUnit};
 use std::alloc::Global;
 
 /// A round lasts so many milliseconds.
@@ -26,7 +26,7 @@ pub const ROUND: u64 = 16;
 /// The leader makes a block at the round's beginning, with the round's number as its value; the others make a unit 1
 /// millisecond later, over the units up to that block; and all make one 10 milliseconds after the beginning, over the
 /// units up to those.
-pub fn make_round(lanes: &mut Lanes, leader: u32, round: u32) -> Result<Vec<Vertex>, OutOfMemory>
+pub fn make_round(lanes: &mut Lanes, leader: u32, round: u32) -> Result<Vec<NamedUnit>, OutOfMemory>
     requires many { length lanes.old.last ≤ 1024 }
     requires low { highest lanes.old.last < 2 ^ 62 }
     requires leader { leader < length lanes.old.last }
@@ -64,7 +64,7 @@ fn others(alloc: Global, validators: &[u32], leader: u32) -> Result<Vec<u32>, Ou
 /// value is a number is a block.
 fn make_units(
     lanes: &mut Lanes,
-    units: &mut Vec<Vertex>,
+    units: &mut Vec<NamedUnit>,
     makers: &[u32],
     time: u64,
     value: Option<u32>,
@@ -81,8 +81,8 @@ fn make_units(
     ensures many { OnOk result (length lanes.new.last ≡ length lanes.old.last) }
 {
     let made = next_units(lanes, makers, time, value)?;
-    note_all(lanes, made.as_slice())?;
-    send_all(units, made)
+    send_all(lanes, units, made)?;
+    Ok(())
 }
 
 /// The next units of these validators, all over the same ones.
@@ -116,23 +116,19 @@ fn value_of(alloc: Global, number: Option<u32>) -> Result<Option<Bytes>, OutOfMe
     }
 }
 
-/// Takes each of these units for the last one of its creator, one after the other.
-fn note_all(lanes: &mut Lanes, units: &[WireUnit]) -> Result<(), OutOfMemory>
-    requires { AreOurs (length lanes.old.last) units.now }
-    ensures { OnOk result (lanes.new ≡ fold with_unit lanes.old units.now) }
+/// Takes each of these units for the last one of its creator, one after the other, and puts it last under its name.
+fn send_all(
+    lanes: &mut Lanes,
+    sent: &mut Vec<NamedUnit>,
+    units: Vec<WireUnit>,
+) -> Result<(), OutOfMemory>
+    requires { AreOurs (length lanes.old.last) units.items }
+    ensures noted { OnOk result (lanes.new ≡ fold with_unit lanes.old units.items) }
+    ensures sent { OnOk result (sent.new.items ≡ sent.old.items ++ map signed units.items) }
 {
     for unit in units {
-        lanes.note(unit)?;
-    }
-    Ok(())
-}
-
-/// Signs these units with zeroes, and puts them last.
-fn send_all(sent: &mut Vec<Vertex>, units: Vec<WireUnit>) -> Result<(), OutOfMemory>
-    ensures { OnOk result (sent.new.items ≡ sent.old.items ++ map signed units.items) }
-{
-    for unit in units {
-        sent.push(signed(unit))?;
+        let name = lanes.note(&unit)?;
+        sent.push(NamedUnit::new(unit, name))?;
     }
     Ok(())
 }

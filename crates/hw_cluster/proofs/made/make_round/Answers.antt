@@ -1,4 +1,4 @@
-use Rattle.std.proofs.Common.{◌≡◌, ◌*◌, ◌==◌, ℕ, not, refl, ap, sym, subst, ◌∙◌, List, [], length, arith}
+use Rattle.std.proofs.Common.{◌*◌, ◌==◌, ℕ, not, ap, sym, subst, ◌∙◌, List, length}
 use Rattle.std.specs.Prelude.{filter}
 use Rattle.hw_types.specs.declared.unit.Vertex.{Vertex}
 use Rattle.hw_cluster.specs.Nodes.{AllFit}

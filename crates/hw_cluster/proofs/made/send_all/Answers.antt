@@ -1,17 +1,32 @@
-use Rattle.std.proofs.Common.{◌≡◌, ap, subst, sym, ◌∙◌, take, length, arith}
+use Rattle.std.proofs.Common.{List, ◌∷◌, [], inl, inr, refl, ap, subst, sym, ◌∙◌, length, arith, append-nil}
+use Rattle.std.proofs.lemmas.Grind.{common_steps}
+use Rattle.std.proofs.lemmas.List.Sums.{fold-append}
 use Rattle.hw_types.specs.declared.unit.WireUnit.{WireUnit}
 use Rattle.hw_types.specs.Below.{Among}
-use Rattle.hw_cluster.specs.Lanes.{LanesState}
-use Rattle.hw_cluster.proofs.NodesLaws.{got_among}
+use Rattle.hw_cluster.specs.Lanes.{LanesState, with_unit}
+use Rattle.hw_cluster.specs.Made.{AreOurs}
 use Rattle.hw_cluster.proofs.MadeLaws.{notes_length}
-use Rattle.hw_cluster.proofs.made.note_all.Goals as goal
+use Rattle.hw_cluster.proofs.made.send_all.Goals as goal
+
+pub loop-unit-init : goal.loop-unit-init
+loop-unit-init c = record {
+  noted = refl;
+  sent = sym (append-nil c.args.sent.now.items);
+  ours = subst (λ (us : List WireUnit). AreOurs (length c.args.lanes.now.last) us) (sym c.into_iter-unit-iterator.ensures.into_iter_gives.0) c.requires;
+}
 
 pub note-requires-clause-fits : goal.note-requires-clause-fits
-note-requires-clause-fits c =
-    (c.requires c.unit-item.result (subst (λ (u : WireUnit). Among u c.args.units.now) (sym c.unit-item.is) (got_among c.args.units.now c.loop-unit.unit-index c.unit-item.result c.loop-unit-test.true))).0
+note-requires-clause-fits c = (c.loop-unit.invariant.ours c.in-Some.unit (subst (λ (us : List WireUnit). Among c.in-Some.unit us) (sym c.in-Some.ensures.steps.0) (inl refl))).0
 
 pub note-requires-clause-creator : goal.note-requires-clause-creator
 note-requires-clause-creator c =
-    let below = (c.requires c.unit-item.result (subst (λ (u : WireUnit). Among u c.args.units.now) (sym c.unit-item.is) (got_among c.args.units.now c.loop-unit.unit-index c.unit-item.result c.loop-unit-test.true))).1 in
-    let same = ap (λ (l : LanesState). length l.last) c.loop-unit.invariant ∙ notes_length c.args.lanes.now (take c.loop-unit.unit-index c.args.units.now) in
+    let below = (c.loop-unit.invariant.ours c.in-Some.unit (subst (λ (us : List WireUnit). Among c.in-Some.unit us) (sym c.in-Some.ensures.steps.0) (inl refl))).1 in
+    let same = ap (λ (l : LanesState). length l.last) c.loop-unit.invariant.noted ∙ notes_length c.args.lanes.now c.loop-unit.yielded in
     omega arith
+
+pub loop-unit-preserved : goal.loop-unit-preserved
+loop-unit-preserved c = record {
+  noted = c.in_ok-name.ensures.noted ∙ ap (λ (l : LanesState). with_unit l c.in-Some.unit) c.loop-unit.invariant.noted ∙ sym (fold-append with_unit c.args.lanes.now c.loop-unit.yielded (c.in-Some.unit ∷ []));
+  sent = grind (arith, common_steps, c.loop-unit.invariant.sent);
+  ours = λ u m. c.loop-unit.invariant.ours u (subst (λ (us : List WireUnit). Among u us) (sym c.in-Some.ensures.steps.0) (inr m));
+}

@@ -7,4 +7,4 @@ use Rattle.hw_cluster.proofs.order.shuffle.Given as goal
 abbrev pub invariant-loop-done : goal.invariant-loop-done
 invariant-loop-done l =
     (l.words ≡ record { key = l.initial.words.key; place = l.initial.words.place + l.done })
-    × (shuffled (word_in l.initial.words.key) (l.initial.words.place + l.done) (l.last - l.done) l.vertices ≡ shuffled (word_in l.initial.words.key) l.initial.words.place l.last l.initial.vertices)
+    × (shuffled (word_in l.initial.words.key) (l.initial.words.place + l.done) (l.last - l.done) l.units ≡ shuffled (word_in l.initial.words.key) l.initial.words.place l.last l.initial.units)

@@ -1,4 +1,4 @@
-use Rattle.std.proofs.Common.{◌≡◌, ap, None, arith}
+use Rattle.std.proofs.Common.{ap, arith}
 use Rattle.hw_cluster.specs.Lanes.{seq_behind}
 use Rattle.hw_cluster.proofs.LanesLaws.{highest_at}
 use Rattle.hw_cluster.proofs.lanes.Lanes.next_unit.Goals as goal
