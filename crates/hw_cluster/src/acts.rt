@@ -12,7 +12,7 @@ ghost use Rattle.hw_honest.specs.declared.cluster.Acted.TheVariants as acted;
 ghost use Rattle.hw_honest.specs.Cluster.{signed, value_at, answer_at, after_delivery, after_own, is_admitted, is_foreign, heard, outcome};
 ghost use Rattle.hw_cluster.specs.Nodes.{nodes_of, state_of, HaveConfig, AllFit, AreNodes, CanAct, acted_in, left_by, plan_in};
 
-use hw_core::Core;
+use hw_core::{Core, Refused};
 use hw_honest::{Acted, Action};
 use hw_rounds::round_id;
 use hw_types::{
@@ -82,11 +82,39 @@ fn make(
     ensures unchanged { OnErr result (nodes_of nodes.new.items sent.new.items ≡ nodes_of nodes.old.items sent.old.items) }
     ensures config { (config : Configuration) → HaveConfig config nodes.old.items → HaveConfig config nodes.new.items }
 {
-    let copy = vertex.copy()?;
+    match give_copy(nodes, sent, node, &vertex) {
+        Ok(answer) => {
+            send(sent, is_admitted(&answer), vertex);
+            Ok(outcome(kind, answer))
+        }
+        Err(OutOfMemory) => {
+            drop(vertex);
+            Err(OutOfMemory)
+        }
+    }
+}
+
+/// Makes room for one more sent vertex, and gives a copy of this one to the node that made it.
+fn give_copy(
+    nodes: &mut Vec<Core>,
+    sent: &mut Vec<Vertex>,
+    node: u32,
+    vertex: &Vertex,
+) -> Result<Answer, OutOfMemory>
+    requires node { node < length nodes.old.items }
+    requires fits { VertexFits vertex.now }
+    ensures answer { IfOk result (λ answer. (config : Configuration) → HaveConfig config nodes.old.items
+        → answer ≡ answer_at (setting_of config) (nodes_of nodes.old.items sent.old.items) node vertex.now) }
+    ensures taken { OnOk result ((config : Configuration) → HaveConfig config nodes.old.items
+        → nodes_of nodes.new.items sent.old.items ≡ after_delivery (setting_of config) (nodes_of nodes.old.items sent.old.items) node vertex.now) }
+    ensures room { OnOk result (length sent.new.items + 1 ≤ vec_capacity sent.new) }
+    ensures sent { sent.new.items ≡ sent.old.items }
+    ensures unchanged { OnErr result (nodes.new.items ≡ nodes.old.items) }
+    ensures config { (config : Configuration) → HaveConfig config nodes.old.items → HaveConfig config nodes.new.items }
+{
     sent.reserve(1)?;
-    let answer = give_to(nodes, node, vertex)?;
-    send(sent, is_admitted(&answer), copy);
-    Ok(outcome(kind, answer))
+    let copy = vertex.copy()?;
+    give_to(nodes, node, copy)
 }
 
 /// Gives the sent vertex of this number to a node.
@@ -137,10 +165,13 @@ pub fn give(core: &mut Core, vertex: Vertex) -> Result<Answer, OutOfMemory>
 {
     match core.deliver(vertex, true) {
         Ok(receipt) => Ok(Ok(receipt)),
-        Err(refused) => match refused.cause {
-            Cause::OutOfMemory => Err(OutOfMemory),
-            cause => Ok(Err(cause)),
-        },
+        Err(Refused { cause, vertex }) => {
+            drop(vertex);
+            match cause {
+                Cause::OutOfMemory => Err(OutOfMemory),
+                cause => Ok(Err(cause)),
+            }
+        }
     }
 }
 
