@@ -88,6 +88,7 @@ fn make(
             Ok(outcome(kind, answer))
         }
         Err(OutOfMemory) => {
+            // For the prover: the drop of a vertex is one call here, and else is written out at each exit.
             drop(vertex);
             Err(OutOfMemory)
         }
@@ -166,6 +167,7 @@ pub fn give(core: &mut Core, vertex: Vertex) -> Result<Answer, OutOfMemory>
     match core.deliver(vertex, true) {
         Ok(receipt) => Ok(Ok(receipt)),
         Err(Refused { cause, vertex }) => {
+            // As above, for the prover.
             drop(vertex);
             match cause {
                 Cause::OutOfMemory => Err(OutOfMemory),
