@@ -45,6 +45,23 @@ pub(crate) fn spell_entry(
     ensures lasts { OnOk result (lasts.new ≡ lasts_after lasts.old entry.vertex) }
     ensures fits { OnOk result (EntryFits entry) }
 {
+    let put = put_entry(alloc, lasts, &entry, text);
+    drop(entry);
+    put
+}
+
+/// Puts an entry last, which is lent, as it stands behind these last units, and goes behind it.
+fn put_entry(
+    alloc: Global,
+    lasts: &mut Lasts,
+    entry: &LogEntry,
+    text: &mut Bytes,
+) -> Result<(), OutOfMemory>
+    requires { VertexFits entry.now.vertex }
+    ensures text { OnOk result (text.new ≡ text.old ++ bytes_of_entry lasts.old entry.now.verdict entry.now.vertex) }
+    ensures lasts { OnOk result (lasts.new ≡ lasts_after lasts.old entry.now.vertex) }
+    ensures fits { OnOk result (EntryFits entry.now) }
+{
     let bytes = entry_bytes(alloc, lasts, entry.verdict, &entry.vertex)?;
     let noted = lasts.prepare(&entry.vertex)?;
     text.extend(bytes.as_slice())?;
