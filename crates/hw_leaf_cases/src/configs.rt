@@ -1,6 +1,9 @@
 //! Configurations, and the leaders of their rounds.
 
-use crate::lines::{byte, number, small};
+ghost use Rattle.std.specs.Prelude.{◌≡◌, None};
+ghost use Rattle.hw_types.specs.Limits.{config_fault};
+
+use crate::words::{byte, number, small};
 use hw_leaders::LeaderTable;
 use hw_types::{Config, IndexList, Items, Leaders, OutOfMemory, WeightList};
 use std::alloc::Global;
@@ -79,10 +82,16 @@ pub fn checked(alloc: Global, words: &[&str]) -> Result<String, OutOfMemory> {
             config.max_exponent = byte(greatest);
             config.max_records = small(records);
             config.max_parked = small(most);
-            Ok(format!(in alloc; "{:?}", config.check())?)
+            check_text(alloc, &config)
         }
         _ => Ok(String::new(alloc)),
     }
+}
+
+/// Whether the configuration keeps all limits, or the first one that it breaks.
+fn check_text(alloc: Global, config: &Config) -> Result<String, OutOfMemory> {
+    let checked = config.check();
+    Ok(format!(in alloc; "{checked:?}")?)
 }
 
 fn leaders_text(alloc: Global, table: &LeaderTable, count: u64) -> Result<String, OutOfMemory> {
@@ -96,10 +105,15 @@ fn leaders_text(alloc: Global, table: &LeaderTable, count: u64) -> Result<String
 pub fn led(alloc: Global, weights: &str, leaders: &str, count: u64) -> Result<String, OutOfMemory> {
     let config = config_of(alloc, weights, leaders)?;
     match config.check() {
-        Ok(()) => {
-            let table = LeaderTable::new(alloc, &config)?;
-            leaders_text(alloc, &table, count)
-        }
+        Ok(()) => led_in(alloc, &config, count),
         Err(fault) => Ok(format!(in alloc; "{fault:?}")?),
     }
+}
+
+/// The leaders in an instance that keeps its limits.
+fn led_in(alloc: Global, config: &Config, count: u64) -> Result<String, OutOfMemory>
+    requires { config_fault config.now ≡ None }
+{
+    let table = LeaderTable::new(alloc, config)?;
+    leaders_text(alloc, &table, count)
 }

@@ -1,9 +1,10 @@
 //! Endorsements, as they come in.
 
-ghost use Rattle.std.specs.Prelude.{◌≡◌, length};
+ghost use Rattle.std.specs.Prelude.{◌≡◌, length, None};
+ghost use Rattle.hw_types.specs.Limits.{config_fault};
 
 use crate::configs::config_of;
-use crate::lines::{byte, small};
+use crate::words::{byte, small};
 use hw_endorse::{Added, Endorsements};
 use hw_types::{Config, Digest, OutOfMemory};
 use std::alloc::Global;
@@ -50,17 +51,32 @@ fn step(
 {
     let parts: Vec<&str> = word.split(':').collect(alloc)?;
     match parts.as_slice() {
-        ["a", unit, endorser] => {
-            let answer = added(told, validators, &unit_of(unit), small(endorser))?;
-            Ok(answer.to_string(alloc)?)
-        }
+        ["a", unit, endorser] => add(alloc, told, validators, unit, small(endorser)),
         ["h", unit, endorser] => {
             let is_known = has(told, validators, &unit_of(unit), small(endorser));
-            Ok(format!(in alloc; "{is_known}")?)
+            bool_text(alloc, is_known)
         }
-        ["q", unit] => Ok(format!(in alloc; "{}", told.endorsed(&unit_of(unit)))?),
+        ["q", unit] => bool_text(alloc, told.endorsed(&unit_of(unit))),
         _ => Ok("no step".to_string(alloc)?),
     }
+}
+
+fn add(
+    alloc: Global,
+    told: &mut Endorsements,
+    validators: u32,
+    unit: &str,
+    endorser: u32,
+) -> Result<String, OutOfMemory>
+    requires { length told.old.weights ≡ validators }
+    ensures { told.new.weights ≡ told.old.weights }
+{
+    let answer = added(told, validators, &unit_of(unit), endorser)?;
+    Ok(answer.to_string(alloc)?)
+}
+
+fn bool_text(alloc: Global, is: bool) -> Result<String, OutOfMemory> {
+    Ok(format!(in alloc; "{is}")?)
 }
 
 fn steps_text(
@@ -88,14 +104,19 @@ fn equals(alloc: Global, validators: u32) -> Result<Config, OutOfMemory> {
 pub fn endorsed(alloc: Global, validators: u32, steps: &[&str]) -> Result<String, OutOfMemory> {
     let config = equals(alloc, validators)?;
     match config.check() {
-        Ok(()) => {
-            let mut told = Endorsements::new(alloc, &config)?;
-            match u32::try_from(config.weights.len()) {
-                Ok(validators) => steps_text(alloc, &mut told, validators, steps),
-                Err(_) => Err(OutOfMemory),
-            }
-        }
+        Ok(()) => endorsed_in(alloc, &config, steps),
         Err(fault) => Ok(format!(in alloc; "{fault:?}")?),
+    }
+}
+
+/// The answers in an instance that keeps its limits.
+fn endorsed_in(alloc: Global, config: &Config, steps: &[&str]) -> Result<String, OutOfMemory>
+    requires { config_fault config.now ≡ None }
+{
+    let mut told = Endorsements::new(alloc, config)?;
+    match u32::try_from(config.weights.len()) {
+        Ok(validators) => steps_text(alloc, &mut told, validators, steps),
+        Err(_) => Err(OutOfMemory),
     }
 }
 
@@ -118,13 +139,20 @@ pub fn endorsers(alloc: Global, validators: u32) -> Result<String, OutOfMemory> 
     let config = equals(alloc, validators)?;
     match config.check() {
         Ok(()) => {
-            let mut told = Endorsements::new(alloc, &config)?;
-            let Ok(validators) = u32::try_from(config.weights.len()) else {
-                return Err(OutOfMemory);
-            };
-            let before = count(&mut told, validators, &Digest([7; 32]))?;
+            let before = endorsers_in(alloc, &config)?;
             Ok(format!(in alloc; "{before}")?)
         }
         Err(fault) => Ok(format!(in alloc; "{fault:?}")?),
+    }
+}
+
+/// How many endorsers there are before a unit is endorsed, in an instance that keeps its limits.
+fn endorsers_in(alloc: Global, config: &Config) -> Result<u32, OutOfMemory>
+    requires { config_fault config.now ≡ None }
+{
+    let mut told = Endorsements::new(alloc, config)?;
+    match u32::try_from(config.weights.len()) {
+        Ok(validators) => count(&mut told, validators, &Digest([7; 32])),
+        Err(_) => Err(OutOfMemory),
     }
 }

@@ -2,35 +2,40 @@
 
 use crate::configs::{checked, led};
 use crate::endorsing::{endorsed, endorsers};
+use crate::keys::keyed;
 use crate::numbers::{change_text, pair_text, pointers_text, quorum_text, round_text, way_text};
 use crate::parking::{parked, parks};
 use crate::printed::{digest_text, number_text, rule_text};
+use crate::settings::settings_text;
+use crate::spelled::{cut_text, patched_text, spelled_text};
+use crate::words::{number, small};
 use hw_types::OutOfMemory;
 use std::alloc::Global;
 
 /// The answer to a line.
 pub fn answer(alloc: Global, line: &str) -> Result<String, OutOfMemory> {
-    let words: Vec<&str> = line.split(' ').collect(alloc)?;
-    match words.as_slice() {
-        ["park", limit, steps @ ..] => parked(alloc, small(limit), steps),
-        ["endorse", validators, steps @ ..] => endorsed(alloc, small(validators), steps),
-        ["check", words @ ..] => checked(alloc, words),
-        [kind, words @ ..] => other(alloc, kind, words),
-        [] => Ok(String::new(alloc)),
+    match line.strip_prefix("settings ") {
+        Some(text) => settings_text(alloc, text),
+        None => {
+            let words: Vec<&str> = line.split(' ').collect(alloc)?;
+            answer_to(alloc, words.as_slice())
+        }
     }
 }
 
-/// The answer to a line of few words.
-fn other(alloc: Global, kind: &str, words: &[&str]) -> Result<String, OutOfMemory> {
-    match (kind, words) {
-        ("quorum", [total, ftt, level]) => quorum_text(
-            alloc,
-            number(total),
-            number(ftt),
-            small(level),
-        ),
-        ("round", [time, exponent]) => round_text(alloc, number(time), small(exponent)),
-        ("change", [before, first, time, then]) => {
+/// The answer to a line of these words.
+fn answer_to(alloc: Global, words: &[&str]) -> Result<String, OutOfMemory> {
+    match words {
+        ["park", limit, steps @ ..] => parked(alloc, small(limit), steps),
+        ["endorse", validators, steps @ ..] => endorsed(alloc, small(validators), steps),
+        ["check", words @ ..] => checked(alloc, words),
+        ["keys", kind, validators, text, words @ ..] => {
+            keyed(alloc, kind, small(validators), text, words)
+        }
+        [kind, word] => of_one(alloc, kind, word),
+        [kind, first, second] => of_two(alloc, kind, first, second),
+        [kind, first, second, third] => of_three(alloc, kind, first, second, third),
+        ["change", before, first, time, then] => {
             change_text(
                 alloc,
                 number(before),
@@ -39,37 +44,49 @@ fn other(alloc: Global, kind: &str, words: &[&str]) -> Result<String, OutOfMemor
                 small(then),
             )
         }
-        ("way", [from, to]) => way_text(alloc, number(from), number(to)),
-        ("pointers", [of]) => pointers_text(alloc, number(of)),
-        ("leaders", [weights, leaders, count]) => led(alloc, weights, leaders, number(count)),
-        ("pair", [validators, left, right]) => pair_text(alloc, small(validators), left, right),
-        _ => shorter(alloc, kind, words),
-    }
-}
-
-/// The answer to a line of two words.
-fn shorter(alloc: Global, kind: &str, words: &[&str]) -> Result<String, OutOfMemory> {
-    match (kind, words) {
-        ("print", [of]) => number_text(alloc, number(of)),
-        ("digest", [text]) => digest_text(alloc, text),
-        ("rule", [of]) => rule_text(alloc, small(of)),
-        ("parks", [count]) => parks(alloc, small(count)),
-        ("endorsers", [validators]) => endorsers(alloc, small(validators)),
         _ => Ok(String::new(alloc)),
     }
 }
 
-/// The number that the word spells, or 0.
-pub fn number(word: &str) -> u64 {
-    word.parse().unwrap_or(0)
+/// The answer to a line with one word behind its kind.
+fn of_one(alloc: Global, kind: &str, word: &str) -> Result<String, OutOfMemory> {
+    match kind {
+        "unit" | "vertex" | "config" | "frame" => spelled_text(alloc, kind, word),
+        "pointers" => pointers_text(alloc, number(word)),
+        "print" => number_text(alloc, number(word)),
+        "digest" => digest_text(alloc, word),
+        "rule" => rule_text(alloc, small(word)),
+        "parks" => parks(alloc, small(word)),
+        "endorsers" => endorsers(alloc, small(word)),
+        _ => Ok(String::new(alloc)),
+    }
 }
 
-/// The smaller number that the word spells, or 0.
-pub fn small(word: &str) -> u32 {
-    word.parse().unwrap_or(0)
+/// The answer to a line with two words behind its kind.
+fn of_two(alloc: Global, kind: &str, first: &str, second: &str) -> Result<String, OutOfMemory> {
+    match kind {
+        "cut" => cut_text(alloc, first, second),
+        "round" => round_text(alloc, number(first), small(second)),
+        "way" => way_text(alloc, number(first), number(second)),
+        _ => Ok(String::new(alloc)),
+    }
 }
 
-/// The byte that the word spells, or 0.
-pub fn byte(word: &str) -> u8 {
-    word.parse().unwrap_or(0)
+/// The answer to a line with three words behind its kind.
+fn of_three(
+    alloc: Global,
+    kind: &str,
+    first: &str,
+    second: &str,
+    third: &str,
+) -> Result<String, OutOfMemory> {
+    match kind {
+        "unit" | "vertex" | "config" | "frame" => {
+            patched_text(alloc, kind, first, second.parse().unwrap_or(0), third)
+        }
+        "quorum" => quorum_text(alloc, number(first), number(second), small(third)),
+        "leaders" => led(alloc, first, second, number(third)),
+        "pair" => pair_text(alloc, small(first), second, third),
+        _ => Ok(String::new(alloc)),
+    }
 }

@@ -15,14 +15,27 @@
 //! | `parks COUNT` | so many items with chosen needs are parked, met and handed out in order |
 //! | `endorse VALIDATORS STEP ..` | `a:UNIT:ENDORSER` adds, `q:UNIT` asks, `h:UNIT:ENDORSER` asks for a pair |
 //! | `endorsers VALIDATORS` | how many of them, one after the other, make a unit endorsed |
+//! | `KIND HEX` | what the bytes spell: their length and room, their name, and what is in them; KIND is `unit`, `vertex`, `config` or `frame` |
+//! | `KIND HEX PLACE HEX` | the same with other bytes put at a place first |
+//! | `cut KIND HEX` | each length from which a cut value is refused in another way |
+//! | `keys read VALIDATORS TEXT` | `read`, or the place of the fault; in TEXT a `/` stands for a line feed |
+//! | `keys unit VALIDATORS TEXT CREATOR DIGEST`, `keys endorse VALIDATORS TEXT ENDORSER DIGEST` | what the creator signs for the unit, and the endorser for the endorsement |
+//! | `keys verdict VALIDATORS TEXT VERTEX` | the verdict on the vertex that these bytes spell |
+//! | `settings TEXT`, `settings hex HEX` | the configuration that the settings of this text, or of these bytes, are, member by member; or what is wrong |
+//!
+//! HEX and VERTEX are bytes as hexadecimal digits.
 #![tactic(auto)]
 
 mod configs;
 mod endorsing;
+mod keys;
 mod lines;
 mod numbers;
 mod parking;
 mod printed;
+mod settings;
+mod spelled;
+mod words;
 
 use std::io;
 

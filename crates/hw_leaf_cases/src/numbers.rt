@@ -1,6 +1,6 @@
 //! Quorums, rounds, jumps and pairs.
 
-use crate::lines::{byte, number, small};
+use crate::words::{byte, number, small};
 use hw_evidence::check_pair;
 use hw_rounds::{changes_lawfully, round_id, witness_time};
 use hw_skip::{jump, pointer_count};

@@ -1,6 +1,6 @@
 //! Items that wait for needs.
 
-use crate::lines::{byte, small};
+use crate::words::{byte, small};
 use hw_park::{Park, ParkCause};
 use hw_types::{Digest, Need, OutOfMemory};
 use std::alloc::Global;

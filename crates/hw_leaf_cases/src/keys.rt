@@ -1,23 +1,16 @@
-//! Lines of words.
+//! Keys, and what they sign.
 
 ghost use Rattle.std.specs.Prelude.{◌≡◌, ◌<◌, length};
+ghost use Rattle.hw_types.specs.Spelling.{VertexFits};
 
+use crate::words::{small, with_line_feeds};
 use hw_codec::decode_vertex;
 use hw_keys::{Keys, KeysFault};
-use hw_types::{Digest, OutOfMemory, Signature};
+use hw_types::{Digest, OutOfMemory, Signature, Vertex};
 use std::alloc::Global;
 
-/// The answer to a line.
-pub fn answer(alloc: Global, line: &str) -> Result<String, OutOfMemory> {
-    let words: Vec<&str> = line.split(' ').collect(alloc)?;
-    match words.as_slice() {
-        [kind, validators, text, words @ ..] => keyed(alloc, kind, small(validators), text, words),
-        _ => Ok(String::new(alloc)),
-    }
-}
-
-/// The answer to a line with a text of keys.
-fn keyed(
+/// What the keys of this text answer.
+pub fn keyed(
     alloc: Global,
     kind: &str,
     validators: u32,
@@ -46,15 +39,29 @@ fn told(
         ("read", []) => Ok("read".to_string(alloc)?),
         ("verdict", [vertex]) => verdict_text(alloc, keys, vertex),
         (_, [validator, digest]) => {
-            let validator = small(validator);
-            match digest_of(alloc, digest)? {
-                Some(digest) if validator < validators => {
-                    signed_text(alloc, kind, keys, validator, &digest)
-                }
-                _ => Ok("no validator".to_string(alloc)?),
-            }
+            let digest = digest_of(alloc, digest)?;
+            signed_by(alloc, kind, keys, validators, small(validator), digest)
         }
         _ => Ok(String::new(alloc)),
+    }
+}
+
+/// What a validator signs, if it is one.
+fn signed_by(
+    alloc: Global,
+    kind: &str,
+    keys: &Keys,
+    validators: u32,
+    validator: u32,
+    digest: Option<Digest>,
+) -> Result<String, OutOfMemory>
+    requires { length keys.now ≡ validators }
+{
+    match digest {
+        Some(digest) if validator < validators => {
+            signed_text(alloc, kind, keys, validator, &digest)
+        }
+        _ => Ok("no validator".to_string(alloc)?),
     }
 }
 
@@ -78,22 +85,25 @@ fn signed_text(
 
 /// The verdict on a vertex.
 fn verdict_text(alloc: Global, keys: &Keys, vertex: &str) -> Result<String, OutOfMemory> {
-    let Ok(bytes) = hex::decode(alloc, vertex) else {
-        return Ok("no bytes".to_string(alloc)?);
-    };
-    match decode_vertex(alloc, bytes.as_slice()) {
-        Ok(vertex) => Ok(format!(in alloc; "{}", keys.verdict(&vertex)?)?),
+    match hex::decode(alloc, vertex) {
+        Ok(bytes) => verdict_of(alloc, keys, bytes.as_slice()),
+        Err(_) => Ok("no bytes".to_string(alloc)?),
+    }
+}
+
+/// The verdict on the vertex of these bytes.
+fn verdict_of(alloc: Global, keys: &Keys, bytes: &[u8]) -> Result<String, OutOfMemory> {
+    match decode_vertex(alloc, bytes) {
+        Ok(vertex) => told_verdict(alloc, keys, &vertex),
         Err(_) => Ok("no vertex".to_string(alloc)?),
     }
 }
 
-/// The text with line feeds where it has `/`.
-fn with_line_feeds(alloc: Global, text: &str) -> Result<Vec<u8>, OutOfMemory> {
-    let bytes = text
-        .bytes()
-        .map(|byte| if byte == b'/' { b'\n' } else { byte })
-        .collect(alloc)?;
-    Ok(bytes)
+fn told_verdict(alloc: Global, keys: &Keys, vertex: &Vertex) -> Result<String, OutOfMemory>
+    requires { VertexFits vertex.now }
+{
+    let verdict = keys.verdict(vertex)?;
+    Ok(format!(in alloc; "{verdict}")?)
 }
 
 /// The digest that the word spells.
@@ -105,9 +115,4 @@ fn digest_of(alloc: Global, word: &str) -> Result<Option<Digest>, OutOfMemory> {
         },
         Err(_) => Ok(None),
     }
-}
-
-/// The number that the word spells, or 0.
-fn small(word: &str) -> u32 {
-    word.parse().unwrap_or(0)
 }

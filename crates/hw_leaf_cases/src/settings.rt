@@ -1,13 +1,13 @@
-//! Lines of settings.
+//! Settings.
 
 use hw_settings::{SettingsFault, read_settings};
 use hw_types::{Config, ConfigFault, Leaders, OutOfMemory};
 use std::alloc::Global;
 
-/// The answer to a line.
-pub fn answer(alloc: Global, line: &str) -> Result<String, OutOfMemory> {
-    match line.strip_prefix("hex ") {
-        None => said(alloc, line.as_bytes()),
+/// What the settings of this text say, or of the bytes that it spells behind `hex`.
+pub fn settings_text(alloc: Global, text: &str) -> Result<String, OutOfMemory> {
+    match text.strip_prefix("hex ") {
+        None => said(alloc, text.as_bytes()),
         Some(digits) => match hex::decode(alloc, digits) {
             Ok(bytes) => said(alloc, bytes.as_slice()),
             Err(_) => Ok("no digits".to_string(alloc)?),
@@ -19,46 +19,63 @@ pub fn answer(alloc: Global, line: &str) -> Result<String, OutOfMemory> {
 fn said(alloc: Global, bytes: &[u8]) -> Result<String, OutOfMemory> {
     match read_settings(alloc, bytes) {
         Ok(config) => config_text(alloc, &config),
-        Err(SettingsFault::Form) => Ok("config form".to_string(alloc)?),
-        Err(SettingsFault::Fault(ConfigFault::ZeroWeight(validator))) => {
+        Err(fault) => fault_text(alloc, fault),
+    }
+}
+
+/// What is wrong with settings.
+fn fault_text(alloc: Global, fault: SettingsFault) -> Result<String, OutOfMemory> {
+    match fault {
+        SettingsFault::Form => Ok("config form".to_string(alloc)?),
+        SettingsFault::Fault(ConfigFault::ZeroWeight(validator)) => {
             Ok(format!(in alloc; "config zero weight {validator}")?)
         }
-        Err(SettingsFault::Fault(fault)) => Ok(format!(in alloc; "config {}", name_of(fault))?),
-        Err(SettingsFault::OutOfMemory) => Err(OutOfMemory),
+        SettingsFault::Fault(fault) => Ok(format!(in alloc; "config {}", name_of(fault))?),
+        SettingsFault::OutOfMemory => Err(OutOfMemory),
     }
 }
 
 /// A configuration, member by member.
 fn config_text(alloc: Global, config: &Config) -> Result<String, OutOfMemory> {
     let mut text = "weights".to_string(alloc)?;
-    for weight in config.weights.as_slice() {
-        text.push_str(format!(in alloc; " {weight}")?.as_str())?;
-    }
-    let (ftt, levels) = (config.ftt, config.levels);
-    let (least, greatest) = (config.min_exponent, config.max_exponent);
-    let rounds = format!(in alloc;
-        " threshold {ftt} levels {levels} exponents {least} {greatest} "
-    )?;
-    text.push_str(rounds.as_str())?;
+    put_weights(alloc, &mut text, config.weights.as_slice())?;
+    text.push_str(rounds_text(alloc, config)?.as_str())?;
     text.push_str(leaders_text(alloc, &config.leaders)?.as_str())?;
     text.push_str(room_text(alloc, config)?.as_str())?;
     Ok(text)
 }
 
+fn put_weights(alloc: Global, text: &mut String, weights: &[u64]) -> Result<(), OutOfMemory> {
+    for weight in weights {
+        text.push_str(format!(in alloc; " {weight}")?.as_str())?;
+    }
+    Ok(())
+}
+
+fn rounds_text(alloc: Global, config: &Config) -> Result<String, OutOfMemory> {
+    let (ftt, levels) = (config.ftt, config.levels);
+    let (least, greatest) = (config.min_exponent, config.max_exponent);
+    Ok(format!(in alloc; " threshold {ftt} levels {levels} exponents {least} {greatest} ")?)
+}
+
 fn leaders_text(alloc: Global, leaders: &Leaders) -> Result<String, OutOfMemory> {
     match leaders {
-        Leaders::Drawn(key) => {
-            let digits = hex::encode(alloc, key.as_slice())?;
-            Ok(format!(in alloc; "drawn {digits}")?)
-        }
-        Leaders::Table(entries) => {
-            let mut text = "leaders".to_string(alloc)?;
-            for entry in entries.as_slice() {
-                text.push_str(format!(in alloc; " {entry}")?.as_str())?;
-            }
-            Ok(text)
-        }
+        Leaders::Drawn(key) => drawn_text(alloc, key.as_slice()),
+        Leaders::Table(entries) => table_text(alloc, entries.as_slice()),
     }
+}
+
+fn drawn_text(alloc: Global, key: &[u8]) -> Result<String, OutOfMemory> {
+    let digits = hex::encode(alloc, key)?;
+    Ok(format!(in alloc; "drawn {digits}")?)
+}
+
+fn table_text(alloc: Global, entries: &[u32]) -> Result<String, OutOfMemory> {
+    let mut text = "leaders".to_string(alloc)?;
+    for entry in entries {
+        text.push_str(format!(in alloc; " {entry}")?.as_str())?;
+    }
+    Ok(text)
 }
 
 /// What is kept, and the last block's height.
