@@ -46,6 +46,7 @@ pub(crate) fn spell_entry(
     ensures fits { OnOk result (EntryFits entry) }
 {
     let put = put_entry(alloc, lasts, &entry, text);
+    // For the prover: one call, where else the drop of an entry is written out at each exit.
     drop(entry);
     put
 }
