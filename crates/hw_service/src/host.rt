@@ -5,7 +5,8 @@ use hw_session::Node;
 
 /// A node, and what is kept of its consumers.
 #[derive(Drop)]
-pub(crate) struct Host {
+pub struct Host {
     pub node: Node,
+    /// What is kept of its consumers.
     pub fanout: Fanout,
 }

@@ -15,9 +15,12 @@ mod peer;
 mod serving;
 mod turns;
 
-pub use begin::Sources;
+pub use begin::{Sources, begin};
+pub use close::close;
 pub use ended::Served;
 pub use fault::ServiceFault;
+pub use host::Host;
+pub use lines::tell_end;
 pub use peer::Peer;
 pub use serving::serve;
 pub use turns::run;
