@@ -124,17 +124,28 @@ impl Node {
         requires { VertexFits refused.vertex }
         ensures { Counts self.old refused.vertex refused.cause self.new result }
     {
-        match refused.cause {
+        let told = self.count_refused(refused.cause, &refused.vertex);
+        // For the prover: it is dropped by one call.
+        drop(refused);
+        told
+    }
+
+    /// Counts a vertex that was refused for this cause, and keeps a clash.
+    fn count_refused(&mut self, why: Cause, vertex: &Vertex) -> Result<Receipt, AcceptFault>
+        requires { VertexFits vertex.now }
+        ensures { Counts self.old vertex.now why self.new result }
+    {
+        match why {
             Cause::OutOfMemory => Err(AcceptFault::OutOfMemory),
-            Cause::Clash { known } => self.keep_clash(known, &refused.vertex),
+            Cause::Clash { known } => self.keep_clash(known, vertex),
             Cause::RecordsFull | Cause::ParkFull => {
                 self.refused = self.refused.saturating_add(1);
                 self.limited = self.limited.saturating_add(1);
-                Err(AcceptFault::Refused(refused.cause))
+                Err(AcceptFault::Refused(why))
             }
             Cause::BadSignature | Cause::Local(_) | Cause::Pair(_) => {
                 self.refused = self.refused.saturating_add(1);
-                Err(AcceptFault::Refused(refused.cause))
+                Err(AcceptFault::Refused(why))
             }
         }
     }

@@ -13,10 +13,11 @@ ghost use Rattle.hw_needs.specs.Needs.{vertices_of};
 ghost use Rattle.hw_session.specs.Serving.{part_from, answer_to_have, answer_to_want, sent_for, first_missing, wanted_by};
 ghost use Rattle.hw_session.specs.Handling.{StandsLast};
 
+use crate::say::say;
 use hw_codec::digest_of;
 use hw_core::Core;
 use hw_io::Door;
-use hw_link::{SessionEnd, send_frame};
+use hw_link::SessionEnd;
 use hw_needs::vertices_of;
 use hw_types::{Digest, Frame, Need, NeedList, OutOfMemory, Receipt, Vertex};
 use std::alloc::Global;
@@ -46,7 +47,7 @@ pub fn answer_have<D: Door>(
 {
     let next = place + part_length(core.journal_count(), place);
     match send_part(alloc, core, door, place, next) {
-        Ok(()) => send_frame(alloc, door, &Frame::Have(next)),
+        Ok(()) => say(alloc, door, Frame::Have(next)),
         Err(end) => Err(end),
     }
 }
@@ -104,7 +105,7 @@ pub fn answer_want<D: Door>(
     ensures dials { D.dials door.new ≡ D.dials door.old }
 {
     match send_wanted(alloc, core, door, needs) {
-        Ok(()) => send_frame(alloc, door, &Frame::Have(core.journal_count())),
+        Ok(()) => say(alloc, door, Frame::Have(core.journal_count())),
         Err(end) => Err(end),
     }
 }
@@ -174,7 +175,7 @@ fn send_found<D: Door>(
     ensures dials { D.dials door.new ≡ D.dials door.old }
 {
     if vertices.is_empty() {
-        send_frame(alloc, door, &Frame::Missing(*need))
+        say(alloc, door, Frame::Missing(*need))
     } else {
         send_vertices(alloc, door, vertices)
     }
@@ -218,7 +219,7 @@ pub fn send_vertex<D: Door>(alloc: Global, door: &mut D, vertex: &Vertex) -> Res
     ensures dials { D.dials door.new ≡ D.dials door.old }
 {
     match vertex.copy() {
-        Ok(copy) => send_frame(alloc, door, &Frame::Vertex(copy)),
+        Ok(copy) => say(alloc, door, Frame::Vertex(copy)),
         Err(OutOfMemory) => Err(SessionEnd::OutOfMemory),
     }
 }

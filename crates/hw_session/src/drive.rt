@@ -20,10 +20,11 @@ ghost use Rattle.hw_session.specs.Drives.{DrivesThere, DrivesPeer, DrivesNone};
 use crate::answer::send_vertex;
 use crate::fault::AcceptFault;
 use crate::node::Node;
+use crate::say::say;
 use crate::serve::end_of_fault;
 use crate::stage::{Onward, PeerMark, Stage};
 use hw_io::{Door, Files};
-use hw_link::{BYTE_LIMIT, SessionEnd, read_frame, send_frame};
+use hw_link::{BYTE_LIMIT, SessionEnd, read_frame};
 use hw_types::{Cause, Digest, Frame, Need, NeedList, OutOfMemory, Vertex};
 
 /// How many vertices are pushed in one session.
@@ -113,7 +114,7 @@ impl Node {
         ensures dials { D.dials door.new ≡ D.dials door.old }
     {
         match self.instance() {
-            Ok(instance) => send_frame(self.alloc, door, &Frame::Hello(instance)),
+            Ok(instance) => say(self.alloc, door, Frame::Hello(instance)),
             Err(OutOfMemory) => Err(SessionEnd::OutOfMemory),
         }
     }
@@ -214,13 +215,31 @@ impl Node {
         ensures reads { F.read_faults files.new ≡ F.read_faults files.old }
     {
         match stage {
-            Stage::Greeting => self.drive_greeting(*mark, door, place, &frame),
-            Stage::Pushing(left) => self.drive_pushing(mark, door, place, left, &frame),
+            Stage::Greeting => {
+                let next = self.drive_greeting(*mark, door, place, &frame);
+                // For the prover: each frame that an arm doesn't hand on is dropped by one call.
+                drop(frame);
+                next
+            }
+            Stage::Pushing(left) => {
+                let next = self.drive_pushing(mark, door, place, left, &frame);
+                // For the prover, as above.
+                drop(frame);
+                next
+            }
             Stage::Pulling(again) => self.drive_pulling(mark, door, files, place, again, frame),
             Stage::Wanting => self.drive_wanting(*mark, door, files, place, frame),
             Stage::Leaving => match frame {
-                Frame::Done => Err(SessionEnd::Done),
-                _ => Err(SessionEnd::BadFrame(place)),
+                Frame::Done => {
+                    // For the prover, as above.
+                    drop(frame);
+                    Err(SessionEnd::Done)
+                }
+                _ => {
+                    // For the prover, as above.
+                    drop(frame);
+                    Err(SessionEnd::BadFrame(place))
+                }
             },
         }
     }
@@ -347,7 +366,7 @@ impl Node {
         ensures accepts { D.accepts door.new ≡ D.accepts door.old }
         ensures dials { D.dials door.new ≡ D.dials door.old }
     {
-        match send_frame(self.alloc, door, &Frame::Have(mark.pulled)) {
+        match say(self.alloc, door, Frame::Have(mark.pulled)) {
             Ok(()) => Ok(Stage::Pulling(again)),
             Err(end) => Err(end),
         }
@@ -448,7 +467,7 @@ impl Node {
         if needs.len() == 0 {
             return self.leave(mark, door);
         }
-        match send_frame(self.alloc, door, &Frame::Want(needs)) {
+        match say(self.alloc, door, Frame::Want(needs)) {
             Ok(()) => Ok(Stage::Wanting),
             Err(end) => Err(end),
         }
@@ -508,7 +527,7 @@ impl Node {
         ensures accepts { D.accepts door.new ≡ D.accepts door.old }
         ensures dials { D.dials door.new ≡ D.dials door.old }
     {
-        match send_frame(self.alloc, door, &Frame::Done) {
+        match say(self.alloc, door, Frame::Done) {
             Ok(()) => Ok(Stage::Leaving),
             Err(end) => Err(end),
         }

@@ -15,9 +15,10 @@ ghost use Rattle.hw_session.specs.Sessions.{ServesThere, ServesPeer, ServesNone}
 use crate::answer::{answer_have, answer_want, wanted};
 use crate::fault::AcceptFault;
 use crate::node::Node;
+use crate::say::say;
 use hw_codec::instance_of;
 use hw_io::{Door, Files, IoFault};
-use hw_link::{BYTE_LIMIT, SessionEnd, read_frame, send_frame};
+use hw_link::{BYTE_LIMIT, SessionEnd, read_frame};
 use hw_types::{Cause, Digest, Frame, NeedList, OutOfMemory, Receipt, Vertex};
 
 impl Node {
@@ -172,7 +173,7 @@ impl Node {
         match self.instance() {
             Ok(own) => {
                 if instance == own {
-                    send_frame(self.alloc, door, &Frame::Hello(own))
+                    say(self.alloc, door, Frame::Hello(own))
                 } else {
                     Err(SessionEnd::WrongInstance)
                 }
@@ -231,7 +232,7 @@ impl Node {
         ensures accepts { D.accepts door.new ≡ D.accepts door.old }
         ensures dials { D.dials door.new ≡ D.dials door.old }
     {
-        match send_frame(self.alloc, door, &Frame::Done) {
+        match say(self.alloc, door, Frame::Done) {
             Ok(()) => Err(SessionEnd::Done),
             Err(end) => Err(end),
         }
@@ -281,7 +282,7 @@ impl Node {
             Err(SessionEnd::Clash)
         } else {
             let none = NeedList::new(self.alloc);
-            send_frame(self.alloc, door, &Frame::Want(none))
+            say(self.alloc, door, Frame::Want(none))
         }
     }
 
@@ -297,7 +298,7 @@ impl Node {
         ensures dials { D.dials door.new ≡ D.dials door.old }
     {
         match wanted(self.alloc, &self.core, receipt) {
-            Ok(needs) => send_frame(self.alloc, door, &Frame::Want(needs)),
+            Ok(needs) => say(self.alloc, door, Frame::Want(needs)),
             Err(OutOfMemory) => Err(SessionEnd::OutOfMemory),
         }
     }

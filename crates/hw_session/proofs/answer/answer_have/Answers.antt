@@ -11,12 +11,12 @@ returns-in-Ok-clause-sent g c =
     let journal = c.args.core.now.journal in
     let old = g.D.Door.sessions c.args.door.now in
     let mid = g.D.Door.sessions c.send_part.new.door in
-    let new = g.D.Door.sessions c.send_frame.new.door in
+    let new = g.D.Door.sessions c.say.new.door in
     let vertices = map frame.Vertex (part_from journal c.args.place) in
     let next : c.args.place + c.part_length.result ≡ c.args.place + length (part_from journal c.args.place) = ap (λ (n : ℕ). c.args.place + n) (c.part_length.ensures.part journal (sym c.journal_count.ensures)) in
-    subst (λ (n : ℕ). Sends {T = Unit {0}} (sent_bytes (vertices ++ frame.Have n ∷ [])) old new c.send_frame.result) next
-    (sends_both (Unit {0}) vertices (frame.Have (c.args.place + c.part_length.result) ∷ []) old mid new c.send_frame.result c.in-Ok.ensures.sent
-    (sends_one (Unit {0}) (frame.Have (c.args.place + c.part_length.result)) mid new c.send_frame.result c.send_frame.ensures.sent))
+    subst (λ (n : ℕ). Sends {T = Unit {0}} (sent_bytes (vertices ++ frame.Have n ∷ [])) old new c.say.result) next
+    (sends_both (Unit {0}) vertices (frame.Have (c.args.place + c.part_length.result) ∷ []) old mid new c.say.result c.in-Ok.ensures.sent
+    (sends_one (Unit {0}) (frame.Have (c.args.place + c.part_length.result)) mid new c.say.result c.say.ensures.sent))
 
 pub returns-in-Err-clause-sent : goal.returns-in-Err-clause-sent
 returns-in-Err-clause-sent g c =

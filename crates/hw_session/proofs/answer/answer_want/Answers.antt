@@ -10,10 +10,10 @@ returns-in-Ok-clause-sent g c =
     let frames = sent_for_all c.args.core.now c.args.needs.now in
     let old = g.D.Door.sessions c.args.door.now in
     let mid = g.D.Door.sessions c.send_wanted.new.door in
-    let new = g.D.Door.sessions c.send_frame.new.door in
-    subst (λ (n : ℕ). Sends {T = Unit {0}} (sent_bytes (frames ++ frame.Have n ∷ [])) old new c.send_frame.result) c.journal_count.ensures
-    (sends_both (Unit {0}) frames (frame.Have c.journal_count.result ∷ []) old mid new c.send_frame.result c.in-Ok.ensures.sent
-    (sends_one (Unit {0}) (frame.Have c.journal_count.result) mid new c.send_frame.result c.send_frame.ensures.sent))
+    let new = g.D.Door.sessions c.say.new.door in
+    subst (λ (n : ℕ). Sends {T = Unit {0}} (sent_bytes (frames ++ frame.Have n ∷ [])) old new c.say.result) c.journal_count.ensures
+    (sends_both (Unit {0}) frames (frame.Have c.journal_count.result ∷ []) old mid new c.say.result c.in-Ok.ensures.sent
+    (sends_one (Unit {0}) (frame.Have c.journal_count.result) mid new c.say.result c.say.ensures.sent))
 
 pub returns-in-Err-clause-sent : goal.returns-in-Err-clause-sent
 returns-in-Err-clause-sent g c =

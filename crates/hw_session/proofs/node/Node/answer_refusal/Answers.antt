@@ -10,5 +10,5 @@ pub returns-then-is_clash-clause-answers : goal.returns-then-is_clash-clause-ans
 returns-then-is_clash-clause-answers g c = λ v. clash_answers c.args.self.now v c.args.cause.now (g.D.Door.sessions c.args.door.now) (sym c.is_clash.ensures ∙ c.if-is_clash.true)
 
 pub returns-else-is_clash-clause-answers : goal.returns-else-is_clash-clause-answers
-returns-else-is_clash-clause-answers g c = λ v. refusal_answers c.args.self.now v c.args.cause.now (g.D.Door.sessions c.args.door.now) (g.D.Door.sessions c.send_frame.new.door) c.send_frame.result (sym c.is_clash.ensures ∙ c.if-is_clash.false)
-    (subst (λ (needs : List Need). Sends {T = Unit {0}} (framed (frame.Want needs)) (g.D.Door.sessions c.args.door.now) (g.D.Door.sessions c.send_frame.new.door) c.send_frame.result) c.new-none.ensures c.send_frame.ensures.sent)
+returns-else-is_clash-clause-answers g c = λ v. refusal_answers c.args.self.now v c.args.cause.now (g.D.Door.sessions c.args.door.now) (g.D.Door.sessions c.say.new.door) c.say.result (sym c.is_clash.ensures ∙ c.if-is_clash.false)
+    (subst (λ (needs : List Need). Sends {T = Unit {0}} (framed (frame.Want needs)) (g.D.Door.sessions c.args.door.now) (g.D.Door.sessions c.say.new.door) c.say.result) c.new-none.ensures c.say.ensures.sent)

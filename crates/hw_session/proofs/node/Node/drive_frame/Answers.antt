@@ -10,16 +10,16 @@ use Rattle.hw_session.proofs.node.Node.drive_frame.Goals as goal
 
 pub returns-in-Greeting-clause-reacts : goal.returns-in-Greeting-clause-reacts
 returns-in-Greeting-clause-reacts g c =
-    let At : Stage → Type 0 = λ s. ReactsAs c.args.self.now c.args.frame (drive_at s (record { stage = s; node = c.args.self.now; mark = c.args.mark.now }) c.args.place c.args.frame) c.args.self.now c.args.mark.now g.F.Files.tells (g.F.Files.held c.args.files.now) (g.F.Files.held c.args.files.now) (g.D.Door.sessions c.args.door.now) (g.D.Door.sessions c.drive_greeting.new.door) c.drive_greeting.result in
+    let At : Stage → Type 0 = λ s. ReactsAs c.args.self.now c.args.frame (drive_at s (record { stage = s; node = c.args.self.now; mark = c.args.mark.now }) c.args.place c.args.frame) c.args.self.now c.args.mark.now g.F.Files.tells (g.F.Files.held c.args.files.now) (g.F.Files.held c.args.files.now) (g.D.Door.sessions c.args.door.now) (g.D.Door.sessions c.drive_greeting-next.new.door) c.drive_greeting-next.result in
     let keeps = greeting_keeps (greeting c.args.self.now c.args.mark.now) c.args.place c.args.frame in
-    subst At (sym c.in-Greeting.is) (as_reacts c.args.self.now _ c.args.mark.now _ _ _ _ _ _ keeps.0 keeps.1 c.drive_greeting.ensures.answers)
+    subst At (sym c.in-Greeting.is) (as_reacts c.args.self.now _ c.args.mark.now _ _ _ _ _ _ keeps.0 keeps.1 c.drive_greeting-next.ensures.answers)
 
 pub returns-in-Pushing-clause-reacts : goal.returns-in-Pushing-clause-reacts
 returns-in-Pushing-clause-reacts g c =
-    let At : Stage → Type 0 = λ s. ReactsAs c.args.self.now c.args.frame (drive_at s (record { stage = s; node = c.args.self.now; mark = c.args.mark.now }) c.args.place c.args.frame) c.args.self.now c.drive_pushing.new.mark g.F.Files.tells (g.F.Files.held c.args.files.now) (g.F.Files.held c.args.files.now) (g.D.Door.sessions c.args.door.now) (g.D.Door.sessions c.drive_pushing.new.door) c.drive_pushing.result in
+    let At : Stage → Type 0 = λ s. ReactsAs c.args.self.now c.args.frame (drive_at s (record { stage = s; node = c.args.self.now; mark = c.args.mark.now }) c.args.place c.args.frame) c.args.self.now c.drive_pushing-next.new.mark g.F.Files.tells (g.F.Files.held c.args.files.now) (g.F.Files.held c.args.files.now) (g.D.Door.sessions c.args.door.now) (g.D.Door.sessions c.drive_pushing-next.new.door) c.drive_pushing-next.result in
     let d : Driver = record { stage = stage.Pushing c.in-Pushing.left; node = c.args.self.now; mark = c.args.mark.now } in
     subst At (sym c.in-Pushing.is)
-    (as_reacts c.args.self.now _ c.drive_pushing.new.mark _ _ _ _ _ _ (pushing_node d c.in-Pushing.left c.args.place c.args.frame) c.drive_pushing.ensures.marks c.drive_pushing.ensures.answers)
+    (as_reacts c.args.self.now _ c.drive_pushing-next.new.mark _ _ _ _ _ _ (pushing_node d c.in-Pushing.left c.args.place c.args.frame) c.drive_pushing-next.ensures.marks c.drive_pushing-next.ensures.answers)
 
 pub returns-in-Done-clause-reacts : goal.returns-in-Done-clause-reacts
 returns-in-Done-clause-reacts g c =
@@ -29,8 +29,8 @@ returns-in-Done-clause-reacts g c =
     (subst (λ (f : Frame). At stage.Leaving f) (sym c.in-Done.is)
     (as_reacts c.args.self.now _ c.args.mark.now _ _ _ _ _ _ refl refl (done_answers c.args.self.now d _)))
 
-pub returns-clause-reacts : goal.returns-clause-reacts
-returns-clause-reacts g c =
+pub returns-in_default-clause-reacts : goal.returns-in_default-clause-reacts
+returns-in_default-clause-reacts g c =
     let At : Stage → Type 0 = λ s. ReactsAs c.args.self.now c.args.frame (drive_at s (record { stage = s; node = c.args.self.now; mark = c.args.mark.now }) c.args.place c.args.frame) c.args.self.now c.args.mark.now g.F.Files.tells (g.F.Files.held c.args.files.now) (g.F.Files.held c.args.files.now) (g.D.Door.sessions c.args.door.now) (g.D.Door.sessions c.args.door.now) (Err (end.BadFrame c.args.place)) in
     let d : Driver = record { stage = stage.Leaving; node = c.args.self.now; mark = c.args.mark.now } in
     subst At (sym c.in-Leaving.is)

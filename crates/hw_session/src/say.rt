@@ -1,0 +1,30 @@
+//! Saying a frame.
+
+ghost use Rattle.std.specs.Prelude.{◌≡◌, true};
+ghost use Rattle.hw_types.specs.Spelling.{FrameFits};
+ghost use Rattle.hw_link.specs.Frames.{framed};
+ghost use Rattle.hw_link.specs.Links.{IsLinkCounted};
+ghost use Rattle.hw_link.specs.Sent.{Sends};
+
+use hw_io::Door;
+use hw_link::{SessionEnd, send_frame};
+use hw_types::Frame;
+use std::alloc::Global;
+
+/// Sends a frame, which isn't kept.
+pub fn say<D: Door>(alloc: Global, door: &mut D, frame: Frame) -> Result<(), SessionEnd>
+    requires fits { FrameFits frame }
+    requires open { D.is_open door.old ≡ true }
+    ensures sent { Sends (framed frame) (D.sessions door.old) (D.sessions door.new) result }
+    ensures cause { IsLinkCounted (D.faults door.old) (D.faults door.new) result }
+
+    ensures open { D.is_open door.new ≡ true }
+    ensures ends { D.ends door.new ≡ D.ends door.old }
+    ensures accepts { D.accepts door.new ≡ D.accepts door.old }
+    ensures dials { D.dials door.new ≡ D.dials door.old }
+{
+    let sent = send_frame(alloc, door, &frame);
+    // For the prover: it is dropped by one call.
+    drop(frame);
+    sent
+}
