@@ -48,7 +48,7 @@ pub struct Sources<'n> {
 ///
 /// The validator that is to make units, if there is one, is tested against the settings before the keys are
 /// read.
-pub fn begin<F: Files>(
+pub fn begin_host<F: Files>(
     alloc: Global,
     sources: Sources<'_>,
     me: Option<u32>,

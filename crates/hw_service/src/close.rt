@@ -17,7 +17,7 @@ use std::alloc::Global;
 
 /// Tells the consumers that no block follows, and writes the report on the node. Answers how many vertices met
 /// a limit.
-pub fn close<S: Sink>(
+pub fn close_host<S: Sink>(
     alloc: Global,
     host: &mut Host,
     out: &mut S,

@@ -15,8 +15,8 @@ mod peer;
 mod serving;
 mod turns;
 
-pub use begin::{Sources, begin};
-pub use close::close;
+pub use begin::{Sources, begin_host};
+pub use close::close_host;
 pub use ended::Served;
 pub use fault::ServiceFault;
 pub use host::Host;

@@ -15,8 +15,8 @@ ghost use Rattle.hw_service.specs.Serve.{serves_session, Serves};
 ghost use Rattle.hw_service.specs.declared.fault.ServiceFault.TheVariants as fault;
 ghost use Rattle.hw_service.specs.Counts.{IsReadCounted, IsAppendCounted, IsWriteCounted, IsDoorCounted, raised_by};
 
-use crate::begin::{Sources, begin};
-use crate::close::close;
+use crate::begin::{Sources, begin_host};
+use crate::close::close_host;
 use crate::ended::Served;
 use crate::fault::ServiceFault;
 use crate::host::Host;
@@ -52,7 +52,7 @@ pub fn serve<F: Files, S: Sink, D: Door>(
     ensures writes { IsWriteCounted (S.faults out.old) (S.faults out.new) result }
     ensures link { IfOk result (λ served. IsDoorCounted served.link_failed (D.faults door.old) (D.faults door.new)) }
 {
-    match begin(alloc, sources, None, files, consumers) {
+    match begin_host(alloc, sources, None, files, consumers) {
         Ok(mut host) => serve_begun(alloc, &mut host, sessions, files, out, door, consumers),
         Err(fault) => Err(fault),
     }
@@ -83,7 +83,7 @@ fn serve_begun<F: Files, S: Sink, D: Door>(
     ensures reads { F.read_faults files.new ≡ F.read_faults files.old }
 {
     match serve_sessions(alloc, host, sessions, files, out, door, consumers) {
-        Ok(link_failed) => match close(alloc, host, out, consumers) {
+        Ok(link_failed) => match close_host(alloc, host, out, consumers) {
             Ok(limits) => Ok(Served {
                 limits,
                 link_failed,

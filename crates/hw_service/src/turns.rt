@@ -13,8 +13,8 @@ ghost use Rattle.hw_service.specs.Turns.{DrivesAt, DrivesSession, TakesTurn, Run
 ghost use Rattle.hw_service.specs.declared.fault.ServiceFault.TheVariants as fault;
 ghost use Rattle.hw_service.specs.Counts.{IsReadCounted, IsAppendCounted, IsWriteCounted, IsDoorCounted, raised_by};
 
-use crate::begin::{Sources, begin};
-use crate::close::close;
+use crate::begin::{Sources, begin_host};
+use crate::close::close_host;
 use crate::ended::Served;
 use crate::fault::ServiceFault;
 use crate::host::Host;
@@ -58,7 +58,7 @@ pub fn run<F: Files, S: Sink, C: Clock, D: Door>(
     ensures writes { IsWriteCounted (S.faults out.old) (S.faults out.new) result }
     ensures link { IfOk result (λ served. IsDoorCounted served.link_failed (D.faults door.old) (D.faults door.new)) }
 {
-    match begin(alloc, sources, Some(me), files, consumers) {
+    match begin_host(alloc, sources, Some(me), files, consumers) {
         Ok(mut host) => run_begun(
             alloc, &mut host, me, turns, peers, files, out, clock, door, consumers,
         ),
@@ -98,7 +98,7 @@ fn run_begun<F: Files, S: Sink, C: Clock, D: Door>(
     match take_turns(
         alloc, host, me, turns, peers, files, out, clock, door, consumers,
     ) {
-        Ok(link_failed) => match close(alloc, host, out, consumers) {
+        Ok(link_failed) => match close_host(alloc, host, out, consumers) {
             Ok(limits) => Ok(Served {
                 limits,
                 link_failed,

@@ -1,7 +1,7 @@
 use Rattle.std.proofs.Common.{refl}
 use Rattle.hw_service.proofs.CloseLaws.{still_whole}
 use Rattle.hw_service.proofs.LineLaws.{prefix_none}
-use Rattle.hw_service.proofs.close.close.Goals as goal
+use Rattle.hw_service.proofs.close.close_host.Goals as goal
 
 pub returns-in-Ok-write_bytes-clause-whole : goal.returns-in-Ok-write_bytes-clause-whole
 returns-in-Ok-write_bytes-clause-whole g c = λ count so. still_whole _ _ _ _ _ _ _ c.finish.ensures.finished so

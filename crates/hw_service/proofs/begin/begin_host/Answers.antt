@@ -1,6 +1,6 @@
 use Rattle.std.proofs.Common.{arith}
 use Rattle.hw_service.proofs.BeginLaws.{told_none, fed_from, some_from, has_begun, begins_not}
-use Rattle.hw_service.proofs.begin.begin.Goals as goal
+use Rattle.hw_service.proofs.begin.begin_host.Goals as goal
 
 pub returns-in-Ok-clause-begins : goal.returns-in-Ok-clause-begins
 returns-in-Ok-clause-begins g c = λ door written.
