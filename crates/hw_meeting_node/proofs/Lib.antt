@@ -1,6 +1,8 @@
 pub mod FrameLaws
 pub mod TalkLaws
 pub mod EndLaws
+pub mod TakingLaws
+pub mod TakenLaws
 pub mod MeetingLaws
 pub mod SayLaws
 pub mod ReactLaws

@@ -28,10 +28,12 @@ use Rattle.hw_meeting_node.specs.declared.end.MeetEnd.TheVariants as end
 use Rattle.hw_meeting_node.specs.declared.meeter.Side.{Side}
 use Rattle.hw_meeting_node.specs.Talk.{Reaction, Talk, HasHeard, placed_behind}
 use Rattle.hw_meeting_node.specs.Meeting.{Meeting, first_word, begun, meet_step, met}
-use Rattle.hw_meeting_node.specs.Sessions.{meet_end, IsOfOutside, EndsAs, IsFinal, IsEndOf, IsWritten, Leaves, Meets, is_link_end, MeetsThere, MeetsPeer, MeetsNone, IsLinkEnd, IsTakerEnd}
+use Rattle.hw_meeting_node.specs.Sessions.{meet_end, IsOfOutside, EndsAs, IsFinal, IsEndOf, IsWritten, Leaves, Meets, is_link_end, MeetsPeer, MeetsNone, IsLinkEnd, IsTakerEnd}
 use Rattle.hw_meeting_node.specs.Handling.{Reacts, Quits, Handles, IsTakerCounted}
+use Rattle.hw_meeting_node.specs.Taking.{vertex_at, taken_in, TakeStep, TakesAll, Took, TakesThere, TakesPeer, TakesNone, TakesOf, GoesNext}
 use Rattle.hw_meeting_node.proofs.TalkLaws.{begins, leads_on, frame_ends, no_frame_ends, heard_here, heard_first}
 use Rattle.hw_meeting_node.proofs.EndLaws.{IsOfFrame, step_ends, no_frame_so}
+use Rattle.hw_meeting_node.proofs.TakingLaws.{HasTaken, taken_nothing, takes_here, takes_over, takes_first, takes_more, takes_last, takes_alike}
 
 -- ---- what was said
 
@@ -122,7 +124,7 @@ told_then read part written sent failed old now new before after =
 
 -- ---- how far a meeting is
 
-module _ (side : Side) (c : CoreState) (judge : Vertex → Bool) where
+module _ {A : Type 0} (taking : TakeStep A) (side : Side) (c : CoreState) (judge : Vertex → Bool) (t : A) where
   abbrev n : ℕ
   n = length c.config.weights
 
@@ -136,16 +138,17 @@ module _ (side : Side) (c : CoreState) (judge : Vertex → Bool) where
   Heard read said m = HasHeard n first step (begun c) read said m
 
   -- what was read so far was read of the session that is there, the node stands behind it, and all that it said was sent
-  pub record IsMeeting (m : Meeting) (place : ℕ) (old now : Option (List Session)) : Type 0 where
+  pub record IsMeeting (m : Meeting) (place : ℕ) (u : A) (old now : Option (List Session)) : Type 0 where
     pub read : List ℕ
     pub said : List MeetingFrame
     pub place_is : place ≡ length read
     pub within : length read ≤ byte_limit
     pub heard : Heard read said m
     pub told : now ≡ after_part read (sent_bytes said) false old
+    pub took : HasTaken taking side c judge t m read u
 
   -- before the first byte
-  pub meeting_begins : (m : Meeting) (old new : Option (List Session)) → m ≡ begun c → new ≡ after_part [] (sent_bytes first) false old → IsMeeting m 0 old new
+  pub meeting_begins : (m : Meeting) (old new : Option (List Session)) → m ≡ begun c → new ≡ after_part [] (sent_bytes first) false old → IsMeeting m 0 t old new
   meeting_begins m old new is told = record {
     read = [];
     said = first;
@@ -153,6 +156,7 @@ module _ (side : Side) (c : CoreState) (judge : Vertex → Bool) where
     within = omega arith;
     heard = subst (λ (x : Meeting). Heard [] first x) (sym is) (begins n step first (begun c));
     told = told;
+    took = subst (λ (x : Meeting). HasTaken taking side c judge t x [] t) (sym is) (taken_nothing taking side c judge t);
   }
 
   abbrev Whole : List ℕ → Meeting → List MeetingFrame → SessionEnd → Type 0
@@ -193,7 +197,7 @@ module _ (side : Side) (c : CoreState) (judge : Vertex → Bool) where
     left = record { first = front; part = part; split = refl; stands = stands };
   }
 
-  module _ (m : Meeting) (place : ℕ) (old now : Option (List Session)) (s : IsMeeting m place old now) where
+  module _ (m : Meeting) (place : ℕ) (u : A) (old now : Option (List Session)) (s : IsMeeting m place u old now) where
     -- ---- there is no frame
 
     limit_is_reached : (part : List ℕ) → byte_limit ≤ length s.read + length part → byte_limit ≤ length (s.read ++ part)
@@ -203,19 +207,22 @@ module _ (side : Side) (c : CoreState) (judge : Vertex → Bool) where
     here = heard_here n step first (begun c) s.read s.said m s.heard s.within
 
     -- as many bytes were read as may be
-    pub limit_meets : byte_limit ≤ place → (ends : ℕ) → MeetsThere side c judge m.core old now ends ends end.ByteLimit
+    pub limit_meets : byte_limit ≤ place → (ends : ℕ) → TakesThere taking side c judge m.core t u old now ends ends end.ByteLimit
     limit_meets full ends =
         let at_limit : byte_limit ≤ length s.read + length {A = ℕ} [] = omega (arith, s.place_is) in
         let is : cut_end (rest_at (length s.read) []) ≡ by.ByteLimit = ap (λ (b : Bool). cond b by.ByteLimit (cond true by.EndOfInput (by.BadFrame (length s.read)))) (le-leb byte_limit (length s.read + length {A = ℕ} []) at_limit) in
         record {
-          read = s.read;
-          written = sent_bytes s.said;
-          meets = plain_meets s.read (sent_bytes s.said) s.said m ends ends by.ByteLimit (cut_end (rest_at (length s.read) [])) s.within here (inl (ap (λ (e : SessionEnd). meet_end e m.refused) (sym is))) (omega (arith, s.place_is)) refl (λ e. cc);
-          told = s.told;
+          meets = record {
+            read = s.read;
+            written = sent_bytes s.said;
+            meets = plain_meets s.read (sent_bytes s.said) s.said m ends ends by.ByteLimit (cut_end (rest_at (length s.read) [])) s.within here (inl (ap (λ (e : SessionEnd). meet_end e m.refused) (sym is))) (omega (arith, s.place_is)) refl (λ e. cc);
+            told = s.told;
+          };
+          took = takes_here taking side c judge t m s.read u s.took s.within;
         }
 
     -- what was read is the end of the session, by which no frame comes
-    quit : (e : SessionEnd) (ends_now ends_new : ℕ) (new : Option (List Session)) → Hears {T = HeardMeeting} n (IsHeard n) (length s.read) [] now new ends_now ends_new (Err e) → MeetsThere side c judge m.core old new ends_now ends_new (meet_end e m.refused)
+    quit : (e : SessionEnd) (ends_now ends_new : ℕ) (new : Option (List Session)) → Hears {T = HeardMeeting} n (IsHeard n) (length s.read) [] now new ends_now ends_new (Err e) → TakesThere taking side c judge m.core t u old new ends_now ends_new (meet_end e m.refused)
     quit e ends_now ends_new new h = go e h.says h.ended (told_read s.read h.part (sent_bytes s.said) (is_link_end (meet_end e m.refused)) old now new s.told (h.heard ∙ ap (λ (b : Bool). after_part h.part [] b now) (link_of HeardMeeting e m.refused)))
       where
         few : length (s.read ++ h.part) ≤ byte_limit
@@ -228,13 +235,19 @@ module _ (side : Side) (c : CoreState) (judge : Vertex → Bool) where
         Told e = new ≡ after_part (s.read ++ h.part) (sent_bytes s.said) (is_link_end e) old
 
         plain : (how by_bytes : SessionEnd) → EndsIn n (length s.read) h.part by_bytes → EndsAs (meet_end how m.refused) (record { state = m; said = s.said; end = by_bytes }) → IsEndOf side c judge (s.read ++ h.part) ends_now ends_new (meet_end how m.refused)
-            → IsWritten (meet_end how m.refused) s.said (sent_bytes s.said) → (how ≡ by.OutOfMemory → ⊥) → Told (meet_end how m.refused) → MeetsThere side c judge m.core old new ends_now ends_new (meet_end how m.refused)
-        plain how by_bytes none agrees counted wrote some told = record {
-          read = s.read ++ h.part;
-          written = sent_bytes s.said;
-          meets = plain_meets (s.read ++ h.part) (sent_bytes s.said) s.said m ends_now ends_new how by_bytes few (over by_bytes none) agrees counted wrote some;
-          told = told;
+            → IsWritten (meet_end how m.refused) s.said (sent_bytes s.said) → (how ≡ by.OutOfMemory → ⊥) → Told (meet_end how m.refused) → Took taking (taken_in side c judge) (s.read ++ h.part) (meet_end how m.refused) t u → TakesThere taking side c judge m.core t u old new ends_now ends_new (meet_end how m.refused)
+        plain how by_bytes none agrees counted wrote some told took = record {
+          meets = record {
+            read = s.read ++ h.part;
+            written = sent_bytes s.said;
+            meets = plain_meets (s.read ++ h.part) (sent_bytes s.said) s.said m ends_now ends_new how by_bytes few (over by_bytes none) agrees counted wrote some;
+            told = told;
+          };
+          took = took;
         }
+
+        took_over : (by_bytes : SessionEnd) → EndsIn n (length s.read) h.part by_bytes → TakesAll taking t (taken_in side c judge (s.read ++ h.part)) u
+        took_over by_bytes none = takes_over taking side c judge t m s.read u s.took h.part by_bytes none few
 
         refused : (at : ℕ) → (ends_new ≡ raised ends_now) ⊎ IsRefused n (length s.read) h.part (by.BadFrame at) → EndsIn n (length s.read) h.part (by.BadFrame at) → (ends_new ≡ raised ends_now) ⊎ IsFinal side c judge (s.read ++ h.part)
         refused at (inl rose) none = inl rose
@@ -244,11 +257,11 @@ module _ (side : Side) (c : CoreState) (judge : Vertex → Bool) where
             ∙ sym (over (by.BadFrame at) none)))
 
         go : (how : SessionEnd) → Says {T = HeardMeeting} n (IsHeard n) (length s.read) h.part (Err how) → IsEndCounted {T = HeardMeeting} n ends_now ends_new (length s.read) h.part (Err how) → Told (meet_end how m.refused)
-            → MeetsThere side c judge m.core old new ends_now ends_new (meet_end how m.refused)
-        go by.LinkFault says ended told = plain by.LinkFault (cut_end (rest_at (length s.read) h.part)) says (inr tt) tt (all_of (sent_bytes s.said)) (λ e. cc) told
-        go by.EndOfInput says ended told = plain by.EndOfInput by.EndOfInput says (inl refl) ended refl (λ e. cc) told
-        go (by.BadFrame at) says ended told = plain (by.BadFrame at) (by.BadFrame at) says (inl refl) (refused at ended says) refl (λ e. cc) told
-        go by.ByteLimit says ended told = plain by.ByteLimit by.ByteLimit says (inl refl) (limit_is_reached h.part (no_frame_so n (length s.read) h.part by.ByteLimit says)) refl (λ e. cc) told
+            → TakesThere taking side c judge m.core t u old new ends_now ends_new (meet_end how m.refused)
+        go by.LinkFault says ended told = plain by.LinkFault (cut_end (rest_at (length s.read) h.part)) says (inr tt) tt (all_of (sent_bytes s.said)) (λ e. cc) told (took_over (cut_end (rest_at (length s.read) h.part)) says)
+        go by.EndOfInput says ended told = plain by.EndOfInput by.EndOfInput says (inl refl) ended refl (λ e. cc) told (took_over by.EndOfInput says)
+        go (by.BadFrame at) says ended told = plain (by.BadFrame at) (by.BadFrame at) says (inl refl) (refused at ended says) refl (λ e. cc) told (took_over (by.BadFrame at) says)
+        go by.ByteLimit says ended told = plain by.ByteLimit by.ByteLimit says (inl refl) (limit_is_reached h.part (no_frame_so n (length s.read) h.part by.ByteLimit says)) refl (λ e. cc) told (took_over by.ByteLimit says)
         go by.Done says ended told = absurd (no_frame_so n (length s.read) h.part by.Done says)
         go by.WrongInstance says ended told = absurd (no_frame_so n (length s.read) h.part by.WrongInstance says)
         go by.AppendFault says ended told = absurd (no_frame_so n (length s.read) h.part by.AppendFault says)
@@ -256,23 +269,26 @@ module _ (side : Side) (c : CoreState) (judge : Vertex → Bool) where
         go by.OutOfMemory says ended told =
             let further = heard_first n step first (begun c) s.read s.said m s.heard h.part few in
             record {
-              read = s.read ++ h.part;
-              written = sent_bytes s.said;
-              meets = wanting_meets s.read h.part (sent_bytes s.said) s.said further.0 m.core ends_now ends_new few (ap (λ (t : Talk Meeting). t.state.core) (sym here)) further.1 (all_of (sent_bytes s.said));
-              told = told;
+              meets = record {
+                read = s.read ++ h.part;
+                written = sent_bytes s.said;
+                meets = wanting_meets s.read h.part (sent_bytes s.said) s.said further.0 m.core ends_now ends_new few (ap (λ (t : Talk Meeting). t.state.core) (sym here)) further.1 (all_of (sent_bytes s.said));
+                told = told;
+              };
+              took = inl (takes_first taking side c judge t m s.read u s.took h.part few);
             }
 
-    quit_meets : {T : Type 0} (k : Meeting) (new : Option (List Session)) (ends_now ends_new : ℕ) (e : SessionEnd) → Quits {T = T} n place m k now new ends_now ends_new (Err e) → MeetsThere side c judge k.core old new ends_now ends_new (meet_end e k.refused)
+    quit_meets : {T : Type 0} (k : Meeting) (new : Option (List Session)) (ends_now ends_new : ℕ) (e : SessionEnd) → Quits {T = T} n place m k now new ends_now ends_new (Err e) → TakesThere taking side c judge k.core t u old new ends_now ends_new (meet_end e k.refused)
     quit_meets k new ends_now ends_new e q =
         let how : e ≡ q.how = cc (q.is) in
-        subst (λ (x : Meeting). MeetsThere side c judge x.core old new ends_now ends_new (meet_end e x.refused)) (sym q.stays)
-        (subst (λ (x : SessionEnd). MeetsThere side c judge m.core old new ends_now ends_new (meet_end x m.refused)) (sym how)
+        subst (λ (x : Meeting). TakesThere taking side c judge x.core t u old new ends_now ends_new (meet_end e x.refused)) (sym q.stays)
+        (subst (λ (x : SessionEnd). TakesThere taking side c judge m.core t u old new ends_now ends_new (meet_end x m.refused)) (sym how)
         (quit q.how ends_now ends_new new
         (subst (λ (p : ℕ). Hears {T = HeardMeeting} n (IsHeard n) p [] now new ends_now ends_new (Err q.how)) s.place_is q.heard)))
 
     -- ---- there is a frame
 
-    module _ (new : Option (List Session)) (part : List ℕ) (f : MeetingFrame) (has : HasFrame n (length s.read) part f) (within : length s.read + length part ≤ byte_limit) where
+    module _ (new : Option (List Session)) (part : List ℕ) (f : MeetingFrame) (has : HasFrame n (length s.read) part f) (within : length s.read + length part ≤ byte_limit) (w : A) where
       abbrev reaction : Reaction Meeting
       reaction = step m (placed_behind s.read f)
 
@@ -311,125 +327,164 @@ module _ (side : Side) (c : CoreState) (judge : Vertex → Bool) where
       all_said : sent_bytes s.said ++ sent_bytes reaction.says ≡ sent_bytes said
       all_said = sym (said_more s.said reaction.says)
 
+      abbrev Takes : (e : SessionEnd) → Type 0
+      Takes e = TakesOf {R = Unit {0}} taking (vertex_at m.stage f) u w (Err e)
+
+      took : (e : SessionEnd) (refused : ℕ) → Takes e → Took taking (taken_in side c judge) bytes (meet_end e refused) t w
+      took e refused takes = takes_last taking side c judge t m s.read u s.took part f has fits w e refused takes
+
       -- it ended the session
-      ended : (k : Meeting) (e : SessionEnd) (ends : ℕ) → reaction.end ≡ Some e → k ≡ reaction.state → new ≡ after_part [] (sent_bytes reaction.says) false (after_part part [] false now) → MeetsThere side c judge k.core old new ends ends (meet_end e k.refused)
-      ended k e ends is stands sent = subst (λ (x : Meeting). MeetsThere side c judge x.core old new ends ends (meet_end e x.refused)) (sym stands) (go e is (step_ends side judge m (placed_behind s.read f) e is))
+      ended : (k : Meeting) (e : SessionEnd) (ends : ℕ) → reaction.end ≡ Some e → k ≡ reaction.state → new ≡ after_part [] (sent_bytes reaction.says) false (after_part part [] false now) → Takes e → TakesThere taking side c judge k.core t w old new ends ends (meet_end e k.refused)
+      ended k e ends is stands sent takes = subst (λ (x : Meeting). TakesThere taking side c judge x.core t w old new ends ends (meet_end e x.refused)) (sym stands) (go e is (step_ends side judge m (placed_behind s.read f) e is) takes)
         where
           at_end : (how : SessionEnd) → reaction.end ≡ Some how → IsEndOf side c judge bytes ends ends (meet_end how reaction.state.refused) → IsWritten (meet_end how reaction.state.refused) said (sent_bytes s.said ++ sent_bytes reaction.says)
-              → (how ≡ by.OutOfMemory → ⊥) → is_link_end (meet_end how reaction.state.refused) ≡ false → MeetsThere side c judge reaction.state.core old new ends ends (meet_end how reaction.state.refused)
-          at_end how some counted wrote others linked = record {
-            read = bytes;
-            written = sent_bytes s.said ++ sent_bytes reaction.says;
-            meets = plain_meets bytes (sent_bytes s.said ++ sent_bytes reaction.says) said reaction.state ends ends how how fits (stops_here how some) (inl refl) counted wrote others;
-            told = told (sent_bytes reaction.says) false sent ∙ ap (λ (b : Bool). after_part bytes (sent_bytes s.said ++ sent_bytes reaction.says) b old) (sym linked);
+              → (how ≡ by.OutOfMemory → ⊥) → is_link_end (meet_end how reaction.state.refused) ≡ false → Takes how → TakesThere taking side c judge reaction.state.core t w old new ends ends (meet_end how reaction.state.refused)
+          at_end how some counted wrote others linked of_taker = record {
+            meets = record {
+              read = bytes;
+              written = sent_bytes s.said ++ sent_bytes reaction.says;
+              meets = plain_meets bytes (sent_bytes s.said ++ sent_bytes reaction.says) said reaction.state ends ends how how fits (stops_here how some) (inl refl) counted wrote others;
+              told = told (sent_bytes reaction.says) false sent ∙ ap (λ (b : Bool). after_part bytes (sent_bytes s.said ++ sent_bytes reaction.says) b old) (sym linked);
+            };
+            took = took how reaction.state.refused of_taker;
           }
 
-          go : (how : SessionEnd) → reaction.end ≡ Some how → IsOfFrame how → MeetsThere side c judge reaction.state.core old new ends ends (meet_end how reaction.state.refused)
-          go by.Done some of = at_end by.Done some (final by.Done some) all_said (λ e. cc) refl
-          go by.WrongInstance some of = at_end by.WrongInstance some (final by.WrongInstance some) all_said (λ e. cc) refl
-          go by.Clash some of = at_end by.Clash some (final by.Clash some) all_said (λ e. cc) refl
-          go (by.BadFrame at) some of = at_end (by.BadFrame at) some (inr (final (by.BadFrame at) some)) all_said (λ e. cc) refl
-          go by.EndOfInput some of = absurd of
-          go by.LinkFault some of = absurd of
-          go by.AppendFault some of = absurd of
-          go by.ByteLimit some of = absurd of
-          go by.OutOfMemory some of = absurd of
+          go : (how : SessionEnd) → reaction.end ≡ Some how → IsOfFrame how → Takes how → TakesThere taking side c judge reaction.state.core t w old new ends ends (meet_end how reaction.state.refused)
+          go by.Done some of takes = at_end by.Done some (final by.Done some) all_said (λ e. cc) refl takes
+          go by.WrongInstance some of takes = at_end by.WrongInstance some (final by.WrongInstance some) all_said (λ e. cc) refl takes
+          go by.Clash some of takes = at_end by.Clash some (final by.Clash some) all_said (λ e. cc) refl takes
+          go (by.BadFrame at) some of takes = at_end (by.BadFrame at) some (inr (final (by.BadFrame at) some)) all_said (λ e. cc) refl takes
+          go by.EndOfInput some of takes = absurd of
+          go by.LinkFault some of takes = absurd of
+          go by.AppendFault some of takes = absurd of
+          go by.ByteLimit some of takes = absurd of
+          go by.OutOfMemory some of takes = absurd of
 
       -- the link failed in its answer, or an append
       cut_short : (k : Meeting) (how : SessionEnd) (sent : List ℕ) (failed : Bool) (ends : ℕ) → k.core ≡ reaction.state.core → IsOfOutside (meet_end how reaction.state.refused) → IsEndOf side c judge bytes ends ends (meet_end how reaction.state.refused)
           → IsWritten (meet_end how reaction.state.refused) said (sent_bytes s.said ++ sent) → (how ≡ by.OutOfMemory → ⊥) → failed ≡ is_link_end (meet_end how reaction.state.refused) → new ≡ after_part [] sent failed (after_part part [] false now)
-          → MeetsThere side c judge k.core old new ends ends (meet_end how reaction.state.refused)
-      cut_short k how sent failed ends stands of counted wrote others linked is =
-          subst (λ (x : CoreState). MeetsThere side c judge x old new ends ends (meet_end how reaction.state.refused)) (sym stands) (record {
-            read = bytes;
-            written = sent_bytes s.said ++ sent;
-            meets = plain_meets bytes (sent_bytes s.said ++ sent) said reaction.state ends ends how whole.0 fits whole.1 (inr of) counted wrote others;
-            told = told sent failed is ∙ ap (λ (b : Bool). after_part bytes (sent_bytes s.said ++ sent) b old) linked;
+          → Takes how → TakesThere taking side c judge k.core t w old new ends ends (meet_end how reaction.state.refused)
+      cut_short k how sent failed ends stands of counted wrote others linked is takes =
+          subst (λ (x : CoreState). TakesThere taking side c judge x t w old new ends ends (meet_end how reaction.state.refused)) (sym stands) (record {
+            meets = record {
+              read = bytes;
+              written = sent_bytes s.said ++ sent;
+              meets = plain_meets bytes (sent_bytes s.said ++ sent) said reaction.state ends ends how whole.0 fits whole.1 (inr of) counted wrote others;
+              told = told sent failed is ∙ ap (λ (b : Bool). after_part bytes (sent_bytes s.said ++ sent) b old) linked;
+            };
+            took = took how reaction.state.refused takes;
           })
 
       -- there was no memory
       wanted : (k : Meeting) (sent : List ℕ) (ends : ℕ) → (k.core ≡ m.core) ⊎ (k.core ≡ reaction.state.core) → IsPrefixOf sent (sent_bytes reaction.says) → new ≡ after_part [] sent false (after_part part [] false now)
-          → MeetsThere side c judge k.core old new ends ends end.OutOfMemory
-      wanted k sent ends (inl stays) prefix is = record {
-        read = bytes;
-        written = sent_bytes s.said ++ sent;
-        meets = wanting_meets s.read part (sent_bytes s.said ++ sent) said [] k.core ends ends fits (stays ∙ ap (λ (t : Talk Meeting). t.state.core) (sym here)) (ap (λ (t : Talk Meeting). t.said) whole.1 ∙ sym (append-nil said)) (first_of_last s.said reaction.says sent prefix);
-        told = told sent false is;
+          → Takes by.OutOfMemory → TakesThere taking side c judge k.core t w old new ends ends end.OutOfMemory
+      wanted k sent ends (inl stays) prefix is takes = record {
+        meets = record {
+          read = bytes;
+          written = sent_bytes s.said ++ sent;
+          meets = wanting_meets s.read part (sent_bytes s.said ++ sent) said [] k.core ends ends fits (stays ∙ ap (λ (t : Talk Meeting). t.state.core) (sym here)) (ap (λ (t : Talk Meeting). t.said) whole.1 ∙ sym (append-nil said)) (first_of_last s.said reaction.says sent prefix);
+          told = told sent false is;
+        };
+        took = took by.OutOfMemory 0 takes;
       }
-      wanted k sent ends (inr stands) prefix is = record {
-        read = bytes ++ [];
-        written = sent_bytes s.said ++ sent;
-        meets = wanting_meets bytes [] (sent_bytes s.said ++ sent) said [] k.core ends ends fits_more (stands ∙ ap (λ (t : Talk Meeting). t.state.core) (sym whole.1))
-            (ap (λ (bytes : List ℕ). (met side c judge bytes).said) (append-nil bytes) ∙ ap (λ (t : Talk Meeting). t.said) whole.1 ∙ sym (append-nil said)) (first_of_last s.said reaction.says sent prefix);
-        told = told sent false is ∙ ap (λ (bytes : List ℕ). after_part bytes (sent_bytes s.said ++ sent) false old) (sym (append-nil bytes));
+      wanted k sent ends (inr stands) prefix is takes = record {
+        meets = record {
+          read = bytes ++ [];
+          written = sent_bytes s.said ++ sent;
+          meets = wanting_meets bytes [] (sent_bytes s.said ++ sent) said [] k.core ends ends fits_more (stands ∙ ap (λ (t : Talk Meeting). t.state.core) (sym whole.1))
+              (ap (λ (bytes : List ℕ). (met side c judge bytes).said) (append-nil bytes) ∙ ap (λ (t : Talk Meeting). t.said) whole.1 ∙ sym (append-nil said)) (first_of_last s.said reaction.says sent prefix);
+          told = told sent false is ∙ ap (λ (bytes : List ℕ). after_part bytes (sent_bytes s.said ++ sent) false old) (sym (append-nil bytes));
+        };
+        took = subst (λ (all : List ℕ). Took taking (taken_in side c judge) all end.OutOfMemory t w) (sym (append-nil bytes)) (took by.OutOfMemory 0 takes);
       }
 
       -- the session goes on
-      goes_meeting : (k : Meeting) → Reacts {T = ℕ} m.core reaction k (after_part part [] false now) new (Ok (length s.read + length part)) → IsMeeting k (length s.read + length part) old new
-      goes_meeting k r = record {
+      goes_meeting : (k : Meeting) → Reacts {T = ℕ} m.core reaction k (after_part part [] false now) new (Ok (length s.read + length part)) → (x : ℕ) → TakesOf {R = ℕ} taking (vertex_at m.stage f) u w (Ok x) → IsMeeting k (length s.read + length part) w old new
+      goes_meeting k r x takes = record {
         read = bytes;
         said = said;
         place_is = sym (length-append s.read part);
         within = fits;
         heard = subst (λ (x : Meeting). Heard bytes said x) (sym r.1) (leads_on n step first (begun c) s.read s.said m s.heard part f has r.0);
         told = told (sent_bytes reaction.says) false r.2 ∙ ap (λ (w : List ℕ). after_part bytes w false old) all_said;
+        took = subst (λ (x : Meeting). HasTaken taking side c judge t x bytes w) (sym r.1) (takes_more taking side c judge t m s.read u s.took part f has fits w x r.0 takes);
       }
 
       -- or it ends
-      reacted : (T : Type 0) (k : Meeting) (e : SessionEnd) (ends : ℕ) → Reacts {T = T} m.core reaction k (after_part part [] false now) new (Err e) → MeetsThere side c judge k.core old new ends ends (meet_end e k.refused)
-      reacted T k by.LinkFault ends (stands, sent, prefix, is) = cut_short k by.LinkFault sent true ends stands tt tt (first_of_last s.said reaction.says sent prefix) (λ e. cc) refl is
-      reacted T k by.AppendFault ends (stands, is) = cut_short k by.AppendFault (sent_bytes reaction.says) false ends stands tt tt all_said (λ e. cc) refl is
-      reacted T k by.OutOfMemory ends (stands, sent, prefix, is) = wanted k sent ends stands prefix is
-      reacted T k by.Done ends (is, stands, sent) = ended k by.Done ends is stands sent
-      reacted T k by.EndOfInput ends (is, stands, sent) = ended k by.EndOfInput ends is stands sent
-      reacted T k by.WrongInstance ends (is, stands, sent) = ended k by.WrongInstance ends is stands sent
-      reacted T k (by.BadFrame at) ends (is, stands, sent) = ended k (by.BadFrame at) ends is stands sent
-      reacted T k by.ByteLimit ends (is, stands, sent) = ended k by.ByteLimit ends is stands sent
-      reacted T k by.Clash ends (is, stands, sent) = ended k by.Clash ends is stands sent
+      reacted : (T : Type 0) (k : Meeting) (e : SessionEnd) (ends : ℕ) → Reacts {T = T} m.core reaction k (after_part part [] false now) new (Err e) → Takes e → TakesThere taking side c judge k.core t w old new ends ends (meet_end e k.refused)
+      reacted T k by.LinkFault ends (stands, sent, prefix, is) takes = cut_short k by.LinkFault sent true ends stands tt tt (first_of_last s.said reaction.says sent prefix) (λ e. cc) refl is takes
+      reacted T k by.AppendFault ends (stands, is) takes = cut_short k by.AppendFault (sent_bytes reaction.says) false ends stands tt tt all_said (λ e. cc) refl is takes
+      reacted T k by.OutOfMemory ends (stands, sent, prefix, is) takes = wanted k sent ends stands prefix is takes
+      reacted T k by.Done ends (is, stands, sent) takes = ended k by.Done ends is stands sent takes
+      reacted T k by.EndOfInput ends (is, stands, sent) takes = ended k by.EndOfInput ends is stands sent takes
+      reacted T k by.WrongInstance ends (is, stands, sent) takes = ended k by.WrongInstance ends is stands sent takes
+      reacted T k (by.BadFrame at) ends (is, stands, sent) takes = ended k (by.BadFrame at) ends is stands sent takes
+      reacted T k by.ByteLimit ends (is, stands, sent) takes = ended k by.ByteLimit ends is stands sent takes
+      reacted T k by.Clash ends (is, stands, sent) takes = ended k by.Clash ends is stands sent takes
 
     -- ---- a frame, or none
 
-    abbrev pub Next : Meeting → Option (List Session) → ℕ → ℕ → Result ℕ SessionEnd → Type 0
-    Next k new ends_now ends_new result = Quits {T = ℕ} n place m k now new ends_now ends_new result ⊎ Handles n place m (step m) k now new ends_now ends_new result
+    abbrev pub Next : Meeting → A → Option (List Session) → ℕ → ℕ → Result ℕ SessionEnd → Type 0
+    Next k w new ends_now ends_new result = GoesNext taking n place m (step m) k u w now new ends_now ends_new result
 
     -- the same by what the node has now
-    pub next_same : (config : Config) (verdict : Vertex → Bool) → config ≡ c.config → verdict ≡ judge → (k : Meeting) (new : Option (List Session)) (ends_now ends_new : ℕ) (result : Result ℕ SessionEnd)
-        → Quits {T = ℕ} (length config.weights) place m k now new ends_now ends_new result ⊎ Handles (length config.weights) place m (meet_step side verdict m) k now new ends_now ends_new result → Next k new ends_now ends_new result
-    next_same config verdict same_config same_verdict k new ends_now ends_new result is =
-        subst (λ (x : Config). Quits {T = ℕ} (length x.weights) place m k now new ends_now ends_new result ⊎ Handles (length x.weights) place m (meet_step side judge m) k now new ends_now ends_new result) same_config
-        (subst (λ (x : Vertex → Bool). Quits {T = ℕ} (length config.weights) place m k now new ends_now ends_new result ⊎ Handles (length config.weights) place m (meet_step side x m) k now new ends_now ends_new result) same_verdict is)
+    pub next_same : (config : Config) (verdict : Vertex → Bool) → config ≡ c.config → verdict ≡ judge → (k : Meeting) (w : A) (new : Option (List Session)) (ends_now ends_new : ℕ) (result : Result ℕ SessionEnd)
+        → GoesNext taking (length config.weights) place m (meet_step side verdict m) k u w now new ends_now ends_new result → Next k w new ends_now ends_new result
+    next_same config verdict same_config same_verdict k w new ends_now ends_new result is =
+        subst (λ (x : Config). GoesNext taking (length x.weights) place m (meet_step side judge m) k u w now new ends_now ends_new result) same_config
+        (subst (λ (x : Vertex → Bool). GoesNext taking (length config.weights) place m (meet_step side x m) k u w now new ends_now ends_new result) same_verdict is)
 
-    pub next_leads : (k : Meeting) (new : Option (List Session)) (ends_now ends_new next : ℕ) → Next k new ends_now ends_new (Ok next) → IsMeeting k next old new
-    next_leads k new ends_now ends_new next (inl q) = absurd (let is = q.is in cc)
-    next_leads k new ends_now ends_new next (inr h) =
-        let at : Handles n (length s.read) m (step m) k now new ends_now ends_new (Ok next) = subst (λ (p : ℕ). Handles n p m (step m) k now new ends_now ends_new (Ok next)) s.place_is h in
-        subst (λ (p : ℕ). IsMeeting k p old new) (sym at.next) (goes_meeting new at.part at.frame at.has at.within k at.reacts)
+    -- what is handled at this place, and what the taker took
+    abbrev Handled : ℕ → Meeting → A → Option (List Session) → ℕ → ℕ → Result ℕ SessionEnd → Type 0
+    Handled p k w new ends_now ends_new result = (h : Handles n p m (step m) k now new ends_now ends_new result) × TakesOf {R = ℕ} taking (vertex_at m.stage h.frame) u w result
 
-    pub next_meets : (k : Meeting) (new : Option (List Session)) (ends_before ends_now ends_new : ℕ) (e : SessionEnd) → ends_now ≡ ends_before → Next k new ends_now ends_new (Err e) → MeetsThere side c judge k.core old new ends_before ends_new (meet_end e k.refused)
-    next_meets k new ends_before ends_now ends_new e same (inl q) = subst (λ (x : ℕ). MeetsThere side c judge k.core old new x ends_new (meet_end e k.refused)) same (quit_meets {T = ℕ} k new ends_now ends_new e q)
-    next_meets k new ends_before ends_now ends_new e same (inr h) =
-        let at : Handles n (length s.read) m (step m) k now new ends_now ends_new (Err e) = subst (λ (p : ℕ). Handles n p m (step m) k now new ends_now ends_new (Err e)) s.place_is h in
-        subst (λ (x : ℕ). MeetsThere side c judge k.core old new x ends_new (meet_end e k.refused)) same
-        (subst (λ (x : ℕ). MeetsThere side c judge k.core old new ends_now x (meet_end e k.refused)) (sym at.ends)
-        (reacted new at.part at.frame at.has at.within ℕ k e ends_now at.reacts))
+    pub next_leads : (k : Meeting) (w : A) (new : Option (List Session)) (ends_now ends_new next : ℕ) → Next k w new ends_now ends_new (Ok next) → IsMeeting k next w old new
+    next_leads k w new ends_now ends_new next (inl q) = absurd (let is = q.0.is in cc)
+    next_leads k w new ends_now ends_new next (inr h) =
+        let (at, takes) : Handled (length s.read) k w new ends_now ends_new (Ok next) = subst (λ (p : ℕ). Handled p k w new ends_now ends_new (Ok next)) s.place_is h in
+        subst (λ (p : ℕ). IsMeeting k p w old new) (sym at.next) (goes_meeting new at.part at.frame at.has at.within w k at.reacts next takes)
+
+    pub next_meets : (k : Meeting) (w : A) (new : Option (List Session)) (ends_before ends_now ends_new : ℕ) (e : SessionEnd) → ends_now ≡ ends_before → Next k w new ends_now ends_new (Err e) → TakesThere taking side c judge k.core t w old new ends_before ends_new (meet_end e k.refused)
+    next_meets k w new ends_before ends_now ends_new e same (inl (q, stays)) =
+        subst (λ (x : A). TakesThere taking side c judge k.core t x old new ends_before ends_new (meet_end e k.refused)) (sym stays)
+        (subst (λ (x : ℕ). TakesThere taking side c judge k.core t u old new x ends_new (meet_end e k.refused)) same (quit_meets {T = ℕ} k new ends_now ends_new e q))
+    next_meets k w new ends_before ends_now ends_new e same (inr h) =
+        let (at, takes) : Handled (length s.read) k w new ends_now ends_new (Err e) = subst (λ (p : ℕ). Handled p k w new ends_now ends_new (Err e)) s.place_is h in
+        subst (λ (x : ℕ). TakesThere taking side c judge k.core t w old new x ends_new (meet_end e k.refused)) same
+        (subst (λ (x : ℕ). TakesThere taking side c judge k.core t w old new ends_now x (meet_end e k.refused)) (sym at.ends)
+        (reacted new at.part at.frame at.has at.within w ℕ k e ends_now at.reacts (takes_alike ℕ (Unit {0}) taking (vertex_at m.stage at.frame) u w e takes)))
 
   -- ---- the first word wasn't said whole
 
   start : met side c judge [] ≡ record { state = begun c; said = first; end = cut_end (rest_at 0 []) }
   start = heard_here n step first (begun c) [] first (begun c) (begins n step first (begun c)) (omega arith)
 
-  pub first_cut : (T : Type 0) (old new : Option (List Session)) (ends : ℕ) (e : SessionEnd) → Sends {T = T} (sent_bytes first) old new (Err e) → MeetsThere side c judge c old new ends ends (meet_end e 0)
+  -- nothing was taken before anything was read
+  none_taken : TakesAll taking t (taken_in side c judge []) t
+  none_taken = takes_here taking side c judge t (begun c) [] t (taken_nothing taking side c judge t) (omega arith)
+
+  -- the first word was said whole
+  pub first_sent : (T : Type 0) (old new : Option (List Session)) (x : T) → Sends {T = T} (sent_bytes first) old new (Ok x) → new ≡ after_part [] (sent_bytes first) false old
+  first_sent T old new x s = s.told ∙ ap (λ (part : List ℕ). after_part [] part false old) s.whole
+
+  pub first_cut : (T : Type 0) (old new : Option (List Session)) (ends : ℕ) (e : SessionEnd) → Sends {T = T} (sent_bytes first) old new (Err e) → TakesThere taking side c judge c t t old new ends ends (meet_end e 0)
   first_cut T old new ends by.LinkFault s = record {
-    read = [];
-    written = s.part;
-    meets = plain_meets [] s.part first (begun c) ends ends by.LinkFault (cut_end (rest_at 0 [])) (omega arith) start (inr tt) tt s.first (λ e. cc);
-    told = s.told;
+    meets = record {
+      read = [];
+      written = s.part;
+      meets = plain_meets [] s.part first (begun c) ends ends by.LinkFault (cut_end (rest_at 0 [])) (omega arith) start (inr tt) tt s.first (λ e. cc);
+      told = s.told;
+    };
+    took = none_taken;
   }
   first_cut T old new ends by.OutOfMemory s = record {
-    read = [] ++ [];
-    written = s.part;
-    meets = wanting_meets [] [] s.part first [] c ends ends (omega arith) (ap (λ (t : Talk Meeting). t.state.core) (sym start)) (ap (λ (t : Talk Meeting). t.said) start ∙ sym (append-nil first)) s.first;
-    told = s.told;
+    meets = record {
+      read = [] ++ [];
+      written = s.part;
+      meets = wanting_meets [] [] s.part first [] c ends ends (omega arith) (ap (λ (t : Talk Meeting). t.state.core) (sym start)) (ap (λ (t : Talk Meeting). t.said) start ∙ sym (append-nil first)) s.first;
+      told = s.told;
+    };
+    took = inl (record { first = []; part = []; split = refl; takes = none_taken });
   }
   first_cut T old new ends by.Done s = absurd s.error
   first_cut T old new ends by.EndOfInput s = absurd s.error
@@ -458,15 +513,18 @@ module _ (side : Side) (c : CoreState) (judge : Vertex → Bool) where
         ap (λ (xs : List Session). Some xs) (behind_others read written failed sessions ∙ ap (λ (b : Bool). sessions ++ (record { address = address; read = read; written = written; failed = b }) ∷ []) (failed_is failed))
 
     -- a peer was there, was met and hung up on
-    pub meets_peer : (m : CoreState) (old now then new : Option (List Session)) (ends_old ends_now ends_then ends_new : ℕ) (e : MeetEnd) → now ≡ option_map (sessions_after {T = Unit {0}} address (Ok tt)) old → ends_now ≡ ends_old
-        → MeetsThere side c judge m now then ends_now ends_then e → new ≡ then → ends_new ≡ ends_then → MeetsPeer side address c judge m old new ends_old ends_new e
-    meets_peer m old now then new ends_old ends_now ends_then ends_new e opened same s hung ended =
-        subst (λ (x : ℕ). MeetsPeer side address c judge m old new x ends_new e) same
-        (subst (λ (x : ℕ). MeetsPeer side address c judge m old new ends_now x e) (sym ended) (record {
-          read = s.read;
-          written = s.written;
-          meets = s.meets;
-          told = hung ∙ s.told ∙ ap (after_part s.read s.written (is_link_end e)) opened ∙ told_behind s.read s.written (is_link_end e) old;
+    pub meets_peer : (m : CoreState) (u : A) (old now then new : Option (List Session)) (ends_old ends_now ends_then ends_new : ℕ) (e : MeetEnd) → now ≡ option_map (sessions_after {T = Unit {0}} address (Ok tt)) old → ends_now ≡ ends_old
+        → TakesThere taking side c judge m t u now then ends_now ends_then e → new ≡ then → ends_new ≡ ends_then → TakesPeer taking side address c judge m t u old new ends_old ends_new e
+    meets_peer m u old now then new ends_old ends_now ends_then ends_new e opened same s hung ended =
+        subst (λ (x : ℕ). TakesPeer taking side address c judge m t u old new x ends_new e) same
+        (subst (λ (x : ℕ). TakesPeer taking side address c judge m t u old new ends_now x e) (sym ended) (record {
+          meets = record {
+            read = s.meets.read;
+            written = s.meets.written;
+            meets = s.meets.meets;
+            told = hung ∙ s.meets.told ∙ ap (after_part s.meets.read s.meets.written (is_link_end e)) opened ∙ told_behind s.meets.read s.meets.written (is_link_end e) old;
+          };
+          took = s.took;
         }))
 
     nobody : (o : Option (List Session)) → option_map (λ (sessions : List Session). sessions) o ≡ o
@@ -475,15 +533,24 @@ module _ (side : Side) (c : CoreState) (judge : Vertex → Bool) where
 
     -- no peer was there, or there was no memory to take or dial one
     pub meets_nobody : (old new : Option (List Session)) (ends_old ends_new : ℕ) (fault : IoFault) → ends_new ≡ ends_old → new ≡ option_map (sessions_after {T = Unit {0}} address (Err fault)) old
-        → MeetsPeer side address c judge c old new ends_old ends_new (meet_end (end_of_fault fault) 0) ⊎ MeetsNone c c old new (meet_end (end_of_fault fault) 0)
+        → TakesPeer taking side address c judge c t t old new ends_old ends_new (meet_end (end_of_fault fault) 0) ⊎ TakesNone c c t t old new (meet_end (end_of_fault fault) 0)
     meets_nobody old new ends_old ends_new Failed same told =
-        inl (subst (λ (x : ℕ). MeetsPeer side address c judge c old new ends_old x end.LinkFault) (sym same) (record {
-          read = [];
-          written = [];
-          meets = plain_meets [] [] first (begun c) ends_old ends_old by.LinkFault (cut_end (rest_at 0 [])) (omega arith) start (inr tt) tt (0, refl) (λ e. cc);
-          told = told;
+        inl (subst (λ (x : ℕ). TakesPeer taking side address c judge c t t old new ends_old x end.LinkFault) (sym same) (record {
+          meets = record {
+            read = [];
+            written = [];
+            meets = plain_meets [] [] first (begun c) ends_old ends_old by.LinkFault (cut_end (rest_at 0 [])) (omega arith) start (inr tt) tt (0, refl) (λ e. cc);
+            told = told;
+          };
+          took = none_taken;
         }))
-    meets_nobody old new ends_old ends_new NoMemory same told = inr (record { ended = refl; stands = refl; told = told ∙ nobody old })
+    meets_nobody old new ends_old ends_new NoMemory same told = inr (record { meets = record { ended = refl; stands = refl; told = told ∙ nobody old }; stays = refl })
+
+    -- but for the taker
+    pub only_meets : (m : CoreState) (u : A) (old new : Option (List Session)) (ends_old ends_new : ℕ) (e : MeetEnd) → TakesPeer taking side address c judge m t u old new ends_old ends_new e ⊎ TakesNone c m t u old new e
+        → MeetsPeer side address c judge m old new ends_old ends_new e ⊎ MeetsNone c m old new e
+    only_meets m u old new ends_old ends_new e (inl s) = inl s.meets
+    only_meets m u old new ends_old ends_new e (inr s) = inr s.meets
 
 pub fault_counted : (before now : ℕ) (fault : IoFault) → HasCause {T = Unit {0}} before now (Err fault) → IsLinkEnd before now (meet_end (end_of_fault fault) 0)
 fault_counted before now Failed c = c.failed
@@ -494,7 +561,7 @@ fault_stored count Failed = refl
 fault_stored count NoMemory = refl
 
 -- a frame that was handled, or one that ended the session: no end was counted
-pub next_counts : (n place : ℕ) (m : Meeting) (step : Placed → Reaction Meeting) (k : Meeting) (now new : Option (List Session)) (ends_now ends_new next : ℕ)
-    → Quits {T = ℕ} n place m k now new ends_now ends_new (Ok next) ⊎ Handles n place m step k now new ends_now ends_new (Ok next) → ends_new ≡ ends_now
-next_counts n place m step k now new ends_now ends_new next (inl q) = absurd (let is = q.is in cc)
-next_counts n place m step k now new ends_now ends_new next (inr h) = h.ends
+pub next_counts : {A : Type 0} (taking : TakeStep A) (n place : ℕ) (m : Meeting) (step : Placed → Reaction Meeting) (k : Meeting) (t u : A) (now new : Option (List Session)) (ends_now ends_new next : ℕ)
+    → GoesNext taking n place m step k t u now new ends_now ends_new (Ok next) → ends_new ≡ ends_now
+next_counts taking n place m step k t u now new ends_now ends_new next (inl q) = absurd (let is = q.0.is in cc)
+next_counts taking n place m step k t u now new ends_now ends_new next (inr h) = h.0.ends

@@ -27,6 +27,7 @@ use Rattle.hw_meeting_node.specs.declared.meeter.Side.TheVariants.{Caller, Host}
 use Rattle.hw_meeting_node.specs.Talk.{frames_of}
 use Rattle.hw_meeting_node.specs.Meeting.{told_of, torn_by, owed_by, all_due, met}
 use Rattle.hw_meeting_node.specs.Sessions.{Meets, IsLinkEnd, IsTakerEnd}
+use Rattle.hw_meeting_node.specs.Taking.{taken_in}
 
 -- ---- a meeting that is done
 
@@ -63,6 +64,19 @@ pub record WasDone (side : Side) (c : CoreState) (judge : Vertex → Bool) (byte
 -- So it is where a meeting ended as both said.
 abbrev pub MeetingsAreDone : Type 0
 MeetingsAreDone = (side : Side) (c : CoreState) (judge : Vertex → Bool) (bytes : List ℕ) → (met side c judge bytes).end ≡ by.Done → WasDone side c judge bytes
+
+-- ---- what was taken
+
+-- The journal behind these bytes is the one before them with the vertices that were taken, in order, and as many were refused as the meeting
+-- counted.
+pub record HasTakenAll (side : Side) (c : CoreState) (judge : Vertex → Bool) (bytes : List ℕ) : Type 0 where
+  pub config : (met side c judge bytes).state.core.config ≡ c.config
+  pub journal : (met side c judge bytes).state.core.journal ≡ fold (journal_after (setting_of c.config)) c.journal (judged judge (taken_in side c judge bytes))
+  pub refused : (met side c judge bytes).state.refused ≡ refusals (answers_from (setting_of c.config) c.journal (judged judge (taken_in side c judge bytes)))
+
+-- So it is whatever a peer sends.
+abbrev pub MeetingsTake : Type 0
+MeetingsTake = (side : Side) (c : CoreState) (judge : Vertex → Bool) (bytes : List ℕ) → HasTakenAll side c judge bytes
 
 -- ---- completeness
 

@@ -1,6 +1,6 @@
 //! What a node does at a frame of the node that it meets.
 
-ghost use Rattle.std.specs.Prelude.{◌≡◌, ◌<◌, ℕ, List, Option, true, length, filter_map, slice_get, All, OnOk, IfOk};
+ghost use Rattle.std.specs.Prelude.{◌≡◌, ◌<◌, ℕ, List, Option, Some, true, length, filter_map, slice_get, All, OnOk, IfOk};
 ghost use Rattle.hw_types.specs.Spelling.{VertexFits};
 ghost use Rattle.hw_io.specs.Doors.{Session};
 ghost use Rattle.hw_link.specs.Links.{IsLinkCounted};
@@ -8,6 +8,7 @@ ghost use Rattle.hw_link.specs.Sent.{Sends};
 ghost use Rattle.hw_meeting_link.specs.Frames.{sent_bytes};
 ghost use Rattle.hw_meeting_node.specs.Meeting.{told_of, owed_by, to_hello, to_summary, to_torn, greeted, told, given_torn, given_vertex, finished};
 ghost use Rattle.hw_meeting_node.specs.Handling.{meeting_of, IsKept, Reacts, IsTakerCounted};
+ghost use Rattle.hw_meeting_node.specs.Taking.{TakesOf};
 ghost use Rattle.hw_meeting_node.specs.declared.meeter.Stage.TheVariants as stage;
 
 use crate::meeter::{Meeter, Side, Stage};
@@ -269,6 +270,7 @@ pub(crate) fn at_vertex<T: Taker>(
     requires kept { IsKept meeter.old (T.received taker.old) }
     ensures reacts { (sessions : Option (List Session)) → Reacts (T.received taker.old) (given_vertex (T.verdict taker.old) (meeting_of meeter.old (T.received taker.old)) vertex) (meeting_of meeter.new (T.received taker.new)) sessions sessions result }
     ensures kept { OnOk result (IsKept meeter.new (T.received taker.new)) }
+    ensures takes { TakesOf T.steps (Some vertex) taker.old taker.new result }
     ensures cause { IsTakerCounted (T.faults taker.old) (T.faults taker.new) result }
     ensures link { (count : ℕ) → IsLinkCounted count count result }
 

@@ -1,6 +1,11 @@
 //! Laws of meetings.
 
-ghost use Rattle.hw_meeting_node.specs.Laws.{MeetingsAreDone, MeetingsAreComplete, MeetingsConverge, MetNodesAreOne};
+ghost use Rattle.hw_meeting_node.specs.Laws.{MeetingsTake, MeetingsAreDone, MeetingsAreComplete, MeetingsConverge, MetNodesAreOne};
+
+/// What a node has received behind whatever bytes of a peer, by the vertices that it took of them.
+pub fn meetings_take()
+    ensures take { MeetingsTake }
+{}
 
 /// What was heard and said in a meeting that ended as done, and what the node has then; and that a meeting ends
 /// so where the peer sends what is due and nothing fails.

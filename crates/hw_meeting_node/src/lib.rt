@@ -19,7 +19,8 @@ mod say;
 mod taker;
 
 pub use end::MeetEnd;
-pub use laws::{meetings_are_done, meetings_converge};
+pub use laws::{meetings_are_done, meetings_converge, meetings_take};
 pub use meet::{host_one, meet_one};
+pub use meeter::Side;
 pub use memory::{MemTaker, VertexList};
 pub use taker::{TakeFault, Taker};

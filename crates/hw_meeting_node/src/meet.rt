@@ -1,6 +1,6 @@
 //! A meeting, frame by frame.
 
-ghost use Rattle.std.specs.Prelude.{◌≡◌, ◌⊎◌, ◌<◌, ◌≤◌, [], ℕ, List, Option, true, false, length, OnOk, IfOk};
+ghost use Rattle.std.specs.Prelude.{◌≡◌, ◌⊎◌, ◌<◌, ◌≤◌, [], ℕ, List, Option, Some, None, true, false, length, OnOk, IfOk};
 ghost use Rattle.hw_types.specs.Real.{CoreState};
 ghost use Rattle.hw_io.specs.Doors.{Session};
 ghost use Rattle.hw_io.specs.Faults.{raised};
@@ -9,8 +9,10 @@ ghost use Rattle.hw_link.specs.Sent.{Sends};
 ghost use Rattle.hw_meeting.specs.Frames.{IsSaid};
 ghost use Rattle.hw_meeting_link.specs.Frames.{sent_bytes};
 ghost use Rattle.hw_meeting_node.specs.Meeting.{begun, first_word, meet_step, at_stage};
-ghost use Rattle.hw_meeting_node.specs.Handling.{meeting_of, IsKept, Reacts, Quits, Handles, IsTakerCounted};
-ghost use Rattle.hw_meeting_node.specs.Sessions.{MeetsThere, CallsPeer, HostsPeer, MeetsNone, IsLinkEnd, IsTakerEnd};
+ghost use Rattle.hw_meeting_node.specs.Handling.{meeting_of, IsKept, Reacts, IsTakerCounted};
+ghost use Rattle.hw_meeting_node.specs.Sessions.{CallsPeer, HostsPeer, MeetsNone, IsLinkEnd, IsTakerEnd};
+ghost use Rattle.hw_meeting_node.specs.Taking.{vertex_at, TakesThere, TakesPeer, TakesNone, TakesOf, GoesNext};
+ghost use Rattle.hw_meeting_node.specs.declared.meeter.Side.TheVariants as side;
 
 use crate::end::{MeetEnd, end_of_fault, meet_end};
 use crate::frames::{at_done, at_hello, at_summary, at_torn, at_vertex};
@@ -36,6 +38,9 @@ use std::alloc::Global;
 /// as `EndOfInput`; and 268,435,456 bytes as `ByteLimit`, once the frame that ends with them was handled. A
 /// failed call of the door is `LinkFault`. `AppendFault` comes from the taker, and `Clash` where it refused a
 /// vertex so.
+///
+/// Each of the peer's vertices is handed to the taker as its frame is handled, in order: what the taker is then
+/// is what each of them made of it, one after the other.
 pub fn meet_one<D: Door, T: Taker>(
     alloc: Global,
     taker: &mut T,
@@ -44,6 +49,8 @@ pub fn meet_one<D: Door, T: Taker>(
 ) -> MeetEnd
     ensures met { CallsPeer address.now (T.received taker.old) (T.verdict taker.old) (T.received taker.new) (D.sessions door.old) (D.sessions door.new) (D.ends door.old) (D.ends door.new) result
         ⊎ MeetsNone (T.received taker.old) (T.received taker.new) (D.sessions door.old) (D.sessions door.new) result }
+    ensures took { TakesPeer T.steps side.Caller (Some address.now) (T.received taker.old) (T.verdict taker.old) (T.received taker.new) taker.old taker.new (D.sessions door.old) (D.sessions door.new) (D.ends door.old) (D.ends door.new) result
+        ⊎ TakesNone (T.received taker.old) (T.received taker.new) taker.old taker.new (D.sessions door.old) (D.sessions door.new) result }
     ensures link { IsLinkEnd (D.faults door.old) (D.faults door.new) result }
     ensures appends { IsTakerEnd (T.faults taker.old) (T.faults taker.new) result }
 
@@ -68,6 +75,8 @@ pub fn meet_one<D: Door, T: Taker>(
 pub fn host_one<D: Door, T: Taker>(alloc: Global, taker: &mut T, door: &mut D) -> MeetEnd
     ensures met { HostsPeer (T.received taker.old) (T.verdict taker.old) (T.received taker.new) (D.sessions door.old) (D.sessions door.new) (D.ends door.old) (D.ends door.new) result
         ⊎ MeetsNone (T.received taker.old) (T.received taker.new) (D.sessions door.old) (D.sessions door.new) result }
+    ensures took { TakesPeer T.steps side.Host None (T.received taker.old) (T.verdict taker.old) (T.received taker.new) taker.old taker.new (D.sessions door.old) (D.sessions door.new) (D.ends door.old) (D.ends door.new) result
+        ⊎ TakesNone (T.received taker.old) (T.received taker.new) taker.old taker.new (D.sessions door.old) (D.sessions door.new) result }
     ensures link { IsLinkEnd (D.faults door.old) (D.faults door.new) result }
     ensures appends { IsTakerEnd (T.faults taker.old) (T.faults taker.new) result }
 
@@ -91,7 +100,7 @@ pub fn host_one<D: Door, T: Taker>(alloc: Global, taker: &mut T, door: &mut D) -
 /// Meets the node of the session that is there, up to its end.
 fn meet<D: Door, T: Taker>(alloc: Global, taker: &mut T, door: &mut D, side: Side) -> MeetEnd
     requires open { D.is_open door.old ≡ true }
-    ensures met { MeetsThere side (T.received taker.old) (T.verdict taker.old) (T.received taker.new) (D.sessions door.old) (D.sessions door.new) (D.ends door.old) (D.ends door.new) result }
+    ensures met { TakesThere T.steps side (T.received taker.old) (T.verdict taker.old) (T.received taker.new) taker.old taker.new (D.sessions door.old) (D.sessions door.new) (D.ends door.old) (D.ends door.new) result }
     ensures link { IsLinkEnd (D.faults door.old) (D.faults door.new) result }
     ensures appends { IsTakerEnd (T.faults taker.old) (T.faults taker.new) result }
 
@@ -168,7 +177,7 @@ fn meet_frames<D: Door, T: Taker>(
     requires kept { IsKept meeter.old (T.received taker.old) }
     requires open { D.is_open door.old ≡ true }
     ensures met { (first : Option (List Session)) → D.sessions door.old ≡ after_part [] (sent_bytes (first_word side (T.received taker.old))) false first
-        → MeetsThere side (T.received taker.old) (T.verdict taker.old) (T.received taker.new) first (D.sessions door.new) (D.ends door.old) (D.ends door.new) result }
+        → TakesThere T.steps side (T.received taker.old) (T.verdict taker.old) (T.received taker.new) taker.old taker.new first (D.sessions door.new) (D.ends door.old) (D.ends door.new) result }
     ensures link { IsLinkEnd (D.faults door.old) (D.faults door.new) result }
     ensures appends { IsTakerEnd (T.faults taker.old) (T.faults taker.new) result }
 
@@ -201,8 +210,7 @@ fn meet_next<D: Door, T: Taker>(
     requires place { place ≤ BYTE_LIMIT }
     requires kept { IsKept meeter.old (T.received taker.old) }
     requires open { D.is_open door.old ≡ true }
-    ensures met { Quits (length (T.received taker.old).config.weights) place (meeting_of meeter.old (T.received taker.old)) (meeting_of meeter.new (T.received taker.new)) (D.sessions door.old) (D.sessions door.new) (D.ends door.old) (D.ends door.new) result
-        ⊎ Handles (length (T.received taker.old).config.weights) place (meeting_of meeter.old (T.received taker.old)) (meet_step side (T.verdict taker.old) (meeting_of meeter.old (T.received taker.old))) (meeting_of meeter.new (T.received taker.new)) (D.sessions door.old) (D.sessions door.new) (D.ends door.old) (D.ends door.new) result }
+    ensures met { GoesNext T.steps (length (T.received taker.old).config.weights) place (meeting_of meeter.old (T.received taker.old)) (meet_step side (T.verdict taker.old) (meeting_of meeter.old (T.received taker.old))) (meeting_of meeter.new (T.received taker.new)) taker.old taker.new (D.sessions door.old) (D.sessions door.new) (D.ends door.old) (D.ends door.new) result }
     ensures kept { OnOk result (IsKept meeter.new (T.received taker.new)) }
     ensures next { IfOk result (λ next. (place < next) × (next ≤ BYTE_LIMIT)) }
     ensures link { IsLinkCounted (D.faults door.old) (D.faults door.new) result }
@@ -239,6 +247,7 @@ fn meet_frame<D: Door, T: Taker>(
     requires kept { IsKept meeter.old (T.received taker.old) }
     requires open { D.is_open door.old ≡ true }
     ensures reacts { Reacts (T.received taker.old) (at_stage meeter.old.stage side (T.verdict taker.old) (meeting_of meeter.old (T.received taker.old)) place frame) (meeting_of meeter.new (T.received taker.new)) (D.sessions door.old) (D.sessions door.new) result }
+    ensures takes { TakesOf T.steps (vertex_at meeter.old.stage frame) taker.old taker.new result }
     ensures kept { OnOk result (IsKept meeter.new (T.received taker.new)) }
     ensures link { IsLinkCounted (D.faults door.old) (D.faults door.new) result }
     ensures appends { IsTakerCounted (T.faults taker.old) (T.faults taker.new) result }

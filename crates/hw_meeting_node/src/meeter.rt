@@ -11,7 +11,7 @@ use std::alloc::Global;
 
 /// Which of two nodes that meet a node is.
 #[derive(Clone, Copy, Debug, PartialEq, Eq)]
-pub(crate) enum Side {
+pub enum Side {
     /// It dialled, and speaks first.
     Caller,
     /// It was dialled.

@@ -2,6 +2,7 @@
 
 ghost use Rattle.std.specs.Prelude.{◌≡◌, []};
 ghost use Rattle.std.specs.List.{list_any};
+ghost use Rattle.hw_meeting_node.specs.Taker.{Takes};
 ghost use Rattle.hw_meeting_node.specs.Memory.{vertex_eq, verdict_by, take_fault};
 
 use crate::same::is_same_vertex;
@@ -46,6 +47,8 @@ impl Taker for MemTaker {
     ghost received = { λ taker. taker.core };
 
     ghost verdict = { λ taker. verdict_by taker.refused };
+
+    ghost steps = { λ old vertex answer new. (new.refused ≡ old.refused) × Takes old.core vertex (verdict_by old.refused vertex) new.core answer };
 
     ghost faults = { λ _. 0 };
 

@@ -1,9 +1,11 @@
 //! What takes the vertices of a peer.
 
-ghost use Rattle.std.specs.Prelude.{◌≡◌, ℕ, List, Bool};
+ghost use Rattle.std.specs.Prelude.{◌≡◌, ℕ, List, Bool, Result};
 ghost use Rattle.hw_types.specs.declared.unit.Vertex.{Vertex};
+ghost use Rattle.hw_types.specs.declared.answers.Receipt.{Receipt};
 ghost use Rattle.hw_types.specs.Real.{CoreState};
 ghost use Rattle.hw_types.specs.Spelling.{VertexFits};
+ghost use Rattle.hw_meeting_node.specs.declared.taker.TakeFault.{TakeFault};
 ghost use Rattle.hw_meeting_node.specs.Taker.{Takes, IsTakeCounted};
 
 use hw_core::Core;
@@ -28,6 +30,10 @@ pub trait Taker {
     /// The verdict that it gives each vertex.
     ghost verdict: { Self → Vertex → Bool };
 
+    /// What it was, a vertex, the answer to it, and what it is then: all that becomes of it by a vertex, where it
+    /// has more than a core and verdicts.
+    ghost steps: { Self → Vertex → Result Receipt TakeFault → Self → Type 0 };
+
     /// How many vertices it couldn't store. The count stops at the end of a `u64`.
     ghost faults: { Self → ℕ };
 
@@ -46,6 +52,7 @@ pub trait Taker {
         requires { VertexFits vertex }
         ensures taken { Takes (received self.old) vertex (verdict self.old vertex) (received self.new) result }
         ensures cause { IsTakeCounted (faults self.old) (faults self.new) result }
+        ensures steps { steps self.old vertex result self.new }
 
         ensures verdict { verdict self.new ≡ verdict self.old }
         ensures holds { holds self.new ≡ holds self.old };

@@ -1,1 +1,2 @@
 pub mod Taker
+pub mod Meets

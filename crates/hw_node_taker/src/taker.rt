@@ -2,7 +2,7 @@
 
 ghost use Rattle.std.specs.Prelude.{◌≡◌, ◌∷◌, []};
 ghost use Rattle.hw_keys.specs.Signed.{verdict_of};
-ghost use Rattle.hw_node_taker.specs.Taker.{take_fault};
+ghost use Rattle.hw_node_taker.specs.Taker.{take_fault, TakesIn, StaysRead};
 
 use hw_core::Core;
 use hw_io::Files;
@@ -21,6 +21,9 @@ impl<'a, F: Files> Taker for NodeTaker<'a, F> {
     ghost received = { λ taker. taker.node.now.core };
 
     ghost verdict = { λ taker. verdict_of taker.node.now.keys };
+
+    ghost steps = { λ old vertex answer new. TakesIn old.node.now vertex new.node.now F.tells (F.held old.files.now) (F.held new.files.now) answer
+        × StaysRead (F.begun old.files.now) (F.begun new.files.now) (F.allowance old.files.now) (F.allowance new.files.now) (F.read_faults old.files.now) (F.read_faults new.files.now) };
 
     ghost faults = { λ taker. F.append_faults taker.files.now };
 

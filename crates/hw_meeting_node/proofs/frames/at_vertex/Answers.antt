@@ -28,6 +28,7 @@ returns-in_default g c =
     record {
       reacts = λ sessions. rw c.saturating_add-meeter.ensures (refused_goes _ c.args.vertex (g.T.Taker.verdict c.args.taker.now) c.args.meeter.now c.requires.kept _ sessions c.in-Err-Refused.cause c.in_default.not-Clash e.taken);
       kept = kept_refused core c.args.vertex (g.T.Taker.verdict c.args.taker.now c.args.vertex) (g.T.Taker.received c.take.new.self) c.args.meeter.now _ c.requires.stage refl refl c.requires.kept c.in-Err-Refused.cause e.taken;
+      takes = (Err (fault.Refused c.in-Err-Refused.cause), e.steps, tt);
       cause = e.cause;
       link = λ count. refl;
       config = config_stays core c.args.vertex (g.T.Taker.verdict c.args.taker.now c.args.vertex) (g.T.Taker.received c.take.new.self) (Err (fault.Refused c.in-Err-Refused.cause)) e.taken;

@@ -1,8 +1,18 @@
 use Rattle.std.proofs.Common.{ℕ, subst, sym}
-use Rattle.hw_meeting_node.specs.Sessions.{meet_end, MeetsThere}
+use Rattle.hw_meeting_node.specs.Sessions.{meet_end}
+use Rattle.hw_meeting_node.specs.Taking.{TakesThere}
 use Rattle.hw_meeting_node.specs.declared.meeter.Meeter.{Meeter}
-use Rattle.hw_meeting_node.proofs.MeetingLaws.{first_cut}
+use Rattle.hw_meeting_node.proofs.MeetingLaws.{first_sent, first_cut}
 use Rattle.hw_meeting_node.proofs.meet.meet.Goals as goal
+
+pub returns-in-Ok-clause-met : goal.returns-in-Ok-clause-met
+returns-in-Ok-clause-met g c =
+    let d = g.D.Door in
+    let core = g.T.Taker.received c.args.taker.now in
+    let judge = g.T.Taker.verdict c.args.taker.now in
+    let now = c.meet_frames.new in
+    subst (λ (x : ℕ). TakesThere g.T.Taker.steps c.args.side core judge (g.T.Taker.received now.taker) c.args.taker.now now.taker (d.sessions c.args.door.now) (d.sessions now.door) x (d.ends now.door) c.meet_frames.result) c.in-Ok.ensures.ends
+    (c.meet_frames.ensures.met (d.sessions c.args.door.now) (first_sent g.T.Taker.steps c.args.side core judge c.args.taker.now Meeter (d.sessions c.args.door.now) (d.sessions c.say_first.new.door) c.in-Ok.meeter (rw c.core.ensures at c.in-Ok.ensures.sent)))
 
 pub returns-in-Err-clause-met : goal.returns-in-Err-clause-met
 returns-in-Err-clause-met g c =
@@ -10,5 +20,5 @@ returns-in-Err-clause-met g c =
     let core = g.T.Taker.received c.args.taker.now in
     let judge = g.T.Taker.verdict c.args.taker.now in
     rw c.meet_end.ensures
-    (subst (λ (x : ℕ). MeetsThere c.args.side core judge core (d.sessions c.args.door.now) (d.sessions c.say_first.new.door) (d.ends c.args.door.now) x (meet_end c.in-Err.end 0)) (sym c.in-Err.ensures.ends)
-    (first_cut c.args.side core judge Meeter (d.sessions c.args.door.now) (d.sessions c.say_first.new.door) (d.ends c.args.door.now) c.in-Err.end (rw c.core.ensures at c.in-Err.ensures.sent)))
+    (subst (λ (x : ℕ). TakesThere g.T.Taker.steps c.args.side core judge core c.args.taker.now c.args.taker.now (d.sessions c.args.door.now) (d.sessions c.say_first.new.door) (d.ends c.args.door.now) x (meet_end c.in-Err.end 0)) (sym c.in-Err.ensures.ends)
+    (first_cut g.T.Taker.steps c.args.side core judge c.args.taker.now Meeter (d.sessions c.args.door.now) (d.sessions c.say_first.new.door) (d.ends c.args.door.now) c.in-Err.end (rw c.core.ensures at c.in-Err.ensures.sent)))

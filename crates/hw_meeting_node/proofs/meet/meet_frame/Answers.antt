@@ -1,4 +1,4 @@
-use Rattle.std.proofs.Common.{List, ℕ, Err, refl, sym, subst}
+use Rattle.std.proofs.Common.{List, ℕ, Err, refl, sym, subst, ◌∙◌}
 use Rattle.hw_types.specs.Real.{CoreState}
 use Rattle.hw_link.specs.declared.end.SessionEnd.TheVariants as end
 use Rattle.hw_meeting.specs.declared.frame.MeetingFrame.{MeetingFrame}
@@ -6,6 +6,7 @@ use Rattle.hw_meeting_node.specs.declared.meeter.Stage.{Stage}
 use Rattle.hw_meeting_node.specs.declared.meeter.Stage.TheVariants as stage
 use Rattle.hw_meeting_node.specs.Meeting.{given_torn, at_stage}
 use Rattle.hw_meeting_node.specs.Handling.{meeting_of, Reacts}
+use Rattle.hw_meeting_node.proofs.TakingLaws.{takes_none, takes_some, due_at, none_due}
 use Rattle.hw_meeting_node.proofs.ReactLaws.{greeting_bad, telling_bad, tearing_bad, taking_bad}
 use Rattle.hw_meeting_node.proofs.meet.meet_frame.Goals as goal
 
@@ -20,6 +21,21 @@ returns-in-Torn-clause-appends g c = c.at_torn.ensures.stored (g.T.Taker.faults 
 
 pub returns-in-Done-clause-appends : goal.returns-in-Done-clause-appends
 returns-in-Done-clause-appends g c = c.at_done.ensures.stored (g.T.Taker.faults c.args.taker.now)
+
+pub returns-in-Hello-clause-takes : goal.returns-in-Hello-clause-takes
+returns-in-Hello-clause-takes g c = takes_none _ _ _ c.at_hello.result (due_at _ stage.Greeting c.args.frame c.args.frame c.in-Greeting.is refl) c.at_hello.ensures.stored
+
+pub returns-in-Summary-clause-takes : goal.returns-in-Summary-clause-takes
+returns-in-Summary-clause-takes g c = takes_none _ _ _ c.at_summary.result (due_at _ stage.Telling c.args.frame c.args.frame c.in-Telling.is refl) c.at_summary.ensures.stored
+
+pub returns-in-Torn-clause-takes : goal.returns-in-Torn-clause-takes
+returns-in-Torn-clause-takes g c = takes_none _ _ _ c.at_torn.result (due_at _ stage.Tearing c.args.frame c.args.frame c.in-Tearing.is refl) c.at_torn.ensures.stored
+
+pub returns-in-Done-clause-takes : goal.returns-in-Done-clause-takes
+returns-in-Done-clause-takes g c = takes_none _ _ _ c.at_done.result (due_at _ stage.Taking c.args.frame _ c.in-Taking.is c.in-Done.is) c.at_done.ensures.stored
+
+pub returns-in-Vertex-clause-takes : goal.returns-in-Vertex-clause-takes
+returns-in-Vertex-clause-takes g c = takes_some _ _ _ _ _ c.at_vertex.result (due_at _ stage.Taking c.args.frame _ c.in-Taking.is c.in-Vertex.is) c.at_vertex.ensures.takes
 
 pub returns-in-Vertex-clause-link : goal.returns-in-Vertex-clause-link
 returns-in-Vertex-clause-link g c = c.at_vertex.ensures.link (g.D.Door.faults c.args.door.now)
@@ -52,6 +68,7 @@ returns-in-Greeting g c =
     record {
       reacts = subst (λ (s : Stage). Reacts {T = Unit {0}} core (at_stage s c.args.side (g.T.Taker.verdict c.args.taker.now) m c.args.place c.args.frame) m old old (Err (end.BadFrame c.args.place))) (sym c.in-Greeting.is)
           (greeting_bad core m c.args.place c.args.frame old c.args.side c.in_default.not-Hello);
+      takes = takes_none _ _ _ (Err (end.BadFrame c.args.place)) (due_at _ stage.Greeting c.args.frame c.args.frame c.in-Greeting.is refl) (λ count. refl);
       kept = tt;
       link = refl;
       appends = refl;
@@ -72,6 +89,7 @@ returns-in-Telling g c =
     record {
       reacts = subst (λ (s : Stage). Reacts {T = Unit {0}} core (at_stage s c.args.side (g.T.Taker.verdict c.args.taker.now) m c.args.place c.args.frame) m old old (Err (end.BadFrame c.args.place))) (sym c.in-Telling.is)
           (telling_bad core m c.args.place c.args.frame old c.args.side c.in_default-frame.not-Summary);
+      takes = takes_none _ _ _ (Err (end.BadFrame c.args.place)) (due_at _ stage.Telling c.args.frame c.args.frame c.in-Telling.is refl) (λ count. refl);
       kept = tt;
       link = refl;
       appends = refl;
@@ -92,6 +110,7 @@ returns-in-Tearing g c =
     record {
       reacts = subst (λ (s : Stage). Reacts {T = Unit {0}} core (at_stage s c.args.side (g.T.Taker.verdict c.args.taker.now) m c.args.place c.args.frame) m old old (Err (end.BadFrame c.args.place))) (sym c.in-Tearing.is)
           (tearing_bad core m c.args.place c.args.frame old c.args.side c.in_default-frame-2.not-Torn);
+      takes = takes_none _ _ _ (Err (end.BadFrame c.args.place)) (due_at _ stage.Tearing c.args.frame c.args.frame c.in-Tearing.is refl) (λ count. refl);
       kept = tt;
       link = refl;
       appends = refl;
@@ -112,6 +131,7 @@ returns g c =
     record {
       reacts = subst (λ (s : Stage). Reacts {T = Unit {0}} core (at_stage s c.args.side (g.T.Taker.verdict c.args.taker.now) m c.args.place c.args.frame) m old old (Err (end.BadFrame c.args.place))) (sym c.in-Taking.is)
           (taking_bad core m c.args.place c.args.frame old c.args.side (g.T.Taker.verdict c.args.taker.now) c.in_default-frame-3.not-Vertex c.in_default-frame-3.not-Done);
+      takes = takes_none _ _ _ (Err (end.BadFrame c.args.place)) (due_at _ stage.Taking c.args.frame c.args.frame c.in-Taking.is refl ∙ none_due c.args.frame c.in_default-frame-3.not-Vertex) (λ count. refl);
       kept = tt;
       link = refl;
       appends = refl;

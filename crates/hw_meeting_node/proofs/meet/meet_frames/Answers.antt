@@ -2,13 +2,13 @@ use Rattle.std.proofs.Common.{ℕ, Ok, Err, refl, subst, arith, ◌∙◌}
 use Rattle.hw_meeting_node.proofs.MeetingLaws.{meeting_begins, next_same, next_leads, next_meets, next_counts, limit_meets, link_ended, taker_ended}
 use Rattle.hw_link.specs.Links.{IsLinkCounted}
 use Rattle.hw_meeting_node.specs.declared.end.MeetEnd.TheVariants.{ByteLimit}
-use Rattle.hw_meeting_node.specs.Sessions.{MeetsThere}
+use Rattle.hw_meeting_node.specs.Taking.{TakesThere}
 use Rattle.hw_meeting_node.specs.Handling.{IsTakerCounted}
 use Rattle.hw_meeting_node.proofs.meet.meet_frames.Goals as goal
 
 pub loop-place-init : goal.loop-place-init
 loop-place-init g c = record {
-  meeting = λ first told. meeting_begins c.args.side _ _ _ first _ c.requires.begins told;
+  meeting = λ first told. meeting_begins _ c.args.side _ _ _ _ first _ c.requires.begins told;
   kept = c.requires.kept;
   within = omega arith;
   session = c.requires.open;
@@ -28,11 +28,11 @@ loop-place-preserved g c =
     let e = c.in-Ok.ensures in
     let i = l.invariant in
     record {
-      meeting = λ first told. next_leads _ _ _ _ _ _ _ (i.meeting first told) _ _ _ _ c.in-Ok.next (next_same _ _ _ _ _ _ _ (i.meeting first told) _ _ i.config i.verdict _ _ _ _ (Ok c.in-Ok.next) e.met);
+      meeting = λ first told. next_leads _ _ _ _ _ _ _ _ _ _ (i.meeting first told) _ _ _ _ _ c.in-Ok.next (next_same _ _ _ _ _ _ _ _ _ _ (i.meeting first told) _ _ i.config i.verdict _ _ _ _ _ (Ok c.in-Ok.next) e.met);
       kept = e.kept;
       within = e.next.1;
       session = e.open;
-      ends = next_counts _ l.place _ _ _ _ _ _ _ c.in-Ok.next e.met ∙ i.ends;
+      ends = next_counts _ _ l.place _ _ _ _ _ _ _ _ _ c.in-Ok.next e.met ∙ i.ends;
       faults = e.link ∙ i.faults;
       accepts = e.accepts ∙ i.accepts;
       dials = e.dials ∙ i.dials;
@@ -46,7 +46,7 @@ pub returns-in-Err-clause-met : goal.returns-in-Err-clause-met
 returns-in-Err-clause-met g c =
     let l = c.loop-place in
     let i = l.invariant in
-    λ first told. rw c.meet_end.ensures (next_meets _ _ _ _ _ _ _ (i.meeting first told) _ _ _ _ _ c.in-Err.end i.ends (next_same _ _ _ _ _ _ _ (i.meeting first told) _ _ i.config i.verdict _ _ _ _ (Err c.in-Err.end) c.in-Err.ensures.met))
+    λ first told. rw c.meet_end.ensures (next_meets _ _ _ _ _ _ _ _ _ _ (i.meeting first told) _ _ _ _ _ _ c.in-Err.end i.ends (next_same _ _ _ _ _ _ _ _ _ _ (i.meeting first told) _ _ i.config i.verdict _ _ _ _ _ (Err c.in-Err.end) c.in-Err.ensures.met))
 
 pub returns-in-Err-clause-link : goal.returns-in-Err-clause-link
 returns-in-Err-clause-link g c = rw c.meet_end.ensures (link_ended ℕ _ _ c.in-Err.end _ (subst (λ (x : ℕ). IsLinkCounted {T = ℕ} x (g.D.Door.faults c.meet_next.new.door) (Err c.in-Err.end)) c.loop-place.invariant.faults c.in-Err.ensures.link))
@@ -59,5 +59,5 @@ returns-clause-met g c =
     let l = c.loop-place in
     let i = l.invariant in
     λ first told.
-    subst (λ (x : ℕ). MeetsThere c.args.side (g.T.Taker.received c.args.taker.now) (g.T.Taker.verdict c.args.taker.now) (g.T.Taker.received l.taker) first (g.D.Door.sessions l.door) x (g.D.Door.ends l.door) ByteLimit) i.ends
-    (limit_meets _ _ _ _ _ _ _ (i.meeting first told) (omega (arith, c.loop-place-test.false)) (g.D.Door.ends l.door))
+    subst (λ (x : ℕ). TakesThere g.T.Taker.steps c.args.side (g.T.Taker.received c.args.taker.now) (g.T.Taker.verdict c.args.taker.now) (g.T.Taker.received l.taker) c.args.taker.now l.taker first (g.D.Door.sessions l.door) x (g.D.Door.ends l.door) ByteLimit) i.ends
+    (limit_meets _ _ _ _ _ _ _ _ _ _ (i.meeting first told) (omega (arith, c.loop-place-test.false)) (g.D.Door.ends l.door))

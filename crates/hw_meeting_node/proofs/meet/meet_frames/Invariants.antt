@@ -13,7 +13,7 @@ invariant-loop-place g l =
     let t = g.T.Taker in
     record {
       meeting : (first : Option (List Session)) → d.sessions l.initial.door ≡ after_part [] (sent_bytes (first_word l.side (t.received l.initial.taker))) false first
-          → IsMeeting l.side (t.received l.initial.taker) (t.verdict l.initial.taker) (meeting_of l.meeter (t.received l.taker)) l.place first (d.sessions l.door);
+          → IsMeeting t.steps l.side (t.received l.initial.taker) (t.verdict l.initial.taker) l.initial.taker (meeting_of l.meeter (t.received l.taker)) l.place l.taker first (d.sessions l.door);
       kept : IsKept l.meeter (t.received l.taker);
       within : l.place ≤ 268435456;
       session : d.is_open l.door ≡ true;

@@ -1,0 +1,81 @@
+-- What a meeting leaves of a node and its log.
+-- Source: ours.
+use Rattle.std.specs.Prelude.{◌≡◌, ◌⊎◌, ℕ, Bool, IsTrue, List, [], ◌∷◌, ◌++◌, fold, Option, Some, None}
+use Rattle.hw_types.specs.declared.unit.Vertex.{Vertex}
+use Rattle.hw_io.specs.Doors.{Session}
+use Rattle.hw_io.specs.Files.{SameFiles}
+use Rattle.hw_keys.specs.Signed.{verdict_of}
+use Rattle.hw_session.specs.Node.{NodeState}
+use Rattle.hw_session.specs.Accept.{given_to, taken_by}
+use Rattle.hw_session.specs.Grows.{Logs, LogsAllBut}
+use Rattle.hw_meeting_node.specs.declared.end.MeetEnd.{MeetEnd}
+use Rattle.hw_meeting_node.specs.declared.end.MeetEnd.TheVariants as end
+use Rattle.hw_meeting_node.specs.declared.meeter.Side.{Side}
+use Rattle.hw_meeting_node.specs.declared.meeter.Side.TheVariants.{Caller, Host}
+use Rattle.hw_meeting_node.specs.Sessions.{MeetsPeer}
+use Rattle.hw_meeting_node.specs.Taking.{taken_in}
+
+-- ---- the node
+
+-- a node after a vertex of a peer, with the verdict of its keys
+abbrev pub after_vertex : NodeState → Vertex → NodeState
+after_vertex n v = taken_by n v (given_to n v)
+
+-- after these vertices, one after the other
+abbrev pub after_all : NodeState → List Vertex → NodeState
+after_all n vertices = fold after_vertex n vertices
+
+-- the vertices that it takes in a meeting with a peer that sends these bytes, in order
+abbrev pub vertices_of : Side → NodeState → List ℕ → List Vertex
+vertices_of side n bytes = taken_in side n.core (verdict_of n.keys) bytes
+
+-- a node that has met a peer that sends these bytes
+abbrev pub after_meeting : Side → NodeState → List ℕ → NodeState
+after_meeting side n bytes = after_all n (vertices_of side n bytes)
+
+-- ---- what is left
+
+-- it stands where the first of these bytes leave it, with its log
+pub record StandsBefore (side : Side) (n : NodeState) (read : List ℕ) (m : NodeState) (tells : Bool) (held_old held_new : List ℕ → Option (List ℕ)) : Type 0 where
+  pub first : List ℕ
+  pub part : List ℕ
+  pub split : read ≡ first ++ part
+  pub state : m ≡ after_meeting side n first
+  pub logs : Logs n m tells held_old held_new
+
+-- The last vertex was accepted, and its entry may be cut.
+pub record StandsCut (side : Side) (n : NodeState) (read : List ℕ) (m : NodeState) (tells : Bool) (held_old held_new : List ℕ → Option (List ℕ)) : Type 0 where
+  pub first : List ℕ
+  pub part : List ℕ
+  pub split : read ≡ first ++ part
+  pub vertex : Vertex
+  pub last : vertices_of side n read ≡ vertices_of side n first ++ vertex ∷ []
+  pub logs : LogsAllBut n (after_meeting side n first) vertex m tells held_old held_new
+
+-- The node stands where the bytes leave it, and so does its log. Where an append failed the last entry may be cut, and where there was no
+-- memory the node may stand before the last bytes.
+abbrev pub Leaves : MeetEnd → Side → NodeState → List ℕ → NodeState → Bool → (List ℕ → Option (List ℕ)) → (List ℕ → Option (List ℕ)) → Type 0
+Leaves end.AppendFault side n read m tells held_old held_new = StandsCut side n read m tells held_old held_new
+Leaves end.OutOfMemory side n read m tells held_old held_new = StandsBefore side n read m tells held_old held_new ⊎ StandsCut side n read m tells held_old held_new
+Leaves e side n read m tells held_old held_new = (m ≡ after_meeting side n read) × Logs n m tells held_old held_new
+
+-- ---- one session
+
+-- A node with its log met a peer, in a session that the door tells behind the others, with the address that was dialled, if one was.
+pub record NodeMeets (side : Side) (address : Option (List ℕ)) (n m : NodeState) (tells : Bool) (held_old held_new : List ℕ → Option (List ℕ)) (old new : Option (List Session)) (ends_old ends_new : ℕ) (e : MeetEnd) : Type 0 where
+  pub meets : MeetsPeer side address n.core (verdict_of n.keys) m.core old new ends_old ends_new e
+  pub left : Leaves e side n meets.read m tells held_old held_new
+
+-- the same of a node that dialled this address, and of one that was dialled
+abbrev pub NodeCalls : List ℕ → NodeState → NodeState → Bool → (List ℕ → Option (List ℕ)) → (List ℕ → Option (List ℕ)) → Option (List Session) → Option (List Session) → ℕ → ℕ → MeetEnd → Type 0
+NodeCalls address n m tells held_old held_new old new ends_old ends_new e = NodeMeets Caller (Some address) n m tells held_old held_new old new ends_old ends_new e
+
+abbrev pub NodeHosts : NodeState → NodeState → Bool → (List ℕ → Option (List ℕ)) → (List ℕ → Option (List ℕ)) → Option (List Session) → Option (List Session) → ℕ → ℕ → MeetEnd → Type 0
+NodeHosts n m tells held_old held_new old new ends_old ends_new e = NodeMeets Host None n m tells held_old held_new old new ends_old ends_new e
+
+-- there was no memory to take or to dial a peer, and nothing was done
+pub record NodeMeetsNone (n m : NodeState) (tells : Bool) (held_old held_new : List ℕ → Option (List ℕ)) (old new : Option (List Session)) (e : MeetEnd) : Type 0 where
+  pub ended : e ≡ end.OutOfMemory
+  pub state : m ≡ n
+  pub files : IsTrue tells → SameFiles held_old held_new
+  pub told : new ≡ old
