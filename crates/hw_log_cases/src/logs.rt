@@ -4,8 +4,9 @@ ghost use Rattle.std.specs.Prelude.{◌≡◌};
 ghost use Rattle.hw_io.specs.Memory.{mem_allowance};
 ghost use Rattle.hw_types.specs.Spelling.{VertexFits};
 ghost use Rattle.hw_log.specs.Lasts.{IsVersion};
+ghost use Rattle.hw_log.specs.Reader.{PlacesFit};
 
-use crate::lines::number;
+use crate::words::{bytes_of, number};
 use hw_io::{Files, MemFiles};
 use hw_log::{
     Lasts, LogEntry, LogError, LogReader, append_entry, append_header, entry_bytes, read_log,
@@ -63,9 +64,7 @@ fn part(letter: char) -> &'static str {
 fn log_of(alloc: Global, parts: &str) -> Result<Vec<u8>, OutOfMemory> {
     let mut bytes = Vec::new(alloc);
     for letter in parts.chars() {
-        let Ok(decoded) = hex::decode(alloc, part(letter)) else {
-            return Err(OutOfMemory);
-        };
+        let decoded = bytes_of(alloc, part(letter))?;
         bytes.extend_from_slice(decoded.as_slice())?;
     }
     Ok(bytes)
@@ -128,12 +127,14 @@ pub fn counted(
     let mut log = log_of(alloc, parts)?;
     patch(&mut log, patches);
     let mut files = files_of(alloc, piece, call, 0, log.as_slice())?;
-    let answer = count(alloc, &mut files, "LOG");
-    Ok(format!(in alloc;
-        "{answer:?} faults {} {}",
-        files.read_faults(),
-        files.append_faults()
-    )?)
+    count_text(alloc, &mut files)
+}
+
+/// How many entries the log has, and the faults counted.
+fn count_text(alloc: Global, files: &mut MemFiles) -> Result<String, OutOfMemory> {
+    let answer = count(alloc, files, "LOG");
+    let (reads, appends) = (files.read_faults(), files.append_faults());
+    Ok(format!(in alloc; "{answer:?} faults {reads} {appends}")?)
 }
 
 /// Copies the log entry by entry into a log of this version, and answers the places of the entries.
@@ -149,9 +150,22 @@ fn copy_log(
     let mut reader = LogReader::begin(alloc, files, from)?;
     append_header(alloc, files, to, version, reader.config())?;
     let mut lasts = Lasts::new(alloc, version, reader.config().weights.len() as u32)?;
+    copy_entries(alloc, files, to, &mut reader, &mut lasts)
+}
+
+/// Appends the entries that are left behind these last units, and answers their places.
+fn copy_entries(
+    alloc: Global,
+    files: &mut MemFiles,
+    to: &str,
+    reader: &mut LogReader,
+    lasts: &mut Lasts,
+) -> Result<Items<u64>, LogError>
+    requires { PlacesFit reader.old (mem_allowance files.old) }
+{
     let mut places = Items::new(alloc);
-    while let Some(entry) = reader.next(files)? {
-        copy_entry(alloc, files, to, &mut lasts, &entry)?;
+    'entries: while let Some(entry) = reader.next(files)? {
+        copy_entry(alloc, files, to, lasts, &entry)?;
         places.push(entry.at)?;
     }
     Ok(places)
@@ -173,13 +187,6 @@ fn copy_entry(
     append_entry(files, to, &bytes)?;
     lasts.note(noted);
     Ok(())
-}
-
-fn places_text(alloc: Global, places: Result<Items<u64>, LogError>) -> Result<String, OutOfMemory> {
-    match places {
-        Ok(places) => Ok(format!(in alloc; "{:?}", places.as_slice())?),
-        Err(error) => Ok(format!(in alloc; "{error:?}")?),
-    }
 }
 
 /// How much of the log was copied.
@@ -204,13 +211,25 @@ pub fn copied(
 ) -> Result<String, OutOfMemory> {
     let log = log_of(alloc, parts)?;
     let mut files = files_of(alloc, piece, call, left, log.as_slice())?;
-    let places = places_text(alloc, copy_log(alloc, &mut files, "LOG", "COPY", 1))?;
-    let copy = copy_text(alloc, &files, log.as_slice())?;
-    Ok(format!(in alloc;
-        "{places} copied {copy} faults {} {}",
-        files.read_faults(),
-        files.append_faults()
-    )?)
+    copied_text(alloc, &mut files, log.as_slice())
+}
+
+/// What copying this log answers, and the faults counted.
+fn copied_text(alloc: Global, files: &mut MemFiles, log: &[u8]) -> Result<String, OutOfMemory> {
+    let places = copy_places(alloc, files, 1)?;
+    let copy = copy_text(alloc, files, log)?;
+    let (reads, appends) = (files.read_faults(), files.append_faults());
+    Ok(format!(in alloc; "{places} copied {copy} faults {reads} {appends}")?)
+}
+
+/// The places of the entries that are copied into a log of this version, or the error.
+fn copy_places(alloc: Global, files: &mut MemFiles, version: u8) -> Result<String, OutOfMemory>
+    requires { IsVersion version }
+{
+    match copy_log(alloc, files, "LOG", "COPY", version) {
+        Ok(places) => Ok(format!(in alloc; "{:?}", places.as_slice())?),
+        Err(error) => Ok(format!(in alloc; "{error:?}")?),
+    }
 }
 
 pub fn cuts(alloc: Global, parts: &str) -> Result<String, OutOfMemory> {
@@ -220,11 +239,21 @@ pub fn cuts(alloc: Global, parts: &str) -> Result<String, OutOfMemory> {
     for length in 0..=log.len() {
         let answer = count_of(alloc, 100, None, &log.as_slice()[..length])?;
         if answer != last {
-            text.push_str(format!(in alloc; "{length} {answer:?} ")?.as_str())?;
+            put_answer(alloc, &mut text, length, answer)?;
             last = answer;
         }
     }
     Ok(text)
+}
+
+fn put_answer(
+    alloc: Global,
+    text: &mut String,
+    length: usize,
+    answer: Result<usize, LogError>,
+) -> Result<(), OutOfMemory> {
+    let answer = format!(in alloc; "{length} {answer:?} ")?;
+    Ok(text.push_str(answer.as_str())?)
 }
 
 /// How many of the calls of a reading, each failing alone, end it as a read fault.
@@ -254,20 +283,12 @@ pub fn missing(alloc: Global, parts: &str) -> Result<String, OutOfMemory> {
     Ok(format!(in alloc; "{answer:?}")?)
 }
 
-/// The bytes of the hexadecimal digits.
-fn bytes_of(alloc: Global, digits: &str) -> Result<Vec<u8>, OutOfMemory> {
-    match hex::decode(alloc, digits) {
-        Ok(bytes) => Ok(bytes),
-        Err(_) => Err(OutOfMemory),
-    }
-}
-
 /// The places of a log's entries, and whether its copy of this version is the log of these bytes.
 fn copy_is(alloc: Global, log: &[u8], version: u8, wanted: &[u8]) -> Result<String, OutOfMemory>
     requires { IsVersion version }
 {
     let mut files = files_of(alloc, 100, None, 0, log)?;
-    let places = places_text(alloc, copy_log(alloc, &mut files, "LOG", "COPY", version))?;
+    let places = copy_places(alloc, &mut files, version)?;
     let is = files.file("COPY") == Some(wanted);
     Ok(format!(in alloc; "{places} {is}")?)
 }
@@ -276,12 +297,13 @@ fn copy_is(alloc: Global, log: &[u8], version: u8, wanted: &[u8]) -> Result<Stri
 pub fn both(alloc: Global, one: &str, two: &str) -> Result<String, OutOfMemory> {
     let one = bytes_of(alloc, one)?;
     let two = bytes_of(alloc, two)?;
-    let (one, two) = (one.as_slice(), two.as_slice());
-    Ok(format!(in alloc;
-        "{} {} {} {}",
-        copy_is(alloc, one, 1, one)?,
-        copy_is(alloc, one, 2, two)?,
-        copy_is(alloc, two, 2, two)?,
-        copy_is(alloc, two, 1, one)?
-    )?)
+    both_text(alloc, one.as_slice(), two.as_slice())
+}
+
+fn both_text(alloc: Global, one: &[u8], two: &[u8]) -> Result<String, OutOfMemory> {
+    let first = copy_is(alloc, one, 1, one)?;
+    let second = copy_is(alloc, one, 2, two)?;
+    let third = copy_is(alloc, two, 2, two)?;
+    let fourth = copy_is(alloc, two, 1, one)?;
+    Ok(format!(in alloc; "{first} {second} {third} {fourth}")?)
 }

@@ -1,7 +1,7 @@
 //! Doors in memory.
 
 use crate::counts::{Count, done, put_bytes, put_count};
-use crate::lines::number;
+use crate::words::number;
 use hw_io::{Door, DoorNumbers, MemDoor, MemSession, SureDoor};
 use std::alloc::{AllocError, Global};
 

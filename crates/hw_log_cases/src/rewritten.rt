@@ -1,5 +1,6 @@
-//! Runs over files in memory.
+//! Logs that are written anew, over files in memory.
 
+use crate::words::bytes_of;
 use hw_io::MemFiles;
 use hw_log::LogError;
 use hw_rewrite::{RewriteFault, mend, migrate};
@@ -93,9 +94,7 @@ fn put_file(
     if word == "-" {
         return Ok(());
     }
-    let Ok(bytes) = hex::decode(alloc, word) else {
-        return Err(OutOfMemory);
-    };
+    let bytes = bytes_of(alloc, word)?;
     match files.put(name, bytes.as_slice()) {
         Ok(()) => Ok(()),
         Err(_) => Err(OutOfMemory),
