@@ -4,8 +4,10 @@ ghost use Rattle.std.specs.Prelude.{◌≡◌, ◌+◌, ◌<◌, ◌≤◌, true
 ghost use Rattle.hw_types.specs.Votes.{is_block};
 ghost use Rattle.hw_dag.specs.Dag.{count_of, node_at, unit_at, seq_of};
 
+use crate::settling::{Outcome, settle};
+use crate::units::INSTANCE;
+use crate::views::word_at;
 use hw_admit::State;
-use hw_case_state::{INSTANCE, Outcome, settle, word_at};
 use hw_case_words::named;
 use hw_dag::{Dag, Marks, UnitNo};
 use hw_skip::Steps;

@@ -1,13 +1,15 @@
 //! Lines of words. None stands for a line that isn't of the language, and for want of memory.
 
+use crate::begin::weights;
 use crate::lanes::{ancestor, chain, lane, on_lane, sees};
 use crate::naivety::naive_fork;
 use crate::panoramas::{at_most_of, choice, consistency, joined};
 use crate::random::random;
+use crate::settling::{endorse, mark, unit};
 use crate::shown::show;
+use crate::steps::{make, step};
 use crate::summits::summit;
 use hw_admit::State;
-use hw_case_state::{endorse, mark, unit, weights};
 use std::alloc::Global;
 
 /// The answer to a line, for the state that is held.
@@ -44,6 +46,7 @@ fn moved(alloc: Global, state: &mut State, kind: &str, words: &[&str]) -> Option
         "endorse" => endorse(alloc, state, words),
         "show" => show(alloc, state),
         "chain" => chain(alloc, state, words),
+        "make" => make(alloc, state, words),
         _ => told(alloc, state, kind, words),
     }
 }
@@ -57,6 +60,7 @@ fn told(alloc: Global, state: &State, kind: &str, words: &[&str]) -> Option<Stri
         "join" => joined(alloc, state.dag(), words),
         "naive" => naive_fork(alloc, state, words),
         "summit" => summit(alloc, state, words),
+        "step" => step(alloc, state, words),
         _ => looked_up(alloc, state, kind, words),
     }
 }

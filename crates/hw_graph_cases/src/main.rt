@@ -1,4 +1,5 @@
-//! What the layers of the graph answer for the lines of the input, one answer a line.
+//! What the layers of the graph answer for the lines of the input, and what a validator may make by the state of its node, one
+//! answer a line.
 //!
 //! | Line | What it does, and what it answers |
 //! |---|---|
@@ -17,35 +18,47 @@
 //! | `chain N` | admits a chain of blocks by validator 0, `n0` to the N-th |
 //! | `lane NAME N`, `ancestor NAME N` | the unit of number N on the lane, the block of height N on the chain |
 //! | `on NAME NAME`, `sees NAME NAME` | whether the first is on the lane of the second, whether the first has seen the second |
+//! | `step by V at T` | the unit that the validator may make at this moment, or `none`; `block` may follow, with the value of a proposal |
+//! | `make NAME by V at T` | the same, and what becomes of that unit under this name |
 //! | `random UNITS PANORAMAS SEED` | of so many random panoramas of a random graph, how many have the fork choice that sums of scores give |
 //!
-//! C is `-`, `!` or the name of a unit. The digest of a unit is its name.
+//! C is `-`, `!` or the name of a unit. The digest of a unit is its name, and all units are of one instance.
 #![tactic(auto)]
 
+mod begin;
 mod lanes;
 mod lines;
 mod naivety;
 mod panoramas;
 mod plain;
 mod random;
+mod settling;
 mod shown;
+mod steps;
 mod summits;
+mod units;
+mod views;
 
 use hw_admit::State;
 use std::io;
 
 fn main(rt: HostRuntime) -> io::Result<()> {
     let mut held = None;
-    answered(rt, &mut held)
+    answer_all(rt, &mut held)
 }
 
 /// Answers each line for the state that is held.
-fn answered(rt: HostRuntime, held: &mut Option<State>) -> io::Result<()> {
+fn answer_all(rt: HostRuntime, held: &mut Option<State>) -> io::Result<()> {
     for line in rt.lines(rt.alloc()) {
-        let Some(text) = lines::answer(rt.alloc(), held, line?.as_str()) else {
-            return Err(io::ErrorKind::InvalidInput.into());
-        };
-        println!(rt; "{text}")?;
+        answer(rt, held, line?.as_str())?;
     }
     Ok(())
+}
+
+/// Answers a line for the state that is held.
+fn answer(rt: HostRuntime, held: &mut Option<State>, line: &str) -> io::Result<()> {
+    match lines::answer(rt.alloc(), held, line) {
+        Some(text) => println!(rt; "{text}"),
+        None => Err(io::ErrorKind::InvalidInput.into()),
+    }
 }

@@ -8,8 +8,9 @@ ghost use Rattle.hw_naivety.specs.Tips.{HasLists};
 ghost use Rattle.hw_graph_cases.specs.Slots.{HasListOf};
 
 use crate::panoramas::panorama_of;
+use crate::units::names;
+use crate::views::word_at;
 use hw_admit::State;
-use hw_case_state::{names, word_at};
 use hw_case_words::after;
 use hw_dag::{Dag, Marks, Panorama, View};
 use hw_naivety::NaiveFork;

@@ -5,8 +5,9 @@ ghost use Rattle.hw_types.specs.Graph.{is_consistent};
 ghost use Rattle.hw_dag.specs.Dag.{graph, observations, count_of, IsPanorama};
 ghost use Rattle.hw_graph_cases.specs.Slots.{IsBy};
 
+use crate::units::observed;
+use crate::views::{views_text, word_at};
 use hw_admit::State;
-use hw_case_state::{observed, views_text, word_at};
 use hw_dag::{Dag, Panorama, UnitNo, View};
 use hw_forks::Forks;
 use hw_panorama::{at_most, consistent, join};

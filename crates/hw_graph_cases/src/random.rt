@@ -3,10 +3,12 @@
 ghost use Rattle.std.specs.Prelude.{◌≡◌, ◌<◌, ◌≤◌, length, IfSome};
 ghost use Rattle.hw_dag.specs.Dag.{count_of, IsPanorama};
 
+use crate::begin::began;
 use crate::panoramas::{fork_choice, is_panorama};
 use crate::plain::Plain;
+use crate::settling::{Outcome, settle};
+use crate::units::{INSTANCE, next_number};
 use hw_admit::State;
-use hw_case_state::{INSTANCE, Outcome, began, next_number, settle};
 use hw_dag::{Dag, Panorama, UnitNo, View};
 use hw_types::{
     Bytes, Config, Digest, DigestList, IndexList, Leaders, Obs, ObsList, Signature, SignedUnit,

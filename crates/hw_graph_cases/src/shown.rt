@@ -1,8 +1,8 @@
 //! What the state shows.
 
 use crate::panoramas::fork_text;
+use crate::views::views_text;
 use hw_admit::State;
-use hw_case_state::views_text;
 use std::alloc::Global;
 
 /// What the state observes, its fork choice, who is faulty and how much they weigh.

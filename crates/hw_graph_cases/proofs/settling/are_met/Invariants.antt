@@ -2,7 +2,7 @@ use Rattle.std.proofs.Common.{◌≡◌, ℕ, ◌<◌, true}
 use Rattle.hw_types.specs.Graph.{slot, is_faulty_mark}
 use Rattle.hw_dag.specs.Dag.{graph}
 use Rattle.hw_admit.specs.State.{is_faulty_in}
-use Rattle.hw_case_state.proofs.settling.are_met.Given as goal
+use Rattle.hw_graph_cases.proofs.settling.are_met.Given as goal
 
 -- whom the first slots mark is faulty
 abbrev pub invariant-loop-validator : goal.invariant-loop-validator

@@ -1,7 +1,8 @@
 //! What a validator may make now.
 
+use crate::settling::settle;
+use crate::units::INSTANCE;
 use hw_admit::State;
-use hw_case_state::{INSTANCE, settle};
 use hw_case_words::{after, named, word_of};
 use hw_types::{Digest, Obs, Plan, Signature, SignedUnit, WireUnit};
 use hw_validator::next_unit;
@@ -20,11 +21,16 @@ pub fn make(alloc: Global, state: &mut State, words: &[&str]) -> Option<String> 
     let [name, ..] = words else {
         return None;
     };
-    let Some(plan) = plan(alloc, state, words)? else {
-        return "none".to_string(alloc).ok();
-    };
+    match plan(alloc, state, words)? {
+        Some(plan) => settled(alloc, state, named(name), plan),
+        None => "none".to_string(alloc).ok(),
+    }
+}
+
+/// The plan, and what becomes of its unit under this name.
+fn settled(alloc: Global, state: &mut State, name: Digest, plan: Plan) -> Option<String> {
     let text = plan_text(alloc, &plan)?;
-    let outcome = settle(state, named(name), signed(plan.unit))?;
+    let outcome = settle(state, name, signed(plan.unit))?;
     format!(in alloc; "{text} {outcome:?}").ok()
 }
 
@@ -63,55 +69,58 @@ fn told<'a, 'b>(words: &'a [&'b str], key: &str) -> Option<&'b str> {
 /// The plan in the words that a line tells a unit by.
 fn plan_text(alloc: Global, plan: &Plan) -> Option<String> {
     let unit = &plan.unit;
-    let cites = cites_text(alloc, unit.panorama.as_slice())?;
-    let value = value_text(alloc, unit)?;
-    let list = list_text(alloc, unit.endorsed.as_slice())?;
-    format!(in alloc;
-        "{:?} number {} by {} at {} exp {} cites{cites}{value}{list}",
+    let mut text = format!(in alloc;
+        "{:?} number {} by {} at {} exp {} cites",
         plan.kind, unit.seq, unit.creator, unit.time, unit.exponent
     )
-    .ok()
+    .ok()?;
+    put_cites(alloc, &mut text, unit.panorama.as_slice())?;
+    put_value(&mut text, unit)?;
+    put_list(alloc, &mut text, unit.endorsed.as_slice())?;
+    Some(text)
 }
 
-/// What is observed of each validator.
-fn cites_text(alloc: Global, observed: &[Obs]) -> Option<String> {
-    let mut text = String::new(alloc);
+/// Puts what is observed of each validator.
+fn put_cites(alloc: Global, text: &mut String, observed: &[Obs]) -> Option<()> {
     for observation in observed {
         let word = observation_text(alloc, *observation)?;
         text.push_str(word.as_str()).ok()?;
     }
-    Some(text)
+    Some(())
 }
 
 fn observation_text(alloc: Global, observation: Obs) -> Option<String> {
     match observation {
         Obs::Absent => " -".to_string(alloc).ok(),
         Obs::Faulty => " !".to_string(alloc).ok(),
-        Obs::Correct(name) => format!(in alloc; " {}", word_of(alloc, &name)?).ok(),
+        Obs::Correct(name) => name_text(alloc, &name),
     }
 }
 
-/// The value as the word of its bytes, where there is one.
-fn value_text(alloc: Global, unit: &WireUnit) -> Option<String> {
-    let mut text = String::new(alloc);
+fn name_text(alloc: Global, name: &Digest) -> Option<String> {
+    let word = word_of(alloc, name)?;
+    format!(in alloc; " {word}").ok()
+}
+
+/// Puts the value as the word of its bytes, where there is one.
+fn put_value(text: &mut String, unit: &WireUnit) -> Option<()> {
     if let Some(value) = &unit.value {
         text.push_str(" block ").ok()?;
         for byte in value.as_slice() {
             text.push(char::from(*byte)).ok()?;
         }
     }
-    Some(text)
+    Some(())
 }
 
-/// The names of the endorsed list, where it has some.
-fn list_text(alloc: Global, endorsed: &[Digest]) -> Option<String> {
-    let mut text = String::new(alloc);
+/// Puts the names of the endorsed list, where it has some.
+fn put_list(alloc: Global, text: &mut String, endorsed: &[Digest]) -> Option<()> {
     if !endorsed.is_empty() {
         text.push_str(" endorsed").ok()?;
     }
     for name in endorsed {
-        text.push_str(" ").ok()?;
-        text.push_str(word_of(alloc, name)?.as_str()).ok()?;
+        let word = name_text(alloc, name)?;
+        text.push_str(word.as_str()).ok()?;
     }
-    Some(text)
+    Some(())
 }
