@@ -2,8 +2,8 @@
 #![tactic(auto)]
 
 use hw_consumers::{BlockCount, ValueFile};
-use hw_io::{Consumer, HostFiles, HostSink, SetClock, SureDoor};
-use hw_program::{OUT_OF_MEMORY, Words, highway};
+use hw_io::{Consumer, HostClock, HostDoor, HostFiles, HostSink};
+use hw_program::{OUT_OF_MEMORY, Words, highway, listening_address};
 use hw_types::OutOfMemory;
 use std::env;
 use std::io::ErrorKind;
@@ -18,8 +18,8 @@ fn main(rt: HostRuntime) -> ExitCode {
     ExitCode::from(status.unwrap_or(OUT_OF_MEMORY))
 }
 
-/// Runs over the files and the output of the host. The values of decided blocks go into a file, and their count
-/// onto standard error. There is no clock and no peer yet.
+/// Runs over the files, the output, the clock and the network of the host. The values of decided blocks go into a
+/// file, and their count onto standard error. Where the words ask to serve, the door listens at their address.
 fn run_on_host(rt: HostRuntime, words: &Words) -> Result<u8, OutOfMemory> {
     let alloc = rt.alloc();
     let values = ValueFile::new(alloc, HostFiles::new(rt));
@@ -29,8 +29,11 @@ fn run_on_host(rt: HostRuntime, words: &Words) -> Result<u8, OutOfMemory> {
     consumers.push(Box::new(alloc, count)?)?;
     let mut files = HostFiles::new(rt);
     let mut out = HostSink::new(rt.stdout());
-    let mut clock = SetClock::new(Vec::new(alloc));
-    let mut door = SureDoor::new(alloc);
+    let mut clock = HostClock::new(rt);
+    let mut door = match listening_address(words) {
+        Some(address) => HostDoor::new(rt, address),
+        None => HostDoor::without_address(rt),
+    };
     Ok(highway(
         alloc,
         words,

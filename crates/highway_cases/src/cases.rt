@@ -1,5 +1,6 @@
 //! The lines.
 
+use crate::nodes::{Around, node_run};
 use crate::outside::{fail_call, files_of, number, run, run_fed, sink_of};
 use crate::short::ShortSink;
 use hw_io::{MemFiles, MemSink};
@@ -51,6 +52,15 @@ pub fn answer(rt: &(impl rt::Files + AllocGlobal), line: &str) -> Result<String,
             let mut outside = files_of(rt, number(piece), files, patches)?;
             fail_call(&mut outside, call.parse().ok(), number(left))?;
             anew(rt.alloc(), &mut outside, name, command)
+        }
+        ["node", files, failures, moments, sessions, command @ ..] => {
+            let around = Around {
+                files,
+                failures,
+                moments,
+                sessions,
+            };
+            node_run(rt, &around, command)
         }
         ["fed", files, plans, command @ ..] => fed(rt, files, plans, command),
         _ => Ok(String::new(rt.alloc())),

@@ -140,7 +140,8 @@ pub fn run_fed<S: Sink>(
     Ok((status, consumers.len()))
 }
 
-fn words_of(alloc: Global, command: &[&str]) -> Result<Words, OutOfMemory> {
+/// The words of a command line.
+pub fn words_of(alloc: Global, command: &[&str]) -> Result<Words, OutOfMemory> {
     let mut words = Words::new(alloc);
     for word in command {
         words.push(word)?;

@@ -20,3 +20,9 @@ pub mod EraLaws
 pub mod CheckRunLaws
 pub mod EndLaws
 pub mod WrittenLaws
+pub mod ServiceLaws
+pub mod ServedLaws
+pub mod NodeLaws
+pub mod FinishLaws
+pub mod CallLaws
+pub mod LogLaws

@@ -16,3 +16,6 @@ pub mod Run
 pub mod Files
 pub mod Fed
 pub mod Rewritten
+pub mod Services
+pub mod Serving
+pub mod Served

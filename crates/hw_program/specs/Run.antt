@@ -7,8 +7,16 @@ use Rattle.hw_program.specs.Texts.{read_fault_line, append_fault_line, out_of_me
 
 -- 0 all was done, 1 the words, 2 a file's bytes or a file that is to be new, 3 a conflict, 4 a read, 5 a write or an append, 7 memory, 8 a limit, 9 a clash,
 -- 10 no certificate, or none that shows anything
+abbrev pub IsWorkedStatus : ℕ → Type 0
+IsWorkedStatus status = (status ≡ 0) ⊎ (status ≡ 1) ⊎ (status ≡ 2) ⊎ (status ≡ 3) ⊎ (status ≡ 4) ⊎ (status ≡ 5) ⊎ (status ≡ 7) ⊎ (status ≡ 8) ⊎ (status ≡ 9) ⊎ (status ≡ 10)
+
+-- of a run of a node: 0 all was done, 1 the words, 2 a file's bytes, 4 a read, 5 a write or an append, 6 a link, 7 memory, 8 a limit, 9 a clash
+abbrev pub IsServiceStatus : ℕ → Type 0
+IsServiceStatus status = (status ≡ 0) ⊎ (status ≡ 1) ⊎ (status ≡ 2) ⊎ (status ≡ 4) ⊎ (status ≡ 5) ⊎ (status ≡ 6) ⊎ (status ≡ 7) ⊎ (status ≡ 8) ⊎ (status ≡ 9)
+
+-- of the one or the other
 abbrev pub IsStatus : ℕ → Type 0
-IsStatus status = (status ≡ 0) ⊎ (status ≡ 1) ⊎ (status ≡ 2) ⊎ (status ≡ 3) ⊎ (status ≡ 4) ⊎ (status ≡ 5) ⊎ (status ≡ 7) ⊎ (status ≡ 8) ⊎ (status ≡ 9) ⊎ (status ≡ 10)
+IsStatus status = IsWorkedStatus status ⊎ (status ≡ 6)
 
 -- a status with which the whole text of a command is written
 abbrev pub IsDone : ℕ → Type 0

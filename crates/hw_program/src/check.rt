@@ -216,7 +216,7 @@ fn keys_told(
 
 /// The byte at this place of the keys is wrong.
 #[tactic(auto, using(std::proofs::Common::append_assoc), unfolding(crate::specs::Texts::input_ended))]
-fn bad_keys(alloc: Global, name: &str, place: u64) -> Result<Ended, OutOfMemory>
+pub(crate) fn bad_keys(alloc: Global, name: &str, place: u64) -> Result<Ended, OutOfMemory>
     ensures { IfOk result (λ e. e ≡ input_ended name.now (codes "keys at " ++ number_text place)) }
 {
     let mut text = input(alloc, name)?;

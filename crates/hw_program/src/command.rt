@@ -297,7 +297,7 @@ fn simulation<'w>(number: &str, nodes: &str, steps: &str) -> Option<Command<'w>>
 }
 
 /// Whether each text may be a word.
-fn are_words(texts: &[String]) -> bool
+pub(crate) fn are_words(texts: &[String]) -> bool
     ensures { result ≡ list_all (λ text. is_word (string_bytes text)) texts.now }
 {
     texts.iter().all(|text| is_word(text.as_str()))

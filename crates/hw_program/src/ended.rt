@@ -23,10 +23,13 @@ pub const READ_FAULT: u8 = 4;
 /// A write of the output, or an append to a file, failed.
 pub const WRITE_FAULT: u8 = 5;
 
+/// A call of a link failed in a session of a node's run, which went on.
+pub const LINK_FAULT: u8 = 6;
+
 /// There was no memory.
 pub const OUT_OF_MEMORY: u8 = 7;
 
-/// An entry of a log met a limit.
+/// An entry of a log met a limit, or a vertex or an own unit of a node's run did.
 pub const LIMIT: u8 = 8;
 
 /// Two different units have one digest.

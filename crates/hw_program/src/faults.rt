@@ -1,6 +1,6 @@
 //! How a run ends early.
 
-ghost use Rattle.std.specs.Prelude.{◌≡◌, ℕ, ◌++◌, codes, IfOk, IfErr, OnOk};
+ghost use Rattle.std.specs.Prelude.{◌≡◌, ◌≢◌, ℕ, ◌++◌, codes, IfOk, IfErr, OnOk};
 ghost use Rattle.hex.specs.Hex.{encode_lower};
 ghost use Rattle.hw_text.specs.Text.{number_text};
 ghost use Rattle.hw_text.specs.Lines.{line_feed};
@@ -37,6 +37,7 @@ pub fn stopped(alloc: Global, name: &str, fault: StartFault) -> Result<Ended, Ru
     ensures said { IfOk result (λ ended. (ended ≡ stopped_ended name.now fault) × IsReadEnd ended.status × (IsOutside fault → ⊥)) }
     ensures cause { (before now : ℕ) → IsReplayCounted {T = Unit {0}} before now (Err fault) → IsReadCounted before now result }
     ensures read { IfErr result (λ f. f ≡ RunFaults.Read → fault ≡ StartFaults.Log LogErrors.ReadFault) }
+    ensures append { IfErr result (λ f. f ≢ RunFaults.Append) }
 {
     match fault {
         StartFault::Log(error) => unread(alloc, name, error),
@@ -53,6 +54,7 @@ fn unread(alloc: Global, name: &str, error: LogError) -> Result<Ended, RunFault>
     ensures said { IfOk result (λ ended. (ended ≡ stopped_ended name.now (StartFaults.Log error)) × IsReadEnd ended.status × (IsOutside (StartFaults.Log error) → ⊥)) }
     ensures cause { (before now : ℕ) → IsReplayCounted {T = Unit {0}} before now (Err (StartFaults.Log error)) → IsReadCounted before now result }
     ensures read { IfErr result (λ f. f ≡ RunFaults.Read → error ≡ LogErrors.ReadFault) }
+    ensures append { IfErr result (λ f. f ≢ RunFaults.Append) }
 {
     match error {
         LogError::ReadFault => Err(RunFault::Read),
@@ -115,7 +117,7 @@ fn limit(alloc: Global, words: &str, at: u64) -> Result<Ended, OutOfMemory>
 
 /// Two different units have one digest; the known one is written first.
 #[tactic(auto, using(std::proofs::Common::append_assoc), unfolding(crate::specs::Texts::clash_ended, hw_text::specs::Lines::line_of))]
-fn clash(alloc: Global, known: &Bytes, other: &Bytes) -> Result<Ended, OutOfMemory>
+pub(crate) fn clash(alloc: Global, known: &Bytes, other: &Bytes) -> Result<Ended, OutOfMemory>
     ensures { IfOk result (λ ended. ended ≡ clash_ended known.now other.now) }
 {
     let mut text = Bytes::new(alloc);

@@ -4,6 +4,10 @@
 //! `specs/Files.antt` what it leaves of the files. Each command is one case in both, one variant of `Command`, and
 //! one module here, or one with its like. `specs/Fed.antt` says what a command that calls consumers tells them, and
 //! which of them its text names.
+//!
+//! A run of a node isn't worked out from words and bytes alone: what is written in it hangs on sessions and moments.
+//! `specs/Services.antt` has its part of the grammar, and `specs/Served.antt` says what it comes to, by what a run of
+//! hw_service comes to, and how it ends.
 #![tactic(auto)]
 
 mod audit;
@@ -12,6 +16,7 @@ mod check;
 mod command;
 mod digits;
 mod ended;
+mod ends;
 mod eras;
 mod explain;
 mod faults;
@@ -19,12 +24,17 @@ mod laws;
 mod replay;
 mod rewrite;
 mod run;
+mod run_turns;
 mod script;
+mod serve;
+mod services;
 mod texts;
 mod words;
+mod work;
 mod workloads;
 
 pub use ended::OUT_OF_MEMORY;
 pub use laws::{a_conflict_is_told, a_migrated_log_reads_the_same, certificates_are_answered};
 pub use run::highway;
+pub use services::listening_address;
 pub use words::Words;

@@ -1,54 +1,47 @@
 //! The top call.
 
-ghost use Rattle.std.specs.Prelude.{◌≡◌, ◌≢◌, ℕ, ◌≤◌, None, Some, IsTrue, IfOk, IfErr, ◌⊎◌};
+ghost use Rattle.std.specs.Prelude.{◌≡◌, ◌≢◌, None, Some, IsSome, IfSome, IsTrue, ◌⊎◌};
 ghost use Rattle.hw_io.specs.Faults.{Rose};
 ghost use Rattle.hw_io.specs.Files.{SameFiles};
-ghost use Rattle.hw_io.specs.Sinks.{AppendsPrefix};
 ghost use Rattle.hw_fanout.specs.Fates.{seen};
+ghost use Rattle.hw_service.specs.Scene.{door_seen};
+ghost use Rattle.hw_service.specs.Begun.{IsAbout};
 ghost use Rattle.hw_program.specs.Commands.{request_of, OnlyReads, UsesFilesAlone};
-ghost use Rattle.hw_program.specs.Texts.{usage_line, read_fault_line, append_fault_line, out_of_memory_line};
-ghost use Rattle.hw_program.specs.Faults.{HasReadFault, HasRunFault, FailsOf, IsEndOf};
-ghost use Rattle.hw_program.specs.Files.{FilesAfter, IsAllowed, status_of};
+ghost use Rattle.hw_program.specs.Services.{service_of, names_in, IsWorkedOut, IsNoCommand, UsesNoClock};
+ghost use Rattle.hw_program.specs.Serving.{service};
+ghost use Rattle.hw_program.specs.Served.{around, counts, output, RunsNode, CanRun, IsRunEnd, AsksNoValidator, OnlyLogChanges};
+ghost use Rattle.hw_program.specs.Texts.{usage_line, read_fault_line, append_fault_line};
+ghost use Rattle.hw_program.specs.Faults.{FailsOf};
+ghost use Rattle.hw_program.specs.Files.{FilesAfter, IsAllowed};
 ghost use Rattle.hw_program.specs.Program.{run_of};
 ghost use Rattle.hw_program.specs.Conflict.{ReportsConflict, ReportsEraConflict};
 ghost use Rattle.hw_program.specs.Fed.{CallsNone, ConsumersAfter, IsTextOf};
 ghost use Rattle.hw_program.specs.Shown.{IsShown, IfChecks, ShowsCertificate, ContradictsCertificate};
-ghost use Rattle.hw_program.specs.Run.{IsStatus, IsDone, IsSaid, IsRefusal, WritesLine, WritesText, WritesPrefix, WritesMemoryLine, EndsWithoutMemory, EndsAppending, Finishes};
-ghost use Rattle.hw_program.specs.declared.ended.RunFault.TheVariants as RunFaults;
+ghost use Rattle.hw_program.specs.Run.{IsStatus, IsWorkedStatus, IsServiceStatus, IsDone, IsSaid, IsRefusal, WritesLine, WritesText, WritesPrefix, EndsWithoutMemory, EndsAppending};
 
-use crate::audit::audit_logs;
-use crate::certify::certified;
-use crate::check::checked;
-use crate::command::{Command, command_of};
-use crate::ended::{CONFLICT, DONE, Ended, OUT_OF_MEMORY, READ_FAULT, RunFault, WRITE_FAULT};
-use crate::eras::{audit_eras, eras};
-use crate::explain::explain;
-use crate::faults::usage;
-use crate::replay::replay;
-use crate::rewrite::{mended, migrated};
-use crate::script::script;
+use crate::run_turns::run_turns;
+use crate::serve::serve_sessions;
+use crate::services::{NodeCommand, service_of};
 use crate::words::Words;
-use crate::workloads::{generated, simulated};
-use hw_io::{Clock, Consumer, Door, Files, IoFault, Sink, write_all};
+use crate::work::work;
+use hw_io::{Clock, Consumer, Door, Files, Sink};
 use std::alloc::Global;
-
-const READ_FAULT_LINE: &str = "read fault\n";
-
-const APPEND_FAULT_LINE: &str = "append fault\n";
-
-const OUT_OF_MEMORY_LINE: &str = "out of memory\n";
 
 /// Runs the command that the words ask for, and answers the exit status.
 ///
-/// Its text is made whole before the first byte of it is written. In `replay` the consumers are given
-/// the decided blocks after each entry, and are told that no block follows before the report is made;
-/// one that answers an error is dropped, leaves the list, and is named behind the report. The status is
-/// 0 where all was done, 1 where the words aren't in the grammar, 2 where a file's bytes aren't or a file
-/// that is to be new is there, 3 where two logs, a log and a certificate, or the eras of two nodes report
-/// conflicting final blocks, 4 where a read of the files failed, 5 where a write of the output or an append to a file
-/// failed, 7 where there was no memory, 8 where a log meets a limit, 9 where two different units have one
-/// digest, and 10 where no certificate could be made or one shows nothing. A fault has one line, which is
-/// written if the output takes it.
+/// Most commands make their text whole before the first byte of it is written. In `replay` the consumers are given
+/// the decided blocks after each entry, and are told that no block follows before the report is made; one that
+/// answers an error is dropped, leaves the list, and is named behind the report. `serve` and `run` let a node run,
+/// and tell what happens as it happens: each own unit, and each session that ended otherwise than as Done; then they
+/// report.
+///
+/// The status is 0 where all was done, 1 where the words aren't in the grammar or name a validator that the settings
+/// don't have, 2 where a file's bytes aren't in the grammar, two configurations differ or a file that is to be new is
+/// there, 3 where two logs, a log and a certificate, or the eras of two nodes report conflicting final blocks, 4 where a read of the files
+/// failed, 5 where a write of the output or an append to a file failed, 6 where a call of a link failed in a session
+/// of a run that went on, 7 where there was no memory, 8 where a limit was met, 9 where two different units have one
+/// digest, and 10 where no certificate could be made or one shows nothing. A fault has one line, which is written
+/// behind what was written before, if the output takes it.
 pub fn highway<F: Files, S: Sink, C: Clock, D: Door>(
     alloc: Global,
     words: &Words,
@@ -59,133 +52,112 @@ pub fn highway<F: Files, S: Sink, C: Clock, D: Door>(
     consumers: &mut Vec<Box<dyn Consumer>>,
 ) -> u8
     ensures status { IsStatus result }
+    ensures worked { IsWorkedOut words.now → IsWorkedStatus result }
+    ensures service { IfSome (service_of words.now) (λ _. IsServiceStatus result) }
 
-    // Each status but 4, 5 and 7 is the answer that the words and the bytes of the files have.
-    ensures said { IsTrue F.tells → IsSaid result → (run_of words.now (F.held files.old)).status ≡ result }
-    ensures usage { result ≡ 1 → request_of words.now ≡ None }
-    ensures grammar { request_of words.now ≡ None → (result ≡ 1) ⊎ (result ≡ 7) }
+    // Each status but 4, 5 and 7 of a command whose text is worked out is the answer that the words and the bytes of the files have.
+    ensures said { IsWorkedOut words.now → IsTrue F.tells → IsSaid result → (run_of words.now (F.held files.old)).status ≡ result }
+    ensures usage { result ≡ 1 → IsNoCommand words.now ⊎ AsksNoValidator F.tells (service_of words.now) (F.held files.old) }
+    ensures grammar { IsNoCommand words.now → (result ≡ 1) ⊎ (result ≡ 7) }
+    ensures validator { IsTrue F.tells → AsksNoValidator F.tells (service_of words.now) (F.held files.old) → (result ≡ 1) ⊎ (result ≡ 4) ⊎ (result ≡ 7) }
 
     // 4 and 5 come only where a count of faults rose in this run, 4 only where a call about a file that was asked for
     // failed, and 5 only in place of a text that was whole.
     ensures read_fault { result ≡ 4 → Rose (F.read_faults files.old) (F.read_faults files.new) }
-    ensures read_about { IsTrue F.tells → result ≡ 4 → FailsOf (request_of words.now) (F.faults_about files.old) (F.faults_about files.new) }
+    ensures read_about { IsWorkedOut words.now → IsTrue F.tells → result ≡ 4 → FailsOf (request_of words.now) (F.faults_about files.old) (F.faults_about files.new) }
     ensures write_fault { result ≡ 5 → Rose (S.faults out.old) (S.faults out.new) ⊎ Rose (F.append_faults files.old) (F.append_faults files.new) }
-    ensures unwritten { IsTrue F.tells → result ≡ 5 → IsDone (run_of words.now (F.held files.old)).status ⊎ Rose (F.append_faults files.old) (F.append_faults files.new) }
+    ensures unwritten { IsWorkedOut words.now → IsTrue F.tells → result ≡ 5 → IsDone (run_of words.now (F.held files.old)).status ⊎ Rose (F.append_faults files.old) (F.append_faults files.new) }
 
     // A read or an append that failed is told: with each other status its count is what it was, unless the output found no memory.
-    ensures reads { result ≢ 4 → (F.read_faults files.new ≡ F.read_faults files.old) ⊎ ((result ≡ 7) × Rose (S.wants out.old) (S.wants out.new)) }
-    ensures appended { result ≢ 5 → (F.append_faults files.new ≡ F.append_faults files.old) ⊎ ((result ≡ 7) × Rose (S.wants out.old) (S.wants out.new)) }
+    ensures reads { IsWorkedOut words.now → result ≢ 4 → (F.read_faults files.new ≡ F.read_faults files.old) ⊎ ((result ≡ 7) × Rose (S.wants out.old) (S.wants out.new)) }
+    ensures appended { IsWorkedOut words.now → result ≢ 5 → (F.append_faults files.new ≡ F.append_faults files.old) ⊎ ((result ≡ 7) × Rose (S.wants out.old) (S.wants out.new)) }
 
     // Where no count rose, the answer is the one that the words and the bytes have, or want of memory. Where it is allowed to write a log anew, that is done.
-    ensures complete { IsTrue F.tells → (Rose (F.read_faults files.old) (F.read_faults files.new) → ⊥) → (Rose (S.faults out.old) (S.faults out.new) → ⊥) → OnlyReads (request_of words.now) ⊎ (Rose (F.append_faults files.old) (F.append_faults files.new) → ⊥) → (result ≡ (run_of words.now (F.held files.old)).status) ⊎ (result ≡ 7) }
+    ensures complete { IsWorkedOut words.now → IsTrue F.tells → (Rose (F.read_faults files.old) (F.read_faults files.new) → ⊥) → (Rose (S.faults out.old) (S.faults out.new) → ⊥) → OnlyReads (request_of words.now) ⊎ (Rose (F.append_faults files.old) (F.append_faults files.new) → ⊥) → (result ≡ (run_of words.now (F.held files.old)).status) ⊎ (result ≡ 7) }
     ensures allowed { IsTrue F.tells → IsAllowed (request_of words.now) (F.held files.old) → (Rose (F.read_faults files.old) (F.read_faults files.new) → ⊥) → (Rose (S.faults out.old) (S.faults out.new) → ⊥) → (Rose (F.append_faults files.old) (F.append_faults files.new) → ⊥) → (result ≡ 0) ⊎ (result ≡ 7) }
 
-    // Where two logs, a log and a certificate, or the eras of two nodes report conflicting final blocks, the audit names culprits, each by two signed units, and they weigh more than the threshold.
+    // Where two logs, or a log and a certificate, report conflicting final blocks, the audit names culprits, each by two signed units, and they weigh more than the threshold.
     ensures conflict { IsTrue F.tells → result ≡ 3 → ReportsConflict words.now (F.held files.old) (run_of words.now (F.held files.old)).text ⊎ ContradictsCertificate words.now (F.held files.old) (run_of words.now (F.held files.old)).text ⊎ ReportsEraConflict words.now (F.held files.old) (run_of words.now (F.held files.old)).text }
 
     // Where a check has one of these statuses, the certificate's vertices alone make its block stand, and by the keys each is signed.
     ensures certified { IsTrue F.tells → IsShown result → IfChecks (ShowsCertificate (F.held files.old)) (request_of words.now) }
 
-    // What is written with each status. Behind a report the text names the consumers that were dropped.
-    ensures text { IsTrue F.tells → IsDone result → WritesText (IsTextOf (seen (λ b. consumed b) (λ b. (⟦<dyn Consumer as Consumer>⟧ b.vtable).faults b.value) (λ b. b.vtable)) F.tells words.now (F.held files.old) consumers.old.items consumers.new.items) (S.taken out.old) (S.taken out.new) }
-    ensures line { IsTrue F.tells → IsRefusal result → WritesLine (S.taken out.old) (S.taken out.new) (run_of words.now (F.held files.old)).text (S.faults out.old) (S.faults out.new) }
+    // What is written with each status by a command whose text is worked out. Behind a report the text names the consumers that were dropped.
+    ensures text { IsWorkedOut words.now → IsTrue F.tells → IsDone result → WritesText (IsTextOf (seen (λ b. consumed b) (λ b. (⟦<dyn Consumer as Consumer>⟧ b.vtable).faults b.value) (λ b. b.vtable)) F.tells words.now (F.held files.old) consumers.old.items consumers.new.items) (S.taken out.old) (S.taken out.new) }
+    ensures line { IsWorkedOut words.now → IsTrue F.tells → IsRefusal result → WritesLine (S.taken out.old) (S.taken out.new) (run_of words.now (F.held files.old)).text (S.faults out.old) (S.faults out.new) }
     ensures usage_line { result ≡ 1 → WritesLine (S.taken out.old) (S.taken out.new) usage_line (S.faults out.old) (S.faults out.new) }
     ensures read_line { result ≡ 4 → WritesLine (S.taken out.old) (S.taken out.new) read_fault_line (S.faults out.old) (S.faults out.new) }
-    ensures cut { IsTrue F.tells → OnlyReads (request_of words.now) → result ≡ 5 → WritesPrefix (IsTextOf (seen (λ b. consumed b) (λ b. (⟦<dyn Consumer as Consumer>⟧ b.vtable).faults b.value) (λ b. b.vtable)) F.tells words.now (F.held files.old) consumers.old.items consumers.new.items) (S.taken out.old) (S.taken out.new) }
-    ensures append_line { IsTrue F.tells → result ≡ 5 → (Rose (S.faults out.old) (S.faults out.new) × WritesPrefix (IsTextOf (seen (λ b. consumed b) (λ b. (⟦<dyn Consumer as Consumer>⟧ b.vtable).faults b.value) (λ b. b.vtable)) F.tells words.now (F.held files.old) consumers.old.items consumers.new.items) (S.taken out.old) (S.taken out.new)) ⊎ (Rose (F.append_faults files.old) (F.append_faults files.new) × WritesLine (S.taken out.old) (S.taken out.new) append_fault_line (S.faults out.old) (S.faults out.new)) }
-    ensures memory_line { IsTrue F.tells → OnlyReads (request_of words.now) → result ≡ 7 → EndsWithoutMemory (record { taken = S.taken out.old; faults = S.faults out.old; wants = S.wants out.old }) (record { taken = S.taken out.new; faults = S.faults out.new; wants = S.wants out.new }) (IsTextOf (seen (λ b. consumed b) (λ b. (⟦<dyn Consumer as Consumer>⟧ b.vtable).faults b.value) (λ b. b.vtable)) F.tells words.now (F.held files.old) consumers.old.items consumers.new.items) }
-    ensures any_memory_line { IsTrue F.tells → result ≡ 7 → EndsAppending (record { taken = S.taken out.old; faults = S.faults out.old; wants = S.wants out.old }) (record { taken = S.taken out.new; faults = S.faults out.new; wants = S.wants out.new }) (IsTextOf (seen (λ b. consumed b) (λ b. (⟦<dyn Consumer as Consumer>⟧ b.vtable).faults b.value) (λ b. b.vtable)) F.tells words.now (F.held files.old) consumers.old.items consumers.new.items) (F.append_faults files.old) (F.append_faults files.new) }
+    ensures cut { IsWorkedOut words.now → IsTrue F.tells → OnlyReads (request_of words.now) → result ≡ 5 → WritesPrefix (IsTextOf (seen (λ b. consumed b) (λ b. (⟦<dyn Consumer as Consumer>⟧ b.vtable).faults b.value) (λ b. b.vtable)) F.tells words.now (F.held files.old) consumers.old.items consumers.new.items) (S.taken out.old) (S.taken out.new) }
+    ensures append_line { IsWorkedOut words.now → IsTrue F.tells → result ≡ 5 → (Rose (S.faults out.old) (S.faults out.new) × WritesPrefix (IsTextOf (seen (λ b. consumed b) (λ b. (⟦<dyn Consumer as Consumer>⟧ b.vtable).faults b.value) (λ b. b.vtable)) F.tells words.now (F.held files.old) consumers.old.items consumers.new.items) (S.taken out.old) (S.taken out.new)) ⊎ (Rose (F.append_faults files.old) (F.append_faults files.new) × WritesLine (S.taken out.old) (S.taken out.new) append_fault_line (S.faults out.old) (S.faults out.new)) }
+    ensures memory_line { IsWorkedOut words.now → IsTrue F.tells → OnlyReads (request_of words.now) → result ≡ 7 → EndsWithoutMemory (record { taken = S.taken out.old; faults = S.faults out.old; wants = S.wants out.old }) (record { taken = S.taken out.new; faults = S.faults out.new; wants = S.wants out.new }) (IsTextOf (seen (λ b. consumed b) (λ b. (⟦<dyn Consumer as Consumer>⟧ b.vtable).faults b.value) (λ b. b.vtable)) F.tells words.now (F.held files.old) consumers.old.items consumers.new.items) }
+    ensures any_memory_line { IsWorkedOut words.now → IsTrue F.tells → result ≡ 7 → EndsAppending (record { taken = S.taken out.old; faults = S.faults out.old; wants = S.wants out.old }) (record { taken = S.taken out.new; faults = S.faults out.new; wants = S.wants out.new }) (IsTextOf (seen (λ b. consumed b) (λ b. (⟦<dyn Consumer as Consumer>⟧ b.vtable).faults b.value) (λ b. b.vtable)) F.tells words.now (F.held files.old) consumers.old.items consumers.new.items) (F.append_faults files.old) (F.append_faults files.new) }
 
-    // What a run leaves of the files.
-    ensures left { IsTrue F.tells → FilesAfter (request_of words.now) result (F.held files.old) (F.held files.new) }
+    // What such a command leaves of the files.
+    ensures left { IsWorkedOut words.now → IsTrue F.tells → FilesAfter (request_of words.now) result (F.held files.old) (F.held files.new) }
 
-    // What the consumers were told.
-    ensures consumers { ConsumersAfter (seen (λ b. consumed b) (λ b. (⟦<dyn Consumer as Consumer>⟧ b.vtable).faults b.value) (λ b. b.vtable)) F.tells (request_of words.now) (F.held files.old) result consumers.old.items consumers.new.items }
+    // What it told the consumers.
+    ensures consumers { IsWorkedOut words.now → ConsumersAfter (seen (λ b. consumed b) (λ b. (⟦<dyn Consumer as Consumer>⟧ b.vtable).faults b.value) (λ b. b.vtable)) F.tells (request_of words.now) (F.held files.old) result consumers.old.items consumers.new.items }
 
-    // What a command doesn't use stays as it was.
-    ensures files { OnlyReads (request_of words.now) → SameFiles (F.held files.old) (F.held files.new) }
-    ensures appends { OnlyReads (request_of words.now) → F.append_faults files.new ≡ F.append_faults files.old }
-    ensures clock { UsesFilesAlone (request_of words.now) → clock.new ≡ clock.old }
-    ensures door { UsesFilesAlone (request_of words.now) → door.new ≡ door.old }
-    ensures uncalled { CallsNone (request_of words.now) → consumers.new ≡ consumers.old }
+    // What it doesn't use stays as it was.
+    ensures files { IsWorkedOut words.now → OnlyReads (request_of words.now) → SameFiles (F.held files.old) (F.held files.new) }
+    ensures appends { IsWorkedOut words.now → OnlyReads (request_of words.now) → F.append_faults files.new ≡ F.append_faults files.old }
+    ensures uncalled { IsWorkedOut words.now → CallsNone (request_of words.now) → consumers.new ≡ consumers.old }
+    ensures clock { UsesNoClock (service_of words.now) → UsesFilesAlone (request_of words.now) → clock.new ≡ clock.old }
+    ensures door { IsWorkedOut words.now → UsesFilesAlone (request_of words.now) → door.new ≡ door.old }
+
+    // A run of a node: what came of it, the counts that rose, its status, and the line behind what was written before.
+    ensures node { IfSome (service_of words.now) (λ s. RunsNode (seen (λ b. consumed b) (λ b. (⟦<dyn Consumer as Consumer>⟧ b.vtable).faults b.value) (λ b. b.vtable)) F.tells s result
+        (around (F.held files.old) (door_seen (D.sessions door.old) (D.accepts door.old) (D.dials door.old) (D.ends door.old)) (C.given clock.old) (output (S.taken out.old) (S.faults out.old) (S.wants out.old)) (counts (F.read_faults files.old) (F.append_faults files.old) (F.faults_about files.old) (D.faults door.old)) consumers.old.items)
+        (around (F.held files.new) (door_seen (D.sessions door.new) (D.accepts door.new) (D.dials door.new) (D.ends door.new)) (C.given clock.new) (output (S.taken out.new) (S.faults out.new) (S.wants out.new)) (counts (F.read_faults files.new) (F.append_faults files.new) (F.faults_about files.new) (D.faults door.new)) consumers.new.items)) }
+
+    // 6 comes only where a call of the door failed in it. A read that failed was about a file that it begins from, and a count of reads or of appends that
+    // rose is told, where there is memory.
+    ensures link { result ≡ 6 → IsSome (service_of words.now) × Rose (D.faults door.old) (D.faults door.new) }
+    ensures node_about { IsTrue F.tells → result ≡ 4 → IfSome (service_of words.now) (λ s. IsAbout (names_in s) (F.faults_about files.old) (F.faults_about files.new)) }
+    ensures node_reads { IsSome (service_of words.now) → result ≢ 4 → (F.read_faults files.new ≡ F.read_faults files.old) ⊎ (result ≡ 7) }
+    ensures node_appended { IsSome (service_of words.now) → result ≢ 5 → (F.append_faults files.new ≡ F.append_faults files.old) ⊎ (result ≡ 7) }
+
+    // Where settings, keys and log are as they must be and no count of the files and the output rose, it comes to its report, or there was no memory, or a
+    // peer brought a unit that has the digest of another.
+    ensures runs { IsTrue F.tells → CanRun (service_of words.now) (F.held files.old) → (Rose (F.read_faults files.old) (F.read_faults files.new) → ⊥) → (Rose (S.faults out.old) (S.faults out.new) → ⊥) → (Rose (F.append_faults files.old) (F.append_faults files.new) → ⊥) → IsRunEnd result }
+
+    // No file but its log changes.
+    ensures log { IsTrue F.tells → OnlyLogChanges (service_of words.now) (F.held files.old) (F.held files.new) }
 {
-    match run(alloc, words, files, consumers) {
-        Ok(ended) => finish(out, ended.status, ended.text.as_slice()),
-        Err(RunFault::Read) => finish(out, READ_FAULT, READ_FAULT_LINE.as_bytes()),
-        Err(RunFault::Append) => finish(out, WRITE_FAULT, APPEND_FAULT_LINE.as_bytes()),
-        Err(RunFault::OutOfMemory) => out_of_memory(out),
+    match service_of(words) {
+        Some(command) => host(alloc, &command, files, out, clock, door, consumers),
+        None => work(alloc, words, files, out, consumers),
     }
 }
 
-/// Runs the command up to its text.
-#[tactic(auto, using(crate::proofs::AuditLaws::no_conflict, crate::proofs::AuditLaws::no_conflict_asked, crate::proofs::AuditLaws::reports), unfolding(crate::specs::Program::run_of))]
-fn run<F: Files>(
+/// Lets a node run as it is asked to, and answers the status.
+fn host<F: Files, S: Sink, C: Clock, D: Door>(
     alloc: Global,
-    words: &Words,
+    command: &NodeCommand<'_>,
     files: &mut F,
+    out: &mut S,
+    clock: &mut C,
+    door: &mut D,
     consumers: &mut Vec<Box<dyn Consumer>>,
-) -> Result<Ended, RunFault>
-    ensures said { IsTrue F.tells → IfOk result (λ ended. ended.status ≡ (run_of words.now (F.held files.old)).status) }
-    ensures text { IsTrue F.tells → IfOk result (λ ended. IsTextOf (seen (λ b. consumed b) (λ b. faults b) (λ b. b.vtable)) F.tells words.now (F.held files.old) consumers.old.items consumers.new.items ended.text) }
-    ensures conflict { IsTrue F.tells → IfOk result (λ ended. ended.status ≡ 3 → ReportsConflict words.now (F.held files.old) (run_of words.now (F.held files.old)).text ⊎ ContradictsCertificate words.now (F.held files.old) (run_of words.now (F.held files.old)).text ⊎ ReportsEraConflict words.now (F.held files.old) (run_of words.now (F.held files.old)).text) }
-    ensures status { IfOk result (λ ended. IsEndOf (request_of words.now) ended) }
-    ensures fault { HasRunFault (F.read_faults files.old) (F.read_faults files.new) (F.append_faults files.old) (F.append_faults files.new) result }
-    ensures only { OnlyReads (request_of words.now) → HasReadFault (F.read_faults files.old) (F.read_faults files.new) result }
-    ensures about { IsTrue F.tells → IfErr result (λ fault. fault ≡ RunFaults.Read → FailsOf (request_of words.now) (F.faults_about files.old) (F.faults_about files.new)) }
-    ensures usage { request_of words.now ≡ None → IfErr result (λ fault. fault ≡ RunFaults.OutOfMemory) }
-
-    ensures consumers { ConsumersAfter (seen (λ b. consumed b) (λ b. faults b) (λ b. b.vtable)) F.tells (request_of words.now) (F.held files.old) (status_of result) consumers.old.items consumers.new.items }
-    ensures uncalled { CallsNone (request_of words.now) → consumers.new ≡ consumers.old }
-
-    ensures left { IsTrue F.tells → FilesAfter (request_of words.now) (status_of result) (F.held files.old) (F.held files.new) }
-    ensures files { OnlyReads (request_of words.now) → SameFiles (F.held files.old) (F.held files.new) }
-    ensures appends { OnlyReads (request_of words.now) → F.append_faults files.new ≡ F.append_faults files.old }
+) -> u8
+    ensures node { RunsNode (seen (λ b. consumed b) (λ b. (⟦<dyn Consumer as Consumer>⟧ b.vtable).faults b.value) (λ b. b.vtable)) F.tells (service command.now) result
+        (around (F.held files.old) (door_seen (D.sessions door.old) (D.accepts door.old) (D.dials door.old) (D.ends door.old)) (C.given clock.old) (output (S.taken out.old) (S.faults out.old) (S.wants out.old)) (counts (F.read_faults files.old) (F.append_faults files.old) (F.faults_about files.old) (D.faults door.old)) consumers.old.items)
+        (around (F.held files.new) (door_seen (D.sessions door.new) (D.accepts door.new) (D.dials door.new) (D.ends door.new)) (C.given clock.new) (output (S.taken out.new) (S.faults out.new) (S.wants out.new)) (counts (F.read_faults files.new) (F.append_faults files.new) (F.faults_about files.new) (D.faults door.new)) consumers.new.items) }
+    ensures clock { UsesNoClock (Some (service command.now)) → clock.new ≡ clock.old }
 {
-    match command_of(words) {
-        Some(Command::Replay { log }) => replay(alloc, files, log, consumers),
-        Some(Command::Explain { log }) => explain(alloc, files, log),
-        Some(Command::Audit { left, right }) => audit_logs(alloc, files, left, right),
-        Some(Command::Script { file }) => script(alloc, files, file),
-        Some(Command::Mend { log, new }) => mended(alloc, files, log, new),
-        Some(Command::Migrate { log, new }) => migrated(alloc, files, log, new),
-        Some(Command::Certify { log, block, new }) => certified(alloc, files, log, &block, new),
-        Some(Command::Check { file, keys }) => checked(alloc, files, file, keys, None),
-        Some(Command::CheckLog { file, keys, log }) => checked(alloc, files, file, keys, Some(log)),
-        Some(Command::Gen { number, rounds }) => generated(alloc, number, rounds),
-        Some(
-            Command::Sim {
-                number,
-                nodes,
-                steps,
-            },
-        ) => simulated(alloc, number, nodes, steps),
-        Some(Command::Eras { logs }) => eras(alloc, files, logs),
-        Some(Command::EraAudit { left, right }) => audit_eras(alloc, files, left, right),
-        None => Ok(usage(alloc)?),
+    match command {
+        NodeCommand::Serve {
+            sources,
+            sessions,
+            ..
+        } => serve_sessions(alloc, *sources, *sessions, files, out, door, consumers),
+        NodeCommand::Run {
+            sources,
+            me,
+            turns,
+            peers,
+        } => run_turns(
+            alloc, *sources, *me, *turns, peers, files, out, clock, door, consumers,
+        ),
     }
-}
-
-/// Writes the text with which the run ends, and answers the status. A fault keeps its status where
-/// its line isn't taken.
-fn finish<S: Sink>(out: &mut S, status: u8, text: &[u8]) -> u8
-    ensures { Finishes status text.now result (record { taken = S.taken out.old; faults = S.faults out.old; wants = S.wants out.old }) (record { taken = S.taken out.new; faults = S.faults out.new; wants = S.wants out.new }) }
-{
-    match write_all(out, text) {
-        Ok(()) => status,
-        Err(IoFault::Failed) if status == DONE || status == CONFLICT => WRITE_FAULT,
-        Err(IoFault::Failed) => status,
-        Err(IoFault::OutOfMemory) => out_of_memory(out),
-    }
-}
-
-/// Ends a run for want of memory, with its line if the output takes it.
-fn out_of_memory<S: Sink>(out: &mut S) -> u8
-    ensures status { result ≡ 7 }
-    ensures line { WritesMemoryLine (record { taken = S.taken out.old; faults = S.faults out.old; wants = S.wants out.old }) (record { taken = S.taken out.new; faults = S.faults out.new; wants = S.wants out.new }) }
-    ensures prefix { AppendsPrefix (S.taken out.old) (S.taken out.new) out_of_memory_line }
-    ensures later { S.faults out.old ≤ S.faults out.new }
-    ensures wants { (before : ℕ) → Rose before (S.wants out.old) → Rose before (S.wants out.new) }
-{
-    let _ = write_all(out, OUT_OF_MEMORY_LINE.as_bytes());
-    OUT_OF_MEMORY
 }

@@ -1,10 +1,12 @@
-//! The texts of what is wrong with a log.
+//! The texts of what is wrong with a log or with settings.
 
 ghost use Rattle.std.specs.Prelude.{◌≡◌, ◌++◌, OnOk};
 ghost use Rattle.hw_program.specs.Texts.{log_text};
+ghost use Rattle.hw_program.specs.Served.{settings_text};
 
 use hw_light_texts::{put_codec, put_limit};
 use hw_log::LogError;
+use hw_settings::SettingsFault;
 use hw_text::{put_numbered, put_word};
 use hw_types::{Bytes, OutOfMemory};
 
@@ -34,5 +36,20 @@ pub fn put_error(text: &mut Bytes, error: LogError) -> Result<(), OutOfMemory>
             put_codec(text, error)
         }
         LogError::ReadFault | LogError::WriteFault | LogError::OutOfMemory => Ok(()),
+    }
+}
+
+/// Puts the text of what is wrong with settings last. Want of memory has none.
+#[tactic(auto, using(std::proofs::Common::append_assoc), unfolding(crate::specs::Served::settings_text))]
+pub fn put_settings(text: &mut Bytes, fault: SettingsFault) -> Result<(), OutOfMemory>
+    ensures { OnOk result (text.new ≡ text.old ++ settings_text fault) }
+{
+    match fault {
+        SettingsFault::Form => put_word(text, "config form"),
+        SettingsFault::Fault(fault) => {
+            put_word(text, "config ")?;
+            put_limit(text, fault)
+        }
+        SettingsFault::OutOfMemory => Ok(()),
     }
 }

@@ -10,4 +10,5 @@ returns-in_ok-bad_log-in_default c =
       said = (wrote ∙ of_bytes c.args.name.now c.args.error c.in_default.not-ReadFault c.in_default.not-OutOfMemory, inr (inl (ap (λ (e : Ended). e.status) wrote ∙ input_status c.args.name.now _)), not_outside c.args.error c.in_default.not-ReadFault c.in_default.not-OutOfMemory);
       cause = λ before now. leaves_count before now c.args.error c.in_default.not-ReadFault;
       read = tt;
+      append = tt;
     }

@@ -2,7 +2,7 @@ use Rattle.std.proofs.Common.{None, Some, sym}
 use Rattle.std.specs.Prelude.{map, string_bytes}
 use Rattle.hw_program.proofs.ShownLaws.{checked_conflict}
 use Rattle.hw_program.proofs.EraLaws.{era_conflict_told}
-use Rattle.hw_program.proofs.run.run.Goals as goal
+use Rattle.hw_program.proofs.work.run.Goals as goal
 
 pub returns-in-Some-Check-clause-conflict : goal.returns-in-Some-Check-clause-conflict
 returns-in-Some-Check-clause-conflict g c = λ tells.

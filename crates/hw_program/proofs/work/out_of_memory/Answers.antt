@@ -1,5 +1,5 @@
 use Rattle.hw_program.proofs.RunLaws.{wrote_prefix, wrote_memory_line, rose_still}
-use Rattle.hw_program.proofs.run.out_of_memory.Goals as goal
+use Rattle.hw_program.proofs.work.out_of_memory.Goals as goal
 
 pub returns-clause-line : goal.returns-clause-line
 returns-clause-line g c =

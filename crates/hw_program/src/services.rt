@@ -1,0 +1,142 @@
+//! The grammar of a command line: what a node is asked for that runs.
+
+ghost use Rattle.std.specs.Prelude.{◌≡◌, map, string_bytes};
+ghost use Rattle.std.specs.Option.{option_copied};
+ghost use Rattle.hw_script_grammar.specs.Numbers.{number_below};
+ghost use Rattle.hw_service.specs.Begin.{names_of};
+ghost use Rattle.hw_program.specs.Services.{serve_of, turns_of, service_in, service_of, address_in};
+ghost use Rattle.hw_program.specs.Serving.{asked_service};
+
+use crate::command::are_words;
+use crate::words::Words;
+use hw_script_grammar::number_up_to;
+use hw_service::Sources;
+
+/// A node serves at most this many sessions in one run.
+const MAX_SESSIONS: u64 = 65_536;
+
+/// A validator's number is at most this.
+const MAX_VALIDATOR: u64 = 1_023;
+
+/// A validator takes at most this many turns in one run.
+const MAX_TURNS: u64 = 1_000_000;
+
+/// A validator dials at most this many peers in a turn.
+const MAX_PEERS: usize = 16;
+
+/// What a node is asked for that runs, with the words that it works on.
+#[derive(Drop)]
+pub enum NodeCommand<'w> {
+    /// Serves so many sessions, one after the other, to peers that come to the address.
+    Serve {
+        sources: Sources<'w>,
+        address: &'w str,
+        sessions: u64,
+    },
+    /// Lets a validator take so many turns. In each it makes its unit, if there is one to make, and dials the peers
+    /// at these addresses.
+    Run {
+        sources: Sources<'w>,
+        me: u32,
+        turns: u64,
+        peers: &'w [String],
+    },
+}
+
+/// The run of a node that the words ask for, if they ask for one and are in its grammar.
+#[tactic(auto, unfolding(crate::specs::Services::service_of))]
+pub fn service_of(words: &Words) -> Option<NodeCommand<'_>>
+    ensures { asked_service result ≡ service_of words.now }
+{
+    let words = words.as_slice();
+    if !are_words(words) {
+        return None;
+    }
+    match words {
+        [command, config, keys, log, first, second, rest @ ..] => {
+            let sources = Sources {
+                config: config.as_str(),
+                keys: keys.as_str(),
+                log: log.as_str(),
+            };
+            service_in(
+                command.as_str(),
+                sources,
+                first.as_str(),
+                second.as_str(),
+                rest,
+            )
+        }
+        _ => None,
+    }
+}
+
+/// The run of a node that the command asks for, by the two words and the rest behind the names of its files.
+#[tactic(auto, unfolding(crate::specs::Services::service_in))]
+fn service_in<'w>(
+    command: &str,
+    sources: Sources<'w>,
+    first: &'w str,
+    second: &str,
+    rest: &'w [String],
+) -> Option<NodeCommand<'w>>
+    ensures { asked_service result ≡ service_in command.now (names_of sources.entry) first.now second.now (map string_bytes rest.now) }
+{
+    match command {
+        "serve" => sessions_of(sources, first, second, rest),
+        "run" => turns_of(sources, first, second, rest),
+        _ => None,
+    }
+}
+
+/// So many sessions at an address, and no word behind.
+fn sessions_of<'w>(
+    sources: Sources<'w>,
+    address: &'w str,
+    sessions: &str,
+    rest: &[String],
+) -> Option<NodeCommand<'w>>
+    ensures { asked_service result ≡ serve_of (names_of sources.entry) address.now (number_below 65537 sessions.now) (map string_bytes rest.now) }
+{
+    let sessions = number_up_to(MAX_SESSIONS, sessions.as_bytes())?;
+    if sessions == 0 || !rest.is_empty() {
+        return None;
+    }
+    Some(NodeCommand::Serve {
+        sources,
+        address,
+        sessions,
+    })
+}
+
+/// So many turns of the validator of a number, with the peers at these addresses.
+fn turns_of<'w>(
+    sources: Sources<'w>,
+    me: &str,
+    turns: &str,
+    peers: &'w [String],
+) -> Option<NodeCommand<'w>>
+    ensures { asked_service result ≡ turns_of (names_of sources.entry) (number_below 1024 me.now) (number_below 1000001 turns.now) (map string_bytes peers.now) }
+{
+    let me = number_up_to(MAX_VALIDATOR, me.as_bytes())?;
+    let turns = number_up_to(MAX_TURNS, turns.as_bytes())?;
+    if turns == 0 || peers.is_empty() || peers.len() > MAX_PEERS {
+        return None;
+    }
+    Some(NodeCommand::Run {
+        sources,
+        me: me as u32,
+        turns,
+        peers,
+    })
+}
+
+/// The address at which the node is to listen for peers, if it is asked to serve.
+pub fn listening_address(words: &Words) -> Option<&str>
+    ensures { option_copied result ≡ address_in (service_of words.now) }
+{
+    match service_of(words) {
+        Some(NodeCommand::Serve { address, .. }) => Some(address),
+        _ => None,
+    }
+}
