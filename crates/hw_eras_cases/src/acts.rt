@@ -3,31 +3,35 @@
 ghost use Rattle.hw_types.specs.Spelling.{VertexFits};
 
 use crate::configs::text_of;
-use crate::lines::bytes_of;
+use crate::words::{bytes_of, error_text, number};
 use hw_admit::StateStart;
 use hw_codec::{decode_config, decode_vertex, encode_vertex};
 use hw_core::Core;
 use hw_eras::{EraCause, EraOpen, EraRefused, Eras};
-use hw_types::{Cause, CodecError, Config, OutOfMemory, Receipt, Vertex};
+use hw_types::{Cause, Config, OutOfMemory, Receipt, Vertex};
 use std::alloc::Global;
 
-/// Begins with era 0 of the configuration that these bytes spell.
-pub fn begin(alloc: Global, nodes: &mut Vec<Eras>, bytes: &[u8]) -> Result<String, OutOfMemory> {
-    match decode_config(alloc, bytes) {
+/// Begins with era 0 of the configuration that these digits spell.
+pub fn begin(alloc: Global, nodes: &mut Vec<Eras>, digits: &str) -> Result<String, OutOfMemory> {
+    let bytes = bytes_of(alloc, digits)?;
+    match decode_config(alloc, bytes.as_slice()) {
         Ok(config) => begin_with(alloc, nodes, config),
-        Err(CodecError::OutOfMemory) => Err(OutOfMemory),
-        Err(error) => Ok(format!(in alloc; "{error:?}")?),
+        Err(error) => error_text(alloc, error),
     }
 }
 
 fn begin_with(alloc: Global, nodes: &mut Vec<Eras>, config: Config) -> Result<String, OutOfMemory> {
     match Eras::new(alloc, config) {
-        Ok(eras) => match nodes.push(eras) {
-            Ok(()) => Ok("begun".to_string(alloc)?),
-            Err(_unpushed) => Err(OutOfMemory),
-        },
+        Ok(eras) => begun(alloc, nodes, eras),
         Err(StateStart::Fault(fault)) => Ok(format!(in alloc; "{fault:?}")?),
         Err(StateStart::OutOfMemory) => Err(OutOfMemory),
+    }
+}
+
+fn begun(alloc: Global, nodes: &mut Vec<Eras>, eras: Eras) -> Result<String, OutOfMemory> {
+    match nodes.push(eras) {
+        Ok(()) => Ok("begun".to_string(alloc)?),
+        Err(_unpushed) => Err(OutOfMemory),
     }
 }
 
@@ -39,27 +43,17 @@ pub fn act(
     words: &[&str],
 ) -> Result<String, OutOfMemory> {
     match (kind, words) {
-        ("deliver", [era, vertex]) => deliver(alloc, eras, number_of(era), vertex, true),
-        ("forge", [era, vertex]) => deliver(alloc, eras, number_of(era), vertex, false),
+        ("deliver", [era, vertex]) => deliver(alloc, eras, number(era), vertex, true),
+        ("forge", [era, vertex]) => deliver(alloc, eras, number(era), vertex, false),
         ("open", []) => open(alloc, eras),
-        ("count", []) => {
-            let count = eras.count();
-            Ok(format!(in alloc; "count {count}")?)
-        }
-        ("core", [era]) => match eras.core(number_of(era)) {
-            Some(core) => core_text(alloc, core),
-            None => Ok("none".to_string(alloc)?),
-        },
+        ("count", []) => count_text(alloc, eras.count()),
+        ("core", [era]) => core_text(alloc, eras.core(number(era))),
         _ => Ok(String::new(alloc)),
     }
 }
 
-fn number_of(word: &str) -> u32 {
-    word.parse().unwrap_or(0)
-}
-
 /// Delivers the vertex that the digits spell.
-fn deliver(
+pub fn deliver(
     alloc: Global,
     eras: &mut Eras,
     era: u32,
@@ -68,12 +62,25 @@ fn deliver(
 ) -> Result<String, OutOfMemory> {
     let bytes = bytes_of(alloc, digits)?;
     match decode_vertex(alloc, bytes.as_slice()) {
-        Ok(vertex) => match eras.deliver(era, vertex, verdict) {
-            Ok(receipt) => receipt_text(alloc, receipt),
-            Err(refused) => refusal_text(alloc, refused, bytes.as_slice()),
-        },
-        Err(CodecError::OutOfMemory) => Err(OutOfMemory),
-        Err(error) => Ok(format!(in alloc; "{error:?}")?),
+        Ok(vertex) => delivered(alloc, eras, era, vertex, verdict, bytes.as_slice()),
+        Err(error) => error_text(alloc, error),
+    }
+}
+
+/// Delivers the vertex of these bytes.
+fn delivered(
+    alloc: Global,
+    eras: &mut Eras,
+    era: u32,
+    vertex: Vertex,
+    verdict: bool,
+    bytes: &[u8],
+) -> Result<String, OutOfMemory>
+    requires { VertexFits vertex }
+{
+    match eras.deliver(era, vertex, verdict) {
+        Ok(receipt) => receipt_text(alloc, receipt),
+        Err(refused) => refusal_text(alloc, &refused, bytes),
     }
 }
 
@@ -86,17 +93,28 @@ fn receipt_text(alloc: Global, receipt: Receipt) -> Result<String, OutOfMemory> 
     }
 }
 
-/// Why a vertex of these bytes was refused.
-fn refusal_text(alloc: Global, refused: EraRefused, bytes: &[u8]) -> Result<String, OutOfMemory>
-    requires { VertexFits refused.vertex }
+/// Why a vertex of these bytes was refused, and whether it came back.
+fn refusal_text(alloc: Global, refused: &EraRefused, bytes: &[u8]) -> Result<String, OutOfMemory>
+    requires { VertexFits refused.now.vertex }
 {
-    let returned = encode_vertex(alloc, &refused.vertex)?;
-    let end = if returned.as_slice() == bytes {
+    let end = if is_spelled(alloc, &refused.vertex, bytes)? {
         ""
     } else {
         " changed"
     };
-    match refused.cause {
+    cause_text(alloc, refused.cause, end)
+}
+
+/// Whether these bytes are the vertex's.
+fn is_spelled(alloc: Global, vertex: &Vertex, bytes: &[u8]) -> Result<bool, OutOfMemory>
+    requires { VertexFits vertex.now }
+{
+    let spelled = encode_vertex(alloc, vertex)?;
+    Ok(spelled.as_slice() == bytes)
+}
+
+fn cause_text(alloc: Global, cause: EraCause, end: &str) -> Result<String, OutOfMemory> {
+    match cause {
         EraCause::UnknownEra => Ok(format!(in alloc; "unknown era{end}")?),
         EraCause::Core(Cause::BadSignature) => Ok(format!(in alloc; "bad signature{end}")?),
         EraCause::Core(Cause::Local(rule)) => Ok(format!(in alloc; "local {rule:?}{end}")?),
@@ -115,14 +133,30 @@ fn open(alloc: Global, eras: &mut Eras) -> Result<String, OutOfMemory> {
     }
 }
 
-/// The node of an era.
-fn core_text(alloc: Global, core: &Core) -> Result<String, OutOfMemory> {
+/// How many eras there are.
+fn count_text(alloc: Global, count: u32) -> Result<String, OutOfMemory> {
+    Ok(format!(in alloc; "count {count}")?)
+}
+
+/// The node of an era, where there is one.
+fn core_text(alloc: Global, core: Option<&Core>) -> Result<String, OutOfMemory> {
+    match core {
+        Some(core) => told(alloc, core),
+        None => Ok("none".to_string(alloc)?),
+    }
+}
+
+fn told(alloc: Global, core: &Core) -> Result<String, OutOfMemory> {
     let config = text_of(alloc, core.state().config())?;
     let journal = core.journal_count();
     let settled = core.settled_count();
-    let mut text = format!(in alloc;
-        "config {config} journal {journal} settled {settled} decided"
-    )?;
+    let decided = decided_text(alloc, core)?;
+    Ok(format!(in alloc; "config {config} journal {journal} settled {settled} decided{decided}")?)
+}
+
+/// The decided blocks.
+fn decided_text(alloc: Global, core: &Core) -> Result<String, OutOfMemory> {
+    let mut text = String::new(alloc);
     for index in 0..core.decision_count() {
         text.push(' ')?;
         let block = hex::encode(alloc, core.decision(index).block.0.as_slice())?;

@@ -1,4 +1,4 @@
-//! What a node's eras answer for the lines of its input, one line for each.
+//! What a node's eras answer for the lines of its input, and what is told of the eras of two nodes and of logs.
 //!
 //! | Line | What it does, and what it answers |
 //! |---|---|
@@ -9,28 +9,47 @@
 //! | `open` | opens the next era: its number, `none` or `full` |
 //! | `count` | how many eras there are |
 //! | `core ERA` | the configuration of the era as bytes, how many vertices its journal has, how many units are settled, and the decided blocks; or `none` |
+//! | `audit NODE against NODE` | what an audit of the eras of these two nodes prints; they stand in the place of those that began |
+//! | `logs eras LOG ..` | the report on the eras of these logs |
+//! | `logs audit COUNT LOG ..` | the audit of two nodes' eras, of which the first COUNT logs are the left node's |
 //!
 //! `changed` behind a refusal says that another vertex came back than was delivered.
+//!
+//! A NODE is a list of words: the bytes of its first configuration, and then in turn a vertex as bytes for the era that is
+//! meant, `to ERA`, which says which one is, or `open`, which opens the next era and means it. Era 0 is meant first.
+//!
+//! A LOG is the bytes of a log as hexadecimal digits, or `-` where there is no file. Its name is its place, from 0 on.
+//! The answer is the exit status of a program and its text, with `bad log` for a log that can't be read on.
 #![tactic(auto)]
 
 mod acts;
+mod audits;
 mod configs;
 mod lines;
+mod nodes;
+mod runs;
+mod words;
 
+use hw_eras::Eras;
 use std::io;
 
 fn main(rt: HostRuntime) -> io::Result<()> {
     let mut nodes = Vec::new(rt.alloc());
-    answered(rt, &mut nodes)
+    answer_all(rt, &mut nodes)
 }
 
 /// Answers each line, of the eras that began last.
-fn answered(rt: HostRuntime, nodes: &mut Vec<hw_eras::Eras>) -> io::Result<()> {
+fn answer_all(rt: HostRuntime, nodes: &mut Vec<Eras>) -> io::Result<()> {
     for line in rt.lines(rt.alloc()) {
-        let Ok(text) = lines::answer(rt.alloc(), nodes, line?.as_str()) else {
-            return Err(io::ErrorKind::OutOfMemory.into());
-        };
-        println!(rt; "{text}")?;
+        answer(rt, nodes, line?.as_str())?;
     }
     Ok(())
+}
+
+/// Answers a line, of the eras that began last.
+fn answer(rt: HostRuntime, nodes: &mut Vec<Eras>, line: &str) -> io::Result<()> {
+    match lines::answer(rt.alloc(), nodes, line) {
+        Ok(text) => println!(rt; "{text}"),
+        Err(_) => Err(io::ErrorKind::OutOfMemory.into()),
+    }
 }

@@ -7,8 +7,58 @@ use hw_replay::StartFault;
 use hw_types::OutOfMemory;
 use std::alloc::Global;
 
+/// The answer of this kind over these logs.
+pub fn logs_text(alloc: Global, kind: &str, words: &[&str]) -> Result<String, OutOfMemory> {
+    match (kind, words) {
+        ("eras", logs) => eras(alloc, logs),
+        ("audit", [count, logs @ ..]) => audit(alloc, logs, count.parse().unwrap_or(0)),
+        _ => Ok(String::new(alloc)),
+    }
+}
+
 /// The report on the eras of these logs.
-pub fn eras(alloc: Global, files: &mut MemFiles, logs: &[String]) -> Result<String, OutOfMemory> {
+fn eras(alloc: Global, logs: &[&str]) -> Result<String, OutOfMemory> {
+    let mut files = MemFiles::new(alloc);
+    let names = put_logs(alloc, &mut files, logs)?;
+    eras_of(alloc, &mut files, names.as_slice())
+}
+
+/// The audit of the eras of these logs, of which so many are the left node's.
+fn audit(alloc: Global, logs: &[&str], count: usize) -> Result<String, OutOfMemory> {
+    let mut files = MemFiles::new(alloc);
+    let names = put_logs(alloc, &mut files, logs)?;
+    audit_of(alloc, &mut files, names.as_slice(), count)
+}
+
+/// Puts these logs into files, and answers their names.
+fn put_logs(
+    alloc: Global,
+    files: &mut MemFiles,
+    logs: &[&str],
+) -> Result<Vec<String>, OutOfMemory> {
+    let mut names = Vec::new(alloc);
+    for (place, digits) in logs.iter().enumerate() {
+        let name = format!(in alloc; "{place}")?;
+        put_log(alloc, files, name.as_str(), digits)?;
+        names.push(name)?;
+    }
+    Ok(names)
+}
+
+/// Puts the log that the digits spell into a file of this name, if they spell one.
+fn put_log(
+    alloc: Global,
+    files: &mut MemFiles,
+    name: &str,
+    digits: &str,
+) -> Result<(), OutOfMemory> {
+    match hex::decode(alloc, digits) {
+        Ok(bytes) => Ok(files.put(name, bytes.as_slice())?),
+        Err(_) => Ok(()),
+    }
+}
+
+fn eras_of(alloc: Global, files: &mut MemFiles, logs: &[String]) -> Result<String, OutOfMemory> {
     if logs.is_empty() || logs.len() > 64 {
         return Ok("usage".to_string(alloc)?);
     }
@@ -18,8 +68,7 @@ pub fn eras(alloc: Global, files: &mut MemFiles, logs: &[String]) -> Result<Stri
     }
 }
 
-/// The audit of the eras of these logs, of which so many are the left node's.
-pub fn audit(
+fn audit_of(
     alloc: Global,
     files: &mut MemFiles,
     logs: &[String],
