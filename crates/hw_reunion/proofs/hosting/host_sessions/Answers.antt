@@ -1,0 +1,38 @@
+use Rattle.std.proofs.Common.{refl, ◌∙◌, arith}
+use Rattle.hw_service.proofs.StepLaws.{none_taken, one_taken, last_taken}
+use Rattle.hw_service.proofs.CountLaws.{door_then, raised_none, raised_more}
+use Rattle.hw_reunion.proofs.hosting.host_sessions.Goals as goal
+
+pub loop-index-init : goal.loop-index-init
+loop-index-init g c = record {
+  taken = none_taken _ _ _;
+  whole = λ so. so;
+  places = c.requires.room;
+  passed = c.requires.passed;
+  accepts = raised_none _;
+  dials = refl;
+  appends = refl;
+  writes = refl;
+  link = refl;
+  reads = refl;
+}
+
+pub loop-index-preserved : goal.loop-index-preserved
+loop-index-preserved g c =
+    let i = c.loop-index.invariant in
+    let e = c.in-Ok.ensures in
+    record {
+      taken = one_taken _ _ _ _ _ _ _ _ _ i.taken (omega arith) e.hosts;
+      whole = λ so. e.whole (i.whole so);
+      places = e.room;
+      passed = e.passed;
+      accepts = raised_more _ _ _ _ i.accepts e.accepts;
+      dials = e.dials ∙ i.dials;
+      appends = e.appends ∙ i.appends;
+      writes = e.writes ∙ i.writes;
+      link = door_then _ _ _ _ _ i.link e.link;
+      reads = e.reads ∙ i.reads;
+    }
+
+pub returns-in-Err-clause-takes : goal.returns-in-Err-clause-takes
+returns-in-Err-clause-takes g c = last_taken _ _ _ _ _ _ _ _ _ c.in-Err.fault c.loop-index.invariant.taken (omega arith) (omega arith) c.in-Err.ensures.hosts
