@@ -1,9 +1,7 @@
 //! A run of a node, over files, a door and a clock in memory.
 
-ghost use Rattle.std.specs.Prelude.{◌<◌, ◌^◌, All, IfOk};
-
 use crate::outside::{files_of, number, words_of};
-use hw_io::{MemDoor, MemFiles, MemSink, SetClock};
+use hw_io::{Clock, MemDoor, MemFiles, MemSink};
 use hw_program::highway;
 use hw_types::OutOfMemory;
 use std::alloc::{AllocError, Global};
@@ -16,6 +14,29 @@ pub struct Around<'c> {
     pub failures: &'c str,
     pub moments: &'c str,
     pub sessions: &'c str,
+}
+
+/// A clock that gives these moments in turn, and then the last one again.
+#[derive(Drop)]
+struct Moments {
+    moments: Vec<u64>,
+    next: usize,
+}
+
+impl Clock for Moments {
+    ghost use Rattle.std.specs.Prelude.{None};
+
+    ghost given = { λ _. None };
+
+    fn now(&mut self) -> u64 {
+        let last = self.moments.len().saturating_sub(1);
+        let moment = match self.moments.get(self.next.min(last)) {
+            Some(moment) => *moment,
+            None => 0,
+        };
+        self.next = self.next.saturating_add(1);
+        moment % (1 << 63)
+    }
 }
 
 /// The status, what was written, the log then, and what the node wrote in each session.
@@ -32,7 +53,8 @@ pub fn node_run(
         return Err(OutOfMemory);
     }
     let words = words_of(alloc, command)?;
-    let mut clock = SetClock::new(moments_of(alloc, around.moments)?);
+    let moments = moments_of(alloc, around.moments)?;
+    let mut clock = Moments { moments, next: 0 };
     let mut consumers = Vec::new(alloc);
     let status = highway(
         alloc,
@@ -83,12 +105,10 @@ fn bytes_of(alloc: Global, text: &str) -> Result<Vec<u8>, AllocError> {
 }
 
 /// The moments of the clock.
-fn moments_of(alloc: Global, words: &str) -> Result<Vec<u64>, OutOfMemory>
-    ensures { IfOk result (λ moments. All (λ m. m < 2 ^ 63) moments.items) }
-{
+fn moments_of(alloc: Global, words: &str) -> Result<Vec<u64>, OutOfMemory> {
     let mut moments = Vec::new(alloc);
     for word in words.split(',') {
-        moments.push(number(word) as u64 % (1 << 63))?;
+        moments.push(number(word) as u64)?;
     }
     Ok(moments)
 }
