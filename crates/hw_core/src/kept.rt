@@ -41,7 +41,6 @@ pub struct Refused {
 }
 
 /// All that a node keeps. Contracts see its configuration and its journal, and nothing else.
-#[derive(Drop)]
 pub(crate) struct Kept {
     /// The digest of its configuration.
     instance: Digest,
@@ -59,6 +58,23 @@ pub(crate) struct Kept {
     decided: Decided,
     /// The summit that was asked for last.
     shown: Shown,
+}
+
+// For the prover: so its drop is one call, and else is written out wherever one is let go.
+impl Drop for Kept {
+    fn drop(self) {
+        let Kept {
+            instance: _,
+            journal: _journal,
+            names: _names,
+            park: _park,
+            dropped: _dropped,
+            state: _state,
+            fork: _,
+            decided: _decided,
+            shown: _shown,
+        } = self;
+    }
 }
 
 impl Model for Kept {

@@ -39,9 +39,9 @@ pub fn begin(alloc: Global, config: &Config) -> Result<Start, OutOfMemory>
     ensures unshown { IfOk result (λ start. start.shown.present ≡ false) }
 {
     let instance = instance_of(alloc, config)?;
-    let park = Park::new(alloc, config.max_parked)?;
     let decided = Decided::new(alloc, config)?;
     let shown = Shown::new(alloc, config)?;
+    let park = Park::new(alloc, config.max_parked)?;
     Ok(Start {
         instance,
         park,

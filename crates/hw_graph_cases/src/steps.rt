@@ -35,12 +35,10 @@ fn settled(alloc: Global, state: &mut State, name: Digest, plan: Plan) -> Option
 }
 
 /// The unit under the instance that all units of the lines are of.
-fn signed(unit: WireUnit) -> SignedUnit {
+fn signed(mut unit: WireUnit) -> SignedUnit {
+    unit.instance = INSTANCE;
     SignedUnit {
-        unit: WireUnit {
-            instance: INSTANCE,
-            ..unit
-        },
+        unit,
         signature: Signature([0; 32]),
     }
 }

@@ -125,6 +125,7 @@ impl Bounds {
     /// No block was asked, of so many validators and levels. All its memory is taken here.
     pub fn new(alloc: Global, validators: u32, levels: u32) -> Result<Bounds, OutOfMemory>
         ensures wide { IfOk result (λ bounds. AreWide validators bounds) }
+        ensures levels { IfOk result (λ bounds. length bounds.levels ≡ levels) }
         ensures bounds { IfOk result (λ bounds. (weights : List ℕ) (dag : UnitGraph) → AreBounds weights dag bounds) }
     {
         let mut tips = Vec::with_capacity(alloc, validators as usize)?;

@@ -1,11 +1,11 @@
 //! A node's own units.
 
 ghost use Rattle.std.specs.Prelude.{◌≡◌, ◌≤◌, ◌<◌, ◌^◌, length, Some, IsTrue, IfOk, IfSome};
-ghost use Rattle.hw_types.specs.Spelling.{Fits};
+ghost use Rattle.hw_types.specs.Spelling.{Fits, digest_of};
 ghost use Rattle.hw_io.specs.Files.{Appended};
 ghost use Rattle.hw_session.specs.Entry.{IsEntryOf};
 ghost use Rattle.hw_session.specs.Restart.{KeepsLine};
-ghost use Rattle.hw_session.specs.Make.{planned_by, own_vertex, Makes, WritesOwn, IsMakeCounted, IsAStep, IsOfOwn, Refuses, PutsOwn, fault_of_append};
+ghost use Rattle.hw_session.specs.Make.{planned_by, own_unit, own_vertex, Makes, WritesOwn, IsMakeCounted, IsAStep, IsOfOwn, Refuses, PutsOwn, fault_of_append};
 
 use crate::entry::{NewEntry, new_entry, put_entry};
 use crate::fault::MakeFault;
@@ -13,7 +13,7 @@ use crate::node::Node;
 use hw_codec::digest_of;
 use hw_io::Files;
 use hw_log::{Lasts, LogError};
-use hw_types::{Cause, OutOfMemory, Plan, SignedUnit, Vertex};
+use hw_types::{Cause, Digest, OutOfMemory, Plan, SignedUnit, Vertex};
 use hw_validator::next_unit;
 use std::alloc::Global;
 
@@ -53,10 +53,11 @@ impl Node {
     }
 }
 
-/// The own unit of a plan, signed, with its entry in the log.
+/// The own unit of a plan, signed, under its name, with its entry in the log.
 #[derive(Drop)]
-struct OwnVertex {
-    vertex: Vertex,
+struct OwnUnit {
+    unit: SignedUnit,
+    name: Digest,
     entry: NewEntry,
 }
 
@@ -77,27 +78,32 @@ impl Node {
         ensures allowance { F.allowance files.new ≡ F.allowance files.old }
         ensures reads { F.read_faults files.new ≡ F.read_faults files.old }
     {
-        match self.own_vertex(&plan) {
+        match self.own_unit(&plan) {
             Ok(own) => self.take_own(files, plan, own),
             Err(OutOfMemory) => Err(MakeFault::OutOfMemory),
         }
     }
 
-    /// The unit of a plan, signed by its creator, and its entry.
-    fn own_vertex(&self, plan: &Plan) -> Result<OwnVertex, OutOfMemory>
+    /// The unit of a plan, signed by its creator, its name and its entry.
+    fn own_unit(&self, plan: &Plan) -> Result<OwnUnit, OutOfMemory>
         requires creator { plan.now.unit.creator < length self.now.core.config.weights }
         requires fits { Fits plan.now.unit }
-        ensures vertex { IfOk result (λ own. own.vertex ≡ own_vertex self.now plan.now) }
+        ensures unit { IfOk result (λ own. own.unit ≡ own_unit self.now plan.now) }
+        ensures name { IfOk result (λ own. own.name ≡ digest_of plan.now.unit) }
         ensures entry { IfOk result (λ own. IsEntryOf self.now.lasts (own_vertex self.now plan.now) own.entry) }
     {
-        let digest = digest_of(self.alloc, &plan.unit)?;
-        let signature = self.keys.sign_unit(plan.unit.creator, &digest);
+        let name = digest_of(self.alloc, &plan.unit)?;
+        let signature = self.keys.sign_unit(plan.unit.creator, &name);
         let vertex = Vertex::Unit(SignedUnit {
             unit: plan.unit.copy()?,
             signature,
         });
         let entry = new_entry(self.alloc, &self.lasts, &vertex)?;
-        Ok(OwnVertex { vertex, entry })
+        match vertex {
+            Vertex::Unit(unit) => Ok(OwnUnit { unit, name, entry }),
+            // It was made as a unit.
+            Vertex::Evidence(_) | Vertex::Endorsement(_) => unreachable!(),
+        }
     }
 
     /// Delivers the own unit of a plan, and then appends its entry to the log.
@@ -105,11 +111,12 @@ impl Node {
         &mut self,
         files: &mut F,
         plan: Plan,
-        own: OwnVertex,
+        own: OwnUnit,
     ) -> Result<Option<Plan>, MakeFault>
         requires planned { IsAStep self.old plan }
         requires fits { Fits plan.unit }
-        requires vertex { own.vertex ≡ own_vertex self.old plan }
+        requires unit { own.unit ≡ own_unit self.old plan }
+        requires name { own.name ≡ digest_of plan.unit }
         requires entry { IsEntryOf self.old.lasts (own_vertex self.old plan) own.entry }
         ensures made { Makes self.old (Some plan) self.new result }
         ensures log { IsTrue F.tells → WritesOwn self.old (Some plan) (F.held files.old) (F.held files.new) result }
@@ -119,7 +126,7 @@ impl Node {
         ensures allowance { F.allowance files.new ≡ F.allowance files.old }
         ensures reads { F.read_faults files.new ≡ F.read_faults files.old }
     {
-        match self.core.deliver(own.vertex, true) {
+        match self.core.deliver_named(own.unit, own.name) {
             Ok(_receipt) => put_own(&mut self.lasts, files, self.log.as_str(), plan, own.entry),
             Err(refused) => self.refuse_own(refused.cause),
         }

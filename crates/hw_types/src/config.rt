@@ -50,7 +50,6 @@ pub enum Leaders {
 }
 
 /// What the nodes of an instance agree on before they begin.
-#[derive(Drop)]
 pub struct Config {
     pub weights: WeightList,
     /// The fault tolerance threshold, a weight: what is said of final blocks holds while the
@@ -68,6 +67,23 @@ pub struct Config {
     pub max_parked: u32,
     /// The height of the last block, where there is one.
     pub end: Option<u64>,
+}
+
+// For the prover: so the drop of a configuration is one call, and else is written out wherever one is let go.
+impl Drop for Config {
+    fn drop(self) {
+        let Config {
+            weights: _weights,
+            ftt: _,
+            levels: _,
+            min_exponent: _,
+            max_exponent: _,
+            leaders: _leaders,
+            max_records: _,
+            max_parked: _,
+            end: _,
+        } = self;
+    }
 }
 
 /// The limits of a configuration, in the order in which they are tested.

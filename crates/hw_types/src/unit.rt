@@ -50,7 +50,6 @@ pub enum Obs {
 }
 
 /// A unit without its signature.
-#[derive(Drop)]
 pub struct WireUnit {
     /// The digest of the configuration that it belongs to.
     pub instance: Digest,
@@ -68,6 +67,22 @@ pub struct WireUnit {
     pub value: Option<Bytes>,
     /// The endorsed units that it relies on, in rising order.
     pub endorsed: DigestList,
+}
+
+// For the prover: so the drop of a unit is one call, and else is written out wherever one is let go.
+impl Drop for WireUnit {
+    fn drop(self) {
+        let WireUnit {
+            instance: _,
+            creator: _,
+            seq: _,
+            time: _,
+            exponent: _,
+            panorama: _panorama,
+            value: _value,
+            endorsed: _endorsed,
+        } = self;
+    }
 }
 
 /// A unit with its creator's signature.
