@@ -1,45 +1,14 @@
-//! Two nodes that meet.
+//! Nodes from words.
 
-ghost use Rattle.std.specs.Prelude.{◌≡◌};
-ghost use Rattle.hw_types.specs.Real.{setting_of};
-ghost use Rattle.hw_converge.specs.Converge.{summaries};
-
-use crate::lines::bytes_of;
-use crate::texts::{numbers_text, parts_text, places_text};
+use crate::words::bytes_of;
 use hw_admit::StateStart;
 use hw_codec::{decode_config, decode_vertex};
 use hw_core::Core;
-use hw_meeting::{LaneSummary, due_places, summary_of, torn_for};
-use hw_types::{CodecError, Config, IndexList, OutOfMemory};
+use hw_types::{CodecError, Config, OutOfMemory, Vertex};
 use std::alloc::Global;
 
-/// What two nodes of these vertices tell and owe each other.
-pub fn met(alloc: Global, config: &str, left: &str, right: &str) -> Result<String, OutOfMemory> {
-    let mut nodes = Vec::new(alloc);
-    met_in(alloc, &mut nodes, config, left, right)
-}
-
-fn met_in(
-    alloc: Global,
-    nodes: &mut Vec<Core>,
-    config: &str,
-    left: &str,
-    right: &str,
-) -> Result<String, OutOfMemory> {
-    begin(alloc, nodes, config)?;
-    begin(alloc, nodes, config)?;
-    match nodes.as_mut_slice() {
-        [first, second] => {
-            deliver_all(alloc, first, left)?;
-            deliver_all(alloc, second, right)?;
-            told(alloc, first, second)
-        }
-        _ => Ok("no node".to_string(alloc)?),
-    }
-}
-
-/// Puts a node last, where the configuration has one.
-fn begin(alloc: Global, nodes: &mut Vec<Core>, config: &str) -> Result<(), OutOfMemory> {
+/// Puts a node of the configuration that the digits spell last, where it has one.
+pub fn begin(alloc: Global, nodes: &mut Vec<Core>, config: &str) -> Result<(), OutOfMemory> {
     let bytes = bytes_of(alloc, config)?;
     match decode_config(alloc, bytes.as_slice()) {
         Ok(config) => begin_with(alloc, nodes, config),
@@ -50,18 +19,22 @@ fn begin(alloc: Global, nodes: &mut Vec<Core>, config: &str) -> Result<(), OutOf
 
 fn begin_with(alloc: Global, nodes: &mut Vec<Core>, config: Config) -> Result<(), OutOfMemory> {
     match Core::new(alloc, config) {
-        Ok(core) => match nodes.push(core) {
-            Ok(()) => Ok(()),
-            Err(_unpushed) => Err(OutOfMemory),
-        },
+        Ok(core) => begun(nodes, core),
         Err(StateStart::Fault(_)) => Ok(()),
         Err(StateStart::OutOfMemory) => Err(OutOfMemory),
     }
 }
 
-fn deliver_all(alloc: Global, core: &mut Core, vertices: &str) -> Result<(), OutOfMemory> {
-    let words: Vec<&str> = vertices.split(',').collect(alloc)?;
-    for word in words.as_slice() {
+fn begun(nodes: &mut Vec<Core>, core: Core) -> Result<(), OutOfMemory> {
+    match nodes.push(core) {
+        Ok(()) => Ok(()),
+        Err(_unpushed) => Err(OutOfMemory),
+    }
+}
+
+/// Delivers each vertex that the digits between commas spell, with a true verdict.
+pub fn deliver_all(alloc: Global, core: &mut Core, vertices: &str) -> Result<(), OutOfMemory> {
+    for word in vertices.split(',') {
         deliver(alloc, core, word)?;
     }
     Ok(())
@@ -78,88 +51,4 @@ fn deliver(alloc: Global, core: &mut Core, digits: &str) -> Result<(), OutOfMemo
         Err(CodecError::OutOfMemory) => Err(OutOfMemory),
         Err(_) => Ok(()),
     }
-}
-
-/// What the two tell, what is torn for each, and what each owes.
-fn told(alloc: Global, left: &Core, right: &Core) -> Result<String, OutOfMemory> {
-    let left_parts = summary_of(alloc, left)?;
-    let right_parts = summary_of(alloc, right)?;
-    told_by(
-        alloc,
-        left,
-        right,
-        left_parts.as_slice(),
-        right_parts.as_slice(),
-    )
-}
-
-/// The same by the two summaries.
-fn told_by(
-    alloc: Global,
-    left: &Core,
-    right: &Core,
-    left_parts: &[LaneSummary],
-    right_parts: &[LaneSummary],
-) -> Result<String, OutOfMemory>
-    requires left { left_parts.now ≡ summaries (setting_of left.now.config) left.now.journal }
-    requires right { right_parts.now ≡ summaries (setting_of right.now.config) right.now.journal }
-{
-    let mut torn = torn_for(alloc, left, left_parts, right_parts)?;
-    put_torn(alloc, right, right_parts, left_parts, &mut torn)?;
-    let first = side_text(alloc, left, torn.as_slice(), left_parts, right_parts)?;
-    let second = side_text(alloc, right, torn.as_slice(), right_parts, left_parts)?;
-    Ok(format!(in alloc; "{first} | {second}")?)
-}
-
-/// Puts the validators last that are torn for the node.
-fn put_torn(
-    alloc: Global,
-    core: &Core,
-    mine: &[LaneSummary],
-    theirs: &[LaneSummary],
-    torn: &mut IndexList,
-) -> Result<(), OutOfMemory>
-    requires { mine.now ≡ summaries (setting_of core.now.config) core.now.journal }
-{
-    let own = torn_for(alloc, core, mine, theirs)?;
-    torn.extend(own.as_slice())
-}
-
-/// What one side tells, what is torn for it, and what it owes.
-fn side_text(
-    alloc: Global,
-    core: &Core,
-    torn: &[u32],
-    mine: &[LaneSummary],
-    theirs: &[LaneSummary],
-) -> Result<String, OutOfMemory>
-    requires { mine.now ≡ summaries (setting_of core.now.config) core.now.journal }
-{
-    let told = parts_text(alloc, mine)?;
-    let own = own_text(alloc, core, mine, theirs)?;
-    let due = due_text(alloc, core, torn, mine, theirs)?;
-    Ok(format!(in alloc; "tells {told} torn {own} owes {due}")?)
-}
-
-fn own_text(
-    alloc: Global,
-    core: &Core,
-    mine: &[LaneSummary],
-    theirs: &[LaneSummary],
-) -> Result<String, OutOfMemory>
-    requires { mine.now ≡ summaries (setting_of core.now.config) core.now.journal }
-{
-    let own = torn_for(alloc, core, mine, theirs)?;
-    numbers_text(alloc, own.as_slice())
-}
-
-fn due_text(
-    alloc: Global,
-    core: &Core,
-    torn: &[u32],
-    mine: &[LaneSummary],
-    theirs: &[LaneSummary],
-) -> Result<String, OutOfMemory> {
-    let places = due_places(alloc, core, core.journal_count(), torn, mine, theirs)?;
-    places_text(alloc, places.as_slice())
 }

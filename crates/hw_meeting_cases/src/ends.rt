@@ -1,6 +1,7 @@
-//! Ends and nodes as words.
+//! Ends of sessions, and nodes, as words.
 
 use hw_core::Core;
+use hw_link::SessionEnd;
 use hw_meeting_node::MeetEnd;
 use hw_types::OutOfMemory;
 use std::alloc::Global;
@@ -38,6 +39,24 @@ pub fn put_core(alloc: Global, text: &mut String, core: &Core) -> Result<(), Out
     for index in 0..core.decision_count() {
         let digits = hex::encode(alloc, core.decision(index).block.0.as_slice())?;
         text.push_str(format!(in alloc; " final {digits}")?.as_str())?;
+    }
+    Ok(())
+}
+
+/// Puts how a session of frames ends.
+pub fn put_session_end(
+    alloc: Global,
+    text: &mut String,
+    end: SessionEnd,
+) -> Result<(), OutOfMemory> {
+    match end {
+        SessionEnd::EndOfInput => text.push_str("end of input")?,
+        SessionEnd::BadFrame(place) => {
+            text.push_str(format!(in alloc; "bad frame at {place}")?.as_str())?;
+        }
+        SessionEnd::LinkFault => text.push_str("link fault")?,
+        SessionEnd::OutOfMemory => return Err(OutOfMemory),
+        _ => text.push_str("another end")?,
     }
     Ok(())
 }

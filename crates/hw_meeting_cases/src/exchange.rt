@@ -2,15 +2,34 @@
 
 ghost use Rattle.std.specs.Prelude.{◌≡◌, ◌≤◌, true, IfOk};
 
-use crate::texts::{put_end, put_frame};
+use crate::ends::put_session_end;
+use crate::frames::kind_of;
+use crate::sessions::put_sent;
 use hw_io::{Door, MemDoor};
 use hw_link::{BYTE_LIMIT, SessionEnd};
+use hw_meeting::MeetingFrame;
 use hw_meeting_link::{HeardMeeting, read_meeting, send_meeting};
 use hw_types::OutOfMemory;
 use std::alloc::Global;
 
-/// What is heard of a peer that says these bytes, and what is sent back.
-pub fn session_text(
+/// The most validators that there are.
+const MOST: u32 = 1024;
+
+/// What is heard of a peer that says what these digits spell, and what is sent back.
+pub fn heard(
+    alloc: Global,
+    validators: u32,
+    piece: usize,
+    digits: &str,
+) -> Result<String, OutOfMemory> {
+    match hex::decode(alloc, digits) {
+        Ok(said) => session_text(alloc, validators.min(MOST), piece, said.as_slice()),
+        Err(hex::FromHexError::OutOfMemory) => Err(OutOfMemory),
+        Err(_) => Ok(String::new(alloc)),
+    }
+}
+
+fn session_text(
     alloc: Global,
     validators: u32,
     piece: usize,
@@ -23,6 +42,7 @@ pub fn session_text(
     match door.accept() {
         Ok(()) => {
             let mut text = exchanged(alloc, &mut door, validators, said.len())?;
+            text.push_str(", ")?;
             put_sent(alloc, &mut text, &door)?;
             Ok(text)
         }
@@ -49,7 +69,7 @@ fn exchanged<D: Door>(
                 put_frame(alloc, &mut text, &heard.frame, place)?;
             }
             Err(end) => {
-                put_end(alloc, &mut text, end)?;
+                put_session_end(alloc, &mut text, end)?;
                 break;
             }
         }
@@ -75,11 +95,14 @@ fn turn<D: Door>(
     Ok(heard)
 }
 
-/// Puts the digits of what was sent.
-fn put_sent(alloc: Global, text: &mut String, door: &MemDoor) -> Result<(), OutOfMemory> {
-    text.push_str(", sent ")?;
-    if let Some(session) = door.sessions().last() {
-        text.push_str(hex::encode(alloc, session.written())?.as_str())?;
-    }
+/// Puts the kind of a frame, and the place behind it.
+fn put_frame(
+    alloc: Global,
+    text: &mut String,
+    frame: &MeetingFrame,
+    next: u64,
+) -> Result<(), OutOfMemory> {
+    let kind = kind_of(frame);
+    text.push_str(format!(in alloc; "{kind} {next}, ")?.as_str())?;
     Ok(())
 }
