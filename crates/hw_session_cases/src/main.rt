@@ -1,6 +1,7 @@
-//! What nodes with a log in memory answer to the lines of its input, one line for each.
+//! What comes of nodes with a log, for the lines of its input, one line for each: of nodes that act, and of nodes that serve and
+//! validators that take turns, over an outside in memory.
 //!
-//! A line has these words, and any number of acts behind them:
+//! A line `session ..` has these words, and any number of acts behind them:
 //!
 //! | Word | Meaning |
 //! |---|---|
@@ -11,20 +12,49 @@
 //! | act | `ME:NOW:VALUE`: the validator makes its unit at this moment, with this value as hexadecimal digits; `accept:VERTEX`: it takes a peer's vertex, whose bytes are hexadecimal digits; `serve:BYTES:PIECE:CALL`: it serves a peer that says these bytes, over a door that gives and takes at most so many bytes at once, or all for `-`, and of which that call fails, counted from 0, or none for `-`; `drive:BYTES:PIECE:CALL:PUSHED:PULLED`: it drives a session with such a peer, with these marks, and the marks then stand behind the answer; or `again`: another node starts from the log |
 //!
 //! The answer has a word for the start and one for each act, the counts, and the log as it is then.
+//!
+//! A line `service ..` has these words, and any number of sessions behind them:
+//!
+//! | Word | Meaning |
+//! |---|---|
+//! | settings | their JSON text, without spaces |
+//! | keys, log | as above |
+//! | failures | the calls that fail, counted from 0, with commas between: `files:CALL:LEFT`, of which an append keeps so many bytes, `out:CALL`, and `door:CALL`; or `-` |
+//! | consumers | one for each part between commas: the call that fails in it, counted from 0, or `-` for none; `none` is no consumer |
+//! | command | `serve:SESSIONS`; or `run:ME:PEERS:MOMENT:MOMENT..`, with a turn for each moment |
+//! | session | what the peer of a session says, as hexadecimal digits |
+//!
+//! The answer is the status, what was written, in which a `/` stands for a line feed, the log then, and what the node wrote in each
+//! session.
 #![tactic(auto)]
 
 mod lines;
 mod nodes;
+mod outside;
 mod peers;
+mod services;
+mod words;
 
+use hw_session::Node;
 use std::io;
 
 fn main(rt: HostRuntime) -> io::Result<()> {
+    let mut nodes = Vec::new(rt.alloc());
+    answer_all(rt, &mut nodes)
+}
+
+/// Answers each line.
+fn answer_all(rt: HostRuntime, nodes: &mut Vec<Node>) -> io::Result<()> {
     for line in rt.lines(rt.alloc()) {
-        let Ok(text) = lines::answer(rt.alloc(), line?.as_str()) else {
-            return Err(io::ErrorKind::OutOfMemory.into());
-        };
-        println!(rt; "{text}")?;
+        answer(rt, nodes, line?.as_str())?;
     }
     Ok(())
+}
+
+/// Answers a line.
+fn answer(rt: HostRuntime, nodes: &mut Vec<Node>, line: &str) -> io::Result<()> {
+    match lines::answer(rt.alloc(), nodes, line) {
+        Ok(text) => println!(rt; "{text}"),
+        Err(_) => Err(io::ErrorKind::OutOfMemory.into()),
+    }
 }

@@ -1,10 +1,11 @@
-//! A node in memory, and what it answers.
+//! Nodes with a log in memory, and what they answer.
 
 ghost use Rattle.std.specs.Prelude.{◌≡◌, length, IfOk, IfSome, None, string_bytes};
 ghost use Rattle.hw_types.specs.Limits.{config_fault};
 
-use crate::lines::bytes_of;
+use crate::outside::put_log;
 use crate::peers::{accept, drive, serve};
+use crate::words::{bytes_of, number, small, with_line_feeds};
 use hw_codec::decode_config;
 use hw_io::MemFiles;
 use hw_session::{Keys, MakeFault, Node, StartFault};
@@ -12,25 +13,58 @@ use hw_types::{Config, OutOfMemory, Plan};
 use std::alloc::Global;
 
 /// The name of the log.
-const LOG: &str = "LOG";
+pub const LOG: &str = "LOG";
 
 /// What each node of a line starts with.
 #[derive(Drop)]
-pub struct Scene {
-    pub alloc: Global,
+struct Scene {
+    alloc: Global,
     /// The bytes of the configuration.
-    pub config: Vec<u8>,
+    config: Vec<u8>,
     /// The text of the keys.
-    pub keys: Vec<u8>,
+    keys: Vec<u8>,
 }
 
-/// Starts a node and lets it act, and tells what came of it.
-pub fn run(scene: &Scene, files: &mut MemFiles, acts: &[&str]) -> Result<String, OutOfMemory> {
+/// What nodes answer that start with this configuration and these keys from a log, and act.
+pub fn session_text(
+    alloc: Global,
+    nodes: &mut Vec<Node>,
+    config: &str,
+    keys: &str,
+    log: &str,
+    failure: &str,
+    acts: &[&str],
+) -> Result<String, OutOfMemory> {
+    let scene = Scene {
+        alloc,
+        config: bytes_of(alloc, config)?,
+        keys: with_line_feeds(alloc, keys)?,
+    };
+    let mut files = files_of(alloc, log, failure)?;
+    run(&scene, &mut files, nodes, acts)
+}
+
+/// Files with this log, of which that call fails.
+fn files_of(alloc: Global, log: &str, failure: &str) -> Result<MemFiles, OutOfMemory> {
+    let mut files = MemFiles::in_pieces(alloc, 100);
+    put_log(alloc, &mut files, log)?;
+    if let Some((call, left)) = failure.split_once(':') {
+        files.fail_at(number(call), number(left) as usize)?;
+    }
+    Ok(files)
+}
+
+/// Starts a node and lets it act, and tells what came of it. Those of other lines are gone.
+fn run(
+    scene: &Scene,
+    files: &mut MemFiles,
+    nodes: &mut Vec<Node>,
+    acts: &[&str],
+) -> Result<String, OutOfMemory> {
     let mut text = String::new(scene.alloc);
-    let mut nodes = Vec::new(scene.alloc);
-    start(scene, files, &mut nodes, &mut text)?;
+    start(scene, files, nodes, &mut text)?;
     for act in acts {
-        step(scene, files, &mut nodes, act, &mut text)?;
+        step(scene, files, nodes, act, &mut text)?;
     }
     tell_end(scene.alloc, files, nodes.as_slice(), &mut text)?;
     Ok(text)
@@ -56,7 +90,7 @@ fn step(
     }
 }
 
-/// Starts a node, which comes first among the nodes, and tells how it started.
+/// Starts a node in the place of all others, and tells how it started.
 fn start(
     scene: &Scene,
     files: &mut MemFiles,
@@ -64,20 +98,31 @@ fn start(
     text: &mut String,
 ) -> Result<(), OutOfMemory> {
     nodes.clear();
-    let Ok(config) = decode_config(scene.alloc, scene.config.as_slice()) else {
-        return word(text, "no configuration");
-    };
+    match decode_config(scene.alloc, scene.config.as_slice()) {
+        Ok(config) => start_with(scene, files, config, nodes, text),
+        Err(_) => word(text, "no configuration"),
+    }
+}
+
+/// The same with this configuration.
+fn start_with(
+    scene: &Scene,
+    files: &mut MemFiles,
+    config: Config,
+    nodes: &mut Vec<Node>,
+    text: &mut String,
+) -> Result<(), OutOfMemory> {
     if config.check().is_err() {
         return word(text, "no configuration");
     }
     let validators = config.weights.len() as u32;
-    let Ok(keys) = Keys::read(scene.alloc, scene.keys.as_slice(), validators) else {
-        return word(text, "no keys");
-    };
-    started(scene.alloc, files, config, keys, nodes, text)
+    match Keys::read(scene.alloc, scene.keys.as_slice(), validators) {
+        Ok(keys) => started(scene.alloc, files, config, keys, nodes, text),
+        Err(_) => word(text, "no keys"),
+    }
 }
 
-/// Starts a node with this configuration and these keys.
+/// The same with these keys too.
 fn started(
     alloc: Global,
     files: &mut MemFiles,
@@ -90,18 +135,27 @@ fn started(
     requires keys { length keys ≡ length config.weights }
 {
     match Node::start(alloc, files, LOG, config, keys) {
-        Ok(node) => {
-            nodes.push(node)?;
-            word(text, "started")
-        }
-        Err(StartFault::Log(error)) => word(text, format!(in alloc; "{error:?}")?.as_str()),
-        Err(StartFault::OtherConfig) => word(text, "OtherConfig"),
-        Err(StartFault::Clash { .. }) => word(text, "Clash"),
-        Err(StartFault::RecordsFull(at)) => {
+        Ok(node) => begun(nodes, node, text),
+        Err(fault) => tell_fault(alloc, &fault, text),
+    }
+}
+
+fn begun(nodes: &mut Vec<Node>, node: Node, text: &mut String) -> Result<(), OutOfMemory> {
+    nodes.push(node)?;
+    word(text, "started")
+}
+
+/// Tells why no node started.
+fn tell_fault(alloc: Global, fault: &StartFault, text: &mut String) -> Result<(), OutOfMemory> {
+    match fault {
+        StartFault::Log(error) => word(text, format!(in alloc; "{error:?}")?.as_str()),
+        StartFault::OtherConfig => word(text, "OtherConfig"),
+        StartFault::Clash { .. } => word(text, "Clash"),
+        StartFault::RecordsFull(at) => {
             word(text, format!(in alloc; "RecordsFull({at})")?.as_str())
         }
-        Err(StartFault::ParkFull(at)) => word(text, format!(in alloc; "ParkFull({at})")?.as_str()),
-        Err(StartFault::OutOfMemory) => Err(OutOfMemory),
+        StartFault::ParkFull(at) => word(text, format!(in alloc; "ParkFull({at})")?.as_str()),
+        StartFault::OutOfMemory => Err(OutOfMemory),
     }
 }
 
@@ -117,10 +171,8 @@ fn make(
     match (words.as_slice(), nodes.as_mut_slice()) {
         ([me, now, value], [node]) => {
             let value = bytes_of(alloc, value)?;
-            let me = me.parse().unwrap_or(0);
-            let now = now.parse().unwrap_or(0);
-            let made = made(files, node, me, now, value.as_slice());
-            tell_made(alloc, made, text)
+            let made = made(files, node, small(me), number(now), value.as_slice());
+            tell_made(alloc, &made, text)
         }
         _ => word(text, "-"),
     }
@@ -144,7 +196,7 @@ fn made(
 /// Tells what was made.
 fn tell_made(
     alloc: Global,
-    made: Result<Option<Plan>, MakeFault>,
+    made: &Result<Option<Plan>, MakeFault>,
     text: &mut String,
 ) -> Result<(), OutOfMemory> {
     match made {

@@ -1,7 +1,7 @@
 //! What peers do to a node.
 
-use crate::lines::bytes_of;
 use crate::nodes::word;
+use crate::words::{bytes_of, number};
 use hw_codec::decode_vertex;
 use hw_io::{MemDoor, MemFiles};
 use hw_session::{AcceptFault, Node, PeerMark, SessionEnd};
@@ -78,8 +78,8 @@ pub fn drive(
         [said, piece, call, pushed, pulled] => {
             let mut door = door_of(alloc, said, piece, call)?;
             let mut mark = PeerMark {
-                pushed: pushed.parse().unwrap_or(0),
-                pulled: pulled.parse().unwrap_or(0),
+                pushed: number(pushed),
+                pulled: number(pulled),
             };
             let end = node.drive_one(&mut mark, "peer", &mut door, files);
             tell_served(alloc, &door, end, text)?;
@@ -92,14 +92,11 @@ pub fn drive(
 
 /// A door with a peer that says these bytes.
 fn door_of(alloc: Global, said: &str, piece: &str, call: &str) -> Result<MemDoor, OutOfMemory> {
+    let said = bytes_of(alloc, said)?;
     let mut door = MemDoor::in_pieces(alloc, piece.parse().unwrap_or(usize::MAX));
-    if door.expect(bytes_of(alloc, said)?.as_slice()).is_err() {
-        return Err(OutOfMemory);
-    }
+    door.expect(said.as_slice())?;
     if let Ok(call) = call.parse() {
-        if door.fail_at(call).is_err() {
-            return Err(OutOfMemory);
-        }
+        door.fail_at(call)?;
     }
     Ok(door)
 }

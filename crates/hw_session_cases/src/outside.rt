@@ -1,5 +1,6 @@
 //! The outside of one run, in memory.
 
+use crate::words::{bytes_of, number, with_line_feeds};
 use hw_io::{Clock, ListConsumer, MemDoor, MemFiles, MemSink};
 use hw_types::OutOfMemory;
 use std::alloc::{AllocError, Global};
@@ -41,14 +42,12 @@ pub fn outside_of(alloc: Global, words: &[&str]) -> Result<Outside, OutOfMemory>
         out: MemSink::in_pieces(alloc, 50),
         door: MemDoor::in_pieces(alloc, 40),
     };
-    match fill(alloc, &mut outside, words) {
-        Ok(()) => Ok(outside),
-        Err(_) => Err(OutOfMemory),
-    }
+    fill(alloc, &mut outside, words)?;
+    Ok(outside)
 }
 
 /// Puts the files in, plans the failures, and expects the peers.
-fn fill(alloc: Global, outside: &mut Outside, words: &[&str]) -> Result<(), AllocError> {
+fn fill(alloc: Global, outside: &mut Outside, words: &[&str]) -> Result<(), OutOfMemory> {
     if let [
         settings,
         keys,
@@ -60,19 +59,35 @@ fn fill(alloc: Global, outside: &mut Outside, words: &[&str]) -> Result<(), Allo
     ] = words
     {
         outside.files.put("CONFIG", settings.as_bytes())?;
-        let keys = with_line_feeds(alloc, keys)?;
-        outside.files.put("KEYS", keys.as_slice())?;
-        if *log != "-" {
-            outside.files.put("LOG", bytes_of(alloc, log)?.as_slice())?;
-        }
+        put_keys(alloc, &mut outside.files, keys)?;
+        put_log(alloc, &mut outside.files, log)?;
         for failure in failures.split(',') {
             plan(outside, failure)?;
         }
         for session in sessions {
-            outside.door.expect(bytes_of(alloc, session)?.as_slice())?;
+            expect(alloc, &mut outside.door, session)?;
         }
     }
     Ok(())
+}
+
+fn put_keys(alloc: Global, files: &mut MemFiles, keys: &str) -> Result<(), OutOfMemory> {
+    let keys = with_line_feeds(alloc, keys)?;
+    Ok(files.put("KEYS", keys.as_slice())?)
+}
+
+/// Puts the log there, unless the word is `-`.
+pub fn put_log(alloc: Global, files: &mut MemFiles, log: &str) -> Result<(), OutOfMemory> {
+    if log == "-" {
+        return Ok(());
+    }
+    let bytes = bytes_of(alloc, log)?;
+    Ok(files.put("LOG", bytes.as_slice())?)
+}
+
+fn expect(alloc: Global, door: &mut MemDoor, session: &str) -> Result<(), OutOfMemory> {
+    let said = bytes_of(alloc, session)?;
+    Ok(door.expect(said.as_slice())?)
 }
 
 /// Plans that a call fails.
@@ -95,24 +110,4 @@ pub fn consumer_of(alloc: Global, plan: &str) -> Result<ListConsumer, OutOfMemor
         return Err(OutOfMemory);
     }
     Ok(consumer)
-}
-
-/// The number that the word spells, or 0.
-pub fn number(word: &str) -> u64 {
-    word.parse().unwrap_or(0)
-}
-
-/// The bytes of a hexadecimal text, none where it is no such text.
-fn bytes_of(alloc: Global, text: &str) -> Result<Vec<u8>, AllocError> {
-    match hex::decode(alloc, text) {
-        Ok(bytes) => Ok(bytes),
-        Err(_) => Ok(Vec::new(alloc)),
-    }
-}
-
-/// The text with line feeds where it has `/`.
-fn with_line_feeds(alloc: Global, text: &str) -> Result<Vec<u8>, AllocError> {
-    text.bytes()
-        .map(|byte| if byte == b'/' { b'\n' } else { byte })
-        .collect(alloc)
 }

@@ -1,6 +1,7 @@
-//! Lines of words.
+//! Nodes that serve, and validators that take turns.
 
-use crate::outside::{Moments, Outside, consumer_of, number, outside_of};
+use crate::outside::{Moments, Outside, consumer_of, outside_of};
+use crate::words::number;
 use hw_io::Consumer;
 use hw_replay::StartFault;
 use hw_service::{Peer, Served, ServiceFault, Sources, run, serve};
@@ -14,24 +15,28 @@ const SOURCES: Sources<'static> = Sources {
     log: "LOG",
 };
 
-/// The answer to a line.
-pub fn answer(alloc: Global, line: &str) -> Result<String, OutOfMemory> {
-    let words: Vec<&str> = line.split(' ').collect(alloc)?;
-    let mut outside = outside_of(alloc, words.as_slice())?;
-    match words.as_slice() {
-        [_, _, _, _, plans, command, ..] => match command.split_once(':') {
-            Some(("serve", sessions)) => {
-                let status = served(alloc, &mut outside, plans, number(sessions))?;
-                told(alloc, &outside, status)
-            }
-            Some(("run", words)) => {
-                let status = ran(alloc, &mut outside, plans, words)?;
-                told(alloc, &outside, status)
-            }
-            _ => Ok(String::new(alloc)),
-        },
+/// What comes of a service with the outside that these words tell.
+pub fn service_text(alloc: Global, words: &[&str]) -> Result<String, OutOfMemory> {
+    let mut outside = outside_of(alloc, words)?;
+    match words {
+        [_, _, _, _, plans, command, ..] => commanded(alloc, &mut outside, plans, command),
         _ => Ok(String::new(alloc)),
     }
+}
+
+/// What comes of this command, with consumers of these plans.
+fn commanded(
+    alloc: Global,
+    outside: &mut Outside,
+    plans: &str,
+    command: &str,
+) -> Result<String, OutOfMemory> {
+    let status = match command.split_once(':') {
+        Some(("serve", sessions)) => served(alloc, outside, plans, number(sessions))?,
+        Some(("run", words)) => ran(alloc, outside, plans, words)?,
+        _ => return Ok(String::new(alloc)),
+    };
+    told(alloc, outside, status)
 }
 
 /// The status with which a node ends that serves so many sessions, with consumers of these plans.
@@ -42,25 +47,31 @@ fn served(
     sessions: u64,
 ) -> Result<u8, OutOfMemory> {
     let mut consumers: Vec<Box<dyn Consumer>> = Vec::new(alloc);
+    put_consumers(alloc, &mut consumers, plans)?;
+    let Outside { files, out, door } = outside;
+    let served = serve(alloc, SOURCES, sessions, files, out, door, &mut consumers);
+    Ok(status_of(&served))
+}
+
+/// Puts a consumer of each of these plans last.
+fn put_consumers(
+    alloc: Global,
+    consumers: &mut Vec<Box<dyn Consumer>>,
+    plans: &str,
+) -> Result<(), OutOfMemory> {
     if plans != "none" {
         for plan in plans.split(',') {
             consumers.push(Box::new(alloc, consumer_of(alloc, plan)?)?)?;
         }
     }
-    let Outside { files, out, door } = outside;
-    let served = serve(alloc, SOURCES, sessions, files, out, door, &mut consumers);
-    Ok(status_of(&served))
+    Ok(())
 }
 
 /// The status with which a validator ends that takes turns, with consumers of these plans. The words are the
 /// validator, how many peers it has, and the moment of each turn.
 fn ran(alloc: Global, outside: &mut Outside, plans: &str, words: &str) -> Result<u8, OutOfMemory> {
     let mut consumers: Vec<Box<dyn Consumer>> = Vec::new(alloc);
-    if plans != "none" {
-        for plan in plans.split(',') {
-            consumers.push(Box::new(alloc, consumer_of(alloc, plan)?)?)?;
-        }
-    }
+    put_consumers(alloc, &mut consumers, plans)?;
     let numbers: Vec<u64> = words.split(':').map(number).collect(alloc)?;
     let (me, mut peers, moments) = turns_of(alloc, numbers.as_slice())?;
     let turns = moments.len() as u64;
