@@ -66,9 +66,15 @@ fn delivered(core: &mut Core, units: Vec<SignedUnit>) -> Option<Sums> {
         other: 0,
     };
     for unit in units {
-        sums = added(sums, delivery(core, &Vertex::Unit(unit), true)?);
+        sums = added(sums, became(core, unit)?);
     }
     Some(sums)
+}
+
+/// What becomes of the unit.
+fn became(core: &mut Core, unit: SignedUnit) -> Option<Outcome> {
+    let vertex = Vertex::Unit(unit);
+    delivery(core, &vertex, true)
 }
 
 /// The sums with one outcome more.
@@ -101,16 +107,24 @@ fn units_of(
     let mut units = Vec::new(alloc);
     let mut own = Obs::Absent;
     for number in 0..count {
-        let unit = unit_at(
-            alloc,
-            instance,
-            number,
-            panorama_of(alloc, validators, own)?,
-        )?;
-        own = Obs::Correct(named(alloc, &unit.unit)?);
-        units.push(unit).ok()?;
+        let panorama = panorama_of(alloc, validators, own)?;
+        own = put_unit(alloc, instance, number, panorama, &mut units)?;
     }
     Some(units)
+}
+
+/// Puts the unit of this number last, and answers what the next one observes of validator 0.
+fn put_unit(
+    alloc: Global,
+    instance: Digest,
+    number: u32,
+    panorama: ObsList,
+    units: &mut Vec<SignedUnit>,
+) -> Option<Obs> {
+    let unit = unit_at(alloc, instance, number, panorama);
+    let name = named(alloc, &unit.unit)?;
+    units.push(unit).ok()?;
+    Some(Obs::Correct(name))
 }
 
 /// The digest of a unit that keeps the limits of its format.
@@ -123,12 +137,13 @@ fn named(alloc: Global, unit: &WireUnit) -> Option<Digest> {
 }
 
 /// The unit of this number, the only one in its round.
-fn unit_at(alloc: Global, instance: Digest, number: u32, panorama: ObsList) -> Option<SignedUnit> {
-    let mut value = None;
-    if number == 0 {
-        value = Some(Bytes::new(alloc));
-    }
-    Some(SignedUnit {
+fn unit_at(alloc: Global, instance: Digest, number: u32, panorama: ObsList) -> SignedUnit {
+    let value = if number == 0 {
+        Some(Bytes::new(alloc))
+    } else {
+        None
+    };
+    SignedUnit {
         unit: WireUnit {
             instance,
             creator: 0,
@@ -140,7 +155,7 @@ fn unit_at(alloc: Global, instance: Digest, number: u32, panorama: ObsList) -> O
             endorsed: DigestList::new(alloc),
         },
         signature: Signature([0; 32]),
-    })
+    }
 }
 
 /// This observation of validator 0, and of the others none.

@@ -3,7 +3,7 @@
 use crate::names::{Named, Node, digest_named, find};
 use crate::outcome::{Outcome, delivery, outcome_text};
 use hw_core::Core;
-use hw_types::{Cause, Endorsement, Signature, Vertex};
+use hw_types::{Cause, Digest, Endorsement, Signature, Vertex};
 use std::alloc::Global;
 
 /// Delivers each of the named vertices with this verdict, and tells what became of it.
@@ -36,26 +36,21 @@ pub fn endorse(alloc: Global, node: &mut Node, words: &[&str]) -> Option<String>
     let digest = digest_named(node.names.as_slice(), name)?;
     let mut text = String::new(alloc);
     for word in endorsers {
-        let vertex = Vertex::Endorsement(Endorsement {
-            unit: digest,
-            endorser: word.parse().ok()?,
-            signature: Signature([0; 32]),
-        });
-        let line = endorsed(alloc, &mut node.core, &vertex, name, word)?;
+        let became = endorsed(alloc, &mut node.core, digest, word.parse().ok()?)?;
+        let line = format!(in alloc; "endorse {name} {word} {became}\n").ok()?;
         text.push_str(line.as_str()).ok()?;
     }
     Some(text)
 }
 
-fn endorsed(
-    alloc: Global,
-    core: &mut Core,
-    vertex: &Vertex,
-    name: &str,
-    word: &str,
-) -> Option<String> {
-    let became = became(alloc, core, vertex, true)?;
-    format!(in alloc; "endorse {name} {word} {became}\n").ok()
+/// What became of the endorsement of the unit by this validator.
+fn endorsed(alloc: Global, core: &mut Core, unit: Digest, endorser: u32) -> Option<String> {
+    let vertex = Vertex::Endorsement(Endorsement {
+        unit,
+        endorser,
+        signature: Signature([0; 32]),
+    });
+    became(alloc, core, &vertex, true)
 }
 
 /// What became of the vertex. Where it is refused for want of memory, it is delivered once more.

@@ -2,7 +2,7 @@
 
 use crate::chains::chain;
 use crate::deliveries::{deliver, endorse};
-use crate::names::{Named, Node};
+use crate::names::Node;
 use crate::places::{missing, place};
 use crate::shown::show;
 use crate::summits::{starts, summit};
@@ -36,23 +36,34 @@ fn repeated(alloc: Global, line: &str) -> Option<String> {
 fn began(alloc: Global, nodes: &mut Vec<Node>, words: &[&str]) -> Option<String> {
     let config = config_of(alloc, words)?;
     let instance = instance_in_limits(alloc, &config)?;
+    began_with(alloc, nodes, config, instance)
+}
+
+/// The same with this configuration, which is of this instance.
+fn began_with(
+    alloc: Global,
+    nodes: &mut Vec<Node>,
+    config: Config,
+    instance: Digest,
+) -> Option<String> {
     match Core::new(alloc, config) {
-        Ok(core) => begins(nodes, core, instance, Vec::new(alloc))?,
-        Err(StateStart::Fault(fault)) => return format!(in alloc; "{fault:?}\n").ok(),
-        Err(StateStart::OutOfMemory) => return None,
+        Ok(core) => begins(alloc, nodes, core, instance),
+        Err(StateStart::Fault(fault)) => format!(in alloc; "{fault:?}\n").ok(),
+        Err(StateStart::OutOfMemory) => None,
     }
-    "began\n".to_string(alloc).ok()
 }
 
 /// The node is asked from now on.
-fn begins(nodes: &mut Vec<Node>, core: Core, instance: Digest, names: Vec<Named>) -> Option<()> {
-    nodes
-        .push(Node {
-            core,
-            instance,
-            names,
-        })
-        .ok()
+fn begins(alloc: Global, nodes: &mut Vec<Node>, core: Core, instance: Digest) -> Option<String> {
+    let node = Node {
+        core,
+        instance,
+        names: Vec::new(alloc),
+    };
+    match nodes.push(node) {
+        Ok(()) => "began\n".to_string(alloc).ok(),
+        Err(_unpushed) => None,
+    }
 }
 
 /// The instance of a configuration. One that breaks a limit has none, and no node either.

@@ -35,20 +35,26 @@ mod summits;
 mod units;
 mod wanted;
 
+use crate::names::Node;
 use std::io;
 
 fn main(rt: HostRuntime) -> io::Result<()> {
     let mut nodes = Vec::new(rt.alloc());
-    answered(rt, &mut nodes)
+    answer_all(rt, &mut nodes)
 }
 
 /// Answers each line, of the node that began last.
-fn answered(rt: HostRuntime, nodes: &mut Vec<names::Node>) -> io::Result<()> {
+fn answer_all(rt: HostRuntime, nodes: &mut Vec<Node>) -> io::Result<()> {
     for line in rt.lines(rt.alloc()) {
-        let Some(text) = lines::answer(rt.alloc(), nodes, line?.as_str()) else {
-            return Err(io::ErrorKind::InvalidInput.into());
-        };
-        print!(rt; "{text}")?;
+        answer(rt, nodes, line?.as_str())?;
     }
     Ok(())
+}
+
+/// Answers a line, of the node that began last.
+fn answer(rt: HostRuntime, nodes: &mut Vec<Node>, line: &str) -> io::Result<()> {
+    match lines::answer(rt.alloc(), nodes, line) {
+        Some(text) => print!(rt; "{text}"),
+        None => Err(io::ErrorKind::InvalidInput.into()),
+    }
 }

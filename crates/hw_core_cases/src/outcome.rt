@@ -27,10 +27,17 @@ pub fn delivery(core: &mut Core, vertex: &Vertex, verdict: bool) -> Option<Outco
         return None;
     }
     let given = vertex.copy().ok()?;
-    Some(match core.deliver(given, verdict) {
+    Some(outcome_of(core, given, vertex, verdict))
+}
+
+/// What becomes of the vertex that is given, a copy of this one.
+fn outcome_of(core: &mut Core, given: Vertex, vertex: &Vertex, verdict: bool) -> Outcome
+    requires { VertexFits given }
+{
+    match core.deliver(given, verdict) {
         Ok(receipt) => Outcome::Taken(receipt),
         Err(refused) => refusal(&refused, vertex),
-    })
+    }
 }
 
 fn refusal(refused: &Refused, vertex: &Vertex) -> Outcome {

@@ -34,11 +34,18 @@ fn named_unit(alloc: Global, instance: Digest, names: &[Named], words: &[&str]) 
     let [name, ..] = words else {
         return None;
     };
-    let unit = told_unit(alloc, instance, names, words)?;
+    let name = name.to_string(alloc).ok()?;
+    named_with(alloc, name, told_unit(alloc, instance, names, words)?)
+}
+
+/// The unit under this name.
+fn named_with(alloc: Global, name: String, unit: SignedUnit) -> Option<Named> {
+    let digest = Some(digest_in_format(alloc, &unit.unit)?);
+    let vertex = Vertex::Unit(unit);
     Some(Named {
-        name: name.to_string(alloc).ok()?,
-        digest: Some(digest_in_format(alloc, &unit.unit)?),
-        vertex: Vertex::Unit(unit),
+        name,
+        digest,
+        vertex,
     })
 }
 
@@ -47,13 +54,20 @@ fn named_evidence(alloc: Global, names: &[Named], words: &[&str]) -> Option<Name
     let [name, _of, left, right] = words else {
         return None;
     };
-    let left = unit_named(names, left)?.copy().ok()?;
-    let right = unit_named(names, right)?.copy().ok()?;
+    let name = name.to_string(alloc).ok()?;
+    let vertex = pair(unit_named(names, left)?, unit_named(names, right)?)?;
     Some(Named {
-        name: name.to_string(alloc).ok()?,
+        name,
         digest: None,
-        vertex: Vertex::Evidence(Evidence { left, right }),
+        vertex,
     })
+}
+
+/// The evidence of these two units.
+fn pair(left: &SignedUnit, right: &SignedUnit) -> Option<Vertex> {
+    let left = left.copy().ok()?;
+    let right = right.copy().ok()?;
+    Some(Vertex::Evidence(Evidence { left, right }))
 }
 
 /// The digest of a unit that keeps the limits of its format.
