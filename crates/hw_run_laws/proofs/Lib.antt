@@ -1,0 +1,4 @@
+pub mod CompleteLaws
+pub mod FrameLaws
+pub mod PassedLaws
+pub mod StepLaws

@@ -1,0 +1,51 @@
+-- What the consumers that are left took of a replay or a run that was cut short: the statements.
+-- Source: ours.
+use Rattle.std.specs.Prelude.{◌⊎◌, ℕ, Bool, List, [], All, Option, Some, None, Result}
+use Rattle.hw_types.specs.Real.{CoreState}
+use Rattle.hw_fanout.specs.State.{FanoutState}
+use Rattle.hw_fanout.specs.Fates.{Sight}
+use Rattle.hw_fanout.specs.Told.{HasTaken}
+use Rattle.hw_replay.specs.declared.fault.StartFault.{StartFault}
+use Rattle.hw_replay.specs.Taken.{Taken}
+use Rattle.hw_feed.specs.Feed.{first_moment, AreFedUntil, AreFedSome}
+use Rattle.hw_service.specs.declared.fault.ServiceFault.{ServiceFault}
+use Rattle.hw_service.specs.Scene.{Outside, Scene, none_told}
+use Rattle.hw_service.specs.Begin.{Names}
+use Rattle.hw_service.specs.Run.{StepOver, HaveTaken, StopsAtStep, StopsAtReport, RunsPart}
+use Rattle.hw_service.specs.Serve.{serves_session}
+use Rattle.hw_service.specs.Turns.{TakesTurn}
+use Rattle.hw_reunion.specs.Runs.{hosts_session, calls_peer}
+
+-- these consumers have taken nothing
+abbrev pub HaveNothing : {B K : Type 0} → Sight B K → List B → Type 0
+HaveNothing sight consumers = All (λ b. HasTaken [] 0 (sight.consumed b)) consumers
+
+-- Of a replay that stopped, each consumer that is left has taken nothing, or else the first blocks of what the node had decided by then, in order
+-- and each once.
+abbrev pub StoppedReplays : {B K : Type 0} → Sight B K → Type 0
+StoppedReplays {B} sight = (tells : Bool) (whole : Result Taken StartFault) (old new : List B) (after : FanoutState) → AreFedSome sight tells whole old new (none_told old) after → HaveNothing sight old
+    → HaveNothing sight new
+    ⊎ ((until : AreFedUntil sight tells whole (λ (core : CoreState). first_moment core.config old (none_told old)) new after) × HaveTaken sight until.taken.core after.passed new)
+
+-- Of a run that began and was cut short, each consumer that is left has taken the first blocks of what the node had decided where it stopped.
+abbrev pub TookUntil : {B K X : Type 0} → Sight B K → StepOver B X → ℕ → ℕ → Scene B → Outside B → X → X → ServiceFault → Type 0
+TookUntil sight step number count first after x y e =
+    ((stop : StopsAtStep step number count first after x y e) × HaveTaken sight stop.last.node.core stop.last.kept.passed after.consumers)
+    ⊎ ((stop : StopsAtReport sight step number count first after x y e) × HaveTaken sight stop.last.node.core stop.last.kept.passed after.consumers)
+
+abbrev pub CutRuns : {B K X : Type 0} → Sight B K → Option ℕ → StepOver B X → Type 0
+CutRuns {B} {K} {X} sight me step = (tells : Bool) (names : Names) (number count : ℕ) (before after : Outside B) (x y : X) (e : ServiceFault) → (run : RunsPart sight tells names me step number count before after x y e)
+    → HaveNothing sight before.consumers → TookUntil sight step number count run.first after x y e
+
+-- So it is where a node serves, where a validator takes turns, and where a node is dialled by others, or dials one, and meets them.
+abbrev pub CutServices : {B K : Type 0} → Sight B K → Type 0
+CutServices sight = (tells : Bool) → CutRuns sight None (serves_session sight tells)
+
+abbrev pub CutTurns : {B K : Type 0} → Sight B K → Type 0
+CutTurns sight = (tells : Bool) (me : ℕ) → CutRuns sight (Some me) (TakesTurn sight tells me)
+
+abbrev pub CutHosts : {B K : Type 0} → Sight B K → Type 0
+CutHosts sight = (tells : Bool) → CutRuns sight None (hosts_session sight tells)
+
+abbrev pub CutCalls : {B K : Type 0} → Sight B K → Type 0
+CutCalls sight = (tells : Bool) (address : List ℕ) → CutRuns sight None (calls_peer sight tells address)

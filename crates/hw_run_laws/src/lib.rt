@@ -1,0 +1,11 @@
+//! Laws of sessions and of runs of a node.
+//!
+//! A session that nothing outside disturbs, with a peer that sends what is due, ends as both said, or for want of memory.
+//!
+//! A run that comes to its report says itself that each consumer that is left took the whole decided chain. Of one that
+//! a fault, a clash or want of memory ends, and of a replay that stops, each took a prefix of it.
+#![tactic(auto)]
+
+mod laws;
+
+pub use laws::{cut_runs_leave_prefixes, undisturbed_sessions_are_whole};
