@@ -127,13 +127,13 @@ pub fn highway<F: Files, S: Sink, C: Clock, D: Door>(
     ensures log { IsTrue F.tells → OnlyLogChanges (service_of words.now) (F.held files.old) (F.held files.new) }
 {
     match service_of(words) {
-        Some(command) => host(alloc, &command, files, out, clock, door, consumers),
+        Some(command) => run_node(alloc, &command, files, out, clock, door, consumers),
         None => work(alloc, words, files, out, consumers),
     }
 }
 
 /// Lets a node run as it is asked to, and answers the status.
-fn host<F: Files, S: Sink, C: Clock, D: Door>(
+fn run_node<F: Files, S: Sink, C: Clock, D: Door>(
     alloc: Global,
     command: &NodeCommand<'_>,
     files: &mut F,
