@@ -19,7 +19,8 @@ fn main(rt: HostRuntime) -> ExitCode {
 }
 
 /// Runs over the files, the output, the clock and the network of the host. The values of decided blocks go into a
-/// file, and their count onto standard error. Where the words ask to serve, the door listens at their address.
+/// file, and their count onto standard error. Where the words ask to serve or to host, the door listens
+/// at their address.
 fn run_on_host(rt: HostRuntime, words: &Words) -> Result<u8, OutOfMemory> {
     let alloc = rt.alloc();
     let values = ValueFile::new(alloc, HostFiles::new(rt));

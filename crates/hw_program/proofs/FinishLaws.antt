@@ -17,8 +17,9 @@ use Rattle.hw_service.specs.Begin.{Names}
 use Rattle.hw_service.specs.Steps.{Taken, AreTaken, TakesAll}
 use Rattle.hw_service.specs.Run.{StepOver, RunsWhole, Runs}
 use Rattle.hw_service.specs.Serve.{serves_session}
+use Rattle.hw_reunion.specs.Runs.{hosts_session, calls_peer}
 use Rattle.hw_service.specs.Turns.{turning, TellsMade, DrivesSession, TakesTurn}
-use Rattle.hw_program.specs.Services.{Service, Serve, Run}
+use Rattle.hw_program.specs.Services.{Service, Serve, Run, Host, Meet}
 use Rattle.hw_program.specs.Served.{WereFinished, RunsAsAsked}
 use Rattle.hw_program.proofs.FedLaws.{served_all}
 
@@ -72,6 +73,12 @@ module _ {B K : Type 0} (sight : Sight B K) where
   session_keeps : (tells : Bool) → Keeps (serves_session sight tells)
   session_keeps tells k old new failed s h = passed_finished (moment_of old.0) (moment_of new.0) s.passed h
 
+  host_keeps : (tells : Bool) → Keeps (hosts_session sight tells)
+  host_keeps tells k old new failed s h = passed_finished (moment_of old.0) (moment_of new.0) s.passed h
+
+  meet_keeps : (tells : Bool) (address : List ℕ) → Keeps (calls_peer sight tells address)
+  meet_keeps tells address k old new failed s h = passed_finished (moment_of old.0) (moment_of new.0) s.passed h
+
   peer_keeps : (tells : Bool) → Keeps (DrivesSession sight tells)
   peer_keeps tells k old new failed d h = passed_finished (moment_of old.0) (moment_of new.0) d.drives.passed h
 
@@ -107,3 +114,5 @@ module _ {B K : Type 0} (sight : Sight B K) where
   asked_finished (Run names me turns peers) tells before after given given_now came_to (inl runs) h =
       runs_finished tells names (Some me) (TakesTurn sight tells me) (turn_keeps tells me) 1 turns before after (turning runs.first given) (turning runs.last given_now) came_to runs.runs h
   asked_finished (Run names me turns peers) tells before after given given_now came_to (inr none) h = subst (λ (r : Result Served ServiceFault). OnOk r (WereFinished sight 1 after.consumers)) (sym none.memory) tt
+  asked_finished (Host names address sessions) tells before after given given_now came_to runs h = runs_finished tells names None (hosts_session sight tells) (host_keeps tells) 1 sessions before after tt tt came_to runs.0 h
+  asked_finished (Meet names peer) tells before after given given_now came_to runs h = runs_finished tells names None (calls_peer sight tells peer) (meet_keeps tells peer) 0 1 before after tt tt came_to runs.0 h

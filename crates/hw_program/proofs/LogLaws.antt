@@ -1,6 +1,6 @@
 -- A run of a node changes no file but its log.
 use Rattle.std.proofs.Common.{◌≡◌, ℕ, ◌+◌, List, [], ◌∷◌, Bool, Option, Some, None, Result, Ok, Err, sym, ap, subst, ◌∙◌, inl, inr}
-use Rattle.std.specs.Prelude.{◌≢◌, IsTrue, length}
+use Rattle.std.specs.Prelude.{◌⊎◌, ◌≢◌, IsTrue, length}
 use Rattle.hw_types.specs.declared.config.Config.{Config}
 use Rattle.hw_types.specs.declared.answers.Plan.{Plan}
 use Rattle.hw_types.specs.declared.unit.Vertex.{Vertex}
@@ -27,9 +27,14 @@ use Rattle.hw_service.specs.Steps.{Taken, AreTaken, TakesAll, TakesUntil, Takes}
 use Rattle.hw_service.specs.Told.{ServesOne}
 use Rattle.hw_service.specs.Run.{StepOver, ReportsNot, Runs}
 use Rattle.hw_service.specs.Serve.{serves_session}
+use Rattle.hw_meeting_node.specs.declared.end.MeetEnd.{MeetEnd}
+use Rattle.hw_meeting_node.specs.declared.end.MeetEnd.TheVariants as meet
+use Rattle.hw_meeting_node.specs.declared.meeter.Side.{Side}
+use Rattle.hw_node_taker.specs.Meets.{Leaves as LeavesMet, NodeMeets, NodeMeetsNone}
+use Rattle.hw_reunion.specs.Runs.{hosts_session, calls_peer}
 use Rattle.hw_service.specs.Turns.{turning, MakesUnit, DrivesOne, DrivesSession, Turns, TakesTurn}
 use Rattle.hw_program.specs.Program.{Held}
-use Rattle.hw_program.specs.Services.{Service, Serve, Run, names_in}
+use Rattle.hw_program.specs.Services.{Service, Serve, Run, Host, Meet, names_in}
 use Rattle.hw_program.specs.Served.{RunsAsAsked, Around, RunsNode, OnlyLogChanges}
 
 -- ---- a node
@@ -70,6 +75,18 @@ driven_alone (end.BadFrame at) n mark read m tells old new t l = logs_alone n m 
 driven_alone end.LinkFault n mark read m tells old new t l = logs_alone n m tells old new t l.1
 driven_alone end.ByteLimit n mark read m tells old new t l = logs_alone n m tells old new t l.1
 driven_alone end.Clash n mark read m tells old new t l = logs_alone n m tells old new t l.1
+
+met_alone : (e : MeetEnd) (side : Side) (n : NodeState) (read : List ℕ) (m : NodeState) (tells : Bool) (old new : Held) → IsTrue tells → LeavesMet e side n read m tells old new → IsAlone n m old new
+met_alone meet.AppendFault side n read m tells old new t l = cut_alone n _ _ m tells old new t l.logs
+met_alone meet.OutOfMemory side n read m tells old new t (inl l) = logs_alone n m tells old new t l.logs
+met_alone meet.OutOfMemory side n read m tells old new t (inr l) = cut_alone n _ _ m tells old new t l.logs
+met_alone (meet.Done refused) side n read m tells old new t l = logs_alone n m tells old new t l.1
+met_alone meet.EndOfInput side n read m tells old new t l = logs_alone n m tells old new t l.1
+met_alone meet.WrongInstance side n read m tells old new t l = logs_alone n m tells old new t l.1
+met_alone (meet.BadFrame at) side n read m tells old new t l = logs_alone n m tells old new t l.1
+met_alone meet.LinkFault side n read m tells old new t l = logs_alone n m tells old new t l.1
+met_alone meet.ByteLimit side n read m tells old new t l = logs_alone n m tells old new t l.1
+met_alone meet.Clash side n read m tells old new t l = logs_alone n m tells old new t l.1
 
 own_alone : (n m : NodeState) (planned : Option Plan) (old new : Held) (made : Result (Option Plan) MakeFault) → Makes n planned m made → WritesOwn n planned old new made → IsAlone n m old new
 own_alone n m planned old new (Ok (Some p)) makes log = (log.others, ap (λ (x : NodeState). x.log) makes.1)
@@ -114,6 +131,19 @@ module _ {B K : Type 0} (sight : Sight B K) (tells : Bool) (t : IsTrue tells) (n
   driven_only : (old new : Scene B) (before after : Peer) (e : SessionEnd) → DrivesOne tells old new before after e → IsOnly old → IsOnly new
   driven_only old new before after e (inl d) h = only_then old new (driven_alone e old.node before.mark d.read new.node tells old.around.files new.around.files t d.drives.left) h
   driven_only old new before after e (inr d) h = only_then old new (nothing_done old.node new.node old.around.files new.around.files d.state (d.files t)) h
+
+  met_only : (side : Side) (address : Option (List ℕ)) (old new : Scene B) (e : MeetEnd)
+      → NodeMeets side address old.node new.node tells old.around.files new.around.files old.around.door.sessions new.around.door.sessions old.around.door.ends new.around.door.ends e
+      ⊎ NodeMeetsNone old.node new.node tells old.around.files new.around.files old.around.door.sessions new.around.door.sessions e
+      → IsOnly old → IsOnly new
+  met_only side address old new e (inl s) h = only_then old new (met_alone e side old.node s.meets.read new.node tells old.around.files new.around.files t s.left) h
+  met_only side address old new e (inr s) h = only_then old new (nothing_done old.node new.node old.around.files new.around.files s.state (s.files t)) h
+
+  host_only : Keeps (hosts_session sight tells)
+  host_only k old new result s h = met_only _ _ old.0 new.0 s.end s.hosted h
+
+  meet_only : (address : List ℕ) → Keeps (calls_peer sight tells address)
+  meet_only address k old new result s h = met_only _ _ old.0 new.0 s.end s.called h
 
   session_only : Keeps (serves_session sight tells)
   session_only k old new result s h = served_only old.0 new.0 s.end s.served h
@@ -193,6 +223,10 @@ asked_left sight (Serve names address sessions) tells before after given given_n
 asked_left sight (Run names me turns peers) tells before after given given_now came_to t (inl runs) =
     runs_left sight tells names (Some me) (TakesTurn sight tells me) 1 turns before after (turning runs.first given) (turning runs.last given_now) came_to t (turn_only sight tells t names.log before.files me) runs.runs
 asked_left sight (Run names me turns peers) tells before after given given_now came_to t (inr none) = λ other not. none.stays.files other
+asked_left sight (Host names address sessions) tells before after given given_now came_to t runs =
+    runs_left sight tells names None (hosts_session sight tells) 1 sessions before after tt tt came_to t (host_only sight tells t names.log before.files) runs.0
+asked_left sight (Meet names peer) tells before after given given_now came_to t runs =
+    runs_left sight tells names None (calls_peer sight tells peer) 0 1 before after tt tt came_to t (meet_only sight tells t names.log before.files peer) runs.0
 
 pub node_log : {B K : Type 0} (sight : Sight B K) (tells : Bool) (s : Service) (status : ℕ) (old new : Around B) → RunsNode sight tells s status old new → IsTrue tells → OnlyLogChanges (Some s) old.whole.files new.whole.files
 node_log sight tells s status old new r t = asked_left sight s tells old.whole (record new.whole { written = r.between.taken }) old.given new.given r.came_to t r.runs

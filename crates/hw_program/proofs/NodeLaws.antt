@@ -17,15 +17,16 @@ use Rattle.hw_service.specs.Begin.{Names, file_settings, ReadsNot, Reads, fault_
 use Rattle.hw_service.specs.Begun.{IsAbout}
 use Rattle.hw_service.specs.Run.{StepOver, Runs}
 use Rattle.hw_service.specs.Serve.{serves_session}
+use Rattle.hw_reunion.specs.Runs.{hosts_session, calls_peer}
 use Rattle.hw_service.specs.Turns.{turning, TakesTurn}
 use Rattle.hw_service.specs.Counts.{IsReadCounted, IsAppendCounted, IsWriteCounted, IsDoorCounted}
 use Rattle.hw_program.specs.declared.ended.Ended.{Ended}
 use Rattle.hw_program.specs.Program.{Held}
 use Rattle.hw_program.specs.Texts.{usage_line, read_fault_line, input_ended, clash_ended}
 use Rattle.hw_program.specs.Run.{Output, WritesLine, IsStatus, IsWorkedStatus, IsServiceStatus}
-use Rattle.hw_program.specs.Services.{Service, Serve, Run, names_in}
+use Rattle.hw_program.specs.Services.{Service, Serve, Run, Host, Meet, names_in}
 use Rattle.hw_program.specs.Served.{service_stopped, Tells, EndsBy, RunsAsAsked, Around, RunsNode, MayBegin, IsMidway, CanRun, IsRunEnd, AsksNoValidator}
-use Rattle.hw_program.proofs.ServedLaws.{ends_status, one_config, told_kept, log_fault_status, IsPlainFault, asked_plain, IsStepFault, session_fault, turn_fault, part_fault}
+use Rattle.hw_program.proofs.ServedLaws.{ends_status, one_config, told_kept, log_fault_status, IsPlainFault, asked_plain, IsStepFault, session_fault, host_fault, meet_fault, turn_fault, part_fault}
 
 -- ---- the status of what stopped a run
 
@@ -314,6 +315,10 @@ asked_unwritten sight (Serve names address sessions) tells before after given gi
 asked_unwritten sight (Run names me turns peers) tells before after given given_now e not (inl runs) =
     runs_unwritten sight tells names (Some me) (TakesTurn sight tells me) 1 turns before after (turning runs.first given) (turning runs.last given_now) e (turn_fault sight tells me) not runs.runs
 asked_unwritten sight (Run names me turns peers) tells before after given given_now e not (inr none) = none.stays.written
+asked_unwritten sight (Host names address sessions) tells before after given given_now e not runs =
+    runs_unwritten sight tells names None (hosts_session sight tells) 1 sessions before after tt tt e (host_fault sight tells) not runs.0
+asked_unwritten sight (Meet names peer) tells before after given given_now e not runs =
+    runs_unwritten sight tells names None (calls_peer sight tells peer) 0 1 before after tt tt e (meet_fault sight tells peer) not runs.0
 
 -- so its line is all that is written
 line_told : (e : Ended) (status : ℕ) (old between new : Output) → between.taken ≡ old.taken → between.faults ≡ old.faults → (status ≡ 7 → ⊥) → Tells e status between new → WritesLine old.taken new.taken e.text old.faults new.faults
@@ -400,6 +405,10 @@ asked_in_vain sight (Serve names address sessions) tells before after given give
 asked_in_vain sight (Run names me turns peers) tells before after given given_now (inl runs) =
     runs_in_vain sight tells names (Some me) (TakesTurn sight tells me) 1 turns before after (turning runs.first given) (turning runs.last given_now) (turn_fault sight tells me) runs.runs
 asked_in_vain sight (Run names me turns peers) tells before after given given_now (inr none) = absurd (let never : Err fault.NoValidator ≡ Err fault.OutOfMemory = none.memory in cc)
+asked_in_vain sight (Host names address sessions) tells before after given given_now runs =
+    absurd (runs_in_vain sight tells names None (hosts_session sight tells) 1 sessions before after tt tt (host_fault sight tells) runs.0)
+asked_in_vain sight (Meet names peer) tells before after given given_now runs =
+    absurd (runs_in_vain sight tells names None (calls_peer sight tells peer) 0 1 before after tt tt (meet_fault sight tells peer) runs.0)
 
 pub node_usage : {B K : Type 0} (sight : Sight B K) (tells : Bool) (s : Service) (status : ℕ) (old new : Around B) (r : RunsNode sight tells s status old new) → status ≡ 1 → AsksNoValidator tells (Some s) old.whole.files
 node_usage sight tells s status old new r at =
@@ -449,6 +458,8 @@ asked_vainly sight (Serve names address sessions) tells before after given given
 asked_vainly sight (Run names me turns peers) tells before after given given_now came_to t vain (inl runs) =
     runs_vainly sight tells names me (TakesTurn sight tells me) 1 turns before after (turning runs.first given) (turning runs.last given_now) came_to t vain runs.runs
 asked_vainly sight (Run names me turns peers) tells before after given given_now came_to t vain (inr none) = subst IsInVain (sym none.memory) (inr (inr refl))
+asked_vainly sight (Host names address sessions) tells before after given given_now came_to t vain runs = absurd vain
+asked_vainly sight (Meet names peer) tells before after given given_now came_to t vain runs = absurd vain
 
 vain_status : (names : Names) (came_to : Result Served ServiceFault) (status : ℕ) (old new : Output) → IsInVain came_to → EndsBy names came_to status old new → (status ≡ 1) ⊎ (status ≡ 4) ⊎ (status ≡ 7)
 vain_status names (Ok served) status old new vain ends = absurd vain

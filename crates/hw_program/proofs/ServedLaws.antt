@@ -28,11 +28,13 @@ use Rattle.hw_service.specs.Written.{IsOfOutput}
 use Rattle.hw_service.specs.Run.{StepOver, ReportsNot, RunsPart, Runs}
 use Rattle.hw_service.specs.Turns.{Turning, turning, TellsMade, DrivesSession, Turns, TakesTurn}
 use Rattle.hw_service.specs.Serve.{serves_session}
+use Rattle.hw_reunion.specs.Ends.{session_end}
+use Rattle.hw_reunion.specs.Runs.{hosts_session, calls_peer}
 use Rattle.hw_program.specs.declared.ended.Ended.{Ended}
 use Rattle.hw_program.specs.Program.{Held}
 use Rattle.hw_program.specs.Texts.{append_fault_line, input_ended, limit_ended, clash_ended, stopped_ended}
 use Rattle.hw_program.specs.Run.{Output, Finishes, IsServiceStatus}
-use Rattle.hw_program.specs.Services.{Service, Serve, Run, names_in, maker_in}
+use Rattle.hw_program.specs.Services.{Service, Serve, Run, Host, Meet, names_in, maker_in}
 use Rattle.hw_program.specs.Served.{service_stopped, Tells, EndsBy, RunsAsAsked, IsFitLog, MayBegin, IsMidway}
 
 -- ---- the statuses
@@ -168,6 +170,12 @@ until_fault step number count first last e each until = each _ _ _ until.ends
 
 pub session_fault : {B K : Type 0} (sight : Sight B K) (tells : Bool) (e : ServiceFault) (number : ℕ) (old new : Scene B × Unit {0}) → serves_session sight tells number old new (Err e) → IsStepFault e
 session_fault sight tells e number old new s = told_fault (codes "session") number s.end new.0.node old.0.around.written new.0.around.written e s.told
+
+pub host_fault : {B K : Type 0} (sight : Sight B K) (tells : Bool) (e : ServiceFault) (number : ℕ) (old new : Scene B × Unit {0}) → hosts_session sight tells number old new (Err e) → IsStepFault e
+host_fault sight tells e number old new s = told_fault (codes "session") number (session_end s.end) new.0.node old.0.around.written new.0.around.written e s.told
+
+pub meet_fault : {B K : Type 0} (sight : Sight B K) (tells : Bool) (address : List ℕ) (e : ServiceFault) (number : ℕ) (old new : Scene B × Unit {0}) → calls_peer sight tells address number old new (Err e) → IsStepFault e
+meet_fault sight tells address e number old new s = told_fault (codes "peer") number (session_end s.end) new.0.node old.0.around.written new.0.around.written e s.told
 
 append_step : (e : ServiceFault) → ◌≡◌ {A = Result (Unit {0}) ServiceFault} (Err e) (Err fault.Append) → IsStepFault e
 append_step e is = let same : e ≡ fault.Append = cc in subst IsStepFault (sym same) tt
@@ -316,6 +324,10 @@ asked_midway sight (Run names me turns peers) tells before after given given_now
     runs_midway sight (Run names me turns peers) tells (TakesTurn sight tells me) 1 turns before after (turning runs.first given) (turning runs.last given_now) came_to (turn_fault sight tells me) t may runs.runs
 asked_midway sight (Run names me turns peers) tells before after given given_now came_to (inr none) t may =
     subst (λ (r : Result Served ServiceFault). IfErr r IsMidway) (sym none.memory) tt
+asked_midway sight (Host names address sessions) tells before after given given_now came_to runs t may =
+    runs_midway sight (Host names address sessions) tells (hosts_session sight tells) 1 sessions before after tt tt came_to (host_fault sight tells) t may runs.0
+asked_midway sight (Meet names peer) tells before after given given_now came_to runs t may =
+    runs_midway sight (Meet names peer) tells (calls_peer sight tells peer) 0 1 before after tt tt came_to (meet_fault sight tells peer) t may runs.0
 
 -- ---- which fault has which status
 
@@ -439,6 +451,10 @@ asked_plain sight (Run names me turns peers) tells before after given given_now 
     runs_plain sight tells names (Some me) (TakesTurn sight tells me) 1 turns before after (turning runs.first given) (turning runs.last given_now) came_to (turn_fault sight tells me) runs.runs
 asked_plain sight (Run names me turns peers) tells before after given given_now came_to (inr none) =
     subst (λ (r : Result Served ServiceFault). IfErr r IsPlainFault) (sym none.memory) tt
+asked_plain sight (Host names address sessions) tells before after given given_now came_to runs =
+    runs_plain sight tells names None (hosts_session sight tells) 1 sessions before after tt tt came_to (host_fault sight tells) runs.0
+asked_plain sight (Meet names peer) tells before after given given_now came_to runs =
+    runs_plain sight tells names None (calls_peer sight tells peer) 0 1 before after tt tt came_to (meet_fault sight tells peer) runs.0
 
 -- ---- the line of a fault that has one
 

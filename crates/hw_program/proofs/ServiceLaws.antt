@@ -1,5 +1,5 @@
 -- The run of a node that words ask for.
-use Rattle.std.proofs.Common.{sym, Option, ◌≡◌, ◌≤◌, ◌-◌, Bool, true, false, List, [], ◌∷◌, length, Some, None, refl, ap, subst, ◌∙◌, arith}
+use Rattle.std.proofs.Common.{sym, Option, ◌≡◌, ◌≤◌, ◌<◌, ◌-◌, Bool, true, false, List, [], ◌∷◌, length, Some, None, refl, ap, subst, ◌∙◌, arith}
 use Rattle.std.specs.Prelude.{IfSome, IsSome, codes, bytes_eq, slice_index_or, take, drop, map, if◌then◌else◌}
 use Rattle.std.specs.List.{list_all}
 use Rattle.std.proofs.lemmas.List.{take_rest}
@@ -10,7 +10,7 @@ use Rattle.hw_program.specs.Commands.{Word, Request, is_word, eras_of, numbered_
 use Rattle.hw_program.specs.Program.{Held}
 use Rattle.hw_program.specs.Shown.{IfChecks}
 use Rattle.hw_program.specs.Served.{OnlyLogChanges}
-use Rattle.hw_program.specs.Services.{Service, named, of_many, service_in, service_of}
+use Rattle.hw_program.specs.Services.{Service, named, of_many, service_in, meeting_in, service_of}
 
 -- ---- all are words, or one is none
 
@@ -62,6 +62,35 @@ told_service {T = T} f words slice all command config keys log first second o ar
     said ∙ ap (λ (rest : List T). service_in (f command) (named (f config) (f keys) (f log)) (f first) (f second) (map f rest)) (take_rest slice 6)
     ∙ sym (of_slice f words slice all are all_is every ∙ many_of_many f slice command config keys log first second long h0 h1 h2 h3 h4 h5)
 
+-- the same of five words
+five_of_many : {T : Type 0} (f : T → Word) (slice : List T) (command config keys log peer : T) → length slice ≡ 5
+    → command ≡ slice_index_or slice 0 command → config ≡ slice_index_or slice 1 config → keys ≡ slice_index_or slice 2 keys → log ≡ slice_index_or slice 3 log → peer ≡ slice_index_or slice 4 peer
+    → of_many (map f slice) ≡ meeting_in (f command) (named (f config) (f keys) (f log)) (f peer)
+five_of_many f (x ∷ y ∷ z ∷ u ∷ v ∷ []) a b c d e five h0 h1 h2 h3 h4 =
+    let xa : x ≡ a = sym h0 in
+    let yb : y ≡ b = sym h1 in
+    let zc : z ≡ c = sym h2 in
+    let ud : u ≡ d = sym h3 in
+    let ve : v ≡ e = sym h4 in
+    ap (λ t. meeting_in (f t) (named (f y) (f z) (f u)) (f v)) xa
+    ∙ ap (λ t. meeting_in (f a) (named (f t) (f z) (f u)) (f v)) yb
+    ∙ ap (λ t. meeting_in (f a) (named (f b) (f t) (f u)) (f v)) zc
+    ∙ ap (λ t. meeting_in (f a) (named (f b) (f c) (f t)) (f v)) ud
+    ∙ ap (λ t. meeting_in (f a) (named (f b) (f c) (f d)) (f t)) ve
+five_of_many f (x ∷ y ∷ z ∷ u ∷ v ∷ w ∷ rest) a b c d e five h0 h1 h2 h3 h4 = absurd (omega (arith, five))
+five_of_many f [] a b c d e five h0 h1 h2 h3 h4 = absurd (omega (arith, five))
+five_of_many f (x ∷ []) a b c d e five h0 h1 h2 h3 h4 = absurd (omega (arith, five))
+five_of_many f (x ∷ y ∷ []) a b c d e five h0 h1 h2 h3 h4 = absurd (omega (arith, five))
+five_of_many f (x ∷ y ∷ z ∷ []) a b c d e five h0 h1 h2 h3 h4 = absurd (omega (arith, five))
+five_of_many f (x ∷ y ∷ z ∷ u ∷ []) a b c d e five h0 h1 h2 h3 h4 = absurd (omega (arith, five))
+
+pub told_meeting : {T : Type 0} (f : T → Word) (words : List Word) (slice : List T) (all : Bool) (command config keys log peer : T) (o : Option Service)
+    → map f slice ≡ words → all ≡ list_all (λ x. is_word (f x)) slice → all ≡ true → 5 ≤ length slice → length slice < 6
+    → command ≡ slice_index_or slice 0 command → config ≡ slice_index_or slice 1 config → keys ≡ slice_index_or slice 2 keys → log ≡ slice_index_or slice 3 log → peer ≡ slice_index_or slice 4 peer
+    → o ≡ meeting_in (f command) (named (f config) (f keys) (f log)) (f peer) → o ≡ service_of words
+told_meeting f words slice all command config keys log peer o are all_is every least below h0 h1 h2 h3 h4 said =
+    said ∙ sym (of_slice f words slice all are all_is every ∙ five_of_many f slice command config keys log peer (omega (arith, least, below)) h0 h1 h2 h3 h4)
+
 -- ---- no words are in both parts of the grammar
 
 -- a run of a node asks for no eras
@@ -93,6 +122,30 @@ by_word command names config keys log first second rest s is = go (bytes_eq comm
     go false true e a = absurd (let never : Some s ≡ None = sym is ∙ ap (λ (w : Word). service_in w names first second rest) (is_that command (codes "era-audit") a) ∙ era_audit_asks_none names first second rest in cc)
     go false false e a = few
 
+-- a meeting asks for no eras
+eras_meet_none : (names : Names) (peer : Word) → meeting_in (codes "eras") names peer ≡ None
+unfolding meeting_in
+eras_meet_none names peer = refl
+
+era_audit_meet_none : (names : Names) (peer : Word) → meeting_in (codes "era-audit") names peer ≡ None
+unfolding meeting_in
+era_audit_meet_none names peer = refl
+
+by_meeting : (command : Word) (names : Names) (config keys log peer : Word) (s : Service) → meeting_in command names peer ≡ Some s → of_words command (config ∷ keys ∷ log ∷ peer ∷ []) ≡ None
+unfolding of_few
+by_meeting command names config keys log peer s is = go (bytes_eq command (codes "eras")) (bytes_eq command (codes "era-audit")) refl refl
+  where
+    words : List Word
+    words = config ∷ keys ∷ log ∷ peer ∷ []
+
+    few : of_few command words ≡ None
+    few = refl
+
+    go : (eras audit : Bool) → bytes_eq command (codes "eras") ≡ eras → bytes_eq command (codes "era-audit") ≡ audit → (if eras then eras_of words else if audit then numbered_of words else of_few command words) ≡ None
+    go true audit e a = absurd (let never : Some s ≡ None = sym is ∙ ap (λ (w : Word). meeting_in w names peer) (is_that command (codes "eras") e) ∙ eras_meet_none names peer in cc)
+    go false true e a = absurd (let never : Some s ≡ None = sym is ∙ ap (λ (w : Word). meeting_in w names peer) (is_that command (codes "era-audit") a) ∙ era_audit_meet_none names peer in cc)
+    go false false e a = few
+
 unasked : (all : Bool) (s : Service) → (if all then None else None) ≡ Some s → ⊥
 unasked true s is = absurd (let never : None ≡ Some s = is in cc)
 unasked false s is = absurd (let never : None ≡ Some s = is in cc)
@@ -110,7 +163,11 @@ service_no_request (a ∷ []) s is = absurd (unasked (list_all is_word (a ∷ []
 service_no_request (a ∷ b ∷ []) s is = absurd (unasked (list_all is_word (a ∷ b ∷ [])) s is)
 service_no_request (a ∷ b ∷ c ∷ []) s is = absurd (unasked (list_all is_word (a ∷ b ∷ c ∷ [])) s is)
 service_no_request (a ∷ b ∷ c ∷ d ∷ []) s is = absurd (unasked (list_all is_word (a ∷ b ∷ c ∷ d ∷ [])) s is)
-service_no_request (a ∷ b ∷ c ∷ d ∷ e ∷ []) s is = absurd (unasked (list_all is_word (a ∷ b ∷ c ∷ d ∷ e ∷ [])) s is)
+service_no_request (a ∷ b ∷ c ∷ d ∷ e ∷ []) s is = go (list_all is_word (a ∷ b ∷ c ∷ d ∷ e ∷ [])) is
+  where
+    go : (all : Bool) → (if all then of_many (a ∷ b ∷ c ∷ d ∷ e ∷ []) else None) ≡ Some s → (if all then of_words a (b ∷ c ∷ d ∷ e ∷ []) else None) ≡ None
+    go true is = by_meeting a (named b c d) b c d e s is
+    go false is = refl
 
 -- ---- words that ask for a run of a node, and words that ask for none
 

@@ -3,6 +3,7 @@
 use Rattle.std.specs.Prelude.{◌≡◌, ◌≢◌, ◌≤◌, ◌*◌, ◌⊎◌, ℕ, nat_lt, Bool, IsTrue, List, [], ◌++◌, length, map, All, codes, string_bytes, Option, Some, None, IfSome, Result, Ok, Err, OnOk, IfOk, IfErr, if◌then◌else◌}
 use Rattle.hw_types.specs.declared.config.Config.{Config}
 use Rattle.hw_io.specs.Consumers.{Consumed}
+use Rattle.hw_io.specs.Faults.{raised}
 use Rattle.hw_settings.specs.declared.fault.SettingsFault.{SettingsFault}
 use Rattle.hw_settings.specs.declared.fault.SettingsFault.TheVariants as settings
 use Rattle.hw_replay.specs.Taken.{Taken}
@@ -21,12 +22,13 @@ use Rattle.hw_service.specs.Begun.{IsAbout}
 use Rattle.hw_service.specs.Counts.{IsReadCounted, IsAppendCounted, IsWriteCounted, IsDoorCounted, raised_by}
 use Rattle.hw_service.specs.Serve.{Serves}
 use Rattle.hw_service.specs.Turns.{turning, RunsTurns}
+use Rattle.hw_reunion.specs.Runs.{Hosts, Calls}
 use Rattle.hw_program.specs.declared.ended.Ended.{Ended}
 use Rattle.hw_program.specs.Commands.{Word}
 use Rattle.hw_program.specs.Program.{Held}
 use Rattle.hw_program.specs.Texts.{usage_line, input_ended, read_fault_ended, append_fault_line, memory_ended, clash_ended, stopped_ended}
 use Rattle.hw_program.specs.Run.{Output, Finishes, WritesMemoryLine}
-use Rattle.hw_program.specs.Services.{Service, Serve, Run, names_in, maker_in}
+use Rattle.hw_program.specs.Services.{Service, Serve, Run, Host, Meet, names_in, maker_in}
 
 -- ---- the status
 
@@ -94,11 +96,16 @@ abbrev pub RunsAsAsked : {B K : Type 0} → Sight B K → Bool → Service → O
 RunsAsAsked sight tells (Serve names address sessions) before after given given_now came_to = Serves sight tells names sessions before after came_to × (given_now ≡ given)
 RunsAsAsked sight tells (Run names me turns peers) before after given given_now came_to =
     TakesTurns sight tells names me turns peers before after given given_now came_to ⊎ HasNoPeers before after given given_now came_to
+RunsAsAsked sight tells (Host names address sessions) before after given given_now came_to = Hosts sight tells names sessions before after came_to × (given_now ≡ given)
+RunsAsAsked sight tells (Meet names peer) before after given given_now came_to = Calls sight tells names peer before after came_to × (given_now ≡ given)
 
--- One that serves accepted as often as it has sessions and dialled nobody. One that takes turns dialled each peer once in each, and accepted nobody.
+-- One that serves or hosts accepted as often as it has sessions and dialled nobody. One that takes turns dialled each peer once in each, one that
+-- meets its peer once, and neither accepted anybody.
 abbrev pub CallsDoor : Service → DoorSeen → DoorSeen → Type 0
 CallsDoor (Serve names address sessions) before after = (after.accepts ≡ raised_by sessions before.accepts) × (after.dials ≡ before.dials)
 CallsDoor (Run names me turns peers) before after = (after.dials ≡ raised_by (turns * length peers) before.dials) × (after.accepts ≡ before.accepts)
+CallsDoor (Host names address sessions) before after = (after.accepts ≡ raised_by sessions before.accepts) × (after.dials ≡ before.dials)
+CallsDoor (Meet names peer) before after = (after.dials ≡ raised before.dials) × (after.accepts ≡ before.accepts)
 
 -- each of them was finished so often, where it tells that
 abbrev pub WereFinished : {B K : Type 0} → Sight B K → ℕ → List B → Type 0

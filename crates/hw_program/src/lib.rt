@@ -7,7 +7,7 @@
 //!
 //! A run of a node isn't worked out from words and bytes alone: what is written in it hangs on sessions and moments.
 //! `specs/Services.antt` has its part of the grammar, and `specs/Served.antt` says what it comes to, by what a run of
-//! hw_service comes to, and how it ends.
+//! hw_service or hw_reunion comes to, and how it ends.
 #![tactic(auto)]
 
 mod audit;
@@ -20,7 +20,9 @@ mod ends;
 mod eras;
 mod explain;
 mod faults;
+mod host_peers;
 mod laws;
+mod meet_peer;
 mod replay;
 mod rewrite;
 mod run;

@@ -19,6 +19,8 @@ ghost use Rattle.hw_program.specs.Fed.{CallsNone, ConsumersAfter, IsTextOf};
 ghost use Rattle.hw_program.specs.Shown.{IsShown, IfChecks, ShowsCertificate, ContradictsCertificate};
 ghost use Rattle.hw_program.specs.Run.{IsStatus, IsWorkedStatus, IsServiceStatus, IsDone, IsSaid, IsRefusal, WritesLine, WritesText, WritesPrefix, EndsWithoutMemory, EndsAppending};
 
+use crate::host_peers::host_peers;
+use crate::meet_peer::meet_peer;
 use crate::run_turns::run_turns;
 use crate::serve::serve_sessions;
 use crate::services::{NodeCommand, service_of};
@@ -31,9 +33,9 @@ use std::alloc::Global;
 ///
 /// Most commands make their text whole before the first byte of it is written. In `replay` the consumers are given
 /// the decided blocks after each entry, and are told that no block follows before the report is made; one that
-/// answers an error is dropped, leaves the list, and is named behind the report. `serve` and `run` let a node run,
-/// and tell what happens as it happens: each own unit, and each session that ended otherwise than as Done; then they
-/// report.
+/// answers an error is dropped, leaves the list, and is named behind the report. `serve`, `run`, `host` and `meet` let
+/// a node run, and tell what happens as it happens: each own unit, and each session that ended otherwise than as Done;
+/// then they report.
 ///
 /// The status is 0 where all was done, 1 where the words aren't in the grammar or name a validator that the settings
 /// don't have, 2 where a file's bytes aren't in the grammar, two configurations differ or a file that is to be new is
@@ -125,13 +127,13 @@ pub fn highway<F: Files, S: Sink, C: Clock, D: Door>(
     ensures log { IsTrue F.tells → OnlyLogChanges (service_of words.now) (F.held files.old) (F.held files.new) }
 {
     match service_of(words) {
-        Some(command) => host(alloc, &command, files, out, clock, door, consumers),
+        Some(command) => run_node(alloc, &command, files, out, clock, door, consumers),
         None => work(alloc, words, files, out, consumers),
     }
 }
 
 /// Lets a node run as it is asked to, and answers the status.
-fn host<F: Files, S: Sink, C: Clock, D: Door>(
+fn run_node<F: Files, S: Sink, C: Clock, D: Door>(
     alloc: Global,
     command: &NodeCommand<'_>,
     files: &mut F,
@@ -159,5 +161,13 @@ fn host<F: Files, S: Sink, C: Clock, D: Door>(
         } => run_turns(
             alloc, *sources, *me, *turns, peers, files, out, clock, door, consumers,
         ),
+        NodeCommand::Host {
+            sources,
+            sessions,
+            ..
+        } => host_peers(alloc, *sources, *sessions, files, out, door, consumers),
+        NodeCommand::Meet { sources, peer } => {
+            meet_peer(alloc, *sources, peer, files, out, door, consumers)
+        }
     }
 }

@@ -1,10 +1,10 @@
 //! The grammar of a command line: what a node is asked for that runs.
 
 ghost use Rattle.std.specs.Prelude.{◌≡◌, map, string_bytes};
-ghost use Rattle.std.specs.Option.{option_copied};
+ghost use Rattle.std.specs.Option.{option_copied, option_map};
 ghost use Rattle.hw_script_grammar.specs.Numbers.{number_below};
 ghost use Rattle.hw_service.specs.Begin.{names_of};
-ghost use Rattle.hw_program.specs.Services.{serve_of, turns_of, service_in, service_of, address_in};
+ghost use Rattle.hw_program.specs.Services.{Serve, Host, sessions_of, turns_of, service_in, meeting_in, service_of, address_in};
 ghost use Rattle.hw_program.specs.Serving.{asked_service};
 
 use crate::command::are_words;
@@ -12,7 +12,7 @@ use crate::words::Words;
 use hw_script_grammar::number_up_to;
 use hw_service::Sources;
 
-/// A node serves at most this many sessions in one run.
+/// A node serves at most this many sessions in one run, or meets so many peers that come.
 const MAX_SESSIONS: u64 = 65_536;
 
 /// A validator's number is at most this.
@@ -41,6 +41,17 @@ pub enum NodeCommand<'w> {
         turns: u64,
         peers: &'w [String],
     },
+    /// Meets so many peers that come to the address, one after the other.
+    Host {
+        sources: Sources<'w>,
+        address: &'w str,
+        sessions: u64,
+    },
+    /// Dials the peer at this address and meets it.
+    Meet {
+        sources: Sources<'w>,
+        peer: &'w str,
+    },
 }
 
 /// The run of a node that the words ask for, if they ask for one and are in its grammar.
@@ -67,6 +78,25 @@ pub fn service_of(words: &Words) -> Option<NodeCommand<'_>>
                 rest,
             )
         }
+        [command, config, keys, log, peer] => {
+            let sources = Sources {
+                config: config.as_str(),
+                keys: keys.as_str(),
+                log: log.as_str(),
+            };
+            meeting_in(command.as_str(), sources, peer.as_str())
+        }
+        _ => None,
+    }
+}
+
+/// The run of a node that the command asks for, by the one word behind the names of its files.
+#[tactic(auto, unfolding(crate::specs::Services::meeting_in))]
+fn meeting_in<'w>(command: &str, sources: Sources<'w>, peer: &'w str) -> Option<NodeCommand<'w>>
+    ensures { asked_service result ≡ meeting_in command.now (names_of sources.entry) peer.now }
+{
+    match command {
+        "meet" => Some(NodeCommand::Meet { sources, peer }),
         _ => None,
     }
 }
@@ -83,30 +113,60 @@ fn service_in<'w>(
     ensures { asked_service result ≡ service_in command.now (names_of sources.entry) first.now second.now (map string_bytes rest.now) }
 {
     match command {
-        "serve" => sessions_of(sources, first, second, rest),
+        "serve" => serve_of(sources, first, second, rest),
+        "host" => host_of(sources, first, second, rest),
         "run" => turns_of(sources, first, second, rest),
         _ => None,
     }
 }
 
-/// So many sessions at an address, and no word behind.
-fn sessions_of<'w>(
+/// To serve so many sessions at an address.
+fn serve_of<'w>(
     sources: Sources<'w>,
     address: &'w str,
     sessions: &str,
     rest: &[String],
 ) -> Option<NodeCommand<'w>>
-    ensures { asked_service result ≡ serve_of (names_of sources.entry) address.now (number_below 65537 sessions.now) (map string_bytes rest.now) }
+    ensures { asked_service result ≡ option_map (Serve (names_of sources.entry) address.now) (sessions_of (number_below 65537 sessions.now) (map string_bytes rest.now)) }
+{
+    match sessions_of(sessions, rest) {
+        Some(sessions) => Some(NodeCommand::Serve {
+            sources,
+            address,
+            sessions,
+        }),
+        None => None,
+    }
+}
+
+/// To meet so many peers that come to an address.
+fn host_of<'w>(
+    sources: Sources<'w>,
+    address: &'w str,
+    sessions: &str,
+    rest: &[String],
+) -> Option<NodeCommand<'w>>
+    ensures { asked_service result ≡ option_map (Host (names_of sources.entry) address.now) (sessions_of (number_below 65537 sessions.now) (map string_bytes rest.now)) }
+{
+    match sessions_of(sessions, rest) {
+        Some(sessions) => Some(NodeCommand::Host {
+            sources,
+            address,
+            sessions,
+        }),
+        None => None,
+    }
+}
+
+/// So many sessions, and no word behind.
+fn sessions_of(sessions: &str, rest: &[String]) -> Option<u64>
+    ensures { result ≡ sessions_of (number_below 65537 sessions.now) (map string_bytes rest.now) }
 {
     let sessions = number_up_to(MAX_SESSIONS, sessions.as_bytes())?;
     if sessions == 0 || !rest.is_empty() {
         return None;
     }
-    Some(NodeCommand::Serve {
-        sources,
-        address,
-        sessions,
-    })
+    Some(sessions)
 }
 
 /// So many turns of the validator of a number, with the peers at these addresses.
@@ -131,12 +191,14 @@ fn turns_of<'w>(
     })
 }
 
-/// The address at which the node is to listen for peers, if it is asked to serve.
+/// The address at which the node is to listen for peers, if it is asked to serve, or to meet peers that come.
 pub fn listening_address(words: &Words) -> Option<&str>
     ensures { option_copied result ≡ address_in (service_of words.now) }
 {
     match service_of(words) {
-        Some(NodeCommand::Serve { address, .. }) => Some(address),
+        Some(NodeCommand::Serve { address, .. } | NodeCommand::Host { address, .. }) => {
+            Some(address)
+        }
         _ => None,
     }
 }

@@ -13,46 +13,46 @@ use Rattle.hw_program.proofs.run.highway.Goals as goal
 -- ---- a run of a node
 
 pub returns-in-Some-clause-read_fault : goal.returns-in-Some-clause-read_fault
-returns-in-Some-clause-read_fault g c = λ four. node_read_fault _ _ _ _ _ _ c.host.ensures.node four
+returns-in-Some-clause-read_fault g c = λ four. node_read_fault _ _ _ _ _ _ c.run_node.ensures.node four
 
 pub returns-in-Some-clause-write_fault : goal.returns-in-Some-clause-write_fault
-returns-in-Some-clause-write_fault g c = λ five. node_write_fault _ _ _ _ _ _ c.host.ensures.node five
+returns-in-Some-clause-write_fault g c = λ five. node_write_fault _ _ _ _ _ _ c.run_node.ensures.node five
 
 pub returns-in-Some-clause-read_line : goal.returns-in-Some-clause-read_line
-returns-in-Some-clause-read_line g c = λ four. node_read_line _ _ _ _ _ _ c.host.ensures.node refl four
+returns-in-Some-clause-read_line g c = λ four. node_read_line _ _ _ _ _ _ c.run_node.ensures.node refl four
 
 pub returns-in-Some-clause-usage_line : goal.returns-in-Some-clause-usage_line
-returns-in-Some-clause-usage_line g c = λ one. node_usage_line _ _ _ _ _ _ c.host.ensures.node refl one
+returns-in-Some-clause-usage_line g c = λ one. node_usage_line _ _ _ _ _ _ c.run_node.ensures.node refl one
 
 pub returns-in-Some-clause-node_reads : goal.returns-in-Some-clause-node_reads
-returns-in-Some-clause-node_reads g c = λ asked not. node_reads _ _ _ _ _ _ c.host.ensures.node not
+returns-in-Some-clause-node_reads g c = λ asked not. node_reads _ _ _ _ _ _ c.run_node.ensures.node not
 
 pub returns-in-Some-clause-node_appended : goal.returns-in-Some-clause-node_appended
-returns-in-Some-clause-node_appended g c = λ asked not. node_appended _ _ _ _ _ _ c.host.ensures.node not
+returns-in-Some-clause-node_appended g c = λ asked not. node_appended _ _ _ _ _ _ c.run_node.ensures.node not
 
 pub returns-in-Some-clause-usage : goal.returns-in-Some-clause-usage
-returns-in-Some-clause-usage g c = λ one. inr (asked_so (λ o. AsksNoValidator g.F.Files.tells o (g.F.Files.held c.args.files.now)) _ _ c.in-Some.ensures (node_usage _ _ _ _ _ _ c.host.ensures.node one))
+returns-in-Some-clause-usage g c = λ one. inr (asked_so (λ o. AsksNoValidator g.F.Files.tells o (g.F.Files.held c.args.files.now)) _ _ c.in-Some.ensures (node_usage _ _ _ _ _ _ c.run_node.ensures.node one))
 
 pub returns-in-Some-clause-validator : goal.returns-in-Some-clause-validator
-returns-in-Some-clause-validator g c = λ tells vain. node_validator _ _ _ _ _ _ c.host.ensures.node tells (subst (λ o. AsksNoValidator g.F.Files.tells o (g.F.Files.held c.args.files.now)) (sym c.in-Some.ensures) vain)
+returns-in-Some-clause-validator g c = λ tells vain. node_validator _ _ _ _ _ _ c.run_node.ensures.node tells (subst (λ o. AsksNoValidator g.F.Files.tells o (g.F.Files.held c.args.files.now)) (sym c.in-Some.ensures) vain)
 
 pub returns-in-Some-clause-runs : goal.returns-in-Some-clause-runs
-returns-in-Some-clause-runs g c = λ tells may reads writes appends. run_end _ _ _ _ _ _ c.host.ensures.node tells (subst (λ o. CanRun o (g.F.Files.held c.args.files.now)) (sym c.in-Some.ensures) may) reads writes appends
+returns-in-Some-clause-runs g c = λ tells may reads writes appends. run_end _ _ _ _ _ _ c.run_node.ensures.node tells (subst (λ o. CanRun o (g.F.Files.held c.args.files.now)) (sym c.in-Some.ensures) may) reads writes appends
 
 pub returns-in-Some-clause-link : goal.returns-in-Some-clause-link
-returns-in-Some-clause-link g c = λ six. (is_asked _ _ c.in-Some.ensures, node_link _ _ _ _ _ _ c.host.ensures.node six)
+returns-in-Some-clause-link g c = λ six. (is_asked _ _ c.in-Some.ensures, node_link _ _ _ _ _ _ c.run_node.ensures.node six)
 
 pub returns-in-Some-clause-service : goal.returns-in-Some-clause-service
-returns-in-Some-clause-service g c = if_asked (λ s. IsServiceStatus c.host.result) _ _ c.in-Some.ensures (node_status _ _ _ _ _ _ c.host.ensures.node)
+returns-in-Some-clause-service g c = if_asked (λ s. IsServiceStatus c.run_node.result) _ _ c.in-Some.ensures (node_status _ _ _ _ _ _ c.run_node.ensures.node)
 
 pub returns-in-Some-clause-node_about : goal.returns-in-Some-clause-node_about
-returns-in-Some-clause-node_about g c = λ tells four. if_asked _ _ _ c.in-Some.ensures (node_about _ _ _ _ _ _ c.host.ensures.node tells four)
+returns-in-Some-clause-node_about g c = λ tells four. if_asked _ _ _ c.in-Some.ensures (node_about _ _ _ _ _ _ c.run_node.ensures.node tells four)
 
 pub returns-in-Some-clause-node : goal.returns-in-Some-clause-node
-returns-in-Some-clause-node g c = if_asked _ _ _ c.in-Some.ensures c.host.ensures.node
+returns-in-Some-clause-node g c = if_asked _ _ _ c.in-Some.ensures c.run_node.ensures.node
 
 pub returns-in-Some-clause-log : goal.returns-in-Some-clause-log
-returns-in-Some-clause-log g c = λ tells. asked_so (λ o. OnlyLogChanges o (g.F.Files.held c.args.files.now) (g.F.Files.held c.host.new.files)) _ _ c.in-Some.ensures (node_log _ _ _ _ _ _ c.host.ensures.node tells)
+returns-in-Some-clause-log g c = λ tells. asked_so (λ o. OnlyLogChanges o (g.F.Files.held c.args.files.now) (g.F.Files.held c.run_node.new.files)) _ _ c.in-Some.ensures (node_log _ _ _ _ _ _ c.run_node.ensures.node tells)
 
 pub returns-in-Some-clause-worked : goal.returns-in-Some-clause-worked
 returns-in-Some-clause-worked g c = λ worked. absurd (not_worked_out _ _ c.in-Some.ensures worked)
@@ -117,19 +117,19 @@ returns-in-Some-clause-grammar g c = λ none. absurd (not_worked_out _ _ c.in-So
 -- ---- what a run of a node hasn't to do with
 
 pub returns-in-Some-clause-status : goal.returns-in-Some-clause-status
-returns-in-Some-clause-status g c = service_is_status _ (node_status _ _ _ _ _ _ c.host.ensures.node)
+returns-in-Some-clause-status g c = service_is_status _ (node_status _ _ _ _ _ _ c.run_node.ensures.node)
 
 pub returns-in-Some-clause-allowed : goal.returns-in-Some-clause-allowed
 returns-in-Some-clause-allowed g c = λ tells may. absurd (subst (λ o. IsAllowed o (g.F.Files.held c.args.files.now)) (service_no_request c.args.words.now (service c.in-Some.command) (sym c.in-Some.ensures)) may)
 
 pub returns-in-Some-clause-conflict : goal.returns-in-Some-clause-conflict
-returns-in-Some-clause-conflict g c = λ tells three. absurd (service_not_three _ (node_status _ _ _ _ _ _ c.host.ensures.node) three)
+returns-in-Some-clause-conflict g c = λ tells three. absurd (service_not_three _ (node_status _ _ _ _ _ _ c.run_node.ensures.node) three)
 
 pub returns-in-Some-clause-certified : goal.returns-in-Some-clause-certified
 returns-in-Some-clause-certified g c = λ tells shown. checks_none _ _ (service_no_request c.args.words.now (service c.in-Some.command) (sym c.in-Some.ensures))
 
 pub returns-in-Some-clause-clock : goal.returns-in-Some-clause-clock
-returns-in-Some-clause-clock g c = λ none alone. c.host.ensures.clock (subst (λ o. UsesNoClock o) (sym c.in-Some.ensures) none)
+returns-in-Some-clause-clock g c = λ none alone. c.run_node.ensures.clock (subst (λ o. UsesNoClock o) (sym c.in-Some.ensures) none)
 
 -- ---- a command that is worked out
 

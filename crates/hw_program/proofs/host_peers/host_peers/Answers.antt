@@ -1,0 +1,29 @@
+use Rattle.std.proofs.Common.{refl}
+use Rattle.hw_fanout.specs.Fates.{seen}
+use Rattle.hw_service.specs.Begin.{names_of}
+use Rattle.hw_program.specs.Services.{Host}
+use Rattle.hw_program.proofs.CallLaws.{with_rest}
+use Rattle.hw_program.proofs.FinishLaws.{asked_finished}
+use Rattle.hw_program.proofs.ServedLaws.{asked_midway}
+use Rattle.hw_program.proofs.host_peers.host_peers.Goals as goal
+
+pub returns : goal.returns
+returns g c = record {
+  runs = λ address given.
+      let s = g.S.Sink in
+      let e = c.host-came_to.ensures in
+      record {
+        came_to = c.host-came_to.result;
+        between = record { taken = s.taken c.host-came_to.new.out; faults = s.faults c.host-came_to.new.out; wants = s.wants c.host-came_to.new.out };
+        runs = (e.hosts, refl);
+        ends = c.end_run.ensures;
+        writes = e.writes;
+        reads = e.reads;
+        appends = e.appends;
+        about = e.about;
+        link = e.link;
+        calls = with_rest _ c.host-came_to.result e.accepts e.dials;
+        finished = asked_finished (seen (λ b. (goal.Consumer-dyn g (b.vtable, b.value)).consumed b.value) (λ b. (goal.Consumer-dyn g (b.vtable, b.value)).faults b.value) (λ b. b.vtable)) (Host (names_of c.args.sources) address c.args.sessions) g.F.Files.tells _ _ given given c.host-came_to.result (e.hosts, refl);
+        fit = asked_midway (seen (λ b. (goal.Consumer-dyn g (b.vtable, b.value)).consumed b.value) (λ b. (goal.Consumer-dyn g (b.vtable, b.value)).faults b.value) (λ b. b.vtable)) (Host (names_of c.args.sources) address c.args.sessions) g.F.Files.tells _ _ given given c.host-came_to.result (e.hosts, refl);
+      };
+}
