@@ -1,6 +1,7 @@
 //! Lines of words.
 
 use crate::nodes::session_text;
+use crate::reunions::reunion_text;
 use crate::services::service_text;
 use hw_session::Node;
 use hw_types::OutOfMemory;
@@ -14,6 +15,7 @@ pub fn answer(alloc: Global, nodes: &mut Vec<Node>, line: &str) -> Result<String
             session_text(alloc, nodes, config, keys, log, failure, acts)
         }
         ["service", words @ ..] => service_text(alloc, words),
+        ["reunion", words @ ..] => reunion_text(alloc, words),
         _ => Ok(String::new(alloc)),
     }
 }
