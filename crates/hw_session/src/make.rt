@@ -102,7 +102,8 @@ impl Node {
         match vertex {
             Vertex::Unit(unit) => Ok(OwnUnit { unit, name, entry }),
             // It was made as a unit.
-            Vertex::Evidence(_) | Vertex::Endorsement(_) => unreachable!(),
+            Vertex::Evidence(_evidence) => unreachable!(),
+            Vertex::Endorsement(_endorsement) => unreachable!(),
         }
     }
 
