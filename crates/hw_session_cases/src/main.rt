@@ -38,8 +38,8 @@ mod peers;
 mod reunions;
 mod runs;
 mod services;
-mod words;
 
+use hw_case_words::Answer;
 use hw_session::Node;
 use std::io;
 
@@ -58,8 +58,10 @@ fn answer_all(rt: HostRuntime, nodes: &mut Vec<Node>) -> io::Result<()> {
 
 /// Answers a line.
 fn answer(rt: HostRuntime, nodes: &mut Vec<Node>, line: &str) -> io::Result<()> {
-    match lines::answer(rt.alloc(), nodes, line) {
-        Ok(text) => println!(rt; "{text}"),
-        Err(_) => Err(io::ErrorKind::OutOfMemory.into()),
+    let mut answer = Answer::new(rt.alloc());
+    lines::tell(&mut answer, nodes, line);
+    match answer.finish() {
+        Some(text) => println!(rt; "{text}"),
+        None => Err(io::ErrorKind::InvalidInput.into()),
     }
 }

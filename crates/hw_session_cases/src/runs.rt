@@ -1,11 +1,10 @@
 //! What services and reunions share: the files, the consumers, and what is told of a run.
 
 use crate::outside::{Outside, consumer_of};
+use hw_case_words::Answer;
 use hw_io::Consumer;
 use hw_replay::StartFault;
 use hw_service::{Served, ServiceFault, Sources};
-use hw_types::OutOfMemory;
-use std::alloc::Global;
 
 /// The files of a node.
 pub const SOURCES: Sources<'static> = Sources {
@@ -15,21 +14,28 @@ pub const SOURCES: Sources<'static> = Sources {
 };
 
 /// Puts a consumer of each of these plans last.
-pub fn put_consumers(
-    alloc: Global,
-    consumers: &mut Vec<Box<dyn Consumer>>,
-    plans: &str,
-) -> Result<(), OutOfMemory> {
+pub fn put_consumers(answer: &mut Answer, consumers: &mut Vec<Box<dyn Consumer>>, plans: &str) {
     if plans != "none" {
         for plan in plans.split(',') {
-            consumers.push(Box::new(alloc, consumer_of(alloc, plan)?)?)?;
+            put_consumer(answer, consumers, plan);
         }
     }
-    Ok(())
+}
+
+fn put_consumer(answer: &mut Answer, consumers: &mut Vec<Box<dyn Consumer>>, plan: &str) {
+    let consumer = consumer_of(answer, plan);
+    match Box::new(answer.alloc(), consumer) {
+        Ok(consumer) => {
+            if consumers.push(consumer).is_err() {
+                answer.refuse();
+            }
+        }
+        Err(_) => answer.refuse(),
+    }
 }
 
 /// The status with which a program ends that runs so.
-pub fn status_of(served: &Result<Served, ServiceFault>) -> u8 {
+fn status_of(served: &Result<Served, ServiceFault>) -> u8 {
     match served {
         Ok(served) if served.limits > 0 => 8,
         Ok(served) if served.link_failed => 6,
@@ -48,23 +54,29 @@ pub fn status_of(served: &Result<Served, ServiceFault>) -> u8 {
     }
 }
 
-/// Tells the status, what was written, the log, and what the node wrote in each session.
-pub fn told(alloc: Global, outside: &Outside, status: u8) -> Result<String, OutOfMemory> {
-    let mut text = format!(in alloc; "{status} ")?;
-    for byte in outside.out.taken() {
-        text.push(if *byte == b'\n' {
-            '/'
-        } else {
-            char::from(*byte)
-        })?;
-    }
-    text.push_str(" log ")?;
+/// Tells the status.
+pub fn put_status(answer: &mut Answer, served: &Result<Served, ServiceFault>) {
+    answer.show(&status_of(served));
+}
+
+/// Tells what was written, the log, and what the node wrote in each session.
+pub fn put_outside(answer: &mut Answer, outside: &Outside) {
+    answer.put(" ");
+    put_lines(answer, outside.out.taken());
+    answer.put(" log ");
     if let Some(log) = outside.files.file("LOG") {
-        text.push_str(hex::encode(alloc, log)?.as_str())?;
+        answer.hex(log);
     }
     for session in outside.door.sessions() {
-        text.push_str(" session ")?;
-        text.push_str(hex::encode(alloc, session.written())?.as_str())?;
+        answer.put(" session ");
+        answer.hex(session.written());
     }
-    Ok(text)
+}
+
+/// Puts what was written, with a `/` for each line feed.
+fn put_lines(answer: &mut Answer, written: &[u8]) {
+    for byte in written {
+        let byte = if *byte == b'\n' { b'/' } else { *byte };
+        answer.characters(&[byte]);
+    }
 }
