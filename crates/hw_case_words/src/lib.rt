@@ -1,10 +1,12 @@
-//! Configurations and units as the lines of worked cases tell them, for the programs that run such lines.
+//! Configurations and units as the lines of worked cases tell them, and the answers to lines, for the programs that run such lines.
 #![tactic(auto)]
 
+mod answer;
 mod config;
 mod unit;
 mod words;
 
+pub use answer::Answer;
 pub use config::config_of;
 pub use unit::{own_observation, told_number, unit_of};
-pub use words::{after, is_key, named, number_of, word_of};
+pub use words::{after, byte, is_key, named, number, number_of, small, with_line_feeds, word_of};

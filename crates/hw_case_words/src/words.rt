@@ -17,6 +17,21 @@ pub fn after<'a, 'b>(words: &'a [&'b str], key: &str) -> &'a [&'b str] {
     }
 }
 
+/// The number that the word spells, or 0.
+pub fn number(word: &str) -> u64 {
+    word.parse().unwrap_or(0)
+}
+
+/// The smaller number that the word spells, or 0.
+pub fn small(word: &str) -> u32 {
+    word.parse().unwrap_or(0)
+}
+
+/// The byte that the word spells, or 0.
+pub fn byte(word: &str) -> u8 {
+    word.parse().unwrap_or(0)
+}
+
 /// The number behind this word, else 0.
 pub fn number_of(words: &[&str], key: &str) -> u64 {
     match after(words, key) {
@@ -48,4 +63,13 @@ pub fn word_of(alloc: Global, name: &Digest) -> Option<String> {
         }
     }
     Some(word)
+}
+
+/// The text with line feeds where it has `/`, None for want of memory.
+pub fn with_line_feeds(alloc: Global, text: &str) -> Option<Vec<u8>> {
+    let mut bytes = Vec::new(alloc);
+    for byte in text.bytes() {
+        bytes.push(if byte == b'/' { b'\n' } else { byte }).ok()?;
+    }
+    Some(bytes)
 }

@@ -1,7 +1,8 @@
 //! Long chains of units, and the sums of what became of them.
 
 use crate::outcome::{Outcome, delivery};
-use hw_codec::{digest_of, fits};
+use crate::units::digest_in_format;
+use hw_case_words::{Answer, small};
 use hw_core::Core;
 use hw_types::{
     Bytes, Digest, DigestList, Obs, ObsList, Receipt, Signature, SignedUnit, Vertex, WireUnit,
@@ -9,7 +10,7 @@ use hw_types::{
 use std::alloc::Global;
 
 /// How many deliveries ended how.
-#[derive(Clone, Copy, Debug, PartialEq, Eq)]
+#[derive(Clone, Copy)]
 struct Sums {
     admitted: u32,
     settled: u32,
@@ -19,45 +20,37 @@ struct Sums {
 }
 
 /// Delivers a chain of so many units of validator 0, each on the one before it, the first one a block.
-pub fn chain(alloc: Global, instance: Digest, core: &mut Core, words: &[&str]) -> Option<String> {
+pub fn chain(answer: &mut Answer, instance: Digest, core: &mut Core, words: &[&str]) {
     let [count, order] = words else {
-        return None;
+        return answer.refuse();
     };
     let validators = core.state().config().weights.len();
-    let units = ordered(alloc, instance, validators, count.parse().ok()?, order)?;
-    told(alloc, count, &delivered(core, units)?)
+    let mut units = units_of(answer, instance, validators, small(count));
+    if *order == "reverse" {
+        units.reverse();
+    }
+    let sums = delivered(answer, core, units);
+    told(answer, count, sums);
 }
 
 /// What became of so many units, as a line.
-fn told(alloc: Global, count: &str, sums: &Sums) -> Option<String> {
-    format!(in alloc;
-        "chain {count} admitted {} settled {} parked {} missing {} other {}\n",
-        sums.admitted, sums.settled, sums.parked, sums.missing, sums.other
-    )
-    .ok()
-}
-
-/// The units of the chain in this order.
-fn ordered(
-    alloc: Global,
-    instance: Digest,
-    validators: usize,
-    count: u32,
-    order: &str,
-) -> Option<Vec<SignedUnit>> {
-    let mut units = units_of(alloc, instance, validators, count)?;
-    match order {
-        "forward" => Some(units),
-        "reverse" => {
-            units.reverse();
-            Some(units)
-        }
-        _ => None,
-    }
+fn told(answer: &mut Answer, count: &str, sums: Sums) {
+    let Sums {
+        admitted,
+        settled,
+        parked,
+        missing,
+        other,
+    } = sums;
+    let put = write!(
+        answer.text,
+        "chain {count} admitted {admitted} settled {settled} parked {parked} missing {missing} other {other}\n"
+    );
+    answer.keep(put);
 }
 
 /// Delivers the units, the first one first.
-fn delivered(core: &mut Core, units: Vec<SignedUnit>) -> Option<Sums> {
+fn delivered(answer: &mut Answer, core: &mut Core, units: Vec<SignedUnit>) -> Sums {
     let mut sums = Sums {
         admitted: 0,
         settled: 0,
@@ -66,9 +59,12 @@ fn delivered(core: &mut Core, units: Vec<SignedUnit>) -> Option<Sums> {
         other: 0,
     };
     for unit in units {
-        sums = added(sums, became(core, unit)?);
+        match became(core, unit) {
+            Some(outcome) => add(&mut sums, outcome),
+            None => answer.refuse(),
+        }
     }
-    Some(sums)
+    sums
 }
 
 /// What becomes of the unit.
@@ -77,62 +73,56 @@ fn became(core: &mut Core, unit: SignedUnit) -> Option<Outcome> {
     delivery(core, &vertex, true)
 }
 
-/// The sums with one outcome more.
-fn added(sums: Sums, outcome: Outcome) -> Sums {
+/// Counts one outcome more.
+fn add(sums: &mut Sums, outcome: Outcome) {
     match outcome {
-        Outcome::Taken(Receipt::Admitted { settled }) => Sums {
-            admitted: sums.admitted.saturating_add(1),
-            settled: sums.settled.saturating_add(settled),
-            ..sums
-        },
-        Outcome::Taken(Receipt::Parked { missing }) => Sums {
-            parked: sums.parked.saturating_add(1),
-            missing: sums.missing.saturating_add(missing),
-            ..sums
-        },
-        _ => Sums {
-            other: sums.other.saturating_add(1),
-            ..sums
-        },
+        Outcome::Taken(Receipt::Admitted { settled }) => {
+            sums.admitted = sums.admitted.saturating_add(1);
+            sums.settled = sums.settled.saturating_add(settled);
+        }
+        Outcome::Taken(Receipt::Parked { missing }) => {
+            sums.parked = sums.parked.saturating_add(1);
+            sums.missing = sums.missing.saturating_add(missing);
+        }
+        _ => sums.other = sums.other.saturating_add(1),
     }
 }
 
 /// The units of the chain, the first one first.
 fn units_of(
-    alloc: Global,
+    answer: &mut Answer,
     instance: Digest,
     validators: usize,
     count: u32,
-) -> Option<Vec<SignedUnit>> {
-    let mut units = Vec::new(alloc);
+) -> Vec<SignedUnit> {
+    let mut units = Vec::new(answer.alloc());
     let mut own = Obs::Absent;
     for number in 0..count {
-        let panorama = panorama_of(alloc, validators, own)?;
-        own = put_unit(alloc, instance, number, panorama, &mut units)?;
+        let panorama = panorama_of(answer, validators, own);
+        own = put_unit(answer, instance, number, panorama, &mut units);
     }
-    Some(units)
+    units
 }
 
 /// Puts the unit of this number last, and answers what the next one observes of validator 0.
 fn put_unit(
-    alloc: Global,
+    answer: &mut Answer,
     instance: Digest,
     number: u32,
     panorama: ObsList,
     units: &mut Vec<SignedUnit>,
-) -> Option<Obs> {
-    let unit = unit_at(alloc, instance, number, panorama);
-    let name = named(alloc, &unit.unit)?;
-    units.push(unit).ok()?;
-    Some(Obs::Correct(name))
-}
-
-/// The digest of a unit that keeps the limits of its format.
-fn named(alloc: Global, unit: &WireUnit) -> Option<Digest> {
-    if fits(unit) {
-        digest_of(alloc, unit).ok()
-    } else {
-        None
+) -> Obs {
+    let unit = unit_at(answer.alloc(), instance, number, panorama);
+    let name = digest_in_format(answer.alloc(), &unit.unit);
+    if units.push(unit).is_err() {
+        answer.refuse();
+    }
+    match name {
+        Some(name) => Obs::Correct(name),
+        None => {
+            answer.refuse();
+            Obs::Absent
+        }
     }
 }
 
@@ -159,11 +149,15 @@ fn unit_at(alloc: Global, instance: Digest, number: u32, panorama: ObsList) -> S
 }
 
 /// This observation of validator 0, and of the others none.
-fn panorama_of(alloc: Global, validators: usize, own: Obs) -> Option<ObsList> {
-    let mut panorama = ObsList::new(alloc);
-    panorama.push(own).ok()?;
-    for _ in 1..validators {
-        panorama.push(Obs::Absent).ok()?;
+fn panorama_of(answer: &mut Answer, validators: usize, own: Obs) -> ObsList {
+    let mut panorama = ObsList::new(answer.alloc());
+    if panorama.push(own).is_err() {
+        answer.refuse();
     }
-    Some(panorama)
+    for _ in 1..validators {
+        if panorama.push(Obs::Absent).is_err() {
+            answer.refuse();
+        }
+    }
+    panorama
 }

@@ -2,63 +2,73 @@
 
 use crate::names::{Named, Node, digest_named, find};
 use crate::outcome::{Outcome, delivery, outcome_text};
+use hw_case_words::{Answer, small};
 use hw_core::Core;
 use hw_types::{Cause, Digest, Endorsement, Signature, Vertex};
-use std::alloc::Global;
 
 /// Delivers each of the named vertices with this verdict, and tells what became of it.
-pub fn deliver(alloc: Global, node: &mut Node, words: &[&str], verdict: bool) -> Option<String> {
-    let mut text = String::new(alloc);
+pub fn deliver(answer: &mut Answer, node: &mut Node, words: &[&str], verdict: bool) {
     for word in words {
-        let line = delivered(alloc, &mut node.core, node.names.as_slice(), word, verdict)?;
-        text.push_str(line.as_str()).ok()?;
+        delivered(answer, &mut node.core, node.names.as_slice(), word, verdict);
     }
-    Some(text)
 }
 
-fn delivered(
-    alloc: Global,
-    core: &mut Core,
-    names: &[Named],
-    word: &str,
-    verdict: bool,
-) -> Option<String> {
-    let vertex = &find(names, word)?.vertex;
-    let became = became(alloc, core, vertex, verdict)?;
-    format!(in alloc; "{word} {became}\n").ok()
+fn delivered(answer: &mut Answer, core: &mut Core, names: &[Named], word: &str, verdict: bool) {
+    match find(names, word) {
+        Some(named) => {
+            answer.put(word);
+            became(answer, core, &named.vertex, verdict);
+        }
+        None => answer.refuse(),
+    }
 }
 
 /// Delivers an endorsement of the unit by each of these validators, and tells what became of it.
-pub fn endorse(alloc: Global, node: &mut Node, words: &[&str]) -> Option<String> {
+pub fn endorse(answer: &mut Answer, node: &mut Node, words: &[&str]) {
     let [name, _by, endorsers @ ..] = words else {
-        return None;
+        return answer.refuse();
     };
-    let digest = digest_named(node.names.as_slice(), name)?;
-    let mut text = String::new(alloc);
-    for word in endorsers {
-        let became = endorsed(alloc, &mut node.core, digest, word.parse().ok()?)?;
-        let line = format!(in alloc; "endorse {name} {word} {became}\n").ok()?;
-        text.push_str(line.as_str()).ok()?;
+    match digest_named(node.names.as_slice(), name) {
+        Some(digest) => endorsed_by(answer, &mut node.core, name, digest, endorsers),
+        None => answer.refuse(),
     }
-    Some(text)
+}
+
+fn endorsed_by(answer: &mut Answer, core: &mut Core, name: &str, unit: Digest, words: &[&str]) {
+    for word in words {
+        let put = write!(answer.text, "endorse {name} {word}");
+        answer.keep(put);
+        endorsed(answer, core, unit, small(word));
+    }
 }
 
 /// What became of the endorsement of the unit by this validator.
-fn endorsed(alloc: Global, core: &mut Core, unit: Digest, endorser: u32) -> Option<String> {
+fn endorsed(answer: &mut Answer, core: &mut Core, unit: Digest, endorser: u32) {
     let vertex = Vertex::Endorsement(Endorsement {
         unit,
         endorser,
         signature: Signature([0; 32]),
     });
-    became(alloc, core, &vertex, true)
+    became(answer, core, &vertex, true);
 }
 
 /// What became of the vertex. Where it is refused for want of memory, it is delivered once more.
-fn became(alloc: Global, core: &mut Core, vertex: &Vertex, verdict: bool) -> Option<String> {
-    let first = delivery(core, vertex, verdict)?;
-    if first != Outcome::Refused(Cause::OutOfMemory) {
-        return outcome_text(alloc, first);
+fn became(answer: &mut Answer, core: &mut Core, vertex: &Vertex, verdict: bool) {
+    answer.put(" ");
+    match delivery(core, vertex, verdict) {
+        Some(Outcome::Refused(Cause::OutOfMemory)) => {
+            answer.put("memory ");
+            told(answer, delivery(core, vertex, verdict));
+        }
+        outcome => told(answer, outcome),
     }
-    let text = outcome_text(alloc, delivery(core, vertex, verdict)?)?;
-    format!(in alloc; "memory {text}").ok()
+}
+
+/// The outcome in words, at the end of its line.
+fn told(answer: &mut Answer, outcome: Option<Outcome>) {
+    match outcome {
+        Some(outcome) => outcome_text(answer, outcome),
+        None => answer.refuse(),
+    }
+    answer.put("\n");
 }

@@ -1,4 +1,4 @@
-//! Lines of words. None stands for a line that isn't of the language, and for want of memory.
+//! Lines of words. A line that isn't of the language is refused, and so is one for want of memory.
 
 use crate::chains::chain;
 use crate::deliveries::{deliver, endorse};
@@ -9,61 +9,67 @@ use crate::summits::{starts, summit};
 use crate::units::{evidence, unit};
 use crate::wanted::{against, endorsers, unmet};
 use hw_admit::StateStart;
-use hw_case_words::config_of;
+use hw_case_words::{Answer, config_of};
 use hw_codec::instance_of;
 use hw_core::Core;
 use hw_types::{Config, Digest};
 use std::alloc::Global;
 
-/// The answer to a line, of the node that began last.
-pub fn answer(alloc: Global, nodes: &mut Vec<Node>, line: &str) -> Option<String> {
-    let words: Vec<&str> = line.split(' ').collect(alloc).ok()?;
-    let [kind, rest @ ..] = words.as_slice() else {
-        return None;
-    };
-    match *kind {
-        "#" => repeated(alloc, line),
-        "weights" => began(alloc, nodes, words.as_slice()),
-        _ => moved(alloc, nodes.as_mut_slice().last_mut()?, kind, rest),
+/// Answers a line, of the node that began last.
+pub fn tell(answer: &mut Answer, nodes: &mut Vec<Node>, line: &str) {
+    let words = answer.words(line, ' ');
+    match words.as_slice() {
+        ["#", ..] => repeated(answer, line),
+        ["weights", ..] => began(answer, nodes, words.as_slice()),
+        [kind, rest @ ..] => asked(answer, nodes.as_mut_slice(), kind, rest),
+        [] => answer.refuse(),
     }
 }
 
-fn repeated(alloc: Global, line: &str) -> Option<String> {
-    format!(in alloc; "{line}\n").ok()
+fn repeated(answer: &mut Answer, line: &str) {
+    answer.put(line);
+    answer.put("\n");
 }
 
 /// Begins a node with the configuration that the words tell. Where there is none, why.
-fn began(alloc: Global, nodes: &mut Vec<Node>, words: &[&str]) -> Option<String> {
-    let config = config_of(alloc, words)?;
-    let instance = instance_in_limits(alloc, &config)?;
-    began_with(alloc, nodes, config, instance)
+fn began(answer: &mut Answer, nodes: &mut Vec<Node>, words: &[&str]) {
+    match config_of(answer.alloc(), words) {
+        Some(config) => began_with(answer, nodes, config),
+        None => answer.refuse(),
+    }
+}
+
+/// The same with this configuration.
+fn began_with(answer: &mut Answer, nodes: &mut Vec<Node>, config: Config) {
+    match instance_in_limits(answer.alloc(), &config) {
+        Some(instance) => began_in(answer, nodes, config, instance),
+        None => answer.refuse(),
+    }
 }
 
 /// The same with this configuration, which is of this instance.
-fn began_with(
-    alloc: Global,
-    nodes: &mut Vec<Node>,
-    config: Config,
-    instance: Digest,
-) -> Option<String> {
-    match Core::new(alloc, config) {
-        Ok(core) => begins(alloc, nodes, core, instance),
-        Err(StateStart::Fault(fault)) => format!(in alloc; "{fault:?}\n").ok(),
-        Err(StateStart::OutOfMemory) => None,
+fn began_in(answer: &mut Answer, nodes: &mut Vec<Node>, config: Config, instance: Digest) {
+    match Core::new(answer.alloc(), config) {
+        Ok(core) => begins(answer, nodes, core, instance),
+        Err(StateStart::Fault(fault)) => {
+            answer.debug(&fault);
+            answer.put("\n");
+        }
+        Err(StateStart::OutOfMemory) => answer.refuse(),
     }
 }
 
 /// The node is asked from now on.
-fn begins(alloc: Global, nodes: &mut Vec<Node>, core: Core, instance: Digest) -> Option<String> {
+fn begins(answer: &mut Answer, nodes: &mut Vec<Node>, core: Core, instance: Digest) {
     let node = Node {
         core,
         instance,
-        names: Vec::new(alloc),
+        names: Vec::new(answer.alloc()),
     };
-    match nodes.push(node) {
-        Ok(()) => "began\n".to_string(alloc).ok(),
-        Err(_unpushed) => None,
+    if nodes.push(node).is_err() {
+        answer.refuse();
     }
+    answer.put("began\n");
 }
 
 /// The instance of a configuration. One that breaks a limit has none, and no node either.
@@ -74,30 +80,38 @@ fn instance_in_limits(alloc: Global, config: &Config) -> Option<Digest> {
     }
 }
 
+/// Asks the last node.
+fn asked(answer: &mut Answer, nodes: &mut [Node], kind: &str, words: &[&str]) {
+    match nodes {
+        [.., node] => moved(answer, node, kind, words),
+        [] => answer.refuse(),
+    }
+}
+
 /// The answer of the node, which may change.
-fn moved(alloc: Global, node: &mut Node, kind: &str, words: &[&str]) -> Option<String> {
+fn moved(answer: &mut Answer, node: &mut Node, kind: &str, words: &[&str]) {
     match kind {
-        "unit" => unit(alloc, node.instance, &mut node.names, words),
-        "evidence" => evidence(alloc, &mut node.names, words),
-        "deliver" => deliver(alloc, node, words, true),
-        "forge" => deliver(alloc, node, words, false),
-        "endorse" => endorse(alloc, node, words),
-        "chain" => chain(alloc, node.instance, &mut node.core, words),
-        "summit" => summit(alloc, &mut node.core, words),
-        _ => told(alloc, node, kind, words),
+        "unit" => unit(answer, node.instance, &mut node.names, words),
+        "evidence" => evidence(answer, &mut node.names, words),
+        "deliver" => deliver(answer, node, words, true),
+        "forge" => deliver(answer, node, words, false),
+        "endorse" => endorse(answer, node, words),
+        "chain" => chain(answer, node.instance, &mut node.core, words),
+        "summit" => summit(answer, &mut node.core, words),
+        _ => told(answer, node, kind, words),
     }
 }
 
 /// The answer of the node that stays as it is.
-fn told(alloc: Global, node: &Node, kind: &str, words: &[&str]) -> Option<String> {
+fn told(answer: &mut Answer, node: &Node, kind: &str, words: &[&str]) {
     match kind {
-        "place" => place(alloc, node, words),
-        "missing" => missing(alloc, node, words),
-        "unmet" => unmet(alloc, node, words),
-        "against" => against(alloc, node, words),
-        "endorsers" => endorsers(alloc, node, words),
-        "starts" => starts(alloc, node, words),
-        "show" => show(alloc, node, words),
-        _ => None,
+        "place" => place(answer, node, words),
+        "missing" => missing(answer, node, words),
+        "unmet" => unmet(answer, node, words),
+        "against" => against(answer, node, words),
+        "endorsers" => endorsers(answer, node, words),
+        "starts" => starts(answer, node, words),
+        "show" => show(answer, node, words),
+        _ => answer.refuse(),
     }
 }

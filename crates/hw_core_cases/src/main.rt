@@ -36,6 +36,7 @@ mod units;
 mod wanted;
 
 use crate::names::Node;
+use hw_case_words::Answer;
 use std::io;
 
 fn main(rt: HostRuntime) -> io::Result<()> {
@@ -53,7 +54,9 @@ fn answer_all(rt: HostRuntime, nodes: &mut Vec<Node>) -> io::Result<()> {
 
 /// Answers a line, of the node that began last.
 fn answer(rt: HostRuntime, nodes: &mut Vec<Node>, line: &str) -> io::Result<()> {
-    match lines::answer(rt.alloc(), nodes, line) {
+    let mut answer = Answer::new(rt.alloc());
+    lines::tell(&mut answer, nodes, line);
+    match answer.finish() {
         Some(text) => print!(rt; "{text}"),
         None => Err(io::ErrorKind::InvalidInput.into()),
     }

@@ -3,14 +3,14 @@
 ghost use Rattle.hw_types.specs.Spelling.{VertexFits};
 ghost use Rattle.std.specs.Prelude.{IsTrue};
 
+use hw_case_words::Answer;
 use hw_codec::fits;
 use hw_core::{Core, Refused};
 use hw_text::rule_name;
 use hw_types::{Cause, Evidence, PairFault, Receipt, Rule, Vertex, is_same_unit};
-use std::alloc::Global;
 
 /// What became of a vertex.
-#[derive(Clone, Copy, Debug, PartialEq, Eq)]
+#[derive(Clone, Copy)]
 pub enum Outcome {
     /// It was accepted, or is a repeat.
     Taken(Receipt),
@@ -26,8 +26,10 @@ pub fn delivery(core: &mut Core, vertex: &Vertex, verdict: bool) -> Option<Outco
     if !is_in_format(vertex) {
         return None;
     }
-    let given = vertex.copy().ok()?;
-    Some(outcome_of(core, given, vertex, verdict))
+    match vertex.copy() {
+        Ok(given) => Some(outcome_of(core, given, vertex, verdict)),
+        Err(_) => None,
+    }
 }
 
 /// What becomes of the vertex that is given, a copy of this one.
@@ -76,33 +78,37 @@ pub fn is_same_pair(left: &Evidence, right: &Evidence) -> bool {
 }
 
 /// The outcome in words.
-pub fn outcome_text(alloc: Global, outcome: Outcome) -> Option<String> {
+pub fn outcome_text(answer: &mut Answer, outcome: Outcome) {
     match outcome {
-        Outcome::Taken(receipt) => receipt_text(alloc, receipt),
-        Outcome::Refused(cause) => refused_text(alloc, cause, ""),
-        Outcome::Changed(cause) => refused_text(alloc, cause, " changed"),
+        Outcome::Taken(receipt) => receipt_text(answer, receipt),
+        Outcome::Refused(cause) => refused_text(answer, cause),
+        Outcome::Changed(cause) => {
+            refused_text(answer, cause);
+            answer.put(" changed");
+        }
     }
 }
 
-fn receipt_text(alloc: Global, receipt: Receipt) -> Option<String> {
+fn receipt_text(answer: &mut Answer, receipt: Receipt) {
     match receipt {
-        Receipt::Admitted { settled } => format!(in alloc; "admitted {settled}").ok(),
-        Receipt::Parked { missing } => format!(in alloc; "parked {missing}").ok(),
-        Receipt::Dropped(rule) => rule_text(alloc, "dropped", rule),
-        Receipt::Repeat => format!(in alloc; "repeat").ok(),
+        Receipt::Admitted { settled } => counted(answer, "admitted ", settled),
+        Receipt::Parked { missing } => counted(answer, "parked ", missing),
+        Receipt::Dropped(rule) => rule_text(answer, "dropped ", rule),
+        Receipt::Repeat => answer.put("repeat"),
     }
 }
 
-fn refused_text(alloc: Global, cause: Cause, back: &str) -> Option<String> {
-    let text = cause_text(alloc, cause)?;
-    format!(in alloc; "refused {text}{back}").ok()
+/// A word, and a number behind it.
+pub fn counted(answer: &mut Answer, word: &str, number: u32) {
+    answer.put(word);
+    answer.number(u64::from(number));
 }
 
-fn cause_text(alloc: Global, cause: Cause) -> Option<String> {
+fn refused_text(answer: &mut Answer, cause: Cause) {
+    answer.put("refused ");
     match cause {
-        Cause::Local(rule) => rule_text(alloc, "local", rule),
-        Cause::Pair(fault) => format!(in alloc; "pair {}", fault_word(fault)).ok(),
-        other => cause_word(other).to_string(alloc).ok(),
+        Cause::Local(rule) => rule_text(answer, "local ", rule),
+        other => answer.put(cause_word(other)),
     }
 }
 
@@ -110,7 +116,10 @@ fn cause_word(cause: Cause) -> &'static str {
     match cause {
         Cause::BadSignature => "signature",
         Cause::Local(_) => "local",
-        Cause::Pair(_) => "pair",
+        Cause::Pair(PairFault::Creator) => "pair creator",
+        Cause::Pair(PairFault::Sequence) => "pair sequence",
+        Cause::Pair(PairFault::Instance) => "pair instance",
+        Cause::Pair(PairFault::Same) => "pair same",
         Cause::Clash { known: _ } => "clash",
         Cause::RecordsFull => "records full",
         Cause::ParkFull => "parked full",
@@ -118,17 +127,9 @@ fn cause_word(cause: Cause) -> &'static str {
     }
 }
 
-fn fault_word(fault: PairFault) -> &'static str {
-    match fault {
-        PairFault::Creator => "creator",
-        PairFault::Sequence => "sequence",
-        PairFault::Instance => "instance",
-        PairFault::Same => "same",
-    }
-}
-
 /// A word, and the rule's number and name.
-pub fn rule_text(alloc: Global, word: &str, rule: Rule) -> Option<String> {
-    let number = u32::from(rule as u8) + 1;
-    format!(in alloc; "{word} {number} {}", rule_name(rule)).ok()
+pub fn rule_text(answer: &mut Answer, word: &str, rule: Rule) {
+    counted(answer, word, u32::from(rule as u8) + 1);
+    answer.put(" ");
+    answer.put(rule_name(rule));
 }

@@ -1,40 +1,47 @@
 //! Where units stand, and what they miss.
 
-use crate::names::{Named, Node, find, word_of};
-use crate::outcome::{is_same, rule_text};
+use crate::names::{Named, Node, digest_named, find, word_of};
+use crate::outcome::{counted, is_same, rule_text};
+use hw_case_words::Answer;
 use hw_core::{Core, Place};
 use hw_types::{Digest, Need, Vertex, is_same_unit};
-use std::alloc::Global;
 
 /// Where each of the named units stands.
-pub fn place(alloc: Global, node: &Node, words: &[&str]) -> Option<String> {
-    let mut text = String::new(alloc);
+pub fn place(answer: &mut Answer, node: &Node, words: &[&str]) {
     for word in words {
-        let named = find(node.names.as_slice(), word)?;
-        let line = place_line(alloc, &node.core, named)?;
-        text.push_str(line.as_str()).ok()?;
+        match find(node.names.as_slice(), word) {
+            Some(named) => place_line(answer, &node.core, named),
+            None => answer.refuse(),
+        }
     }
-    Some(text)
 }
 
-fn place_line(alloc: Global, core: &Core, named: &Named) -> Option<String> {
-    let digest = named.digest?;
-    let place = core.place_of(&digest);
-    let text = place_text(alloc, place)?;
-    let lost = if is_known(core, &digest, &named.vertex) == (place != Place::Unknown) {
-        ""
-    } else {
-        " lost"
+fn place_line(answer: &mut Answer, core: &Core, named: &Named) {
+    let Some(digest) = named.digest else {
+        return answer.refuse();
     };
-    format!(in alloc; "{} {text}{lost}\n", named.name.as_str()).ok()
+    let place = core.place_of(&digest);
+    answer.put(named.name.as_str());
+    place_text(answer, place);
+    if is_known(core, &digest, &named.vertex) != is_there(place) {
+        answer.put(" lost");
+    }
+    answer.put("\n");
 }
 
-fn place_text(alloc: Global, place: Place) -> Option<String> {
+fn place_text(answer: &mut Answer, place: Place) {
     match place {
-        Place::Unknown => "unknown".to_string(alloc).ok(),
-        Place::Settled(no) => format!(in alloc; "settled {}", no.0).ok(),
-        Place::Parked(missing) => format!(in alloc; "parked {missing}").ok(),
-        Place::Dropped(rule) => rule_text(alloc, "dropped", rule),
+        Place::Unknown => answer.put(" unknown"),
+        Place::Settled(no) => counted(answer, " settled ", no.0),
+        Place::Parked(missing) => counted(answer, " parked ", missing),
+        Place::Dropped(rule) => rule_text(answer, " dropped ", rule),
+    }
+}
+
+fn is_there(place: Place) -> bool {
+    match place {
+        Place::Unknown => false,
+        _ => true,
     }
 }
 
@@ -47,64 +54,63 @@ fn is_known(core: &Core, digest: &Digest, vertex: &Vertex) -> bool {
 }
 
 /// What each of the named units misses.
-pub fn missing(alloc: Global, node: &Node, words: &[&str]) -> Option<String> {
-    let mut text = String::new(alloc);
+pub fn missing(answer: &mut Answer, node: &Node, words: &[&str]) {
     for word in words {
-        let named = find(node.names.as_slice(), word)?;
-        let needs = needs_text(alloc, node, named.digest?)?;
-        let line = format!(in alloc; "{word} misses{needs}\n").ok()?;
-        text.push_str(line.as_str()).ok()?;
+        answer.put(word);
+        match digest_named(node.names.as_slice(), word) {
+            Some(digest) => put_missing(answer, node, &digest),
+            None => answer.refuse(),
+        }
     }
-    Some(text)
 }
 
 /// The needs at the places from 0 on, a dash where there is none at 0.
-fn needs_text(alloc: Global, node: &Node, digest: Digest) -> Option<String> {
-    let mut text = String::new(alloc);
+fn put_missing(answer: &mut Answer, node: &Node, digest: &Digest) {
+    answer.put(" misses");
     for place in 0..u32::MAX {
-        let Some(need) = node.core.missing(&digest, place) else {
-            break;
+        let Some(need) = node.core.missing(digest, place) else {
+            return ended(answer, place == 0);
         };
-        let word = need_text(alloc, node.names.as_slice(), need)?;
-        text.push_str(word.as_str()).ok()?;
+        put_need(answer, node.names.as_slice(), need);
     }
-    if text.is_empty() {
-        text.push_str(" -").ok()?;
-    }
-    Some(text)
+}
+
+/// The end of a line, with a dash before it where there is nothing in it.
+pub fn ended(answer: &mut Answer, is_empty: bool) {
+    answer.put(if is_empty { " -\n" } else { "\n" });
 }
 
 /// The need in words.
-pub fn need_text(alloc: Global, names: &[Named], need: Need) -> Option<String> {
+pub fn put_need(answer: &mut Answer, names: &[Named], need: Need) {
     match need {
-        Need::Unit(digest) => format!(in alloc; " unit {}", word_of(names, &digest)).ok(),
-        Need::Evidence(validator) => format!(in alloc; " evidence {validator}").ok(),
-        Need::Endorsed(digest) => format!(in alloc; " endorsed {}", word_of(names, &digest)).ok(),
+        Need::Unit(digest) => put_two(answer, " unit ", word_of(names, &digest)),
+        Need::Evidence(validator) => counted(answer, " evidence ", validator),
+        Need::Endorsed(digest) => put_two(answer, " endorsed ", word_of(names, &digest)),
     }
+}
+
+fn put_two(answer: &mut Answer, first: &str, second: &str) {
+    answer.put(first);
+    answer.put(second);
 }
 
 /// The journal in order.
-pub fn journal(alloc: Global, node: &Node) -> Option<String> {
-    let mut text = "journal".to_string(alloc).ok()?;
+pub fn journal(answer: &mut Answer, node: &Node) {
+    answer.put("journal");
     for place in 0..node.core.journal_count() {
-        let vertex = node.core.journal_at(place);
-        let word = vertex_text(alloc, node.names.as_slice(), vertex)?;
-        text.push_str(word.as_str()).ok()?;
+        put_vertex(answer, node.names.as_slice(), node.core.journal_at(place));
     }
-    text.push_str("\n").ok()?;
-    Some(text)
+    answer.put("\n");
 }
 
 /// The name of a vertex, and for an endorsement the name of the unit and the endorser.
-fn vertex_text(alloc: Global, names: &[Named], vertex: &Vertex) -> Option<String> {
+fn put_vertex(answer: &mut Answer, names: &[Named], vertex: &Vertex) {
     match vertex {
-        Vertex::Endorsement(endorsement) => format!(in alloc;
-            " endorse {} {}",
-            word_of(names, &endorsement.unit),
-            endorsement.endorser
-        )
-        .ok(),
-        _ => format!(in alloc; " {}", name_of(names, vertex)).ok(),
+        Vertex::Endorsement(endorsement) => {
+            put_two(answer, " endorse ", word_of(names, &endorsement.unit));
+            counted(answer, " ", endorsement.endorser);
+        }
+        _ => put_two(answer, " ", name_of(names, vertex)),
     }
 }
 

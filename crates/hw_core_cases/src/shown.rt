@@ -3,44 +3,46 @@
 ghost use Rattle.std.specs.Prelude.{◌≡◌, ◌<◌, length};
 
 use crate::names::{Named, Node, word_of};
-use crate::places::journal;
+use crate::outcome::counted;
+use crate::places::{ended, journal};
+use hw_case_words::Answer;
 use hw_core::Core;
 use hw_types::{Decision, Obs};
-use std::alloc::Global;
 
 /// What the word asks for.
-pub fn show(alloc: Global, node: &Node, words: &[&str]) -> Option<String> {
+pub fn show(answer: &mut Answer, node: &Node, words: &[&str]) {
     let [word] = words else {
-        return None;
+        return answer.refuse();
     };
     match *word {
-        "fork" => fork(alloc, &node.core, node.names.as_slice()),
-        "panorama" => panorama(alloc, &node.core, node.names.as_slice()),
-        "faulty" => faulty(alloc, &node.core),
-        "final" => finals(alloc, &node.core, node.names.as_slice()),
-        "counts" => counts(alloc, &node.core),
-        "journal" => journal(alloc, node),
-        _ => None,
+        "fork" => fork(answer, &node.core, node.names.as_slice()),
+        "panorama" => panorama(answer, &node.core, node.names.as_slice()),
+        "faulty" => faulty(answer, &node.core),
+        "final" => finals(answer, &node.core, node.names.as_slice()),
+        "counts" => counts(answer, &node.core),
+        "journal" => journal(answer, node),
+        _ => answer.refuse(),
     }
 }
 
 /// The fork choice.
-fn fork(alloc: Global, core: &Core, names: &[Named]) -> Option<String> {
+fn fork(answer: &mut Answer, core: &Core, names: &[Named]) {
+    answer.put("fork ");
     match core.fork() {
-        Some(digest) => format!(in alloc; "fork {}\n", word_of(names, &digest)).ok(),
-        None => "fork -\n".to_string(alloc).ok(),
+        Some(digest) => answer.put(word_of(names, &digest)),
+        None => answer.put("-"),
     }
+    answer.put("\n");
 }
 
 /// What the node observes of each validator.
-fn panorama(alloc: Global, core: &Core, names: &[Named]) -> Option<String> {
-    let mut text = "panorama".to_string(alloc).ok()?;
+fn panorama(answer: &mut Answer, core: &Core, names: &[Named]) {
+    answer.put("panorama");
     for validator in 0..validators(core) {
-        text.push_str(" ").ok()?;
-        text.push_str(observed(core, names, validator)).ok()?;
+        answer.put(" ");
+        answer.put(observed(core, names, validator));
     }
-    text.push_str("\n").ok()?;
-    Some(text)
+    answer.put("\n");
 }
 
 /// How many validators there are.
@@ -63,61 +65,63 @@ fn observed<'a>(core: &Core, names: &'a [Named], validator: u32) -> &'a str
 }
 
 /// Who is faulty, a dash where nobody is.
-fn faulty(alloc: Global, core: &Core) -> Option<String> {
-    let mut list = String::new(alloc);
+fn faulty(answer: &mut Answer, core: &Core) {
+    answer.put("faulty");
+    let mut is_empty = true;
     for validator in 0..validators(core) {
-        if core.observation(validator) == Obs::Faulty {
-            let word = format!(in alloc; " {validator}").ok()?;
-            list.push_str(word.as_str()).ok()?;
+        if is_faulty(core, validator) {
+            counted(answer, " ", validator);
+            is_empty = false;
         }
     }
-    if list.is_empty() {
-        list.push_str(" -").ok()?;
+    ended(answer, is_empty);
+}
+
+fn is_faulty(core: &Core, validator: u32) -> bool
+    requires { validator < length core.now.config.weights }
+{
+    match core.observation(validator) {
+        Obs::Faulty => true,
+        _ => false,
     }
-    format!(in alloc; "faulty{list}\n").ok()
 }
 
 /// The decided blocks, a dash where there is none, and the faulty weight where it exceeds the threshold.
-fn finals(alloc: Global, core: &Core, names: &[Named]) -> Option<String> {
-    let mut text = String::new(alloc);
+fn finals(answer: &mut Answer, core: &Core, names: &[Named]) {
     for index in 0..core.decision_count() {
-        let line = final_line(alloc, names, core.decision(index))?;
-        text.push_str(line.as_str()).ok()?;
+        final_line(answer, names, core.decision(index));
     }
-    if text.is_empty() {
-        text.push_str("final -\n").ok()?;
+    if core.decision_count() == 0 {
+        answer.put("final -\n");
     }
-    text.push_str(exceeded(alloc, core)?.as_str()).ok()?;
-    Some(text)
+    if let Some(weight) = core.exceeded() {
+        answer.put("exceeded ");
+        answer.number(weight);
+        answer.put("\n");
+    }
 }
 
-fn final_line(alloc: Global, names: &[Named], decision: &Decision) -> Option<String> {
-    format!(in alloc;
-        "final {} {} level {} quorum {} at {}\n",
-        decision.height,
-        word_of(names, &decision.block),
-        decision.level,
-        decision.quorum,
-        decision.at
-    )
-    .ok()
-}
-
-fn exceeded(alloc: Global, core: &Core) -> Option<String> {
-    match core.exceeded() {
-        Some(weight) => format!(in alloc; "exceeded {weight}\n").ok(),
-        None => Some(String::new(alloc)),
-    }
+fn final_line(answer: &mut Answer, names: &[Named], decision: &Decision) {
+    let (height, block) = (decision.height, word_of(names, &decision.block));
+    let (level, quorum, at) = (decision.level, decision.quorum, decision.at);
+    let put = write!(
+        answer.text,
+        "final {height} {block} level {level} quorum {quorum} at {at}\n"
+    );
+    answer.keep(put);
 }
 
 /// How many units there are of each kind, and the faulty weight.
-fn counts(alloc: Global, core: &Core) -> Option<String> {
-    format!(in alloc;
-        "settled {} parked {} dropped {} faulty weight {}\n",
+fn counts(answer: &mut Answer, core: &Core) {
+    let (settled, parked, dropped) = (
         core.settled_count(),
         core.parked_count(),
         core.dropped_count(),
-        core.faulty_weight()
-    )
-    .ok()
+    );
+    let weight = core.faulty_weight();
+    let put = write!(
+        answer.text,
+        "settled {settled} parked {parked} dropped {dropped} faulty weight {weight}\n"
+    );
+    answer.keep(put);
 }

@@ -1,77 +1,74 @@
 //! Units and evidence as lines define them.
 
 use crate::names::{Named, digest_named, unit_named, with_digest};
-use hw_case_words::{after, is_key, own_observation, told_number, unit_of};
+use hw_case_words::{Answer, after, is_key, own_observation, told_number, unit_of};
 use hw_codec::{digest_of, fits};
 use hw_types::{Digest, DigestList, Evidence, Obs, ObsList, SignedUnit, Vertex, WireUnit};
 use std::alloc::Global;
 
 /// Defines the unit that the words tell.
-pub fn unit(
-    alloc: Global,
-    instance: Digest,
-    names: &mut Vec<Named>,
-    words: &[&str],
-) -> Option<String> {
-    let named = named_unit(alloc, instance, names.as_slice(), words)?;
-    define(alloc, names, named)
+pub fn unit(answer: &mut Answer, instance: Digest, names: &mut Vec<Named>, words: &[&str]) {
+    let unit = told_unit(answer.alloc(), instance, names.as_slice(), words);
+    match (words, unit) {
+        ([name, ..], Some(unit)) => define_unit(answer, names, name, unit),
+        _ => answer.refuse(),
+    }
+}
+
+/// Puts in the unit under this name.
+fn define_unit(answer: &mut Answer, names: &mut Vec<Named>, name: &str, unit: SignedUnit) {
+    let digest = digest_in_format(answer.alloc(), &unit.unit);
+    if digest.is_none() {
+        answer.refuse();
+    }
+    define(answer, names, name, digest, Vertex::Unit(unit));
 }
 
 /// Defines the evidence of the two units.
-pub fn evidence(alloc: Global, names: &mut Vec<Named>, words: &[&str]) -> Option<String> {
-    let named = named_evidence(alloc, names.as_slice(), words)?;
-    define(alloc, names, named)
-}
-
-/// Puts in the vertex under its name.
-fn define(alloc: Global, names: &mut Vec<Named>, named: Named) -> Option<String> {
-    names.push(named).ok()?;
-    Some(String::new(alloc))
-}
-
-/// The unit that the words tell, under its name.
-fn named_unit(alloc: Global, instance: Digest, names: &[Named], words: &[&str]) -> Option<Named> {
-    let [name, ..] = words else {
-        return None;
+pub fn evidence(answer: &mut Answer, names: &mut Vec<Named>, words: &[&str]) {
+    let [name, _of, left, right] = words else {
+        return answer.refuse();
     };
-    let name = name.to_string(alloc).ok()?;
-    named_with(alloc, name, told_unit(alloc, instance, names, words)?)
+    match evidence_of(names.as_slice(), left, right) {
+        Some(vertex) => define(answer, names, name, None, vertex),
+        None => answer.refuse(),
+    }
 }
 
-/// The unit under this name.
-fn named_with(alloc: Global, name: String, unit: SignedUnit) -> Option<Named> {
-    let digest = Some(digest_in_format(alloc, &unit.unit)?);
-    let vertex = Vertex::Unit(unit);
-    Some(Named {
+/// Puts in the vertex under this name.
+fn define(
+    answer: &mut Answer,
+    names: &mut Vec<Named>,
+    name: &str,
+    digest: Option<Digest>,
+    vertex: Vertex,
+) {
+    let name = answer.copy(name);
+    let named = Named {
         name,
         digest,
         vertex,
-    })
+    };
+    if names.push(named).is_err() {
+        answer.refuse();
+    }
 }
 
-/// The evidence that the words tell, under its name.
-fn named_evidence(alloc: Global, names: &[Named], words: &[&str]) -> Option<Named> {
-    let [name, _of, left, right] = words else {
-        return None;
-    };
-    let name = name.to_string(alloc).ok()?;
-    let vertex = pair(unit_named(names, left)?, unit_named(names, right)?)?;
-    Some(Named {
-        name,
-        digest: None,
-        vertex,
-    })
+/// The evidence of the two units of these names.
+fn evidence_of(names: &[Named], left: &str, right: &str) -> Option<Vertex> {
+    pair(unit_named(names, left)?, unit_named(names, right)?)
 }
 
 /// The evidence of these two units.
 fn pair(left: &SignedUnit, right: &SignedUnit) -> Option<Vertex> {
-    let left = left.copy().ok()?;
-    let right = right.copy().ok()?;
-    Some(Vertex::Evidence(Evidence { left, right }))
+    match (left.copy(), right.copy()) {
+        (Ok(left), Ok(right)) => Some(Vertex::Evidence(Evidence { left, right })),
+        _ => None,
+    }
 }
 
 /// The digest of a unit that keeps the limits of its format.
-fn digest_in_format(alloc: Global, unit: &WireUnit) -> Option<Digest> {
+pub fn digest_in_format(alloc: Global, unit: &WireUnit) -> Option<Digest> {
     if fits(unit) {
         digest_of(alloc, unit).ok()
     } else {

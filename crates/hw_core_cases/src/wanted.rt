@@ -1,40 +1,43 @@
 //! What parked units wait for, and what the journal has of it.
 
 use crate::names::{Named, Node, digest_named, word_of};
-use crate::outcome::is_same_pair;
-use crate::places::need_text;
+use crate::outcome::{counted, is_same_pair};
+use crate::places::{ended, put_need};
+use hw_case_words::{Answer, number, small};
 use hw_core::Core;
 use hw_types::{Digest, Evidence, Need, Vertex};
-use std::alloc::Global;
 
 /// The first needs that parked units miss: as many as the word says, which is at most eight.
-pub fn unmet(alloc: Global, node: &Node, words: &[&str]) -> Option<String> {
+pub fn unmet(answer: &mut Answer, node: &Node, words: &[&str]) {
     let [word] = words else {
-        return None;
+        return answer.refuse();
     };
     let mut needs = [Need::Evidence(0); 8];
-    let list = needs.get_mut(..word.parse().ok()?)?;
-    let count = node.core.first_unmet(list);
-    let mut text = "unmet".to_string(alloc).ok()?;
-    for need in list.get(..count)? {
-        let word = need_text(alloc, node.names.as_slice(), *need)?;
-        text.push_str(word.as_str()).ok()?;
+    let most = number(word).min(8) as usize;
+    let count = node.core.first_unmet(&mut needs[..most]);
+    answer.put("unmet");
+    for need in needs.as_slice().iter().take(count) {
+        put_need(answer, node.names.as_slice(), *need);
     }
-    ended(text, count == 0)
+    ended(answer, count == 0);
 }
 
 /// The evidence that the journal has against each of these validators.
-pub fn against(alloc: Global, node: &Node, words: &[&str]) -> Option<String> {
-    let mut text = String::new(alloc);
+pub fn against(answer: &mut Answer, node: &Node, words: &[&str]) {
     for word in words {
-        let name = match node.core.evidence_against(word.parse().ok()?) {
-            Some(evidence) => name_of(node.names.as_slice(), evidence),
-            None => "-",
-        };
-        let line = format!(in alloc; "against {word} {name}\n").ok()?;
-        text.push_str(line.as_str()).ok()?;
+        answer.put("against ");
+        answer.put(word);
+        answer.put(" ");
+        answer.put(evidence_word(node, small(word)));
+        answer.put("\n");
     }
-    Some(text)
+}
+
+fn evidence_word(node: &Node, validator: u32) -> &str {
+    match node.core.evidence_against(validator) {
+        Some(evidence) => name_of(node.names.as_slice(), evidence),
+        None => "-",
+    }
 }
 
 /// The name under which a line defined the evidence.
@@ -50,37 +53,23 @@ fn name_of<'a>(names: &'a [Named], evidence: &Evidence) -> &'a str {
 }
 
 /// The endorsers of each of the named units, in the order of the journal.
-pub fn endorsers(alloc: Global, node: &Node, words: &[&str]) -> Option<String> {
-    let mut text = String::new(alloc);
+pub fn endorsers(answer: &mut Answer, node: &Node, words: &[&str]) {
     for word in words {
-        let digest = digest_named(node.names.as_slice(), word)?;
-        let line = endorsers_line(alloc, &node.core, node.names.as_slice(), digest)?;
-        text.push_str(line.as_str()).ok()?;
+        match digest_named(node.names.as_slice(), word) {
+            Some(digest) => endorsers_line(answer, &node.core, node.names.as_slice(), &digest),
+            None => answer.refuse(),
+        }
     }
-    Some(text)
 }
 
 /// The endorsements at the places from 0 on, a dash where there is none at 0.
-fn endorsers_line(alloc: Global, core: &Core, names: &[Named], digest: Digest) -> Option<String> {
-    let mut text = format!(in alloc; "endorsers of {}", word_of(names, &digest)).ok()?;
-    let mut none = true;
+fn endorsers_line(answer: &mut Answer, core: &Core, names: &[Named], digest: &Digest) {
+    answer.put("endorsers of ");
+    answer.put(word_of(names, digest));
     for place in 0..u32::MAX {
-        let Some(endorsement) = core.endorsement_of(&digest, place) else {
-            break;
+        let Some(endorsement) = core.endorsement_of(digest, place) else {
+            return ended(answer, place == 0);
         };
-        none = false;
-        let word = format!(in alloc; " {}", endorsement.endorser).ok()?;
-        text.push_str(word.as_str()).ok()?;
+        counted(answer, " ", endorsement.endorser);
     }
-    ended(text, none)
-}
-
-/// The line, with a dash where there is nothing in it.
-fn ended(text: String, none: bool) -> Option<String> {
-    let mut line = text;
-    if none {
-        line.push_str(" -").ok()?;
-    }
-    line.push_str("\n").ok()?;
-    Some(line)
 }

@@ -2,165 +2,143 @@
 
 ghost use Rattle.hw_types.specs.Spelling.{VertexFits};
 
-use crate::configs::text_of;
-use crate::words::{bytes_of, error_text, number};
+use crate::configs::{put_config, put_error};
 use hw_admit::StateStart;
+use hw_case_words::{Answer, small};
 use hw_codec::{decode_config, decode_vertex, encode_vertex};
 use hw_core::Core;
 use hw_eras::{EraCause, EraOpen, EraRefused, Eras};
-use hw_types::{Cause, Config, OutOfMemory, Receipt, Vertex};
-use std::alloc::Global;
+use hw_types::{Cause, Config, Receipt, Vertex};
 
 /// Begins with era 0 of the configuration that these digits spell.
-pub fn begin(alloc: Global, nodes: &mut Vec<Eras>, digits: &str) -> Result<String, OutOfMemory> {
-    let bytes = bytes_of(alloc, digits)?;
-    match decode_config(alloc, bytes.as_slice()) {
-        Ok(config) => begin_with(alloc, nodes, config),
-        Err(error) => error_text(alloc, error),
+pub fn begin(answer: &mut Answer, nodes: &mut Vec<Eras>, digits: &str) {
+    let bytes = answer.bytes(digits);
+    match decode_config(answer.alloc(), bytes.as_slice()) {
+        Ok(config) => begin_with(answer, nodes, config),
+        Err(error) => put_error(answer, error),
     }
 }
 
-fn begin_with(alloc: Global, nodes: &mut Vec<Eras>, config: Config) -> Result<String, OutOfMemory> {
-    match Eras::new(alloc, config) {
-        Ok(eras) => begun(alloc, nodes, eras),
-        Err(StateStart::Fault(fault)) => Ok(format!(in alloc; "{fault:?}")?),
-        Err(StateStart::OutOfMemory) => Err(OutOfMemory),
+fn begin_with(answer: &mut Answer, nodes: &mut Vec<Eras>, config: Config) {
+    match Eras::new(answer.alloc(), config) {
+        Ok(eras) => begun(answer, nodes, eras),
+        Err(StateStart::Fault(fault)) => answer.debug(&fault),
+        Err(StateStart::OutOfMemory) => answer.refuse(),
     }
 }
 
-fn begun(alloc: Global, nodes: &mut Vec<Eras>, eras: Eras) -> Result<String, OutOfMemory> {
-    match nodes.push(eras) {
-        Ok(()) => Ok("begun".to_string(alloc)?),
-        Err(_unpushed) => Err(OutOfMemory),
+fn begun(answer: &mut Answer, nodes: &mut Vec<Eras>, eras: Eras) {
+    if nodes.push(eras).is_err() {
+        answer.refuse();
     }
+    answer.put("begun");
 }
 
 /// What the eras answer to these words.
-pub fn act(
-    alloc: Global,
-    eras: &mut Eras,
-    kind: &str,
-    words: &[&str],
-) -> Result<String, OutOfMemory> {
-    match (kind, words) {
-        ("deliver", [era, vertex]) => deliver(alloc, eras, number(era), vertex, true),
-        ("forge", [era, vertex]) => deliver(alloc, eras, number(era), vertex, false),
-        ("open", []) => open(alloc, eras),
-        ("count", []) => count_text(alloc, eras.count()),
-        ("core", [era]) => core_text(alloc, eras.core(number(era))),
-        _ => Ok(String::new(alloc)),
+pub fn act(answer: &mut Answer, eras: &mut Eras, kind: &str, words: &[&str]) {
+    match words {
+        [era, vertex] => deliver(answer, eras, small(era), vertex, kind == "deliver"),
+        [era] => put_era(answer, eras.core(small(era))),
+        [] if kind == "open" => open(answer, eras),
+        [] => put_counted(answer, "count ", eras.count()),
+        _ => answer.refuse(),
     }
 }
 
 /// Delivers the vertex that the digits spell.
-pub fn deliver(
-    alloc: Global,
-    eras: &mut Eras,
-    era: u32,
-    digits: &str,
-    verdict: bool,
-) -> Result<String, OutOfMemory> {
-    let bytes = bytes_of(alloc, digits)?;
-    match decode_vertex(alloc, bytes.as_slice()) {
-        Ok(vertex) => delivered(alloc, eras, era, vertex, verdict, bytes.as_slice()),
-        Err(error) => error_text(alloc, error),
+pub fn deliver(answer: &mut Answer, eras: &mut Eras, era: u32, digits: &str, verdict: bool) {
+    let bytes = answer.bytes(digits);
+    match decode_vertex(answer.alloc(), bytes.as_slice()) {
+        Ok(vertex) => delivered(answer, eras, era, vertex, verdict, bytes.as_slice()),
+        Err(error) => put_error(answer, error),
     }
 }
 
 /// Delivers the vertex of these bytes.
 fn delivered(
-    alloc: Global,
+    answer: &mut Answer,
     eras: &mut Eras,
     era: u32,
     vertex: Vertex,
     verdict: bool,
     bytes: &[u8],
-) -> Result<String, OutOfMemory>
+)
     requires { VertexFits vertex }
 {
     match eras.deliver(era, vertex, verdict) {
-        Ok(receipt) => receipt_text(alloc, receipt),
-        Err(refused) => refusal_text(alloc, &refused, bytes),
+        Ok(receipt) => put_receipt(answer, receipt),
+        Err(refused) => put_refusal(answer, &refused, bytes),
     }
 }
 
-fn receipt_text(alloc: Global, receipt: Receipt) -> Result<String, OutOfMemory> {
+fn put_receipt(answer: &mut Answer, receipt: Receipt) {
     match receipt {
-        Receipt::Admitted { settled } => Ok(format!(in alloc; "admitted {settled}")?),
-        Receipt::Parked { missing } => Ok(format!(in alloc; "parked {missing}")?),
-        Receipt::Dropped(rule) => Ok(format!(in alloc; "dropped {rule:?}")?),
-        Receipt::Repeat => Ok("repeat".to_string(alloc)?),
+        Receipt::Admitted { settled } => put_counted(answer, "admitted ", settled),
+        Receipt::Parked { missing } => put_counted(answer, "parked ", missing),
+        Receipt::Dropped(rule) => {
+            answer.put("dropped ");
+            answer.debug(&rule);
+        }
+        Receipt::Repeat => answer.put("repeat"),
     }
+}
+
+fn put_counted(answer: &mut Answer, word: &str, count: u32) {
+    answer.put(word);
+    answer.number(u64::from(count));
 }
 
 /// Why a vertex of these bytes was refused, and whether it came back.
-fn refusal_text(alloc: Global, refused: &EraRefused, bytes: &[u8]) -> Result<String, OutOfMemory>
+fn put_refusal(answer: &mut Answer, refused: &EraRefused, bytes: &[u8])
     requires { VertexFits refused.now.vertex }
 {
-    let end = if is_spelled(alloc, &refused.vertex, bytes)? {
-        ""
-    } else {
-        " changed"
-    };
-    cause_text(alloc, refused.cause, end)
+    put_cause(answer, refused.cause);
+    match encode_vertex(answer.alloc(), &refused.vertex) {
+        Ok(spelled) if spelled.as_slice() == bytes => {}
+        Ok(_) => answer.put(" changed"),
+        Err(_) => answer.refuse(),
+    }
 }
 
-/// Whether these bytes are the vertex's.
-fn is_spelled(alloc: Global, vertex: &Vertex, bytes: &[u8]) -> Result<bool, OutOfMemory>
-    requires { VertexFits vertex.now }
-{
-    let spelled = encode_vertex(alloc, vertex)?;
-    Ok(spelled.as_slice() == bytes)
-}
-
-fn cause_text(alloc: Global, cause: EraCause, end: &str) -> Result<String, OutOfMemory> {
+fn put_cause(answer: &mut Answer, cause: EraCause) {
     match cause {
-        EraCause::UnknownEra => Ok(format!(in alloc; "unknown era{end}")?),
-        EraCause::Core(Cause::BadSignature) => Ok(format!(in alloc; "bad signature{end}")?),
-        EraCause::Core(Cause::Local(rule)) => Ok(format!(in alloc; "local {rule:?}{end}")?),
-        EraCause::Core(Cause::OutOfMemory) => Err(OutOfMemory),
-        EraCause::Core(_) => Ok(format!(in alloc; "refused{end}")?),
+        EraCause::UnknownEra => answer.put("unknown era"),
+        EraCause::Core(Cause::BadSignature) => answer.put("bad signature"),
+        EraCause::Core(Cause::Local(rule)) => {
+            answer.put("local ");
+            answer.debug(&rule);
+        }
+        EraCause::Core(Cause::OutOfMemory) => answer.refuse(),
+        EraCause::Core(_) => answer.put("refused"),
     }
 }
 
 /// Opens the next era.
-fn open(alloc: Global, eras: &mut Eras) -> Result<String, OutOfMemory> {
+fn open(answer: &mut Answer, eras: &mut Eras) {
     match eras.open_next() {
-        Ok(Some(number)) => Ok(format!(in alloc; "era {number}")?),
-        Ok(None) => Ok("none".to_string(alloc)?),
-        Err(EraOpen::Full) => Ok("full".to_string(alloc)?),
-        Err(EraOpen::OutOfMemory) => Err(OutOfMemory),
+        Ok(Some(number)) => put_counted(answer, "era ", number),
+        Ok(None) => answer.put("none"),
+        Err(EraOpen::Full) => answer.put("full"),
+        Err(EraOpen::OutOfMemory) => answer.refuse(),
     }
-}
-
-/// How many eras there are.
-fn count_text(alloc: Global, count: u32) -> Result<String, OutOfMemory> {
-    Ok(format!(in alloc; "count {count}")?)
 }
 
 /// The node of an era, where there is one.
-fn core_text(alloc: Global, core: Option<&Core>) -> Result<String, OutOfMemory> {
+fn put_era(answer: &mut Answer, core: Option<&Core>) {
     match core {
-        Some(core) => told(alloc, core),
-        None => Ok("none".to_string(alloc)?),
+        Some(core) => put_core(answer, core),
+        None => answer.put("none"),
     }
 }
 
-fn told(alloc: Global, core: &Core) -> Result<String, OutOfMemory> {
-    let config = text_of(alloc, core.state().config())?;
-    let journal = core.journal_count();
-    let settled = core.settled_count();
-    let decided = decided_text(alloc, core)?;
-    Ok(format!(in alloc; "config {config} journal {journal} settled {settled} decided{decided}")?)
-}
-
-/// The decided blocks.
-fn decided_text(alloc: Global, core: &Core) -> Result<String, OutOfMemory> {
-    let mut text = String::new(alloc);
+fn put_core(answer: &mut Answer, core: &Core) {
+    answer.put("config ");
+    put_config(answer, core.state().config());
+    let (journal, settled) = (core.journal_count(), core.settled_count());
+    let put = write!(answer.text, " journal {journal} settled {settled} decided");
+    answer.keep(put);
     for index in 0..core.decision_count() {
-        text.push(' ')?;
-        let block = hex::encode(alloc, core.decision(index).block.0.as_slice())?;
-        text.push_str(block.as_str())?;
+        answer.put(" ");
+        answer.hex(core.decision(index).block.0.as_slice());
     }
-    Ok(text)
 }

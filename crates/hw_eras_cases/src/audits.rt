@@ -1,58 +1,52 @@
 //! Audits of the eras of two nodes.
 
-use crate::nodes::tell;
+use crate::nodes::tell_of;
+use crate::runs::put_text;
 use hw_audit::audit_text;
+use hw_case_words::Answer;
 use hw_era_audit::{AuditError, EraVerdict, audit_eras};
 use hw_eras::Eras;
-use hw_types::OutOfMemory;
 use hw_verdicts::Verdict;
-use std::alloc::Global;
 
 /// The audit of the two nodes that the words tell. They stand in the place of those that began.
-pub fn audited(
-    alloc: Global,
-    nodes: &mut Vec<Eras>,
-    words: &[&str],
-) -> Result<String, OutOfMemory> {
+pub fn audited(answer: &mut Answer, nodes: &mut Vec<Eras>, words: &[&str]) {
     nodes.clear();
     for node in words.split(|word| *word == "against") {
-        tell(alloc, nodes, node)?;
+        tell_of(answer, nodes, node);
     }
     match nodes.as_slice() {
-        [left, right] => audit_of(alloc, left, right),
-        _ => Ok("no two nodes".to_string(alloc)?),
+        [left, right] => audit_of(answer, left, right),
+        _ => answer.put("no two nodes"),
     }
 }
 
 /// The audit of these two nodes.
-fn audit_of(alloc: Global, left: &Eras, right: &Eras) -> Result<String, OutOfMemory> {
-    match audit_eras(alloc, left, right) {
-        Ok(verdict) => told(alloc, left, &verdict),
-        Err(AuditError::Instances) => Ok("other config".to_string(alloc)?),
-        Err(AuditError::OutOfMemory) => Err(OutOfMemory),
+fn audit_of(answer: &mut Answer, left: &Eras, right: &Eras) {
+    match audit_eras(answer.alloc(), left, right) {
+        Ok(verdict) => put_verdict(answer, left, &verdict),
+        Err(AuditError::Instances) => answer.put("other config"),
+        Err(AuditError::OutOfMemory) => answer.refuse(),
     }
 }
 
 /// What is printed of the verdict on two nodes.
-fn told(alloc: Global, left: &Eras, verdict: &EraVerdict) -> Result<String, OutOfMemory> {
+fn put_verdict(answer: &mut Answer, left: &Eras, verdict: &EraVerdict) {
     match verdict {
-        EraVerdict::Agree { common } => Ok(format!(in alloc; "agree {common}")?),
-        EraVerdict::At { era, verdict } => told_of(alloc, left, *era, verdict),
+        EraVerdict::Agree { common } => {
+            answer.put("agree ");
+            answer.show(common);
+        }
+        EraVerdict::At { era, verdict } => put_difference(answer, left, *era, verdict),
     }
 }
 
 /// What is printed of the era in which two nodes differ.
-fn told_of(alloc: Global, left: &Eras, era: u32, verdict: &Verdict) -> Result<String, OutOfMemory> {
+fn put_difference(answer: &mut Answer, left: &Eras, era: u32, verdict: &Verdict) {
     let Some(core) = left.core(era) else {
-        return Ok("no such era".to_string(alloc)?);
+        return answer.put("no such era");
     };
-    let text = audit_text(alloc, verdict, core.state().config())?;
-    era_text(alloc, era, text.as_slice())
-}
-
-/// The era's number and the text without its last line feed.
-fn era_text(alloc: Global, era: u32, text: &[u8]) -> Result<String, OutOfMemory> {
-    let text = String::from_utf8_lossy(alloc, text)?;
-    let text = text.as_str().trim_end();
-    Ok(format!(in alloc; "era {era}\n{text}")?)
+    match audit_text(answer.alloc(), verdict, core.state().config()) {
+        Ok(text) => put_text(answer, "era ", era, text.as_slice()),
+        Err(_) => answer.refuse(),
+    }
 }

@@ -28,8 +28,8 @@ mod configs;
 mod lines;
 mod nodes;
 mod runs;
-mod words;
 
+use hw_case_words::Answer;
 use hw_eras::Eras;
 use std::io;
 
@@ -48,8 +48,10 @@ fn answer_all(rt: HostRuntime, nodes: &mut Vec<Eras>) -> io::Result<()> {
 
 /// Answers a line, of the eras that began last.
 fn answer(rt: HostRuntime, nodes: &mut Vec<Eras>, line: &str) -> io::Result<()> {
-    match lines::answer(rt.alloc(), nodes, line) {
-        Ok(text) => println!(rt; "{text}"),
-        Err(_) => Err(io::ErrorKind::OutOfMemory.into()),
+    let mut answer = Answer::new(rt.alloc());
+    lines::tell(&mut answer, nodes, line);
+    match answer.finish() {
+        Some(text) => println!(rt; "{text}"),
+        None => Err(io::ErrorKind::InvalidInput.into()),
     }
 }

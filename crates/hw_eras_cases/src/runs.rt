@@ -1,112 +1,138 @@
 //! Runs over the logs of eras, and how they end.
 
+use hw_case_words::{Answer, number};
 use hw_era_runs::{EraStop, audit_logs, report_logs};
 use hw_io::MemFiles;
 use hw_log::LogError;
 use hw_replay::StartFault;
-use hw_types::OutOfMemory;
-use std::alloc::Global;
+use std::alloc::AllocError;
 
 /// The answer of this kind over these logs.
-pub fn logs_text(alloc: Global, kind: &str, words: &[&str]) -> Result<String, OutOfMemory> {
-    match (kind, words) {
-        ("eras", logs) => eras(alloc, logs),
-        ("audit", [count, logs @ ..]) => audit(alloc, logs, count.parse().unwrap_or(0)),
-        _ => Ok(String::new(alloc)),
+pub fn logs_text(answer: &mut Answer, kind: &str, words: &[&str]) {
+    match words {
+        [count, logs @ ..] if kind == "audit" => audit(answer, logs, number(count) as usize),
+        logs => eras(answer, logs),
     }
 }
 
 /// The report on the eras of these logs.
-fn eras(alloc: Global, logs: &[&str]) -> Result<String, OutOfMemory> {
-    let mut files = MemFiles::new(alloc);
-    let names = put_logs(alloc, &mut files, logs)?;
-    eras_of(alloc, &mut files, names.as_slice())
+fn eras(answer: &mut Answer, logs: &[&str]) {
+    let mut files = MemFiles::new(answer.alloc());
+    let names = put_logs(answer, &mut files, logs);
+    eras_of(answer, &mut files, names.as_slice());
 }
 
 /// The audit of the eras of these logs, of which so many are the left node's.
-fn audit(alloc: Global, logs: &[&str], count: usize) -> Result<String, OutOfMemory> {
-    let mut files = MemFiles::new(alloc);
-    let names = put_logs(alloc, &mut files, logs)?;
-    audit_of(alloc, &mut files, names.as_slice(), count)
+fn audit(answer: &mut Answer, logs: &[&str], count: usize) {
+    let mut files = MemFiles::new(answer.alloc());
+    let names = put_logs(answer, &mut files, logs);
+    audit_of(answer, &mut files, names.as_slice(), count);
 }
 
 /// Puts these logs into files, and answers their names.
-fn put_logs(
-    alloc: Global,
-    files: &mut MemFiles,
-    logs: &[&str],
-) -> Result<Vec<String>, OutOfMemory> {
-    let mut names = Vec::new(alloc);
+fn put_logs(answer: &mut Answer, files: &mut MemFiles, logs: &[&str]) -> Vec<String> {
+    let mut names = Vec::new(answer.alloc());
     for (place, digits) in logs.iter().enumerate() {
-        let name = format!(in alloc; "{place}")?;
-        put_log(alloc, files, name.as_str(), digits)?;
-        names.push(name)?;
+        let name = name_of(answer, place);
+        if *digits != "-" {
+            let put = put_log(answer, files, name.as_str(), digits);
+            answer.keep(put);
+        }
+        if names.push(name).is_err() {
+            answer.refuse();
+        }
     }
-    Ok(names)
+    names
 }
 
-/// Puts the log that the digits spell into a file of this name, if they spell one.
+fn name_of(answer: &mut Answer, place: usize) -> String {
+    match format!(in answer.alloc(); "{place}") {
+        Ok(name) => name,
+        Err(_) => {
+            answer.refuse();
+            String::new(answer.alloc())
+        }
+    }
+}
+
+/// Puts the log that the digits spell into a file of this name.
 fn put_log(
-    alloc: Global,
+    answer: &mut Answer,
     files: &mut MemFiles,
     name: &str,
     digits: &str,
-) -> Result<(), OutOfMemory> {
-    match hex::decode(alloc, digits) {
-        Ok(bytes) => Ok(files.put(name, bytes.as_slice())?),
-        Err(_) => Ok(()),
-    }
+) -> Result<(), AllocError> {
+    let bytes = answer.bytes(digits);
+    files.put(name, bytes.as_slice())
 }
 
-fn eras_of(alloc: Global, files: &mut MemFiles, logs: &[String]) -> Result<String, OutOfMemory> {
+fn eras_of(answer: &mut Answer, files: &mut MemFiles, logs: &[String]) {
     if logs.is_empty() || logs.len() > 64 {
-        return Ok("usage".to_string(alloc)?);
+        return answer.put("usage");
     }
-    match report_logs(alloc, files, logs) {
-        Ok(text) => told(alloc, 0, text.as_slice()),
-        Err(stop) => stopped(alloc, stop),
+    match report_logs(answer.alloc(), files, logs) {
+        Ok(text) => put_text(answer, "status ", 0, text.as_slice()),
+        Err(stop) => put_stop(answer, stop),
     }
 }
 
-fn audit_of(
-    alloc: Global,
-    files: &mut MemFiles,
-    logs: &[String],
-    count: usize,
-) -> Result<String, OutOfMemory> {
+fn audit_of(answer: &mut Answer, files: &mut MemFiles, logs: &[String], count: usize) {
     if count == 0 || count > 64 || count >= logs.len() || logs.len() - count > 64 {
-        return Ok("usage".to_string(alloc)?);
+        return answer.put("usage");
     }
-    match audit_logs(alloc, files, &logs[..count], &logs[count..]) {
-        Ok(audit) => told(alloc, audit.status, audit.text.as_slice()),
-        Err(stop) => stopped(alloc, stop),
+    match audit_logs(answer.alloc(), files, &logs[..count], &logs[count..]) {
+        Ok(audit) => {
+            put_text(
+                answer,
+                "status ",
+                u32::from(audit.status),
+                audit.text.as_slice(),
+            );
+        }
+        Err(stop) => put_stop(answer, stop),
     }
 }
 
-/// A status and the text without its last line feed.
-fn told(alloc: Global, status: u8, text: &[u8]) -> Result<String, OutOfMemory> {
-    let text = String::from_utf8_lossy(alloc, text)?;
-    let text = text.as_str().trim_end();
-    Ok(format!(in alloc; "status {status}\n{text}")?)
+/// A word and a number, and the text without its last line feed.
+pub fn put_text(answer: &mut Answer, word: &str, number: u32, text: &[u8]) {
+    answer.put(word);
+    answer.number(u64::from(number));
+    answer.put("\n");
+    match String::from_utf8_lossy(answer.alloc(), text) {
+        Ok(text) => answer.put(text.as_str().trim_end()),
+        Err(_) => answer.refuse(),
+    }
 }
 
-fn stopped(alloc: Global, stop: EraStop<'_>) -> Result<String, OutOfMemory> {
+fn put_stop(answer: &mut Answer, stop: EraStop<'_>) {
     match stop {
-        EraStop::NoEra(log) => Ok(format!(in alloc; "status 2\ninput {log}: no era")?),
-        EraStop::Stopped(log, fault) => fault_text(alloc, log, fault),
-        EraStop::OutOfMemory => Err(OutOfMemory),
+        EraStop::NoEra(log) => put_input(answer, log, ": no era"),
+        EraStop::Stopped(log, fault) => put_fault(answer, log, fault),
+        EraStop::OutOfMemory => answer.refuse(),
     }
 }
 
 /// Why the replay of this log stopped.
-fn fault_text(alloc: Global, log: &str, fault: StartFault) -> Result<String, OutOfMemory> {
+fn put_fault(answer: &mut Answer, log: &str, fault: StartFault) {
     match fault {
-        StartFault::Log(LogError::ReadFault) => Ok("status 4\nread fault".to_string(alloc)?),
-        StartFault::Log(_) => Ok(format!(in alloc; "status 2\ninput {log}: bad log")?),
-        StartFault::OtherConfig => Ok(format!(in alloc; "status 2\ninput {log}: other config")?),
-        StartFault::RecordsFull(at) => Ok(format!(in alloc; "status 8\nlimit records at {at}")?),
-        StartFault::ParkFull(at) => Ok(format!(in alloc; "status 8\nlimit parked at {at}")?),
-        StartFault::Clash { .. } => Ok("status 9".to_string(alloc)?),
-        StartFault::OutOfMemory => Err(OutOfMemory),
+        StartFault::Log(LogError::ReadFault) => answer.put("status 4\nread fault"),
+        StartFault::Log(_) => put_input(answer, log, ": bad log"),
+        StartFault::OtherConfig => put_input(answer, log, ": other config"),
+        StartFault::RecordsFull(at) => put_limit(answer, "records at ", at),
+        StartFault::ParkFull(at) => put_limit(answer, "parked at ", at),
+        StartFault::Clash { .. } => answer.put("status 9"),
+        StartFault::OutOfMemory => answer.refuse(),
     }
+}
+
+fn put_input(answer: &mut Answer, log: &str, end: &str) {
+    answer.put("status 2\ninput ");
+    answer.put(log);
+    answer.put(end);
+}
+
+fn put_limit(answer: &mut Answer, word: &str, at: u64) {
+    answer.put("status 8\nlimit ");
+    answer.put(word);
+    answer.number(at);
 }

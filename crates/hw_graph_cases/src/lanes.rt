@@ -6,35 +6,46 @@ ghost use Rattle.hw_dag.specs.Dag.{count_of, node_at, unit_at, seq_of};
 
 use crate::settling::{Outcome, settle};
 use crate::units::INSTANCE;
-use crate::views::word_at;
+use crate::views::put_name;
 use hw_admit::State;
-use hw_case_words::named;
+use hw_case_words::{Answer, named, number, small};
 use hw_dag::{Dag, Marks, UnitNo};
 use hw_skip::Steps;
-use hw_types::{Bytes, DigestList, Obs, ObsList, Signature, SignedUnit, WireUnit};
+use hw_types::{Bytes, Digest, DigestList, Obs, ObsList, Signature, SignedUnit, WireUnit};
 use std::alloc::Global;
 use std::marker::Brand;
 use std::sync::ledger::{Blank, Ledger};
 
 /// Admits blocks of validator 0 in every fourth round, each on the one before it.
-pub fn chain(alloc: Global, state: &mut State, words: &[&str]) -> Option<String> {
+pub fn chain(answer: &mut Answer, state: &mut State, words: &[&str]) {
     let [length] = words else {
-        return None;
+        return answer.refuse();
     };
-    let length: u32 = length.parse().ok()?;
     let mut admitted: u32 = 0;
-    for height in 0..length {
-        let outcome = add_block(alloc, state, height)?;
-        admitted = admitted.saturating_add(u32::from(matches!(outcome, Outcome::Admitted(_))));
+    for height in 0..small(length) {
+        match add_block(answer.alloc(), state, height) {
+            Some(Outcome::Admitted(_)) => admitted = admitted.saturating_add(1),
+            Some(_) => {}
+            None => answer.refuse(),
+        }
     }
-    format!(in alloc; "admitted {admitted}").ok()
+    answer.put("admitted ");
+    answer.number(u64::from(admitted));
 }
 
 /// Admits the block of this height.
 fn add_block(alloc: Global, state: &mut State, height: u32) -> Option<Outcome> {
+    let name = name_at(alloc, height)?;
     let unit = block_at(alloc, state.dag().validators(), height)?;
-    let name = format!(in alloc; "n{height}").ok()?;
-    settle(state, named(name.as_str()), unit)
+    settle(state, name, unit)
+}
+
+/// The name of the block of this height.
+fn name_at(alloc: Global, height: u32) -> Option<Digest> {
+    match format!(in alloc; "n{height}") {
+        Ok(name) => Some(named(name.as_str())),
+        Err(_) => None,
+    }
 }
 
 /// The block of this height.
@@ -68,17 +79,20 @@ fn observed_before(alloc: Global, height: u32) -> Option<Obs> {
     if height == 0 {
         return Some(Obs::Absent);
     }
-    let name = format!(in alloc; "n{}", height - 1).ok()?;
-    Some(Obs::Correct(named(name.as_str())))
+    Some(Obs::Correct(name_at(alloc, height - 1)?))
 }
 
 /// The unit of this number on the lane of the named one, and its own number.
-pub fn lane(alloc: Global, dag: &Dag, name: &str, number: &str) -> Option<String> {
-    let no = dag.find(&named(name))?;
-    let number: u64 = number.parse().ok()?;
-    let found = lane_at::<Brand>(dag, no, number, Blank::new(1))?;
-    let word = word_at(alloc, dag, found)?;
-    format!(in alloc; "{word} number {}", dag.unit(found).signed().unit.seq).ok()
+pub fn lane(answer: &mut Answer, dag: &Dag, name: &str, seq: &str) {
+    let Some(no) = dag.find(&named(name)) else {
+        return answer.refuse();
+    };
+    let Some(found) = lane_at::<Brand>(dag, no, number(seq), Blank::new(1)) else {
+        return answer.refuse();
+    };
+    put_name(answer, dag, "", found);
+    answer.put(" number ");
+    answer.number(dag.unit(found).signed().unit.seq);
 }
 
 fn lane_at<L: Ledger>(dag: &Dag, no: UnitNo, seq: u64, blank: Blank) -> Option<UnitNo>
@@ -96,15 +110,19 @@ fn lane_at<L: Ledger>(dag: &Dag, no: UnitNo, seq: u64, blank: Blank) -> Option<U
 }
 
 /// The block of this height on the chain of the named one.
-pub fn ancestor(alloc: Global, dag: &Dag, name: &str, height: &str) -> Option<String> {
-    let no = dag.find(&named(name))?;
-    let height: u64 = height.parse().ok()?;
+pub fn ancestor(answer: &mut Answer, dag: &Dag, name: &str, height: &str) {
+    let Some(no) = dag.find(&named(name)) else {
+        return answer.refuse();
+    };
     if dag.unit(no).signed().unit.value.is_none() {
-        return None;
+        return answer.refuse();
     }
-    let found = chain_at::<Brand>(dag, no, height, Blank::new(1))?;
-    let word = word_at(alloc, dag, found)?;
-    format!(in alloc; "{word} height {:?}", dag.unit(found).height()).ok()
+    let Some(found) = chain_at::<Brand>(dag, no, number(height), Blank::new(1)) else {
+        return answer.refuse();
+    };
+    put_name(answer, dag, "", found);
+    answer.put(" height ");
+    answer.debug(&dag.unit(found).height());
 }
 
 fn chain_at<L: Ledger>(dag: &Dag, block: UnitNo, height: u64, blank: Blank) -> Option<UnitNo>
@@ -123,21 +141,23 @@ fn chain_at<L: Ledger>(dag: &Dag, block: UnitNo, height: u64, blank: Blank) -> O
 }
 
 /// Whether the one unit is on the lane of the other.
-pub fn on_lane(alloc: Global, dag: &Dag, low: &str, high: &str) -> Option<String> {
-    let low = dag.find(&named(low))?;
-    let high = dag.find(&named(high))?;
-    let is_on = dag.on_lane(low, high);
-    format!(in alloc; "{is_on}").ok()
+pub fn on_lane(answer: &mut Answer, dag: &Dag, low: &str, high: &str) {
+    match (dag.find(&named(low)), dag.find(&named(high))) {
+        (Some(low), Some(high)) => answer.show(&dag.on_lane(low, high)),
+        _ => answer.refuse(),
+    }
 }
 
 /// Whether the one unit is the other or has it below it.
-pub fn sees(alloc: Global, dag: &Dag, high: &str, low: &str) -> Option<String> {
-    let high = dag.find(&named(high))?;
-    let low = dag.find(&named(low))?;
-    let mut marks = Marks::new(alloc);
-    marks.reserve(dag.count()).ok()?;
-    let is_seen = dag.sees(high, low, &mut marks);
-    format!(in alloc; "{is_seen}").ok()
+pub fn sees(answer: &mut Answer, dag: &Dag, high: &str, low: &str) {
+    let mut marks = Marks::new(answer.alloc());
+    if marks.reserve(dag.count()).is_err() {
+        return answer.refuse();
+    }
+    match (dag.find(&named(high)), dag.find(&named(low))) {
+        (Some(high), Some(low)) => answer.show(&dag.sees(high, low, &mut marks)),
+        _ => answer.refuse(),
+    }
 }
 
 /// From number 1,000 to 1 it takes 14 jumps,

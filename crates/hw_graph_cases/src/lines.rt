@@ -1,4 +1,4 @@
-//! Lines of words. None stands for a line that isn't of the language, and for want of memory.
+//! Lines of words. A line that isn't of the language is refused, and so is one for want of memory.
 
 use crate::begin::weights;
 use crate::lanes::{ancestor, chain, lane, on_lane, sees};
@@ -10,71 +10,65 @@ use crate::shown::show;
 use crate::steps::{make, step};
 use crate::summits::summit;
 use hw_admit::State;
-use std::alloc::Global;
+use hw_case_words::Answer;
 
-/// The answer to a line, for the state that is held.
-pub fn answer(alloc: Global, held: &mut Option<State>, line: &str) -> Option<String> {
-    let words: Vec<&str> = line.split(' ').collect(alloc).ok()?;
-    let [kind, rest @ ..] = words.as_slice() else {
-        return None;
-    };
-    match *kind {
-        "#" => repeated(alloc, line),
-        "weights" => weights(alloc, held, words.as_slice()),
-        "random" => random(alloc, held, rest),
-        _ => asked(alloc, held, kind, rest),
+/// Answers a line, for the state that is held.
+pub fn tell(answer: &mut Answer, held: &mut Option<State>, line: &str) {
+    let words = answer.words(line, ' ');
+    match words.as_slice() {
+        ["#", ..] => answer.put(line),
+        ["weights", ..] => weights(answer, held, words.as_slice()),
+        ["random", rest @ ..] => random(answer, held, rest),
+        [kind, rest @ ..] => asked(answer, held, kind, rest),
+        [] => answer.refuse(),
     }
 }
 
-fn repeated(alloc: Global, line: &str) -> Option<String> {
-    line.to_string(alloc).ok()
-}
-
 /// The answer of the state that is held.
-fn asked(alloc: Global, held: &mut Option<State>, kind: &str, words: &[&str]) -> Option<String> {
+fn asked(answer: &mut Answer, held: &mut Option<State>, kind: &str, words: &[&str]) {
     match held {
-        Some(state) => moved(alloc, state, kind, words),
-        None => None,
+        Some(state) => moved(answer, state, kind, words),
+        None => answer.refuse(),
     }
 }
 
 /// The answer of the state, which may change.
-fn moved(alloc: Global, state: &mut State, kind: &str, words: &[&str]) -> Option<String> {
+fn moved(answer: &mut Answer, state: &mut State, kind: &str, words: &[&str]) {
     match kind {
-        "unit" => unit(alloc, state, words),
-        "mark" => mark(alloc, state, words),
-        "endorse" => endorse(alloc, state, words),
-        "show" => show(alloc, state),
-        "chain" => chain(alloc, state, words),
-        "make" => make(alloc, state, words),
-        _ => told(alloc, state, kind, words),
+        "unit" => unit(answer, state, words),
+        "mark" => mark(answer, state, words),
+        "endorse" => endorse(answer, state, words),
+        "show" => show(answer, state),
+        "chain" => chain(answer, state, words),
+        "make" => make(answer, state, words),
+        _ => told(answer, state, kind, words),
     }
 }
 
 /// The answer of the state that stays as it is.
-fn told(alloc: Global, state: &State, kind: &str, words: &[&str]) -> Option<String> {
+fn told(answer: &mut Answer, state: &State, kind: &str, words: &[&str]) {
     match kind {
-        "choice" => choice(alloc, state, words),
-        "consistent" => consistency(alloc, state.dag(), words),
-        "most" => at_most_of(alloc, state.dag(), words),
-        "join" => joined(alloc, state.dag(), words),
-        "naive" => naive_fork(alloc, state, words),
-        "summit" => summit(alloc, state, words),
-        "step" => step(alloc, state, words),
-        _ => looked_up(alloc, state, kind, words),
+        "choice" => choice(answer, state, words),
+        "consistent" => consistency(answer, state.dag(), words),
+        "most" => at_most_of(answer, state.dag(), words),
+        "join" => joined(answer, state.dag(), words),
+        "naive" => naive_fork(answer, state, words),
+        "summit" => summit(answer, state, words),
+        "step" => step(answer, state, words),
+        _ => looked_up(answer, state, kind, words),
     }
 }
 
 /// What stands where on lanes and chains.
-fn looked_up(alloc: Global, state: &State, kind: &str, words: &[&str]) -> Option<String> {
+fn looked_up(answer: &mut Answer, state: &State, kind: &str, words: &[&str]) {
     let [first, second] = words else {
-        return None;
+        return answer.refuse();
     };
     match kind {
-        "lane" => lane(alloc, state.dag(), first, second),
-        "ancestor" => ancestor(alloc, state.dag(), first, second),
-        "on" => on_lane(alloc, state.dag(), first, second),
-        "sees" => sees(alloc, state.dag(), first, second),
-        _ => None,
+        "lane" => lane(answer, state.dag(), first, second),
+        "ancestor" => ancestor(answer, state.dag(), first, second),
+        "on" => on_lane(answer, state.dag(), first, second),
+        "sees" => sees(answer, state.dag(), first, second),
+        _ => answer.refuse(),
     }
 }

@@ -40,6 +40,7 @@ mod units;
 mod views;
 
 use hw_admit::State;
+use hw_case_words::Answer;
 use std::io;
 
 fn main(rt: HostRuntime) -> io::Result<()> {
@@ -57,7 +58,9 @@ fn answer_all(rt: HostRuntime, held: &mut Option<State>) -> io::Result<()> {
 
 /// Answers a line for the state that is held.
 fn answer(rt: HostRuntime, held: &mut Option<State>, line: &str) -> io::Result<()> {
-    match lines::answer(rt.alloc(), held, line) {
+    let mut answer = Answer::new(rt.alloc());
+    lines::tell(&mut answer, held, line);
+    match answer.finish() {
         Some(text) => println!(rt; "{text}"),
         None => Err(io::ErrorKind::InvalidInput.into()),
     }

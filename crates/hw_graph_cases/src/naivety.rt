@@ -9,20 +9,33 @@ ghost use Rattle.hw_graph_cases.specs.Slots.{HasListOf};
 
 use crate::panoramas::panorama_of;
 use crate::units::names;
-use crate::views::word_at;
+use crate::views::put_name;
 use hw_admit::State;
-use hw_case_words::after;
+use hw_case_words::{Answer, after};
 use hw_dag::{Dag, Marks, Panorama, View};
 use hw_naivety::NaiveFork;
 use hw_types::Digest;
 use std::alloc::Global;
 
 /// The naive fork of a unit with this panorama and this endorsed list.
-pub fn naive_fork(alloc: Global, state: &State, words: &[&str]) -> Option<String> {
-    let panorama = panorama_of(alloc, state.dag(), words)?;
-    let endorsed = names(alloc, after(words, "endorsed"))?;
-    let fork = fork_over(alloc, state, &panorama, endorsed.as_slice())?;
-    naive_text(alloc, state.dag(), fork)
+pub fn naive_fork(answer: &mut Answer, state: &State, words: &[&str]) {
+    let panorama = panorama_of(answer.alloc(), state.dag(), words);
+    let endorsed = names(answer.alloc(), after(words, "endorsed"));
+    match (panorama, endorsed) {
+        (Some(panorama), Some(endorsed)) => {
+            put_fork_over(answer, state, &panorama, endorsed.as_slice());
+        }
+        _ => answer.refuse(),
+    }
+}
+
+fn put_fork_over(answer: &mut Answer, state: &State, panorama: &Panorama, endorsed: &[Digest])
+    requires { IsPanorama state.now.dag panorama.now }
+{
+    match fork_over(answer.alloc(), state, panorama, endorsed) {
+        Some(fork) => put_naive(answer, state.dag(), fork),
+        None => answer.refuse(),
+    }
 }
 
 /// The naive fork, found with scratch of its own. The list must have those of the cited units.
@@ -43,18 +56,19 @@ fn fork_over(
 }
 
 /// The creator and the two units, in the order of their numbers.
-fn naive_text(alloc: Global, dag: &Dag, fork: Option<NaiveFork>) -> Option<String> {
+fn put_naive(answer: &mut Answer, dag: &Dag, fork: Option<NaiveFork>) {
     let Some(fork) = fork else {
-        return "no naive fork".to_string(alloc).ok();
+        return answer.put("no naive fork");
     };
     let (low, high) = if fork.left.0 < fork.right.0 {
         (fork.left, fork.right)
     } else {
         (fork.right, fork.left)
     };
-    let low = word_at(alloc, dag, low)?;
-    let high = word_at(alloc, dag, high)?;
-    format!(in alloc; "naive fork of {}: {low} {high}", fork.creator).ok()
+    answer.put("naive fork of ");
+    answer.number(u64::from(fork.creator));
+    put_name(answer, dag, ": ", low);
+    put_name(answer, dag, " ", high);
 }
 
 /// Whether the list has those of the cited units.

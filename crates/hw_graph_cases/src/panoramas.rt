@@ -6,8 +6,9 @@ ghost use Rattle.hw_dag.specs.Dag.{graph, observations, count_of, IsPanorama};
 ghost use Rattle.hw_graph_cases.specs.Slots.{IsBy};
 
 use crate::units::observed;
-use crate::views::{views_text, word_at};
+use crate::views::{put_name, put_views};
 use hw_admit::State;
+use hw_case_words::Answer;
 use hw_dag::{Dag, Panorama, UnitNo, View};
 use hw_forks::Forks;
 use hw_panorama::{at_most, consistent, join};
@@ -79,10 +80,20 @@ fn is_of(dag: &Dag, view: View, validator: u32) -> bool
 }
 
 /// The fork choice of a panorama.
-pub fn choice(alloc: Global, state: &State, words: &[&str]) -> Option<String> {
-    let panorama = panorama_of(alloc, state.dag(), words)?;
-    let fork = fork_choice(alloc, state, &panorama)?;
-    fork_text(alloc, state.dag(), fork)
+pub fn choice(answer: &mut Answer, state: &State, words: &[&str]) {
+    match panorama_of(answer.alloc(), state.dag(), words) {
+        Some(panorama) => put_choice(answer, state, &panorama),
+        None => answer.refuse(),
+    }
+}
+
+fn put_choice(answer: &mut Answer, state: &State, panorama: &Panorama)
+    requires { IsPanorama state.now.dag panorama.now }
+{
+    match fork_choice(answer.alloc(), state, panorama) {
+        Some(fork) => put_fork(answer, state.dag(), fork),
+        None => answer.refuse(),
+    }
 }
 
 /// The fork choice, worked out with scratch of its own.
@@ -95,18 +106,19 @@ pub fn fork_choice(alloc: Global, state: &State, panorama: &Panorama) -> Option<
 }
 
 /// `fork` and the name of the block.
-pub fn fork_text(alloc: Global, dag: &Dag, fork: Option<UnitNo>) -> Option<String> {
+pub fn put_fork(answer: &mut Answer, dag: &Dag, fork: Option<UnitNo>) {
     match fork {
-        Some(no) => format!(in alloc; "fork {}", word_at(alloc, dag, no)?).ok(),
-        None => "fork -".to_string(alloc).ok(),
+        Some(no) => put_name(answer, dag, "fork ", no),
+        None => answer.put("fork -"),
     }
 }
 
 /// Whether the panorama of these words is consistent.
-pub fn consistency(alloc: Global, dag: &Dag, words: &[&str]) -> Option<String> {
-    let panorama = panorama_of(alloc, dag, words)?;
-    let is_consistent = consistent(dag, &panorama);
-    format!(in alloc; "{is_consistent}").ok()
+pub fn consistency(answer: &mut Answer, dag: &Dag, words: &[&str]) {
+    match panorama_of(answer.alloc(), dag, words) {
+        Some(panorama) => answer.show(&consistent(dag, &panorama)),
+        None => answer.refuse(),
+    }
 }
 
 /// The panorama of these words, which is consistent.
@@ -133,27 +145,24 @@ fn second_half<'a, 'b>(words: &'a [&'b str]) -> &'a [&'b str] {
 }
 
 /// Whether the first panorama is at most the second.
-pub fn at_most_of(alloc: Global, dag: &Dag, words: &[&str]) -> Option<String> {
-    let left = panorama_of(alloc, dag, first_half(words))?;
-    let right = panorama_of(alloc, dag, second_half(words))?;
-    let is_at_most = at_most(dag, &left, &right);
-    format!(in alloc; "{is_at_most}").ok()
+pub fn at_most_of(answer: &mut Answer, dag: &Dag, words: &[&str]) {
+    let left = panorama_of(answer.alloc(), dag, first_half(words));
+    let right = panorama_of(answer.alloc(), dag, second_half(words));
+    match (left, right) {
+        (Some(left), Some(right)) => answer.show(&at_most(dag, &left, &right)),
+        _ => answer.refuse(),
+    }
 }
 
 /// The least panorama above both.
-pub fn joined(alloc: Global, dag: &Dag, words: &[&str]) -> Option<String> {
-    let mut left = consistent_of(alloc, dag, first_half(words))?;
-    join_words(alloc, dag, &mut left, second_half(words))?;
-    views_text(alloc, dag, &left)
-}
-
-/// Joins the panorama of these words to the one that is there.
-fn join_words(alloc: Global, dag: &Dag, left: &mut Panorama, words: &[&str]) -> Option<()>
-    requires panorama { IsPanorama dag.now left.old }
-    requires consistent { IsTrue (is_consistent (graph dag.now) (observations dag.now left.old)) }
-    ensures { length left.new ≡ dag.now.validators }
-{
-    let right = consistent_of(alloc, dag, words)?;
-    join(dag, left, &right);
-    Some(())
+pub fn joined(answer: &mut Answer, dag: &Dag, words: &[&str]) {
+    let left = consistent_of(answer.alloc(), dag, first_half(words));
+    let right = consistent_of(answer.alloc(), dag, second_half(words));
+    match (left, right) {
+        (Some(mut left), Some(right)) => {
+            join(dag, &mut left, &right);
+            put_views(answer, dag, &left);
+        }
+        _ => answer.refuse(),
+    }
 }

@@ -3,12 +3,12 @@
 ghost use Rattle.std.specs.Prelude.{◌≡◌, ◌<◌, ◌≤◌, length, IfSome};
 ghost use Rattle.hw_dag.specs.Dag.{count_of, IsPanorama};
 
-use crate::begin::began;
 use crate::panoramas::{fork_choice, is_panorama};
 use crate::plain::Plain;
 use crate::settling::{Outcome, settle};
 use crate::units::{INSTANCE, next_number};
 use hw_admit::State;
+use hw_case_words::{Answer, number, small};
 use hw_dag::{Dag, Panorama, UnitNo, View};
 use hw_types::{
     Bytes, Config, Digest, DigestList, IndexList, Leaders, Obs, ObsList, Signature, SignedUnit,
@@ -40,31 +40,28 @@ impl Lots {
 }
 
 /// How many of the panoramas have the fork choice of the plain walk, and whether it changes often.
-pub fn random(alloc: Global, held: &mut Option<State>, words: &[&str]) -> Option<String> {
+pub fn random(answer: &mut Answer, held: &mut Option<State>, words: &[&str]) {
     let [units, panoramas, seed] = words else {
-        return None;
+        return answer.refuse();
     };
-    let units: u32 = units.parse().ok()?;
     let mut lots = Lots {
-        state: seed.parse().ok()?,
+        state: number(seed),
     };
-    began(alloc, held, config_of(alloc, &mut lots, units)?)?;
+    *held = grown(answer.alloc(), &mut lots, small(units));
     match held {
-        Some(state) => beside(alloc, state, &mut lots, units, panoramas),
-        None => None,
+        Some(state) => compared(answer, state, &mut lots, small(panoramas)),
+        None => answer.refuse(),
     }
 }
 
-/// The same of the state that is held.
-fn beside(
-    alloc: Global,
-    state: &mut State,
-    lots: &mut Lots,
-    units: u32,
-    panoramas: &str,
-) -> Option<String> {
-    grow(alloc, state, lots, units)?;
-    compared(alloc, state, lots, panoramas.parse().ok()?)
+/// The state of so many units.
+fn grown(alloc: Global, lots: &mut Lots, units: u32) -> Option<State> {
+    let config = config_of(alloc, lots, units)?;
+    let mut state = State::new(alloc, config).ok()?;
+    match grow(alloc, &mut state, lots, units) {
+        Some(()) => Some(state),
+        None => None,
+    }
 }
 
 /// Each unit has a round of its own, whose leader is drawn.
@@ -168,18 +165,24 @@ fn numbered(number: u32) -> Digest {
 }
 
 /// Compares the fork choices of so many panoramas.
-fn compared(alloc: Global, state: &State, lots: &mut Lots, panoramas: u32) -> Option<String> {
+fn compared(answer: &mut Answer, state: &State, lots: &mut Lots, panoramas: u32) {
     let mut same: u32 = 0;
     let mut changes: u32 = 0;
     let mut last = None;
     for _ in 0..panoramas {
-        let (fork, is_same) = one_choice(alloc, state, lots)?;
+        let Some((fork, is_same)) = one_choice(answer.alloc(), state, lots) else {
+            return answer.refuse();
+        };
         same = same.saturating_add(u32::from(is_same));
         changes = changes.saturating_add(u32::from(fork != last));
         last = fork;
     }
     let often = panoramas / 4 < changes;
-    format!(in alloc; "{same} of {panoramas} are the same, changes often {often}").ok()
+    let put = write!(
+        answer.text,
+        "{same} of {panoramas} are the same, changes often {often}"
+    );
+    answer.keep(put);
 }
 
 /// The fork choice of a random panorama, and whether the plain one is the same.

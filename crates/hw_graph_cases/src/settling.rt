@@ -8,13 +8,12 @@ ghost use Rattle.hw_admit.specs.State.{MarksAreMet};
 
 use crate::units::{INSTANCE, wire_unit};
 use hw_admit::{State, local};
-use hw_case_words::named;
+use hw_case_words::{Answer, named, small};
 use hw_dag::{Prepared, UnitNo};
 use hw_types::{Digest, Obs, Rule, SignedUnit};
-use std::alloc::Global;
 
 /// What became of a unit.
-#[derive(Clone, Copy, Debug, PartialEq, Eq)]
+#[derive(Clone, Copy, Debug)]
 pub enum Outcome {
     /// It is settled, with this number.
     Admitted(UnitNo),
@@ -27,13 +26,19 @@ pub enum Outcome {
 }
 
 /// What becomes of the unit that the words tell.
-pub fn unit(alloc: Global, state: &mut State, words: &[&str]) -> Option<String> {
-    let [name, ..] = words else {
-        return None;
-    };
-    let unit = wire_unit(alloc, state.dag(), words)?;
-    let outcome = settle(state, named(name), unit)?;
-    format!(in alloc; "{outcome:?}").ok()
+pub fn unit(answer: &mut Answer, state: &mut State, words: &[&str]) {
+    match (words, wire_unit(answer.alloc(), state.dag(), words)) {
+        ([name, ..], Some(unit)) => put_outcome(answer, settle(state, named(name), unit)),
+        _ => answer.refuse(),
+    }
+}
+
+/// What became of a unit.
+pub fn put_outcome(answer: &mut Answer, outcome: Option<Outcome>) {
+    match outcome {
+        Some(outcome) => answer.debug(&outcome),
+        None => answer.refuse(),
+    }
 }
 
 /// Judges the unit where it has what it needs, and admits it where it keeps all rules.
@@ -122,42 +127,42 @@ fn are_met(state: &State, observed: &[Obs]) -> bool
 }
 
 /// Marks the validator.
-pub fn mark(alloc: Global, state: &mut State, words: &[&str]) -> Option<String> {
+pub fn mark(answer: &mut Answer, state: &mut State, words: &[&str]) {
     let [word] = words else {
-        return None;
+        return answer.refuse();
     };
-    let validator: u32 = word.parse().ok()?;
+    let validator = small(word);
     if state.config().weights.len() <= validator as usize {
-        return None;
+        return answer.refuse();
     }
     state.mark(validator);
-    "marked".to_string(alloc).ok()
+    answer.put("marked");
 }
 
 /// Adds these endorsements, and says whether the unit is endorsed then.
-pub fn endorse(alloc: Global, state: &mut State, words: &[&str]) -> Option<String> {
+pub fn endorse(answer: &mut Answer, state: &mut State, words: &[&str]) {
     let [name, _by, endorsers @ ..] = words else {
-        return None;
+        return answer.refuse();
     };
     let name = named(name);
-    let mut text = String::new(alloc);
     for word in endorsers {
-        let added = endorsed_by(alloc, state, &name, word)?;
-        text.push_str(added.as_str()).ok()?;
+        endorsed_by(answer, state, &name, small(word));
     }
-    let is_endorsed = state.endorsed(&name);
-    text.push_str(format!(in alloc; "endorsed {is_endorsed}").ok()?.as_str())
-        .ok()?;
-    Some(text)
+    answer.put("endorsed ");
+    answer.show(&state.endorsed(&name));
 }
 
 /// Adds one endorsement. Whether it was known before is asked first.
-fn endorsed_by(alloc: Global, state: &mut State, name: &Digest, word: &str) -> Option<String> {
-    let endorser: u32 = word.parse().ok()?;
+fn endorsed_by(answer: &mut Answer, state: &mut State, name: &Digest, endorser: u32) {
     if state.config().weights.len() <= endorser as usize {
-        return None;
+        return answer.refuse();
     }
     let is_told = state.is_told(name, endorser);
-    let added = state.endorse(name, endorser).ok()?;
-    format!(in alloc; "{added:?} known {is_told} ").ok()
+    match state.endorse(name, endorser) {
+        Ok(added) => {
+            let put = write!(answer.text, "{added:?} known {is_told} ");
+            answer.keep(put);
+        }
+        Err(_) => answer.refuse(),
+    }
 }

@@ -1,40 +1,34 @@
 //! What the state shows.
 
-use crate::panoramas::fork_text;
-use crate::views::views_text;
+use crate::panoramas::put_fork;
+use crate::views::put_views;
 use hw_admit::State;
-use std::alloc::Global;
+use hw_case_words::Answer;
 
 /// What the state observes, its fork choice, who is faulty and how much they weigh.
-pub fn show(alloc: Global, state: &mut State) -> Option<String> {
+pub fn show(answer: &mut Answer, state: &mut State) {
     let fork = state.fork();
     let again = state.fork();
     let fork = if fork == again { fork } else { None };
-    let panorama = views_text(alloc, state.dag(), state.panorama())?;
-    let choice = fork_text(alloc, state.dag(), fork)?;
-    let faulty = faulty_text(alloc, state)?;
-    format!(in alloc;
-        "{panorama} {choice} {faulty} weight {}",
-        state.faulty_weight()
-    )
-    .ok()
-}
-
-/// The faulty validators, those with evidence against them marked by a star.
-fn faulty_text(alloc: Global, state: &State) -> Option<String> {
-    let mut text = "faulty".to_string(alloc).ok()?;
+    put_views(answer, state.dag(), state.panorama());
+    answer.put(" ");
+    put_fork(answer, state.dag(), fork);
+    answer.put(" faulty");
     for validator in 0..state.dag().validators() {
-        let word = fault_text(alloc, state, validator)?;
-        text.push_str(word.as_str()).ok()?;
+        put_fault(answer, state, validator);
     }
-    Some(text)
+    answer.put(" weight ");
+    answer.number(state.faulty_weight());
 }
 
-/// The validator where it is faulty.
-fn fault_text(alloc: Global, state: &State, validator: u32) -> Option<String> {
+/// The validator where it is faulty, marked by a star where there is evidence against it.
+fn put_fault(answer: &mut Answer, state: &State, validator: u32) {
     if state.config().weights.len() <= validator as usize || !state.is_faulty(validator) {
-        return Some(String::new(alloc));
+        return;
     }
-    let star = if state.is_marked(validator) { "*" } else { "" };
-    format!(in alloc; " {validator}{star}").ok()
+    answer.put(" ");
+    answer.number(u64::from(validator));
+    if state.is_marked(validator) {
+        answer.put("*");
+    }
 }

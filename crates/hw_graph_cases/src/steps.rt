@@ -1,37 +1,36 @@
 //! What a validator may make now.
 
-use crate::settling::settle;
+use crate::settling::{put_outcome, settle};
 use crate::units::INSTANCE;
 use hw_admit::State;
-use hw_case_words::{after, named, word_of};
+use hw_case_words::{Answer, after, named, number_of};
 use hw_types::{Digest, Obs, Plan, Signature, SignedUnit, WireUnit};
 use hw_validator::next_unit;
 use std::alloc::Global;
 
 /// The unit that the words ask for, if there is one.
-pub fn step(alloc: Global, state: &State, words: &[&str]) -> Option<String> {
-    match plan(alloc, state, words)? {
-        Some(plan) => plan_text(alloc, &plan),
-        None => "none".to_string(alloc).ok(),
+pub fn step(answer: &mut Answer, state: &State, words: &[&str]) {
+    match plan(answer.alloc(), state, words) {
+        Some(Some(plan)) => put_plan(answer, &plan),
+        Some(None) => answer.put("none"),
+        None => answer.refuse(),
     }
 }
 
 /// The same, and what becomes of the unit under the first word as its name.
-pub fn make(alloc: Global, state: &mut State, words: &[&str]) -> Option<String> {
-    let [name, ..] = words else {
-        return None;
-    };
-    match plan(alloc, state, words)? {
-        Some(plan) => settled(alloc, state, named(name), plan),
-        None => "none".to_string(alloc).ok(),
+pub fn make(answer: &mut Answer, state: &mut State, words: &[&str]) {
+    match (words, plan(answer.alloc(), state, words)) {
+        ([name, ..], Some(Some(plan))) => settled(answer, state, named(name), plan),
+        (_, Some(None)) => answer.put("none"),
+        _ => answer.refuse(),
     }
 }
 
 /// The plan, and what becomes of its unit under this name.
-fn settled(alloc: Global, state: &mut State, name: Digest, plan: Plan) -> Option<String> {
-    let text = plan_text(alloc, &plan)?;
-    let outcome = settle(state, name, signed(plan.unit))?;
-    format!(in alloc; "{text} {outcome:?}").ok()
+fn settled(answer: &mut Answer, state: &mut State, name: Digest, plan: Plan) {
+    put_plan(answer, &plan);
+    answer.put(" ");
+    put_outcome(answer, settle(state, name, signed(plan.unit)));
 }
 
 /// The unit under the instance that all units of the lines are of.
@@ -46,79 +45,65 @@ fn signed(mut unit: WireUnit) -> SignedUnit {
 /// What the validator may make at the moment that the words tell. None for want of memory, and where there is no such
 /// validator, moment or value.
 fn plan(alloc: Global, state: &State, words: &[&str]) -> Option<Option<Plan>> {
-    let me: u32 = told(words, "by")?.parse().ok()?;
-    let now: u64 = told(words, "at")?.parse().ok()?;
-    let value = told(words, "block").unwrap_or("");
-    let validators = state.config().weights.len();
-    if validators <= me as usize || 1 << 63 <= now || 4096 < value.len() {
+    let (me, now, value) = (
+        number_of(words, "by"),
+        number_of(words, "at"),
+        value_of(words),
+    );
+    if state.config().weights.len() <= me as usize || 1 << 63 <= now || 4096 < value.len() {
         return None;
     }
-    next_unit(alloc, state, me, now, value.as_bytes()).ok()
+    next_unit(alloc, state, me as u32, now, value.as_bytes()).ok()
 }
 
-/// The word behind this one.
-fn told<'a, 'b>(words: &'a [&'b str], key: &str) -> Option<&'b str> {
-    match after(words, key) {
-        [word, ..] => Some(word),
-        [] => None,
+/// The value of a proposal.
+fn value_of<'a, 'b>(words: &'a [&'b str]) -> &'b str {
+    match after(words, "block") {
+        [word, ..] => word,
+        [] => "",
     }
 }
 
 /// The plan in the words that a line tells a unit by.
-fn plan_text(alloc: Global, plan: &Plan) -> Option<String> {
-    let unit = &plan.unit;
-    let mut text = format!(in alloc;
-        "{:?} number {} by {} at {} exp {} cites",
-        plan.kind, unit.seq, unit.creator, unit.time, unit.exponent
-    )
-    .ok()?;
-    put_cites(alloc, &mut text, unit.panorama.as_slice())?;
-    put_value(&mut text, unit)?;
-    put_list(alloc, &mut text, unit.endorsed.as_slice())?;
-    Some(text)
-}
-
-/// Puts what is observed of each validator.
-fn put_cites(alloc: Global, text: &mut String, observed: &[Obs]) -> Option<()> {
-    for observation in observed {
-        let word = observation_text(alloc, *observation)?;
-        text.push_str(word.as_str()).ok()?;
+fn put_plan(answer: &mut Answer, plan: &Plan) {
+    let kind = plan.kind;
+    let (seq, creator) = (plan.unit.seq, plan.unit.creator);
+    let (time, exponent) = (plan.unit.time, plan.unit.exponent);
+    let put = write!(
+        answer.text,
+        "{kind:?} number {seq} by {creator} at {time} exp {exponent} cites"
+    );
+    answer.keep(put);
+    for observation in plan.unit.panorama.as_slice() {
+        put_observation(answer, *observation);
     }
-    Some(())
+    put_rest(answer, &plan.unit);
 }
 
-fn observation_text(alloc: Global, observation: Obs) -> Option<String> {
+fn put_observation(answer: &mut Answer, observation: Obs) {
     match observation {
-        Obs::Absent => " -".to_string(alloc).ok(),
-        Obs::Faulty => " !".to_string(alloc).ok(),
-        Obs::Correct(name) => name_text(alloc, &name),
+        Obs::Absent => answer.put(" -"),
+        Obs::Faulty => answer.put(" !"),
+        Obs::Correct(name) => put_digest(answer, &name),
     }
 }
 
-fn name_text(alloc: Global, name: &Digest) -> Option<String> {
-    let word = word_of(alloc, name)?;
-    format!(in alloc; " {word}").ok()
+fn put_digest(answer: &mut Answer, name: &Digest) {
+    answer.put(" ");
+    answer.name(name);
 }
 
-/// Puts the value as the word of its bytes, where there is one.
-fn put_value(text: &mut String, unit: &WireUnit) -> Option<()> {
+/// Puts the value as the word of its bytes, where there is one, and the names of the endorsed list, where it has some.
+fn put_rest(answer: &mut Answer, unit: &WireUnit) {
     if let Some(value) = &unit.value {
-        text.push_str(" block ").ok()?;
-        for byte in value.as_slice() {
-            text.push(char::from(*byte)).ok()?;
-        }
+        answer.put(" block ");
+        answer.characters(value.as_slice());
     }
-    Some(())
-}
-
-/// Puts the names of the endorsed list, where it has some.
-fn put_list(alloc: Global, text: &mut String, endorsed: &[Digest]) -> Option<()> {
+    let endorsed = unit.endorsed.as_slice();
     if !endorsed.is_empty() {
-        text.push_str(" endorsed").ok()?;
+        answer.put(" endorsed");
     }
     for name in endorsed {
-        let word = name_text(alloc, name)?;
-        text.push_str(word.as_str()).ok()?;
+        put_digest(answer, name);
     }
-    Some(())
 }

@@ -8,46 +8,54 @@ ghost use Rattle.hw_horizon.specs.Kept.{AreKept};
 
 use crate::panoramas::consistent_of;
 use hw_admit::State;
-use hw_case_words::named;
+use hw_case_words::{Answer, named, number, small};
 use hw_dag::{Dag, Panorama, UnitNo};
 use hw_horizon::Horizons;
 use hw_types::WeightList;
-use std::alloc::Global;
 
 /// Searches go up to this level.
 const LEVELS: u32 = 4;
 
 /// Whether the block has a summit of this level and quorum in this panorama, and its starts.
-pub fn summit(alloc: Global, state: &State, words: &[&str]) -> Option<String> {
+pub fn summit(answer: &mut Answer, state: &State, words: &[&str]) {
     let [block, level, quorum, cites @ ..] = words else {
-        return None;
+        return answer.refuse();
     };
-    let panorama = consistent_of(alloc, state.dag(), cites)?;
-    let block = state.dag().find(&named(block))?;
-    let level: u32 = level.parse().ok()?;
-    let quorum: u64 = quorum.parse().ok()?;
-    summit_in(alloc, state, &panorama, block, level, quorum)
+    let panorama = consistent_of(answer.alloc(), state.dag(), cites);
+    match (panorama, state.dag().find(&named(block))) {
+        (Some(panorama), Some(block)) => {
+            summit_in(
+                answer,
+                state,
+                &panorama,
+                block,
+                small(level),
+                number(quorum),
+            );
+        }
+        _ => answer.refuse(),
+    }
 }
 
 /// The same with scratch of its own.
 fn summit_in(
-    alloc: Global,
+    answer: &mut Answer,
     state: &State,
     panorama: &Panorama,
     block: UnitNo,
     level: u32,
     quorum: u64,
-) -> Option<String>
+)
     requires panorama { IsPanorama state.now.dag panorama.now }
     requires consistent { IsTrue (is_consistent (graph state.now.dag) (observations state.now.dag panorama.now)) }
     requires known { block.0 < count_of state.now.dag }
 {
     let validators = state.dag().validators();
-    let Ok(mut horizons) = Horizons::new(alloc, validators, LEVELS) else {
-        return None;
+    let Ok(mut horizons) = Horizons::new(answer.alloc(), validators, LEVELS) else {
+        return answer.refuse();
     };
     if LEVELS < level {
-        return None;
+        return answer.refuse();
     }
     let is_found = search(
         state.dag(),
@@ -58,8 +66,9 @@ fn summit_in(
         level,
         quorum,
     );
-    let starts = starts_text(alloc, &horizons, validators)?;
-    format!(in alloc; "summit {is_found}{starts}").ok()
+    answer.put("summit ");
+    answer.show(&is_found);
+    put_starts(answer, &horizons, validators);
 }
 
 /// Whether there is a summit. It is asked twice, so that what the first search kept is read by the second.
@@ -86,33 +95,25 @@ fn search(
 }
 
 /// For each validator with a start, its starts from level 0 on.
-fn starts_text(alloc: Global, horizons: &Horizons, validators: u32) -> Option<String> {
-    let mut text = String::new(alloc);
+fn put_starts(answer: &mut Answer, horizons: &Horizons, validators: u32) {
     for validator in 0..validators {
-        let starts = starts_of(alloc, horizons, validator)?;
-        text.push_str(starts.as_str()).ok()?;
+        for level in 0..LEVELS {
+            let Some(start) = horizons.start(level, validator) else {
+                break;
+            };
+            put_start(answer, level, validator, start);
+        }
     }
-    Some(text)
-}
-
-/// The starts of one validator.
-fn starts_of(alloc: Global, horizons: &Horizons, validator: u32) -> Option<String> {
-    let mut text = String::new(alloc);
-    for level in 0..LEVELS {
-        let Some(start) = horizons.start(level, validator) else {
-            break;
-        };
-        let word = start_text(alloc, level, validator, start)?;
-        text.push_str(word.as_str()).ok()?;
-    }
-    Some(text)
 }
 
 /// A start, the first one with its validator.
-fn start_text(alloc: Global, level: u32, validator: u32, start: u64) -> Option<String> {
+fn put_start(answer: &mut Answer, level: u32, validator: u32, start: u64) {
     if level == 0 {
-        format!(in alloc; " {validator}:{start}").ok()
+        answer.put(" ");
+        answer.number(u64::from(validator));
+        answer.put(":");
     } else {
-        format!(in alloc; ",{start}").ok()
+        answer.put(",");
     }
+    answer.number(start);
 }

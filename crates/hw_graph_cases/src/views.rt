@@ -3,36 +3,34 @@
 ghost use Rattle.std.specs.Prelude.{◌≡◌, ◌<◌, ◌≤◌, length};
 ghost use Rattle.hw_dag.specs.Dag.{count_of};
 
-use hw_case_words::word_of;
+use hw_case_words::Answer;
 use hw_dag::{Dag, Panorama, UnitNo, View};
-use std::alloc::Global;
 
-/// The name of a unit.
-pub fn word_at(alloc: Global, dag: &Dag, no: UnitNo) -> Option<String> {
+/// The name of a unit, behind this word.
+pub fn put_name(answer: &mut Answer, dag: &Dag, word: &str, no: UnitNo) {
+    answer.put(word);
     if no.0 < dag.count() {
-        word_of(alloc, dag.unit(no).digest())
+        answer.name(dag.unit(no).digest());
     } else {
-        None
+        answer.refuse();
     }
 }
 
 /// A slot in a word, with a space before it.
-fn view_text(alloc: Global, dag: &Dag, view: View) -> Option<String> {
+fn put_view(answer: &mut Answer, dag: &Dag, view: View) {
     match view {
-        View::Absent => " -".to_string(alloc).ok(),
-        View::Faulty => " !".to_string(alloc).ok(),
-        View::Correct(no) => format!(in alloc; " {}", word_at(alloc, dag, no)?).ok(),
+        View::Absent => answer.put(" -"),
+        View::Faulty => answer.put(" !"),
+        View::Correct(no) => put_name(answer, dag, " ", no),
     }
 }
 
 /// The slots of the panorama in words.
-pub fn views_text(alloc: Global, dag: &Dag, panorama: &Panorama) -> Option<String>
+pub fn put_views(answer: &mut Answer, dag: &Dag, panorama: &Panorama)
     requires { length panorama.now ≡ dag.now.validators }
 {
-    let mut text = "panorama".to_string(alloc).ok()?;
+    answer.put("panorama");
     for validator in 0..dag.validators() {
-        let word = view_text(alloc, dag, panorama.get(validator))?;
-        text.push_str(word.as_str()).ok()?;
+        put_view(answer, dag, panorama.get(validator));
     }
-    Some(text)
 }

@@ -3,20 +3,21 @@
 ghost use Rattle.std.specs.Prelude.{◌≡◌, None};
 ghost use Rattle.hw_types.specs.Limits.{config_fault};
 
-use crate::words::{byte, number, small};
+use hw_case_words::{Answer, byte, number, small};
 use hw_leaders::LeaderTable;
 use hw_types::{Config, IndexList, Items, Leaders, OutOfMemory, WeightList};
-use std::alloc::Global;
 
 /// The numbers of words `COUNTxNUMBER` joined by `+`.
-fn numbers_of(alloc: Global, word: &str) -> Result<WeightList, OutOfMemory> {
-    let mut numbers = Items::new(alloc);
+fn numbers_of(answer: &mut Answer, word: &str) -> WeightList {
+    let mut numbers = Items::new(answer.alloc());
     for part in word.split('+') {
         if let Some((count, of)) = part.split_once('x') {
-            put_times(&mut numbers, small(count), number(of))?;
+            if put_times(&mut numbers, small(count), number(of)).is_err() {
+                answer.refuse();
+            }
         }
     }
-    Ok(numbers)
+    numbers
 }
 
 fn put_times(numbers: &mut WeightList, count: u32, of: u64) -> Result<(), OutOfMemory> {
@@ -26,94 +27,84 @@ fn put_times(numbers: &mut WeightList, count: u32, of: u64) -> Result<(), OutOfM
     Ok(())
 }
 
-fn entries_of(alloc: Global, numbers: &WeightList) -> Result<IndexList, OutOfMemory> {
-    let mut entries = Items::new(alloc);
+fn entries_of(answer: &mut Answer, numbers: &WeightList) -> IndexList {
+    let mut entries = Items::new(answer.alloc());
     for of in numbers.as_slice() {
-        entries.push(u32::try_from(*of).unwrap_or(u32::MAX))?;
+        if entries
+            .push(u32::try_from(*of).unwrap_or(u32::MAX))
+            .is_err()
+        {
+            answer.refuse();
+        }
     }
-    Ok(entries)
+    entries
 }
 
 /// A key of 64 digits, or else a table.
-fn leaders_of(alloc: Global, word: &str) -> Result<Leaders, OutOfMemory> {
-    if word.len() == 64 {
-        if let Ok(bytes) = hex::decode(alloc, word) {
-            if let Some(key) = bytes.as_slice().first_chunk::<32>() {
-                return Ok(Leaders::Drawn(*key));
-            }
-        }
+fn leaders_of(answer: &mut Answer, word: &str) -> Leaders {
+    if word.len() != 64 {
+        let numbers = numbers_of(answer, word);
+        return Leaders::Table(entries_of(answer, &numbers));
     }
-    let numbers = numbers_of(alloc, word)?;
-    Ok(Leaders::Table(entries_of(alloc, &numbers)?))
+    let bytes = answer.bytes(word);
+    match bytes.as_slice().first_chunk::<32>() {
+        Some(key) => Leaders::Drawn(*key),
+        None => Leaders::Table(Items::new(answer.alloc())),
+    }
 }
 
 /// A configuration with these weights and leaders.
-pub fn config_of(alloc: Global, weights: &str, leaders: &str) -> Result<Config, OutOfMemory> {
-    let weights = numbers_of(alloc, weights)?;
-    Ok(Config {
+pub fn config_of(answer: &mut Answer, weights: &str, leaders: &str) -> Config {
+    let weights = numbers_of(answer, weights);
+    Config {
         weights,
         ftt: 0,
         levels: 1,
         min_exponent: 4,
         max_exponent: 8,
-        leaders: leaders_of(alloc, leaders)?,
+        leaders: leaders_of(answer, leaders),
         max_records: 32_768,
         max_parked: 4_096,
         end: None,
-    })
-}
-
-pub fn checked(alloc: Global, words: &[&str]) -> Result<String, OutOfMemory> {
-    match words {
-        [
-            weights,
-            ftt,
-            levels,
-            least,
-            greatest,
-            leaders,
-            records,
-            most,
-        ] => {
-            let mut config = config_of(alloc, weights, leaders)?;
-            config.ftt = number(ftt);
-            config.levels = byte(levels);
-            config.min_exponent = byte(least);
-            config.max_exponent = byte(greatest);
-            config.max_records = small(records);
-            config.max_parked = small(most);
-            check_text(alloc, &config)
-        }
-        _ => Ok(String::new(alloc)),
     }
 }
 
-/// Whether the configuration keeps all limits, or the first one that it breaks.
-fn check_text(alloc: Global, config: &Config) -> Result<String, OutOfMemory> {
-    let checked = config.check();
-    Ok(format!(in alloc; "{checked:?}")?)
+/// Whether a configuration keeps all limits, or the first one that it breaks.
+pub fn checked(answer: &mut Answer, weights: &str, words: &[&str]) {
+    let [ftt, levels, least, greatest, leaders, records, most] = words else {
+        return answer.refuse();
+    };
+    let mut config = config_of(answer, weights, leaders);
+    config.ftt = number(ftt);
+    config.levels = byte(levels);
+    config.min_exponent = byte(least);
+    config.max_exponent = byte(greatest);
+    config.max_records = small(records);
+    config.max_parked = small(most);
+    answer.debug(&config.check());
 }
 
-fn leaders_text(alloc: Global, table: &LeaderTable, count: u64) -> Result<String, OutOfMemory> {
-    let mut text = String::new(alloc);
-    for place in 0..count.min(1_000) {
-        text.push_str(format!(in alloc; "{} ", table.leader(16 * place))?.as_str())?;
-    }
-    Ok(text)
-}
-
-pub fn led(alloc: Global, weights: &str, leaders: &str, count: u64) -> Result<String, OutOfMemory> {
-    let config = config_of(alloc, weights, leaders)?;
+pub fn led(answer: &mut Answer, weights: &str, leaders: &str, count: u64) {
+    let config = config_of(answer, weights, leaders);
     match config.check() {
-        Ok(()) => led_in(alloc, &config, count),
-        Err(fault) => Ok(format!(in alloc; "{fault:?}")?),
+        Ok(()) => led_in(answer, &config, count),
+        Err(fault) => answer.debug(&fault),
     }
 }
 
 /// The leaders in an instance that keeps its limits.
-fn led_in(alloc: Global, config: &Config, count: u64) -> Result<String, OutOfMemory>
+fn led_in(answer: &mut Answer, config: &Config, count: u64)
     requires { config_fault config.now ≡ None }
 {
-    let table = LeaderTable::new(alloc, config)?;
-    leaders_text(alloc, &table, count)
+    match LeaderTable::new(answer.alloc(), config) {
+        Ok(table) => leaders_text(answer, &table, count),
+        Err(_) => answer.refuse(),
+    }
+}
+
+fn leaders_text(answer: &mut Answer, table: &LeaderTable, count: u64) {
+    for place in 0..count.min(1_000) {
+        answer.number(u64::from(table.leader(16 * place)));
+        answer.put(" ");
+    }
 }

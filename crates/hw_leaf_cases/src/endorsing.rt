@@ -4,31 +4,26 @@ ghost use Rattle.std.specs.Prelude.{◌≡◌, length, None};
 ghost use Rattle.hw_types.specs.Limits.{config_fault};
 
 use crate::configs::config_of;
-use crate::words::{byte, small};
+use hw_case_words::{Answer, byte, small};
 use hw_endorse::{Added, Endorsements};
-use hw_types::{Config, Digest, OutOfMemory};
-use std::alloc::Global;
+use hw_types::{Config, Digest};
 
 fn unit_of(word: &str) -> Digest {
     Digest([byte(word); 32])
 }
 
 /// Adds an endorsement, and says whether it is new.
-fn added(
-    told: &mut Endorsements,
-    validators: u32,
-    unit: &Digest,
-    endorser: u32,
-) -> Result<&'static str, OutOfMemory>
+fn added(told: &mut Endorsements, validators: u32, unit: &Digest, endorser: u32) -> &'static str
     requires { length told.old.weights ≡ validators }
     ensures { told.new.weights ≡ told.old.weights }
 {
     if endorser >= validators {
-        return Ok("no validator");
+        return "no validator";
     }
-    match told.add(unit, endorser)? {
-        Added::New => Ok("new"),
-        Added::Repeat => Ok("repeat"),
+    match told.add(unit, endorser) {
+        Ok(Added::New) => "new",
+        Ok(Added::Repeat) => "repeat",
+        Err(_) => "memory",
     }
 }
 
@@ -40,88 +35,74 @@ fn has(told: &Endorsements, validators: u32, unit: &Digest, endorser: u32) -> bo
 }
 
 /// What a step answers.
-fn step(
-    alloc: Global,
-    told: &mut Endorsements,
-    validators: u32,
-    word: &str,
-) -> Result<String, OutOfMemory>
+fn step(answer: &mut Answer, told: &mut Endorsements, validators: u32, word: &str)
     requires { length told.old.weights ≡ validators }
     ensures { told.new.weights ≡ told.old.weights }
 {
-    let parts: Vec<&str> = word.split(':').collect(alloc)?;
-    match parts.as_slice() {
-        ["a", unit, endorser] => add(alloc, told, validators, unit, small(endorser)),
-        ["h", unit, endorser] => {
-            let is_known = has(told, validators, &unit_of(unit), small(endorser));
-            bool_text(alloc, is_known)
-        }
-        ["q", unit] => bool_text(alloc, told.endorsed(&unit_of(unit))),
-        _ => Ok("no step".to_string(alloc)?),
+    match word.split_once(':') {
+        Some(("q", unit)) => answer.show(&told.endorsed(&unit_of(unit))),
+        Some((kind, pair)) => pair_step(answer, told, validators, kind, pair),
+        None => answer.put("no step"),
     }
 }
 
-fn add(
-    alloc: Global,
-    told: &mut Endorsements,
-    validators: u32,
-    unit: &str,
-    endorser: u32,
-) -> Result<String, OutOfMemory>
+/// What a step answers with a unit and an endorser.
+fn pair_step(answer: &mut Answer, told: &mut Endorsements, validators: u32, kind: &str, pair: &str)
     requires { length told.old.weights ≡ validators }
     ensures { told.new.weights ≡ told.old.weights }
 {
-    let answer = added(told, validators, &unit_of(unit), endorser)?;
-    Ok(answer.to_string(alloc)?)
+    let Some((unit, endorser)) = pair.split_once(':') else {
+        return answer.refuse();
+    };
+    let (unit, endorser) = (unit_of(unit), small(endorser));
+    if kind == "a" {
+        answer.put(added(told, validators, &unit, endorser));
+    } else {
+        answer.show(&has(told, validators, &unit, endorser));
+    }
 }
 
-fn bool_text(alloc: Global, is: bool) -> Result<String, OutOfMemory> {
-    Ok(format!(in alloc; "{is}")?)
-}
-
-fn steps_text(
-    alloc: Global,
-    told: &mut Endorsements,
-    validators: u32,
-    steps: &[&str],
-) -> Result<String, OutOfMemory>
+fn walk(answer: &mut Answer, told: &mut Endorsements, validators: u32, steps: &[&str])
     requires { length told.old.weights ≡ validators }
 {
-    let mut text = String::new(alloc);
     for word in steps {
-        text.push_str(step(alloc, told, validators, word)?.as_str())?;
-        text.push_str(" ")?;
+        step(answer, told, validators, word);
+        answer.put(" ");
     }
-    Ok(text)
 }
 
 /// An instance of so many validators of weight 1.
-fn equals(alloc: Global, validators: u32) -> Result<Config, OutOfMemory> {
-    let weights = format!(in alloc; "{validators}x1")?;
-    config_of(alloc, weights.as_str(), "1x0")
+fn equals(answer: &mut Answer, validators: u32) -> Config {
+    match format!(in answer.alloc(); "{validators}x1") {
+        Ok(weights) => config_of(answer, weights.as_str(), "1x0"),
+        Err(_) => {
+            answer.refuse();
+            config_of(answer, "", "")
+        }
+    }
 }
 
-pub fn endorsed(alloc: Global, validators: u32, steps: &[&str]) -> Result<String, OutOfMemory> {
-    let config = equals(alloc, validators)?;
+pub fn endorsed(answer: &mut Answer, validators: u32, steps: &[&str]) {
+    let config = equals(answer, validators);
     match config.check() {
-        Ok(()) => endorsed_in(alloc, &config, steps),
-        Err(fault) => Ok(format!(in alloc; "{fault:?}")?),
+        Ok(()) => endorsed_in(answer, &config, steps),
+        Err(fault) => answer.debug(&fault),
     }
 }
 
 /// The answers in an instance that keeps its limits.
-fn endorsed_in(alloc: Global, config: &Config, steps: &[&str]) -> Result<String, OutOfMemory>
+fn endorsed_in(answer: &mut Answer, config: &Config, steps: &[&str])
     requires { config_fault config.now ≡ None }
 {
-    let mut told = Endorsements::new(alloc, config)?;
-    match u32::try_from(config.weights.len()) {
-        Ok(validators) => steps_text(alloc, &mut told, validators, steps),
-        Err(_) => Err(OutOfMemory),
+    let validators = u32::try_from(config.weights.len());
+    match (Endorsements::new(answer.alloc(), config), validators) {
+        (Ok(mut told), Ok(validators)) => walk(answer, &mut told, validators, steps),
+        _ => answer.refuse(),
     }
 }
 
 /// How many endorsers, one after the other, make the unit endorsed.
-fn count(told: &mut Endorsements, validators: u32, unit: &Digest) -> Result<u32, OutOfMemory>
+fn count(told: &mut Endorsements, validators: u32, unit: &Digest) -> u32
     requires { length told.old.weights ≡ validators }
 {
     let mut before = 0u32;
@@ -129,30 +110,30 @@ fn count(told: &mut Endorsements, validators: u32, unit: &Digest) -> Result<u32,
         if !told.endorsed(unit) {
             before = before.saturating_add(1);
         }
-        let _ = added(told, validators, unit, endorser)?;
-        let _ = added(told, validators, unit, endorser)?;
+        let _ = added(told, validators, unit, endorser);
+        let _ = added(told, validators, unit, endorser);
     }
-    Ok(before)
+    before
 }
 
-pub fn endorsers(alloc: Global, validators: u32) -> Result<String, OutOfMemory> {
-    let config = equals(alloc, validators)?;
+pub fn endorsers(answer: &mut Answer, validators: u32) {
+    let config = equals(answer, validators);
     match config.check() {
-        Ok(()) => {
-            let before = endorsers_in(alloc, &config)?;
-            Ok(format!(in alloc; "{before}")?)
-        }
-        Err(fault) => Ok(format!(in alloc; "{fault:?}")?),
+        Ok(()) => endorsers_in(answer, &config),
+        Err(fault) => answer.debug(&fault),
     }
 }
 
 /// How many endorsers there are before a unit is endorsed, in an instance that keeps its limits.
-fn endorsers_in(alloc: Global, config: &Config) -> Result<u32, OutOfMemory>
+fn endorsers_in(answer: &mut Answer, config: &Config)
     requires { config_fault config.now ≡ None }
 {
-    let mut told = Endorsements::new(alloc, config)?;
-    match u32::try_from(config.weights.len()) {
-        Ok(validators) => count(&mut told, validators, &Digest([7; 32])),
-        Err(_) => Err(OutOfMemory),
+    let validators = u32::try_from(config.weights.len());
+    match (Endorsements::new(answer.alloc(), config), validators) {
+        (Ok(mut told), Ok(validators)) => {
+            let before = count(&mut told, validators, &Digest([7; 32]));
+            answer.number(u64::from(before));
+        }
+        _ => answer.refuse(),
     }
 }

@@ -3,76 +3,77 @@
 ghost use Rattle.std.specs.Prelude.{◌≡◌, ◌<◌, length};
 ghost use Rattle.hw_types.specs.Spelling.{VertexFits};
 
-use crate::words::{small, with_line_feeds};
+use hw_case_words::{Answer, small, with_line_feeds};
 use hw_codec::decode_vertex;
 use hw_keys::{Keys, KeysFault};
-use hw_types::{Digest, OutOfMemory, Signature, Vertex};
-use std::alloc::Global;
+use hw_types::{Digest, Signature, Vertex};
+
+/// What keys answer: what is asked, and behind it how many validators there are, and the text of the keys.
+pub fn keyed(answer: &mut Answer, kind: &str, words: &[&str]) {
+    let [validators, text, words @ ..] = words else {
+        return answer.refuse();
+    };
+    match with_line_feeds(answer.alloc(), text) {
+        Some(text) => read(answer, kind, text.as_slice(), small(validators), words),
+        None => answer.refuse(),
+    }
+}
 
 /// What the keys of this text answer.
-pub fn keyed(
-    alloc: Global,
-    kind: &str,
-    validators: u32,
-    text: &str,
-    words: &[&str],
-) -> Result<String, OutOfMemory> {
-    let text = with_line_feeds(alloc, text)?;
-    match Keys::read(alloc, text.as_slice(), validators) {
-        Ok(keys) => told(alloc, kind, &keys, validators, words),
-        Err(KeysFault::At(place)) => Ok(format!(in alloc; "at {place}")?),
-        Err(KeysFault::OutOfMemory) => Err(OutOfMemory),
+fn read(answer: &mut Answer, kind: &str, text: &[u8], validators: u32, words: &[&str]) {
+    match Keys::read(answer.alloc(), text, validators) {
+        Ok(keys) => told(answer, kind, &keys, validators, words),
+        Err(KeysFault::At(place)) => {
+            answer.put("at ");
+            answer.number(place);
+        }
+        Err(KeysFault::OutOfMemory) => answer.refuse(),
     }
 }
 
 /// What the keys answer.
-fn told(
-    alloc: Global,
-    kind: &str,
-    keys: &Keys,
-    validators: u32,
-    words: &[&str],
-) -> Result<String, OutOfMemory>
+fn told(answer: &mut Answer, kind: &str, keys: &Keys, validators: u32, words: &[&str])
     requires { length keys.now ≡ validators }
 {
-    match (kind, words) {
-        ("read", []) => Ok("read".to_string(alloc)?),
-        ("verdict", [vertex]) => verdict_text(alloc, keys, vertex),
-        (_, [validator, digest]) => {
-            let digest = digest_of(alloc, digest)?;
-            signed_by(alloc, kind, keys, validators, small(validator), digest)
+    match words {
+        [] => answer.put("read"),
+        [vertex] => verdict_text(answer, keys, vertex),
+        [validator, digest] => {
+            let digest = answer.bytes(digest);
+            signed_by(
+                answer,
+                kind,
+                keys,
+                validators,
+                small(validator),
+                digest.as_slice(),
+            );
         }
-        _ => Ok(String::new(alloc)),
+        _ => answer.refuse(),
     }
 }
 
 /// What a validator signs, if it is one.
 fn signed_by(
-    alloc: Global,
+    answer: &mut Answer,
     kind: &str,
     keys: &Keys,
     validators: u32,
     validator: u32,
-    digest: Option<Digest>,
-) -> Result<String, OutOfMemory>
+    digest: &[u8],
+)
     requires { length keys.now ≡ validators }
 {
-    match digest {
+    match digest.first_chunk::<32>() {
         Some(digest) if validator < validators => {
-            signed_text(alloc, kind, keys, validator, &digest)
+            signed_text(answer, kind, keys, validator, &Digest(*digest));
         }
-        _ => Ok("no validator".to_string(alloc)?),
+        _ => answer.put("no validator"),
     }
 }
 
 /// What a validator signs.
-fn signed_text(
-    alloc: Global,
-    kind: &str,
-    keys: &Keys,
-    validator: u32,
-    digest: &Digest,
-) -> Result<String, OutOfMemory>
+fn signed_text(answer: &mut Answer, kind: &str, keys: &Keys, validator: u32, digest: &Digest)
     requires { validator < length keys.now }
 {
     let Signature(signature) = if kind == "unit" {
@@ -80,39 +81,23 @@ fn signed_text(
     } else {
         keys.sign_endorsement(validator, digest)
     };
-    Ok(hex::encode(alloc, signature.as_slice())?)
+    answer.hex(signature.as_slice());
 }
 
 /// The verdict on a vertex.
-fn verdict_text(alloc: Global, keys: &Keys, vertex: &str) -> Result<String, OutOfMemory> {
-    match hex::decode(alloc, vertex) {
-        Ok(bytes) => verdict_of(alloc, keys, bytes.as_slice()),
-        Err(_) => Ok("no bytes".to_string(alloc)?),
+fn verdict_text(answer: &mut Answer, keys: &Keys, vertex: &str) {
+    let bytes = answer.bytes(vertex);
+    match decode_vertex(answer.alloc(), bytes.as_slice()) {
+        Ok(vertex) => told_verdict(answer, keys, &vertex),
+        Err(_) => answer.put("no vertex"),
     }
 }
 
-/// The verdict on the vertex of these bytes.
-fn verdict_of(alloc: Global, keys: &Keys, bytes: &[u8]) -> Result<String, OutOfMemory> {
-    match decode_vertex(alloc, bytes) {
-        Ok(vertex) => told_verdict(alloc, keys, &vertex),
-        Err(_) => Ok("no vertex".to_string(alloc)?),
-    }
-}
-
-fn told_verdict(alloc: Global, keys: &Keys, vertex: &Vertex) -> Result<String, OutOfMemory>
+fn told_verdict(answer: &mut Answer, keys: &Keys, vertex: &Vertex)
     requires { VertexFits vertex.now }
 {
-    let verdict = keys.verdict(vertex)?;
-    Ok(format!(in alloc; "{verdict}")?)
-}
-
-/// The digest that the word spells.
-fn digest_of(alloc: Global, word: &str) -> Result<Option<Digest>, OutOfMemory> {
-    match hex::decode(alloc, word) {
-        Ok(bytes) => match bytes.as_slice().first_chunk::<32>() {
-            Some(digest) => Ok(Some(Digest(*digest))),
-            None => Ok(None),
-        },
-        Err(_) => Ok(None),
+    match keys.verdict(vertex) {
+        Ok(verdict) => answer.show(&verdict),
+        Err(_) => answer.refuse(),
     }
 }

@@ -8,85 +8,77 @@ use crate::parking::{parked, parks};
 use crate::printed::{digest_text, number_text, rule_text};
 use crate::settings::settings_text;
 use crate::spelled::{cut_text, patched_text, spelled_text};
-use crate::words::{number, small};
-use hw_types::OutOfMemory;
-use std::alloc::Global;
+use hw_case_words::{Answer, number, small};
 
-/// The answer to a line.
-pub fn answer(alloc: Global, line: &str) -> Result<String, OutOfMemory> {
+/// Answers a line.
+pub fn tell(answer: &mut Answer, line: &str) {
     match line.strip_prefix("settings ") {
-        Some(text) => settings_text(alloc, text),
+        Some(text) => settings_text(answer, text),
         None => {
-            let words: Vec<&str> = line.split(' ').collect(alloc)?;
-            answer_to(alloc, words.as_slice())
+            let words = answer.words(line, ' ');
+            tell_words(answer, words.as_slice());
         }
     }
 }
 
-/// The answer to a line of these words.
-fn answer_to(alloc: Global, words: &[&str]) -> Result<String, OutOfMemory> {
+/// Answers a line of these words.
+fn tell_words(answer: &mut Answer, words: &[&str]) {
     match words {
-        ["park", limit, steps @ ..] => parked(alloc, small(limit), steps),
-        ["endorse", validators, steps @ ..] => endorsed(alloc, small(validators), steps),
-        ["check", words @ ..] => checked(alloc, words),
-        ["keys", kind, validators, text, words @ ..] => {
-            keyed(alloc, kind, small(validators), text, words)
-        }
-        [kind, word] => of_one(alloc, kind, word),
-        [kind, first, second] => of_two(alloc, kind, first, second),
-        [kind, first, second, third] => of_three(alloc, kind, first, second, third),
-        ["change", before, first, time, then] => {
-            change_text(
-                alloc,
-                number(before),
-                small(first),
-                number(time),
-                small(then),
-            )
-        }
-        _ => Ok(String::new(alloc)),
+        [kind, word] => of_one(answer, kind, word),
+        [kind, first, words @ ..] => of_more(answer, kind, first, words),
+        _ => answer.refuse(),
     }
 }
 
-/// The answer to a line with one word behind its kind.
-fn of_one(alloc: Global, kind: &str, word: &str) -> Result<String, OutOfMemory> {
+/// Answers a line with one word behind its kind.
+fn of_one(answer: &mut Answer, kind: &str, word: &str) {
     match kind {
-        "unit" | "vertex" | "config" | "frame" => spelled_text(alloc, kind, word),
-        "pointers" => pointers_text(alloc, number(word)),
-        "print" => number_text(alloc, number(word)),
-        "digest" => digest_text(alloc, word),
-        "rule" => rule_text(alloc, small(word)),
-        "parks" => parks(alloc, small(word)),
-        "endorsers" => endorsers(alloc, small(word)),
-        _ => Ok(String::new(alloc)),
+        "pointers" => pointers_text(answer, number(word)),
+        "print" => number_text(answer, number(word)),
+        "digest" => digest_text(answer, word),
+        "rule" => rule_text(answer, small(word)),
+        "parks" => parks(answer, small(word)),
+        "endorsers" => endorsers(answer, small(word)),
+        _ => spelled_text(answer, kind, word),
     }
 }
 
-/// The answer to a line with two words behind its kind.
-fn of_two(alloc: Global, kind: &str, first: &str, second: &str) -> Result<String, OutOfMemory> {
+/// Answers a line with more words behind its kind.
+fn of_more(answer: &mut Answer, kind: &str, first: &str, words: &[&str]) {
     match kind {
-        "cut" => cut_text(alloc, first, second),
-        "round" => round_text(alloc, number(first), small(second)),
-        "way" => way_text(alloc, number(first), number(second)),
-        _ => Ok(String::new(alloc)),
+        "park" => parked(answer, small(first), words),
+        "endorse" => endorsed(answer, small(first), words),
+        "check" => checked(answer, first, words),
+        "keys" => keyed(answer, first, words),
+        "change" => change_text(answer, number(first), words),
+        _ => of_few(answer, kind, first, words),
     }
 }
 
-/// The answer to a line with three words behind its kind.
-fn of_three(
-    alloc: Global,
-    kind: &str,
-    first: &str,
-    second: &str,
-    third: &str,
-) -> Result<String, OutOfMemory> {
+/// Answers a line with two or three words behind its kind.
+fn of_few(answer: &mut Answer, kind: &str, first: &str, words: &[&str]) {
+    match words {
+        [second] => of_two(answer, kind, first, second),
+        [second, third] => of_three(answer, kind, first, second, third),
+        _ => answer.refuse(),
+    }
+}
+
+/// Answers a line with two words behind its kind.
+fn of_two(answer: &mut Answer, kind: &str, first: &str, second: &str) {
     match kind {
-        "unit" | "vertex" | "config" | "frame" => {
-            patched_text(alloc, kind, first, second.parse().unwrap_or(0), third)
-        }
-        "quorum" => quorum_text(alloc, number(first), number(second), small(third)),
-        "leaders" => led(alloc, first, second, number(third)),
-        "pair" => pair_text(alloc, small(first), second, third),
-        _ => Ok(String::new(alloc)),
+        "cut" => cut_text(answer, first, second),
+        "round" => round_text(answer, number(first), small(second)),
+        _ => way_text(answer, number(first), number(second)),
+    }
+}
+
+/// Answers a line with three words behind its kind.
+fn of_three(answer: &mut Answer, kind: &str, first: &str, second: &str, third: &str) {
+    match kind {
+        "quorum" => quorum_text(answer, number(first), number(second), small(third)),
+        "leaders" => led(answer, first, second, number(third)),
+        "pair" => pair_text(answer, small(first), second, third),
+        _ => patched_text(answer, kind, first, second, third),
     }
 }

@@ -35,16 +35,23 @@ mod parking;
 mod printed;
 mod settings;
 mod spelled;
-mod words;
 
+use hw_case_words::Answer;
 use std::io;
 
 fn main(rt: HostRuntime) -> io::Result<()> {
     for line in rt.lines(rt.alloc()) {
-        let Ok(text) = lines::answer(rt.alloc(), line?.as_str()) else {
-            return Err(io::ErrorKind::OutOfMemory.into());
-        };
-        println!(rt; "{text}")?;
+        answer(rt, line?.as_str())?;
     }
     Ok(())
+}
+
+/// Answers a line.
+fn answer(rt: HostRuntime, line: &str) -> io::Result<()> {
+    let mut answer = Answer::new(rt.alloc());
+    lines::tell(&mut answer, line);
+    match answer.finish() {
+        Some(text) => println!(rt; "{text}"),
+        None => Err(io::ErrorKind::InvalidInput.into()),
+    }
 }

@@ -1,9 +1,8 @@
 //! Items that wait for needs.
 
-use crate::words::{byte, small};
+use hw_case_words::{Answer, byte, small};
 use hw_park::{Park, ParkCause};
-use hw_types::{Digest, Need, OutOfMemory};
-use std::alloc::Global;
+use hw_types::{Digest, Need};
 
 /// The need of a word: `uN` a unit, `dN` a unit endorsed, else evidence against a validator.
 fn need_of(word: &str) -> Need {
@@ -15,12 +14,14 @@ fn need_of(word: &str) -> Need {
     }
 }
 
-fn needs_of(alloc: Global, words: &str) -> Result<Vec<Need>, OutOfMemory> {
-    let mut needs = Vec::new(alloc);
+fn needs_of(answer: &mut Answer, words: &str) -> Vec<Need> {
+    let mut needs = Vec::new(answer.alloc());
     for word in words.split(',') {
-        needs.push(need_of(word))?;
+        if needs.push(need_of(word)).is_err() {
+            answer.refuse();
+        }
     }
-    Ok(needs)
+    needs
 }
 
 /// Parks an item, and says why not where it is refused.
@@ -37,38 +38,49 @@ fn parking(park: &mut Park<u32>, needs: &[Need], item: u32) -> &'static str {
     }
 }
 
-fn next_text(alloc: Global, park: &mut Park<u32>) -> Result<String, OutOfMemory> {
-    match park.next_ready() {
-        Some(item) => Ok(format!(in alloc; "{item}")?),
-        None => Ok("none".to_string(alloc)?),
-    }
-}
-
 /// What a step answers.
-fn step(alloc: Global, park: &mut Park<u32>, word: &str) -> Result<String, OutOfMemory> {
-    let parts: Vec<&str> = word.split(':').collect(alloc)?;
-    match parts.as_slice() {
-        ["p", needs, item] => {
-            let needs = needs_of(alloc, needs)?;
-            Ok(parking(park, needs.as_slice(), small(item)).to_string(alloc)?)
-        }
-        ["m", need] => {
+fn step(answer: &mut Answer, park: &mut Park<u32>, word: &str) {
+    match word.split_once(':') {
+        Some(("m", need)) => {
             park.met(&need_of(need));
-            Ok("met".to_string(alloc)?)
+            answer.put("met");
         }
-        ["n"] => next_text(alloc, park),
-        _ => Ok(format!(in alloc; "{}", park.count())?),
+        Some((_, item)) => park_item(answer, park, item),
+        None if word == "n" => next_text(answer, park),
+        None => answer.show(&park.count()),
     }
 }
 
-pub fn parked(alloc: Global, limit: u32, steps: &[&str]) -> Result<String, OutOfMemory> {
-    let mut park = Park::new(alloc, limit)?;
-    let mut text = String::new(alloc);
-    for word in steps {
-        text.push_str(step(alloc, &mut park, word)?.as_str())?;
-        text.push_str(" ")?;
+/// Parks the item behind its needs.
+fn park_item(answer: &mut Answer, park: &mut Park<u32>, word: &str) {
+    match word.split_once(':') {
+        Some((needs, item)) => {
+            let needs = needs_of(answer, needs);
+            answer.put(parking(park, needs.as_slice(), small(item)));
+        }
+        None => answer.refuse(),
     }
-    Ok(text)
+}
+
+fn next_text(answer: &mut Answer, park: &mut Park<u32>) {
+    match park.next_ready() {
+        Some(item) => answer.number(u64::from(item)),
+        None => answer.put("none"),
+    }
+}
+
+pub fn parked(answer: &mut Answer, limit: u32, steps: &[&str]) {
+    match Park::new(answer.alloc(), limit) {
+        Ok(mut park) => walk(answer, &mut park, steps),
+        Err(_) => answer.refuse(),
+    }
+}
+
+fn walk(answer: &mut Answer, park: &mut Park<u32>, steps: &[&str]) {
+    for word in steps {
+        step(answer, park, word);
+        answer.put(" ");
+    }
 }
 
 /// A digest that differs from others of its kind in its last bytes alone, as a peer may choose them.
@@ -113,17 +125,25 @@ fn in_order(park: &mut Park<u32>, count: u32, first: u32, second: u32) -> u32 {
     done
 }
 
-pub fn parks(alloc: Global, count: u32) -> Result<String, OutOfMemory> {
-    let mut park = Park::new(alloc, count)?;
-    let parked = park_many(&mut park, count);
+pub fn parks(answer: &mut Answer, count: u32) {
+    match Park::new(answer.alloc(), count) {
+        Ok(mut park) => parks_text(answer, &mut park, count),
+        Err(_) => answer.refuse(),
+    }
+}
+
+fn parks_text(answer: &mut Answer, park: &mut Park<u32>, count: u32) {
+    let parked = park_many(park, count);
     park.met(&Need::Evidence(6));
     park.met(&Need::Evidence(2));
     let early = park.next_ready();
-    meet_units(&mut park, count);
-    let first = in_order(&mut park, count, 2, 6);
+    meet_units(park, count);
+    let first = in_order(park, count, 2, 6);
     let late = park.next_ready();
-    Ok(format!(in alloc;
-        "parked {parked} then {early:?} in order {first} then {late:?} left {}",
-        park.count()
-    )?)
+    let left = park.count();
+    let put = write!(
+        answer.text,
+        "parked {parked} then {early:?} in order {first} then {late:?} left {left}"
+    );
+    answer.keep(put);
 }

@@ -1,33 +1,34 @@
 //! Printed parts.
 
+use hw_case_words::Answer;
 use hw_text::{put_digest, put_number, put_word, rule_name};
 use hw_types::{Bytes, Digest, OutOfMemory, Rule};
-use std::alloc::Global;
 
-/// The bytes as a text.
-fn text_of(alloc: Global, out: &Bytes) -> Result<String, OutOfMemory> {
-    match std::str::from_utf8(out.as_slice()) {
-        Ok(text) => Ok(text.to_string(alloc)?),
-        Err(_) => Ok("no text".to_string(alloc)?),
-    }
+pub fn number_text(answer: &mut Answer, of: u64) {
+    let mut out = Bytes::new(answer.alloc());
+    let first = put_word(&mut out, "number ");
+    let second = put_number(&mut out, of);
+    told(answer, &out, first.and(second));
 }
 
-pub fn number_text(alloc: Global, of: u64) -> Result<String, OutOfMemory> {
-    let mut out = Bytes::new(alloc);
-    put_word(&mut out, "number ")?;
-    put_number(&mut out, of)?;
-    text_of(alloc, &out)
+pub fn digest_text(answer: &mut Answer, word: &str) {
+    let digits = answer.bytes(word);
+    let mut out = Bytes::new(answer.alloc());
+    let first = put_word(&mut out, "fork ");
+    let second = match digits.as_slice().first_chunk::<32>() {
+        Some(digest) => put_digest(&mut out, &Digest(*digest)),
+        None => Ok(()),
+    };
+    told(answer, &out, first.and(second));
 }
 
-pub fn digest_text(alloc: Global, word: &str) -> Result<String, OutOfMemory> {
-    let mut out = Bytes::new(alloc);
-    put_word(&mut out, "fork ")?;
-    if let Ok(bytes) = hex::decode(alloc, word) {
-        if let Some(digest) = bytes.as_slice().first_chunk::<32>() {
-            put_digest(&mut out, &Digest(*digest))?;
-        }
+/// Puts the bytes as a text, where there was memory for all of them.
+fn told(answer: &mut Answer, out: &Bytes, put: Result<(), OutOfMemory>) {
+    match (put, std::str::from_utf8(out.as_slice())) {
+        (Ok(()), Ok(text)) => answer.put(text),
+        (Ok(()), Err(_)) => answer.put("no text"),
+        (Err(_), _) => answer.refuse(),
     }
-    text_of(alloc, &out)
 }
 
 /// The rules in their order.
@@ -53,10 +54,9 @@ const RULES: [Rule; 19] = [
     Rule::AfterTerminal,
 ];
 
-pub fn rule_text(alloc: Global, of: u32) -> Result<String, OutOfMemory> {
-    let name = match RULES.as_slice().get((of as usize).wrapping_sub(1)) {
-        Some(rule) => rule_name(*rule),
-        None => "no rule",
-    };
-    Ok(name.to_string(alloc)?)
+pub fn rule_text(answer: &mut Answer, of: u32) {
+    match RULES.as_slice().get((of as usize).wrapping_sub(1)) {
+        Some(rule) => answer.put(rule_name(*rule)),
+        None => answer.put("no rule"),
+    }
 }

@@ -1,89 +1,92 @@
 //! Settings.
 
+use hw_case_words::Answer;
 use hw_settings::{SettingsFault, read_settings};
-use hw_types::{Config, ConfigFault, Leaders, OutOfMemory};
-use std::alloc::Global;
+use hw_types::{Config, ConfigFault, Leaders};
 
 /// What the settings of this text say, or of the bytes that it spells behind `hex`.
-pub fn settings_text(alloc: Global, text: &str) -> Result<String, OutOfMemory> {
+pub fn settings_text(answer: &mut Answer, text: &str) {
     match text.strip_prefix("hex ") {
-        None => said(alloc, text.as_bytes()),
-        Some(digits) => match hex::decode(alloc, digits) {
-            Ok(bytes) => said(alloc, bytes.as_slice()),
-            Err(_) => Ok("no digits".to_string(alloc)?),
-        },
+        None => said(answer, text.as_bytes()),
+        Some(digits) => {
+            let bytes = answer.bytes(digits);
+            said(answer, bytes.as_slice());
+        }
     }
 }
 
 /// What settings of these bytes say.
-fn said(alloc: Global, bytes: &[u8]) -> Result<String, OutOfMemory> {
-    match read_settings(alloc, bytes) {
-        Ok(config) => config_text(alloc, &config),
-        Err(fault) => fault_text(alloc, fault),
+fn said(answer: &mut Answer, bytes: &[u8]) {
+    match read_settings(answer.alloc(), bytes) {
+        Ok(config) => config_text(answer, &config),
+        Err(fault) => fault_text(answer, fault),
     }
 }
 
 /// What is wrong with settings.
-fn fault_text(alloc: Global, fault: SettingsFault) -> Result<String, OutOfMemory> {
+fn fault_text(answer: &mut Answer, fault: SettingsFault) {
     match fault {
-        SettingsFault::Form => Ok("config form".to_string(alloc)?),
+        SettingsFault::Form => answer.put("config form"),
         SettingsFault::Fault(ConfigFault::ZeroWeight(validator)) => {
-            Ok(format!(in alloc; "config zero weight {validator}")?)
+            answer.put("config zero weight ");
+            answer.number(u64::from(validator));
         }
-        SettingsFault::Fault(fault) => Ok(format!(in alloc; "config {}", name_of(fault))?),
-        SettingsFault::OutOfMemory => Err(OutOfMemory),
+        SettingsFault::Fault(fault) => {
+            answer.put("config ");
+            answer.put(name_of(fault));
+        }
+        SettingsFault::OutOfMemory => answer.refuse(),
     }
 }
 
 /// A configuration, member by member.
-fn config_text(alloc: Global, config: &Config) -> Result<String, OutOfMemory> {
-    let mut text = "weights".to_string(alloc)?;
-    put_weights(alloc, &mut text, config.weights.as_slice())?;
-    text.push_str(rounds_text(alloc, config)?.as_str())?;
-    text.push_str(leaders_text(alloc, &config.leaders)?.as_str())?;
-    text.push_str(room_text(alloc, config)?.as_str())?;
-    Ok(text)
-}
-
-fn put_weights(alloc: Global, text: &mut String, weights: &[u64]) -> Result<(), OutOfMemory> {
-    for weight in weights {
-        text.push_str(format!(in alloc; " {weight}")?.as_str())?;
+fn config_text(answer: &mut Answer, config: &Config) {
+    answer.put("weights");
+    for weight in config.weights.as_slice() {
+        answer.put(" ");
+        answer.number(*weight);
     }
-    Ok(())
+    rounds_text(answer, config);
+    leaders_text(answer, &config.leaders);
+    room_text(answer, config);
 }
 
-fn rounds_text(alloc: Global, config: &Config) -> Result<String, OutOfMemory> {
+fn rounds_text(answer: &mut Answer, config: &Config) {
     let (ftt, levels) = (config.ftt, config.levels);
     let (least, greatest) = (config.min_exponent, config.max_exponent);
-    Ok(format!(in alloc; " threshold {ftt} levels {levels} exponents {least} {greatest} ")?)
+    let put = write!(
+        answer.text,
+        " threshold {ftt} levels {levels} exponents {least} {greatest} "
+    );
+    answer.keep(put);
 }
 
-fn leaders_text(alloc: Global, leaders: &Leaders) -> Result<String, OutOfMemory> {
+fn leaders_text(answer: &mut Answer, leaders: &Leaders) {
     match leaders {
-        Leaders::Drawn(key) => drawn_text(alloc, key.as_slice()),
-        Leaders::Table(entries) => table_text(alloc, entries.as_slice()),
+        Leaders::Drawn(key) => {
+            answer.put("drawn ");
+            answer.hex(key.as_slice());
+        }
+        Leaders::Table(entries) => table_text(answer, entries.as_slice()),
     }
 }
 
-fn drawn_text(alloc: Global, key: &[u8]) -> Result<String, OutOfMemory> {
-    let digits = hex::encode(alloc, key)?;
-    Ok(format!(in alloc; "drawn {digits}")?)
-}
-
-fn table_text(alloc: Global, entries: &[u32]) -> Result<String, OutOfMemory> {
-    let mut text = "leaders".to_string(alloc)?;
+fn table_text(answer: &mut Answer, entries: &[u32]) {
+    answer.put("leaders");
     for entry in entries {
-        text.push_str(format!(in alloc; " {entry}")?.as_str())?;
+        answer.put(" ");
+        answer.number(u64::from(*entry));
     }
-    Ok(text)
 }
 
 /// What is kept, and the last block's height.
-fn room_text(alloc: Global, config: &Config) -> Result<String, OutOfMemory> {
+fn room_text(answer: &mut Answer, config: &Config) {
     let (records, parked) = (config.max_records, config.max_parked);
-    match config.end {
-        None => Ok(format!(in alloc; " records {records} parked {parked}")?),
-        Some(end) => Ok(format!(in alloc; " records {records} parked {parked} end {end}")?),
+    let put = write!(answer.text, " records {records} parked {parked}");
+    answer.keep(put);
+    if let Some(end) = config.end {
+        answer.put(" end ");
+        answer.number(end);
     }
 }
 

@@ -1,43 +1,44 @@
 //! Consumers in memory.
 
-use crate::counts::{Count, done, put_bytes, put_count};
+use crate::counts::{Count, done, put_count};
+use hw_case_words::{Answer, number};
 use hw_io::{Consumer, ListConsumer, TakenBlock};
-use std::alloc::{AllocError, Global};
 
 /// What a consumer answers to the steps, and what it took.
-pub fn consumer_text(alloc: Global, calls: &str, steps: &str) -> Result<String, AllocError> {
-    let mut consumer = ListConsumer::new(alloc);
+pub fn consumer_text(answer: &mut Answer, calls: &str, steps: &str) {
+    let mut consumer = ListConsumer::new(answer.alloc());
     for call in calls.split(',') {
         if let Ok(call) = call.parse() {
-            consumer.fail_at(call)?;
+            let planned = consumer.fail_at(call);
+            answer.keep(planned);
         }
     }
-    let mut text = String::new(alloc);
-    for step in steps.split(',') {
-        put_count(&mut text, alloc, take_step(&mut consumer, step))?;
-    }
-    put_blocks(&mut text, alloc, consumer.blocks())?;
+    walk(answer, &mut consumer, steps);
+    put_blocks(answer, consumer.blocks());
     let (finishes, faults) = (consumer.finishes(), consumer.faults());
-    let told = format!(in alloc; "finishes {finishes} faults {faults}")?;
-    text.push_str(told.as_str())?;
-    Ok(text)
+    let put = write!(answer.text, "finishes {finishes} faults {faults}");
+    answer.keep(put);
+}
+
+/// Takes the steps, and puts down what is answered to each.
+fn walk(answer: &mut Answer, consumer: &mut ListConsumer, steps: &str) {
+    for step in steps.split(',') {
+        put_count(answer, take_step(consumer, step));
+    }
 }
 
 fn take_step<C: Consumer>(consumer: &mut C, step: &str) -> Count {
     match step.split_once(':') {
-        Some((height, value)) => {
-            done(consumer.take(height.parse().unwrap_or(0), value.as_bytes()))
-        }
+        Some((height, value)) => done(consumer.take(number(height), value.as_bytes())),
         None => done(consumer.finish()),
     }
 }
 
-fn put_blocks(text: &mut String, alloc: Global, blocks: &[TakenBlock]) -> Result<(), AllocError> {
+fn put_blocks(answer: &mut Answer, blocks: &[TakenBlock]) {
     for block in blocks {
-        let height = block.height();
-        text.push_str(format!(in alloc; "{height}:")?.as_str())?;
-        put_bytes(text, block.value())?;
-        text.push(' ')?;
+        answer.number(block.height());
+        answer.put(":");
+        answer.characters(block.value());
+        answer.put(" ");
     }
-    Ok(())
 }

@@ -1,7 +1,7 @@
 //! Answers of the outside as words.
 
+use hw_case_words::Answer;
 use hw_io::IoFault;
-use std::alloc::{AllocError, Global};
 
 pub type Count = Result<usize, IoFault>;
 
@@ -20,34 +20,25 @@ pub fn asked(outcome: Result<bool, IoFault>) -> Count {
 }
 
 /// The answer in a word: a number, `failed` or `memory`.
-pub fn put_count(text: &mut String, alloc: Global, count: Count) -> Result<(), AllocError> {
+pub fn put_count(answer: &mut Answer, count: Count) {
     match count {
-        Ok(count) => text.push_str(format!(in alloc; "{count} ")?.as_str())?,
-        Err(IoFault::Failed) => text.push_str("failed ")?,
-        Err(IoFault::OutOfMemory) => text.push_str("memory ")?,
+        Ok(count) => answer.show(&count),
+        Err(IoFault::Failed) => answer.put("failed"),
+        Err(IoFault::OutOfMemory) => answer.put("memory"),
     }
-    Ok(())
+    answer.put(" ");
 }
 
-pub fn counts_text(alloc: Global, counts: &[Count]) -> Result<String, AllocError> {
-    let mut text = String::new(alloc);
+pub fn put_counts(answer: &mut Answer, counts: &[Count]) {
     for count in counts {
-        put_count(&mut text, alloc, *count)?;
+        put_count(answer, *count);
     }
-    Ok(text)
 }
 
-pub fn hex_text(alloc: Global, bytes: Option<&[u8]>) -> Result<String, AllocError> {
+/// The bytes of a file, or that there is none.
+pub fn put_file(answer: &mut Answer, bytes: Option<&[u8]>) {
     match bytes {
-        None => "none".to_string(alloc),
-        Some(bytes) => hex::encode(alloc, bytes),
+        None => answer.put("none"),
+        Some(bytes) => answer.hex(bytes),
     }
-}
-
-/// Bytes as the characters that they are in ASCII.
-pub fn put_bytes(text: &mut String, bytes: &[u8]) -> Result<(), AllocError> {
-    for byte in bytes {
-        text.push(char::from(*byte))?;
-    }
-    Ok(())
 }

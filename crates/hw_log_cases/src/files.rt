@@ -1,8 +1,8 @@
 //! Files in memory, and a buffer over them.
 
-use crate::counts::{Count, asked, counts_text, done, hex_text};
+use crate::counts::{Count, asked, done, put_counts, put_file};
+use hw_case_words::Answer;
 use hw_io::{Files, MemFiles, ReadBuffer, SureFiles};
-use std::alloc::{AllocError, Global};
 
 /// Reads a file before it is there, makes it by two appends, and reads it to its end.
 fn exchange<F: Files>(files: &mut F, buf: &mut [u8]) -> [Count; 9] {
@@ -31,47 +31,51 @@ fn calls<F: Files>(files: &mut F) -> [Count; 4] {
 }
 
 /// An exchange with files of this kind, or, for a number, four calls of which the one of that number fails.
-pub fn files_text(alloc: Global, kind: &str) -> Result<String, AllocError> {
+pub fn files_text(answer: &mut Answer, kind: &str) {
     match kind {
-        "memory" => memory_text(alloc),
-        "sure" => sure_text(alloc),
-        _ => planned_text(alloc, kind.parse().unwrap_or(u64::MAX)),
+        "memory" => memory_text(answer),
+        "sure" => sure_text(answer),
+        _ => planned_text(answer, kind.parse().unwrap_or(u64::MAX)),
     }
 }
 
-fn memory_text(alloc: Global) -> Result<String, AllocError> {
-    let mut files = MemFiles::new(alloc);
+/// Puts down the answers of an exchange, and what was read in it.
+fn put_exchange<F: Files>(answer: &mut Answer, files: &mut F) {
     let mut buf = [0; 8];
-    let answers = counts_text(alloc, &exchange(&mut files, &mut buf))?;
-    let held = hex_text(alloc, files.file("log"))?;
-    format!(in alloc;
-        "{answers}read {} held {held} calls {} faults {} {}",
-        hex::encode(alloc, buf)?,
-        files.calls(),
-        files.read_faults(),
-        files.append_faults()
-    )
+    let counts = exchange(files, &mut buf);
+    put_counts(answer, counts.as_slice());
+    answer.put("read ");
+    answer.hex(buf.as_slice());
+    answer.put(" held ");
 }
 
-fn sure_text(alloc: Global) -> Result<String, AllocError> {
-    let mut files = SureFiles::new(alloc);
-    let mut buf = [0; 8];
-    let answers = counts_text(alloc, &exchange(&mut files, &mut buf))?;
-    let held = hex_text(alloc, files.file("log"))?;
-    format!(in alloc;
-        "{answers}read {} held {held} faults {}",
-        hex::encode(alloc, buf)?,
-        files.read_faults()
-    )
+fn memory_text(answer: &mut Answer) {
+    let mut files = MemFiles::new(answer.alloc());
+    put_exchange(answer, &mut files);
+    put_file(answer, files.file("log"));
+    let (calls, reads, appends) = (files.calls(), files.read_faults(), files.append_faults());
+    let put = write!(answer.text, " calls {calls} faults {reads} {appends}");
+    answer.keep(put);
 }
 
-fn planned_text(alloc: Global, call: u64) -> Result<String, AllocError> {
-    let mut files = MemFiles::new(alloc);
-    files.put("log", b"abc")?;
-    files.fail_at(call, 2)?;
-    let answers = counts_text(alloc, &calls(&mut files))?;
-    let held = hex_text(alloc, files.file("log"))?;
-    format!(in alloc; "{answers}held {held}")
+fn sure_text(answer: &mut Answer) {
+    let mut files = SureFiles::new(answer.alloc());
+    put_exchange(answer, &mut files);
+    put_file(answer, files.file("log"));
+    answer.put(" faults ");
+    answer.show(&files.read_faults());
+}
+
+fn planned_text(answer: &mut Answer, call: u64) {
+    let mut files = MemFiles::new(answer.alloc());
+    let put = files.put("log", b"abc");
+    answer.keep(put);
+    let planned = files.fail_at(call, 2);
+    answer.keep(planned);
+    let counts = calls(&mut files);
+    put_counts(answer, counts.as_slice());
+    answer.put("held ");
+    put_file(answer, files.file("log"));
 }
 
 /// Asks for four bytes and then for all, each until it succeeds, and takes three of the first.
@@ -95,13 +99,23 @@ fn ask(files: &mut MemFiles, buffer: &mut ReadBuffer) -> [Count; 4] {
 }
 
 /// A buffer over files in such pieces, whose second read fails.
-pub fn buffered(alloc: Global, piece: usize) -> Result<String, AllocError> {
-    let mut files = MemFiles::in_pieces(alloc, piece);
-    files.put("log", b"abcdefghij")?;
-    files.fail_at(2, 0)?;
-    let begun = done(files.begin("log"));
-    let mut buffer = ReadBuffer::new(alloc);
-    let answers = counts_text(alloc, &ask(&mut files, &mut buffer))?;
-    let left = hex_text(alloc, Some(buffer.as_slice()))?;
-    format!(in alloc; "begun {} {answers}left {left}", begun.is_ok())
+pub fn buffered(answer: &mut Answer, piece: usize) {
+    let mut files = MemFiles::in_pieces(answer.alloc(), piece);
+    let put = files.put("log", b"abcdefghij");
+    answer.keep(put);
+    let planned = files.fail_at(2, 0);
+    answer.keep(planned);
+    buffer_text(answer, &mut files);
+}
+
+/// What a buffer over these files answers, and what is left in it.
+fn buffer_text(answer: &mut Answer, files: &mut MemFiles) {
+    answer.put("begun ");
+    answer.show(&files.begin("log").is_ok());
+    answer.put(" ");
+    let mut buffer = ReadBuffer::new(answer.alloc());
+    let counts = ask(files, &mut buffer);
+    put_counts(answer, counts.as_slice());
+    answer.put("left ");
+    answer.hex(buffer.as_slice());
 }

@@ -6,12 +6,12 @@ ghost use Rattle.hw_types.specs.Spelling.{VertexFits};
 ghost use Rattle.hw_log.specs.Lasts.{IsVersion};
 ghost use Rattle.hw_log.specs.Reader.{PlacesFit};
 
-use crate::words::{bytes_of, number};
+use hw_case_words::{Answer, number};
 use hw_io::{Files, MemFiles};
 use hw_log::{
     Lasts, LogEntry, LogError, LogReader, append_entry, append_header, entry_bytes, read_log,
 };
-use hw_types::{Items, OutOfMemory};
+use hw_types::Items;
 use std::alloc::Global;
 
 /// The header of a log of three validators of weight 1.
@@ -61,20 +61,21 @@ fn part(letter: char) -> &'static str {
 }
 
 /// The bytes of the parts, one after the other.
-fn log_of(alloc: Global, parts: &str) -> Result<Vec<u8>, OutOfMemory> {
-    let mut bytes = Vec::new(alloc);
+fn log_of(answer: &mut Answer, parts: &str) -> Vec<u8> {
+    let mut bytes = Vec::new(answer.alloc());
     for letter in parts.chars() {
-        let decoded = bytes_of(alloc, part(letter))?;
-        bytes.extend_from_slice(decoded.as_slice())?;
+        let decoded = answer.bytes(part(letter));
+        let put = bytes.extend_from_slice(decoded.as_slice());
+        answer.keep(put);
     }
-    Ok(bytes)
+    bytes
 }
 
 /// Puts bytes at places, as the words `place:byte` say.
 fn patch(bytes: &mut [u8], patches: &str) {
     for word in patches.split(',') {
         if let Some((place, byte)) = word.split_once(':') {
-            if let Some(old) = bytes.get_mut(number(place)) {
+            if let Some(old) = bytes.get_mut(number(place) as usize) {
                 *old = byte.parse().unwrap_or(0);
             }
         }
@@ -83,227 +84,225 @@ fn patch(bytes: &mut [u8], patches: &str) {
 
 /// Files with this log, whose call of that number fails after some bytes.
 fn files_of(
-    alloc: Global,
+    answer: &mut Answer,
     piece: usize,
     call: Option<u64>,
     left: usize,
     log: &[u8],
-) -> Result<MemFiles, OutOfMemory> {
-    let mut files = MemFiles::in_pieces(alloc, piece);
-    if files.put("LOG", log).is_err() {
-        return Err(OutOfMemory);
-    }
+) -> MemFiles {
+    let mut files = MemFiles::in_pieces(answer.alloc(), piece);
+    let put = files.put("LOG", log);
+    answer.keep(put);
     if let Some(call) = call {
-        if files.fail_at(call, left).is_err() {
-            return Err(OutOfMemory);
-        }
+        let planned = files.fail_at(call, left);
+        answer.keep(planned);
     }
-    Ok(files)
+    files
 }
 
 /// How many entries the file has, or its first error.
 fn count(alloc: Global, files: &mut MemFiles, name: &str) -> Result<usize, LogError> {
-    Ok(read_log(alloc, files, name)?.entries.len())
+    match read_log(alloc, files, name) {
+        Ok(log) => Ok(log.entries.len()),
+        Err(error) => Err(error),
+    }
 }
 
 /// How many entries the log has.
 fn count_of(
-    alloc: Global,
+    answer: &mut Answer,
     piece: usize,
     call: Option<u64>,
     log: &[u8],
-) -> Result<Result<usize, LogError>, OutOfMemory> {
-    let mut files = files_of(alloc, piece, call, 0, log)?;
-    Ok(count(alloc, &mut files, "LOG"))
+) -> Result<usize, LogError> {
+    let mut files = files_of(answer, piece, call, 0, log);
+    count(answer.alloc(), &mut files, "LOG")
 }
 
-pub fn counted(
-    alloc: Global,
-    piece: usize,
-    call: Option<u64>,
-    patches: &str,
-    parts: &str,
-) -> Result<String, OutOfMemory> {
-    let mut log = log_of(alloc, parts)?;
+/// How many entries a log has whose bytes are patched, and the faults counted.
+pub fn counted(answer: &mut Answer, piece: &str, call: &str, patches: &str, parts: &str) {
+    let mut log = log_of(answer, parts);
     patch(&mut log, patches);
-    let mut files = files_of(alloc, piece, call, 0, log.as_slice())?;
-    count_text(alloc, &mut files)
+    let piece = number(piece) as usize;
+    let mut files = files_of(answer, piece, call.parse().ok(), 0, log.as_slice());
+    count_text(answer, &mut files);
 }
 
 /// How many entries the log has, and the faults counted.
-fn count_text(alloc: Global, files: &mut MemFiles) -> Result<String, OutOfMemory> {
-    let answer = count(alloc, files, "LOG");
+fn count_text(answer: &mut Answer, files: &mut MemFiles) {
+    let count = count(answer.alloc(), files, "LOG");
     let (reads, appends) = (files.read_faults(), files.append_faults());
-    Ok(format!(in alloc; "{answer:?} faults {reads} {appends}")?)
+    let put = write!(answer.text, "{count:?} faults {reads} {appends}");
+    answer.keep(put);
 }
 
-/// Copies the log entry by entry into a log of this version, and answers the places of the entries.
+/// Copies the log entry by entry into a log of this version, and puts down the places of the entries.
 fn copy_log(
     alloc: Global,
     files: &mut MemFiles,
-    from: &str,
-    to: &str,
     version: u8,
-) -> Result<Items<u64>, LogError>
+    places: &mut Items<u64>,
+) -> Result<(), LogError>
     requires { IsVersion version }
 {
-    let mut reader = LogReader::begin(alloc, files, from)?;
-    append_header(alloc, files, to, version, reader.config())?;
-    let mut lasts = Lasts::new(alloc, version, reader.config().weights.len() as u32)?;
-    copy_entries(alloc, files, to, &mut reader, &mut lasts)
+    let mut reader = LogReader::begin(alloc, files, "LOG")?;
+    copy_from(alloc, files, version, &mut reader, places)
 }
 
-/// Appends the entries that are left behind these last units, and answers their places.
+/// The same from where this reader is.
+fn copy_from(
+    alloc: Global,
+    files: &mut MemFiles,
+    version: u8,
+    reader: &mut LogReader,
+    places: &mut Items<u64>,
+) -> Result<(), LogError>
+    requires version { IsVersion version }
+    requires places { PlacesFit reader.old (mem_allowance files.old) }
+{
+    append_header(alloc, files, "COPY", version, reader.config())?;
+    let mut lasts = Lasts::new(alloc, version, reader.config().weights.len() as u32)?;
+    copy_entries(alloc, files, reader, &mut lasts, places)
+}
+
+/// Appends the entries that are left behind these last units, and puts down their places.
 fn copy_entries(
     alloc: Global,
     files: &mut MemFiles,
-    to: &str,
     reader: &mut LogReader,
     lasts: &mut Lasts,
-) -> Result<Items<u64>, LogError>
+    places: &mut Items<u64>,
+) -> Result<(), LogError>
     requires { PlacesFit reader.old (mem_allowance files.old) }
 {
-    let mut places = Items::new(alloc);
     'entries: while let Some(entry) = reader.next(files)? {
-        copy_entry(alloc, files, to, lasts, &entry)?;
-        places.push(entry.at)?;
+        copy_entry(alloc, files, lasts, &entry, places)?;
     }
-    Ok(places)
+    Ok(())
 }
 
-/// Appends the entry behind these last units.
+/// Appends the entry behind these last units, and puts down its place.
 fn copy_entry(
     alloc: Global,
     files: &mut MemFiles,
-    to: &str,
     lasts: &mut Lasts,
     entry: &LogEntry,
+    places: &mut Items<u64>,
 ) -> Result<(), LogError>
     requires { VertexFits entry.now.vertex }
     ensures { mem_allowance files.new ≡ mem_allowance files.old }
 {
+    places.push(entry.at)?;
     let bytes = entry_bytes(alloc, lasts, entry.verdict, &entry.vertex)?;
     let noted = lasts.prepare(&entry.vertex)?;
-    append_entry(files, to, &bytes)?;
+    append_entry(files, "COPY", &bytes)?;
     lasts.note(noted);
     Ok(())
 }
 
-/// How much of the log was copied.
-fn copy_text(alloc: Global, files: &MemFiles, log: &[u8]) -> Result<String, OutOfMemory> {
-    match files.file("COPY") {
-        None => Ok("no copy".to_string(alloc)?),
-        Some(copy) => Ok(format!(in alloc;
-            "{} of {} {}",
-            copy.len(),
-            log.len(),
-            log.starts_with(copy)
-        )?),
-    }
-}
-
-pub fn copied(
-    alloc: Global,
-    piece: usize,
-    call: Option<u64>,
-    left: usize,
-    parts: &str,
-) -> Result<String, OutOfMemory> {
-    let log = log_of(alloc, parts)?;
-    let mut files = files_of(alloc, piece, call, left, log.as_slice())?;
-    copied_text(alloc, &mut files, log.as_slice())
-}
-
-/// What copying this log answers, and the faults counted.
-fn copied_text(alloc: Global, files: &mut MemFiles, log: &[u8]) -> Result<String, OutOfMemory> {
-    let places = copy_places(alloc, files, 1)?;
-    let copy = copy_text(alloc, files, log)?;
+/// Copies a log, and tells the places of its entries or the error, how much was copied, and the faults counted.
+pub fn copied(answer: &mut Answer, piece: &str, call: &str, left: &str, parts: &str) {
+    let log = log_of(answer, parts);
+    let (piece, left) = (number(piece) as usize, number(left) as usize);
+    let mut files = files_of(answer, piece, call.parse().ok(), left, log.as_slice());
+    copy_places(answer, &mut files, 1);
+    answer.put(" copied ");
+    copy_text(answer, &files, log.as_slice());
     let (reads, appends) = (files.read_faults(), files.append_faults());
-    Ok(format!(in alloc; "{places} copied {copy} faults {reads} {appends}")?)
+    let put = write!(answer.text, " faults {reads} {appends}");
+    answer.keep(put);
+}
+
+/// How much of the log was copied.
+fn copy_text(answer: &mut Answer, files: &MemFiles, log: &[u8]) {
+    match files.file("COPY") {
+        None => answer.put("no copy"),
+        Some(copy) => {
+            let (length, whole, begins) = (copy.len(), log.len(), log.starts_with(copy));
+            let put = write!(answer.text, "{length} of {whole} {begins}");
+            answer.keep(put);
+        }
+    }
 }
 
 /// The places of the entries that are copied into a log of this version, or the error.
-fn copy_places(alloc: Global, files: &mut MemFiles, version: u8) -> Result<String, OutOfMemory>
+fn copy_places(answer: &mut Answer, files: &mut MemFiles, version: u8)
     requires { IsVersion version }
 {
-    match copy_log(alloc, files, "LOG", "COPY", version) {
-        Ok(places) => Ok(format!(in alloc; "{:?}", places.as_slice())?),
-        Err(error) => Ok(format!(in alloc; "{error:?}")?),
+    let mut places = Items::new(answer.alloc());
+    match copy_log(answer.alloc(), files, version, &mut places) {
+        Ok(()) => answer.debug(&places.as_slice()),
+        Err(error) => answer.debug(&error),
     }
 }
 
-pub fn cuts(alloc: Global, parts: &str) -> Result<String, OutOfMemory> {
-    let log = log_of(alloc, parts)?;
-    let mut text = String::new(alloc);
+/// Each length from which a cut log is answered in another way.
+pub fn cuts(answer: &mut Answer, parts: &str) {
+    let log = log_of(answer, parts);
     let mut last = Ok(usize::MAX);
     for length in 0..=log.len() {
-        let answer = count_of(alloc, 100, None, &log.as_slice()[..length])?;
-        if answer != last {
-            put_answer(alloc, &mut text, length, answer)?;
-            last = answer;
+        let count = count_of(answer, 100, None, &log.as_slice()[..length]);
+        if count != last {
+            let put = write!(answer.text, "{length} {count:?} ");
+            answer.keep(put);
+            last = count;
         }
     }
-    Ok(text)
 }
 
-fn put_answer(
-    alloc: Global,
-    text: &mut String,
-    length: usize,
-    answer: Result<usize, LogError>,
-) -> Result<(), OutOfMemory> {
-    let answer = format!(in alloc; "{length} {answer:?} ")?;
-    Ok(text.push_str(answer.as_str())?)
+/// How many calls a reading takes, and how many of them, each failing alone, end it as a read fault.
+pub fn faults(answer: &mut Answer, parts: &str) {
+    let log = log_of(answer, parts);
+    let mut files = files_of(answer, 100, None, 0, log.as_slice());
+    let _ = count(answer.alloc(), &mut files, "LOG");
+    let calls = files.calls();
+    let faults = read_faults(answer, calls, log.as_slice());
+    let put = write!(answer.text, "calls {calls} read faults {faults}");
+    answer.keep(put);
 }
 
 /// How many of the calls of a reading, each failing alone, end it as a read fault.
-fn read_faults(alloc: Global, calls: u64, log: &[u8]) -> Result<u64, OutOfMemory> {
+fn read_faults(answer: &mut Answer, calls: u64, log: &[u8]) -> u64 {
     let mut faults = 0u64;
     for call in 0..calls {
-        if count_of(alloc, 100, Some(call), log)? == Err(LogError::ReadFault) {
+        if count_of(answer, 100, Some(call), log) == Err(LogError::ReadFault) {
             faults = faults.saturating_add(1);
         }
     }
-    Ok(faults)
+    faults
 }
 
-pub fn faults(alloc: Global, parts: &str) -> Result<String, OutOfMemory> {
-    let log = log_of(alloc, parts)?;
-    let mut files = files_of(alloc, 100, None, 0, log.as_slice())?;
-    let _ = count(alloc, &mut files, "LOG");
-    let calls = files.calls();
-    let faults = read_faults(alloc, calls, log.as_slice())?;
-    Ok(format!(in alloc; "calls {calls} read faults {faults}")?)
-}
-
-pub fn missing(alloc: Global, parts: &str) -> Result<String, OutOfMemory> {
-    let log = log_of(alloc, parts)?;
-    let mut files = files_of(alloc, 100, None, 0, log.as_slice())?;
-    let answer = count(alloc, &mut files, "other");
-    Ok(format!(in alloc; "{answer:?}")?)
-}
-
-/// The places of a log's entries, and whether its copy of this version is the log of these bytes.
-fn copy_is(alloc: Global, log: &[u8], version: u8, wanted: &[u8]) -> Result<String, OutOfMemory>
-    requires { IsVersion version }
-{
-    let mut files = files_of(alloc, 100, None, 0, log)?;
-    let places = copy_places(alloc, &mut files, version)?;
-    let is = files.file("COPY") == Some(wanted);
-    Ok(format!(in alloc; "{places} {is}")?)
+/// What reading a file answers that isn't there.
+pub fn missing(answer: &mut Answer, parts: &str) {
+    let log = log_of(answer, parts);
+    let mut files = files_of(answer, 100, None, 0, log.as_slice());
+    let count = count(answer.alloc(), &mut files, "other");
+    answer.debug(&count);
 }
 
 /// A log in both versions: each is read, and copied as itself and as the other.
-pub fn both(alloc: Global, one: &str, two: &str) -> Result<String, OutOfMemory> {
-    let one = bytes_of(alloc, one)?;
-    let two = bytes_of(alloc, two)?;
-    both_text(alloc, one.as_slice(), two.as_slice())
+pub fn both(answer: &mut Answer, one: &str, two: &str) {
+    let one = answer.bytes(one);
+    let two = answer.bytes(two);
+    both_text(answer, one.as_slice(), two.as_slice());
 }
 
-fn both_text(alloc: Global, one: &[u8], two: &[u8]) -> Result<String, OutOfMemory> {
-    let first = copy_is(alloc, one, 1, one)?;
-    let second = copy_is(alloc, one, 2, two)?;
-    let third = copy_is(alloc, two, 2, two)?;
-    let fourth = copy_is(alloc, two, 1, one)?;
-    Ok(format!(in alloc; "{first} {second} {third} {fourth}")?)
+fn both_text(answer: &mut Answer, one: &[u8], two: &[u8]) {
+    copy_is(answer, one, 1, one);
+    answer.put(" ");
+    copy_is(answer, one, 2, two);
+    answer.put(" ");
+    copy_is(answer, two, 2, two);
+    answer.put(" ");
+    copy_is(answer, two, 1, one);
+}
+
+/// The places of a log's entries, and whether its copy of this version is the log of these bytes.
+fn copy_is(answer: &mut Answer, log: &[u8], version: u8, wanted: &[u8])
+    requires { IsVersion version }
+{
+    let mut files = files_of(answer, 100, None, 0, log);
+    copy_places(answer, &mut files, version);
+    answer.put(" ");
+    answer.show(&(files.file("COPY") == Some(wanted)));
 }

@@ -38,8 +38,8 @@ mod lines;
 mod logs;
 mod rewritten;
 mod sinks;
-mod words;
 
+use hw_case_words::Answer;
 use std::io;
 
 fn main(rt: HostRuntime) -> io::Result<()> {
@@ -51,8 +51,10 @@ fn main(rt: HostRuntime) -> io::Result<()> {
 
 /// Answers a line.
 fn answer(rt: HostRuntime, line: &str) -> io::Result<()> {
-    match lines::answer(rt.alloc(), line) {
-        Ok(text) => println!(rt; "{text}"),
-        Err(_) => Err(io::ErrorKind::OutOfMemory.into()),
+    let mut answer = Answer::new(rt.alloc());
+    lines::tell(&mut answer, line);
+    match answer.finish() {
+        Some(text) => println!(rt; "{text}"),
+        None => Err(io::ErrorKind::InvalidInput.into()),
     }
 }

@@ -1,10 +1,9 @@
 //! Logs that are written anew, over files in memory.
 
-use crate::words::bytes_of;
+use hw_case_words::{Answer, number};
 use hw_io::MemFiles;
 use hw_log::LogError;
 use hw_rewrite::{RewriteFault, mend, migrate};
-use hw_types::OutOfMemory;
 use std::alloc::Global;
 
 /// A read of the files gives at most this many bytes.
@@ -13,94 +12,88 @@ const PIECE: usize = 50;
 /// No run makes as many calls of the files.
 const MOST_CALLS: u64 = 200;
 
-/// How a log is written anew.
-#[derive(Clone, Copy)]
-pub enum Command {
-    Mend,
-    Migrate,
+/// What a run answers, the faults counted, and what the new file holds then.
+pub fn rewritten(answer: &mut Answer, command: &str, call: &str, left: &str, new: &str, log: &str) {
+    let mut files = MemFiles::in_pieces(answer.alloc(), PIECE);
+    put_file(answer, &mut files, "LOG", log);
+    put_file(answer, &mut files, "NEW", new);
+    if let Ok(call) = call.parse() {
+        plan(answer, &mut files, call, number(left) as usize);
+    }
+    match run(answer.alloc(), &mut files, command) {
+        Ok(count) => answer.number(count),
+        Err(fault) => answer.debug(&fault),
+    }
+    files_text(answer, &files);
 }
 
-/// What a run answers, the faults counted, and what the new file holds then.
-pub fn rewritten(
-    alloc: Global,
-    command: Command,
-    call: Option<u64>,
-    left: usize,
-    new: &str,
-    log: &str,
-) -> Result<String, OutOfMemory> {
-    let mut files = MemFiles::in_pieces(alloc, PIECE);
-    put_file(alloc, &mut files, "LOG", log)?;
-    put_file(alloc, &mut files, "NEW", new)?;
-    if let Some(call) = call {
-        plan(&mut files, call, left)?;
-    }
-    let answer = run(alloc, &mut files, command);
+/// The faults counted, and what the new file holds.
+fn files_text(answer: &mut Answer, files: &MemFiles) {
     let (reads, appends) = (files.read_faults(), files.append_faults());
-    let mut text = match answer {
-        Ok(count) => format!(in alloc; "{count} faults {reads} {appends} ")?,
-        Err(fault) => format!(in alloc; "{fault:?} faults {reads} {appends} ")?,
-    };
+    let put = write!(answer.text, " faults {reads} {appends} ");
+    answer.keep(put);
     match files.file("NEW") {
-        Some(bytes) => text.push_str(hex::encode(alloc, bytes)?.as_str())?,
-        None => text.push('-')?,
+        Some(bytes) => answer.hex(bytes),
+        None => answer.put("-"),
     }
-    Ok(text)
 }
 
 /// How many runs end with a failed append, and how many with neither that nor a failed read, where each call
 /// of the files fails in turn.
-pub fn failed_in_turn(alloc: Global, command: Command, log: &str) -> Result<String, OutOfMemory> {
-    let mut appends = 0;
-    let mut others = 0;
+pub fn failed_in_turn(answer: &mut Answer, command: &str, log: &str) {
+    let mut appends = 0u32;
+    let mut others = 0u32;
     for call in 0..MOST_CALLS {
-        let mut files = MemFiles::in_pieces(alloc, PIECE);
-        put_file(alloc, &mut files, "LOG", log)?;
-        plan(&mut files, call, 0)?;
-        let answer = run(alloc, &mut files, command);
-        if call >= files.calls() {
-            break;
-        }
-        match answer {
-            Err(RewriteFault::Log(LogError::ReadFault)) => {}
-            Err(RewriteFault::Log(LogError::WriteFault)) => appends = raised(appends),
-            Ok(_) | Err(_) => others = raised(others),
+        match failed_at(answer, command, log, call) {
+            None => break,
+            Some(Err(RewriteFault::Log(LogError::ReadFault))) => {}
+            Some(Err(RewriteFault::Log(LogError::WriteFault))) => {
+                appends = appends.saturating_add(1);
+            }
+            Some(_) => others = others.saturating_add(1),
         }
     }
-    Ok(format!(in alloc; "appends {appends} others {others}")?)
+    let put = write!(answer.text, "appends {appends} others {others}");
+    answer.keep(put);
 }
 
-fn run(alloc: Global, files: &mut MemFiles, command: Command) -> Result<u64, RewriteFault> {
-    match command {
-        Command::Mend => mend(alloc, files, "LOG", "NEW"),
-        Command::Migrate => migrate(alloc, files, "LOG", "NEW"),
+/// What a run answers whose call of this number fails, None where it doesn't come to that call.
+fn failed_at(
+    answer: &mut Answer,
+    command: &str,
+    log: &str,
+    call: u64,
+) -> Option<Result<u64, RewriteFault>> {
+    let mut files = MemFiles::in_pieces(answer.alloc(), PIECE);
+    put_file(answer, &mut files, "LOG", log);
+    plan(answer, &mut files, call, 0);
+    let outcome = run(answer.alloc(), &mut files, command);
+    if call >= files.calls() {
+        None
+    } else {
+        Some(outcome)
     }
 }
 
-fn plan(files: &mut MemFiles, call: u64, left: usize) -> Result<(), OutOfMemory> {
-    match files.fail_at(call, left) {
-        Ok(()) => Ok(()),
-        Err(_) => Err(OutOfMemory),
+/// Mends the log, or else migrates it.
+fn run(alloc: Global, files: &mut MemFiles, command: &str) -> Result<u64, RewriteFault> {
+    if command == "mend" {
+        mend(alloc, files, "LOG", "NEW")
+    } else {
+        migrate(alloc, files, "LOG", "NEW")
     }
+}
+
+fn plan(answer: &mut Answer, files: &mut MemFiles, call: u64, left: usize) {
+    let planned = files.fail_at(call, left);
+    answer.keep(planned);
 }
 
 /// Puts the file of that name there, unless the word is `-`.
-fn put_file(
-    alloc: Global,
-    files: &mut MemFiles,
-    name: &str,
-    word: &str,
-) -> Result<(), OutOfMemory> {
-    if word == "-" {
-        return Ok(());
+fn put_file(answer: &mut Answer, files: &mut MemFiles, name: &str, word: &str) {
+    if word != "-" {
+        let bytes = answer.bytes(word);
+        let put = files.put(name, bytes.as_slice());
+        answer.keep(put);
     }
-    let bytes = bytes_of(alloc, word)?;
-    match files.put(name, bytes.as_slice()) {
-        Ok(()) => Ok(()),
-        Err(_) => Err(OutOfMemory),
-    }
-}
-
-fn raised(count: u32) -> u32 {
-    count.saturating_add(1)
 }

@@ -1,44 +1,55 @@
 //! Sinks and clocks in memory.
 
-use crate::counts::{counts_text, done, hex_text};
-use hw_io::{Clock, MemSink, SetClock, SureSink, write_all};
-use std::alloc::{AllocError, Global};
+use crate::counts::{done, put_count};
+use hw_case_words::Answer;
+use hw_io::{Clock, MemSink, SetClock, Sink, SureSink, write_all};
 
 /// A sink in pieces of three whose write of that number fails, or one that is sure.
-pub fn sink_text(alloc: Global, call: Option<u64>) -> Result<String, AllocError> {
+pub fn sink_text(answer: &mut Answer, call: Option<u64>) {
     match call {
-        Some(call) => planned_sink(alloc, call),
-        None => sure_sink(alloc),
+        Some(call) => planned_sink(answer, call),
+        None => sure_sink(answer),
     }
 }
 
-fn planned_sink(alloc: Global, call: u64) -> Result<String, AllocError> {
-    let mut sink = MemSink::in_pieces(alloc, 3);
-    sink.fail_at(call)?;
-    let first = done(write_all(&mut sink, b"abcdefgh"));
-    let second = done(write_all(&mut sink, b"ijklmnopq"));
-    let answers = counts_text(alloc, &[first, second])?;
-    let taken = hex_text(alloc, Some(sink.taken()))?;
-    format!(in alloc; "{answers}taken {taken} faults {}", sink.faults())
+fn planned_sink(answer: &mut Answer, call: u64) {
+    let mut sink = MemSink::in_pieces(answer.alloc(), 3);
+    let planned = sink.fail_at(call);
+    answer.keep(planned);
+    write(answer, &mut sink, b"abcdefgh");
+    write(answer, &mut sink, b"ijklmnopq");
+    answer.put("taken ");
+    answer.hex(sink.taken());
+    answer.put(" faults ");
+    answer.number(sink.faults());
 }
 
-fn sure_sink(alloc: Global) -> Result<String, AllocError> {
-    let mut sink = SureSink::new(alloc);
-    let answers = counts_text(alloc, &[done(write_all(&mut sink, b"abcd"))])?;
-    let taken = hex_text(alloc, Some(sink.taken()))?;
-    format!(in alloc; "{answers}taken {taken}")
+fn sure_sink(answer: &mut Answer) {
+    let mut sink = SureSink::new(answer.alloc());
+    write(answer, &mut sink, b"abcd");
+    answer.put("taken ");
+    answer.hex(sink.taken());
+}
+
+/// Writes the piece, and puts down what is answered.
+fn write<S: Sink>(answer: &mut Answer, sink: &mut S, piece: &[u8]) {
+    put_count(answer, done(write_all(sink, piece)));
 }
 
 /// The first four moments of a clock that has 5, 3 and 9, or 7 alone, or none.
-pub fn clock_text(alloc: Global, moments: &str) -> Result<String, AllocError> {
-    match moments {
-        "5,3,9" => told_text(alloc, &mut SetClock::new(vec![in alloc; 5, 3, 9]?)),
-        "7" => told_text(alloc, &mut SetClock::new(vec![in alloc; 7]?)),
-        _ => told_text(alloc, &mut SetClock::new(Vec::new(alloc))),
+pub fn clock_text(answer: &mut Answer, moments: &str) {
+    let told = match moments {
+        "5,3,9" => Vec::from_slice(answer.alloc(), &[5, 3, 9]),
+        "7" => Vec::from_slice(answer.alloc(), &[7]),
+        _ => Ok(Vec::new(answer.alloc())),
+    };
+    match told {
+        Ok(moments) => told_text(answer, &mut SetClock::new(moments)),
+        Err(_) => answer.refuse(),
     }
 }
 
-fn told_text(alloc: Global, clock: &mut SetClock) -> Result<String, AllocError> {
+fn told_text(answer: &mut Answer, clock: &mut SetClock) {
     let told = [clock.now(), clock.now(), clock.now(), clock.now()];
-    format!(in alloc; "{told:?}")
+    answer.debug(&told);
 }

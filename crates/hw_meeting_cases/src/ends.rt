@@ -1,62 +1,69 @@
 //! Ends of sessions, and nodes, as words.
 
+use hw_case_words::Answer;
 use hw_core::Core;
+use hw_io::MemDoor;
 use hw_link::SessionEnd;
 use hw_meeting_node::MeetEnd;
-use hw_types::OutOfMemory;
-use std::alloc::Global;
 
 /// Puts how a meeting ends.
-pub fn put_end(alloc: Global, text: &mut String, end: MeetEnd) -> Result<(), OutOfMemory> {
+pub fn put_end(answer: &mut Answer, end: MeetEnd) {
     match end {
         MeetEnd::Done { refused } => {
-            text.push_str(format!(in alloc; "done refused {refused}")?.as_str())?;
+            answer.put("done refused ");
+            answer.show(&refused);
         }
-        MeetEnd::EndOfInput => text.push_str("end of input")?,
-        MeetEnd::WrongInstance => text.push_str("wrong instance")?,
-        MeetEnd::BadFrame(place) => {
-            text.push_str(format!(in alloc; "bad frame at {place}")?.as_str())?;
-        }
-        MeetEnd::LinkFault => text.push_str("link fault")?,
-        MeetEnd::AppendFault => text.push_str("append fault")?,
-        MeetEnd::ByteLimit => text.push_str("byte limit")?,
-        MeetEnd::Clash => text.push_str("clash")?,
-        MeetEnd::OutOfMemory => return Err(OutOfMemory),
+        MeetEnd::EndOfInput => answer.put("end of input"),
+        MeetEnd::WrongInstance => answer.put("wrong instance"),
+        MeetEnd::BadFrame(place) => put_bad(answer, place),
+        MeetEnd::LinkFault => answer.put("link fault"),
+        MeetEnd::AppendFault => answer.put("append fault"),
+        MeetEnd::ByteLimit => answer.put("byte limit"),
+        MeetEnd::Clash => answer.put("clash"),
+        MeetEnd::OutOfMemory => answer.refuse(),
     }
-    Ok(())
+}
+
+fn put_bad(answer: &mut Answer, place: u64) {
+    answer.put("bad frame at ");
+    answer.number(place);
 }
 
 /// Puts how many units of the node are settled and parked, the weight of its faulty validators, and its
 /// decided blocks.
-pub fn put_core(alloc: Global, text: &mut String, core: &Core) -> Result<(), OutOfMemory> {
+pub fn put_core(answer: &mut Answer, core: &Core) {
     let settled = core.settled_count();
     let parked = core.parked_count();
     let faulty = core.faulty_weight();
-    text.push_str(format!(in alloc; " units {settled} parked {parked} faulty {faulty}")?.as_str())?;
+    let put = write!(
+        answer.text,
+        " units {settled} parked {parked} faulty {faulty}"
+    );
+    answer.keep(put);
     if core.exceeded().is_some() {
-        text.push_str(" exceeded")?;
+        answer.put(" exceeded");
     }
     for index in 0..core.decision_count() {
-        let digits = hex::encode(alloc, core.decision(index).block.0.as_slice())?;
-        text.push_str(format!(in alloc; " final {digits}")?.as_str())?;
+        answer.put(" final ");
+        answer.hex(core.decision(index).block.0.as_slice());
     }
-    Ok(())
 }
 
 /// Puts how a session of frames ends.
-pub fn put_session_end(
-    alloc: Global,
-    text: &mut String,
-    end: SessionEnd,
-) -> Result<(), OutOfMemory> {
+pub fn put_session_end(answer: &mut Answer, end: SessionEnd) {
     match end {
-        SessionEnd::EndOfInput => text.push_str("end of input")?,
-        SessionEnd::BadFrame(place) => {
-            text.push_str(format!(in alloc; "bad frame at {place}")?.as_str())?;
-        }
-        SessionEnd::LinkFault => text.push_str("link fault")?,
-        SessionEnd::OutOfMemory => return Err(OutOfMemory),
-        _ => text.push_str("another end")?,
+        SessionEnd::EndOfInput => answer.put("end of input"),
+        SessionEnd::BadFrame(place) => put_bad(answer, place),
+        SessionEnd::LinkFault => answer.put("link fault"),
+        SessionEnd::OutOfMemory => answer.refuse(),
+        _ => answer.put("another end"),
     }
-    Ok(())
+}
+
+/// Puts the digits of what was sent.
+pub fn put_sent(answer: &mut Answer, door: &MemDoor) {
+    answer.put("sent ");
+    if let Some(session) = door.sessions().last() {
+        answer.hex(session.written());
+    }
 }

@@ -2,37 +2,28 @@
 
 ghost use Rattle.hw_meeting.specs.Frames.{IsSaid};
 
-use crate::words::bytes_of;
+use hw_case_words::Answer;
 use hw_meeting::{FrameFault, MeetingFrame, decode_meeting, encode_meeting};
-use hw_types::OutOfMemory;
-use std::alloc::Global;
 
 /// The kind of the frame that the digits spell, where encoding gives them back.
-pub fn frame_text(alloc: Global, validators: u32, digits: &str) -> Result<String, OutOfMemory> {
-    let body = bytes_of(alloc, digits)?;
-    match decode_meeting(alloc, validators, body.as_slice()) {
-        Ok(frame) => spelled_text(alloc, validators, &frame, body.as_slice()),
-        Err(FrameFault::Form) => Ok("none".to_string(alloc)?),
-        Err(FrameFault::OutOfMemory) => Err(OutOfMemory),
+pub fn frame_text(answer: &mut Answer, validators: u32, digits: &str) {
+    let body = answer.bytes(digits);
+    match decode_meeting(answer.alloc(), validators, body.as_slice()) {
+        Ok(frame) => spelled_text(answer, validators, &frame, body.as_slice()),
+        Err(FrameFault::Form) => answer.put("none"),
+        Err(FrameFault::OutOfMemory) => answer.refuse(),
     }
 }
 
 /// The kind of the frame, where it is spelled by these bytes.
-fn spelled_text(
-    alloc: Global,
-    validators: u32,
-    frame: &MeetingFrame,
-    body: &[u8],
-) -> Result<String, OutOfMemory>
+fn spelled_text(answer: &mut Answer, validators: u32, frame: &MeetingFrame, body: &[u8])
     requires { IsSaid validators frame.now }
 {
-    let again = encode_meeting(alloc, validators, frame)?;
-    let told = if again.as_slice() == body {
-        kind_of(frame)
-    } else {
-        "other bytes"
-    };
-    Ok(told.to_string(alloc)?)
+    match encode_meeting(answer.alloc(), validators, frame) {
+        Ok(again) if again.as_slice() == body => answer.put(kind_of(frame)),
+        Ok(_) => answer.put("other bytes"),
+        Err(_) => answer.refuse(),
+    }
 }
 
 /// The kind of the frame in a word.

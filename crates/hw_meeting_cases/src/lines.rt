@@ -4,19 +4,19 @@ use crate::exchange::heard;
 use crate::frames::frame_text;
 use crate::pairs::met;
 use crate::sessions::session_text;
-use crate::words::{number, small};
+use hw_case_words::{Answer, number, small};
 use hw_core::Core;
-use hw_types::OutOfMemory;
-use std::alloc::Global;
 
-/// The answer to a line.
-pub fn answer(alloc: Global, nodes: &mut Vec<Core>, line: &str) -> Result<String, OutOfMemory> {
-    let words: Vec<&str> = line.split(' ').collect(alloc)?;
+/// Answers a line.
+pub fn tell(answer: &mut Answer, nodes: &mut Vec<Core>, line: &str) {
+    let words = answer.words(line, ' ');
     match words.as_slice() {
-        ["meet", config, left, right] => met(alloc, nodes, config, left, right),
-        ["frame", validators, body] => frame_text(alloc, small(validators), body),
-        ["hear", validators, piece, said] => heard(alloc, small(validators), number(piece), said),
-        ["node", side, config, words @ ..] => session_text(alloc, nodes, side, config, words),
-        _ => Ok(String::new(alloc)),
+        [_, validators, body] => frame_text(answer, small(validators), body),
+        ["meet", config, left, right] => met(answer, nodes, config, left, right),
+        [_, validators, piece, said] => {
+            heard(answer, small(validators), number(piece) as usize, said);
+        }
+        [_, side, config, words @ ..] => session_text(answer, nodes, side, config, words),
+        _ => answer.refuse(),
     }
 }

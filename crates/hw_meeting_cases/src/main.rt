@@ -21,8 +21,8 @@ mod nodes;
 mod pairs;
 mod sessions;
 mod texts;
-mod words;
 
+use hw_case_words::Answer;
 use hw_core::Core;
 use std::io;
 
@@ -41,8 +41,10 @@ fn answer_all(rt: HostRuntime, nodes: &mut Vec<Core>) -> io::Result<()> {
 
 /// Answers a line.
 fn answer(rt: HostRuntime, nodes: &mut Vec<Core>, line: &str) -> io::Result<()> {
-    match lines::answer(rt.alloc(), nodes, line) {
-        Ok(text) => println!(rt; "{text}"),
-        Err(_) => Err(io::ErrorKind::OutOfMemory.into()),
+    let mut answer = Answer::new(rt.alloc());
+    lines::tell(&mut answer, nodes, line);
+    match answer.finish() {
+        Some(text) => println!(rt; "{text}"),
+        None => Err(io::ErrorKind::InvalidInput.into()),
     }
 }

@@ -1,54 +1,50 @@
 //! Nodes from words.
 
-use crate::words::bytes_of;
 use hw_admit::StateStart;
+use hw_case_words::Answer;
 use hw_codec::{decode_config, decode_vertex};
 use hw_core::Core;
-use hw_types::{CodecError, Config, OutOfMemory, Vertex};
-use std::alloc::Global;
+use hw_types::{CodecError, Config};
 
 /// Puts a node of the configuration that the digits spell last, where it has one.
-pub fn begin(alloc: Global, nodes: &mut Vec<Core>, config: &str) -> Result<(), OutOfMemory> {
-    let bytes = bytes_of(alloc, config)?;
-    match decode_config(alloc, bytes.as_slice()) {
-        Ok(config) => begin_with(alloc, nodes, config),
-        Err(CodecError::OutOfMemory) => Err(OutOfMemory),
-        Err(_) => Ok(()),
+pub fn begin(answer: &mut Answer, nodes: &mut Vec<Core>, config: &str) {
+    let bytes = answer.bytes(config);
+    match decode_config(answer.alloc(), bytes.as_slice()) {
+        Ok(config) => begin_with(answer, nodes, config),
+        Err(CodecError::OutOfMemory) => answer.refuse(),
+        Err(_) => {}
     }
 }
 
-fn begin_with(alloc: Global, nodes: &mut Vec<Core>, config: Config) -> Result<(), OutOfMemory> {
-    match Core::new(alloc, config) {
-        Ok(core) => begun(nodes, core),
-        Err(StateStart::Fault(_)) => Ok(()),
-        Err(StateStart::OutOfMemory) => Err(OutOfMemory),
+fn begin_with(answer: &mut Answer, nodes: &mut Vec<Core>, config: Config) {
+    match Core::new(answer.alloc(), config) {
+        Ok(core) => begun(answer, nodes, core),
+        Err(StateStart::Fault(_)) => {}
+        Err(StateStart::OutOfMemory) => answer.refuse(),
     }
 }
 
-fn begun(nodes: &mut Vec<Core>, core: Core) -> Result<(), OutOfMemory> {
-    match nodes.push(core) {
-        Ok(()) => Ok(()),
-        Err(_unpushed) => Err(OutOfMemory),
+fn begun(answer: &mut Answer, nodes: &mut Vec<Core>, core: Core) {
+    if nodes.push(core).is_err() {
+        answer.refuse();
     }
 }
 
 /// Delivers each vertex that the digits between commas spell, with a true verdict.
-pub fn deliver_all(alloc: Global, core: &mut Core, vertices: &str) -> Result<(), OutOfMemory> {
+pub fn deliver_all(answer: &mut Answer, core: &mut Core, vertices: &str) {
     for word in vertices.split(',') {
-        deliver(alloc, core, word)?;
+        deliver(answer, core, word);
     }
-    Ok(())
 }
 
 /// Delivers the vertex that the digits spell, if they spell one.
-fn deliver(alloc: Global, core: &mut Core, digits: &str) -> Result<(), OutOfMemory> {
-    let bytes = bytes_of(alloc, digits)?;
-    match decode_vertex(alloc, bytes.as_slice()) {
+fn deliver(answer: &mut Answer, core: &mut Core, digits: &str) {
+    let bytes = answer.bytes(digits);
+    match decode_vertex(answer.alloc(), bytes.as_slice()) {
         Ok(vertex) => {
             let _answer = core.deliver(vertex, true);
-            Ok(())
         }
-        Err(CodecError::OutOfMemory) => Err(OutOfMemory),
-        Err(_) => Ok(()),
+        Err(CodecError::OutOfMemory) => answer.refuse(),
+        Err(_) => {}
     }
 }

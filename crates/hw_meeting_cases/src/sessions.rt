@@ -1,113 +1,89 @@
 //! Meetings in memory.
 
-use crate::ends::{put_core, put_end};
+use crate::ends::{put_core, put_end, put_sent};
 use crate::nodes::{begin, deliver_all};
-use crate::words::{bytes_of, number};
+use hw_case_words::{Answer, number};
 use hw_codec::decode_vertex;
 use hw_core::Core;
 use hw_io::MemDoor;
-use hw_meeting_node::{MeetEnd, MemTaker, Taker, VertexList, host_one, meet_one};
-use hw_types::{CodecError, OutOfMemory};
-use std::alloc::Global;
+use hw_meeting_node::{MemTaker, Taker, VertexList, host_one, meet_one};
+use hw_types::CodecError;
 
 /// How a node of this configuration meets a peer, what it has then, and what it sent. The words are what it has
 /// before, what it gives a false verdict, the pieces and the failing call of the door, and what the peer says.
 pub fn session_text(
-    alloc: Global,
+    answer: &mut Answer,
     nodes: &mut Vec<Core>,
     side: &str,
     config: &str,
     words: &[&str],
-) -> Result<String, OutOfMemory> {
+) {
     let [has, refused, piece, fault, says] = words else {
-        return Ok(String::new(alloc));
+        return answer.refuse();
     };
-    begin_with(alloc, nodes, config, has)?;
+    nodes.clear();
+    begin(answer, nodes, config);
     match nodes.pop() {
         Some(core) => {
-            let mut taker = taker_of(alloc, core, refused)?;
-            let mut door = door_of(alloc, number(piece), fault, says)?;
-            let end = met(alloc, side == "meet", &mut taker, &mut door);
-            told(alloc, end, taker.core(), &door)
+            let mut taker = taker_of(answer, core, has, refused);
+            let mut door = door_of(answer, piece, fault, says);
+            meet(answer, side, &mut taker, &mut door);
+            put_core(answer, taker.core());
+            answer.put(" ");
+            put_sent(answer, &door);
         }
-        None => Ok("no node".to_string(alloc)?),
+        None => answer.put("no node"),
     }
 }
 
-/// Begins a node that has these vertices, where the configuration has one, in the place of all others.
-fn begin_with(
-    alloc: Global,
-    nodes: &mut Vec<Core>,
-    config: &str,
-    has: &str,
-) -> Result<(), OutOfMemory> {
-    nodes.clear();
-    begin(alloc, nodes, config)?;
-    match nodes.as_mut_slice().last_mut() {
-        Some(core) => deliver_all(alloc, core, has),
-        None => Ok(()),
-    }
-}
-
-/// What takes a peer's vertices into this node, and gives those of the words a false verdict.
-fn taker_of(alloc: Global, core: Core, refused: &str) -> Result<MemTaker, OutOfMemory> {
-    let refused = vertices(alloc, refused)?;
-    Ok(MemTaker::new(core, refused))
+/// What takes a peer's vertices into this node behind those that it has, and gives those of the last words a false verdict.
+fn taker_of(answer: &mut Answer, mut core: Core, has: &str, refused: &str) -> MemTaker {
+    deliver_all(answer, &mut core, has);
+    MemTaker::new(core, vertices(answer, refused))
 }
 
 /// The vertices of these words.
-fn vertices(alloc: Global, words: &str) -> Result<VertexList, OutOfMemory> {
-    let mut list = VertexList::new(alloc);
+fn vertices(answer: &mut Answer, words: &str) -> VertexList {
+    let mut list = VertexList::new(answer.alloc());
     for word in words.split(',') {
-        put_vertex(alloc, &mut list, word)?;
+        put_vertex(answer, &mut list, word);
     }
-    Ok(list)
+    list
 }
 
 /// Puts the vertex last that the digits spell, if they spell one.
-fn put_vertex(alloc: Global, list: &mut VertexList, digits: &str) -> Result<(), OutOfMemory> {
-    let bytes = bytes_of(alloc, digits)?;
-    match decode_vertex(alloc, bytes.as_slice()) {
-        Ok(vertex) => Ok(list.push(vertex)?),
-        Err(CodecError::OutOfMemory) => Err(OutOfMemory),
-        Err(_) => Ok(()),
+fn put_vertex(answer: &mut Answer, list: &mut VertexList, digits: &str) {
+    let bytes = answer.bytes(digits);
+    match decode_vertex(answer.alloc(), bytes.as_slice()) {
+        Ok(vertex) => {
+            if list.push(vertex).is_err() {
+                answer.refuse();
+            }
+        }
+        Err(CodecError::OutOfMemory) => answer.refuse(),
+        Err(_) => {}
     }
 }
 
 /// A door with a peer that says what these digits spell, which gives and takes pieces, and of which a call may fail.
-fn door_of(alloc: Global, piece: usize, fault: &str, says: &str) -> Result<MemDoor, OutOfMemory> {
-    let said = bytes_of(alloc, says)?;
-    let mut door = MemDoor::in_pieces(alloc, piece);
-    door.expect(said.as_slice())?;
+fn door_of(answer: &mut Answer, piece: &str, fault: &str, says: &str) -> MemDoor {
+    let said = answer.bytes(says);
+    let mut door = MemDoor::in_pieces(answer.alloc(), number(piece) as usize);
+    let expected = door.expect(said.as_slice());
+    answer.keep(expected);
     if let Ok(call) = fault.parse() {
-        door.fail_at(call)?;
+        let planned = door.fail_at(call);
+        answer.keep(planned);
     }
-    Ok(door)
+    door
 }
 
-fn met(alloc: Global, dials: bool, taker: &mut MemTaker, door: &mut MemDoor) -> MeetEnd {
-    if dials {
-        meet_one(alloc, taker, "peer", door)
+/// The node dials the peer, or is dialled.
+fn meet(answer: &mut Answer, side: &str, taker: &mut MemTaker, door: &mut MemDoor) {
+    let end = if side == "meet" {
+        meet_one(answer.alloc(), taker, "peer", door)
     } else {
-        host_one(alloc, taker, door)
-    }
-}
-
-/// How the meeting ended, what the node has then, and the digits of what was sent.
-fn told(alloc: Global, end: MeetEnd, core: &Core, door: &MemDoor) -> Result<String, OutOfMemory> {
-    let mut text = String::new(alloc);
-    put_end(alloc, &mut text, end)?;
-    put_core(alloc, &mut text, core)?;
-    text.push(' ')?;
-    put_sent(alloc, &mut text, door)?;
-    Ok(text)
-}
-
-/// Puts the digits of what was sent.
-pub fn put_sent(alloc: Global, text: &mut String, door: &MemDoor) -> Result<(), OutOfMemory> {
-    text.push_str("sent ")?;
-    if let Some(session) = door.sessions().last() {
-        text.push_str(hex::encode(alloc, session.written())?.as_str())?;
-    }
-    Ok(())
+        host_one(answer.alloc(), taker, door)
+    };
+    put_end(answer, end);
 }

@@ -1,50 +1,37 @@
 //! Lists as words.
 
+use hw_case_words::Answer;
 use hw_meeting::LaneSummary;
-use hw_types::OutOfMemory;
-use std::alloc::Global;
+use std::fmt::Display;
 
 /// What is told of each validator.
-pub fn parts_text(alloc: Global, parts: &[LaneSummary]) -> Result<String, OutOfMemory> {
-    let mut text = String::new(alloc);
+pub fn put_parts(answer: &mut Answer, parts: &[LaneSummary]) {
+    let mut between = "";
     for part in parts {
-        put_comma(&mut text)?;
-        match part {
-            LaneSummary::Nothing => text.push('-')?,
-            LaneSummary::Tangled => text.push('!')?,
-            LaneSummary::Line(count, tip) => {
-                let digits = hex::encode(alloc, tip.0.as_slice())?;
-                text.push_str(format!(in alloc; "{count}:{digits}")?.as_str())?;
-            }
+        answer.put(between);
+        put_part(answer, part);
+        between = ",";
+    }
+}
+
+fn put_part(answer: &mut Answer, part: &LaneSummary) {
+    match part {
+        LaneSummary::Nothing => answer.put("-"),
+        LaneSummary::Tangled => answer.put("!"),
+        LaneSummary::Line(count, tip) => {
+            answer.show(count);
+            answer.put(":");
+            answer.hex(tip.0.as_slice());
         }
     }
-    Ok(text)
 }
 
-/// Numbers of validators.
-pub fn numbers_text(alloc: Global, numbers: &[u32]) -> Result<String, OutOfMemory> {
-    let mut text = String::new(alloc);
+/// Numbers of validators, or places in a journal.
+pub fn put_numbers<T: Display>(answer: &mut Answer, numbers: &[T]) {
+    let mut between = "";
     for number in numbers {
-        put_comma(&mut text)?;
-        text.push_str(format!(in alloc; "{number}")?.as_str())?;
+        answer.put(between);
+        answer.show(number);
+        between = ",";
     }
-    Ok(text)
-}
-
-/// Places in a journal.
-pub fn places_text(alloc: Global, places: &[u64]) -> Result<String, OutOfMemory> {
-    let mut text = String::new(alloc);
-    for place in places {
-        put_comma(&mut text)?;
-        text.push_str(format!(in alloc; "{place}")?.as_str())?;
-    }
-    Ok(text)
-}
-
-/// Puts a comma behind what stands there.
-fn put_comma(text: &mut String) -> Result<(), OutOfMemory> {
-    if !text.is_empty() {
-        text.push(',')?;
-    }
-    Ok(())
 }

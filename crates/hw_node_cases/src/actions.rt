@@ -5,8 +5,8 @@ ghost use Rattle.hw_types.specs.Limits.{config_fault};
 ghost use Rattle.hw_types.specs.Spelling.{VertexFits};
 ghost use Rattle.hw_cluster.specs.Nodes.{ClusterState, nodes_in, CanAct};
 
-use crate::words::{number, small};
 use hw_admit::StateStart;
+use hw_case_words::{number, small};
 use hw_cluster::{Acted, Action, Cluster};
 use hw_codec::{fits, instance_of};
 use hw_types::{

@@ -4,79 +4,66 @@ ghost use Rattle.std.specs.List.{All};
 ghost use Rattle.hw_types.specs.Spelling.{VertexFits};
 ghost use Rattle.hw_light.specs.Spelling.{CertificateFits};
 
-use crate::checks::{digits_text, keys_text};
-use crate::making::made_text;
-use crate::printed::{asked_line, error_line};
-use crate::words::bytes_of;
+use crate::checks::{put_by_digits, put_by_keys};
+use crate::making::made;
+use crate::printed::put_error_line;
+use hw_case_words::Answer;
 use hw_core::Core;
 use hw_light::{CertError, Certificate, decode_certificate, encode_certificate};
-use hw_types::OutOfMemory;
-use std::alloc::Global;
 
 /// The answer of this kind to the certificate that these digits spell.
-pub fn certificate_text(
-    alloc: Global,
+pub fn put_certificate(
+    answer: &mut Answer,
     nodes: &mut Vec<Core>,
     kind: &str,
     digits: &str,
     word: &str,
-) -> Result<String, OutOfMemory> {
-    let bytes = bytes_of(alloc, digits)?;
-    match decode_certificate(alloc, bytes.as_slice()) {
-        Ok(certificate) => told(alloc, nodes, kind, &certificate, bytes.as_slice(), word),
-        Err(error) => not_read(alloc, kind, error),
+) {
+    let bytes = answer.bytes(digits);
+    match decode_certificate(answer.alloc(), bytes.as_slice()) {
+        Ok(certificate) => told(answer, nodes, kind, &certificate, bytes.as_slice(), word),
+        Err(error) => not_read(answer, kind, error),
     }
 }
 
 /// The answer of this kind to a certificate that was read.
 fn told(
-    alloc: Global,
+    answer: &mut Answer,
     nodes: &mut Vec<Core>,
     kind: &str,
     certificate: &Certificate,
     bytes: &[u8],
     word: &str,
-) -> Result<String, OutOfMemory>
+)
     requires fits { CertificateFits certificate.now }
     requires vertices { All VertexFits certificate.now.vertices }
 {
     match kind {
-        "read" => again_text(alloc, certificate, bytes),
-        "certify" => made_text(alloc, nodes, certificate),
-        "ask" => asked_line(alloc, nodes, certificate),
-        "verdicts" => digits_text(alloc, certificate, word),
-        _ => keys_text(alloc, kind, certificate, word),
+        "read" => put_again(answer, certificate, bytes),
+        "certify" | "ask" => made(answer, nodes, certificate, kind),
+        "verdicts" => put_by_digits(answer, certificate, word),
+        _ => put_by_keys(answer, kind, certificate, word),
     }
 }
 
 /// The error of bytes that are no certificate.
-fn not_read(alloc: Global, kind: &str, error: CertError) -> Result<String, OutOfMemory> {
-    match kind {
-        "ask" | "print" => error_line(alloc, error),
-        _ => error_text(alloc, error),
-    }
-}
-
-fn error_text(alloc: Global, error: CertError) -> Result<String, OutOfMemory> {
-    match error {
-        CertError::OutOfMemory => Err(OutOfMemory),
-        _ => Ok(format!(in alloc; "{error:?}")?),
+fn not_read(answer: &mut Answer, kind: &str, error: CertError) {
+    match (kind, error) {
+        ("ask" | "print", _) => put_error_line(answer, error),
+        (_, CertError::OutOfMemory) => answer.refuse(),
+        _ => answer.debug(&error),
     }
 }
 
 /// How many vertices the certificate has, and whether these bytes are its spelling.
-fn again_text(alloc: Global, certificate: &Certificate, bytes: &[u8]) -> Result<String, OutOfMemory>
+fn put_again(answer: &mut Answer, certificate: &Certificate, bytes: &[u8])
     requires { CertificateFits certificate.now }
 {
-    let count = certificate.vertices.len();
-    let is_same = is_spelled(alloc, certificate, bytes)?;
-    Ok(format!(in alloc; "vertices {count} again {is_same}")?)
-}
-
-/// Whether these bytes are the certificate's spelling.
-fn is_spelled(alloc: Global, certificate: &Certificate, bytes: &[u8]) -> Result<bool, OutOfMemory>
-    requires { CertificateFits certificate.now }
-{
-    let again = encode_certificate(alloc, certificate)?;
-    Ok(again.as_slice() == bytes)
+    answer.put("vertices ");
+    answer.show(&certificate.vertices.len());
+    answer.put(" again ");
+    match encode_certificate(answer.alloc(), certificate) {
+        Ok(again) => answer.show(&(again.as_slice() == bytes)),
+        Err(_) => answer.refuse(),
+    }
 }

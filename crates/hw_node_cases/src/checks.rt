@@ -2,130 +2,130 @@
 
 ghost use Rattle.std.specs.List.{All};
 ghost use Rattle.hw_types.specs.Spelling.{VertexFits};
+ghost use Rattle.hw_light.specs.Spelling.{CertificateFits};
 
-use crate::printed::signed_line;
-use crate::words::with_line_feeds;
+use crate::printed::put_signed_line;
+use hw_case_words::{Answer, with_line_feeds};
 use hw_core::Core;
 use hw_keys::{Keys, KeysFault};
 use hw_light::{Certificate, CheckFault, Checked, check};
-use hw_types::{Digest, OutOfMemory, Vertex};
-use std::alloc::Global;
+use hw_types::{Digest, Vertex};
 
 /// The answer to the certificate with the verdicts by the keys of this text, one for each validator, or what is
 /// printed of it.
-pub fn keys_text(
-    alloc: Global,
-    kind: &str,
-    certificate: &Certificate,
-    text: &str,
-) -> Result<String, OutOfMemory>
-    requires { All VertexFits certificate.now.vertices }
+pub fn put_by_keys(answer: &mut Answer, kind: &str, certificate: &Certificate, text: &str)
+    requires fits { CertificateFits certificate.now }
+    requires vertices { All VertexFits certificate.now.vertices }
 {
-    let text = with_line_feeds(alloc, text)?;
     let validators = certificate.config.weights.len() as u32;
-    match Keys::read(alloc, text.as_slice(), validators) {
-        Ok(keys) => with_keys(alloc, kind, certificate, &keys),
-        Err(KeysFault::At(place)) => Ok(format!(in alloc; "keys at {place}")?),
-        Err(KeysFault::OutOfMemory) => Err(OutOfMemory),
+    match with_line_feeds(answer.alloc(), text) {
+        Some(text) => read_keys(answer, kind, certificate, validators, text.as_slice()),
+        None => answer.refuse(),
     }
 }
 
-/// The same with these keys.
-fn with_keys(
-    alloc: Global,
+/// The same with the keys of this text.
+fn read_keys(
+    answer: &mut Answer,
     kind: &str,
     certificate: &Certificate,
-    keys: &Keys,
-) -> Result<String, OutOfMemory>
+    validators: u32,
+    text: &[u8],
+)
     requires { All VertexFits certificate.now.vertices }
 {
-    match kind {
-        "print" => signed_line(alloc, certificate, keys),
-        _ => signed_text(alloc, certificate, keys),
+    match Keys::read(answer.alloc(), text, validators) {
+        Ok(keys) if kind == "print" => put_signed_line(answer, certificate, &keys),
+        Ok(keys) => put_signed(answer, certificate, &keys),
+        Err(KeysFault::At(place)) => {
+            answer.put("keys at ");
+            answer.number(place);
+        }
+        Err(KeysFault::OutOfMemory) => answer.refuse(),
     }
 }
 
-fn signed_text(alloc: Global, certificate: &Certificate, keys: &Keys) -> Result<String, OutOfMemory>
+/// The answer with the verdicts by these keys.
+fn put_signed(answer: &mut Answer, certificate: &Certificate, keys: &Keys)
     requires { All VertexFits certificate.now.vertices }
 {
-    let verdicts = verdicts_by(alloc, keys, certificate.vertices.as_slice())?;
-    checked_text(alloc, certificate, verdicts.as_slice())
+    let verdicts = verdicts_by(answer, keys, certificate.vertices.as_slice());
+    put_checked(answer, certificate, verdicts.as_slice());
 }
 
 /// The verdict on each vertex by these keys.
-fn verdicts_by(alloc: Global, keys: &Keys, vertices: &[Vertex]) -> Result<Vec<bool>, OutOfMemory>
+fn verdicts_by(answer: &mut Answer, keys: &Keys, vertices: &[Vertex]) -> Vec<bool>
     requires { All VertexFits vertices.now }
 {
-    let mut verdicts = Vec::new(alloc);
+    let mut verdicts = Vec::new(answer.alloc());
     for vertex in vertices {
-        verdicts.push(keys.verdict(vertex)?)?;
+        match keys.verdict(vertex) {
+            Ok(verdict) => put_verdict(answer, &mut verdicts, verdict),
+            Err(_) => answer.refuse(),
+        }
     }
-    Ok(verdicts)
+    verdicts
 }
 
-/// The answer to the certificate with a verdict for each of these digits.
-pub fn digits_text(
-    alloc: Global,
-    certificate: &Certificate,
-    digits: &str,
-) -> Result<String, OutOfMemory>
+fn put_verdict(answer: &mut Answer, verdicts: &mut Vec<bool>, verdict: bool) {
+    if verdicts.push(verdict).is_err() {
+        answer.refuse();
+    }
+}
+
+/// The answer to the certificate with a verdict for each of these digits, true for a 1.
+pub fn put_by_digits(answer: &mut Answer, certificate: &Certificate, digits: &str)
     requires { All VertexFits certificate.now.vertices }
 {
-    let verdicts = verdicts_of(alloc, digits.as_bytes())?;
-    checked_text(alloc, certificate, verdicts.as_slice())
-}
-
-/// A verdict for each digit, true for a 1.
-fn verdicts_of(alloc: Global, digits: &[u8]) -> Result<Vec<bool>, OutOfMemory> {
-    let mut verdicts = Vec::new(alloc);
-    for digit in digits {
-        verdicts.push(*digit == b'1')?;
+    let mut verdicts = Vec::new(answer.alloc());
+    for digit in digits.as_bytes() {
+        put_verdict(answer, &mut verdicts, *digit == b'1');
     }
-    Ok(verdicts)
+    put_checked(answer, certificate, verdicts.as_slice());
 }
 
 /// The answer to the certificate with these verdicts.
-fn checked_text(
-    alloc: Global,
-    certificate: &Certificate,
-    verdicts: &[bool],
-) -> Result<String, OutOfMemory>
+fn put_checked(answer: &mut Answer, certificate: &Certificate, verdicts: &[bool])
     requires { All VertexFits certificate.now.vertices }
 {
     if verdicts.len() != certificate.vertices.len() {
-        return Ok("other count".to_string(alloc)?);
+        return answer.put("other count");
     }
-    let checked = check(alloc, certificate, verdicts)?;
-    answer_text(alloc, &checked, &certificate.block)
-}
-
-/// What the certificate of this block was answered.
-fn answer_text(alloc: Global, checked: &Checked, block: &Digest) -> Result<String, OutOfMemory> {
-    match checked {
-        Checked::Yes(core) => yes_text(alloc, core, block),
-        Checked::No(fault) => fault_text(alloc, *fault),
+    match check(answer.alloc(), certificate, verdicts) {
+        Ok(Checked::Yes(core)) => put_yes(answer, &core, &certificate.block),
+        Ok(Checked::No(fault)) => put_fault(answer, fault),
+        Err(_) => answer.refuse(),
     }
 }
 
 /// That the block stands, its height and the node's journal.
-fn yes_text(alloc: Global, core: &Core, block: &Digest) -> Result<String, OutOfMemory> {
+fn put_yes(answer: &mut Answer, core: &Core, block: &Digest) {
     for index in 0..core.decision_count() {
         let decision = core.decision(index);
         if decision.block == *block {
-            let height = decision.height;
-            let count = core.journal_count();
-            return Ok(format!(in alloc; "yes height {height} journal {count}")?);
+            let (height, count) = (decision.height, core.journal_count());
+            let put = write!(answer.text, "yes height {height} journal {count}");
+            return answer.keep(put);
         }
     }
-    Ok("yes without a decision".to_string(alloc)?)
+    answer.put("yes without a decision");
 }
 
 /// Why the certificate shows nothing.
-fn fault_text(alloc: Global, fault: CheckFault) -> Result<String, OutOfMemory> {
+fn put_fault(answer: &mut Answer, fault: CheckFault) {
     match fault {
-        CheckFault::Config(fault) => Ok(format!(in alloc; "no config {fault:?}")?),
-        CheckFault::Refused(number, _) => Ok(format!(in alloc; "no refused {number}")?),
-        CheckFault::Exceeded(weight) => Ok(format!(in alloc; "no exceeded {weight}")?),
-        CheckFault::Unstood => Ok("no standing".to_string(alloc)?),
+        CheckFault::Config(fault) => {
+            answer.put("no config ");
+            answer.debug(&fault);
+        }
+        CheckFault::Refused(number, _) => {
+            answer.put("no refused ");
+            answer.show(&number);
+        }
+        CheckFault::Exceeded(weight) => {
+            answer.put("no exceeded ");
+            answer.show(&weight);
+        }
+        CheckFault::Unstood => answer.put("no standing"),
     }
 }

@@ -1,29 +1,42 @@
 //! Journals and runs that numbers choose.
 
+use hw_case_words::Answer;
 use hw_cluster::{generate, simulate};
-use hw_types::OutOfMemory;
-use std::alloc::Global;
 
 /// What becomes of a journal that the number makes.
-pub fn gen_text(alloc: Global, number: u64, rounds: u64) -> Result<String, OutOfMemory> {
+pub fn put_generated(answer: &mut Answer, number: u64, rounds: u64) {
     if rounds < 1 || rounds > 4_096 {
-        return Ok(String::new(alloc));
+        return answer.refuse();
     }
-    let summary = generate(alloc, number, rounds as u32)?;
-    let (units, finals) = (summary.units, summary.finals);
-    match summary.last {
-        None => Ok(format!(in alloc; "units {units} final {finals}")?),
-        Some(last) => Ok(format!(in alloc; "units {units} final {finals} last {last}")?),
+    match generate(answer.alloc(), number, rounds as u32) {
+        Ok(summary) => {
+            let (units, finals) = (summary.units, summary.finals);
+            let put = write!(answer.text, "units {units} final {finals}");
+            answer.keep(put);
+            if let Some(last) = summary.last {
+                answer.put(" last ");
+                answer.show(&last);
+            }
+        }
+        Err(_) => answer.refuse(),
     }
 }
 
 /// What becomes of nodes whose actions the number chooses.
-pub fn sim_text(alloc: Global, number: u64, nodes: u64, steps: u64) -> Result<String, OutOfMemory> {
+pub fn put_simulated(answer: &mut Answer, number: u64, nodes: u64, steps: u64) {
     if nodes < 1 || nodes > 16 || steps > 20_000 {
-        return Ok(String::new(alloc));
+        return answer.refuse();
     }
-    let summary = simulate(alloc, number, nodes as u32, steps as u32)?;
-    let (units, finals) = (summary.units, summary.finals);
-    let (refused, culprits) = (summary.refused, summary.culprits);
-    Ok(format!(in alloc; "units {units} final {finals} refused {refused} culprits {culprits}")?)
+    match simulate(answer.alloc(), number, nodes as u32, steps as u32) {
+        Ok(summary) => {
+            let (units, finals) = (summary.units, summary.finals);
+            let (refused, culprits) = (summary.refused, summary.culprits);
+            let put = write!(
+                answer.text,
+                "units {units} final {finals} refused {refused} culprits {culprits}"
+            );
+            answer.keep(put);
+        }
+        Err(_) => answer.refuse(),
+    }
 }

@@ -1,110 +1,120 @@
 //! Lines of words.
 
 use crate::actions::acts;
-use crate::certificates::certificate_text;
-use crate::clusters::{gen_text, sim_text};
+use crate::certificates::put_certificate;
+use crate::clusters::{put_generated, put_simulated};
 use crate::feeds::{fed, passed};
 use crate::nodes::{begin, deliver};
-use crate::wanted::{against, vertices};
-use crate::words::{digest_of, number, small};
+use crate::wanted::{against, put_needed};
+use hw_case_words::{Answer, number, small};
 use hw_core::Core;
-use hw_types::{Need, OutOfMemory};
-use std::alloc::Global;
+use hw_types::{Digest, Need, OutOfMemory};
 
-/// The answer to a line, of the node that began last.
-pub fn answer(alloc: Global, nodes: &mut Vec<Core>, line: &str) -> Result<String, OutOfMemory> {
-    let words: Vec<&str> = line.split(' ').collect(alloc)?;
+/// Answers a line, of the node that began last.
+pub fn tell(answer: &mut Answer, nodes: &mut Vec<Core>, line: &str) {
+    let words = answer.words(line, ' ');
     match words.as_slice() {
-        ["#", ..] => Ok(line.to_string(alloc)?),
-        [kind, words @ ..] => answer_to(alloc, nodes, kind, words),
-        [] => Ok(String::new(alloc)),
+        ["#", ..] => answer.put(line),
+        [kind, words @ ..] => tell_words(answer, nodes, kind, words),
+        [] => answer.refuse(),
     }
 }
 
-/// The answer to a line of this kind.
-fn answer_to(
-    alloc: Global,
-    nodes: &mut Vec<Core>,
-    kind: &str,
-    words: &[&str],
-) -> Result<String, OutOfMemory> {
+/// Answers a line of this kind.
+fn tell_words(answer: &mut Answer, nodes: &mut Vec<Core>, kind: &str, words: &[&str]) {
     match kind {
-        "feed" | "each" | "once" => of_log(alloc, kind, words),
-        "gen" | "sim" | "nodes" => of_clusters(alloc, kind, words),
+        "feed" | "each" | "once" => of_log(answer, kind, words),
+        "gen" | "sim" | "nodes" => of_clusters(answer, kind, words),
         _ => match words {
-            [word] => of_one(alloc, nodes, kind, word),
-            [bytes, word] => certificate_text(alloc, nodes, kind, bytes, word),
-            _ => Ok(String::new(alloc)),
+            [word] => of_one(answer, nodes, kind, word),
+            [bytes, word] => put_certificate(answer, nodes, kind, bytes, word),
+            _ => answer.refuse(),
         },
     }
 }
 
-/// The answer to a line of consumers that are passed what a log decides.
-fn of_log(alloc: Global, kind: &str, words: &[&str]) -> Result<String, OutOfMemory> {
+/// Answers a line of consumers that are passed what a log decides.
+fn of_log(answer: &mut Answer, kind: &str, words: &[&str]) {
     match words {
-        [log, plans @ ..] => match kind {
-            "feed" => fed(alloc, log, plans),
-            _ => passed(alloc, kind == "each", log, plans),
-        },
-        [] => Ok(String::new(alloc)),
+        [log, plans @ ..] if kind == "feed" => {
+            let text = fed(answer.alloc(), log, plans);
+            put_text(answer, text);
+        }
+        [log, plans @ ..] => {
+            let text = passed(answer.alloc(), kind == "each", log, plans);
+            put_text(answer, text);
+        }
+        [] => answer.refuse(),
     }
 }
 
-/// The answer to a line with one word behind its kind.
-fn of_one(
-    alloc: Global,
-    nodes: &mut Vec<Core>,
-    kind: &str,
-    word: &str,
-) -> Result<String, OutOfMemory> {
+/// Answers a line with one word behind its kind.
+fn of_one(answer: &mut Answer, nodes: &mut Vec<Core>, kind: &str, word: &str) {
     match kind {
-        "begin" => begin(alloc, nodes, word),
-        "read" | "certify" | "ask" => certificate_text(alloc, nodes, kind, word, ""),
-        _ => asked(alloc, nodes, kind, word),
+        "begin" => begin(answer, nodes, word),
+        "read" | "certify" | "ask" => put_certificate(answer, nodes, kind, word, ""),
+        _ => asked(answer, nodes.as_mut_slice(), kind, word),
     }
 }
 
 /// The answer of the node that began last.
-fn asked(
-    alloc: Global,
-    nodes: &mut Vec<Core>,
-    kind: &str,
-    word: &str,
-) -> Result<String, OutOfMemory> {
-    match nodes.as_mut_slice().last_mut() {
-        Some(core) => told(alloc, core, kind, word),
-        None => Ok("no node".to_string(alloc)?),
+fn asked(answer: &mut Answer, nodes: &mut [Core], kind: &str, word: &str) {
+    match nodes {
+        [.., core] => told(answer, core, kind, word),
+        [] => answer.put("no node"),
     }
 }
 
 /// The answer of the node, which a delivery may change.
-fn told(alloc: Global, core: &mut Core, kind: &str, word: &str) -> Result<String, OutOfMemory> {
+fn told(answer: &mut Answer, core: &mut Core, kind: &str, word: &str) {
     match kind {
-        "deliver" => deliver(alloc, core, word),
-        "against" => against(alloc, core, small(word)),
-        "unit" | "faulty" | "endorsed" => vertices(alloc, core, &need_of(alloc, kind, word)?),
-        _ => Ok(String::new(alloc)),
+        "deliver" => deliver(answer, core, word),
+        "against" => against(answer, core, small(word)),
+        _ => {
+            let need = need_of(answer, kind, word);
+            put_needed(answer, core, &need);
+        }
     }
 }
 
-fn need_of(alloc: Global, kind: &str, word: &str) -> Result<Need, OutOfMemory> {
+fn need_of(answer: &mut Answer, kind: &str, word: &str) -> Need {
     match kind {
-        "unit" => Ok(Need::Unit(digest_of(alloc, word)?)),
-        "endorsed" => Ok(Need::Endorsed(digest_of(alloc, word)?)),
-        _ => Ok(Need::Evidence(small(word))),
+        "unit" => Need::Unit(digest_of(answer, word)),
+        "endorsed" => Need::Endorsed(digest_of(answer, word)),
+        _ => Need::Evidence(small(word)),
     }
 }
 
-/// The answer to a line of clusters of nodes.
-fn of_clusters(alloc: Global, kind: &str, words: &[&str]) -> Result<String, OutOfMemory> {
-    match (kind, words) {
-        ("gen", [seed, rounds]) => gen_text(alloc, number(seed), number(rounds)),
-        ("sim", [seed, nodes, steps]) => {
-            sim_text(alloc, number(seed), number(nodes), number(steps))
+/// The digest of these 64 digits, zeros where they are no digest.
+fn digest_of(answer: &mut Answer, digits: &str) -> Digest {
+    let bytes = answer.bytes(digits);
+    match bytes.as_slice().first_chunk::<32>() {
+        Some(digest) => Digest(*digest),
+        None => Digest([0; 32]),
+    }
+}
+
+/// Answers a line of clusters of nodes.
+fn of_clusters(answer: &mut Answer, kind: &str, words: &[&str]) {
+    match words {
+        [seed, rounds] if kind == "gen" => {
+            put_generated(answer, number(seed), number(rounds));
         }
-        ("nodes", [count, records, actions @ ..]) => {
-            acts(alloc, number(count), small(records), actions)
+        [seed, nodes, steps] if kind == "sim" => {
+            put_simulated(answer, number(seed), number(nodes), number(steps));
         }
-        _ => Ok(String::new(alloc)),
+        [count, records, actions @ ..] => {
+            let text = acts(answer.alloc(), number(count), small(records), actions);
+            put_text(answer, text);
+        }
+        _ => answer.refuse(),
+    }
+}
+
+/// Puts the text, where there was memory for it.
+fn put_text(answer: &mut Answer, text: Result<String, OutOfMemory>) {
+    match text {
+        Ok(text) => answer.put(text.as_str()),
+        Err(_) => answer.refuse(),
     }
 }

@@ -42,8 +42,8 @@ mod passes;
 mod planned;
 mod printed;
 mod wanted;
-mod words;
 
+use hw_case_words::Answer;
 use hw_core::Core;
 use std::io;
 
@@ -62,8 +62,10 @@ fn answer_all(rt: HostRuntime, nodes: &mut Vec<Core>) -> io::Result<()> {
 
 /// Answers a line, of the node that began last.
 fn answer(rt: HostRuntime, nodes: &mut Vec<Core>, line: &str) -> io::Result<()> {
-    match lines::answer(rt.alloc(), nodes, line) {
-        Ok(text) => println!(rt; "{text}"),
-        Err(_) => Err(io::ErrorKind::OutOfMemory.into()),
+    let mut answer = Answer::new(rt.alloc());
+    lines::tell(&mut answer, nodes, line);
+    match answer.finish() {
+        Some(text) => println!(rt; "{text}"),
+        None => Err(io::ErrorKind::InvalidInput.into()),
     }
 }

@@ -7,76 +7,80 @@ ghost use Rattle.hw_core.specs.Decided.{decided_in};
 ghost use Rattle.hw_light.specs.Spelling.{CertificateFits};
 
 use crate::nodes::begin_with;
+use crate::printed::put_asked_line;
+use hw_case_words::Answer;
 use hw_core::Core;
 use hw_light::{Certificate, Certified, certify, encode_certificate};
-use hw_types::{Cause, Digest, OutOfMemory, Vertex};
-use std::alloc::Global;
+use hw_types::{Cause, Digest, Vertex};
 
-/// The certificate of a certificate's block, asked of a node that took its vertices.
-pub fn made_text(
-    alloc: Global,
-    nodes: &mut Vec<Core>,
-    certificate: &Certificate,
-) -> Result<String, OutOfMemory>
+/// The certificate of a certificate's block, asked of a node that took its vertices, or the line that tells of it.
+pub fn made(answer: &mut Answer, nodes: &mut Vec<Core>, certificate: &Certificate, kind: &str)
     requires { All VertexFits certificate.now.vertices }
 {
-    begin_taker(alloc, nodes, certificate)?;
-    match nodes.as_mut_slice().last_mut() {
-        Some(core) => block_text(alloc, core, &certificate.block),
-        None => Ok("no config".to_string(alloc)?),
+    begin_taker(answer, nodes, certificate);
+    match nodes.as_mut_slice() {
+        [.., core] => {
+            take_all(answer, core, certificate.vertices.as_slice());
+            ask(answer, core, &certificate.block, kind);
+        }
+        [] => answer.put("no config"),
     }
 }
 
-/// Begins a node of the certificate's configuration that takes its vertices, where there is one, in the place of all
-/// others.
-pub fn begin_taker(
-    alloc: Global,
-    nodes: &mut Vec<Core>,
-    certificate: &Certificate,
-) -> Result<(), OutOfMemory>
-    requires { All VertexFits certificate.now.vertices }
-{
+/// Begins a node of the certificate's configuration, where there is one, in the place of all others. What is said of it is no part
+/// of the answer.
+fn begin_taker(answer: &mut Answer, nodes: &mut Vec<Core>, certificate: &Certificate) {
+    let mut unheard = Answer::new(answer.alloc());
     nodes.clear();
-    begin_with(alloc, nodes, certificate.config.copy()?)?;
-    match nodes.as_mut_slice().last_mut() {
-        Some(core) => take_all(core, certificate.vertices.as_slice()),
-        None => Ok(()),
+    match certificate.config.copy() {
+        Ok(config) => begin_with(&mut unheard, nodes, config),
+        Err(_) => answer.refuse(),
+    }
+    if unheard.finish().is_none() {
+        answer.refuse();
     }
 }
 
 /// Delivers the vertices with true verdicts, whatever becomes of them.
-fn take_all(core: &mut Core, vertices: &[Vertex]) -> Result<(), OutOfMemory>
+fn take_all(answer: &mut Answer, core: &mut Core, vertices: &[Vertex])
     requires { All VertexFits vertices.now }
 {
     for vertex in vertices {
-        take(core, vertex)?;
+        take(answer, core, vertex);
     }
-    Ok(())
 }
 
 /// Delivers one vertex.
-fn take(core: &mut Core, vertex: &Vertex) -> Result<(), OutOfMemory>
+fn take(answer: &mut Answer, core: &mut Core, vertex: &Vertex)
     requires { VertexFits vertex.now }
 {
-    match core.deliver(vertex.copy()?, true) {
-        Ok(_receipt) => Ok(()),
-        Err(refused) => taken_anyway(refused.cause),
+    match vertex.copy() {
+        Ok(vertex) => taken(answer, core, vertex),
+        Err(_) => answer.refuse(),
     }
 }
 
 /// A refusal is let go, but for want of memory.
-fn taken_anyway(cause: Cause) -> Result<(), OutOfMemory> {
-    match cause {
-        Cause::OutOfMemory => Err(OutOfMemory),
-        _ => Ok(()),
+fn taken(answer: &mut Answer, core: &mut Core, vertex: Vertex)
+    requires { VertexFits vertex }
+{
+    match core.deliver(vertex, true) {
+        Ok(_receipt) => {}
+        Err(refused) => match refused.cause {
+            Cause::OutOfMemory => answer.refuse(),
+            _ => {}
+        },
     }
 }
 
-/// The certificate of this block, if it is decided.
-fn block_text(alloc: Global, core: &mut Core, block: &Digest) -> Result<String, OutOfMemory> {
+/// Asks the node for the certificate of this block.
+fn ask(answer: &mut Answer, core: &mut Core, block: &Digest, kind: &str) {
+    if kind == "ask" {
+        return put_asked_line(answer, core, block);
+    }
     match place_of(core, block) {
-        Some(index) => certified_text(alloc, core, index),
-        None => Ok("no decision".to_string(alloc)?),
+        Some(index) => put_certified(answer, core, index),
+        None => answer.put("no decision"),
     }
 }
 
@@ -93,22 +97,29 @@ fn place_of(core: &Core, block: &Digest) -> Option<u64>
 }
 
 /// The certificate of the decided block of that place.
-fn certified_text(alloc: Global, core: &mut Core, index: u64) -> Result<String, OutOfMemory>
+fn put_certified(answer: &mut Answer, core: &mut Core, index: u64)
     requires { index < length (decided_in core.old) }
 {
-    match certify(alloc, core, index)? {
-        Certified::Made(certificate) => spelled_text(alloc, &certificate),
-        Certified::NotNow => Ok("no standing".to_string(alloc)?),
-        Certified::TooLong(count) => Ok(format!(in alloc; "no length {count}")?),
+    match certify(answer.alloc(), core, index) {
+        Ok(Certified::Made(certificate)) => put_spelled(answer, &certificate),
+        Ok(Certified::NotNow) => answer.put("no standing"),
+        Ok(Certified::TooLong(count)) => {
+            answer.put("no length ");
+            answer.show(&count);
+        }
+        Err(_) => answer.refuse(),
     }
 }
 
 /// How many vertices a certificate has, and its bytes.
-fn spelled_text(alloc: Global, certificate: &Certificate) -> Result<String, OutOfMemory>
+fn put_spelled(answer: &mut Answer, certificate: &Certificate)
     requires { CertificateFits certificate.now }
 {
-    let count = certificate.vertices.len();
-    let bytes = encode_certificate(alloc, certificate)?;
-    let text = hex::encode(alloc, bytes.as_slice())?;
-    Ok(format!(in alloc; "certified {count} {text}")?)
+    answer.put("certified ");
+    answer.show(&certificate.vertices.len());
+    answer.put(" ");
+    match encode_certificate(answer.alloc(), certificate) {
+        Ok(bytes) => answer.hex(bytes.as_slice()),
+        Err(_) => answer.refuse(),
+    }
 }

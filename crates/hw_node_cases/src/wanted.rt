@@ -3,44 +3,51 @@
 ghost use Rattle.std.specs.List.{All};
 ghost use Rattle.hw_types.specs.Spelling.{VertexFits};
 
+use hw_case_words::Answer;
 use hw_codec::encode_vertex;
 use hw_core::Core;
 use hw_needs::{evidence_of, vertices_of};
-use hw_types::{Need, OutOfMemory, Vertex};
-use std::alloc::Global;
+use hw_types::{Need, Vertex};
 
 /// The vertices of the need, as bytes.
-pub fn vertices(alloc: Global, core: &Core, need: &Need) -> Result<String, OutOfMemory> {
-    let vertices = vertices_of(alloc, core, need)?;
-    if vertices.len() == 0 {
-        return Ok("-".to_string(alloc)?);
+pub fn put_needed(answer: &mut Answer, core: &Core, need: &Need) {
+    match vertices_of(answer.alloc(), core, need) {
+        Ok(vertices) if vertices.len() == 0 => answer.put("-"),
+        Ok(vertices) => put_vertices(answer, vertices.as_slice()),
+        Err(_) => answer.refuse(),
     }
-    spelled(alloc, vertices.as_slice())
 }
 
 /// The vertices as bytes, with a space between.
-fn spelled(alloc: Global, vertices: &[Vertex]) -> Result<String, OutOfMemory>
+fn put_vertices(answer: &mut Answer, vertices: &[Vertex])
     requires { All VertexFits vertices.now }
 {
-    let mut text = String::new(alloc);
+    let mut between = "";
     for vertex in vertices {
-        if !text.is_empty() {
-            text.push(' ')?;
-        }
-        let bytes = encode_vertex(alloc, vertex)?;
-        text.push_str(hex::encode(alloc, bytes.as_slice())?.as_str())?;
+        answer.put(between);
+        put_vertex(answer, vertex);
+        between = " ";
     }
-    Ok(text)
+}
+
+fn put_vertex(answer: &mut Answer, vertex: &Vertex)
+    requires { VertexFits vertex.now }
+{
+    match encode_vertex(answer.alloc(), vertex) {
+        Ok(bytes) => answer.hex(bytes.as_slice()),
+        Err(_) => answer.refuse(),
+    }
 }
 
 /// The first four bytes of the signatures of the two units that show the validator.
-pub fn against(alloc: Global, core: &Core, validator: u32) -> Result<String, OutOfMemory> {
-    match evidence_of(alloc, core, validator)? {
-        Some(evidence) => {
-            let left = hex::encode(alloc, &evidence.left.signature.0[..4])?;
-            let right = hex::encode(alloc, &evidence.right.signature.0[..4])?;
-            Ok(format!(in alloc; "{left} {right}")?)
+pub fn against(answer: &mut Answer, core: &Core, validator: u32) {
+    match evidence_of(answer.alloc(), core, validator) {
+        Ok(Some(evidence)) => {
+            answer.hex(&evidence.left.signature.0[..4]);
+            answer.put(" ");
+            answer.hex(&evidence.right.signature.0[..4]);
         }
-        None => Ok("-".to_string(alloc)?),
+        Ok(None) => answer.put("-"),
+        Err(_) => answer.refuse(),
     }
 }

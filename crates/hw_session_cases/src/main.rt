@@ -1,5 +1,5 @@
-//! What comes of nodes with a log, for the lines of its input, one line for each: of nodes that act, and of nodes that serve and
-//! validators that take turns, over an outside in memory.
+//! What comes of nodes with a log, for the lines of its input, one line for each: of nodes that act, and of nodes that serve,
+//! validators that take turns and nodes that meet others, over an outside in memory.
 //!
 //! A line `session ..` has these words, and any number of acts behind them:
 //!
@@ -24,17 +24,22 @@
 //! | command | `serve:SESSIONS`; or `run:ME:PEERS:MOMENT:MOMENT..`, with a turn for each moment |
 //! | session | what the peer of a session says, as hexadecimal digits |
 //!
-//! The answer is the status, what was written, in which a `/` stands for a line feed, the log then, and what the node wrote in each
-//! session.
+//! A line `reunion ..` has the same words, but for its command: `host:SESSIONS` of a node that is dialled, or `meet` of one that
+//! dials.
+//!
+//! The answer to both is the status, what was written, in which a `/` stands for a line feed, the log then, and what the node wrote
+//! in each session.
 #![tactic(auto)]
 
 mod lines;
 mod nodes;
 mod outside;
 mod peers;
+mod reunions;
+mod runs;
 mod services;
-mod words;
 
+use hw_case_words::Answer;
 use hw_session::Node;
 use std::io;
 
@@ -53,8 +58,10 @@ fn answer_all(rt: HostRuntime, nodes: &mut Vec<Node>) -> io::Result<()> {
 
 /// Answers a line.
 fn answer(rt: HostRuntime, nodes: &mut Vec<Node>, line: &str) -> io::Result<()> {
-    match lines::answer(rt.alloc(), nodes, line) {
-        Ok(text) => println!(rt; "{text}"),
-        Err(_) => Err(io::ErrorKind::OutOfMemory.into()),
+    let mut answer = Answer::new(rt.alloc());
+    lines::tell(&mut answer, nodes, line);
+    match answer.finish() {
+        Some(text) => println!(rt; "{text}"),
+        None => Err(io::ErrorKind::InvalidInput.into()),
     }
 }

@@ -3,14 +3,13 @@
 ghost use Rattle.std.specs.Prelude.{◌≡◌, length, IfOk, IfSome, None, string_bytes};
 ghost use Rattle.hw_types.specs.Limits.{config_fault};
 
-use crate::outside::put_log;
+use crate::outside::{plan_files, put_log};
 use crate::peers::{accept, drive, serve};
-use crate::words::{bytes_of, number, small, with_line_feeds};
+use hw_case_words::{Answer, number, small, with_line_feeds};
 use hw_codec::decode_config;
 use hw_io::MemFiles;
 use hw_session::{Keys, MakeFault, Node, StartFault};
-use hw_types::{Config, OutOfMemory, Plan};
-use std::alloc::Global;
+use hw_types::{Config, Plan};
 
 /// The name of the log.
 pub const LOG: &str = "LOG";
@@ -18,227 +17,191 @@ pub const LOG: &str = "LOG";
 /// What each node of a line starts with.
 #[derive(Drop)]
 struct Scene {
-    alloc: Global,
     /// The bytes of the configuration.
     config: Vec<u8>,
     /// The text of the keys.
     keys: Vec<u8>,
 }
 
-/// What nodes answer that start with this configuration and these keys from a log, and act.
-pub fn session_text(
-    alloc: Global,
-    nodes: &mut Vec<Node>,
-    config: &str,
-    keys: &str,
-    log: &str,
-    failure: &str,
-    acts: &[&str],
-) -> Result<String, OutOfMemory> {
-    let scene = Scene {
-        alloc,
-        config: bytes_of(alloc, config)?,
-        keys: with_line_feeds(alloc, keys)?,
+/// What nodes answer that start with a configuration and keys from a log, and act.
+pub fn session_text(answer: &mut Answer, nodes: &mut Vec<Node>, words: &[&str]) {
+    let [config, keys, log, failure, acts @ ..] = words else {
+        return answer.refuse();
     };
-    let mut files = files_of(alloc, log, failure)?;
-    run(&scene, &mut files, nodes, acts)
+    let scene = scene_of(answer, config, keys);
+    let mut files = files_of(answer, log, failure);
+    start(answer, &scene, &mut files, nodes);
+    for act in acts {
+        answer.put(" ");
+        step(answer, &scene, &mut files, nodes, act);
+    }
+    put_end(answer, &files, nodes.as_slice());
+}
+
+fn scene_of(answer: &mut Answer, config: &str, keys: &str) -> Scene {
+    let config = answer.bytes(config);
+    match with_line_feeds(answer.alloc(), keys) {
+        Some(keys) => Scene { config, keys },
+        None => {
+            answer.refuse();
+            Scene {
+                config,
+                keys: Vec::new(answer.alloc()),
+            }
+        }
+    }
 }
 
 /// Files with this log, of which that call fails.
-fn files_of(alloc: Global, log: &str, failure: &str) -> Result<MemFiles, OutOfMemory> {
-    let mut files = MemFiles::in_pieces(alloc, 100);
-    put_log(alloc, &mut files, log)?;
-    if let Some((call, left)) = failure.split_once(':') {
-        files.fail_at(number(call), number(left) as usize)?;
-    }
-    Ok(files)
-}
-
-/// Starts a node and lets it act, and tells what came of it. Those of other lines are gone.
-fn run(
-    scene: &Scene,
-    files: &mut MemFiles,
-    nodes: &mut Vec<Node>,
-    acts: &[&str],
-) -> Result<String, OutOfMemory> {
-    let mut text = String::new(scene.alloc);
-    start(scene, files, nodes, &mut text)?;
-    for act in acts {
-        step(scene, files, nodes, act, &mut text)?;
-    }
-    tell_end(scene.alloc, files, nodes.as_slice(), &mut text)?;
-    Ok(text)
+fn files_of(answer: &mut Answer, log: &str, failure: &str) -> MemFiles {
+    let mut files = MemFiles::in_pieces(answer.alloc(), 100);
+    put_log(answer, &mut files, log);
+    let planned = plan_files(&mut files, failure);
+    answer.keep(planned);
+    files
 }
 
 /// Lets a node act, and tells what came of it.
 fn step(
+    answer: &mut Answer,
     scene: &Scene,
     files: &mut MemFiles,
     nodes: &mut Vec<Node>,
     act: &str,
-    text: &mut String,
-) -> Result<(), OutOfMemory> {
-    if act == "again" {
-        return start(scene, files, nodes, text);
+) {
+    match act.split_once(':') {
+        Some((kind, words)) => act_on(answer, files, nodes.as_mut_slice(), kind, words),
+        None if act == "again" => start(answer, scene, files, nodes),
+        None => answer.put("-"),
     }
-    match (act.split_once(':'), nodes.as_mut_slice()) {
-        (Some(("accept", vertex)), [node]) => accept(scene.alloc, files, node, vertex, text),
-        (Some(("serve", peer)), [node]) => serve(scene.alloc, files, node, peer, text),
-        (Some(("drive", peer)), [node]) => drive(scene.alloc, files, node, peer, text),
-        (Some(_), _) => make(scene.alloc, files, nodes, act, text),
-        (None, _) => word(text, "-"),
+}
+
+/// Lets the node act that there is.
+fn act_on(answer: &mut Answer, files: &mut MemFiles, nodes: &mut [Node], kind: &str, words: &str) {
+    let [node] = nodes else {
+        return answer.put("-");
+    };
+    match kind {
+        "accept" => accept(answer, files, node, words),
+        "serve" => serve(answer, files, node, words),
+        "drive" => drive(answer, files, node, words),
+        _ => make(answer, files, node, small(kind), words),
     }
 }
 
 /// Starts a node in the place of all others, and tells how it started.
-fn start(
-    scene: &Scene,
-    files: &mut MemFiles,
-    nodes: &mut Vec<Node>,
-    text: &mut String,
-) -> Result<(), OutOfMemory> {
+fn start(answer: &mut Answer, scene: &Scene, files: &mut MemFiles, nodes: &mut Vec<Node>) {
     nodes.clear();
-    match decode_config(scene.alloc, scene.config.as_slice()) {
-        Ok(config) => start_with(scene, files, config, nodes, text),
-        Err(_) => word(text, "no configuration"),
+    match decode_config(answer.alloc(), scene.config.as_slice()) {
+        Ok(config) => start_with(answer, scene.keys.as_slice(), files, config, nodes),
+        Err(_) => answer.put("no configuration"),
     }
 }
 
 /// The same with this configuration.
 fn start_with(
-    scene: &Scene,
+    answer: &mut Answer,
+    keys: &[u8],
     files: &mut MemFiles,
     config: Config,
     nodes: &mut Vec<Node>,
-    text: &mut String,
-) -> Result<(), OutOfMemory> {
+) {
     if config.check().is_err() {
-        return word(text, "no configuration");
+        return answer.put("no configuration");
     }
-    let validators = config.weights.len() as u32;
-    match Keys::read(scene.alloc, scene.keys.as_slice(), validators) {
-        Ok(keys) => started(scene.alloc, files, config, keys, nodes, text),
-        Err(_) => word(text, "no keys"),
+    match Keys::read(answer.alloc(), keys, config.weights.len() as u32) {
+        Ok(keys) => started(answer, files, config, keys, nodes),
+        Err(_) => answer.put("no keys"),
     }
 }
 
 /// The same with these keys too.
 fn started(
-    alloc: Global,
+    answer: &mut Answer,
     files: &mut MemFiles,
     config: Config,
     keys: Keys,
     nodes: &mut Vec<Node>,
-    text: &mut String,
-) -> Result<(), OutOfMemory>
+)
     requires lawful { config_fault config ≡ None }
     requires keys { length keys ≡ length config.weights }
 {
-    match Node::start(alloc, files, LOG, config, keys) {
-        Ok(node) => begun(nodes, node, text),
-        Err(fault) => tell_fault(alloc, &fault, text),
+    match Node::start(answer.alloc(), files, LOG, config, keys) {
+        Ok(node) => begun(answer, nodes, node),
+        Err(fault) => put_fault(answer, &fault),
     }
 }
 
-fn begun(nodes: &mut Vec<Node>, node: Node, text: &mut String) -> Result<(), OutOfMemory> {
-    nodes.push(node)?;
-    word(text, "started")
+fn begun(answer: &mut Answer, nodes: &mut Vec<Node>, node: Node) {
+    if nodes.push(node).is_err() {
+        answer.refuse();
+    }
+    answer.put("started");
 }
 
 /// Tells why no node started.
-fn tell_fault(alloc: Global, fault: &StartFault, text: &mut String) -> Result<(), OutOfMemory> {
+fn put_fault(answer: &mut Answer, fault: &StartFault) {
     match fault {
-        StartFault::Log(error) => word(text, format!(in alloc; "{error:?}")?.as_str()),
-        StartFault::OtherConfig => word(text, "OtherConfig"),
-        StartFault::Clash { .. } => word(text, "Clash"),
-        StartFault::RecordsFull(at) => {
-            word(text, format!(in alloc; "RecordsFull({at})")?.as_str())
-        }
-        StartFault::ParkFull(at) => word(text, format!(in alloc; "ParkFull({at})")?.as_str()),
-        StartFault::OutOfMemory => Err(OutOfMemory),
+        StartFault::Log(error) => answer.debug(error),
+        StartFault::OtherConfig => answer.put("OtherConfig"),
+        StartFault::Clash { .. } => answer.put("Clash"),
+        StartFault::RecordsFull(at) => put_full(answer, "RecordsFull(", *at),
+        StartFault::ParkFull(at) => put_full(answer, "ParkFull(", *at),
+        StartFault::OutOfMemory => answer.refuse(),
     }
 }
 
-/// Lets the node make a unit, and tells which.
-fn make(
-    alloc: Global,
-    files: &mut MemFiles,
-    nodes: &mut Vec<Node>,
-    act: &str,
-    text: &mut String,
-) -> Result<(), OutOfMemory> {
-    let words: Vec<&str> = act.split(':').collect(alloc)?;
-    match (words.as_slice(), nodes.as_mut_slice()) {
-        ([me, now, value], [node]) => {
-            let value = bytes_of(alloc, value)?;
-            let made = made(files, node, small(me), number(now), value.as_slice());
-            tell_made(alloc, &made, text)
-        }
-        _ => word(text, "-"),
-    }
+fn put_full(answer: &mut Answer, word: &str, at: u64) {
+    answer.put(word);
+    answer.number(at);
+    answer.put(")");
 }
 
-/// What the node makes, none where the validator, the moment or the value can't be.
-fn made(
-    files: &mut MemFiles,
-    node: &mut Node,
-    me: u32,
-    now: u64,
-    value: &[u8],
-) -> Result<Option<Plan>, MakeFault> {
+/// Lets the node make a unit, and tells which. There is none where the validator, the moment or the value can't be.
+fn make(answer: &mut Answer, files: &mut MemFiles, node: &mut Node, me: u32, words: &str) {
+    let Some((now, value)) = words.split_once(':') else {
+        return answer.put("-");
+    };
+    let value = answer.bytes(value);
+    let now = number(now);
     let validators = node.core().state().config().weights.len();
     if me as usize >= validators || now >= 1 << 63 || value.len() > 4096 {
-        return Ok(None);
+        return answer.put("None");
     }
-    node.make(files, me, now, value)
+    match node.make(files, me, now, value.as_slice()) {
+        Ok(Some(plan)) => put_plan(answer, &plan),
+        Ok(None) => answer.put("None"),
+        Err(MakeFault::OutOfMemory) => answer.refuse(),
+        Err(fault) => answer.debug(&fault),
+    }
 }
 
 /// Tells what was made.
-fn tell_made(
-    alloc: Global,
-    made: &Result<Option<Plan>, MakeFault>,
-    text: &mut String,
-) -> Result<(), OutOfMemory> {
-    match made {
-        Ok(Some(plan)) => {
-            let line = format!(in alloc; "{:?}:{}:{}", plan.kind, plan.unit.seq, plan.unit.time)?;
-            word(text, line.as_str())
-        }
-        Ok(None) => word(text, "None"),
-        Err(MakeFault::OutOfMemory) => Err(OutOfMemory),
-        Err(fault) => word(text, format!(in alloc; "{fault:?}")?.as_str()),
-    }
+fn put_plan(answer: &mut Answer, plan: &Plan) {
+    let (kind, seq, time) = (plan.kind, plan.unit.seq, plan.unit.time);
+    let put = write!(answer.text, "{kind:?}:{seq}:{time}");
+    answer.keep(put);
 }
 
 /// Tells the node's counts and its log.
-fn tell_end(
-    alloc: Global,
-    files: &MemFiles,
-    nodes: &[Node],
-    text: &mut String,
-) -> Result<(), OutOfMemory> {
+fn put_end(answer: &mut Answer, files: &MemFiles, nodes: &[Node]) {
     for node in nodes {
-        let line = format!(in alloc;
-            "journal {} settled {} limits {} refused {} repeats {}",
-            node.core().journal_count(),
-            node.core().settled_count(),
-            node.limit_hits(),
-            node.refused_count(),
-            node.repeat_count()
-        )?;
-        word(text, line.as_str())?;
+        put_counts(answer, node);
     }
+    answer.put(" ");
     match files.file(LOG) {
-        None => word(text, "no log"),
-        Some(log) => word(text, hex::encode(alloc, log)?.as_str()),
+        None => answer.put("no log"),
+        Some(log) => answer.hex(log),
     }
 }
 
-/// Puts a word behind the others.
-pub fn word(text: &mut String, word: &str) -> Result<(), OutOfMemory> {
-    if !text.is_empty() {
-        text.push_str(" ")?;
-    }
-    text.push_str(word)?;
-    Ok(())
+fn put_counts(answer: &mut Answer, node: &Node) {
+    let (journal, settled) = (node.core().journal_count(), node.core().settled_count());
+    let (limits, refused) = (node.limit_hits(), node.refused_count());
+    let repeats = node.repeat_count();
+    let put = write!(
+        answer.text,
+        " journal {journal} settled {settled} limits {limits} refused {refused} repeats {repeats}"
+    );
+    answer.keep(put);
 }

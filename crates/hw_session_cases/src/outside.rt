@@ -1,9 +1,8 @@
 //! The outside of one run, in memory.
 
-use crate::words::{bytes_of, number, with_line_feeds};
+use hw_case_words::{Answer, number, with_line_feeds};
 use hw_io::{Clock, ListConsumer, MemDoor, MemFiles, MemSink};
-use hw_types::OutOfMemory;
-use std::alloc::{AllocError, Global};
+use std::alloc::AllocError;
 
 /// Files, output and door of a run.
 #[derive(Drop)]
@@ -36,19 +35,19 @@ impl Clock for Moments {
 }
 
 /// The outside of these words: settings, keys, log and failures, and what peers say.
-pub fn outside_of(alloc: Global, words: &[&str]) -> Result<Outside, OutOfMemory> {
+pub fn outside_of(answer: &mut Answer, words: &[&str]) -> Outside {
     let mut outside = Outside {
-        files: MemFiles::new(alloc),
-        out: MemSink::in_pieces(alloc, 50),
-        door: MemDoor::in_pieces(alloc, 40),
+        files: MemFiles::new(answer.alloc()),
+        out: MemSink::in_pieces(answer.alloc(), 50),
+        door: MemDoor::in_pieces(answer.alloc(), 40),
     };
-    fill(alloc, &mut outside, words)?;
-    Ok(outside)
+    fill(answer, &mut outside, words);
+    outside
 }
 
 /// Puts the files in, plans the failures, and expects the peers.
-fn fill(alloc: Global, outside: &mut Outside, words: &[&str]) -> Result<(), OutOfMemory> {
-    if let [
+fn fill(answer: &mut Answer, outside: &mut Outside, words: &[&str]) {
+    let [
         settings,
         keys,
         log,
@@ -57,57 +56,72 @@ fn fill(alloc: Global, outside: &mut Outside, words: &[&str]) -> Result<(), OutO
         _command,
         sessions @ ..,
     ] = words
-    {
-        outside.files.put("CONFIG", settings.as_bytes())?;
-        put_keys(alloc, &mut outside.files, keys)?;
-        put_log(alloc, &mut outside.files, log)?;
-        for failure in failures.split(',') {
-            plan(outside, failure)?;
-        }
-        for session in sessions {
-            expect(alloc, &mut outside.door, session)?;
-        }
+    else {
+        return answer.refuse();
+    };
+    let put = outside.files.put("CONFIG", settings.as_bytes());
+    answer.keep(put);
+    put_keys(answer, &mut outside.files, keys);
+    put_log(answer, &mut outside.files, log);
+    for failure in failures.split(',') {
+        let planned = plan(outside, failure);
+        answer.keep(planned);
     }
-    Ok(())
+    for session in sessions {
+        expect(answer, &mut outside.door, session);
+    }
 }
 
-fn put_keys(alloc: Global, files: &mut MemFiles, keys: &str) -> Result<(), OutOfMemory> {
-    let keys = with_line_feeds(alloc, keys)?;
-    Ok(files.put("KEYS", keys.as_slice())?)
+fn put_keys(answer: &mut Answer, files: &mut MemFiles, keys: &str) {
+    match with_line_feeds(answer.alloc(), keys) {
+        Some(keys) => {
+            let put = files.put("KEYS", keys.as_slice());
+            answer.keep(put);
+        }
+        None => answer.refuse(),
+    }
 }
 
 /// Puts the log there, unless the word is `-`.
-pub fn put_log(alloc: Global, files: &mut MemFiles, log: &str) -> Result<(), OutOfMemory> {
-    if log == "-" {
-        return Ok(());
+pub fn put_log(answer: &mut Answer, files: &mut MemFiles, log: &str) {
+    if log != "-" {
+        let bytes = answer.bytes(log);
+        let put = files.put("LOG", bytes.as_slice());
+        answer.keep(put);
     }
-    let bytes = bytes_of(alloc, log)?;
-    Ok(files.put("LOG", bytes.as_slice())?)
 }
 
-fn expect(alloc: Global, door: &mut MemDoor, session: &str) -> Result<(), OutOfMemory> {
-    let said = bytes_of(alloc, session)?;
-    Ok(door.expect(said.as_slice())?)
+/// Expects a peer that says these bytes.
+pub fn expect(answer: &mut Answer, door: &mut MemDoor, said: &str) {
+    let said = answer.bytes(said);
+    let expected = door.expect(said.as_slice());
+    answer.keep(expected);
 }
 
 /// Plans that a call fails.
 fn plan(outside: &mut Outside, failure: &str) -> Result<(), AllocError> {
     match failure.split_once(':') {
-        Some(("files", call)) => match call.split_once(':') {
-            Some((call, left)) => outside.files.fail_at(number(call), number(left) as usize),
-            None => Ok(()),
-        },
+        Some(("files", call)) => plan_files(&mut outside.files, call),
         Some(("out", call)) => outside.out.fail_at(number(call)),
         Some(("door", call)) => outside.door.fail_at(number(call)),
         _ => Ok(()),
     }
 }
 
-/// A consumer of this plan.
-pub fn consumer_of(alloc: Global, plan: &str) -> Result<ListConsumer, OutOfMemory> {
-    let mut consumer = ListConsumer::new(alloc);
-    if plan != "-" && consumer.fail_at(number(plan)).is_err() {
-        return Err(OutOfMemory);
+/// Plans that a call on the files fails, as `CALL:LEFT` says.
+pub fn plan_files(files: &mut MemFiles, failure: &str) -> Result<(), AllocError> {
+    match failure.split_once(':') {
+        Some((call, left)) => files.fail_at(number(call), number(left) as usize),
+        None => Ok(()),
     }
-    Ok(consumer)
+}
+
+/// A consumer of this plan.
+pub fn consumer_of(answer: &mut Answer, plan: &str) -> ListConsumer {
+    let mut consumer = ListConsumer::new(answer.alloc());
+    if plan != "-" {
+        let planned = consumer.fail_at(number(plan));
+        answer.keep(planned);
+    }
+    consumer
 }

@@ -1,123 +1,100 @@
 //! What peers do to a node.
 
-use crate::nodes::word;
-use crate::words::{bytes_of, number};
+use crate::outside::expect;
+use hw_case_words::{Answer, number};
 use hw_codec::decode_vertex;
 use hw_io::{MemDoor, MemFiles};
 use hw_session::{AcceptFault, Node, PeerMark, SessionEnd};
-use hw_types::{OutOfMemory, Receipt};
-use std::alloc::Global;
+use hw_types::Receipt;
 
 /// Gives the node a peer's vertex, and tells what became of it.
-pub fn accept(
-    alloc: Global,
-    files: &mut MemFiles,
-    node: &mut Node,
-    vertex: &str,
-    text: &mut String,
-) -> Result<(), OutOfMemory> {
-    let bytes = bytes_of(alloc, vertex)?;
-    match decode_vertex(alloc, bytes.as_slice()) {
-        Ok(vertex) => tell_accepted(alloc, node.accept(files, vertex), text),
-        Err(_) => word(text, "no vertex"),
+pub fn accept(answer: &mut Answer, files: &mut MemFiles, node: &mut Node, vertex: &str) {
+    let bytes = answer.bytes(vertex);
+    match decode_vertex(answer.alloc(), bytes.as_slice()) {
+        Ok(vertex) => put_accepted(answer, node.accept(files, vertex)),
+        Err(_) => answer.put("no vertex"),
     }
 }
 
 /// Tells what became of a vertex.
-fn tell_accepted(
-    alloc: Global,
-    accepted: Result<Receipt, AcceptFault>,
-    text: &mut String,
-) -> Result<(), OutOfMemory> {
+fn put_accepted(answer: &mut Answer, accepted: Result<Receipt, AcceptFault>) {
     match accepted {
-        Ok(Receipt::Admitted { settled }) => {
-            word(text, format!(in alloc; "Admitted({settled})")?.as_str())
-        }
-        Ok(Receipt::Parked { missing }) => {
-            word(text, format!(in alloc; "Parked({missing})")?.as_str())
-        }
-        Ok(Receipt::Dropped(rule)) => {
-            word(text, format!(in alloc; "Dropped({rule:?})")?.as_str())
-        }
-        Ok(Receipt::Repeat) => word(text, "Repeat"),
-        Err(AcceptFault::OutOfMemory) => Err(OutOfMemory),
-        Err(fault) => word(text, format!(in alloc; "{fault:?}")?.as_str()),
+        Ok(receipt) => put_receipt(answer, receipt),
+        Err(AcceptFault::OutOfMemory) => answer.refuse(),
+        Err(fault) => answer.debug(&fault),
     }
+}
+
+fn put_receipt(answer: &mut Answer, receipt: Receipt) {
+    match receipt {
+        Receipt::Admitted { settled } => put_count(answer, "Admitted(", settled),
+        Receipt::Parked { missing } => put_count(answer, "Parked(", missing),
+        Receipt::Dropped(rule) => {
+            answer.put("Dropped(");
+            answer.debug(&rule);
+            answer.put(")");
+        }
+        Receipt::Repeat => answer.put("Repeat"),
+    }
+}
+
+fn put_count(answer: &mut Answer, word: &str, count: u32) {
+    answer.put(word);
+    answer.number(u64::from(count));
+    answer.put(")");
 }
 
 /// Lets the node serve a peer, and tells how the session ended, how often the peer's bytes ended, and what
 /// was written.
-pub fn serve(
-    alloc: Global,
-    files: &mut MemFiles,
-    node: &mut Node,
-    peer: &str,
-    text: &mut String,
-) -> Result<(), OutOfMemory> {
-    let words: Vec<&str> = peer.split(':').collect(alloc)?;
-    match words.as_slice() {
-        [said, piece, call] => {
-            let mut door = door_of(alloc, said, piece, call)?;
-            let end = node.serve_one(&mut door, files);
-            tell_served(alloc, &door, end, text)
-        }
-        _ => word(text, "-"),
-    }
+pub fn serve(answer: &mut Answer, files: &mut MemFiles, node: &mut Node, peer: &str) {
+    let words = answer.words(peer, ':');
+    let [said, piece, call] = words.as_slice() else {
+        return answer.put("-");
+    };
+    let mut door = door_of(answer, said, piece, call);
+    let end = node.serve_one(&mut door, files);
+    put_session(answer, &door, end);
 }
 
 /// Lets the node drive a session with a peer, and tells the same and the marks then.
-pub fn drive(
-    alloc: Global,
-    files: &mut MemFiles,
-    node: &mut Node,
-    peer: &str,
-    text: &mut String,
-) -> Result<(), OutOfMemory> {
-    let words: Vec<&str> = peer.split(':').collect(alloc)?;
-    match words.as_slice() {
-        [said, piece, call, pushed, pulled] => {
-            let mut door = door_of(alloc, said, piece, call)?;
-            let mut mark = PeerMark {
-                pushed: number(pushed),
-                pulled: number(pulled),
-            };
-            let end = node.drive_one(&mut mark, "peer", &mut door, files);
-            tell_served(alloc, &door, end, text)?;
-            let PeerMark { pushed, pulled } = mark;
-            word(text, format!(in alloc; "{pushed}:{pulled}")?.as_str())
-        }
-        _ => word(text, "-"),
-    }
+pub fn drive(answer: &mut Answer, files: &mut MemFiles, node: &mut Node, peer: &str) {
+    let words = answer.words(peer, ':');
+    let [said, piece, call, pushed, pulled] = words.as_slice() else {
+        return answer.put("-");
+    };
+    let mut door = door_of(answer, said, piece, call);
+    let mut mark = PeerMark {
+        pushed: number(pushed),
+        pulled: number(pulled),
+    };
+    let end = node.drive_one(&mut mark, "peer", &mut door, files);
+    put_session(answer, &door, end);
+    let PeerMark { pushed, pulled } = mark;
+    let put = write!(answer.text, " {pushed}:{pulled}");
+    answer.keep(put);
 }
 
 /// A door with a peer that says these bytes.
-fn door_of(alloc: Global, said: &str, piece: &str, call: &str) -> Result<MemDoor, OutOfMemory> {
-    let said = bytes_of(alloc, said)?;
-    let mut door = MemDoor::in_pieces(alloc, piece.parse().unwrap_or(usize::MAX));
-    door.expect(said.as_slice())?;
+fn door_of(answer: &mut Answer, said: &str, piece: &str, call: &str) -> MemDoor {
+    let mut door = MemDoor::in_pieces(answer.alloc(), piece.parse().unwrap_or(usize::MAX));
+    expect(answer, &mut door, said);
     if let Ok(call) = call.parse() {
-        door.fail_at(call)?;
+        let planned = door.fail_at(call);
+        answer.keep(planned);
     }
-    Ok(door)
+    door
 }
 
 /// Tells what came of a session.
-fn tell_served(
-    alloc: Global,
-    door: &MemDoor,
-    end: SessionEnd,
-    text: &mut String,
-) -> Result<(), OutOfMemory> {
+fn put_session(answer: &mut Answer, door: &MemDoor, end: SessionEnd) {
     match (end, door.sessions()) {
-        (SessionEnd::OutOfMemory, _) => Err(OutOfMemory),
+        (SessionEnd::OutOfMemory, _) => answer.refuse(),
         (_, [.., session]) => {
-            let written = hex::encode(alloc, session.written())?;
             let ends = door.numbers().ends;
-            word(
-                text,
-                format!(in alloc; "{end:?}:{ends}:{written}")?.as_str(),
-            )
+            let put = write!(answer.text, "{end:?}:{ends}:");
+            answer.keep(put);
+            answer.hex(session.written());
         }
-        (_, []) => word(text, "no session"),
+        (_, []) => answer.put("no session"),
     }
 }

@@ -1,152 +1,110 @@
 //! Nodes that serve, and validators that take turns.
 
-use crate::outside::{Moments, Outside, consumer_of, outside_of};
-use crate::words::number;
+use crate::outside::{Moments, Outside, outside_of};
+use crate::runs::{SOURCES, put_consumers, put_outside, put_status};
+use hw_case_words::{Answer, number};
 use hw_io::Consumer;
-use hw_replay::StartFault;
-use hw_service::{Peer, Served, ServiceFault, Sources, run, serve};
-use hw_types::OutOfMemory;
-use std::alloc::Global;
-
-/// The files of a node.
-const SOURCES: Sources<'static> = Sources {
-    config: "CONFIG",
-    keys: "KEYS",
-    log: "LOG",
-};
+use hw_service::{Peer, run, serve};
 
 /// What comes of a service with the outside that these words tell.
-pub fn service_text(alloc: Global, words: &[&str]) -> Result<String, OutOfMemory> {
-    let mut outside = outside_of(alloc, words)?;
-    match words {
-        [_, _, _, _, plans, command, ..] => commanded(alloc, &mut outside, plans, command),
-        _ => Ok(String::new(alloc)),
+pub fn service_text(answer: &mut Answer, words: &[&str]) {
+    let mut outside = outside_of(answer, words);
+    if let [_, _, _, _, plans, command, ..] = words {
+        command_text(answer, &mut outside, plans, command);
+    }
+    put_outside(answer, &outside);
+}
+
+/// Does what the command says, with consumers of these plans, and tells the status.
+fn command_text(answer: &mut Answer, outside: &mut Outside, plans: &str, command: &str) {
+    match command.split_once(':') {
+        Some(("serve", sessions)) => serve_so_many(answer, outside, plans, number(sessions)),
+        Some((_, words)) => take_turns(answer, outside, plans, words),
+        None => answer.refuse(),
     }
 }
 
-/// What comes of this command, with consumers of these plans.
-fn commanded(
-    alloc: Global,
-    outside: &mut Outside,
-    plans: &str,
-    command: &str,
-) -> Result<String, OutOfMemory> {
-    let status = match command.split_once(':') {
-        Some(("serve", sessions)) => served(alloc, outside, plans, number(sessions))?,
-        Some(("run", words)) => ran(alloc, outside, plans, words)?,
-        _ => return Ok(String::new(alloc)),
-    };
-    told(alloc, outside, status)
-}
-
-/// The status with which a node ends that serves so many sessions, with consumers of these plans.
-fn served(
-    alloc: Global,
-    outside: &mut Outside,
-    plans: &str,
-    sessions: u64,
-) -> Result<u8, OutOfMemory> {
-    let mut consumers: Vec<Box<dyn Consumer>> = Vec::new(alloc);
-    put_consumers(alloc, &mut consumers, plans)?;
+/// A node serves so many sessions.
+fn serve_so_many(answer: &mut Answer, outside: &mut Outside, plans: &str, sessions: u64) {
+    let mut consumers: Vec<Box<dyn Consumer>> = Vec::new(answer.alloc());
+    put_consumers(answer, &mut consumers, plans);
     let Outside { files, out, door } = outside;
-    let served = serve(alloc, SOURCES, sessions, files, out, door, &mut consumers);
-    Ok(status_of(&served))
-}
-
-/// Puts a consumer of each of these plans last.
-fn put_consumers(
-    alloc: Global,
-    consumers: &mut Vec<Box<dyn Consumer>>,
-    plans: &str,
-) -> Result<(), OutOfMemory> {
-    if plans != "none" {
-        for plan in plans.split(',') {
-            consumers.push(Box::new(alloc, consumer_of(alloc, plan)?)?)?;
-        }
-    }
-    Ok(())
-}
-
-/// The status with which a validator ends that takes turns, with consumers of these plans. The words are the
-/// validator, how many peers it has, and the moment of each turn.
-fn ran(alloc: Global, outside: &mut Outside, plans: &str, words: &str) -> Result<u8, OutOfMemory> {
-    let mut consumers: Vec<Box<dyn Consumer>> = Vec::new(alloc);
-    put_consumers(alloc, &mut consumers, plans)?;
-    let numbers: Vec<u64> = words.split(':').map(number).collect(alloc)?;
-    let (me, mut peers, moments) = turns_of(alloc, numbers.as_slice())?;
-    let turns = moments.len() as u64;
-    let mut clock = Moments { moments, next: 0 };
-    let Outside { files, out, door } = outside;
-    let served = run(
-        alloc,
+    let served = serve(
+        answer.alloc(),
         SOURCES,
-        me,
-        turns,
-        &mut peers,
+        sessions,
         files,
         out,
-        &mut clock,
         door,
         &mut consumers,
     );
-    Ok(status_of(&served))
+    put_status(answer, &served);
 }
 
-/// The validator, its peers and the moments that these numbers tell.
-fn turns_of(alloc: Global, numbers: &[u64]) -> Result<(u32, Vec<Peer>, Vec<u64>), OutOfMemory> {
-    let mut peers = Vec::new(alloc);
-    match numbers {
-        [me, count, moments @ ..] => {
-            for _ in 0..*count {
-                peers.push(Peer::new(alloc, "peer")?)?;
+/// A validator takes turns. The words are the validator, how many peers it has, and the moment of each turn.
+fn take_turns(answer: &mut Answer, outside: &mut Outside, plans: &str, words: &str) {
+    let words = answer.words(words, ':');
+    if let [me, peers, moments @ ..] = words.as_slice() {
+        let mut peers = peers_of(answer, number(peers));
+        let mut clock = clock_of(answer, moments);
+        turns(answer, outside, plans, number(me), &mut peers, &mut clock);
+    }
+}
+
+/// So many peers.
+fn peers_of(answer: &mut Answer, count: u64) -> Vec<Peer> {
+    let mut peers = Vec::new(answer.alloc());
+    for _ in 0..count {
+        put_peer(answer, &mut peers);
+    }
+    peers
+}
+
+fn put_peer(answer: &mut Answer, peers: &mut Vec<Peer>) {
+    match Peer::new(answer.alloc(), "peer") {
+        Ok(peer) => {
+            if peers.push(peer).is_err() {
+                answer.refuse();
             }
-            Ok((
-                (*me % 1_024) as u32,
-                peers,
-                Vec::from_slice(alloc, moments)?,
-            ))
         }
-        _ => Ok((0, peers, Vec::new(alloc))),
+        Err(_) => answer.refuse(),
     }
 }
 
-/// The status with which a program ends that runs so.
-fn status_of(served: &Result<Served, ServiceFault>) -> u8 {
-    match served {
-        Ok(served) if served.limits > 0 => 8,
-        Ok(served) if served.link_failed => 6,
-        Ok(_) => 0,
-        Err(ServiceFault::NoValidator) => 1,
-        Err(ServiceFault::Settings(_) | ServiceFault::Keys(_)) => 2,
-        Err(ServiceFault::Log(fault)) => match fault {
-            StartFault::RecordsFull(_) | StartFault::ParkFull(_) => 8,
-            StartFault::Clash { .. } => 9,
-            _ => 2,
-        },
-        Err(ServiceFault::Read) => 4,
-        Err(ServiceFault::Append | ServiceFault::Write) => 5,
-        Err(ServiceFault::OutOfMemory) => 7,
-        Err(ServiceFault::Clash(_)) => 9,
+/// A clock that gives these moments.
+fn clock_of(answer: &mut Answer, words: &[&str]) -> Moments {
+    let mut moments = Vec::new(answer.alloc());
+    for word in words {
+        if moments.push(number(word)).is_err() {
+            answer.refuse();
+        }
     }
+    Moments { moments, next: 0 }
 }
 
-/// Tells the status, what was written, the log, and what the node wrote in each session.
-fn told(alloc: Global, outside: &Outside, status: u8) -> Result<String, OutOfMemory> {
-    let mut text = format!(in alloc; "{status} ")?;
-    for byte in outside.out.taken() {
-        text.push(if *byte == b'\n' {
-            '/'
-        } else {
-            char::from(*byte)
-        })?;
-    }
-    text.push_str(" log ")?;
-    if let Some(log) = outside.files.file("LOG") {
-        text.push_str(hex::encode(alloc, log)?.as_str())?;
-    }
-    for session in outside.door.sessions() {
-        text.push_str(" session ")?;
-        text.push_str(hex::encode(alloc, session.written())?.as_str())?;
-    }
-    Ok(text)
+/// A validator takes a turn at each moment of the clock.
+fn turns(
+    answer: &mut Answer,
+    outside: &mut Outside,
+    plans: &str,
+    me: u64,
+    peers: &mut Vec<Peer>,
+    clock: &mut Moments,
+) {
+    let mut consumers: Vec<Box<dyn Consumer>> = Vec::new(answer.alloc());
+    put_consumers(answer, &mut consumers, plans);
+    let Outside { files, out, door } = outside;
+    let served = run(
+        answer.alloc(),
+        SOURCES,
+        (me % 1_024) as u32,
+        clock.moments.len() as u64,
+        peers,
+        files,
+        out,
+        clock,
+        door,
+        &mut consumers,
+    );
+    put_status(answer, &served);
 }

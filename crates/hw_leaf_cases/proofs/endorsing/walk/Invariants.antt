@@ -1,5 +1,5 @@
 use Rattle.std.proofs.Common.{◌≡◌, length}
-use Rattle.hw_leaf_cases.proofs.endorsing.steps_text.Given as goal
+use Rattle.hw_leaf_cases.proofs.endorsing.walk.Given as goal
 
 abbrev pub invariant-loop-word : goal.invariant-loop-word
 invariant-loop-word l = length l.told.weights ≡ l.validators

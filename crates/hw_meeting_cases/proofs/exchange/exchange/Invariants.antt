@@ -1,5 +1,5 @@
 use Rattle.std.proofs.Common.{◌≡◌, ◌≤◌, true}
-use Rattle.hw_meeting_cases.proofs.exchange.exchanged.Given as goal
+use Rattle.hw_meeting_cases.proofs.exchange.exchange.Given as goal
 
 abbrev pub invariant-loop-turn : goal.invariant-loop-turn
 invariant-loop-turn g l =

@@ -1,0 +1,148 @@
+//! The answer to a line, as it is made.
+
+use crate::words::word_of;
+use hex::FromHexError;
+use hw_types::{Digest, OutOfMemory};
+use std::alloc::{AllocError, Global};
+use std::fmt::{Debug, Display};
+
+/// An answer in the making. Where memory ended, or a line isn't of the language, it is refused, which shows at its end alone: so
+/// nothing that writes an answer has to ask.
+#[derive(Drop)]
+pub struct Answer {
+    alloc: Global,
+    /// What is written so far. What is written past the methods is to be kept by `keep`.
+    pub text: String,
+    is_refused: bool,
+}
+
+impl Answer {
+    /// An answer that says nothing yet.
+    pub fn new(alloc: Global) -> Answer {
+        Answer {
+            alloc,
+            text: String::new(alloc),
+            is_refused: false,
+        }
+    }
+
+    pub fn alloc(&self) -> Global {
+        self.alloc
+    }
+
+    /// Puts the word last.
+    pub fn put(&mut self, word: &str) {
+        let put = self.text.push_str(word);
+        self.keep(put);
+    }
+
+    /// Puts the number last.
+    pub fn number(&mut self, number: u64) {
+        let put = write!(self.text, "{number}");
+        self.keep(put);
+    }
+
+    /// Puts the value last as it displays.
+    pub fn show<T: Display>(&mut self, value: &T) {
+        let put = write!(self.text, "{value}");
+        self.keep(put);
+    }
+
+    /// Puts the value last as its derive spells it.
+    pub fn debug<T: Debug>(&mut self, value: &T) {
+        let put = write!(self.text, "{value:?}");
+        self.keep(put);
+    }
+
+    /// Puts the bytes last as hexadecimal digits.
+    pub fn hex(&mut self, bytes: &[u8]) {
+        match hex::encode(self.alloc, bytes) {
+            Ok(digits) => self.put(digits.as_str()),
+            Err(_) => self.refuse(),
+        }
+    }
+
+    /// Puts the digest last as hexadecimal digits, where there was memory to find it.
+    pub fn digest(&mut self, found: Result<Digest, OutOfMemory>) {
+        match found {
+            Ok(digest) => self.hex(digest.0.as_slice()),
+            Err(_) => self.refuse(),
+        }
+    }
+
+    /// Puts the word last that the digest stands for.
+    pub fn name(&mut self, name: &Digest) {
+        match word_of(self.alloc, name) {
+            Some(word) => self.put(word.as_str()),
+            None => self.refuse(),
+        }
+    }
+
+    /// Puts each byte last as the character that it is in ASCII.
+    pub fn characters(&mut self, bytes: &[u8]) {
+        for byte in bytes {
+            let put = self.text.push(char::from(*byte));
+            self.keep(put);
+        }
+    }
+
+    /// The words of the line, with this between them; none where there is no memory for them.
+    pub fn words<'a>(&mut self, line: &'a str, between: char) -> Vec<&'a str> {
+        match split(self.alloc, line, between) {
+            Some(words) => words,
+            None => {
+                self.refuse();
+                Vec::new(self.alloc)
+            }
+        }
+    }
+
+    /// The bytes of the hexadecimal digits; none where they are no such digits, or there is no memory for them.
+    pub fn bytes(&mut self, digits: &str) -> Vec<u8> {
+        match hex::decode(self.alloc, digits) {
+            Ok(bytes) => bytes,
+            Err(fault) => {
+                if fault == FromHexError::OutOfMemory {
+                    self.refuse();
+                }
+                Vec::new(self.alloc)
+            }
+        }
+    }
+
+    /// The same text; none where there is no memory for it.
+    pub fn copy(&mut self, text: &str) -> String {
+        match text.to_string(self.alloc) {
+            Ok(text) => text,
+            Err(_) => {
+                self.refuse();
+                String::new(self.alloc)
+            }
+        }
+    }
+
+    /// The answer is refused where this was.
+    pub fn keep(&mut self, written: Result<(), AllocError>) {
+        if written.is_err() {
+            self.refuse();
+        }
+    }
+
+    /// Refuses the answer, for want of memory or since the line isn't of the language.
+    pub fn refuse(&mut self) {
+        self.is_refused = true;
+    }
+
+    /// The whole text, unless the answer is refused.
+    pub fn finish(self) -> Option<String> {
+        if self.is_refused {
+            None
+        } else {
+            Some(self.text)
+        }
+    }
+}
+
+fn split<'a>(alloc: Global, line: &'a str, between: char) -> Option<Vec<&'a str>> {
+    line.split(between).collect(alloc).ok()
+}
