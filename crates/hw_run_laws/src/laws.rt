@@ -2,6 +2,7 @@
 
 ghost use Rattle.hw_fanout.specs.Fates.{Sight};
 ghost use Rattle.hw_run_laws.specs.Complete.{ServesAreComplete, DrivesAreComplete};
+ghost use Rattle.hw_run_laws.specs.Restart.{ServedIsALife, DrivenIsALife, ServesIsALife, DrivesIsALife, ServesKeepsLog, DrivesKeepsLog, ServedSaysOfLog, DrivenSaysOfLog, ServesSaysOfLog, DrivesSaysOfLog};
 ghost use Rattle.hw_run_laws.specs.Prefixes.{StoppedReplays, CutServices, CutTurns, CutHosts, CutCalls};
 
 /// Consumers that had taken nothing, and are left where a replay or a run stops, have taken the first blocks of the
@@ -19,4 +20,27 @@ pub fn cut_runs_leave_prefixes<B, K>()
 pub fn undisturbed_sessions_are_whole()
     ensures serving { ServesAreComplete }
     ensures driving { DrivesAreComplete }
+{}
+
+/// What a session does to the journal and the log of a node is that the first of the peer's vertices reach it: so its
+/// life is one of those that start again without a second unit of one number.
+pub fn sessions_are_lives()
+    ensures served { ServedIsALife }
+    ensures driven { DrivenIsALife }
+    ensures serves { ServesIsALife }
+    ensures drives { DrivesIsALife }
+{}
+
+/// A session keeps the log of the node's journal.
+pub fn sessions_keep_the_log()
+    ensures serves { ServesKeepsLog }
+    ensures drives { DrivesKeepsLog }
+{}
+
+/// What goes out of a node in a session is of its log: a vertex that stands there, or evidence of two units that do.
+pub fn sessions_say_what_is_logged()
+    ensures served { ServedSaysOfLog }
+    ensures driven { DrivenSaysOfLog }
+    ensures serves { ServesSaysOfLog }
+    ensures drives { DrivesSaysOfLog }
 {}

@@ -1,5 +1,8 @@
 //! Laws of sessions and of runs of a node.
 //!
+//! A session is a life of the node's log, from which it starts again without a second unit of one number: the first of the
+//! peer's vertices reach the node, its log stays that of its journal, and what goes out stands there.
+//!
 //! A session that nothing outside disturbs, with a peer that sends what is due, ends as both said, or for want of memory.
 //!
 //! A run that comes to its report says itself that each consumer that is left took the whole decided chain. Of one that
@@ -8,4 +11,7 @@
 
 mod laws;
 
-pub use laws::{cut_runs_leave_prefixes, undisturbed_sessions_are_whole};
+pub use laws::{
+    cut_runs_leave_prefixes, sessions_are_lives, sessions_keep_the_log,
+    sessions_say_what_is_logged, undisturbed_sessions_are_whole,
+};

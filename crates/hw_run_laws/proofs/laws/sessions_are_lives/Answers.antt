@@ -1,0 +1,15 @@
+use Rattle.hw_run_laws.proofs.LifeLaws.{served_life, serves_life}
+use Rattle.hw_run_laws.proofs.DriverLaws.{driven_life, drives_life}
+use Rattle.hw_run_laws.proofs.laws.sessions_are_lives.Goals as goal
+
+pub returns-clause-served : goal.returns-clause-served
+returns-clause-served c = served_life
+
+pub returns-clause-driven : goal.returns-clause-driven
+returns-clause-driven c = driven_life
+
+pub returns-clause-serves : goal.returns-clause-serves
+returns-clause-serves c = serves_life
+
+pub returns-clause-drives : goal.returns-clause-drives
+returns-clause-drives c = drives_life

@@ -1,0 +1,8 @@
+use Rattle.hw_run_laws.proofs.KeepLaws.{serves_keep, drives_keep}
+use Rattle.hw_run_laws.proofs.laws.sessions_keep_the_log.Goals as goal
+
+pub returns-clause-serves : goal.returns-clause-serves
+returns-clause-serves c = serves_keep
+
+pub returns-clause-drives : goal.returns-clause-drives
+returns-clause-drives c = drives_keep

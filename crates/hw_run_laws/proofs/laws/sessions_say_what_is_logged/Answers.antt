@@ -1,0 +1,15 @@
+use Rattle.hw_run_laws.proofs.OutLaws.{served_says, serves_says}
+use Rattle.hw_run_laws.proofs.DriverLaws.{driven_says, drives_says}
+use Rattle.hw_run_laws.proofs.laws.sessions_say_what_is_logged.Goals as goal
+
+pub returns-clause-served : goal.returns-clause-served
+returns-clause-served c = served_says
+
+pub returns-clause-driven : goal.returns-clause-driven
+returns-clause-driven c = driven_says
+
+pub returns-clause-serves : goal.returns-clause-serves
+returns-clause-serves c = serves_says
+
+pub returns-clause-drives : goal.returns-clause-drives
+returns-clause-drives c = drives_says
