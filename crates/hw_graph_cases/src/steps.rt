@@ -3,7 +3,7 @@
 use crate::settling::{put_outcome, settle};
 use crate::units::INSTANCE;
 use hw_admit::State;
-use hw_case_words::{Answer, after, named, number_of};
+use hw_case_words::{Answer, after, named, number, small};
 use hw_types::{Digest, Obs, Plan, Signature, SignedUnit, WireUnit};
 use hw_validator::next_unit;
 use std::alloc::Global;
@@ -45,20 +45,20 @@ fn signed(mut unit: WireUnit) -> SignedUnit {
 /// What the validator may make at the moment that the words tell. None for want of memory, and where there is no such
 /// validator, moment or value.
 fn plan(alloc: Global, state: &State, words: &[&str]) -> Option<Option<Plan>> {
-    let (me, now, value) = (
-        number_of(words, "by"),
-        number_of(words, "at"),
-        value_of(words),
+    let (me, now) = (
+        small(word_after(words, "by")),
+        number(word_after(words, "at")),
     );
+    let value = word_after(words, "block");
     if state.config().weights.len() <= me as usize || 1 << 63 <= now || 4096 < value.len() {
         return None;
     }
-    next_unit(alloc, state, me as u32, now, value.as_bytes()).ok()
+    next_unit(alloc, state, me, now, value.as_bytes()).ok()
 }
 
-/// The value of a proposal.
-fn value_of<'a, 'b>(words: &'a [&'b str]) -> &'b str {
-    match after(words, "block") {
+/// The word behind this one, an empty one where there is none.
+fn word_after<'a, 'b>(words: &'a [&'b str], key: &str) -> &'b str {
+    match after(words, key) {
         [word, ..] => word,
         [] => "",
     }

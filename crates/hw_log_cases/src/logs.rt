@@ -2,7 +2,7 @@
 
 ghost use Rattle.std.specs.Prelude.{◌≡◌};
 ghost use Rattle.hw_io.specs.Memory.{mem_allowance};
-ghost use Rattle.hw_types.specs.Spelling.{VertexFits};
+ghost use Rattle.hw_types.specs.Spelling.{ConfigFits, VertexFits};
 ghost use Rattle.hw_log.specs.Lasts.{IsVersion};
 ghost use Rattle.hw_log.specs.Reader.{PlacesFit};
 
@@ -158,6 +158,7 @@ fn copy_from(
     places: &mut Items<u64>,
 ) -> Result<(), LogError>
     requires version { IsVersion version }
+    requires config { ConfigFits reader.old.config }
     requires places { PlacesFit reader.old (mem_allowance files.old) }
 {
     append_header(alloc, files, "COPY", version, reader.config())?;

@@ -2,6 +2,7 @@
 
 ghost use Rattle.std.specs.Prelude.{◌≡◌, length, IfOk, IfSome, None, string_bytes};
 ghost use Rattle.hw_types.specs.Limits.{config_fault};
+ghost use Rattle.hw_types.specs.Spelling.{ConfigFits};
 
 use crate::outside::{plan_files, put_log};
 use crate::peers::{accept, drive, serve};
@@ -105,7 +106,9 @@ fn start_with(
     files: &mut MemFiles,
     config: Config,
     nodes: &mut Vec<Node>,
-) {
+)
+    requires { ConfigFits config }
+{
     if config.check().is_err() {
         return answer.put("no configuration");
     }

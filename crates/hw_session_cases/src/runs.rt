@@ -1,37 +1,98 @@
-//! What services and reunions share: the files, the consumers, and what is told of a run.
+//! Runs of nodes over an outside in memory, and what is told of them.
 
-use crate::outside::{Outside, consumer_of};
+use crate::outside::{Moments, Outside, consumer_of};
 use hw_case_words::Answer;
 use hw_io::Consumer;
 use hw_replay::StartFault;
-use hw_service::{Served, ServiceFault, Sources};
+use hw_reunion::{host, meet};
+use hw_service::{Peer, Served, ServiceFault, Sources, run, serve};
+use std::alloc::Global;
 
 /// The files of a node.
-pub const SOURCES: Sources<'static> = Sources {
+const SOURCES: Sources<'static> = Sources {
     config: "CONFIG",
     keys: "KEYS",
     log: "LOG",
 };
 
-/// Puts a consumer of each of these plans last.
-pub fn put_consumers(answer: &mut Answer, consumers: &mut Vec<Box<dyn Consumer>>, plans: &str) {
+/// What a node does.
+#[derive(Drop)]
+pub enum Command {
+    /// It serves so many sessions.
+    Serve(u64),
+    /// It takes turns as a validator.
+    TakeTurns(Turns),
+    /// It is dialled by so many peers that meet it.
+    Host(u64),
+    /// It dials one peer and meets it.
+    Meet,
+}
+
+/// The turns of a validator: one at each moment of the clock, with these peers.
+#[derive(Drop)]
+pub struct Turns {
+    pub me: u32,
+    pub peers: Vec<Peer>,
+    pub clock: Moments,
+}
+
+/// Does what the command says, with consumers of these plans, and tells the status and the outside then.
+pub fn put_run(answer: &mut Answer, outside: &mut Outside, plans: &str, command: Command) {
+    let mut consumers: Vec<Box<dyn Consumer>> = Vec::new(answer.alloc());
     if plans != "none" {
         for plan in plans.split(',') {
-            put_consumer(answer, consumers, plan);
+            let consumer = consumer_of(answer, plan);
+            match Box::new(answer.alloc(), consumer) {
+                Ok(consumer) => {
+                    if consumers.push(consumer).is_err() {
+                        answer.refuse();
+                    }
+                }
+                Err(_) => answer.refuse(),
+            }
         }
+    }
+    let served = served_by(answer.alloc(), outside, &mut consumers, command);
+    answer.show(&status_of(&served));
+    put_outside(answer, outside);
+}
+
+/// How the run of a node ends.
+fn served_by(
+    alloc: Global,
+    outside: &mut Outside,
+    consumers: &mut Vec<Box<dyn Consumer>>,
+    command: Command,
+) -> Result<Served, ServiceFault> {
+    let Outside { files, out, door } = outside;
+    match command {
+        Command::Serve(sessions) => { serve(alloc, SOURCES, sessions, files, out, door, consumers) }
+        Command::TakeTurns(mut turns) => take_turns(alloc, outside, consumers, &mut turns),
+        Command::Host(sessions) => host(alloc, SOURCES, sessions, files, out, door, consumers),
+        Command::Meet => meet(alloc, SOURCES, "peer", files, out, door, consumers),
     }
 }
 
-fn put_consumer(answer: &mut Answer, consumers: &mut Vec<Box<dyn Consumer>>, plan: &str) {
-    let consumer = consumer_of(answer, plan);
-    match Box::new(answer.alloc(), consumer) {
-        Ok(consumer) => {
-            if consumers.push(consumer).is_err() {
-                answer.refuse();
-            }
-        }
-        Err(_) => answer.refuse(),
-    }
+fn take_turns(
+    alloc: Global,
+    outside: &mut Outside,
+    consumers: &mut Vec<Box<dyn Consumer>>,
+    turns: &mut Turns,
+) -> Result<Served, ServiceFault> {
+    let Outside { files, out, door } = outside;
+    let count = turns.clock.moments.len() as u64;
+    run(
+        alloc,
+        SOURCES,
+        turns.me,
+        count,
+        &mut turns.peers,
+        files,
+        out,
+        &mut turns.clock,
+        door,
+        consumers,
+    )
 }
 
 /// The status with which a program ends that runs so.
@@ -54,13 +115,8 @@ fn status_of(served: &Result<Served, ServiceFault>) -> u8 {
     }
 }
 
-/// Tells the status.
-pub fn put_status(answer: &mut Answer, served: &Result<Served, ServiceFault>) {
-    answer.show(&status_of(served));
-}
-
 /// Tells what was written, the log, and what the node wrote in each session.
-pub fn put_outside(answer: &mut Answer, outside: &Outside) {
+fn put_outside(answer: &mut Answer, outside: &Outside) {
     answer.put(" ");
     put_lines(answer, outside.out.taken());
     answer.put(" log ");
