@@ -6,3 +6,4 @@ pub mod LifeLaws
 pub mod KeepLaws
 pub mod OutLaws
 pub mod DriverLaws
+pub mod CallLaws

@@ -179,7 +179,7 @@ module _ (c : CoreState) where
 abbrev pub Grows : NodeState → NodeState → Type 0
 Grows n m = (v : Vertex) → Among v n.core.journal → Among v m.core.journal
 
-goes_later : (n m : NodeState) → Grows n m → (v : Vertex) → MayGoOut (logged_of n) v → MayGoOut (logged_of m) v
+pub goes_later : (n m : NodeState) → Grows n m → (v : Vertex) → MayGoOut (logged_of n) v → MayGoOut (logged_of m) v
 goes_later n m grows v (inl k) = inl (grows v k)
 goes_later n m grows v (inr (e, is, left, right)) = inr (e, is, grows (vertex.Unit e.left) left, grows (vertex.Unit e.right) right)
 

@@ -1,3 +1,4 @@
+pub mod Calls
 pub mod Complete
 pub mod Prefixes
 pub mod Restart

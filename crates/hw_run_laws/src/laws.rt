@@ -1,6 +1,7 @@
 //! The laws.
 
 ghost use Rattle.hw_fanout.specs.Fates.{Sight};
+ghost use Rattle.hw_run_laws.specs.Calls.{CallsKeepOneLine, CallsKeepApart};
 ghost use Rattle.hw_run_laws.specs.Complete.{ServesAreComplete, DrivesAreComplete};
 ghost use Rattle.hw_run_laws.specs.Restart.{ServedIsALife, DrivenIsALife, ServesIsALife, DrivesIsALife, ServesKeepsLog, DrivesKeepsLog, ServedSaysOfLog, DrivenSaysOfLog, ServesSaysOfLog, DrivesSaysOfLog};
 ghost use Rattle.hw_run_laws.specs.Prefixes.{StoppedReplays, CutServices, CutTurns, CutHosts, CutCalls};
@@ -43,4 +44,12 @@ pub fn sessions_say_what_is_logged()
     ensures driven { DrivenSaysOfLog }
     ensures serves { ServesSaysOfLog }
     ensures drives { DrivesSaysOfLog }
+{}
+
+/// A node that begins with its own units on one line and the log of its journal keeps both through any calls of
+/// `make`, sessions with fair peers and starts, where no append fails and there is memory; and no two different units
+/// by it of one number ever stood in its log or went out.
+pub fn calls_keep_one_line()
+    ensures kept { CallsKeepOneLine }
+    ensures apart { CallsKeepApart }
 {}
