@@ -1,5 +1,7 @@
 //! Runs of nodes over an outside in memory, and what is told of them.
 
+ghost use Rattle.std.specs.Prelude.{◌≤◌, length};
+
 use crate::outside::{Moments, Outside, consumer_of};
 use hw_case_words::Answer;
 use hw_io::Consumer;
@@ -63,7 +65,10 @@ fn served_by(
     outside: &mut Outside,
     consumers: &mut Vec<Box<dyn Consumer>>,
     command: Command,
-) -> Result<Served, ServiceFault> {
+) -> Result<Served, ServiceFault>
+    // It asks for nothing. With a `requires` the proof is for whatever consumers the caller has.
+    requires { 0 ≤ length consumers.old.items }
+{
     let Outside { files, out, door } = outside;
     match command {
         Command::Serve(sessions) => { serve(alloc, SOURCES, sessions, files, out, door, consumers) }
@@ -78,7 +83,10 @@ fn take_turns(
     outside: &mut Outside,
     consumers: &mut Vec<Box<dyn Consumer>>,
     turns: &mut Turns,
-) -> Result<Served, ServiceFault> {
+) -> Result<Served, ServiceFault>
+    // It asks for nothing, as above.
+    requires { 0 ≤ length consumers.old.items }
+{
     let Outside { files, out, door } = outside;
     let count = turns.clock.moments.len() as u64;
     run(

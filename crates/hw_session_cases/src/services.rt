@@ -25,14 +25,17 @@ fn command_of(answer: &mut Answer, word: &str) -> Command {
 /// The turns that these words tell: the validator, how many peers it has, and the moment of each turn.
 fn turns_of(answer: &mut Answer, words: &str) -> Turns {
     let words = answer.words(words, ':');
-    let (me, peers, moments) = match words.as_slice() {
-        [me, peers, moments @ ..] => (number(me), number(peers), moments),
-        _ => (0, 0, words.as_slice()),
-    };
-    Turns {
-        me: (me % 1_024) as u32,
-        peers: peers_of(answer, peers),
-        clock: clock_of(answer, moments),
+    match words.as_slice() {
+        [me, peers, moments @ ..] => Turns {
+            me: (number(me) % 1_024) as u32,
+            peers: peers_of(answer, number(peers)),
+            clock: clock_of(answer, moments),
+        },
+        _ => Turns {
+            me: 0,
+            peers: peers_of(answer, 0),
+            clock: clock_of(answer, &[]),
+        },
     }
 }
 
