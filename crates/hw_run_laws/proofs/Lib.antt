@@ -7,3 +7,4 @@ pub mod KeepLaws
 pub mod OutLaws
 pub mod DriverLaws
 pub mod CallLaws
+pub mod CutLaws

@@ -1,18 +1,23 @@
 -- What sessions do to a node with a log from which it starts again: the statements.
 -- Source: ours.
-use Rattle.std.specs.Prelude.{◌≡◌, ℕ, Bool, IsTrue, List, take, map, filter_map, Option, Some, None}
+use Rattle.std.specs.Prelude.{◌≡◌, ◌≢◌, ◌⊎◌, ℕ, ◌<◌, Bool, true, IsTrue, List, ◌++◌, length, take, map, filter_map, Option, Some, None, Result, Err}
 use Rattle.hw_types.specs.declared.unit.Vertex.{Vertex}
 use Rattle.hw_types.specs.declared.answers.Frame.{Frame}
 use Rattle.hw_types.specs.declared.answers.Frame.TheVariants as frame
+use Rattle.hw_types.specs.declared.answers.Plan.{Plan}
 use Rattle.hw_types.specs.Below.{Among}
-use Rattle.hw_types.specs.Real.{setting_of}
+use Rattle.hw_types.specs.Journal.{is_accepted}
+use Rattle.hw_types.specs.Real.{setting_of, answer_in}
 use Rattle.hw_keys.specs.Signed.{verdict_of}
 use Rattle.hw_honest.specs.Restart.{Logged, Event, take as arrives, life_of, MayGoOut}
 use Rattle.hw_link.specs.declared.end.SessionEnd.{SessionEnd}
 use Rattle.hw_link.specs.declared.end.SessionEnd.TheVariants as end
 use Rattle.hw_link.specs.Frames.{Placed, frames_of}
 use Rattle.hw_session.specs.declared.stage.PeerMark.{PeerMark}
-use Rattle.hw_session.specs.Node.{NodeState}
+use Rattle.hw_session.specs.declared.fault.MakeFault.{MakeFault}
+use Rattle.hw_session.specs.declared.fault.MakeFault.TheVariants as fault
+use Rattle.hw_session.specs.Node.{NodeState, IsKept}
+use Rattle.hw_session.specs.Make.{planned_by, entry_for, Makes, WritesOwn}
 use Rattle.hw_session.specs.Restart.{HasLog, logged_of}
 use Rattle.hw_session.specs.Serving.{served}
 use Rattle.hw_session.specs.Sessions.{Serves}
@@ -87,6 +92,45 @@ ServesKeepsLog = (n m : NodeState) (read written : List ℕ) (tells : Bool) (hel
 abbrev pub DrivesKeepsLog : Type 0
 DrivesKeepsLog = (n m : NodeState) (mark now : PeerMark) (read written : List ℕ) (tells : Bool) (held_old held_new : List ℕ → Option (List ℕ)) (ends_old ends_new : ℕ) (e : SessionEnd)
     → Drives n mark read written m now tells held_old held_new ends_old ends_new e → IsLogged e → IsTrue tells → HasLog n (held_old n.log) → HasLog m (held_new m.log)
+
+-- ---- sessions that were cut
+
+-- the file holds the node's log, and behind it a first part of the entry of a vertex that the node accepts
+pub record HasCutLog (n : NodeState) (file : Option (List ℕ)) : Type 0 where
+  pub whole : List ℕ
+  pub vertex : Vertex
+  pub count : ℕ
+  pub has : HasLog n (Some whole)
+  pub accepted : is_accepted (answer_in n.core vertex true) ≡ true
+  pub holds : file ≡ Some (whole ++ take count (entry_for n vertex))
+
+-- so it does, or it holds the node's log alone
+abbrev pub HasLogOrCut : NodeState → Option (List ℕ) → Type 0
+HasLogOrCut n file = HasLog n file ⊎ HasCutLog n file
+
+-- the file holds the log of a node that the first of these bytes left, which may be cut in the entry behind it
+pub record LeavesLog (n : NodeState) (read : List ℕ) (file : Option (List ℕ)) : Type 0 where
+  pub first : List ℕ
+  pub part : List ℕ
+  pub before : NodeState
+  pub split : read ≡ first ++ part
+  pub takes : TakesSome n (vertices_sent first) before
+  pub log : HasLogOrCut before file
+
+-- However a session ends, what it leaves in the files is such a log, where the node serves,
+abbrev pub ServesLeavesLog : Type 0
+ServesLeavesLog = (n m : NodeState) (read written : List ℕ) (tells : Bool) (held_old held_new : List ℕ → Option (List ℕ)) (ends_old ends_new : ℕ) (e : SessionEnd)
+    → Serves n read written m tells held_old held_new ends_old ends_new e → IsTrue tells → HasLog n (held_old n.log) → LeavesLog n read (held_new n.log)
+
+-- where it drives,
+abbrev pub DrivesLeavesLog : Type 0
+DrivesLeavesLog = (n m : NodeState) (mark now : PeerMark) (read written : List ℕ) (tells : Bool) (held_old held_new : List ℕ → Option (List ℕ)) (ends_old ends_new : ℕ) (e : SessionEnd)
+    → Drives n mark read written m now tells held_old held_new ends_old ends_new e → IsTrue tells → HasLog n (held_old n.log) → LeavesLog n read (held_new n.log)
+
+-- and, with memory, where it makes a unit: the log is that of the node after `make` or before it, or the latter cut in the unit's entry.
+abbrev pub MakeLeavesLog : Type 0
+MakeLeavesLog = (n m : NodeState) (me now : ℕ) (value : List ℕ) (result : Result (Option Plan) MakeFault) (old new : List ℕ → Option (List ℕ)) → IsKept n → me < length n.core.config.weights
+    → Makes n (planned_by n me now value) m result → WritesOwn n (planned_by n me now value) old new result → result ≢ Err fault.OutOfMemory → HasLog n (old n.log) → HasLog m (new n.log) ⊎ HasLogOrCut n (new n.log)
 
 -- ---- what goes out
 

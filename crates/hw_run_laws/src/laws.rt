@@ -3,7 +3,7 @@
 ghost use Rattle.hw_fanout.specs.Fates.{Sight};
 ghost use Rattle.hw_run_laws.specs.Calls.{CallsKeepOneLine, CallsKeepApart};
 ghost use Rattle.hw_run_laws.specs.Complete.{ServesAreComplete, DrivesAreComplete};
-ghost use Rattle.hw_run_laws.specs.Restart.{ServedIsALife, DrivenIsALife, ServesIsALife, DrivesIsALife, ServesKeepsLog, DrivesKeepsLog, ServedSaysOfLog, DrivenSaysOfLog, ServesSaysOfLog, DrivesSaysOfLog};
+ghost use Rattle.hw_run_laws.specs.Restart.{ServedIsALife, DrivenIsALife, ServesIsALife, DrivesIsALife, ServesKeepsLog, DrivesKeepsLog, ServesLeavesLog, DrivesLeavesLog, MakeLeavesLog, ServedSaysOfLog, DrivenSaysOfLog, ServesSaysOfLog, DrivesSaysOfLog};
 ghost use Rattle.hw_run_laws.specs.Prefixes.{StoppedReplays, CutServices, CutTurns, CutHosts, CutCalls};
 
 /// Consumers that had taken nothing, and are left where a replay or a run stops, have taken the first blocks of the
@@ -52,4 +52,12 @@ pub fn sessions_say_what_is_logged()
 pub fn calls_keep_one_line()
     ensures kept { CallsKeepOneLine }
     ensures apart { CallsKeepApart }
+{}
+
+/// A call that is cut short leaves the log of a node that a part of the call made, behind which a first part of one
+/// entry more may stand.
+pub fn cut_calls_leave_a_log()
+    ensures serves { ServesLeavesLog }
+    ensures drives { DrivesLeavesLog }
+    ensures makes { MakeLeavesLog }
 {}
