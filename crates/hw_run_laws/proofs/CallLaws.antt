@@ -1,34 +1,31 @@
 -- A node keeps its line and its log through its calls and its starts.
-use Rattle.std.specs.Prelude.{take, map}
+use Rattle.std.specs.Prelude.{take}
 use Rattle.std.specs.List.{All}
-use Rattle.std.proofs.Common.{◌≡◌, ◌⊎◌, ℕ, zero, suc, ◌<◌, Bool, true, List, [], ◌∷◌, ◌++◌, length, Option, Some, None, Result, Ok, Err, inl, inr, refl, sym, ap, subst, ◌∙◌}
+use Rattle.std.proofs.Common.{◌≡◌, ℕ, zero, suc, ◌<◌, true, List, [], ◌∷◌, length, Option, Some, None, Result, Ok, inl, inr, refl, sym, ap, subst, ◌∙◌}
 use Rattle.std.proofs.lemmas.List.Elements.{All-nil, All-cons}
 use Rattle.hw_types.specs.declared.config.Config.{Config}
 use Rattle.hw_types.specs.declared.unit.Signature.{Signature}
-use Rattle.hw_types.specs.declared.unit.SignedUnit.{SignedUnit}
 use Rattle.hw_types.specs.declared.unit.Vertex.{Vertex}
 use Rattle.hw_types.specs.declared.answers.Plan.{Plan}
 use Rattle.hw_types.specs.Below.{Among}
-use Rattle.hw_types.specs.Culprits.{signed_in}
 use Rattle.hw_types.specs.Journal.{Setting, journal_of}
 use Rattle.hw_types.specs.Real.{CoreState, setting_of}
 use Rattle.hw_codec.specs.Ranges.{VertexInRange}
 use Rattle.hw_types.specs.Spelling.{VertexFits}
-use Rattle.hw_log.specs.declared.entry.LogEntry.{LogEntry}
-use Rattle.hw_log.specs.Lasts.{LastUnits, IsVersion}
+use Rattle.hw_log.specs.Lasts.{IsVersion}
 use Rattle.hw_log.specs.Spelled.{EntryFits}
 use Rattle.hw_core.proofs.EndLaws.{all_at}
 use Rattle.hw_honest.specs.OneLine.{OneLine}
-use Rattle.hw_honest.specs.Restart.{Logged, Event, make, restart, trusted, after_event, life_of, AreFair, MayGoOut}
+use Rattle.hw_honest.specs.Restart.{Logged, Event, make, restart, trusted, after_event, life_of, AreFair}
 use Rattle.hw_honest.specs.Laws.{IsSafeToStart}
 use Rattle.hw_honest.proofs.ReplayLaws.{replay_gives_back}
 use Rattle.hw_honest.proofs.RestartLaws.{kept_life, log_grows, out_apart}
 use Rattle.hw_replay.specs.declared.fault.StartFault.{StartFault}
 use Rattle.hw_replay.specs.Taken.{Taken}
 use Rattle.hw_replay.specs.Replay.{replay_of}
-use Rattle.hw_replay.specs.Ends.{IsReached, lasts_of_file}
+use Rattle.hw_replay.specs.Ends.{lasts_of_file}
 use Rattle.hw_session.specs.Node.{NodeState, IsKept}
-use Rattle.hw_session.specs.Make.{own_vertex, planned_by, with_entry, Makes}
+use Rattle.hw_session.specs.Make.{planned_by, Makes}
 use Rattle.hw_session.specs.Restart.{true_entries, journal_log, journal_lasts, GivesBack, HasLog, logged_of}
 use Rattle.hw_session.specs.Start.{taken_of, GoesOn}
 use Rattle.hw_session.proofs.MakeLaws.{journal_is}
@@ -53,7 +50,7 @@ first_fair s me l n (suc k) (v ∷ vs) (one, rest) = (one, first_fair s me (life
 -- ---- a start from the log
 
 -- each entry of a sound node's journal keeps its limits
-entries_fit : (vs : List Vertex) → ((v : Vertex) → Among v vs → VertexInRange v × VertexFits v) → All EntryFits (true_entries vs)
+pub entries_fit : (vs : List Vertex) → ((v : Vertex) → Among v vs → VertexInRange v × VertexFits v) → All EntryFits (true_entries vs)
 entries_fit [] fit = All-nil EntryFits
 entries_fit (v ∷ vs) fit = All-cons EntryFits (record { at = 0; verdict = true; vertex = v }) (true_entries vs) (fit v (inl refl)) (entries_fit vs (λ w m. fit w (inr m)))
 
@@ -61,7 +58,7 @@ module _ (n : NodeState) (sound : IsSound n) where
   reached : n.core.journal ≡ journal_of (setting_of n.core.config) sound.kept.reached.deliveries
   reached = journal_is n.core sound.kept.reached
 
-  fits : All EntryFits (true_entries n.core.journal)
+  pub fits : All EntryFits (true_entries n.core.journal)
   fits = entries_fit n.core.journal (λ v m. (all_at VertexInRange n.core.journal sound.vertices v m, sound.kept.reached.fit v m))
 
   gives_back : (version : ℕ) → IsVersion version → GivesBack version n.core.config n.core.journal

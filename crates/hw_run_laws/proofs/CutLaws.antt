@@ -1,10 +1,9 @@
 -- What a call that was cut leaves in the log.
 use Rattle.std.specs.Prelude.{IsSome, take}
-use Rattle.std.proofs.Common.{◌≡◌, ◌⊎◌, ℕ, ◌<◌, ◌≢◌, Bool, true, List, [], ◌∷◌, ◌++◌, length, Option, Some, None, Result, Ok, Err, IsTrue, inl, inr, refl, sym, ap, subst, ◌∙◌, append-nil}
+use Rattle.std.proofs.Common.{◌≡◌, ◌⊎◌, ℕ, ◌<◌, ◌≢◌, Bool, true, List, [], ◌++◌, length, Option, Some, None, Result, Ok, Err, IsTrue, inl, inr, refl, sym, ap, subst, ◌∙◌, append-nil}
 use Rattle.std.proofs.lemmas.List.{append_assoc}
 use Rattle.hw_types.specs.declared.unit.Vertex.{Vertex}
 use Rattle.hw_types.specs.declared.answers.Plan.{Plan}
-use Rattle.hw_types.specs.Limits.{config_fault}
 use Rattle.hw_types.specs.Journal.{is_accepted}
 use Rattle.hw_types.specs.Real.{setting_of, answer_in}
 use Rattle.hw_types.proofs.OrderLaws.{verdict_is}
@@ -16,14 +15,14 @@ use Rattle.hw_session.specs.declared.stage.PeerMark.{PeerMark}
 use Rattle.hw_session.specs.declared.fault.MakeFault.{MakeFault}
 use Rattle.hw_session.specs.declared.fault.MakeFault.TheVariants as fault
 use Rattle.hw_session.specs.Node.{NodeState, IsKept}
-use Rattle.hw_session.specs.Make.{planned_by, own_vertex, entry_for, with_entry, IsToMake, IsAStep, Makes, WritesOwn}
+use Rattle.hw_session.specs.Make.{planned_by, own_vertex, entry_for, IsToMake, Makes, WritesOwn}
 use Rattle.hw_session.specs.Accept.{IsTakenIn}
 use Rattle.hw_session.specs.Restart.{journal_log, HasLog}
 use Rattle.hw_session.specs.Grows.{entries_for, Logs, LogsAllBut}
 use Rattle.hw_session.specs.Serving.{served}
-use Rattle.hw_session.specs.Sessions.{Serves, StandsBefore, StandsCut, Leaves}
+use Rattle.hw_session.specs.Sessions.{StandsBefore, StandsCut, Leaves}
 use Rattle.hw_session.specs.Driving.{driven}
-use Rattle.hw_session.specs.Drives.{Drives, StandsDriven, StandsDrivenCut, LeavesDriven}
+use Rattle.hw_session.specs.Drives.{StandsDriven, StandsDrivenCut, LeavesDriven}
 use Rattle.hw_session.proofs.ConfigLaws.{driven_config}
 use Rattle.hw_session.proofs.MakeLaws.{own_accepted}
 use Rattle.hw_session.proofs.RestartLaws.{make_keeps_log}

@@ -1,6 +1,6 @@
 -- What a session that a node drives leaves is a life of the node, and what it says is of its log.
 use Rattle.std.specs.Prelude.{◌==◌, take, drop}
-use Rattle.std.proofs.Common.{◌≡◌, ◌⊎◌, ℕ, zero, suc, Bool, true, false, cond, List, [], ◌∷◌, Option, Some, None, Result, Ok, Err, inl, inr, refl, sym, ap, subst, ◌∙◌}
+use Rattle.std.proofs.Common.{◌≡◌, ◌⊎◌, ℕ, zero, suc, Bool, true, false, cond, List, [], ◌∷◌, Option, Some, None, Result, Ok, Err, inl, inr, refl, sym, ap, subst}
 use Rattle.hw_types.specs.declared.unit.Vertex.{Vertex}
 use Rattle.hw_types.specs.declared.unit.Need.{Need}
 use Rattle.hw_types.specs.declared.answers.Frame.{Frame}
@@ -21,10 +21,10 @@ use Rattle.hw_session.specs.Node.{NodeState}
 use Rattle.hw_session.specs.Restart.{logged_of}
 use Rattle.hw_session.specs.Accept.{given_to, taken_by}
 use Rattle.hw_session.specs.Driving.{Driver, hello, greeting, leave, want_some, want, pull, push_first, push, to_push, with_pushed, with_pulled, not_due, after_vertex, drive_told, drive_step, driven}
-use Rattle.hw_session.specs.Drives.{Drives, LeavesDriven}
+use Rattle.hw_session.specs.Drives.{LeavesDriven}
 use Rattle.hw_run_laws.specs.Restart.{vertex_in, TakesSome, vertices_sent, SaysOfLog, DrivenIsALife, DrivenSaysOfLog, IsLogged, DrivesIsALife, DrivesSaysOfLog}
 use Rattle.hw_run_laws.proofs.LifeLaws.{Acts, talk_takes}
-use Rattle.hw_run_laws.proofs.OutLaws.{among_drop, Grows, Speaks, quiet, quiet_speaks, taken_grows, said_first, talk_says}
+use Rattle.hw_run_laws.proofs.OutLaws.{among_drop, Speaks, quiet, quiet_speaks, taken_grows, said_first, talk_says}
 
 -- ---- what a node that drives waits for
 

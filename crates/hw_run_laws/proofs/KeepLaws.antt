@@ -9,14 +9,13 @@ use Rattle.hw_log.specs.Lasts.{LastUnits, no_lasts, lasts_after}
 use Rattle.hw_log.specs.Log.{header_bytes, entry_bytes, entries_bytes, lasts_behind}
 use Rattle.hw_link.specs.declared.end.SessionEnd.{SessionEnd}
 use Rattle.hw_link.specs.declared.end.SessionEnd.TheVariants as end
-use Rattle.hw_session.specs.declared.stage.PeerMark.{PeerMark}
 use Rattle.hw_session.specs.Node.{NodeState}
 use Rattle.hw_session.specs.Restart.{true_entries, journal_log, journal_lasts, HasLog}
 use Rattle.hw_session.specs.Grows.{GrowsBy, entries_for, Gains, Logs}
 use Rattle.hw_session.specs.Serving.{served}
-use Rattle.hw_session.specs.Sessions.{Serves, Leaves}
+use Rattle.hw_session.specs.Sessions.{Leaves}
 use Rattle.hw_session.specs.Driving.{driven}
-use Rattle.hw_session.specs.Drives.{Drives, LeavesDriven}
+use Rattle.hw_session.specs.Drives.{LeavesDriven}
 use Rattle.hw_session.proofs.ConfigLaws.{driven_config}
 use Rattle.hw_service.proofs.GrowLaws.{served_config}
 use Rattle.hw_run_laws.specs.Restart.{IsLogged, ServesKeepsLog, DrivesKeepsLog}

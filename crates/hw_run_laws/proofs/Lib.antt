@@ -8,3 +8,4 @@ pub mod OutLaws
 pub mod DriverLaws
 pub mod CallLaws
 pub mod CutLaws
+pub mod MendLaws

@@ -1,6 +1,6 @@
 -- What a session leaves is a life of the node.
-use Rattle.std.specs.Prelude.{◌==◌, fold, filter_map, take, drop, map}
-use Rattle.std.proofs.Common.{◌≡◌, ◌⊎◌, ℕ, zero, suc, Bool, true, false, cond, List, [], ◌∷◌, ◌++◌, Option, Some, None, Result, Ok, Err, inl, inr, refl, sym, ap, subst, ◌∙◌}
+use Rattle.std.specs.Prelude.{◌==◌, take, map}
+use Rattle.std.proofs.Common.{◌≡◌, ◌⊎◌, ℕ, suc, Bool, true, false, cond, List, [], ◌∷◌, ◌++◌, Option, Some, None, Result, Ok, Err, inl, inr, refl, sym, ap, subst, ◌∙◌}
 use Rattle.hw_types.specs.declared.config.Config.{Config}
 use Rattle.hw_types.specs.declared.unit.Vertex.{Vertex}
 use Rattle.hw_types.specs.declared.answers.Frame.{Frame}
@@ -18,12 +18,12 @@ use Rattle.hw_honest.specs.Restart.{Logged, Event, take as arrives, after_event,
 use Rattle.hw_link.specs.declared.end.SessionEnd.{SessionEnd}
 use Rattle.hw_link.specs.declared.end.SessionEnd.TheVariants as end
 use Rattle.hw_link.specs.Frames.{Placed, frames_of}
-use Rattle.hw_link.specs.Talk.{Reaction, Talk, goes_on, ends, with_reaction, talk}
+use Rattle.hw_link.specs.Talk.{Reaction, goes_on, ends, with_reaction, talk}
 use Rattle.hw_session.specs.Node.{NodeState}
 use Rattle.hw_session.specs.Restart.{logged_of}
 use Rattle.hw_session.specs.Accept.{given_to, taken_by}
 use Rattle.hw_session.specs.Serving.{is_clash, answer_to_vertex, serve_first, serve_frame, serve_step, served}
-use Rattle.hw_session.specs.Sessions.{Serves, Leaves}
+use Rattle.hw_session.specs.Sessions.{Leaves}
 use Rattle.hw_session.proofs.ConfigLaws.{taken_config}
 use Rattle.hw_run_laws.specs.Restart.{vertex_in, vertices_among, vertices_sent, arrivals, LivesOn, TakesSome, ServedIsALife, IsLogged, ServesIsALife}
 

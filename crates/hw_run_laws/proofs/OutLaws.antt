@@ -1,8 +1,8 @@
 -- What a node says in a session is of its log.
-use Rattle.std.specs.Prelude.{◌==◌, ◌+◌, filter, filter_map, take, drop, map, length}
+use Rattle.std.specs.Prelude.{◌==◌, ◌+◌, filter_map, take, drop, map, length}
 use Rattle.std.specs.List.{flat_map}
 use Rattle.std.specs.Option.{option_or, option_and_then}
-use Rattle.std.proofs.Common.{◌≡◌, ◌⊎◌, ℕ, zero, suc, Bool, true, false, cond, List, [], ◌∷◌, ◌++◌, Option, Some, None, Result, Ok, Err, inl, inr, refl, sym, ap, subst, ◌∙◌}
+use Rattle.std.proofs.Common.{◌≡◌, ℕ, zero, suc, Bool, true, false, cond, List, [], ◌∷◌, ◌++◌, Option, Some, None, Result, Ok, Err, inl, inr, refl, sym, ap, subst, ◌∙◌}
 use Rattle.hw_types.specs.declared.unit.Digest.{Digest}
 use Rattle.hw_types.specs.declared.unit.SignedUnit.{SignedUnit}
 use Rattle.hw_types.specs.declared.unit.Evidence.{Evidence}
@@ -37,7 +37,7 @@ use Rattle.hw_session.specs.Node.{NodeState}
 use Rattle.hw_session.specs.Restart.{logged_of}
 use Rattle.hw_session.specs.Accept.{given_to, taken_by}
 use Rattle.hw_session.specs.Serving.{is_clash, wanted_by, part_from, answer_to_have, answer_to_vertex, sent_for, answer_to_want, serve_first, serve_frame, serve_step, served}
-use Rattle.hw_session.specs.Sessions.{Serves, Leaves}
+use Rattle.hw_session.specs.Sessions.{Leaves}
 use Rattle.hw_session.proofs.ConfigLaws.{talk_keeps}
 use Rattle.hw_run_laws.specs.Restart.{vertex_in, SaysOfLog, ServedSaysOfLog, IsLogged, ServesSaysOfLog}
 

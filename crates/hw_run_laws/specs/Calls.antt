@@ -1,6 +1,6 @@
 -- A node with a log through its calls, its stops and its starts: the statements.
 -- Source: ours.
-use Rattle.std.specs.Prelude.{◌≡◌, ℕ, ◌<◌, true, List, [], ◌∷◌, length, Option, Some, Ok}
+use Rattle.std.specs.Prelude.{◌≡◌, ◌⊎◌, ℕ, ◌<◌, true, List, [], ◌∷◌, length, Option, Some, Ok}
 use Rattle.std.specs.List.{All}
 use Rattle.hw_types.specs.declared.unit.SignedUnit.{SignedUnit}
 use Rattle.hw_types.specs.declared.unit.Vertex.{Vertex}
@@ -8,18 +8,22 @@ use Rattle.hw_types.specs.declared.answers.Plan.{Plan}
 use Rattle.hw_types.specs.Below.{Among}
 use Rattle.hw_types.specs.Culprits.{signed_in}
 use Rattle.hw_types.specs.Real.{setting_of}
+use Rattle.hw_types.specs.Spelling.{VertexFits}
+use Rattle.hw_io.specs.Files.{bytes_of}
 use Rattle.hw_codec.specs.Ranges.{ConfigInRange, VertexInRange}
 use Rattle.hw_honest.specs.OneLine.{OneLine}
 use Rattle.hw_honest.specs.Restart.{AreFair, MayGoOut}
 use Rattle.hw_link.specs.declared.end.SessionEnd.{SessionEnd}
+use Rattle.hw_rewrite.specs.declared.whole.Rewritten.{Rewritten}
+use Rattle.hw_rewrite.specs.Rewritten.{mended_of}
 use Rattle.hw_session.specs.declared.stage.PeerMark.{PeerMark}
 use Rattle.hw_session.specs.Node.{NodeState, IsKept}
-use Rattle.hw_session.specs.Make.{planned_by, Makes, WritesOwn}
+use Rattle.hw_session.specs.Make.{planned_by, with_entry, Makes, WritesOwn}
 use Rattle.hw_session.specs.Restart.{HasLog, logged_of}
 use Rattle.hw_session.specs.Sessions.{Serves}
 use Rattle.hw_session.specs.Drives.{Drives}
 use Rattle.hw_session.specs.Start.{GoesOn}
-use Rattle.hw_run_laws.specs.Restart.{vertices_sent, arrivals, IsLogged}
+use Rattle.hw_run_laws.specs.Restart.{vertices_sent, arrivals, IsLogged, HasCutLog}
 
 -- ---- calls
 
@@ -72,3 +76,15 @@ abbrev pub CallsKeepApart : Type 0
 CallsKeepApart = (me : ℕ) (a : Standing) (more : List Standing) → me < length a.node.core.config.weights → IsSound a.node → IsReady me a → AreCalls me a more
     → (v w : Vertex) → WentOut (a ∷ more) v → WentOut (a ∷ more) w
     → (x y : SignedUnit) → Among x (signed_in v) → Among y (signed_in w) → x.unit.creator ≡ me → y.unit.creator ≡ me → x.unit.seq ≡ y.unit.seq → x.unit ≡ y.unit
+
+-- ---- a log that was cut
+
+-- the file mended is the node's log
+pub record MendsTo (n : NodeState) (file : Option (List ℕ)) : Type 0 where
+  pub mended : Rewritten
+  pub is : mended_of (bytes_of file) ≡ Ok mended
+  pub log : HasLog n (Some mended.bytes)
+
+-- A log that was cut in the entry behind it, mended, is the node's log, or where all of that entry stands the log of the node with its vertex.
+abbrev pub CutLogIsMended : Type 0
+CutLogIsMended = (n : NodeState) (file : Option (List ℕ)) → IsSound n → (cut : HasCutLog n file) → VertexInRange cut.vertex → VertexFits cut.vertex → MendsTo n file ⊎ MendsTo (with_entry n cut.vertex) file

@@ -1,7 +1,7 @@
 //! The laws.
 
 ghost use Rattle.hw_fanout.specs.Fates.{Sight};
-ghost use Rattle.hw_run_laws.specs.Calls.{CallsKeepOneLine, CallsKeepApart};
+ghost use Rattle.hw_run_laws.specs.Calls.{CallsKeepOneLine, CallsKeepApart, CutLogIsMended};
 ghost use Rattle.hw_run_laws.specs.Complete.{ServesAreComplete, DrivesAreComplete};
 ghost use Rattle.hw_run_laws.specs.Restart.{ServedIsALife, DrivenIsALife, ServesIsALife, DrivesIsALife, ServesKeepsLog, DrivesKeepsLog, ServesLeavesLog, DrivesLeavesLog, MakeLeavesLog, ServedSaysOfLog, DrivenSaysOfLog, ServesSaysOfLog, DrivesSaysOfLog};
 ghost use Rattle.hw_run_laws.specs.Prefixes.{StoppedReplays, CutServices, CutTurns, CutHosts, CutCalls};
@@ -60,4 +60,9 @@ pub fn cut_calls_leave_a_log()
     ensures serves { ServesLeavesLog }
     ensures drives { DrivesLeavesLog }
     ensures makes { MakeLeavesLog }
+{}
+
+/// A log that a call left cut, mended, is the log of a node that goes on.
+pub fn a_cut_log_is_mended()
+    ensures { CutLogIsMended }
 {}
