@@ -7,7 +7,7 @@ use crate::door::DoorNumbers;
 use crate::outside::{Door, IoFault};
 use std::io;
 use std::io::{Read, Write};
-use std::net::{Net, OpenListener, OpenStream, TcpListener, TcpStream, ToSocketAddrs};
+use std::net::{Net, OpenListener, OpenStream, Shutdown, TcpListener, TcpStream, ToSocketAddrs};
 use std::time::Duration;
 
 /// How many seconds a call of `dial` waits for one address of a peer.
@@ -16,11 +16,18 @@ const DIAL_SECONDS: u64 = 10;
 /// How many seconds a read or a write waits for the peer.
 const PEER_SECONDS: u64 = 60;
 
+/// How many milliseconds a stream that ends waits for more of what the peer is still sending.
+const PARTING_MILLISECONDS: u64 = 500;
+
+/// How many pieces of what the peer is still sending are read at most.
+const PARTING_READS: usize = 64;
+
 /// A door over a network. It listens at the address that it is made with, as `127.0.0.1:7000`, and
 /// dials addresses of that form, or with the name of a host.
 ///
 /// `accept` waits until a peer comes. A dial waits 10 seconds for each address of the peer, and a read
-/// or a write 60 seconds for the peer. Each error of the system is `Failed` and counted.
+/// or a write 60 seconds for the peer. Each error of the system is `Failed` and counted. `hang_up` waits until the
+/// peer has read what was written, or half a second for each of 64 pieces of what it still sends.
 #[derive(Drop)]
 pub struct HostDoor<R: Net> {
     runtime: R,
@@ -136,6 +143,7 @@ impl<R: Net> Door for HostDoor<R> {
     }
 
     fn hang_up(&mut self) {
+        part(&mut self.stream);
         self.stream = None;
     }
 }
@@ -171,6 +179,24 @@ fn patient<S: OpenStream + Drop>(stream: S) -> io::Result<S> {
     stream.set_write_timeout(Some(wait))?;
     stream.set_nodelay(true)?;
     Ok(stream)
+}
+
+/// Ends what is written to the stream and reads on for a bounded while: a stream that is closed with
+/// bytes unread is reset, and the peer may lose what it was sent last.
+fn part<S: OpenStream + Read>(stream: &mut Option<S>) {
+    let Some(stream) = stream else { return };
+    let wait = Duration::from_millis(PARTING_MILLISECONDS);
+    let parted = stream.shutdown(Shutdown::Write);
+    if parted.and(stream.set_read_timeout(Some(wait))).is_err() {
+        return;
+    }
+    let mut rest = [0; 4096];
+    for _ in 0..PARTING_READS {
+        match stream.read(&mut rest) {
+            Ok(count) if count > 0 => (),
+            _ => break,
+        }
+    }
 }
 
 /// Reads of the stream, if there is one. An empty buffer waits for nothing.
