@@ -199,22 +199,24 @@ module _ (n : NodeState) (p : Plan) (reached : IsReached n.core) (step : IsAStep
       (subst (λ (k : NodeState). answer_in k.core v true ≡ Ok r → core ≡ after_in k.core v true → PutsOwn k.lasts lasts e p result → Makes n (Some p) (moved k core lasts) result) (sym same) (taken_puts r core lasts result))
 
   -- what was appended is its entry
-  pub taken_writes : (name : List ℕ) (name_is : name ≡ n.log) (old new : List ℕ → Option (List ℕ)) (before after : LastUnits) (result : Result (Option Plan) MakeFault) → PutsOwn before after e p result
+  pub taken_writes : (m : NodeState) (same : m ≡ n) (w : Vertex) (w_is : w ≡ v) (r : Receipt) → answer_in m.core w true ≡ Ok r → (name : List ℕ) (name_is : name ≡ n.log) (old new : List ℕ → Option (List ℕ)) (before after : LastUnits) (result : Result (Option Plan) MakeFault) → PutsOwn before after e p result
       → Appended old new name e.bytes result → WritesOwn n (Some p) old new result
-  taken_writes name name_is old new before after (Ok (Some q)) puts a =
+  taken_writes m same w w_is r is name name_is old new before after (Ok (Some q)) puts a =
       subst (λ (x : Plan). WritesOwn n (Some p) old new (Ok (Some x))) (sym puts.0)
       (as_ok {T = Option Plan} {F = MakeFault} old new n.log (entry_for n v) (Some q) p (there (Ok (Some q)) a))
     where
       there : (r : Result (Option Plan) MakeFault) → Appended old new name e.bytes r → Appended old new n.log (entry_for n v) r
       there r = subst (λ (bytes : List ℕ). Appended old new name e.bytes r → Appended old new n.log bytes r) entry.bytes (subst (λ (x : List ℕ). Appended old new name e.bytes r → Appended old new x e.bytes r) name_is (λ b. b))
-  taken_writes name name_is old new before after (Ok None) puts a = absurd puts
-  taken_writes name name_is old new before after (Err fault.RecordsFull) puts a = absurd puts
-  taken_writes name name_is old new before after (Err fault.AppendFault) puts a = (p, refl, as_err {T = Option Plan} {S = Plan} old new n.log (entry_for n v) fault.AppendFault fault.AppendFault (there (Err fault.AppendFault) a))
+  taken_writes m same w w_is r is name name_is old new before after (Ok None) puts a = absurd puts
+  taken_writes m same w w_is r is name name_is old new before after (Err fault.RecordsFull) puts a = absurd puts
+  taken_writes m same w w_is r is name name_is old new before after (Err fault.AppendFault) puts a = (p, refl, as_err {T = Option Plan} {S = Plan} old new n.log (entry_for n v) fault.AppendFault fault.AppendFault (there (Err fault.AppendFault) a))
     where
       there : (r : Result (Option Plan) MakeFault) → Appended old new name e.bytes r → Appended old new n.log (entry_for n v) r
       there r = subst (λ (bytes : List ℕ). Appended old new name e.bytes r → Appended old new n.log bytes r) entry.bytes (subst (λ (x : List ℕ). Appended old new name e.bytes r → Appended old new x e.bytes r) name_is (λ b. b))
-  taken_writes name name_is old new before after (Err fault.OutOfMemory) puts a = inr (p, refl, as_err {T = Option Plan} {S = Plan} old new n.log (entry_for n v) fault.OutOfMemory fault.OutOfMemory (there (Err fault.OutOfMemory) a))
+  taken_writes m same w w_is r is name name_is old new before after (Err fault.OutOfMemory) puts a = inr (p, (taken_is_made n p reached step r accepted).0, as_err {T = Option Plan} {S = Plan} old new n.log (entry_for n v) fault.OutOfMemory fault.OutOfMemory (there (Err fault.OutOfMemory) a))
     where
+      accepted : answer_in n.core v true ≡ Ok r
+      accepted = subst (λ (x : Vertex). answer_in n.core x true ≡ Ok r) w_is (subst (λ (k : NodeState). answer_in k.core w true ≡ Ok r) same is)
       there : (r : Result (Option Plan) MakeFault) → Appended old new name e.bytes r → Appended old new n.log (entry_for n v) r
       there r = subst (λ (bytes : List ℕ). Appended old new name e.bytes r → Appended old new n.log bytes r) entry.bytes (subst (λ (x : List ℕ). Appended old new name e.bytes r → Appended old new x e.bytes r) name_is (λ b. b))
 

@@ -120,7 +120,7 @@ WritesOwn n planned old new (Ok (Some p)) = Appended {E = MakeFault} old new n.l
 WritesOwn n planned old new (Ok None) = SameFiles old new
 WritesOwn n planned old new (Err fault.RecordsFull) = SameFiles old new
 WritesOwn n planned old new (Err fault.AppendFault) = (p : Plan) × (planned ≡ Some p) × Appended {T = Plan} old new n.log (entry_for n (own_vertex n p)) (Err fault.AppendFault)
-WritesOwn n planned old new (Err fault.OutOfMemory) = SameFiles old new ⊎ ((p : Plan) × (planned ≡ Some p) × Appended {T = Plan} old new n.log (entry_for n (own_vertex n p)) (Err fault.OutOfMemory))
+WritesOwn n planned old new (Err fault.OutOfMemory) = SameFiles old new ⊎ ((p : Plan) × IsToMake n planned p × Appended {T = Plan} old new n.log (entry_for n (own_vertex n p)) (Err fault.OutOfMemory))
 
 -- a failed append raises the append count, and nothing else changes it
 abbrev pub IsMakeCounted : {T : Type 0} → ℕ → ℕ → Result T MakeFault → Type 0

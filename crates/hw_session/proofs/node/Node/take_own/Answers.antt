@@ -35,7 +35,10 @@ returns-in-Ok-clause-made g c =
 
 pub returns-in-Ok-clause-log : goal.returns-in-Ok-clause-log
 returns-in-Ok-clause-log g c = λ tells.
+    let i = c.self.inside in
+    let m : NodeState = record { core = i.core; keys = i.keys; log = string_bytes i.log; lasts = i.lasts; refused = i.refused; repeats = i.repeats; limited = i.limited; clash = i.clash } in
     taken_writes c.args.self.now c.args.plan (subst (λ (k : NodeState). IsReached k.core) c.self.view_is c.self.invariant.reached) c.requires.planned c.args.own.entry c.requires.entry
+    m c.self.view_is (vertex.Unit c.args.own.unit) (ap vertex.Unit c.requires.unit) c.in-Ok._receipt c.in-Ok.ensures.accepted
     c.as_str.result.now (c.as_str.ensures.value ∙ ap (λ (k : NodeState). k.log) c.self.view_is) _ _ c.self.inside.lasts c.put_own.new.lasts c.put_own.result c.put_own.ensures.put (c.put_own.ensures.log tells)
 
 pub returns-in-Err-clause-made : goal.returns-in-Err-clause-made
