@@ -88,12 +88,12 @@ met_alone meet.LinkFault side n read m tells old new t l = logs_alone n m tells 
 met_alone meet.ByteLimit side n read m tells old new t l = logs_alone n m tells old new t l.1
 met_alone meet.Clash side n read m tells old new t l = logs_alone n m tells old new t l.1
 
-own_alone : (n m : NodeState) (planned : Option Plan) (old new : Held) (made : Result (Option Plan) MakeFault) → Makes n planned m made → WritesOwn n planned old new made → IsAlone n m old new
+own_alone : (n m : NodeState) (planned : Option Plan) (old new : Held) (made : Result (Option Plan) MakeFault) → Makes n planned m made → WritesOwn n planned m old new made → IsAlone n m old new
 own_alone n m planned old new (Ok (Some p)) makes log = (log.others, ap (λ (x : NodeState). x.log) makes.1)
 own_alone n m planned old new (Ok None) makes log = nothing_done n m old new makes.1 log
 own_alone n m planned old new (Err make.RecordsFull) makes log = (λ other not. log other, ap (λ (x : NodeState). x.log) makes.1)
 own_alone n m planned old new (Err make.AppendFault) (p, is, same) (q, planned_is, log) = (log.others, ap (λ (x : NodeState). x.log) same)
-own_alone n m planned old new (Err make.OutOfMemory) makes log = (elim log [ inl same ↦ λ other not. same other | inr l ↦ l.2.others ], elim makes [ inl same ↦ ap (λ (x : NodeState). x.log) same | inr mk ↦ ap (λ (x : NodeState). x.log) mk.2 ])
+own_alone n m planned old new (Err make.OutOfMemory) makes log = (elim log [ inl same ↦ λ other not. same.1 other | inr l ↦ l.3.others ], elim makes [ inl same ↦ ap (λ (x : NodeState). x.log) same | inr mk ↦ ap (λ (x : NodeState). x.log) mk.2 ])
 
 -- ---- a run
 

@@ -60,7 +60,7 @@ TellsMade sight (Err make.OutOfMemory) old new result = (result ≡ Err fault.Ou
 pub record MakesWith {B K : Type 0} (sight : Sight B K) (tells : Bool) (me moment : ℕ) (value : List ℕ) (old new : Scene B) (result : Result (Unit {0}) ServiceFault) : Type 0 where
   pub made : Result (Option Plan) MakeFault
   pub makes : Makes old.node (planned_by old.node me moment value) new.node made
-  pub log : IsTrue tells → WritesOwn old.node (planned_by old.node me moment value) old.around.files new.around.files made
+  pub log : IsTrue tells → WritesOwn old.node (planned_by old.node me moment value) new.node old.around.files new.around.files made
   pub told : TellsMade sight made old new result
   pub door : new.around.door ≡ old.around.door
 

@@ -233,13 +233,27 @@ module _ (s : Stage) (n : NodeState) (mark : PeerMark) (v : Vertex) (m : NodeSta
       go (Err cause.ParkFull) k = refl
       go (Err cause.OutOfMemory) k = refl
 
+  -- the node stands where the vertex leaves it
+  drives_taken : (node_part (drive_vertex driver v)).state ≡ taken_by n v (given_to n v)
+  drives_taken = go (given_to n v) (taken_by n v (given_to n v))
+    where
+      go : (a : Result Receipt Cause) (k : NodeState) → (after_vertex (record { stage = s; node = k; mark = mark }) a).state.node ≡ k
+      go (Ok r) k = refl
+      go (Err cause.BadSignature) k = refl
+      go (Err (cause.Local rule)) k = refl
+      go (Err (cause.Pair f)) k = refl
+      go (Err (cause.Clash d)) k = refl
+      go (Err cause.RecordsFull) k = refl
+      go (Err cause.ParkFull) k = refl
+      go (Err cause.OutOfMemory) k = refl
+
   pub vertex_cut : (sessions : Option (List Session)) → Accepts n v m (Err fault.AppendFault) → (IsTrue tells → WritesAccepted n v m held_old held_new (Err fault.AppendFault))
       → ReactsAs n (frame.Vertex v) (drive_vertex driver v) m mark tells held_old held_new sessions sessions (Err end.AppendFault)
-  vertex_cut sessions a w = record { node = append_failed n v m tells held_old held_new sessions a w; marks = mark_stays; waits = tt; due = tt }
+  vertex_cut sessions a w = record { node = append_failed n v m tells held_old held_new sessions (node_part (drive_vertex driver v)) drives_taken a w; marks = mark_stays; waits = tt; due = tt }
 
   pub vertex_wanting : (sessions : Option (List Session)) → Accepts n v m (Err fault.OutOfMemory) → (IsTrue tells → WritesAccepted n v m held_old held_new (Err fault.OutOfMemory))
       → ReactsAs n (frame.Vertex v) (drive_vertex driver v) m mark tells held_old held_new sessions sessions (Err end.OutOfMemory)
-  vertex_wanting sessions a w = record { node = memory_wanted n v m tells held_old held_new sessions Stage (node_part (drive_vertex driver v)) a w; marks = mark_stays; waits = tt; due = tt }
+  vertex_wanting sessions a w = record { node = memory_wanted n v m tells held_old held_new sessions (node_part (drive_vertex driver v)) drives_taken Stage a w; marks = mark_stays; waits = tt; due = tt }
 
 -- ---- a node that stays as it is
 

@@ -33,6 +33,7 @@ use Rattle.hw_session.specs.declared.stage.Onward.{Onward}
 use Rattle.hw_session.specs.declared.stage.Stage.{Stage}
 use Rattle.hw_session.specs.declared.stage.Stage.TheVariants as stage
 use Rattle.hw_session.specs.Node.{NodeState}
+use Rattle.hw_session.specs.Make.{with_entry}
 use Rattle.hw_session.specs.Grows.{Logs, LogsAllBut}
 use Rattle.hw_session.specs.Accept.{given_to, taken_by}
 use Rattle.hw_session.specs.Driving.{Driver, hello, greeting, want_some, want, pull, push_first, push, to_push, with_pushed, with_pulled, not_due, after_vertex, drive_told, drive_at, drive_step, driven}
@@ -436,7 +437,7 @@ module _ (n : NodeState) (mark : PeerMark) (d : Driver) (place : ℕ) (tells : B
         }
 
     -- its vertex's entry was cut
-    module _ (cut : WasCut d.node f k tells held_now held_new behind_part new) where
+    module _ (cut : WasCut d.node f (node_part reaction) k tells held_now held_new behind_part new) where
       stands_cut : StandsDrivenCut n mark (s.read ++ part) k tells held_old held_new
       stands_cut =
           let here = heard_here n mark s.read s.said d s.heard s.within in
@@ -446,6 +447,7 @@ module _ (n : NodeState) (mark : PeerMark) (d : Driver) (place : ℕ) (tells : B
             vertex = cut.vertex;
             split = refl;
             has = subst (λ (x : Frame). HasFrame (length s.read) part x) cut.frame_is has;
+            whole = ap (λ (t : Talk Driver). t.state.node) whole.1 ∙ cut.whole ∙ ap (λ (t : Talk Driver). with_entry t.state.node cut.vertex) (sym here);
             logs = subst (λ (x : NodeState). LogsAllBut n x cut.vertex k tells held_old held_new) (ap (λ (t : Talk Driver). t.state.node) (sym here)) (logs_but tells n d.node d.node cut.vertex k held_old held_now held_new s.logs cut.logs);
           }
 

@@ -131,6 +131,16 @@ module _ (n : NodeState) (p : Plan) (reached : IsReached n.core) (step : IsAStep
   refused_makes cause.ParkFull m result is left = absurd left
   refused_makes cause.OutOfMemory m result is left = subst (λ (r : Result (Option Plan) MakeFault). Makes n (Some p) m r) (sym left.1) (inl left.0)
 
+  -- and writes nothing
+  pub refused_writes : (c : Cause) (m : NodeState) (result : Result (Option Plan) MakeFault) (files : List ℕ → Option (List ℕ)) → Refuses n c m result → WritesOwn n (Some p) m files files result
+  refused_writes cause.BadSignature m result files left = absurd left
+  refused_writes (cause.Local rule) m result files left = absurd left
+  refused_writes (cause.Pair f) m result files left = absurd left
+  refused_writes (cause.Clash d) m result files left = subst (λ (r : Result (Option Plan) MakeFault). WritesOwn n (Some p) m files files r) (sym left.1) (λ name. refl)
+  refused_writes cause.RecordsFull m result files left = subst (λ (r : Result (Option Plan) MakeFault). WritesOwn n (Some p) m files files r) (sym left.1) (λ name. refl)
+  refused_writes cause.ParkFull m result files left = absurd left
+  refused_writes cause.OutOfMemory m result files left = subst (λ (r : Result (Option Plan) MakeFault). WritesOwn n (Some p) m files files r) (sym left.1) (inl (left.0, λ name. refl))
+
 -- ---- appends that fail
 
 -- the last units stay
@@ -173,6 +183,12 @@ module _ (n : NodeState) (p : Plan) (reached : IsReached n.core) (step : IsAStep
   abbrev moved : NodeState → CoreState → LastUnits → NodeState
   moved m core lasts = record m { core = core; lasts = lasts }
 
+  -- it stands in the journal alone
+  unlogged : (r : Receipt) (core : CoreState) (lasts : LastUnits) → answer_in n.core v true ≡ Ok r → core ≡ after_in n.core v true → lasts ≡ n.lasts → moved n core lasts ≡ with_vertex n v
+  unlogged r core lasts is after same =
+      let core_is : core ≡ (with_vertex n v).core = after ∙ ap (λ (k : NodeState). k.core) (taken_is_made n p reached step r is).1 in
+      λ i. moved n (core_is i) (same i)
+
   taken_puts : (r : Receipt) (core : CoreState) (lasts : LastUnits) (result : Result (Option Plan) MakeFault) → answer_in n.core v true ≡ Ok r → core ≡ after_in n.core v true
       → PutsOwn n.lasts lasts e p result → Makes n (Some p) (moved n core lasts) result
   taken_puts r core lasts (Ok (Some q)) is after puts =
@@ -182,14 +198,8 @@ module _ (n : NodeState) (p : Plan) (reached : IsReached n.core) (step : IsAStep
       subst (λ (x : Plan). Makes n (Some p) (moved n core lasts) (Ok (Some x))) (sym puts.0) (made.0, λ i. moved n (core_is i) (lasts_are i))
   taken_puts r core lasts (Ok None) is after puts = absurd puts
   taken_puts r core lasts (Err fault.RecordsFull) is after puts = absurd puts
-  taken_puts r core lasts (Err fault.AppendFault) is after puts =
-      let made = taken_is_made n p reached step r is in
-      let core_is : core ≡ (with_vertex n v).core = after ∙ ap (λ (k : NodeState). k.core) made.1 in
-      (p, made.0, λ i. moved n (core_is i) (puts i))
-  taken_puts r core lasts (Err fault.OutOfMemory) is after puts =
-      let made = taken_is_made n p reached step r is in
-      let core_is : core ≡ (with_vertex n v).core = after ∙ ap (λ (k : NodeState). k.core) made.1 in
-      inr (p, made.0, λ i. moved n (core_is i) (puts i))
+  taken_puts r core lasts (Err fault.AppendFault) is after puts = (p, (taken_is_made n p reached step r is).0, unlogged r core lasts is after puts)
+  taken_puts r core lasts (Err fault.OutOfMemory) is after puts = inr (p, (taken_is_made n p reached step r is).0, unlogged r core lasts is after puts)
 
   -- the same of the parts that the node is seen by
   pub taken_makes : (m : NodeState) (same : m ≡ n) (w : Vertex) (w_is : w ≡ v) (r : Receipt) (core : CoreState) (lasts : LastUnits) (result : Result (Option Plan) MakeFault)
@@ -199,26 +209,27 @@ module _ (n : NodeState) (p : Plan) (reached : IsReached n.core) (step : IsAStep
       (subst (λ (k : NodeState). answer_in k.core v true ≡ Ok r → core ≡ after_in k.core v true → PutsOwn k.lasts lasts e p result → Makes n (Some p) (moved k core lasts) result) (sym same) (taken_puts r core lasts result))
 
   -- what was appended is its entry
-  pub taken_writes : (m : NodeState) (same : m ≡ n) (w : Vertex) (w_is : w ≡ v) (r : Receipt) → answer_in m.core w true ≡ Ok r → (name : List ℕ) (name_is : name ≡ n.log) (old new : List ℕ → Option (List ℕ)) (before after : LastUnits) (result : Result (Option Plan) MakeFault) → PutsOwn before after e p result
-      → Appended old new name e.bytes result → WritesOwn n (Some p) old new result
-  taken_writes m same w w_is r is name name_is old new before after (Ok (Some q)) puts a =
-      subst (λ (x : Plan). WritesOwn n (Some p) old new (Ok (Some x))) (sym puts.0)
-      (as_ok {T = Option Plan} {F = MakeFault} old new n.log (entry_for n v) (Some q) p (there (Ok (Some q)) a))
+  taken_appends : (r : Receipt) (core : CoreState) (lasts : LastUnits) (old new : List ℕ → Option (List ℕ)) (result : Result (Option Plan) MakeFault) → answer_in n.core v true ≡ Ok r → core ≡ after_in n.core v true
+      → PutsOwn n.lasts lasts e p result → Appended old new n.log (entry_for n v) result → WritesOwn n (Some p) (moved n core lasts) old new result
+  taken_appends r core lasts old new (Ok (Some q)) is after puts a =
+      subst (λ (x : Plan). WritesOwn n (Some p) (moved n core lasts) old new (Ok (Some x))) (sym puts.0) (as_ok {T = Option Plan} {F = MakeFault} old new n.log (entry_for n v) (Some q) p a)
+  taken_appends r core lasts old new (Ok None) is after puts a = absurd puts
+  taken_appends r core lasts old new (Err fault.RecordsFull) is after puts a = absurd puts
+  taken_appends r core lasts old new (Err fault.AppendFault) is after puts a = (p, refl, as_err {T = Option Plan} {S = Plan} old new n.log (entry_for n v) fault.AppendFault fault.AppendFault a)
+  taken_appends r core lasts old new (Err fault.OutOfMemory) is after puts a =
+      let made = taken_is_made n p reached step r is in
+      inr (p, made.0, unlogged r core lasts is after puts, as_err {T = Option Plan} {S = Plan} old new n.log (entry_for n v) fault.OutOfMemory fault.OutOfMemory a)
+
+  -- the same of the parts that the node is seen by
+  pub taken_writes : (m : NodeState) (same : m ≡ n) (w : Vertex) (w_is : w ≡ v) (r : Receipt) (core : CoreState) (lasts : LastUnits) (result : Result (Option Plan) MakeFault) (name : List ℕ) (name_is : name ≡ n.log) (old new : List ℕ → Option (List ℕ))
+      → answer_in m.core w true ≡ Ok r → core ≡ after_in m.core w true → PutsOwn m.lasts lasts e p result → Appended old new name e.bytes result → WritesOwn n (Some p) (moved m core lasts) old new result
+  taken_writes m same w w_is r core lasts result name name_is old new is after puts a =
+      subst (λ (x : Vertex). answer_in m.core x true ≡ Ok r → core ≡ after_in m.core x true → PutsOwn m.lasts lasts e p result → WritesOwn n (Some p) (moved m core lasts) old new result) (sym w_is)
+      (subst (λ (k : NodeState). answer_in k.core v true ≡ Ok r → core ≡ after_in k.core v true → PutsOwn k.lasts lasts e p result → WritesOwn n (Some p) (moved k core lasts) old new result) (sym same)
+      (λ is after puts. taken_appends r core lasts old new result is after puts there)) is after puts
     where
-      there : (r : Result (Option Plan) MakeFault) → Appended old new name e.bytes r → Appended old new n.log (entry_for n v) r
-      there r = subst (λ (bytes : List ℕ). Appended old new name e.bytes r → Appended old new n.log bytes r) entry.bytes (subst (λ (x : List ℕ). Appended old new name e.bytes r → Appended old new x e.bytes r) name_is (λ b. b))
-  taken_writes m same w w_is r is name name_is old new before after (Ok None) puts a = absurd puts
-  taken_writes m same w w_is r is name name_is old new before after (Err fault.RecordsFull) puts a = absurd puts
-  taken_writes m same w w_is r is name name_is old new before after (Err fault.AppendFault) puts a = (p, refl, as_err {T = Option Plan} {S = Plan} old new n.log (entry_for n v) fault.AppendFault fault.AppendFault (there (Err fault.AppendFault) a))
-    where
-      there : (r : Result (Option Plan) MakeFault) → Appended old new name e.bytes r → Appended old new n.log (entry_for n v) r
-      there r = subst (λ (bytes : List ℕ). Appended old new name e.bytes r → Appended old new n.log bytes r) entry.bytes (subst (λ (x : List ℕ). Appended old new name e.bytes r → Appended old new x e.bytes r) name_is (λ b. b))
-  taken_writes m same w w_is r is name name_is old new before after (Err fault.OutOfMemory) puts a = inr (p, (taken_is_made n p reached step r accepted).0, as_err {T = Option Plan} {S = Plan} old new n.log (entry_for n v) fault.OutOfMemory fault.OutOfMemory (there (Err fault.OutOfMemory) a))
-    where
-      accepted : answer_in n.core v true ≡ Ok r
-      accepted = subst (λ (x : Vertex). answer_in n.core x true ≡ Ok r) w_is (subst (λ (k : NodeState). answer_in k.core w true ≡ Ok r) same is)
-      there : (r : Result (Option Plan) MakeFault) → Appended old new name e.bytes r → Appended old new n.log (entry_for n v) r
-      there r = subst (λ (bytes : List ℕ). Appended old new name e.bytes r → Appended old new n.log bytes r) entry.bytes (subst (λ (x : List ℕ). Appended old new name e.bytes r → Appended old new x e.bytes r) name_is (λ b. b))
+      there : Appended old new n.log (entry_for n v) result
+      there = subst (λ (bytes : List ℕ). Appended old new n.log bytes result) entry.bytes (subst (λ (x : List ℕ). Appended old new x e.bytes result) name_is a)
 
 -- ---- an own unit that is refused
 
@@ -229,10 +240,14 @@ module _ (n : NodeState) (p : Plan) (reached : IsReached n.core) (step : IsAStep
   pub refusal_of_own : IsOfOwn c
   refusal_of_own = refused_as_own n p reached step c refusal_is
 
+  refuses_here : (core : CoreState) (k : NodeState) (result : Result (Option Plan) MakeFault) → core ≡ m.core → Refuses (record m { core = core }) c k result → Refuses n c k result
+  refuses_here core k result unchanged refuses = subst (λ (j : NodeState). Refuses j c k result) same (subst (λ (j : CoreState). Refuses (record m { core = j }) c k result) unchanged refuses)
+
   pub refusal_makes : (core : CoreState) (k : NodeState) (result : Result (Option Plan) MakeFault) → core ≡ m.core → Refuses (record m { core = core }) c k result → Makes n (Some p) k result
-  refusal_makes core k result unchanged refuses =
-      refused_makes n p reached step c k result refusal_is
-      (subst (λ (j : NodeState). Refuses j c k result) same (subst (λ (j : CoreState). Refuses (record m { core = j }) c k result) unchanged refuses))
+  refusal_makes core k result unchanged refuses = refused_makes n p reached step c k result refusal_is (refuses_here core k result unchanged refuses)
+
+  pub refusal_writes : (core : CoreState) (k : NodeState) (result : Result (Option Plan) MakeFault) (files : List ℕ → Option (List ℕ)) → core ≡ m.core → Refuses (record m { core = core }) c k result → WritesOwn n (Some p) k files files result
+  refusal_writes core k result files unchanged refuses = refused_writes n p reached step c k result files (refuses_here core k result unchanged refuses)
 
 -- ---- what is kept
 

@@ -8,6 +8,7 @@ use Rattle.hw_types.specs.declared.answers.Receipt.{Receipt}
 use Rattle.hw_types.specs.declared.answers.Receipt.TheVariants as receipt
 use Rattle.hw_types.specs.declared.answers.Cause.{Cause}
 use Rattle.hw_types.specs.declared.answers.Cause.TheVariants as cause
+use Rattle.hw_types.specs.Journal.{is_accepted}
 use Rattle.hw_io.specs.Doors.{Session}
 use Rattle.hw_io.specs.Files.{SameFiles, Appended}
 use Rattle.hw_link.specs.declared.end.SessionEnd.{SessionEnd}
@@ -87,6 +88,19 @@ stays_reacts T n f r tells held old new result stands a = answers_reacts T n f r
 
 -- ---- a vertex
 
+-- its answer leaves the node
+pub stays_answered : (n : NodeState) (v : Vertex) (a : Result Receipt Cause) → (answer_to_vertex n v a).state ≡ n
+stays_answered n v (Ok r) = refl
+stays_answered n v (Err c) = go (is_clash c)
+  where
+    go : (b : Bool) → (cond b (ends n [] end.Clash) (goes_on n (frame.Want [] ∷ []))).state ≡ n
+    go true = refl
+    go false = refl
+
+-- a node that serves stands where the vertex leaves it
+pub serves_taken : (n : NodeState) (v : Vertex) → (serve_vertex n v).state ≡ taken_by n v (given_to n v)
+serves_taken n v = stays_answered (taken_by n v (given_to n v)) v (given_to n v)
+
 module _ (n : NodeState) (v : Vertex) (m : NodeState) (tells : Bool) (held_old held_new : List ℕ → Option (List ℕ)) where
   abbrev Writes : Result Receipt AcceptFault → Type 0
   Writes result = IsTrue tells → WritesAccepted n v m held_old held_new result
@@ -125,9 +139,20 @@ module _ (n : NodeState) (v : Vertex) (m : NodeState) (tells : Bool) (held_old h
   all_but : IsUnlogged n v m → (IsTrue tells → (k : ℕ) × GrowsBy held_old held_new n.log (take k (entry_for n v))) → LogsAllBut n n v m tells held_old held_new
   all_but unlogged cut = record { vertices = []; gains = gains_nothing n; unlogged = unlogged; log = cut }
 
-  module _ (old : Option (List Session)) where
-    pub append_failed : Accepts n v m (Err fault.AppendFault) → Writes (Err fault.AppendFault) → WasCut n (frame.Vertex v) m tells held_old held_new old old
-    append_failed a w = record { vertex = v; frame_is = refl; logs = all_but a (λ t. grows_cut held_old held_new n.log (entry_for n v) fault.AppendFault (w t)); told = refl }
+  -- an accepted vertex leaves the node with it and its entry
+  whole_by : (a : Result Receipt Cause) → is_accepted a ≡ true → taken_by n v a ≡ with_entry n v
+  whole_by (Ok receipt.Repeat) is = absurd cc
+  whole_by (Ok (receipt.Admitted k)) is = refl
+  whole_by (Ok (receipt.Parked k)) is = refl
+  whole_by (Ok (receipt.Dropped rule)) is = refl
+  whole_by (Err c) is = absurd cc
+
+  module _ (old : Option (List Session)) (r : Reaction NodeState) (leaves : r.state ≡ taken_by n v (given_to n v)) where
+    whole : IsUnlogged n v m → r.state ≡ with_entry n v
+    whole unlogged = leaves ∙ whole_by (given_to n v) unlogged.0
+
+    pub append_failed : Accepts n v m (Err fault.AppendFault) → Writes (Err fault.AppendFault) → WasCut n (frame.Vertex v) r m tells held_old held_new old old
+    append_failed a w = record { vertex = v; frame_is = refl; whole = whole a; logs = all_but a (λ t. grows_cut held_old held_new n.log (entry_for n v) fault.AppendFault (w t)); told = refl }
 
     -- it can't have stayed and taken the vertex
     not_both : m ≡ n → IsUnlogged n v m → ⊥
@@ -147,9 +172,9 @@ module _ (n : NodeState) (v : Vertex) (m : NodeState) (tells : Bool) (held_old h
     cut_files unlogged (inl stayed) = absurd (not_both stayed.0 unlogged)
     cut_files unlogged (inr taken) = grows_cut held_old held_new n.log (entry_for n v) fault.OutOfMemory taken.1
 
-    pub memory_wanted : (T : Type 0) (r : Reaction NodeState) → Accepts n v m (Err fault.OutOfMemory) → Writes (Err fault.OutOfMemory) → Reacts {T = T} n (frame.Vertex v) r m tells held_old held_new old old (Err end.OutOfMemory)
-    memory_wanted T r (inl same) w = inl (record { state = same; files = λ t. same_files same (w t); told = refl })
-    memory_wanted T r (inr unlogged) w = inr (inr (record { vertex = v; frame_is = refl; logs = all_but unlogged (λ t. cut_files unlogged (w t)); told = refl }))
+    pub memory_wanted : (T : Type 0) → Accepts n v m (Err fault.OutOfMemory) → Writes (Err fault.OutOfMemory) → Reacts {T = T} n (frame.Vertex v) r m tells held_old held_new old old (Err end.OutOfMemory)
+    memory_wanted T (inl same) w = inl (record { state = same; files = λ t. same_files same (w t); told = refl })
+    memory_wanted T (inr unlogged) w = inr (inr (record { vertex = v; frame_is = refl; whole = whole unlogged; logs = all_but unlogged (λ t. cut_files unlogged (w t)); told = refl }))
 
   -- ---- its answer
 
@@ -169,20 +194,13 @@ module _ (n : NodeState) (v : Vertex) (m : NodeState) (tells : Bool) (held_old h
       (answers_reacts (Unit {0}) n (frame.Vertex v) reaction m tells held_old held_new old new refl (accepted_logs r a w) result
       (sends_answers reaction old new result refl (subst (λ (bytes : List ℕ). Sends {T = Unit {0}} bytes old new result) (one_sent (frame.Want (wanted_by m.core r v))) s)))
 
-  stays_refused : (c : Cause) → m ≡ (answer_to_vertex m v (Err c)).state
-  stays_refused c = go (is_clash c)
-    where
-      go : (b : Bool) → m ≡ (cond b (ends m [] end.Clash) (goes_on m (frame.Want [] ∷ []))).state
-      go true = refl
-      go false = refl
-
   -- a refusal is answered with a Want of nothing, or ends the session
   pub refusal_reacts : (c : Cause) (old new : Option (List Session)) (result : Result (Unit {0}) SessionEnd) → Accepts n v m (Err (fault.Refused c)) → Writes (Err (fault.Refused c)) → Answers {T = Unit {0}} (answer_to_vertex m v (Err c)) old new result
       → Reacted old new result
   refusal_reacts c old new result a w answers =
       let by : serve_vertex n v ≡ answer_to_vertex m v (Err c) = reaction_by (Err c) a.1 ∙ ap (λ (k : NodeState). answer_to_vertex k v (Err c)) (sym a.2) in
       subst (λ (x : Reaction NodeState). Reacts {T = Unit {0}} n (frame.Vertex v) x m tells held_old held_new old new result) (sym by)
-      (answers_reacts (Unit {0}) n (frame.Vertex v) (answer_to_vertex m v (Err c)) m tells held_old held_new old new (stays_refused c) (refused_logs c a w) result answers)
+      (answers_reacts (Unit {0}) n (frame.Vertex v) (answer_to_vertex m v (Err c)) m tells held_old held_new old new (sym (stays_answered m v (Err c))) (refused_logs c a w) result answers)
 
   -- a vertex whose receipt wants more went last in the journal
   pub stands_last : (r : Receipt) → Accepts n v m (Ok r) → StandsLast r v m.core.journal

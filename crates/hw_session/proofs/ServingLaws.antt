@@ -32,6 +32,7 @@ use Rattle.hw_link.specs.Heard.{Hears, Says, IsHeard, IsEndCounted}
 use Rattle.hw_link.proofs.HeardLaws.{reads_frame_by_frame}
 use Rattle.hw_link.proofs.LinkLaws.{after_nothing, after_parts}
 use Rattle.hw_session.specs.Node.{NodeState}
+use Rattle.hw_session.specs.Make.{with_entry}
 use Rattle.hw_session.specs.Grows.{Logs, LogsAllBut}
 use Rattle.hw_session.specs.Accept.{given_to, taken_by}
 use Rattle.hw_session.specs.Serving.{is_clash, answer_to_vertex, serve_first, serve_frame, serve_step, served}
@@ -513,7 +514,7 @@ module _ (n m : NodeState) (place : ℕ) (tells : Bool) (held_old held_now : Lis
         })
 
     -- its vertex's entry was cut
-    module _ (cut : WasCut m f k tells held_now held_new behind_part new) where
+    module _ (cut : WasCut m f reaction k tells held_now held_new behind_part new) where
       stands_cut : StandsCut n (s.read ++ part) k tells held_old held_new
       stands_cut =
           let here = heard_here n s.read s.said m s.heard s.within in
@@ -523,6 +524,7 @@ module _ (n m : NodeState) (place : ℕ) (tells : Bool) (held_old held_now : Lis
             vertex = cut.vertex;
             split = refl;
             has = subst (λ (x : Frame). HasFrame (length s.read) part x) cut.frame_is has;
+            whole = ap (λ (t : Talk NodeState). t.state) whole.1 ∙ cut.whole ∙ ap (λ (t : Talk NodeState). with_entry t.state cut.vertex) (sym here);
             logs = subst (λ (x : NodeState). LogsAllBut n x cut.vertex k tells held_old held_new) (ap (λ (t : Talk NodeState). t.state) (sym here)) (logs_but tells n m m cut.vertex k held_old held_now held_new s.logs cut.logs);
           }
 

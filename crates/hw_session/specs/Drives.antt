@@ -15,6 +15,7 @@ use Rattle.hw_link.specs.Links.{after_part, is_link_fault}
 use Rattle.hw_link.specs.UnderWay.{HasFrame}
 use Rattle.hw_session.specs.declared.stage.PeerMark.{PeerMark}
 use Rattle.hw_session.specs.Node.{NodeState}
+use Rattle.hw_session.specs.Make.{with_entry}
 use Rattle.hw_session.specs.Grows.{Logs, LogsAllBut}
 use Rattle.hw_session.specs.Sessions.{EndsAs, IsAnswered}
 use Rattle.hw_session.specs.Driving.{driven}
@@ -39,13 +40,14 @@ pub record StandsDriven (n : NodeState) (mark : PeerMark) (read : List ℕ) (m :
   pub state : m ≡ (driven n mark first).state.node
   pub logs : Logs n m tells held_old held_new
 
--- The last frame's vertex was accepted, and its entry may be cut.
+-- The last frame's vertex was accepted, and its entry may be cut. All of these bytes leave the node that has that vertex with its whole entry.
 pub record StandsDrivenCut (n : NodeState) (mark : PeerMark) (read : List ℕ) (m : NodeState) (tells : Bool) (held_old held_new : List ℕ → Option (List ℕ)) : Type 0 where
   pub first : List ℕ
   pub part : List ℕ
   pub vertex : Vertex
   pub split : read ≡ first ++ part
   pub has : HasFrame (length first) part (frame.Vertex vertex)
+  pub whole : (driven n mark read).state.node ≡ with_entry (driven n mark first).state.node vertex
   pub logs : LogsAllBut n (driven n mark first).state.node vertex m tells held_old held_new
 
 -- The node stands where the bytes leave it, and so does its log. Where an append failed the last entry may be cut, and where there was

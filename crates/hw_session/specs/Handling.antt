@@ -19,6 +19,7 @@ use Rattle.hw_link.specs.Links.{after_part, IsLinkCounted}
 use Rattle.hw_link.specs.UnderWay.{HasFrame}
 use Rattle.hw_link.specs.Heard.{Hears, IsHeard}
 use Rattle.hw_session.specs.Node.{NodeState}
+use Rattle.hw_session.specs.Make.{with_entry}
 use Rattle.hw_session.specs.Grows.{Logs, LogsAllBut}
 use Rattle.hw_session.specs.Serving.{serve_step}
 
@@ -36,10 +37,11 @@ pub record Stayed (n m : NodeState) (tells : Bool) (held_old held_new : List ℕ
   pub files : IsTrue tells → SameFiles held_old held_new
   pub told : new ≡ old
 
--- it accepted the frame's vertex, whose entry may be cut, and sent nothing
-pub record WasCut (n : NodeState) (f : Frame) (m : NodeState) (tells : Bool) (held_old held_new : List ℕ → Option (List ℕ)) (old new : Option (List Session)) : Type 0 where
+-- It accepted the frame's vertex, whose entry may be cut, and sent nothing. With all of the entry it would stand where the reaction says.
+pub record WasCut (n : NodeState) (f : Frame) (r : Reaction NodeState) (m : NodeState) (tells : Bool) (held_old held_new : List ℕ → Option (List ℕ)) (old new : Option (List Session)) : Type 0 where
   pub vertex : Vertex
   pub frame_is : f ≡ frame.Vertex vertex
+  pub whole : r.state ≡ with_entry n vertex
   pub logs : LogsAllBut n n vertex m tells held_old held_new
   pub told : new ≡ old
 
@@ -47,11 +49,11 @@ pub record WasCut (n : NodeState) (f : Frame) (m : NodeState) (tells : Bool) (he
 abbrev pub Reacts : {T : Type 0} → NodeState → Frame → Reaction NodeState → NodeState → Bool → (List ℕ → Option (List ℕ)) → (List ℕ → Option (List ℕ)) → Option (List Session) → Option (List Session) → Result T SessionEnd → Type 0
 Reacts n f r m tells held_old held_new old new (Ok x) = (r.end ≡ None) × Took n r (sent_bytes r.says) false m tells held_old held_new old new
 Reacts n f r m tells held_old held_new old new (Err end.LinkFault) = (part : List ℕ) × IsPrefixOf part (sent_bytes r.says) × Took n r part true m tells held_old held_new old new
-Reacts n f r m tells held_old held_new old new (Err end.AppendFault) = WasCut n f m tells held_old held_new old new
+Reacts n f r m tells held_old held_new old new (Err end.AppendFault) = WasCut n f r m tells held_old held_new old new
 Reacts n f r m tells held_old held_new old new (Err end.OutOfMemory) =
     Stayed n m tells held_old held_new old new
     ⊎ ((part : List ℕ) × IsPrefixOf part (sent_bytes r.says) × Took n r part false m tells held_old held_new old new)
-    ⊎ WasCut n f m tells held_old held_new old new
+    ⊎ WasCut n f r m tells held_old held_new old new
 Reacts n f r m tells held_old held_new old new (Err e) = (r.end ≡ Some e) × Took n r (sent_bytes r.says) false m tells held_old held_new old new
 
 -- The same of a reaction that leaves the node as it is: what was sent, and how that ended.

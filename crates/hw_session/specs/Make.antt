@@ -115,12 +115,14 @@ fault_of_append _ = fault.OutOfMemory
 -- ---- what is written
 
 -- The entry of the unit that is made is appended to the log, and after a fault of the append a first part of it. Nothing else is written.
-abbrev pub WritesOwn : NodeState → Option Plan → (List ℕ → Option (List ℕ)) → (List ℕ → Option (List ℕ)) → Result (Option Plan) MakeFault → Type 0
-WritesOwn n planned old new (Ok (Some p)) = Appended {E = MakeFault} old new n.log (entry_for n (own_vertex n p)) (Ok p)
-WritesOwn n planned old new (Ok None) = SameFiles old new
-WritesOwn n planned old new (Err fault.RecordsFull) = SameFiles old new
-WritesOwn n planned old new (Err fault.AppendFault) = (p : Plan) × (planned ≡ Some p) × Appended {T = Plan} old new n.log (entry_for n (own_vertex n p)) (Err fault.AppendFault)
-WritesOwn n planned old new (Err fault.OutOfMemory) = SameFiles old new ⊎ ((p : Plan) × IsToMake n planned p × Appended {T = Plan} old new n.log (entry_for n (own_vertex n p)) (Err fault.OutOfMemory))
+abbrev pub WritesOwn : NodeState → Option Plan → NodeState → (List ℕ → Option (List ℕ)) → (List ℕ → Option (List ℕ)) → Result (Option Plan) MakeFault → Type 0
+WritesOwn n planned m old new (Ok (Some p)) = Appended {E = MakeFault} old new n.log (entry_for n (own_vertex n p)) (Ok p)
+WritesOwn n planned m old new (Ok None) = SameFiles old new
+WritesOwn n planned m old new (Err fault.RecordsFull) = SameFiles old new
+WritesOwn n planned m old new (Err fault.AppendFault) = (p : Plan) × (planned ≡ Some p) × Appended {T = Plan} old new n.log (entry_for n (own_vertex n p)) (Err fault.AppendFault)
+WritesOwn n planned m old new (Err fault.OutOfMemory) =
+    ((m ≡ n) × SameFiles old new)
+    ⊎ ((p : Plan) × IsToMake n planned p × (m ≡ with_vertex n (own_vertex n p)) × Appended {T = Plan} old new n.log (entry_for n (own_vertex n p)) (Err fault.OutOfMemory))
 
 -- a failed append raises the append count, and nothing else changes it
 abbrev pub IsMakeCounted : {T : Type 0} → ℕ → ℕ → Result T MakeFault → Type 0

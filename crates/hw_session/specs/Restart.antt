@@ -65,7 +65,7 @@ NewNodeHasLog = (config : Config) (keys : List (List ℕ)) (name : List ℕ) →
 
 -- A node that makes a unit, or has none to make, keeps the log of its journal,
 abbrev pub MakeKeepsLog : Type 0
-MakeKeepsLog = (n m : NodeState) (planned made : Option Plan) (old new : List ℕ → Option (List ℕ)) → Makes n planned m (Ok made) → WritesOwn n planned old new (Ok made)
+MakeKeepsLog = (n m : NodeState) (planned made : Option Plan) (old new : List ℕ → Option (List ℕ)) → Makes n planned m (Ok made) → WritesOwn n planned m old new (Ok made)
     → HasLog n (old n.log) → HasLog m (new m.log)
 
 -- and has done the step of a life.

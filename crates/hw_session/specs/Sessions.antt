@@ -15,6 +15,7 @@ use Rattle.hw_link.specs.Talk.{said_bytes, before_last, IsWritten}
 use Rattle.hw_link.specs.Links.{after_part, is_link_fault}
 use Rattle.hw_link.specs.UnderWay.{HasFrame}
 use Rattle.hw_session.specs.Node.{NodeState}
+use Rattle.hw_session.specs.Make.{with_entry}
 use Rattle.hw_session.specs.Grows.{Logs, LogsAllBut}
 use Rattle.hw_session.specs.Serving.{served}
 
@@ -54,13 +55,14 @@ pub record StandsBefore (n : NodeState) (read : List ℕ) (m : NodeState) (tells
   pub state : m ≡ (served n first).state
   pub logs : Logs n m tells held_old held_new
 
--- The last frame's vertex was accepted, and its entry may be cut.
+-- The last frame's vertex was accepted, and its entry may be cut. All of these bytes leave the node that has that vertex with its whole entry.
 pub record StandsCut (n : NodeState) (read : List ℕ) (m : NodeState) (tells : Bool) (held_old held_new : List ℕ → Option (List ℕ)) : Type 0 where
   pub first : List ℕ
   pub part : List ℕ
   pub vertex : Vertex
   pub split : read ≡ first ++ part
   pub has : HasFrame (length first) part (frame.Vertex vertex)
+  pub whole : (served n read).state ≡ with_entry (served n first).state vertex
   pub logs : LogsAllBut n (served n first).state vertex m tells held_old held_new
 
 -- The node stands where the bytes leave it, and so does its log. Where an append failed the last entry may be cut, and where there was

@@ -38,7 +38,7 @@ impl Node {
         ensures made { Makes self.old (planned_by self.old me now value.now) self.new result }
         ensures line { KeepsLine self.old me self.new result }
         ensures fits { IfOk result (λ made. IfSome made (λ plan. Fits plan.unit)) }
-        ensures log { IsTrue F.tells → WritesOwn self.old (planned_by self.old me now value.now) (F.held files.old) (F.held files.new) result }
+        ensures log { IsTrue F.tells → WritesOwn self.old (planned_by self.old me now value.now) self.new (F.held files.old) (F.held files.new) result }
         ensures cause { IsMakeCounted (F.append_faults files.old) (F.append_faults files.new) result }
 
         ensures begun { F.begun files.new ≡ F.begun files.old }
@@ -71,7 +71,7 @@ impl Node {
         requires planned { IsAStep self.old plan }
         requires fits { Fits plan.unit }
         ensures made { Makes self.old (Some plan) self.new result }
-        ensures log { IsTrue F.tells → WritesOwn self.old (Some plan) (F.held files.old) (F.held files.new) result }
+        ensures log { IsTrue F.tells → WritesOwn self.old (Some plan) self.new (F.held files.old) (F.held files.new) result }
         ensures cause { IsMakeCounted (F.append_faults files.old) (F.append_faults files.new) result }
 
         ensures begun { F.begun files.new ≡ F.begun files.old }
@@ -120,7 +120,7 @@ impl Node {
         requires name { own.name ≡ digest_of plan.unit }
         requires entry { IsEntryOf self.old.lasts (own_vertex self.old plan) own.entry }
         ensures made { Makes self.old (Some plan) self.new result }
-        ensures log { IsTrue F.tells → WritesOwn self.old (Some plan) (F.held files.old) (F.held files.new) result }
+        ensures log { IsTrue F.tells → WritesOwn self.old (Some plan) self.new (F.held files.old) (F.held files.new) result }
         ensures cause { IsMakeCounted (F.append_faults files.old) (F.append_faults files.new) result }
 
         ensures begun { F.begun files.new ≡ F.begun files.old }

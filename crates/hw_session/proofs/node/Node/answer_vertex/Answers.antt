@@ -5,7 +5,7 @@ use Rattle.std.proofs.Common.{Err, IsTrue, subst}
 use Rattle.hw_types.specs.declared.answers.Receipt.{Receipt}
 use Rattle.hw_session.specs.declared.fault.AcceptFault.{AcceptFault}
 use Rattle.hw_session.specs.Accept.{Accepts, WritesAccepted, IsAcceptCounted}
-use Rattle.hw_session.proofs.ReactLaws.{receipt_reacts, refusal_reacts, append_failed, memory_wanted, stands_last, sends_unlogged, answers_unlogged}
+use Rattle.hw_session.proofs.ReactLaws.{receipt_reacts, refusal_reacts, append_failed, memory_wanted, serves_taken, stands_last, sends_unlogged, answers_unlogged}
 use Rattle.hw_session.proofs.node.Node.answer_vertex.Goals as goal
 
 pub returns-in-Ok-clause-reacts : goal.returns-in-Ok-clause-reacts
@@ -52,7 +52,7 @@ returns-in-Err-AppendFault-clause-reacts g c =
     let v = c.args.vertex in
     let m = c.accept.new.self in
     let w = c.in-Err-AppendFault in
-    append_failed n v m f.tells (f.held c.args.files.now) (f.held c.accept.new.files) (g.D.Door.sessions c.args.door.now)
+    append_failed n v m f.tells (f.held c.args.files.now) (f.held c.accept.new.files) (g.D.Door.sessions c.args.door.now) (serve_vertex n v) (serves_taken n v)
     (subst (λ (x : AcceptFault). Accepts n v m (Err x)) w.field-0-is w.ensures.accepted)
     (subst (λ (x : AcceptFault). IsTrue f.tells → WritesAccepted n v m (f.held c.args.files.now) (f.held c.accept.new.files) (Err x)) w.field-0-is w.ensures.log)
 
@@ -63,6 +63,6 @@ returns-in-Err-OutOfMemory-clause-reacts g c =
     let v = c.args.vertex in
     let m = c.accept.new.self in
     let w = c.in-Err-OutOfMemory in
-    memory_wanted n v m f.tells (f.held c.args.files.now) (f.held c.accept.new.files) (g.D.Door.sessions c.args.door.now) (Unit {0}) (serve_vertex n v)
+    memory_wanted n v m f.tells (f.held c.args.files.now) (f.held c.accept.new.files) (g.D.Door.sessions c.args.door.now) (serve_vertex n v) (serves_taken n v) (Unit {0})
     (subst (λ (x : AcceptFault). Accepts n v m (Err x)) w.field-0-is w.ensures.accepted)
     (subst (λ (x : AcceptFault). IsTrue f.tells → WritesAccepted n v m (f.held c.args.files.now) (f.held c.accept.new.files) (Err x)) w.field-0-is w.ensures.log)

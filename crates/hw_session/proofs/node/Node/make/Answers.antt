@@ -45,7 +45,7 @@ returns-in-Ok-Some-clause-log g c = λ tells.
     let i = c.self.inside in
     let m : NodeState = record { core = i.core; keys = i.keys; log = string_bytes i.log; lasts = i.lasts; refused = i.refused; repeats = i.repeats; limited = i.limited; clash = i.clash } in
     let planned = planned_is c.args.self.now m c.self.view_is c.state.result.now c.state.ensures.config c.state.ensures.settled c.state.ensures.panorama c.state.ensures.endorsements c.args.me c.args.now c.args.value.now (Some c.in-Ok-Some.plan) (rw c.in-Ok-Some.field-0-is at c.in-Ok-Some.ensures.step) in
-    subst (λ (o : Option Plan). WritesOwn c.args.self.now o (g.F.Files.held c.args.files.now) (g.F.Files.held c.make_planned.new.files) c.make_planned.result) (sym planned) (c.make_planned.ensures.log tells)
+    subst (λ (o : Option Plan). WritesOwn c.args.self.now o c.make_planned.new.self (g.F.Files.held c.args.files.now) (g.F.Files.held c.make_planned.new.files) c.make_planned.result) (sym planned) (c.make_planned.ensures.log tells)
 
 pub returns-in-Ok-None-clause-made : goal.returns-in-Ok-None-clause-made
 returns-in-Ok-None-clause-made g c =

@@ -5,7 +5,7 @@ use Rattle.hw_types.specs.declared.unit.Vertex.TheVariants as vertex
 use Rattle.hw_types.specs.Spelling.{Fits, digest_of}
 use Rattle.hw_replay.specs.Ends.{IsReached}
 use Rattle.hw_session.specs.Node.{NodeState}
-use Rattle.hw_session.proofs.MakeLaws.{taken_makes, taken_writes, refusal_of_own, refusal_makes, kept_moved}
+use Rattle.hw_session.proofs.MakeLaws.{taken_makes, taken_writes, refusal_of_own, refusal_makes, refusal_writes, kept_moved}
 use Rattle.hw_session.proofs.node.Node.take_own.Goals as goal
 
 pub deliver_named-requires-clause-fits : goal.deliver_named-requires-clause-fits
@@ -37,9 +37,9 @@ pub returns-in-Ok-clause-log : goal.returns-in-Ok-clause-log
 returns-in-Ok-clause-log g c = λ tells.
     let i = c.self.inside in
     let m : NodeState = record { core = i.core; keys = i.keys; log = string_bytes i.log; lasts = i.lasts; refused = i.refused; repeats = i.repeats; limited = i.limited; clash = i.clash } in
-    taken_writes c.args.self.now c.args.plan (subst (λ (k : NodeState). IsReached k.core) c.self.view_is c.self.invariant.reached) c.requires.planned c.args.own.entry c.requires.entry
-    m c.self.view_is (vertex.Unit c.args.own.unit) (ap vertex.Unit c.requires.unit) c.in-Ok._receipt c.in-Ok.ensures.accepted
-    c.as_str.result.now (c.as_str.ensures.value ∙ ap (λ (k : NodeState). k.log) c.self.view_is) _ _ c.self.inside.lasts c.put_own.new.lasts c.put_own.result c.put_own.ensures.put (c.put_own.ensures.log tells)
+    taken_writes c.args.self.now c.args.plan (subst (λ (k : NodeState). IsReached k.core) c.self.view_is c.self.invariant.reached) c.requires.planned c.args.own.entry c.requires.entry m c.self.view_is (vertex.Unit c.args.own.unit) (ap vertex.Unit c.requires.unit)
+    c.in-Ok._receipt c.deliver_named.new.self c.put_own.new.lasts c.put_own.result c.as_str.result.now (c.as_str.ensures.value ∙ ap (λ (k : NodeState). k.log) c.self.view_is) _ _
+    c.in-Ok.ensures.accepted c.in-Ok.ensures.journal c.put_own.ensures.put (c.put_own.ensures.log tells)
 
 pub returns-in-Err-clause-made : goal.returns-in-Err-clause-made
 returns-in-Err-clause-made g c =
@@ -47,3 +47,10 @@ returns-in-Err-clause-made g c =
     let m : NodeState = record { core = i.core; keys = i.keys; log = string_bytes i.log; lasts = i.lasts; refused = i.refused; repeats = i.repeats; limited = i.limited; clash = i.clash } in
     refusal_makes c.args.self.now c.args.plan (subst (λ (k : NodeState). IsReached k.core) c.self.view_is c.self.invariant.reached) c.requires.planned m c.self.view_is (vertex.Unit c.args.own.unit) (ap vertex.Unit c.requires.unit) c.in-Err.refused.cause c.in-Err.ensures.refused
     c.deliver_named.new.self c.refuse_own.new.self c.refuse_own.result c.in-Err.ensures.unchanged c.refuse_own.ensures
+
+pub returns-in-Err-clause-log : goal.returns-in-Err-clause-log
+returns-in-Err-clause-log g c = λ tells.
+    let i = c.self.inside in
+    let m : NodeState = record { core = i.core; keys = i.keys; log = string_bytes i.log; lasts = i.lasts; refused = i.refused; repeats = i.repeats; limited = i.limited; clash = i.clash } in
+    refusal_writes c.args.self.now c.args.plan (subst (λ (k : NodeState). IsReached k.core) c.self.view_is c.self.invariant.reached) c.requires.planned m c.self.view_is (vertex.Unit c.args.own.unit) (ap vertex.Unit c.requires.unit) c.in-Err.refused.cause c.in-Err.ensures.refused
+    c.deliver_named.new.self c.refuse_own.new.self c.refuse_own.result _ c.in-Err.ensures.unchanged c.refuse_own.ensures
