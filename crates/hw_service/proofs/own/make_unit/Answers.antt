@@ -15,7 +15,7 @@ pub returns-in-Err-clause-makes : goal.returns-in-Err-clause-makes
 returns-in-Err-clause-makes g c = λ door. record {
   made = Err make.OutOfMemory;
   makes = inl refl;
-  log = λ tells. inl (λ name. refl);
+  log = λ tells. inl (refl, λ name. refl);
   told = (refl, record { kept = refl; consumers = refl; written = refl });
   door = refl;
 }
