@@ -1,23 +1,19 @@
 -- What the vertices of a peer leave of a node and its log.
-use Rattle.std.proofs.Common.{◌≡◌, ◌⊎◌, ℕ, ◌+◌, Bool, List, [], ◌∷◌, ◌++◌, length, Option, None, Result, Ok, Err, IsTrue, inl, inr, refl, sym, ap, subst, ◌∙◌, arith, length-append}
+use Rattle.std.proofs.Common.{◌≡◌, ◌⊎◌, ℕ, ◌+◌, Bool, List, [], ◌∷◌, ◌++◌, length, take, Option, Result, Ok, Err, IsTrue, inl, inr, refl, sym, ap, subst, ◌∙◌, arith, length-append}
 use Rattle.hw_types.specs.declared.unit.Vertex.{Vertex}
 use Rattle.hw_types.specs.declared.answers.Receipt.{Receipt}
-use Rattle.hw_types.specs.declared.answers.Frame.TheVariants as frame
 use Rattle.hw_types.specs.Real.{CoreState}
 use Rattle.hw_keys.specs.Signed.{verdict_of}
-use Rattle.hw_io.specs.Doors.{Session}
 use Rattle.hw_io.specs.Files.{SameFiles}
+use Rattle.hw_io.specs.Doors.{Session}
 use Rattle.hw_session.specs.declared.fault.AcceptFault.{AcceptFault}
 use Rattle.hw_session.specs.declared.fault.AcceptFault.TheVariants as accept
 use Rattle.hw_session.specs.Node.{NodeState}
-use Rattle.hw_session.specs.Accept.{taken_by, IsUnlogged, Accepts, WritesAccepted}
-use Rattle.hw_session.specs.Grows.{Logs, LogsAllBut}
 use Rattle.hw_session.specs.Make.{entry_for}
-use Rattle.hw_session.specs.Serving.{serve_vertex}
-use Rattle.hw_session.specs.Handling.{WasCut}
-use Rattle.hw_session.proofs.AppendLaws.{as_err}
-use Rattle.hw_session.proofs.GrowsLaws.{logs_nothing, logs_then, logs_but}
-use Rattle.hw_session.proofs.ReactLaws.{serves_taken, accepted_logs, refused_logs, append_failed}
+use Rattle.hw_session.specs.Accept.{taken_by, IsUnlogged, Accepts, WritesAccepted}
+use Rattle.hw_session.specs.Grows.{GrowsBy, Logs, LogsAllBut}
+use Rattle.hw_session.proofs.GrowsLaws.{grows_cut, gains_nothing, logs_nothing, logs_then, logs_but}
+use Rattle.hw_session.proofs.ReactLaws.{accepted_logs, refused_logs}
 use Rattle.hw_meeting_node.specs.declared.end.MeetEnd.{MeetEnd}
 use Rattle.hw_meeting_node.specs.declared.end.MeetEnd.TheVariants as end
 use Rattle.hw_meeting_node.specs.declared.meeter.Side.{Side}
@@ -47,21 +43,16 @@ module _ (n : NodeState) (v : Vertex) (m : NodeState) (tells : Bool) (old new : 
   abbrev Cut : Type 0
   Cut = LogsAllBut n n v m tells old new
 
-  cut_of : (o p : Option (List Session)) → WasCut n (frame.Vertex v) (serve_vertex n v) m tells old new o p → Cut
-  cut_of o p w =
-      let same : w.vertex ≡ v = let both : frame.Vertex v ≡ frame.Vertex w.vertex = w.frame_is in cc in
-      subst (λ (x : Vertex). LogsAllBut n n x m tells old new) same w.logs
-
-  -- an append failed
-  fails : Accepts n v m (Err accept.AppendFault) → (IsTrue tells → WritesAccepted n v m old new (Err accept.AppendFault)) → Cut
-  fails accepts log = cut_of None None (append_failed n v m tells old new None (serve_vertex n v) (serves_taken n v) accepts log)
+  cut_in : IsUnlogged n v m → (IsTrue tells → (k : ℕ) × GrowsBy old new n.log (take k (entry_for n v))) → Cut
+  cut_in unlogged log = record { vertices = []; gains = gains_nothing n; unlogged = unlogged; log = log }
 
   append_by : (given : Result Receipt AcceptFault) → Err fault.AppendFault ≡ take_answer given → Accepts n v m given → (IsTrue tells → WritesAccepted n v m old new given) → Cut
-  append_by (Err accept.AppendFault) is accepts log = fails accepts log
+  append_by (Err accept.AppendFault) is accepts log = cut_in accepts (λ t. grows_cut old new n.log (entry_for n v) accept.AppendFault (log t))
   append_by (Ok r) is accepts log = absurd cc
   append_by (Err (accept.Refused why)) is accepts log = absurd cc
   append_by (Err accept.OutOfMemory) is accepts log = absurd cc
 
+  -- an append failed
   append_cut : TakesIn n v m tells old new (Err fault.AppendFault) → Cut
   append_cut t = append_by t.given t.is t.accepts t.log
 
@@ -72,18 +63,20 @@ module _ (n : NodeState) (v : Vertex) (m : NodeState) (tells : Bool) (old new : 
       let longer : length (n.core.journal ++ v ∷ []) ≡ length n.core.journal + 1 = length-append n.core.journal (v ∷ []) in
       absurd (omega arith)
 
-  same_files : m ≡ n → WritesAccepted n v m old new (Err accept.OutOfMemory) → SameFiles old new
+  abbrev Wanting : Type 0
+  Wanting = WritesAccepted n v m old new (Err accept.OutOfMemory)
+
+  same_files : m ≡ n → Wanting → SameFiles old new
   same_files same (inl stayed) = stayed.1
   same_files same (inr taken) = absurd (not_both same taken.0)
 
-  -- a first part of the entry is as of an append that failed
-  as_failed : IsUnlogged n v m → WritesAccepted n v m old new (Err accept.OutOfMemory) → WritesAccepted n v m old new (Err accept.AppendFault)
-  as_failed unlogged (inl stayed) = absurd (not_both stayed.0 unlogged)
-  as_failed unlogged (inr taken) = as_err {T = Receipt} {S = Receipt} old new n.log (entry_for n v) accept.OutOfMemory accept.AppendFault taken.1
+  cut_files : IsUnlogged n v m → Wanting → (k : ℕ) × GrowsBy old new n.log (take k (entry_for n v))
+  cut_files unlogged (inl stayed) = absurd (not_both stayed.0 unlogged)
+  cut_files unlogged (inr taken) = grows_cut old new n.log (entry_for n v) accept.OutOfMemory taken.1
 
   memory_by : (given : Result Receipt AcceptFault) → Err fault.OutOfMemory ≡ take_answer given → Accepts n v m given → (IsTrue tells → WritesAccepted n v m old new given) → ((m ≡ n) × Logs n m tells old new) ⊎ Cut
   memory_by (Err accept.OutOfMemory) is (inl same) log = inl (same, subst (λ (x : NodeState). Logs n x tells old new) (sym same) (logs_nothing tells n old new (λ t. same_files same (log t))))
-  memory_by (Err accept.OutOfMemory) is (inr unlogged) log = inr (fails unlogged (λ t. as_failed unlogged (log t)))
+  memory_by (Err accept.OutOfMemory) is (inr unlogged) log = inr (cut_in unlogged (λ t. cut_files unlogged (log t)))
   memory_by (Ok r) is accepts log = absurd cc
   memory_by (Err (accept.Refused why)) is accepts log = absurd cc
   memory_by (Err accept.AppendFault) is accepts log = absurd cc
