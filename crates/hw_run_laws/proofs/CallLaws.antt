@@ -1,174 +1,133 @@
 -- A node keeps its line and its log through its calls and its starts.
-use Rattle.std.specs.Prelude.{take}
-use Rattle.std.specs.List.{All}
-use Rattle.std.proofs.Common.{◌≡◌, ℕ, zero, suc, ◌<◌, true, List, [], ◌∷◌, length, Option, Some, None, Result, Ok, inl, inr, refl, sym, ap, subst, ◌∙◌}
-use Rattle.std.proofs.lemmas.List.Elements.{All-nil, All-cons}
+use Rattle.std.proofs.Common.{◌≡◌, ℕ, ◌<◌, true, List, [], ◌∷◌, ◌++◌, length, Some, inl, inr, refl, sym, ap, subst}
 use Rattle.hw_types.specs.declared.config.Config.{Config}
-use Rattle.hw_types.specs.declared.unit.Signature.{Signature}
 use Rattle.hw_types.specs.declared.unit.Vertex.{Vertex}
-use Rattle.hw_types.specs.declared.answers.Plan.{Plan}
 use Rattle.hw_types.specs.Below.{Among}
-use Rattle.hw_types.specs.Journal.{Setting, journal_of}
-use Rattle.hw_types.specs.Real.{CoreState, setting_of}
-use Rattle.hw_codec.specs.Ranges.{VertexInRange}
+use Rattle.hw_types.specs.Real.{setting_of}
 use Rattle.hw_types.specs.Spelling.{VertexFits}
-use Rattle.hw_log.specs.Lasts.{IsVersion}
-use Rattle.hw_log.specs.Spelled.{EntryFits}
-use Rattle.hw_core.proofs.EndLaws.{all_at}
-use Rattle.hw_honest.specs.OneLine.{OneLine}
-use Rattle.hw_honest.specs.Restart.{Logged, Event, make, restart, trusted, after_event, life_of, AreFair}
+use Rattle.hw_types.proofs.UnionLaws.{from_left, from_right}
+use Rattle.hw_codec.specs.Ranges.{VertexInRange}
+use Rattle.hw_honest.specs.Restart.{Logged, restart}
 use Rattle.hw_honest.specs.Laws.{IsSafeToStart}
-use Rattle.hw_honest.proofs.ReplayLaws.{replay_gives_back}
-use Rattle.hw_honest.proofs.RestartLaws.{kept_life, log_grows, out_apart}
-use Rattle.hw_replay.specs.declared.fault.StartFault.{StartFault}
-use Rattle.hw_replay.specs.Taken.{Taken}
-use Rattle.hw_replay.specs.Replay.{replay_of}
-use Rattle.hw_replay.specs.Ends.{lasts_of_file}
-use Rattle.hw_session.specs.Node.{NodeState, IsKept}
-use Rattle.hw_session.specs.Make.{planned_by, Makes}
-use Rattle.hw_session.specs.Restart.{true_entries, journal_log, journal_lasts, GivesBack, HasLog, logged_of}
-use Rattle.hw_session.specs.Start.{taken_of, GoesOn}
-use Rattle.hw_session.proofs.MakeLaws.{journal_is}
-use Rattle.hw_session.proofs.LineLaws.{make_is_an_event}
-use Rattle.hw_session.proofs.RestartLaws.{log_gives_back, make_keeps_log}
-use Rattle.hw_run_laws.specs.Restart.{arrivals, vertices_sent, LivesOn, TakesSome}
-use Rattle.hw_run_laws.specs.Calls.{IsSound, Standing, IsFairPeer, Call, makes, serves, drives, starts, AreCalls, IsReady, CallsKeepOneLine, CallsKeepApart}
+use Rattle.hw_honest.proofs.RestartLaws.{log_grows, out_apart}
+use Rattle.hw_session.specs.Node.{NodeState}
+use Rattle.hw_session.specs.Make.{with_entry}
+use Rattle.hw_session.specs.Restart.{HasLog, logged_of}
+use Rattle.hw_session.specs.Start.{GoesOn}
+use Rattle.hw_run_laws.specs.Calls.{IsSound, Standing, Attempt, makes, serves, drives, IsWhole, StartsAgain, Call, goes_on, starts, gives_up, AreCalls, IsReady, CallsKeepOneLine, CallsKeepApart}
 use Rattle.hw_run_laws.proofs.LifeLaws.{serves_life}
 use Rattle.hw_run_laws.proofs.KeepLaws.{serves_keep, drives_keep}
 use Rattle.hw_run_laws.proofs.DriverLaws.{drives_life}
 use Rattle.hw_run_laws.proofs.OutLaws.{Grows, goes_later}
+use Rattle.hw_run_laws.proofs.StartLaws.{each_fits, start_lives, start_keeps, from_log}
+use Rattle.hw_run_laws.proofs.MendLaws.{sound_mends, cut_mended}
+use Rattle.hw_run_laws.proofs.CutLaws.{make_keeps}
+use Rattle.hw_run_laws.proofs.AttemptLaws.{Lives, same_lives, lives_both, takes_fairly, lives_safely, lives_on_line, lives_soundly, make_lives, IsCut, attempt_leaves}
 
--- ---- fair peers
+-- ---- a start
 
--- of fair vertices the first are fair
-first_fair : (s : Setting) (me : ℕ) (l : Logged) (n : NodeState) (count : ℕ) (vs : List Vertex) → AreFair s me l (arrivals n vs) → AreFair s me l (arrivals n (take count vs))
-first_fair s me l n zero [] fair = tt
-first_fair s me l n (suc k) [] fair = tt
-first_fair s me l n zero (v ∷ vs) fair = tt
-first_fair s me l n (suc k) (v ∷ vs) (one, rest) = (one, first_fair s me (life_of s me l (arrivals n (v ∷ []))) n k vs rest)
+-- a start is a life
+starts_live : (me : ℕ) (n m : NodeState) (name bytes : List ℕ) → IsSound n → HasLog n (Some bytes) → GoesOn n.core.config n.keys name bytes m → Lives me n m
+starts_live me n m name bytes sound has on = record {
+  events = restart ∷ [];
+  config = on.config_is;
+  keys = on.keys_are;
+  life = start_lives n m sound name bytes on has me;
+  fair = (tt, tt);
+}
 
--- ---- a start from the log
+-- the node is what fair events leave, and has its log
+pub record Stands (me : ℕ) (a : NodeState) (b : Standing) : Type 0 where
+  pub lives : Lives me a b.node
+  pub log : HasLog b.node (b.held b.node.log)
 
--- each entry of a sound node's journal keeps its limits
-pub entries_fit : (vs : List Vertex) → ((v : Vertex) → Among v vs → VertexInRange v × VertexFits v) → All EntryFits (true_entries vs)
-entries_fit [] fit = All-nil EntryFits
-entries_fit (v ∷ vs) fit = All-cons EntryFits (record { at = 0; verdict = true; vertex = v }) (true_entries vs) (fit v (inl refl)) (entries_fit vs (λ w m. fit w (inr m)))
+module _ (me : ℕ) (a : NodeState) (c b : Standing) (again : StartsAgain c b) where
+  -- it starts again as this node, with the same configuration and keys, if that has the log
+  starts_as : (n : NodeState) → IsSound n → Lives me a n → c.node.core.config ≡ n.core.config → c.node.keys ≡ n.keys → HasLog n (Some again.bytes) → Stands me a b
+  starts_as n sound lives config keys has =
+      let on : GoesOn n.core.config n.keys b.node.log again.bytes b.node =
+      subst (λ (k : Config). GoesOn k n.keys b.node.log again.bytes b.node) config (subst (λ (ks : List (List ℕ)). GoesOn c.node.core.config ks b.node.log again.bytes b.node) keys again.on) in
+      record {
+        lives = lives_both me a n b.node lives (starts_live me n b.node b.node.log again.bytes sound has on);
+        log = start_keeps n b.node sound b.node.log again.bytes on has (b.held b.node.log) again.there;
+      }
 
-module _ (n : NodeState) (sound : IsSound n) where
-  reached : n.core.journal ≡ journal_of (setting_of n.core.config) sound.kept.reached.deliveries
-  reached = journal_is n.core sound.kept.reached
+  -- from its own log
+  starts_whole : IsSound c.node → Lives me a c.node → HasLog c.node (c.held c.node.log) → Stands me a b
+  starts_whole sound lives has =
+      starts_as c.node sound lives refl refl
+      (from_log c.node.core.config c.node.keys b.node.log again.bytes b.node again.on (c.held c.node.log) c.node again.from (sound_mends c.node (c.held c.node.log) sound has))
 
-  pub fits : All EntryFits (true_entries n.core.journal)
-  fits = entries_fit n.core.journal (λ v m. (all_at VertexInRange n.core.journal sound.vertices v m, sound.kept.reached.fit v m))
+  -- or from one that was cut, mended
+  module _ (sound : (n : NodeState) → Lives me a n → ((v : Vertex) → Among v n.core.journal → VertexInRange v × VertexFits v) → IsSound n) (left : IsSound c.node) (cut : IsCut me a c.node (c.held c.node.log)) where
+    journal_is : c.node.core.journal ≡ cut.before.core.journal ++ cut.vertex ∷ []
+    journal_is = ap (λ (k : NodeState). k.core.journal) cut.unlogged
 
-  gives_back : (version : ℕ) → IsVersion version → GivesBack version n.core.config n.core.journal
-  gives_back version known =
-      let P : List Vertex → Type 0 = λ j. GivesBack version n.core.config j in
-      subst P (sym reached) (log_gives_back version n.core.config sound.kept.reached.deliveries known sound.kept.lawful sound.config (subst (λ (j : List Vertex). All EntryFits (true_entries j)) reached fits))
+    each : (w : Vertex) → Among w (cut.before.core.journal ++ cut.vertex ∷ []) → VertexInRange w × VertexFits w
+    each w m = each_fits c.node left w (subst (λ (j : List Vertex). Among w j) (sym journal_is) m)
 
-  -- delivered again, the journal is the same
-  back : journal_of (setting_of n.core.config) (trusted n.core.journal) ≡ n.core.journal
-  back = ap (λ (j : List Vertex). journal_of (setting_of n.core.config) (trusted j)) reached ∙ replay_gives_back (setting_of n.core.config) sound.kept.reached.deliveries ∙ sym reached
+    its : VertexInRange cut.vertex × VertexFits cut.vertex
+    its = each cut.vertex (from_right cut.vertex cut.before.core.journal (cut.vertex ∷ []) (inl refl))
 
--- what a replay took, told twice
-same_taken : (x : Result Taken StartFault) (t u : Taken) → x ≡ Ok t → x ≡ Ok u → t ≡ u
-same_taken x t u is also = let both : Ok t ≡ Ok u = sym is ∙ also in cc
+    before_sound : IsSound cut.before
+    before_sound = sound cut.before cut.lives (λ w m. each w (from_left w cut.before.core.journal (cut.vertex ∷ []) m))
 
-same_some : {A : Type 0} (x : Option A) (a b : A) → x ≡ Some a → x ≡ Some b → a ≡ b
-same_some x a b is also = let both : Some a ≡ Some b = sym is ∙ also in cc
+    whole_sound : IsSound (with_entry cut.before cut.vertex)
+    whole_sound = sound (with_entry cut.before cut.vertex) cut.whole each
 
-module _ (n m : NodeState) (sound : IsSound n) (bytes : List ℕ) (file : Option (List ℕ)) (is : file ≡ Some bytes) (on : GoesOn n.core.config n.keys n.log bytes m) (has : HasLog n file) where
-  -- the file is the log of the journal
-  bytes_are : bytes ≡ journal_log has.version n.core.config n.core.journal
-  bytes_are = same_some file bytes (journal_log has.version n.core.config n.core.journal) is has.holds
+    config_is : c.node.core.config ≡ cut.before.core.config
+    config_is = ap (λ (k : NodeState). k.core.config) cut.unlogged
 
-  given : GivesBack has.version n.core.config n.core.journal
-  given = gives_back n sound has.version has.known
+    keys_are : c.node.keys ≡ cut.before.keys
+    keys_are = ap (λ (k : NodeState). k.keys) cut.unlogged
 
-  same_core : m.core ≡ n.core
-  same_core = ap (λ (t : Taken). t.core)
-      (same_taken (replay_of (Some n.core.config) bytes) (taken_of m) (record { core = n.core; refused = 0; repeats = 0 }) on.taken
-      (ap (λ (b : List ℕ). replay_of (Some n.core.config) b) bytes_are ∙ given.taken))
-
-  same_lasts : m.lasts ≡ journal_lasts has.version n.core.config n.core.journal
-  same_lasts = same_some (lasts_of_file (Some bytes)) m.lasts (journal_lasts has.version n.core.config n.core.journal) on.lasts (ap (λ (b : List ℕ). lasts_of_file (Some b)) bytes_are ∙ given.lasts)
-
-  pub start_lives : (me : ℕ) → LivesOn me n (restart ∷ []) m
-  unfolding after_event
-  start_lives me = record {
-    config = on.config_is;
-    keys = on.keys_are;
-    name = on.log_is;
-    life =
-        ap (λ (c : CoreState). record { journal = c.journal; log = c.journal }) same_core
-        ∙ ap (λ (j : List Vertex). record { journal = j; log = n.core.journal }) (sym (back n sound));
-  }
-
-  pub start_keeps : (new : Option (List ℕ)) → new ≡ Some bytes → HasLog m new
-  start_keeps new there = record {
-    version = has.version;
-    known = has.known;
-    holds = there ∙ ap Some bytes_are ∙ ap (λ (c : CoreState). Some (journal_log has.version c.config c.journal)) (sym same_core);
-    lasts = same_lasts ∙ ap (λ (c : CoreState). journal_lasts has.version c.config c.journal) (sym same_core);
-  }
+    starts_cut : Stands me a b
+    starts_cut = elim (cut_mended cut.before cut.vertex (c.held c.node.log) before_sound cut.log its.0 its.1) [
+      | inl mends ↦ starts_as cut.before before_sound cut.lives config_is keys_are (from_log c.node.core.config c.node.keys b.node.log again.bytes b.node again.on (c.held c.node.log) cut.before again.from mends)
+      | inr mends ↦
+          starts_as (with_entry cut.before cut.vertex) whole_sound cut.whole config_is keys_are
+          (from_log c.node.core.config c.node.keys b.node.log again.bytes b.node again.on (c.held c.node.log) (with_entry cut.before cut.vertex) again.from mends)
+    ]
 
 -- ---- calls
 
--- a node that has made a unit, or none
-make_lives : (me now : ℕ) (value : List ℕ) (n m : NodeState) (made : Option Plan) → me < length n.core.config.weights → IsKept n → Makes n (planned_by n me now value) m (Ok made) → (signature : Signature) × LivesOn me n (make now value signature ∷ []) m
-make_lives me now value n m made validator kept does = go made does (make_is_an_event n m me now value made kept validator does)
-  where
-    go : (made : Option Plan) → Makes n (planned_by n me now value) m (Ok made) → ((signature : Signature) × (logged_of m ≡ after_event (setting_of n.core.config) me (logged_of n) (make now value signature)))
-        → (signature : Signature) × LivesOn me n (make now value signature ∷ []) m
-    go (Some p) does (signature, is) = (signature, record { config = ap (λ (k : NodeState). k.core.config) does.1; keys = ap (λ (k : NodeState). k.keys) does.1; name = ap (λ (k : NodeState). k.log) does.1; life = is })
-    go None does (signature, is) = (signature, record { config = ap (λ (k : NodeState). k.core.config) does.1; keys = ap (λ (k : NodeState). k.keys) does.1; name = ap (λ (k : NodeState). k.log) does.1; life = is })
-
--- a life of fair events
-record LivesFairly (me : ℕ) (n m : NodeState) : Type 0 where
-  events : List Event
-  lives : LivesOn me n events m
-  fair : AreFair (setting_of n.core.config) me (logged_of n) events
-
-takes_fairly : (me : ℕ) (n m : NodeState) (read : List ℕ) → TakesSome n (vertices_sent read) m → IsFairPeer me n read → LivesFairly me n m
-takes_fairly me n m read (count, lives) fair = record {
-  events = arrivals n (take count (vertices_sent read));
-  lives = lives me;
-  fair = first_fair (setting_of n.core.config) me (logged_of n) n count (vertices_sent read) fair;
-}
-
 module _ (me : ℕ) (a b : Standing) (sound : IsSound a.node) (validator : me < length a.node.core.config.weights) (ready : IsReady me a) where
-  call_lives : Call me a b → LivesFairly me a.node b.node
-  call_lives (makes now value made does wrote) =
-      let lives = make_lives me now value a.node b.node made validator sound.kept does in
-      record { events = make now value lives.0 ∷ []; lives = lives.1; fair = (tt, tt) }
-  call_lives (serves read written ends_old ends_new e does logged fair) = takes_fairly me a.node b.node read (serves_life a.node b.node read written true a.held b.held ends_old ends_new e does logged) fair
-  call_lives (drives mark now read written ends_old ends_new e does logged fair) =
-      takes_fairly me a.node b.node read (drives_life a.node b.node mark now read written true a.held b.held ends_old ends_new e does logged) fair
-  call_lives (starts bytes is there on) = record { events = restart ∷ []; lives = start_lives a.node b.node sound bytes (a.held a.node.log) is on ready.log me; fair = (tt, tt) }
+  -- a node that goes on
+  goes : (attempt : Attempt me a b) → IsWhole attempt → Stands me a.node b
+  goes (makes now value result does wrote) whole = record {
+    lives = make_lives me a.node sound validator ready.line now value b.node result does;
+    log = make_keeps a.node me now value a.held b.held sound.kept validator ready.log b.node result does wrote whole;
+  }
+  goes (serves read written ends_old ends_new e does fair) logged = record {
+    lives = takes_fairly me a.node b.node read fair (serves_life a.node b.node read written true a.held b.held ends_old ends_new e does logged);
+    log = serves_keep a.node b.node read written true a.held b.held ends_old ends_new e does logged refl ready.log;
+  }
+  goes (drives mark now read written ends_old ends_new e does fair) logged = record {
+    lives = takes_fairly me a.node b.node read fair (drives_life a.node b.node mark now read written true a.held b.held ends_old ends_new e does logged);
+    log = drives_keep a.node b.node mark now read written true a.held b.held ends_old ends_new e does logged refl ready.log;
+  }
 
-  call_keeps : Call me a b → HasLog b.node (b.held b.node.log)
-  call_keeps (makes now value made does wrote) = make_keeps_log a.node b.node (planned_by a.node me now value) made a.held b.held does wrote ready.log
-  call_keeps (serves read written ends_old ends_new e does logged fair) = serves_keep a.node b.node read written true a.held b.held ends_old ends_new e does logged refl ready.log
-  call_keeps (drives mark now read written ends_old ends_new e does logged fair) = drives_keep a.node b.node mark now read written true a.held b.held ends_old ends_new e does logged refl ready.log
-  call_keeps (starts bytes is there on) = start_keeps a.node b.node sound bytes (a.held a.node.log) is on ready.log (b.held b.node.log) there
-
-  safe : IsSafeToStart (setting_of a.node.core.config) me (logged_of a.node)
-  safe = record { deliveries = sound.kept.reached.deliveries; journal = reached a.node sound; log = refl; line = ready.line }
+  call_stands : Call me a b → Stands me a.node b
+  call_stands (goes_on attempt whole) = goes attempt whole
+  call_stands (starts again) = starts_whole me a.node a b again sound (same_lives me a.node a.node refl refl) ready.log
+  call_stands (gives_up c attempt left again) = elim (attempt_leaves me a c sound validator ready attempt) [
+    | inl (lives, has) ↦ starts_whole me a.node c b again left lives has
+    | inr cut ↦ starts_cut me a.node c b again (lives_soundly me a.node sound validator ready.line) left cut
+  ]
 
   pub call_ready : Call me a b → IsReady me b
-  call_ready call =
-      let l = call_lives call in
-      let kept = kept_life (setting_of a.node.core.config) me sound.kept.lawful validator (logged_of a.node) l.events safe l.fair in
-      let line : OneLine (setting_of a.node.core.config) b.node.core.journal me = subst (λ (k : Logged). OneLine (setting_of a.node.core.config) k.journal me) (sym l.lives.life) kept.line in
-      record { line = subst (λ (k : Config). OneLine (setting_of k) b.node.core.journal me) (sym l.lives.config) line; log = call_keeps call }
+  call_ready call = let s = call_stands call in record { line = lives_on_line me a.node sound validator ready.line b.node s.lives; log = s.log }
 
   pub call_validator : Call me a b → me < length b.node.core.config.weights
-  call_validator call = subst (λ (k : Config). me < length k.weights) (sym (call_lives call).lives.config) validator
+  call_validator call = subst (λ (k : Config). me < length k.weights) (sym (call_stands call).lives.config) validator
 
   pub call_grows : Call me a b → Grows a.node b.node
   call_grows call v m =
-      let l = call_lives call in
-      subst (λ (k : Logged). Among v k.log) (sym l.lives.life) (log_grows (setting_of a.node.core.config) me (logged_of a.node) l.events v m)
+      let l = (call_stands call).lives in
+      subst (λ (k : Logged). Among v k.log) (sym l.life) (log_grows (setting_of a.node.core.config) me (logged_of a.node) l.events v m)
+
+  pub safe : IsSafeToStart (setting_of a.node.core.config) me (logged_of a.node)
+  safe = lives_safely me a.node sound validator ready.line a.node (same_lives me a.node a.node refl refl)
 
 pub calls_keep : CallsKeepOneLine
 calls_keep me a [] validator sound ready calls b m = absurd m

@@ -52,10 +52,10 @@ take_take (x ∷ xs) (suc n) zero le = absurd (omega (arith, le))
 take_take (x ∷ xs) (suc n) (suc m) le = ap (λ l. x ∷ l) (take_take xs n m (omega (arith, le)))
 
 -- the bytes of the frame, and those behind it
-record IsSplit (place : ℕ) (bytes : List ℕ) (f : Placed) (rest : Rest) : Type 0 where
-  part : List ℕ
-  whole : bytes ≡ part ++ rest.bytes
-  has : HasFrame place part f.frame
+pub record IsSplit (place : ℕ) (bytes : List ℕ) (f : Placed) (rest : Rest) : Type 0 where
+  pub part : List ℕ
+  pub whole : bytes ≡ part ++ rest.bytes
+  pub has : HasFrame place part f.frame
 
 abbrev read_as : Placed × Rest → Result (Placed × Rest) SessionEnd
 read_as x = Ok x
@@ -63,7 +63,7 @@ read_as x = Ok x
 bytes_of_ok : (x y : Placed × Rest) → read_as x ≡ read_as y → (x.0.frame ≡ y.0.frame) × (x.1.bytes ≡ y.1.bytes)
 bytes_of_ok x y e = (cc, cc)
 
-split : (place : ℕ) (bytes : List ℕ) (f : Placed) (rest : Rest) → frame_here (rest_at place bytes) ≡ Ok (f, rest) → IsSplit place bytes f rest
+pub split : (place : ℕ) (bytes : List ℕ) (f : Placed) (rest : Rest) → frame_here (rest_at place bytes) ≡ Ok (f, rest) → IsSplit place bytes f rest
 unfolding frame_here
 split place bytes f rest e =
     let r = rest_at place bytes in

@@ -9,3 +9,7 @@ pub mod DriverLaws
 pub mod CallLaws
 pub mod CutLaws
 pub mod MendLaws
+pub mod SentLaws
+pub mod StartLaws
+pub mod AttemptLaws
+pub mod SaidLaws

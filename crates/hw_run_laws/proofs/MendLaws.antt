@@ -38,7 +38,7 @@ use Rattle.hw_session.proofs.RestartLaws.{entry_keeps}
 use Rattle.std.proofs.Math.Seq.{take-append-add}
 use Rattle.hw_run_laws.specs.Restart.{HasCutLog}
 use Rattle.hw_run_laws.specs.Calls.{IsSound, MendsTo, CutLogIsMended}
-use Rattle.hw_run_laws.proofs.CallLaws.{entries_fit, fits}
+use Rattle.hw_run_laws.proofs.StartLaws.{entries_fit, fits}
 
 -- ---- a torn entry
 
@@ -180,27 +180,30 @@ log_mends m file lawful range each has =
       log = subst (λ (f : Option (List ℕ)). HasLog m f) has.holds has;
     }
 
-module _ (n : NodeState) (file : Option (List ℕ)) (sound : IsSound n) (cut : HasCutLog n file) (range : VertexInRange cut.vertex) (fit : VertexFits cut.vertex) where
+pub sound_mends : (n : NodeState) (file : Option (List ℕ)) → IsSound n → HasLog n file → MendsTo n file
+sound_mends n file sound has = log_mends n file sound.kept.lawful sound.config (fits n sound) has
+
+module _ (n : NodeState) (v : Vertex) (file : Option (List ℕ)) (sound : IsSound n) (cut : HasCutLog n v file) (range : VertexInRange v) (fit : VertexFits v) where
   abbrev entry : List ℕ
-  entry = entry_for n cut.vertex
+  entry = entry_for n v
 
   abbrev last_bytes : List ℕ
-  last_bytes = entry_bytes (journal_lasts cut.has.version n.core.config n.core.journal) true cut.vertex
+  last_bytes = entry_bytes (journal_lasts cut.has.version n.core.config n.core.journal) true v
 
-  behind : entry_for n cut.vertex ≡ last_bytes
-  behind = ap (λ (l : LastUnits). entry_bytes l true cut.vertex) cut.has.lasts
+  behind : entry_for n v ≡ last_bytes
+  behind = ap (λ (l : LastUnits). entry_bytes l true v) cut.has.lasts
 
   whole_is : cut.whole ≡ journal_log cut.has.version n.core.config n.core.journal
   whole_is = let both : Some cut.whole ≡ Some (journal_log cut.has.version n.core.config n.core.journal) = cut.has.holds in cc
 
-  by_part : 0 < cut.count → cut.count < length (entry_for n cut.vertex) → MendsTo n file
+  by_part : 0 < cut.count → cut.count < length (entry_for n v) → MendsTo n file
   by_part some less =
-      let torn = torn_mended cut.has.version n sound cut.has.known cut.vertex cut.count range fit some (omega (arith, less, ap length behind)) in
+      let torn = torn_mended cut.has.version n sound cut.has.known v cut.count range fit some (omega (arith, less, ap length behind)) in
       record {
         mended = record { count = torn.0; bytes = journal_log cut.has.version n.core.config n.core.journal };
         is =
             ap (λ (f : Option (List ℕ)). mended_of (bytes_of f)) cut.holds
-            ∙ ap (λ (bytes : List ℕ). mended_of (bytes ++ take cut.count (entry_for n cut.vertex))) whole_is
+            ∙ ap (λ (bytes : List ℕ). mended_of (bytes ++ take cut.count (entry_for n v))) whole_is
             ∙ ap (λ (bytes : List ℕ). mended_of (journal_log cut.has.version n.core.config n.core.journal ++ take cut.count bytes)) behind
             ∙ torn.1;
         log = subst (λ (f : Option (List ℕ)). HasLog n f) cut.has.holds cut.has;
@@ -208,23 +211,23 @@ module _ (n : NodeState) (file : Option (List ℕ)) (sound : IsSound n) (cut : H
 
   by_none : cut.count ≡ 0 → MendsTo n file
   by_none none =
-      let bare : file ≡ Some cut.whole = cut.holds ∙ ap (λ (k : ℕ). Some (cut.whole ++ take k (entry_for n cut.vertex))) none ∙ ap Some (append-nil cut.whole) in
-      log_mends n file sound.kept.lawful sound.config (fits n sound) (subst (λ (f : Option (List ℕ)). HasLog n f) (sym bare) cut.has)
+      let bare : file ≡ Some cut.whole = cut.holds ∙ ap (λ (k : ℕ). Some (cut.whole ++ take k (entry_for n v))) none ∙ ap Some (append-nil cut.whole) in
+      sound_mends n file sound (subst (λ (f : Option (List ℕ)). HasLog n f) (sym bare) cut.has)
 
-  each_more : (w : Vertex) → Among w (n.core.journal ++ cut.vertex ∷ []) → VertexInRange w × VertexFits w
-  each_more w m = elim (append_cases w n.core.journal (cut.vertex ∷ []) m) [
+  each_more : (w : Vertex) → Among w (n.core.journal ++ v ∷ []) → VertexInRange w × VertexFits w
+  each_more w m = elim (append_cases w n.core.journal (v ∷ []) m) [
     | inl old ↦ (all_at VertexInRange n.core.journal sound.vertices w old, sound.kept.reached.fit w old)
     | inr (inl is) ↦ subst (λ (x : Vertex). VertexInRange x × VertexFits x) is (range, fit)
     | inr (inr never) ↦ absurd never
   ]
 
-  by_all : length (entry_for n cut.vertex) ≤ cut.count → MendsTo (with_entry n cut.vertex) file
+  by_all : length (entry_for n v) ≤ cut.count → MendsTo (with_entry n v) file
   by_all all =
-      let full : file ≡ Some (cut.whole ++ entry_for n cut.vertex) = cut.holds ∙ ap (λ (bytes : List ℕ). Some (cut.whole ++ bytes)) (take_all cut.count (entry_for n cut.vertex) all) in
-      log_mends (with_entry n cut.vertex) file sound.kept.lawful sound.config (entries_fit (n.core.journal ++ cut.vertex ∷ []) each_more) (entry_keeps n cut.vertex (Some cut.whole) file full cut.has)
+      let full : file ≡ Some (cut.whole ++ entry_for n v) = cut.holds ∙ ap (λ (bytes : List ℕ). Some (cut.whole ++ bytes)) (take_all cut.count (entry_for n v) all) in
+      log_mends (with_entry n v) file sound.kept.lawful sound.config (entries_fit (n.core.journal ++ v ∷ []) each_more) (entry_keeps n v (Some cut.whole) file full cut.has)
 
-  pub mends : MendsTo n file ⊎ MendsTo (with_entry n cut.vertex) file
-  mends = elim (cases_lt cut.count (length (entry_for n cut.vertex))) [
+  pub mends : MendsTo n file ⊎ MendsTo (with_entry n v) file
+  mends = elim (cases_lt cut.count (length (entry_for n v))) [
     | inl torn ↦ elim (cases_lt 0 cut.count) [ inl some ↦ inl (by_part some torn) | inr none ↦ inl (by_none (omega (arith, none))) ]
     | inr all ↦ inr (by_all all)
   ]

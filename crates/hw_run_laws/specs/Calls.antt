@@ -1,9 +1,12 @@
 -- A node with a log through its calls, its stops and its starts: the statements.
 -- Source: ours.
-use Rattle.std.specs.Prelude.{◌≡◌, ◌⊎◌, ℕ, ◌<◌, true, List, [], ◌∷◌, length, Option, Some, Ok}
+use Rattle.std.specs.Prelude.{◌≡◌, ◌⊎◌, ℕ, ◌<◌, true, List, [], ◌∷◌, length, Option, Some, Result, Ok, Err}
 use Rattle.std.specs.List.{All}
 use Rattle.hw_types.specs.declared.unit.SignedUnit.{SignedUnit}
 use Rattle.hw_types.specs.declared.unit.Vertex.{Vertex}
+use Rattle.hw_types.specs.declared.unit.WireUnit.{WireUnit}
+use Rattle.hw_types.specs.declared.answers.Frame.{Frame}
+use Rattle.hw_types.specs.declared.answers.Frame.TheVariants as frame
 use Rattle.hw_types.specs.declared.answers.Plan.{Plan}
 use Rattle.hw_types.specs.Below.{Among}
 use Rattle.hw_types.specs.Culprits.{signed_in}
@@ -17,10 +20,14 @@ use Rattle.hw_link.specs.declared.end.SessionEnd.{SessionEnd}
 use Rattle.hw_rewrite.specs.declared.whole.Rewritten.{Rewritten}
 use Rattle.hw_rewrite.specs.Rewritten.{mended_of}
 use Rattle.hw_session.specs.declared.stage.PeerMark.{PeerMark}
+use Rattle.hw_session.specs.declared.fault.MakeFault.{MakeFault}
+use Rattle.hw_session.specs.declared.fault.MakeFault.TheVariants as fault
 use Rattle.hw_session.specs.Node.{NodeState, IsKept}
 use Rattle.hw_session.specs.Make.{planned_by, with_entry, Makes, WritesOwn}
 use Rattle.hw_session.specs.Restart.{HasLog, logged_of}
+use Rattle.hw_session.specs.Serving.{served}
 use Rattle.hw_session.specs.Sessions.{Serves}
+use Rattle.hw_session.specs.Driving.{driven}
 use Rattle.hw_session.specs.Drives.{Drives}
 use Rattle.hw_session.specs.Start.{GoesOn}
 use Rattle.hw_run_laws.specs.Restart.{vertices_sent, arrivals, IsLogged, HasCutLog}
@@ -42,13 +49,40 @@ pub record Standing : Type 0 where
 abbrev pub IsFairPeer : ℕ → NodeState → List ℕ → Type 0
 IsFairPeer me n read = AreFair (setting_of n.core.config) me (logged_of n) (arrivals n (vertices_sent read))
 
--- One call, over files that tell what they hold, in which no append failed and there was memory: the validator's `make`, a session that the
--- node serves or drives with a fair peer, or its start from the log, with its configuration and keys.
+-- What a node does over files that tell what they hold, however it ends: the validator's `make`, or a session that it serves or drives with a
+-- fair peer.
+pub data Attempt (me : ℕ) (a b : Standing) : Type 0 where
+  makes : (now : ℕ) (value : List ℕ) (result : Result (Option Plan) MakeFault) → Makes a.node (planned_by a.node me now value) b.node result → WritesOwn a.node (planned_by a.node me now value) b.node a.held b.held result → Attempt me a b
+  serves : (read written : List ℕ) (ends_old ends_new : ℕ) (e : SessionEnd) → Serves a.node read written b.node true a.held b.held ends_old ends_new e → IsFairPeer me a.node read → Attempt me a b
+  drives : (mark now : PeerMark) (read written : List ℕ) (ends_old ends_new : ℕ) (e : SessionEnd) → Drives a.node mark read written b.node now true a.held b.held ends_old ends_new e → IsFairPeer me a.node read → Attempt me a b
+
+-- no append failed in a `make`, and there was memory
+abbrev pub IsMade : Result (Option Plan) MakeFault → Type 0
+IsMade (Err fault.AppendFault) = ⊥
+IsMade (Err fault.OutOfMemory) = ⊥
+IsMade result = Unit {0}
+
+-- so it is of what the node did
+abbrev pub IsWhole : {me : ℕ} {a b : Standing} → Attempt me a b → Type 0
+IsWhole (makes now value result does wrote) = IsMade result
+IsWhole (serves read written ends_old ends_new e does fair) = IsLogged e
+IsWhole (drives mark now read written ends_old ends_new e does fair) = IsLogged e
+
+-- The node is given up and started again, with its configuration and keys: from its log, or from what that is mended to.
+pub record StartsAgain (a b : Standing) : Type 0 where
+  pub bytes : List ℕ
+  pub from : (a.held a.node.log ≡ Some bytes) ⊎ ((mended : Rewritten) × (mended_of (bytes_of (a.held a.node.log)) ≡ Ok mended) × (bytes ≡ mended.bytes))
+  pub there : b.held b.node.log ≡ Some bytes
+  pub on : GoesOn a.node.core.config a.node.keys b.node.log bytes b.node
+
+-- One call behind which there is a node.
 pub data Call (me : ℕ) (a b : Standing) : Type 0 where
-  makes : (now : ℕ) (value : List ℕ) (made : Option Plan) → Makes a.node (planned_by a.node me now value) b.node (Ok made) → WritesOwn a.node (planned_by a.node me now value) a.held b.held (Ok made) → Call me a b
-  serves : (read written : List ℕ) (ends_old ends_new : ℕ) (e : SessionEnd) → Serves a.node read written b.node true a.held b.held ends_old ends_new e → IsLogged e → IsFairPeer me a.node read → Call me a b
-  drives : (mark now : PeerMark) (read written : List ℕ) (ends_old ends_new : ℕ) (e : SessionEnd) → Drives a.node mark read written b.node now true a.held b.held ends_old ends_new e → IsLogged e → IsFairPeer me a.node read → Call me a b
-  starts : (bytes : List ℕ) → a.held a.node.log ≡ Some bytes → b.held b.node.log ≡ Some bytes → GoesOn a.node.core.config a.node.keys a.node.log bytes b.node → Call me a b
+  -- no append failed, there was memory, and the node goes on
+  goes_on : (attempt : Attempt me a b) → IsWhole attempt → Call me a b
+  -- the node stops, and starts again
+  starts : StartsAgain a b → Call me a b
+  -- however it ended, the node is given up, and starts again
+  gives_up : (c : Standing) → Attempt me a c → IsSound c.node → StartsAgain c b → Call me a b
 
 -- one call after the other, from the one standing through the others
 abbrev pub AreCalls : ℕ → Standing → List Standing → Type 0
@@ -67,11 +101,33 @@ abbrev pub CallsKeepOneLine : Type 0
 CallsKeepOneLine = (me : ℕ) (a : Standing) (more : List Standing) → me < length a.node.core.config.weights → IsSound a.node → IsReady me a → AreCalls me a more
     → (b : Standing) → Among b more → IsReady me b
 
+-- and where it is given up its own units are on one line too, though the last of them may stand in its journal alone.
+abbrev pub AttemptsKeepOneLine : Type 0
+AttemptsKeepOneLine = (me : ℕ) (a b : Standing) → me < length a.node.core.config.weights → IsSound a.node → IsReady me a → Attempt me a b
+    → OneLine (setting_of b.node.core.config) b.node.core.journal me
+
+-- ---- what goes out
+
+-- the vertex is in a frame that the node says in it
+abbrev pub IsSaid : {me : ℕ} {a b : Standing} → Attempt me a b → Vertex → Type 0
+IsSaid (makes now value result does wrote) v = ⊥
+IsSaid {me} {a} {b} (serves read written ends_old ends_new e does fair) v = (frames : List Frame) × Among frames (served a.node read).said × Among (frame.Vertex v) frames
+IsSaid {me} {a} {b} (drives mark now read written ends_old ends_new e does fair) v = (frames : List Frame) × Among frames (driven a.node mark read).said × Among (frame.Vertex v) frames
+
+-- the unit could go out of the node's log, inside evidence or not
+abbrev pub CouldGoOut : NodeState → WireUnit → Type 0
+CouldGoOut n u = (v : Vertex) × MayGoOut (logged_of n) v × (x : SignedUnit) × Among x (signed_in v) × (x.unit ≡ u)
+
+-- What it says, however that ends, has no unit of its own that couldn't go out of its log before.
+abbrev pub AttemptsSayNoNew : Type 0
+AttemptsSayNoNew = (me : ℕ) (a b : Standing) → me < length a.node.core.config.weights → IsSound a.node → IsReady me a → (attempt : Attempt me a b)
+    → (v : Vertex) → IsSaid attempt v → (x : SignedUnit) → Among x (signed_in v) → x.unit.creator ≡ me → CouldGoOut a.node x.unit
+
 -- the vertex stood in the node's log at one of these, or could go out of it there
 abbrev pub WentOut : List Standing → Vertex → Type 0
 WentOut all v = (b : Standing) × Among b all × MayGoOut (logged_of b.node) v
 
--- and no two different units by it of one number ever stood in its log or went out, inside evidence or not.
+-- No two different units by it of one number ever stood in its log or went out, inside evidence or not.
 abbrev pub CallsKeepApart : Type 0
 CallsKeepApart = (me : ℕ) (a : Standing) (more : List Standing) → me < length a.node.core.config.weights → IsSound a.node → IsReady me a → AreCalls me a more
     → (v w : Vertex) → WentOut (a ∷ more) v → WentOut (a ∷ more) w
@@ -87,4 +143,4 @@ pub record MendsTo (n : NodeState) (file : Option (List ℕ)) : Type 0 where
 
 -- A log that was cut in the entry behind it, mended, is the node's log, or where all of that entry stands the log of the node with its vertex.
 abbrev pub CutLogIsMended : Type 0
-CutLogIsMended = (n : NodeState) (file : Option (List ℕ)) → IsSound n → (cut : HasCutLog n file) → VertexInRange cut.vertex → VertexFits cut.vertex → MendsTo n file ⊎ MendsTo (with_entry n cut.vertex) file
+CutLogIsMended = (n : NodeState) (v : Vertex) (file : Option (List ℕ)) → IsSound n → HasCutLog n v file → VertexInRange v → VertexFits v → MendsTo n file ⊎ MendsTo (with_entry n v) file

@@ -1,6 +1,6 @@
 -- What sessions do to a node with a log from which it starts again: the statements.
 -- Source: ours.
-use Rattle.std.specs.Prelude.{◌≡◌, ◌≢◌, ◌⊎◌, ℕ, ◌<◌, Bool, true, IsTrue, List, ◌++◌, length, take, map, filter_map, Option, Some, None, Result, Err}
+use Rattle.std.specs.Prelude.{◌≡◌, ◌⊎◌, ℕ, ◌<◌, Bool, true, IsTrue, List, ◌++◌, length, take, map, filter_map, Option, Some, None, Result}
 use Rattle.hw_types.specs.declared.unit.Vertex.{Vertex}
 use Rattle.hw_types.specs.declared.answers.Frame.{Frame}
 use Rattle.hw_types.specs.declared.answers.Frame.TheVariants as frame
@@ -15,9 +15,8 @@ use Rattle.hw_link.specs.declared.end.SessionEnd.TheVariants as end
 use Rattle.hw_link.specs.Frames.{Placed, frames_of}
 use Rattle.hw_session.specs.declared.stage.PeerMark.{PeerMark}
 use Rattle.hw_session.specs.declared.fault.MakeFault.{MakeFault}
-use Rattle.hw_session.specs.declared.fault.MakeFault.TheVariants as fault
 use Rattle.hw_session.specs.Node.{NodeState, IsKept}
-use Rattle.hw_session.specs.Make.{planned_by, entry_for, Makes, WritesOwn}
+use Rattle.hw_session.specs.Make.{planned_by, own_vertex, entry_for, with_vertex, with_entry, IsToMake, Makes, WritesOwn}
 use Rattle.hw_session.specs.Restart.{HasLog, logged_of}
 use Rattle.hw_session.specs.Serving.{served}
 use Rattle.hw_session.specs.Sessions.{Serves}
@@ -93,44 +92,45 @@ abbrev pub DrivesKeepsLog : Type 0
 DrivesKeepsLog = (n m : NodeState) (mark now : PeerMark) (read written : List ℕ) (tells : Bool) (held_old held_new : List ℕ → Option (List ℕ)) (ends_old ends_new : ℕ) (e : SessionEnd)
     → Drives n mark read written m now tells held_old held_new ends_old ends_new e → IsLogged e → IsTrue tells → HasLog n (held_old n.log) → HasLog m (held_new m.log)
 
--- ---- sessions that were cut
+-- ---- calls that were cut
 
--- the file holds the node's log, and behind it a first part of the entry of a vertex that the node accepts
-pub record HasCutLog (n : NodeState) (file : Option (List ℕ)) : Type 0 where
+-- the file holds the node's log, and behind it a first part of the entry of this vertex, which the node accepts
+pub record HasCutLog (n : NodeState) (v : Vertex) (file : Option (List ℕ)) : Type 0 where
   pub whole : List ℕ
-  pub vertex : Vertex
   pub count : ℕ
   pub has : HasLog n (Some whole)
-  pub accepted : is_accepted (answer_in n.core vertex true) ≡ true
-  pub holds : file ≡ Some (whole ++ take count (entry_for n vertex))
+  pub accepted : is_accepted (answer_in n.core v true) ≡ true
+  pub holds : file ≡ Some (whole ++ take count (entry_for n v))
 
--- so it does, or it holds the node's log alone
-abbrev pub HasLogOrCut : NodeState → Option (List ℕ) → Type 0
-HasLogOrCut n file = HasLog n file ⊎ HasCutLog n file
-
--- the file holds the log of a node that the first of these bytes left, which may be cut in the entry behind it
-pub record LeavesLog (n : NodeState) (read : List ℕ) (file : Option (List ℕ)) : Type 0 where
-  pub first : List ℕ
-  pub part : List ℕ
+-- The node took one vertex more, whose entry may be cut: it stands in the journal alone. The first of these vertices reached the node before it,
+-- and so they did the one that has that vertex with its whole entry.
+pub record WasCut (n : NodeState) (vs : List Vertex) (m : NodeState) (file : Option (List ℕ)) : Type 0 where
   pub before : NodeState
-  pub split : read ≡ first ++ part
-  pub takes : TakesSome n (vertices_sent first) before
-  pub log : HasLogOrCut before file
+  pub vertex : Vertex
+  pub takes : TakesSome n vs before
+  pub whole : TakesSome n vs (with_entry before vertex)
+  pub unlogged : m ≡ with_vertex before vertex
+  pub log : HasCutLog before vertex file
+
+-- the first of these vertices reached the node, and the file holds its log, or was cut
+abbrev pub LeavesLog : NodeState → List Vertex → NodeState → Option (List ℕ) → Type 0
+LeavesLog n vs m file = (TakesSome n vs m × HasLog m file) ⊎ WasCut n vs m file
 
 -- However a session ends, what it leaves in the files is such a log, where the node serves,
 abbrev pub ServesLeavesLog : Type 0
 ServesLeavesLog = (n m : NodeState) (read written : List ℕ) (tells : Bool) (held_old held_new : List ℕ → Option (List ℕ)) (ends_old ends_new : ℕ) (e : SessionEnd)
-    → Serves n read written m tells held_old held_new ends_old ends_new e → IsTrue tells → HasLog n (held_old n.log) → LeavesLog n read (held_new n.log)
+    → Serves n read written m tells held_old held_new ends_old ends_new e → IsTrue tells → HasLog n (held_old n.log) → LeavesLog n (vertices_sent read) m (held_new m.log)
 
 -- where it drives,
 abbrev pub DrivesLeavesLog : Type 0
 DrivesLeavesLog = (n m : NodeState) (mark now : PeerMark) (read written : List ℕ) (tells : Bool) (held_old held_new : List ℕ → Option (List ℕ)) (ends_old ends_new : ℕ) (e : SessionEnd)
-    → Drives n mark read written m now tells held_old held_new ends_old ends_new e → IsTrue tells → HasLog n (held_old n.log) → LeavesLog n read (held_new n.log)
+    → Drives n mark read written m now tells held_old held_new ends_old ends_new e → IsTrue tells → HasLog n (held_old n.log) → LeavesLog n (vertices_sent read) m (held_new m.log)
 
--- and, with memory, where it makes a unit: the log is that of the node after `make` or before it, or the latter cut in the unit's entry.
+-- and, whatever it answers, where it makes a unit: the log is that of the node, or the one of the node before it, cut in the unit's entry.
 abbrev pub MakeLeavesLog : Type 0
 MakeLeavesLog = (n m : NodeState) (me now : ℕ) (value : List ℕ) (result : Result (Option Plan) MakeFault) (old new : List ℕ → Option (List ℕ)) → IsKept n → me < length n.core.config.weights
-    → Makes n (planned_by n me now value) m result → WritesOwn n (planned_by n me now value) old new result → result ≢ Err fault.OutOfMemory → HasLog n (old n.log) → HasLog m (new n.log) ⊎ HasLogOrCut n (new n.log)
+    → Makes n (planned_by n me now value) m result → WritesOwn n (planned_by n me now value) m old new result → HasLog n (old n.log)
+    → HasLog m (new m.log) ⊎ ((p : Plan) × IsToMake n (planned_by n me now value) p × (m ≡ with_vertex n (own_vertex n p)) × HasCutLog n (own_vertex n p) (new m.log))
 
 -- ---- what goes out
 

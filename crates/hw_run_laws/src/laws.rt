@@ -1,7 +1,7 @@
 //! The laws.
 
 ghost use Rattle.hw_fanout.specs.Fates.{Sight};
-ghost use Rattle.hw_run_laws.specs.Calls.{CallsKeepOneLine, CallsKeepApart, CutLogIsMended};
+ghost use Rattle.hw_run_laws.specs.Calls.{CallsKeepOneLine, AttemptsKeepOneLine, AttemptsSayNoNew, CallsKeepApart, CutLogIsMended};
 ghost use Rattle.hw_run_laws.specs.Complete.{ServesAreComplete, DrivesAreComplete};
 ghost use Rattle.hw_run_laws.specs.Restart.{ServedIsALife, DrivenIsALife, ServesIsALife, DrivesIsALife, ServesKeepsLog, DrivesKeepsLog, ServesLeavesLog, DrivesLeavesLog, MakeLeavesLog, ServedSaysOfLog, DrivenSaysOfLog, ServesSaysOfLog, DrivesSaysOfLog};
 ghost use Rattle.hw_run_laws.specs.Prefixes.{StoppedReplays, CutServices, CutTurns, CutHosts, CutCalls};
@@ -47,15 +47,21 @@ pub fn sessions_say_what_is_logged()
 {}
 
 /// A node that begins with its own units on one line and the log of its journal keeps both through any calls of
-/// `make`, sessions with fair peers and starts, where no append fails and there is memory; and no two different units
-/// by it of one number ever stood in its log or went out.
+/// `make`, sessions with fair peers and starts; and no two different units by it of one number ever stood in its log
+/// or went out.
+///
+/// Where an append fails or there is no memory, and at the end of any other call, the node may be given up, and is
+/// started again from its log, mended where that is torn. What it said until then has no unit of its own that couldn't
+/// go out of its log before.
 pub fn calls_keep_one_line()
     ensures kept { CallsKeepOneLine }
+    ensures attempts { AttemptsKeepOneLine }
+    ensures said { AttemptsSayNoNew }
     ensures apart { CallsKeepApart }
 {}
 
-/// A call that is cut short leaves the log of a node that a part of the call made, behind which a first part of one
-/// entry more may stand.
+/// However a call ends, it leaves the log of its node; or the node took one vertex more than its log has, and behind
+/// the log of the node before it a first part of that vertex's entry stands.
 pub fn cut_calls_leave_a_log()
     ensures serves { ServesLeavesLog }
     ensures drives { DrivesLeavesLog }
