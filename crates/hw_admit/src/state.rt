@@ -128,7 +128,7 @@ impl State {
         ensures weights { AreWeights self.now.config.weights self.now.dag }
         ensures lawful { IsLawful self.now.config.weights (is_faulty_in self.now.marked (graph self.now.dag)) (graph self.now.dag) }
     {
-        let _count = self.dag.count();
+        self.dag.recall_graph();
         &self.dag
     }
 
@@ -139,7 +139,7 @@ impl State {
         ensures observed { observations self.now.dag self.now.panorama ≡ observed_in self.now.config self.now.marked (graph self.now.dag) }
         ensures consistent { is_consistent (graph self.now.dag) (observations self.now.dag self.now.panorama) ≡ true }
     {
-        let _count = self.dag.count();
+        self.dag.recall_graph();
         &self.panorama
     }
 
@@ -276,7 +276,7 @@ impl State {
             self.forks.reserve(total)?;
             self.naivety.reserve(count)?;
             let reserved = self.dag.reserve(count);
-            let _count = self.dag.count();
+            self.dag.recall_graph();
             reserved?;
             self.spare = count;
         }
@@ -326,7 +326,7 @@ impl State {
         // Its creator isn't faulty exactly where the unit has seen of itself what the state had.
         ensures seen { (is_faulty_in self.old.marked (graph self.new.dag) prepared.signed.unit.creator ≡ false) ↔ (view_at prepared.panorama prepared.signed.unit.creator ≡ view_at self.old.panorama prepared.signed.unit.creator) }
     {
-        let _count = self.dag.count();
+        self.dag.recall_graph();
         let creator = prepared.signed().unit.creator;
         let seen = prepared.panorama().get(creator);
         let fork = self.judged_fork.fork_choice(
@@ -444,7 +444,7 @@ fn empty_dag(alloc: Global, validators: u32) -> Result<Dag, OutOfMemory>
     ensures validators { IfOk result (λ dag. dag.validators ≡ validators) }
 {
     let dag = Dag::new(alloc, validators)?;
-    let _count = dag.count();
+    dag.recall_graph();
     Ok(dag)
 }
 

@@ -98,7 +98,7 @@ fn is_settled(dag: &Dag, name: &Digest, unit: &WireUnit) -> bool
     ensures { result ≡ is_settled (graph dag.now) unit.now }
 {
     // For the prover: what stands behind a `Dag` is a graph.
-    let _count = dag.count();
+    dag.recall_graph();
     match dag.find(name) {
         Some(no) => are_one(&dag.unit(no).signed().unit, unit),
         None => false,

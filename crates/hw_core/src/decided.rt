@@ -81,6 +81,7 @@ impl Decided {
         requires { index < length self.now.detector.found }
         ensures { (f : FoundBlock) × (slice_get self.now.detector.found index ≡ Some f) × (result ≡ f.block) }
     {
+        // For the prover: recalls that so many have a number of 32 bits.
         let _count = self.detector.found_count();
         self.detector.found_at(index as u32).block
     }

@@ -60,6 +60,7 @@ pub fn ready_unit(
     ensures blocks { OnOk result (HasRoomFor decided.new (length (graph state.old.dag) + (length park.now.waiting + 1))) }
     ensures graph { IsGraph state.old.dag }
 {
+    // For the prover: recalls that the configuration is lawful.
     let _config = state.config();
     let units = units_at_most(journal.as_slice(), park, state);
     let waiting = park.count() + 1;
@@ -155,6 +156,7 @@ fn settle_unit(
     ensures placed { IsPlaced state.old (length park.old.waiting) journal.now prepared.signed state.new park.new dropped.new.entries result }
     ensures places { length park.new.waiting ≤ room_of dropped.new }
 {
+    // The journal stands in the contract alone.
     let _ = journal;
     match settle_new(state, park, dropped, prepared) {
         Ok(settled) => Receipt::Admitted { settled },
@@ -180,6 +182,7 @@ fn park_unit(
     ensures refused { IfErr result (λ cause. IsRefusal cause (answer_to state.now.config journal.now (vertex.Unit prepared.signed))) }
     ensures unparked { OnErr result (park.new ≡ park.old) }
 {
+    // The journal stands in the contract alone.
     let _ = journal;
     if park.count() == state.config().max_parked {
         return Err(Cause::ParkFull);

@@ -103,6 +103,7 @@ impl Kept {
         let state = State::new(alloc, config)?;
         match begin(alloc, state.config()) {
             Ok(start) => {
+                // For the prover: recalls what is said of each graph.
                 let _graph = state.dag();
                 let journal = Journal::new(alloc);
                 let names = IndexMap::new(alloc);
@@ -262,6 +263,7 @@ impl Kept {
             unit,
             name,
         );
+        // For the prover: recalls what is said of each graph.
         let _graph = self.state.dag();
         match added {
             Ok(receipt) => {
@@ -306,6 +308,7 @@ impl Kept {
         ensures journal { OnOk result (self.new ≡ after_in self.old (vertex.Endorsement endorsement) true) }
         ensures unchanged { OnErr result (self.new ≡ self.old) }
     {
+        // For the prover: recalls what is said of each graph.
         let _before = self.state.dag();
         let added = add_endorsement(
             &mut self.journal,
@@ -314,6 +317,7 @@ impl Kept {
             &mut self.state,
             endorsement,
         );
+        // For the prover: recalls what is said of each graph.
         let _after = self.state.dag();
         match added {
             Ok(settled) => {
@@ -366,6 +370,7 @@ impl Kept {
         ensures journal { OnOk result (self.new ≡ after_in self.old (vertex.Evidence evidence) true) }
         ensures unchanged { OnErr result (self.new ≡ self.old) }
     {
+        // For the prover: recalls what is said of each graph.
         let _before = self.state.dag();
         let added = add_evidence(
             &mut self.journal,
@@ -374,6 +379,7 @@ impl Kept {
             &mut self.state,
             evidence,
         );
+        // For the prover: recalls what is said of each graph.
         let _after = self.state.dag();
         match added {
             Ok(settled) => {

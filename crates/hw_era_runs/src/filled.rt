@@ -186,9 +186,11 @@ fn replay_like<F: Files>(
     ensures appends { F.append_faults files.new ≡ F.append_faults files.old }
 {
     let config = core.state().config();
+    // For the prover: each number is in the range of its type. It does nothing.
     config_is_in_range(config);
     match replay_log(alloc, files, log, Some(config)) {
         Ok(replay) => {
+            // For the prover: each number is in the range of its type. It does nothing.
             config_is_in_range(replay.core.state().config());
             Ok(replay)
         }

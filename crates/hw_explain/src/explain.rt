@@ -11,11 +11,14 @@ use std::alloc::Global;
 /// The line of the decided block of that place, with the committee and the starts of its greatest summit.
 /// None exactly where the last vertex of the journal decided no block of that place: there is no such
 /// block, or the journal is longer now than its `at`.
-pub fn explain_line(core: &mut Core, index: u64) -> Result<Option<Bytes>, OutOfMemory>
+pub fn explain_line(
+    alloc: Global,
+    core: &mut Core,
+    index: u64,
+) -> Result<Option<Bytes>, OutOfMemory>
     ensures line { IfOk result (λ line. line ≡ line_now core.old index) }
     ensures unchanged { core.new ≡ core.old }
 {
-    let alloc = allocator_of(core)?;
     line_at(alloc, core, index)
 }
 
@@ -33,10 +36,4 @@ fn line_at(alloc: Global, core: &Core, index: u64) -> Result<Option<Bytes>, OutO
     let mut text = Bytes::new(alloc);
     put_line(alloc, &mut text, core, decision)?;
     Ok(Some(text))
-}
-
-/// Where the node's memory comes from.
-fn allocator_of(core: &Core) -> Result<Global, OutOfMemory> {
-    let weights = core.state().config().weights.copy()?.into_vec();
-    Ok(*weights.allocator())
 }

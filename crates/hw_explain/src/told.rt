@@ -26,6 +26,7 @@ impl Told {
         requires { core.now.journal ≡ [] }
         ensures { HasTold result core.now }
     {
+        // The node stands in the contract alone.
         let _ = core;
         Told {
             alloc,

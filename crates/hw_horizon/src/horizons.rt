@@ -11,7 +11,7 @@ ghost use Rattle.hw_horizon.specs.Search.{table_of, start_of, committees_of, Are
 
 use crate::firsts::Firsts;
 use crate::kept::Walks;
-use crate::rounds::settle;
+use crate::rounds::prune;
 use crate::table::Table;
 use crate::votes::put_vote_starts;
 use hw_dag::{Dag, Panorama, UnitNo};
@@ -179,7 +179,7 @@ fn put_tables(
             next,
             firsts,
         } = scratch;
-        settle(present, next, firsts, dag, weights, panorama, quorum, lower);
+        prune(present, next, firsts, dag, weights, panorama, quorum, lower);
         lower.copy_from(present);
         tables[below + 1].copy_from(lower);
     }

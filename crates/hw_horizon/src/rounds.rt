@@ -16,7 +16,7 @@ use crate::table::Table;
 use hw_dag::{Dag, Panorama, View};
 
 /// Puts into `present` the committee of the level above that of `lower`.
-pub fn settle(
+pub fn prune(
     present: &mut Table,
     next: &mut Table,
     firsts: &mut Firsts,

@@ -36,6 +36,7 @@ fn put_config(alloc: Global, config: &Config, out: &mut Bytes) -> Result<(), Out
     ensures { OnOk result (out.new ≡ out.old ++ part_bytes (config_bytes config.now)) }
 {
     let spelling = encode_config(alloc, config)?;
+    // For the prover: each number is in the range of its type. It does nothing.
     config_is_in_range(config);
     put_part(spelling.as_slice(), out)
 }
@@ -58,6 +59,7 @@ fn put_vertex(alloc: Global, vertex: &Vertex, out: &mut Bytes) -> Result<(), Out
     ensures { OnOk result (out.new ≡ out.old ++ counted_vertex vertex.now) }
 {
     let spelling = encode_vertex(alloc, vertex)?;
+    // For the prover: each number is in the range of its type. It does nothing.
     vertex_is_in_range(vertex);
     put_part(spelling.as_slice(), out)
 }

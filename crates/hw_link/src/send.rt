@@ -41,6 +41,7 @@ fn framed(alloc: Global, frame: &Frame) -> Result<Bytes, OutOfMemory>
     ensures { IfOk result (λ bytes. bytes ≡ framed frame.now) }
 {
     let body = encode_frame(alloc, frame)?;
+    // For the prover: each number is in the range of its type. It does nothing.
     frame_is_in_range(frame);
     let length = body.len() as u32;
     let mut bytes = Bytes::new(alloc);

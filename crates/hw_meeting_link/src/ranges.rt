@@ -55,6 +55,7 @@ fn part_is_in_range(part: &LaneSummary)
     match part {
         LaneSummary::Nothing => {}
         LaneSummary::Line(count, tip) => {
+            // For the prover: that it is a number of 32 bits.
             let _count = *count;
             digest_is_in_range(tip);
         }

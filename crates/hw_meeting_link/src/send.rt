@@ -51,6 +51,7 @@ fn framed(alloc: Global, validators: u32, frame: &MeetingFrame) -> Result<Bytes,
     ensures { IfOk result (λ bytes. bytes ≡ framed frame.now) }
 {
     let body = encode_meeting(alloc, validators, frame)?;
+    // For the prover: each number is in the range of its type. It does nothing.
     meeting_is_in_range(frame);
     let length = body.len() as u32;
     let mut bytes = Bytes::new(alloc);

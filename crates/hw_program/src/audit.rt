@@ -73,6 +73,7 @@ pub fn audit_certified<F: Files>(
     ensures files { SameFiles (F.held files.old) (F.held files.new) }
     ensures appends { F.append_faults files.new ≡ F.append_faults files.old }
 {
+    // For the prover: each number is in the range of its type. It does nothing.
     certificate_is_in_range(certificate);
     match replay_against(alloc, files, right, log) {
         Ok(replay) => or_no_memory(audited(alloc, &replay.core, right, file)),
@@ -148,6 +149,7 @@ fn audited(alloc: Global, left: &Core, right: &Core, name: &str) -> Result<Ended
     ensures told { IfOk result (λ e. same_config left.now.config right.now.config ≡ true → TellsVerdict left.now right.now e) }
     ensures status { IfOk result (λ e. IsAuditEnd e.status) }
 {
+    // For the prover: each number is in the range of its type. It does nothing.
     config_is_in_range(left.state().config());
     config_is_in_range(right.state().config());
     match audit(alloc, left, right) {

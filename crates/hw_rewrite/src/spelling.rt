@@ -23,6 +23,7 @@ pub(crate) fn spelled_header(alloc: Global, config: &Config) -> Result<Bytes, Ou
     ensures range { OnOk result (ConfigInRange config.now) }
 {
     let spelling = encode_config(alloc, config)?;
+    // For the prover: each number is in the range of its type. It does nothing.
     config_is_in_range(config);
     let length = spelling.len() as u32;
     let mut header = Bytes::new(alloc);
@@ -67,6 +68,7 @@ fn put_entry(
     let noted = lasts.prepare(&entry.vertex)?;
     text.extend(bytes.as_slice())?;
     lasts.note(noted);
+    // For the prover: each number is in the range of its type. It does nothing.
     vertex_is_in_range(&entry.vertex);
     Ok(())
 }

@@ -97,6 +97,7 @@ fn stands_at(
     requires is_fork { IsFork dag.now prepared.now.signed.unit.panorama fork }
     ensures { result ≡ stands_at config.now.weights (below_of dag.now prepared.now) (node_prepared prepared.now) height }
 {
+    // The weights stand in the contract alone.
     let _ = &config.weights;
     match fork {
         Some(block) => dag.unit(block).height().unwrap_or(0) == height,

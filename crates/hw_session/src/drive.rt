@@ -347,6 +347,7 @@ impl Node {
     {
         match frame {
             Frame::Want(_) => {
+                // For the prover: recalls that the length is a number of 64 bits.
                 let _count = self.core.journal_count();
                 mark.pushed += 1;
                 self.push(*mark, door, left)

@@ -77,6 +77,7 @@ impl Node {
             refused,
             repeats,
         } = replay.into_parts();
+        // For the prover: each number is in the range of its type. It does nothing.
         config_is_in_range(config);
         config_is_in_range(core.state().config());
         Node {

@@ -144,6 +144,7 @@ impl Kept {
     pub(crate) fn dropped_count(&self) -> u32
         ensures { result ≡ length (dropped_of self.now.config (received_in self.now)) }
     {
+        // For the prover: recalls that the configuration is lawful.
         let _config = self.state.config();
         self.dropped.len() as u32
     }
@@ -165,6 +166,7 @@ impl Kept {
     pub(crate) fn fork(&self) -> Option<Digest>
         ensures { result ≡ fork_in self.now }
     {
+        // For the prover: recalls what is said of each state's panorama.
         let _panorama = self.state.panorama();
         match self.fork {
             None => None,
@@ -239,6 +241,7 @@ impl Kept {
         ensures pairs { HasPairs (setting_of self.now.config) self.now.journal }
         ensures apart { NamesApart (units_in (setting_of self.now.config) self.now.journal) }
     {
+        // For the prover: recalls what is said of each state's panorama.
         let _panorama = self.state.panorama();
         &self.state
     }

@@ -12,7 +12,7 @@ pub returns-in-Some : goal.returns-in-Some
 returns-in-Some c =
     c.are_one.ensures
     ∙ ap (λ (s : SignedUnit). unit_eq s.unit c.args.unit.now) (c.signed.ensures ∙ ap (λ (u : SettledUnit). u.signed) c.unit.ensures)
-    ∙ settled_found c.args.dag.now c.args.unit.now c.count-count.ensures.graph c.in-Some.no.0 c.in-Some.ensures.found.0 (c.in-Some.ensures.found.1 ∙ c.requires)
+    ∙ settled_found c.args.dag.now c.args.unit.now c.recall_graph.ensures c.in-Some.no.0 c.in-Some.ensures.found.0 (c.in-Some.ensures.found.1 ∙ c.requires)
 
 pub returns-in-None : goal.returns-in-None
 returns-in-None c = settled_none c.args.dag.now c.args.unit.now (subst (λ (d : Digest). IsNew c.args.dag.now d) c.requires (c.in-None.ensures.none.0 refl))

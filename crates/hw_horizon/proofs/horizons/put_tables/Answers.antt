@@ -29,7 +29,7 @@ loop-below-init c =
 pub copy_from-requires-in-loop-below : goal.copy_from-requires-in-loop-below
 copy_from-requires-in-loop-below c =
     c.loop-below.invariant.scratch.lower
-    ∙ sym (ap length c.settle.ensures.present ∙ after_length c.args.weights.now (graph c.args.dag.now) (observations c.args.dag.now c.args.panorama.now) c.args.quorum (length c.args.weights.now) c.loop-below.scratch.lower ∙ c.requires.weights.length_is)
+    ∙ sym (ap length c.prune.ensures.present ∙ after_length c.args.weights.now (graph c.args.dag.now) (observations c.args.dag.now c.args.panorama.now) c.args.quorum (length c.args.weights.now) c.loop-below.scratch.lower ∙ c.requires.weights.length_is)
 
 pub copy_from-requires-in-loop-below-2 : goal.copy_from-requires-in-loop-below-2
 copy_from-requires-in-loop-below-2 c =
@@ -39,7 +39,7 @@ copy_from-requires-in-loop-below-2 c =
     let same = length-set c.args.tables.now 0 c.copy_from.new.self in
     let read = get_or_read c.loop-below.tables (c.loop-below.below + 1) c.index-tables-below.result (omega arith) c.index-tables-below.is [] in
     ap length (sym c.index-tables-below.is ∙ read) ∙ c.loop-below.invariant.lengths (c.loop-below.below + 1) (omega arith)
-    ∙ sym (ap length c.copy_from-in-loop-below.ensures ∙ ap length c.settle.ensures.present
+    ∙ sym (ap length c.copy_from-in-loop-below.ensures ∙ ap length c.prune.ensures.present
     ∙ after_length c.args.weights.now (graph c.args.dag.now) (observations c.args.dag.now c.args.panorama.now) c.args.quorum (length c.args.weights.now) c.loop-below.scratch.lower ∙ c.requires.weights.length_is)
 
 pub loop-below-preserved : goal.loop-below-preserved
@@ -49,18 +49,18 @@ loop-below-preserved c =
     let kept = c.loop-below.auto.tables in
     let less = c.loop-below-test.true in
     let same = length-set c.args.tables.now 0 c.copy_from.new.self in
-    let long : length c.settle.new.present ≡ c.args.dag.now.validators = ap length c.settle.ensures.present
+    let long : length c.prune.new.present ≡ c.args.dag.now.validators = ap length c.prune.ensures.present
     ∙ after_length c.args.weights.now (graph c.args.dag.now) (observations c.args.dag.now c.args.panorama.now) c.args.quorum (length c.args.weights.now) c.loop-below.scratch.lower ∙ c.requires.weights.length_is in
     let is : c.copy_from-in-loop-below.new.self ≡ pruned_table c.args.weights.now (graph c.args.dag.now) (observations c.args.dag.now c.args.panorama.now) (node_at c.args.dag.now c.args.block.0) c.args.quorum (c.loop-below.below + 1) =
     level_table c.args.weights.now (graph c.args.dag.now) (observations c.args.dag.now c.args.panorama.now) c.args.quorum (node_at c.args.dag.now c.args.block.0) c.loop-below.below (c.loop-below.below + 1) c.loop-below.scratch.lower c.copy_from-in-loop-below.new.self
-    i.lower (c.copy_from-in-loop-below.ensures ∙ c.settle.ensures.present) refl in
+    i.lower (c.copy_from-in-loop-below.ensures ∙ c.prune.ensures.present) refl in
     record {
       tables = tables_more c.args.weights.now (graph c.args.dag.now) (observations c.args.dag.now c.args.panorama.now) c.args.quorum (node_at c.args.dag.now c.args.block.0) c.loop-below.tables (c.loop-below.below + 1) c.copy_from-in-loop-below-2.new.self
           (omega arith) (c.copy_from-in-loop-below-2.ensures ∙ is) (λ k lt. i.tables k (omega arith));
       lower = is;
-      slots = subst (λ (t : Starts). HasSlots c.args.panorama.now t) (sym (c.copy_from-in-loop-below.ensures ∙ c.settle.ensures.present))
+      slots = subst (λ (t : Starts). HasSlots c.args.panorama.now t) (sym (c.copy_from-in-loop-below.ensures ∙ c.prune.ensures.present))
           (after_slots c.args.weights.now (graph c.args.dag.now) (observations c.args.dag.now c.args.panorama.now) c.args.quorum c.args.panorama.now _ c.loop-below.scratch.lower i.slots);
       lengths = lengths_more c.loop-below.tables (c.loop-below.below + 1) c.args.dag.now.validators c.copy_from-in-loop-below-2.new.self (omega arith)
           (ap length (c.copy_from-in-loop-below-2.ensures ∙ c.copy_from-in-loop-below.ensures) ∙ long) i.lengths;
-      scratch = record { lower = ap length c.copy_from-in-loop-below.ensures ∙ long; present = long; next = c.settle.ensures.next_length; firsts = c.settle.ensures.firsts_length };
+      scratch = record { lower = ap length c.copy_from-in-loop-below.ensures ∙ long; present = long; next = c.prune.ensures.next_length; firsts = c.prune.ensures.firsts_length };
     }

@@ -6,4 +6,4 @@ use Rattle.hw_admit.proofs.StateLaws.{state_consistent}
 use Rattle.hw_admit.proofs.state.State.panorama.Goals as goal
 
 pub returns-clause-consistent : goal.returns-clause-consistent
-returns-clause-consistent c = subst (λ (s : NodeState). is_consistent (graph s.dag) (observations s.dag s.panorama) ≡ true) c.self.view_is (state_consistent _ c.self.invariant.0 c.count-count.ensures.graph)
+returns-clause-consistent c = subst (λ (s : NodeState). is_consistent (graph s.dag) (observations s.dag s.panorama) ≡ true) c.self.view_is (state_consistent _ c.self.invariant.0 c.recall_graph.ensures)

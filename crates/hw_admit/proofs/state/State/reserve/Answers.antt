@@ -20,18 +20,18 @@ invariant_of-self-in_err-reserved c =
     let naivety_serves = beside.naivety_serves in
     let forks_serve = beside.forks_serve in
     let marks_serve = beside.marks_serve in (
-      is_state_respaced dag later c.count.ensures.graph c.count-count.ensures.graph units validators _ c.self.invariant.0 refl c.self.inside.spare,
+      is_state_respaced dag later c.count.ensures.graph c.recall_graph.ensures units validators _ c.self.invariant.0 refl c.self.inside.spare,
       record {
         leaders_are = beside.leaders_are;
         weights_are = beside.weights_are;
-        noted = noted_respaced dag later c.count.ensures.graph c.count-count.ensures.graph units validators c.reserve-then-self-count-2.new.self (c.reserve-then-self-count-2.ensures.noted dag beside.noted);
+        noted = noted_respaced dag later c.count.ensures.graph c.recall_graph.ensures units validators c.reserve-then-self-count-2.new.self (c.reserve-then-self-count-2.ensures.noted dag beside.noted);
         all = omega arith;
         dag_serves = omega arith;
         naivety_serves = omega arith;
         forks_serve = omega arith;
         marks_serve = omega arith;
-        own_kept = kept_respaced dag later c.count.ensures.graph c.count-count.ensures.graph units validators _ _ beside.own_kept;
-        judged_kept = kept_respaced dag later c.count.ensures.graph c.count-count.ensures.graph units validators _ _ beside.judged_kept;
+        own_kept = kept_respaced dag later c.count.ensures.graph c.recall_graph.ensures units validators _ _ beside.own_kept;
+        judged_kept = kept_respaced dag later c.count.ensures.graph c.recall_graph.ensures units validators _ _ beside.judged_kept;
       },
     )
 
@@ -50,17 +50,17 @@ invariant_of-self-then-self-count c =
     let marks_room = c.in_ok-reserve.ensures.room in
     let noted_count = c.reserve-then-self-count-2.ensures.count in
     let all = beside.all in (
-      is_state_respaced dag later c.count.ensures.graph c.count-count.ensures.graph units validators _ c.self.invariant.0 refl c.args.count,
+      is_state_respaced dag later c.count.ensures.graph c.recall_graph.ensures units validators _ c.self.invariant.0 refl c.args.count,
       record {
         leaders_are = beside.leaders_are;
         weights_are = beside.weights_are;
-        noted = noted_respaced dag later c.count.ensures.graph c.count-count.ensures.graph units validators c.reserve-then-self-count-2.new.self (c.reserve-then-self-count-2.ensures.noted dag beside.noted);
+        noted = noted_respaced dag later c.count.ensures.graph c.recall_graph.ensures units validators c.reserve-then-self-count-2.new.self (c.reserve-then-self-count-2.ensures.noted dag beside.noted);
         all = omega arith;
         dag_serves = dag_room;
         naivety_serves = naivety_room;
         forks_serve = omega arith;
         marks_serve = omega arith;
-        own_kept = kept_respaced dag later c.count.ensures.graph c.count-count.ensures.graph units validators _ _ beside.own_kept;
-        judged_kept = kept_respaced dag later c.count.ensures.graph c.count-count.ensures.graph units validators _ _ beside.judged_kept;
+        own_kept = kept_respaced dag later c.count.ensures.graph c.recall_graph.ensures units validators _ _ beside.own_kept;
+        judged_kept = kept_respaced dag later c.count.ensures.graph c.recall_graph.ensures units validators _ _ beside.judged_kept;
       },
     )

@@ -1,7 +1,7 @@
 use Rattle.std.proofs.Common.{length, sym, ap, ◌∙◌}
 use Rattle.hw_dag.specs.Dag.{graph, observations}
 use Rattle.hw_horizon.proofs.RoundLaws.{after_slots, slots_same, next_length, from_members}
-use Rattle.hw_horizon.proofs.rounds.settle.Goals as goal
+use Rattle.hw_horizon.proofs.rounds.prune.Goals as goal
 
 pub put_next-requires-clause-slots : goal.put_next-requires-clause-slots
 put_next-requires-clause-slots c =
