@@ -1,5 +1,5 @@
 -- Lanes by the latest unit of each validator.
-use Rattle.std.proofs.Common.{◌≡◌, ℕ, ◌+◌, ◌<◌, ◌≤◌, ◌==◌, ◌⊎◌, inl, inr, Bool, true, false, List, [], ◌∷◌, ◌++◌, ◌-◌, length, Option, Some, slice_set, refl, sym, ap, subst, ◌∙◌, arith, eqb, eqb-true, eq-eqb, length-append, get_or-set_same, get_or-set_other}
+use Rattle.std.proofs.Common.{◌≡◌, ℕ, ◌<◌, ◌≤◌, ◌==◌, ◌⊎◌, inl, inr, true, false, List, [], ◌∷◌, ◌++◌, ◌-◌, length, Option, Some, slice_set, refl, sym, ap, subst, ◌∙◌, arith, eqb, eqb-true, eq-eqb, length-append, get_or-set_same, get_or-set_other}
 use Rattle.std.proofs.Math.ListN.{length-set}
 use Rattle.std.proofs.lemmas.List.{get_or_push}
 use Rattle.std.proofs.lemmas.Bool.{cases_lt}
@@ -9,7 +9,7 @@ use Rattle.hw_types.proofs.WordsLaws.{never_both, either}
 use Rattle.hw_dag.specs.declared.numbers.UnitNo.{UnitNo}
 use Rattle.hw_dag.specs.declared.numbers.View.{View}
 use Rattle.hw_dag.specs.declared.numbers.View.TheVariants as view
-use Rattle.hw_dag.specs.Dag.{SettledUnit, UnitGraph, stand_in, unit_at, count_of, node_at, graph, creator_of, seq_of, view_at, GrowsTo}
+use Rattle.hw_dag.specs.Dag.{SettledUnit, UnitGraph, stand_in, unit_at, count_of, node_at, graph, creator_of, view_at, GrowsTo}
 use Rattle.hw_dag.specs.Admission.{IsGraph, with_unit}
 use Rattle.hw_dag.specs.Lanes.{is_lane_below}
 use Rattle.hw_dag.specs.Skips.{back_from}

@@ -1,5 +1,5 @@
 -- Panoramas in numbers, as the definitions see them.
-use Rattle.std.proofs.Common.{◌≡◌, ℕ, ◌<◌, true, List, length, Some, refl, sym, ap, ◌∙◌}
+use Rattle.std.proofs.Common.{◌≡◌, ℕ, zero, suc, ◌<◌, true, List, [], ◌∷◌, length, Some, refl, sym, ap, ◌∙◌, arith}
 use Rattle.std.proofs.Math.ListN.{get_or-map}
 use Rattle.std.proofs.lemmas.List.{length-map}
 use Rattle.hw_types.specs.declared.unit.Digest.{Digest}
@@ -21,6 +21,12 @@ slot_of dag panorama v = get_or-map (obs_of dag) panorama v view.Absent
 
 pub length-observations : (dag : UnitGraph) (panorama : List View) → length (observations dag panorama) ≡ length panorama
 length-observations dag panorama = simp length-map
+
+-- a slot that names a unit is one of the slots
+pub slot_inside : (panorama : List View) (v : ℕ) (number : UnitNo) → view_at panorama v ≡ view.Correct number → v < length panorama
+slot_inside [] v number e = absurd cc
+slot_inside (w ∷ ws) zero number e = omega arith
+slot_inside (w ∷ ws) (suc v) number e = let rest = slot_inside ws v number e in omega arith
 
 -- a slot that names a unit has a number
 pub obs_number : (dag : UnitGraph) (w : View) (d : Digest) → obs_of dag w ≡ Correct d → (number : UnitNo) × (w ≡ view.Correct number) × ((unit_at dag number.0).digest ≡ d)

@@ -4,7 +4,9 @@ use Rattle.hw_types.specs.Graph.{is_on_lane, is_below}
 use Rattle.hw_types.specs.Votes.{is_block, unit_fork}
 use Rattle.std.specs.Option.{option_map}
 use Rattle.hw_dag.specs.declared.numbers.UnitNo.{UnitNo}
-use Rattle.hw_dag.specs.Dag.{UnitGraph, unit_at, count_of, node_at, graph, seq_of}
+use Rattle.hw_dag.specs.declared.numbers.View.{View}
+use Rattle.hw_dag.specs.declared.numbers.View.TheVariants as view
+use Rattle.hw_dag.specs.Dag.{UnitGraph, unit_at, count_of, node_at, graph, seq_of, view_at}
 use Rattle.hw_dag.specs.Admission.{fork_given}
 
 -- the one unit is on the lane of the other
@@ -14,6 +16,13 @@ is_lane_below dag low high = is_on_lane (graph dag) (node_at dag low) (node_at d
 -- the one unit is the other or below it
 abbrev pub is_seen : UnitGraph → ℕ → ℕ → Bool
 is_seen dag low high = is_below (graph dag) (node_at dag low) (node_at dag high)
+
+-- an observed unit is the unit or has it below it
+pub record IsBelow (dag : UnitGraph) (panorama : List View) (n : ℕ) : Type 0 where
+  pub slot : ℕ
+  pub cited : UnitNo
+  pub observed : view_at panorama slot ≡ view.Correct cited
+  pub seen : is_seen dag n cited.0 ≡ true
 
 -- the unit of that number on the lane of another
 pub record IsLaneAt (dag : UnitGraph) (start seq found : ℕ) : Type 0 where

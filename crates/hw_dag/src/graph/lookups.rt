@@ -1,15 +1,16 @@
 //! Look-ups along lanes and parents, and what is below a unit.
 
-ghost use Rattle.std.specs.Prelude.{◌≡◌, ℕ, ◌+◌, ◌<◌, ◌≤◌, ◌⊎◌, true, false, length, Some, unwrap_or, IsTrue};
+ghost use Rattle.std.specs.Prelude.{◌≡◌, ℕ, ◌+◌, ◌<◌, ◌≤◌, ◌⊎◌, ◌↔◌, true, false, length, Some, unwrap_or, IsTrue, IfSome, IfNone};
 ghost use Rattle.hw_types.specs.Votes.{is_block};
 ghost use Rattle.hw_skip.specs.Skip.{jump_count};
-ghost use Rattle.hw_dag.specs.Dag.{unit_at, node_at, count_of, creator_of, seq_of};
-ghost use Rattle.hw_dag.specs.Lanes.{is_lane_below, is_seen, IsLaneAt, IsAncestorAt};
+ghost use Rattle.hw_dag.specs.Dag.{unit_at, node_at, count_of, creator_of, seq_of, view_at};
+ghost use Rattle.hw_dag.specs.Lanes.{is_lane_below, is_seen, IsLaneAt, IsAncestorAt, IsBelow};
 ghost use Rattle.hw_dag.specs.declared.numbers.UnitNo.{UnitNo as Number};
-ghost use Rattle.hw_dag.specs.Walks.{is_marked, Cites};
+ghost use Rattle.hw_dag.specs.Tables.{IsKnown};
+ghost use Rattle.hw_dag.specs.Walks.{is_marked, Cites, HasRoom, IsInNoSlot, IsCitedBySome, IsBelowMarked};
 
 use crate::graph::Dag;
-use crate::numbers::{UnitNo, View};
+use crate::numbers::{Panorama, UnitNo, View};
 use crate::scratch::Marks;
 use hw_skip::Steps;
 use std::marker::Brand;
@@ -138,17 +139,65 @@ impl Dag {
         ensures seen { result ≡ is_seen self.now low.0 high.0 }
         ensures room { marks.new ≡ marks.old }
     {
+        match self.told(high, low) {
+            Some(told) => told,
+            None => self.reaches(&[View::Correct(high)], low, marks.marked.as_mut_slice()),
+        }
+    }
+
+    /// Whether `low` is a unit of the panorama or below one of them, whoever made them. Where look-ups don't
+    /// tell, one walk from all slots at once does.
+    pub fn is_below_any(&self, panorama: &Panorama, low: UnitNo, marks: &mut Marks) -> bool
+        requires known { IsKnown self.now panorama.now }
+        requires low_known { low.0 < count_of self.now }
+        requires room { HasRoom panorama.now marks.old }
+        ensures below { IsTrue result ↔ IsBelow self.now panorama.now low.0 }
+        ensures room { marks.new ≡ marks.old }
+    {
+        let slots = panorama.views();
+        match self.told_by(slots, low) {
+            Some(told) => told,
+            None => self.reaches(slots, low, marks.marked.as_mut_slice()),
+        }
+    }
+
+    /// Whether `low` is the unit of a slot or below one, where no walk is needed to tell.
+    fn told_by(&self, slots: &[View], low: UnitNo) -> Option<bool>
+        requires known { IsKnown self.now slots.now }
+        requires low_known { low.0 < count_of self.now }
+        ensures told { IfSome result (λ told. IsTrue told ↔ IsBelow self.now slots.now low.0) }
+        ensures open { IfNone result (IsInNoSlot slots.now low.0) }
+    {
+        self.recall_graph();
+        let mut open = false;
+        for view in slots {
+            if let View::Correct(high) = *view {
+                match self.told(high, low) {
+                    Some(true) => return Some(true),
+                    Some(false) => {}
+                    None => open = true,
+                }
+            }
+        }
+        if open { None } else { Some(false) }
+    }
+
+    /// Whether `low` is `high` or below it, where no walk is needed to tell.
+    fn told(&self, high: UnitNo, low: UnitNo) -> Option<bool>
+        requires high_known { high.0 < count_of self.now }
+        requires low_known { low.0 < count_of self.now }
+        ensures told { IfSome result (λ told. told ≡ is_seen self.now low.0 high.0) }
+        ensures open { IfNone result (low.0 < high.0) }
+    {
         let creator = self.units[low.0 as usize].signed().unit.creator;
         // What a unit observes has a lesser number.
         if high.0 <= low.0 {
-            return high.0 == low.0;
+            return Some(high.0 == low.0);
         }
         match self.units[high.0 as usize].panorama().get(creator) {
-            View::Absent => false,
-            View::Correct(no) => self.on_lane(low, no),
-            View::Faulty => {
-                self.saw(high, low, creator) || self.reaches(high, low, marks.marked.as_mut_slice())
-            }
+            View::Absent => Some(false),
+            View::Correct(no) => Some(self.on_lane(low, no)),
+            View::Faulty => self.saw(high, low, creator).then_some(true),
         }
     }
 
@@ -215,18 +264,34 @@ impl Dag {
         }
     }
 
-    /// Whether `low` is below `high`, by a walk over the numbers between them: from each unit that was
-    /// come to, on to those that it observes. It looks at each unit at most once.
-    fn reaches(&self, high: UnitNo, low: UnitNo, marked: &mut [bool]) -> bool
-        requires high_known { high.0 < count_of self.now }
-        requires below { low.0 < high.0 }
-        requires room { high.0 ≤ length marked.old }
-        ensures { result ≡ is_seen self.now low.0 high.0 }
+    /// Whether `low` is below the unit of a slot, by one walk from all of them at once.
+    fn reaches(&self, slots: &[View], low: UnitNo, marked: &mut [bool]) -> bool
+        requires known { IsKnown self.now slots.now }
+        requires low_known { low.0 < count_of self.now }
+        requires apart { IsInNoSlot slots.now low.0 }
+        requires room { HasRoom slots.now (length marked.old) }
+        ensures { IsTrue result ↔ IsBelow self.now slots.now low.0 }
     {
-        let _ = &self.units;
-        clear(marked, low.0 as usize, high.0 as usize);
-        self.mark_observed(high, low, marked);
-        let mut next = high.0;
+        self.recall_graph();
+        let top = greatest(slots);
+        if top <= low.0 {
+            return false;
+        }
+        clear(marked, low.0 as usize, top as usize);
+        self.mark_observed_by(slots, low, marked);
+        self.walk(top, low, marked)
+    }
+
+    /// Whether `low` is a marked unit or below one, among those before `top`: from each unit that was come
+    /// to, on to those that it observes. It looks at each unit at most once.
+    fn walk(&self, top: u32, low: UnitNo, marked: &mut [bool]) -> bool
+        requires known { top ≤ count_of self.now }
+        requires below { low.0 < top }
+        requires room { top ≤ length marked.old }
+        ensures { IsTrue result ↔ IsBelowMarked self.now marked.old top low.0 }
+    {
+        self.recall_graph();
+        let mut next = top;
         while low.0 + 1 < next {
             next -= 1;
             if marked[next as usize] {
@@ -237,6 +302,20 @@ impl Dag {
             }
         }
         marked[low.0 as usize]
+    }
+
+    /// Marks the units that those of the slots observe, from `low` on.
+    fn mark_observed_by(&self, slots: &[View], low: UnitNo, marked: &mut [bool])
+        requires known { IsKnown self.now slots.now }
+        requires room { HasRoom slots.now (length marked.old) }
+        ensures all { (m : ℕ) → IsCitedBySome self.now slots.now m → low.0 ≤ m → is_marked marked.new m ≡ true }
+        ensures only { (m : ℕ) → is_marked marked.new m ≡ true → (is_marked marked.old m ≡ true) ⊎ IsCitedBySome self.now slots.now m }
+    {
+        for view in slots {
+            if let View::Correct(no) = *view {
+                self.mark_observed(no, low, marked);
+            }
+        }
     }
 
     /// Marks the units that a unit observes, from `low` on.
@@ -276,4 +355,18 @@ fn clear(marked: &mut [bool], from: usize, to: usize)
     for m in from..to {
         marked[m] = false;
     }
+}
+
+// The greatest number in the slots, or 0 where there is none.
+fn greatest(slots: &[View]) -> u32
+    ensures all { (slot : ℕ) (number : Number) → view_at slots.now slot ≡ View.Correct number → number.0 ≤ result }
+    ensures one { 0 < result → (slot : ℕ) × (number : Number) × (view_at slots.now slot ≡ View.Correct number) × (number.0 ≡ result) }
+{
+    let mut top = 0;
+    for view in slots {
+        if let View::Correct(no) = *view {
+            top = top.max(no.0);
+        }
+    }
+    top
 }

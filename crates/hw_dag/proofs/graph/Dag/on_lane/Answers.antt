@@ -1,4 +1,4 @@
-use Rattle.std.proofs.Common.{sym, ap, subst, ◌∙◌, arith, eqb, eqb-true, inl, inr}
+use Rattle.std.proofs.Common.{sym, ap, subst, ◌∙◌, eqb, eqb-true, inl, inr}
 use Rattle.hw_types.proofs.WordsLaws.{either}
 use Rattle.hw_types.specs.declared.unit.SignedUnit.{SignedUnit}
 use Rattle.hw_dag.specs.Dag.{SettledUnit, creator_of}

@@ -1,57 +1,19 @@
-use Rattle.std.proofs.Common.{◌≡◌, ◌+◌, ◌-◌, ℕ, sym, subst, arith}
-use Rattle.hw_dag.specs.Admission.{IsGraph}
-use Rattle.hw_dag.proofs.LaneLaws.{past_seen}
-use Rattle.hw_dag.proofs.MarkLaws.{IsWalked, walk_starts, walk_skips, walk_looks, walk_ends}
+use Rattle.std.proofs.Common.{arith}
+use Rattle.hw_dag.proofs.MarkLaws.{slots_reach, none_above}
 use Rattle.hw_dag.proofs.graph.Dag.reaches.Goals as goal
 
-pub loop-next-init : goal.loop-next-init
-loop-next-init c = (
-  c.requires.below,
-  omega arith,
-  λ g. walk_starts c.args.self.now g c.args.high.0 c.args.low.0 c.clear.new.marked c.mark_observed.new.marked c.requires.high_known c.clear.ensures
-      (let made = c.mark_observed.ensures in record { kept = made.kept; all = made.all; only = made.only }),
+pub returns-then-top-low : goal.returns-then-top-low
+returns-then-top-low c = (
+  λ t. absurd cc,
+  λ b. absurd (none_above c.args.self.now c.recall_graph.ensures c.args.slots.now c.greatest-top.result c.args.low.0 c.requires.known c.requires.low_known c.requires.apart c.greatest-top.ensures.all c.if-top-low.true b),
 )
-
-pub loop-next-preserved-else-marked-low : goal.loop-next-preserved-else-marked-low
-loop-next-preserved-else-marked-low c =
-    let i = c.loop-next.invariant in
-    let more = c.loop-next-test.true in
-    let up : c.loop-next.next ≡ c.loop-next.next - 1 + 1 = omega arith in (
-      omega arith,
-      omega (arith, i.1),
-      λ g. walk_looks c.args.self.now g c.args.high.0 c.args.low.0 (c.loop-next.next - 1) c.loop-next.marked c.mark_observed-then-marked-next.new.marked c.requires.high_known (omega (arith, i.1)) (omega arith)
-          (subst (λ (n : ℕ). IsWalked c.args.self.now g c.args.high.0 c.args.low.0 n c.loop-next.marked) up (i.2 g)) c.if-marked-next.true
-          (let made = c.mark_observed-then-marked-next.ensures in record { kept = made.kept; all = made.all; only = made.only }),
-    )
-
-pub loop-next-preserved : goal.loop-next-preserved
-loop-next-preserved c =
-    let i = c.loop-next.invariant in
-    let more = c.loop-next-test.true in
-    let up : c.loop-next.next ≡ c.loop-next.next - 1 + 1 = omega arith in (
-      omega arith,
-      omega (arith, i.1),
-      λ g. walk_skips c.args.self.now g c.args.high.0 c.args.low.0 (c.loop-next.next - 1) c.loop-next.marked
-          (subst (λ (n : ℕ). IsWalked c.args.self.now g c.args.high.0 c.args.low.0 n c.loop-next.marked) up (i.2 g)) c.if-marked-next.false,
-    )
-
--- what is marked is below
-pub returns-then-marked-low : goal.returns-then-marked-low
-returns-then-marked-low c =
-    let graph = subst IsGraph c.self.view_is c.self.invariant.0.graph_is in
-    let i = c.loop-next.invariant in
-    let more = c.loop-next-test.true in
-    let up : c.loop-next.next ≡ c.loop-next.next - 1 + 1 = omega arith in
-    let walked = walk_looks c.args.self.now graph c.args.high.0 c.args.low.0 (c.loop-next.next - 1) c.loop-next.marked c.mark_observed-then-marked-next.new.marked c.requires.high_known (omega (arith, i.1)) (omega arith)
-    (subst (λ (n : ℕ). IsWalked c.args.self.now graph c.args.high.0 c.args.low.0 n c.loop-next.marked) up (i.2 graph)) c.if-marked-next.true
-    (let made = c.mark_observed-then-marked-next.ensures in record { kept = made.kept; all = made.all; only = made.only }) in
-    sym (past_seen c.args.self.now graph c.args.low.0 c.args.high.0 (walked.below c.args.low.0 (omega arith) c.requires.below c.if-marked-low.true))
 
 pub returns : goal.returns
 returns c =
-    let graph = subst IsGraph c.self.view_is c.self.invariant.0.graph_is in
-    let i = c.loop-next.invariant in
-    let over = c.loop-next-test.false in
-    let at : c.loop-next.next ≡ c.args.low.0 + 1 = omega (arith, i.0) in
-    walk_ends c.args.self.now graph c.args.high.0 c.args.low.0 c.loop-next.marked c.requires.below c.requires.high_known
-    (subst (λ (n : ℕ). IsWalked c.args.self.now graph c.args.high.0 c.args.low.0 n c.loop-next.marked) at (i.2 graph))
+    let above = c.if-top-low.false in
+    let one = c.greatest-top.ensures.one (omega arith) in
+    let known = c.requires.known one.0 one.1 one.2 in
+    let same = one.3 in
+    let reach = slots_reach c.args.self.now c.recall_graph.ensures c.args.slots.now c.greatest-top.result c.args.low.0 c.clear.new.marked c.mark_observed_by.new.marked c.requires.known c.requires.low_known (omega arith) c.requires.apart c.greatest-top.ensures.all
+    c.clear.ensures c.mark_observed_by.ensures.all c.mark_observed_by.ensures.only in
+    (λ t. reach.0 (c.walk.ensures.0 t), λ b. c.walk.ensures.1 (reach.1 b))

@@ -1,7 +1,6 @@
-use Rattle.std.proofs.Common.{◌≡◌, List, refl, sym, ap, subst, ◌∙◌}
+use Rattle.std.proofs.Common.{List, refl, sym, ap, subst, ◌∙◌}
 use Rattle.hw_dag.specs.declared.numbers.View.{View}
-use Rattle.hw_dag.specs.declared.numbers.View.TheVariants as view
-use Rattle.hw_dag.specs.Dag.{SettledUnit, unit_at, view_at}
+use Rattle.hw_dag.specs.Dag.{SettledUnit, view_at}
 use Rattle.hw_dag.specs.Admission.{IsGraph}
 use Rattle.hw_dag.specs.Walks.{Cites}
 use Rattle.hw_dag.proofs.PlaceLaws.{read_unit}

@@ -1,5 +1,5 @@
 use Rattle.std.proofs.Common.{sym, ap, subst, ◌∙◌}
-use Rattle.hw_dag.specs.Dag.{SettledUnit, view_at, unit_at}
+use Rattle.hw_dag.specs.Dag.{SettledUnit, unit_at}
 use Rattle.hw_dag.specs.Admission.{IsGraph}
 use Rattle.hw_dag.proofs.PlaceLaws.{read_unit, read_slot}
 use Rattle.hw_dag.proofs.MarkLaws.{seen_on_cited}
