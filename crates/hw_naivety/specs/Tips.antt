@@ -8,15 +8,10 @@ use Rattle.hw_dag.specs.declared.numbers.View.TheVariants as view
 use Rattle.hw_dag.specs.Dag.{UnitGraph, unit_at, count_of, creator_of, view_at, IsPanorama}
 use Rattle.hw_dag.specs.Admission.{IsGraph}
 use Rattle.hw_dag.specs.Lanes.{is_lane_below, is_seen}
+pub use Rattle.hw_dag.specs.Lanes.{IsBelow}
+pub use Rattle.hw_dag.specs.Walks.{HasRoom}
 
 -- ---- naive units, by number
-
--- an observed unit is the unit or has it below it
-pub record IsBelow (dag : UnitGraph) (panorama : List View) (n : ℕ) : Type 0 where
-  pub slot : ℕ
-  pub cited : UnitNo
-  pub observed : view_at panorama slot ≡ view.Correct cited
-  pub seen : is_seen dag n cited.0 ≡ true
 
 -- the unit of this name is there below, and is the unit or has it below it
 pub record IsBelowNamed (dag : UnitGraph) (panorama : List View) (name : Digest) (n : ℕ) : Type 0 where
@@ -86,10 +81,6 @@ pub record IsSight (dag : UnitGraph) (panorama : List View) (validators : ℕ) :
 -- each unit of the endorsed list has a lesser number
 abbrev pub IsEndOfList : UnitGraph → List Digest → ℕ → Type 0
 IsEndOfList dag endorsed end = (name : Digest) → Among name endorsed → (n : ℕ) → n < count_of dag → (unit_at dag n).digest ≡ name → n < end
-
--- the marks serve for each observed unit
-abbrev pub HasRoom : List View → ℕ → Type 0
-HasRoom panorama room = (slot : ℕ) (cited : UnitNo) → view_at panorama slot ≡ view.Correct cited → cited.0 ≤ room
 
 -- the endorsed list has those of the observed units
 abbrev pub HasLists : UnitGraph → List View → List Digest → Type 0

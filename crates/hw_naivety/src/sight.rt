@@ -27,17 +27,7 @@ impl Sight<'_> {
         ensures below { IsTrue result ↔ IsBelow self.now.dag.now self.now.panorama.now no.0 }
         ensures room { marks.new ≡ marks.old }
     {
-        if self.has_on_lane(no) {
-            return true;
-        }
-        for slot in 0..self.validators {
-            if let View::Correct(cited) = self.panorama.get(slot) {
-                if self.dag.sees(cited, no, marks) {
-                    return true;
-                }
-            }
-        }
-        false
+        self.has_on_lane(no) || self.dag.is_below_any(self.panorama, no, marks)
     }
 
     /// Whether another one is on the lane of the unit that it observes of the same creator, as units below
