@@ -95,17 +95,7 @@ fn has_below(dag: &Dag, prepared: &Prepared, no: UnitNo, marks: &mut Marks) -> b
     ensures below { IsTrue result ↔ Among (node_at dag.now no.0) (below_of dag.now prepared.now) }
     ensures room { marks.new ≡ marks.old }
 {
-    if is_on_cited_lane(dag, prepared, no) {
-        return true;
-    }
-    for validator in 0..dag.validators() {
-        if let Some(high) = cited(prepared, validator) {
-            if dag.sees(high, no, marks) {
-                return true;
-            }
-        }
-    }
-    false
+    is_on_cited_lane(dag, prepared, no) || dag.is_below_any(prepared.panorama(), no, marks)
 }
 
 /// Whether the unit is on the lane of the one that it cites of the same creator, as units below mostly
