@@ -14,11 +14,12 @@ use Rattle.hw_dag.specs.Lanes.{IsAncestor, IsAncestorAt, itself, further}
 use Rattle.hw_dag.proofs.PlaceLaws.{among_place}
 use Rattle.hw_forks.specs.declared.votes.Vote.{Vote}
 use Rattle.hw_forks.specs.Votes.{height_at, IsVote, AreVotes}
-use Rattle.hw_forks.specs.Walk.{is_over, score_in, votes_towards, Yields, IsBest, WalksTo, stops, goes, IsCommon, IsOnTheWay, HasNoCommonChild, IsChild}
+use Rattle.hw_forks.specs.Walk.{is_over, score_in, votes_towards, Yields, IsBest, WalksTo, stops, goes, IsCommon, IsPassed, NoChildHasMajority}
 use Rattle.hw_forks.proofs.AncestorLaws.{over_anc, anc_over, anc_trans, anc_height, anc_line, anc_between, child_height}
 use Rattle.hw_forks.proofs.ScoreLaws.{share, score_some}
 use Rattle.hw_forks.proofs.LoopLaws.{no_vote}
-use Rattle.hw_forks.proofs.StartLaws.{on_way_down, begins}
+use Rattle.hw_forks.proofs.StartLaws.{passed_down, begins}
+use Rattle.hw_forks.proofs.MajorityLaws.{common_majority}
 
 -- what is kept is a vote towards the block
 pub towards_is : (dag : UnitGraph) (c : ℕ) (votes : List Vote) (vote : Vote) → Among vote (votes_towards dag c votes) → Among vote votes × (is_over dag c vote.block.0 ≡ true)
@@ -92,25 +93,6 @@ module _ (dag : UnitGraph) (g : IsGraph dag) where
   common_lower votes None vote m is common = omega arith
   common_lower votes (Some number) vote m is common = let le = anc_height dag g number.0 vote.block.0 is.known (common.over vote m) in omega arith
 
-  -- a child of that of the highest vote isn't one
-  pub common_none : (votes : List Vote) (vote : Vote) → Among vote votes → IsVote dag vote → HasNoCommonChild dag votes (Some vote.block)
-  common_none votes vote m is c child common =
-      let height = child_height dag g (Some vote.block) c child in
-      let le = anc_height dag g c vote.block.0 is.known (common.over vote m) in
-      absurd (omega arith)
-
-  -- where two votes have no one ancestor of a height, all votes have none from there on
-  pub common_below : (votes : List Vote) → AreVotes dag votes → (height one two : ℕ) (first other : Vote) → Among first votes → Among other votes → IsAncestorAt dag first.block.0 height one → IsAncestorAt dag other.block.0 height two
-      → (two ≡ one → ⊥) → (c : ℕ) → IsCommon dag votes c → height_at dag c < height
-  common_below votes are height one two first other m n at_first at_other differ c common = elim (cases_lt (height_at dag c) height) [
-    | inl less ↦ less
-    | inr above ↦ absurd (
-        let reached : height_at dag one ≡ height = ap (λ (o : Option ℕ). unwrap_or o 0) at_first.height_is in
-        let other_reached : height_at dag two ≡ height = ap (λ (o : Option ℕ). unwrap_or o 0) at_other.height_is in
-        let over : IsAncestor dag one c = anc_between dag g one c first.block.0 (are.each first m).known at_first.ancestor (common.over first m) (omega arith) in
-        differ (anc_line dag g two one other.block.0 (are.each other n).known at_other.ancestor (anc_trans dag g one c other.block.0 over (common.over other n)) (other_reached ∙ sym reached)))
-  ]
-
   -- a vote that isn't kept is for no descendant of the block
   share_left : (c d : ℕ) (vote : Vote) → vote.block.0 < count_of dag → IsAncestor dag c d → is_over dag c vote.block.0 ≡ false → share dag d vote ≡ 0
   share_left c d vote lt h left = go (is_over dag d vote.block.0) refl
@@ -164,52 +146,53 @@ module _ (dag : UnitGraph) (g : IsGraph dag) where
         let lt = k.1 in
         omega arith
 
-    -- and some vote isn't, where they don't all descend from the block
-    pub towards_fewer : (place : Option UnitNo) → IsChild dag place c → HasNoCommonChild dag votes place → length (votes_towards dag c votes) < length votes
-    towards_fewer place child none = elim (cases_lt (length (votes_towards dag c votes)) (length votes)) [
+    -- and some vote isn't, where the block hasn't the majority
+    pub towards_fewer : (place : Option UnitNo) → IsBest dag votes place c → NoChildHasMajority dag votes place → length (votes_towards dag c votes) < length votes
+    towards_fewer place best none = elim (cases_lt (length (votes_towards dag c votes)) (length votes)) [
       | inl less ↦ less
-      | inr above ↦ absurd (none c child (record {
-        known = child.known;
-        block = child.block;
+      | inr above ↦ absurd (none c best.child (common_majority dag g votes are (let some = towards_some place best in let few = towards_few dag c votes in omega arith) c (record {
+        known = best.child.known;
+        block = best.child.block;
         over = λ vote m. over_anc dag g (count_of dag) c vote.block.0 (all_towards dag c votes above vote m);
-      }))
+      })))
     ]
 
-    -- A walk by the votes that are kept, from a block on their way that isn't below the best child, is a walk by all votes.
+    -- A walk by the votes that are kept, from a block that it passes through and that isn't below the best child, is a walk by all votes.
     next_round : (place next end : Option UnitNo) → IsBest dag votes place c → height_above dag (Some (record { 0 = c })) ≤ height_above dag next
-        → IfSome next (λ number. IsOnTheWay dag (votes_towards dag c votes) number.0) → WalksTo dag (votes_towards dag c votes) end next → WalksTo dag votes end place
+        → IfSome next (λ number. IsPassed dag (votes_towards dag c votes) number.0) → WalksTo dag (votes_towards dag c votes) end next → WalksTo dag votes end place
     next_round place None end best up w h = absurd (omega arith)
     next_round place (Some s) end best up w h =
         let common = towards_common c votes best.child.known best.child.block in
-        let known = (are.each w.some.0 (towards_is dag c votes w.some.0 w.some.1).0).known in
-        let above : IsAncestor dag c s.0 = anc_between dag g c s.0 w.some.0.block.0 known (common.over w.some.0 w.some.1) w.some.2 (omega arith) in
+        let v = score_some dag g (votes_towards dag c votes) s.0 (w s.0 itself).some in
+        let known = (are.each v.0 (towards_is dag c votes v.0 v.1).0).known in
+        let above : IsAncestor dag c s.0 = anc_between dag g c s.0 v.0.block.0 known (common.over v.0 v.1) v.2 (omega arith) in
         goes place (record { 0 = c }) best
-        (walk_within end (Some (record { 0 = c })) (record { 0 = c }) refl itself (on_way_down dag (votes_towards dag c votes) (towards_are dag c votes are) c s.0 above w end h))
+        (walk_within end (Some (record { 0 = c })) (record { 0 = c }) refl itself (passed_down dag (votes_towards dag c votes) (towards_are dag c votes are) c s.0 above w end h))
 
 -- The walk by all votes passes through the place, and goes on from there as the walk by the votes that are kept.
 pub record IsUnderWay (dag : UnitGraph) (all kept : List Vote) (place : Option UnitNo) : Type 0 where
   pub are : AreVotes dag kept
-  pub passed : IfSome place (λ number. IsOnTheWay dag kept number.0)
-  pub highest : HasNoCommonChild dag kept place
+  pub passed : IfSome place (λ number. IsPassed dag kept number.0)
+  pub highest : NoChildHasMajority dag kept place
   pub goes_on : (end : Option UnitNo) → WalksTo dag kept end place → WalksTo dag all end None
 
 -- It begins with all votes.
-pub under_way_first : (dag : UnitGraph) (all : List Vote) (place : Option UnitNo) → AreVotes dag all → IfSome place (λ number. IsOnTheWay dag all number.0) → HasNoCommonChild dag all place → IsUnderWay dag all all place
+pub under_way_first : (dag : UnitGraph) (all : List Vote) (place : Option UnitNo) → AreVotes dag all → IfSome place (λ number. IsPassed dag all number.0) → NoChildHasMajority dag all place → IsUnderWay dag all all place
 under_way_first dag all place are passed highest = record {
   are = are;
   passed = passed;
   highest = highest;
-  goes_on = (begins dag all are place passed).1;
+  goes_on = begins dag all are place passed;
 }
 
 -- At a branching it goes on with the votes towards the best child.
 pub under_way_more : (dag : UnitGraph) (all before kept : List Vote) (place next : Option UnitNo) (child : UnitNo) → IsUnderWay dag all before place → IsBest dag before place child.0 → kept ≡ votes_towards dag child.0 before
-    → IfSome next (λ number. IsOnTheWay dag kept number.0) → HasNoCommonChild dag kept next → height_above dag (Some child) ≤ height_above dag next → IsUnderWay dag all kept next
+    → IfSome next (λ number. IsPassed dag kept number.0) → NoChildHasMajority dag kept next → height_above dag (Some child) ≤ height_above dag next → IsUnderWay dag all kept next
 under_way_more dag all before kept place next child w best same passed highest up = record {
   are = subst (AreVotes dag) (sym same) (towards_are dag child.0 before w.are);
   passed = passed;
   highest = highest;
   goes_on = λ end h. w.goes_on end (next_round dag w.are.graph child.0 before w.are place next end best up
-      (subst (λ (votes : List Vote). IfSome next (λ number. IsOnTheWay dag votes number.0)) same passed)
+      (subst (λ (votes : List Vote). IfSome next (λ number. IsPassed dag votes number.0)) same passed)
       (subst (λ (votes : List Vote). WalksTo dag votes end next) same h));
 }

@@ -40,7 +40,7 @@ so_far_more P votes i each here k lt = elim (cases_lt k i) [
 pub vote_is_among : (votes : List Vote) (i : ℕ) → i < length votes → Among (get_or votes i no_vote) votes
 vote_is_among votes i lt = place_is_among no_vote votes i lt
 
-eq_cases : (m n : ℕ) → (m ≡ n) ⊎ (m ≢ n)
+pub eq_cases : (m n : ℕ) → (m ≡ n) ⊎ (m ≢ n)
 eq_cases m n = elim (cases_lt m n) [
   | inl less ↦ inr (λ e. absurd (omega arith))
   | inr above ↦ elim (cases_lt n m) [ inl more ↦ inr (λ e. absurd (omega arith)) | inr below ↦ inl (omega arith) ]

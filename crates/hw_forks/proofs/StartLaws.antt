@@ -1,4 +1,4 @@
--- The walk passes through each block that is on the way to all votes.
+-- Blocks that the walk passes through, as each that is on the way to all votes.
 use Rattle.std.proofs.Common.{◌≡◌, ℕ, zero, suc, ◌<◌, inl, inr, List, Option, Some, None, refl, sym, subst, ◌∙◌, arith}
 use Rattle.std.specs.Prelude.{IfSome}
 use Rattle.std.proofs.lemmas.Bool.{cases_lt}
@@ -8,7 +8,7 @@ use Rattle.hw_dag.specs.Lanes.{IsAncestor, itself, further}
 use Rattle.hw_dag.proofs.DepthLaws.{parent_earlier, parent_is_block}
 use Rattle.hw_forks.specs.declared.votes.Vote.{Vote}
 use Rattle.hw_forks.specs.Votes.{AreVotes}
-use Rattle.hw_forks.specs.Walk.{score_in, IsChild, IsBest, WalksTo, goes, IsOnTheWay}
+use Rattle.hw_forks.specs.Walk.{score_in, IsChild, IsBest, WalksTo, goes, IsOnTheWay, IsPassed}
 use Rattle.hw_forks.proofs.AncestorLaws.{anc_trans, anc_split, one_child}
 use Rattle.hw_forks.proofs.ScoreLaws.{score_some, score_has}
 
@@ -52,26 +52,47 @@ module _ (dag : UnitGraph) (votes : List Vote) (are : AreVotes dag votes) where
       some : 0 < score_in dag votes c
       some = score_has dag are.graph votes c w.some.0 w.some.1 (are.each w.some.0 w.some.1) w.some.2
 
-  -- so a walk from there is a walk from each ancestor
-  pub on_way_down : (c s : ℕ) → IsAncestor dag c s → IsOnTheWay dag votes s → (end : Option UnitNo) → WalksTo dag votes end (Some (record { 0 = s })) → WalksTo dag votes end (Some (record { 0 = c }))
-  on_way_down c _ itself w end h = h
-  on_way_down c _ (further s p e k) w end h = on_way_down c p.0 k (parent_on_way s p e w) end (goes (Some p) (record { 0 = s }) (on_way_best s (Some p) e w) h)
-
-  on_way_within : (fuel c : ℕ) → c < fuel → IsOnTheWay dag votes c → (end : Option UnitNo) → WalksTo dag votes end (Some (record { 0 = c })) → WalksTo dag votes end None
-  on_way_within zero c less w end h = absurd (omega arith)
-  on_way_within (suc fuel) c less w end h = go (unit_at dag c).parent refl (λ p lt v k. on_way_within fuel p lt v end k)
+  -- so the walk passes through it
+  pub chain_passed : (c : ℕ) → IsOnTheWay dag votes c → IsPassed dag votes c
+  chain_passed c w a h = go a c h w
     where
-      go : (o : Option UnitNo) → (unit_at dag c).parent ≡ o → ((p : ℕ) → p < fuel → IsOnTheWay dag votes p → WalksTo dag votes end (Some (record { 0 = p })) → WalksTo dag votes end None) → WalksTo dag votes end None
-      go None e later = goes None (record { 0 = c }) (on_way_best c None e w) h
+      go : (a c : ℕ) → IsAncestor dag a c → IsOnTheWay dag votes c → IsBest dag votes (unit_at dag a).parent a
+      go a _ itself v = on_way_best a (unit_at dag a).parent refl v
+      go a _ (further high p e k) v = go a p.0 k (parent_on_way high p e v)
+
+  -- ---- a block that the walk passes through
+
+  parent_passed : (c : ℕ) (p : UnitNo) → (unit_at dag c).parent ≡ Some p → IsPassed dag votes c → IsPassed dag votes p.0
+  parent_passed c p e w = λ a h. w a (further c p e h)
+
+  -- a walk from there is a walk from each ancestor
+  pub passed_down : (c s : ℕ) → IsAncestor dag c s → IsPassed dag votes s → (end : Option UnitNo) → WalksTo dag votes end (Some (record { 0 = s })) → WalksTo dag votes end (Some (record { 0 = c }))
+  passed_down c _ itself w end h = h
+  passed_down c _ (further s p e k) w end h = passed_down c p.0 k (parent_passed s p e w) end (goes (Some p) (record { 0 = s }) (subst (λ (o : Option UnitNo). IsBest dag votes o s) e (w s itself)) h)
+
+  passed_within : (fuel c : ℕ) → c < fuel → IsPassed dag votes c → (end : Option UnitNo) → WalksTo dag votes end (Some (record { 0 = c })) → WalksTo dag votes end None
+  passed_within zero c less w end h = absurd (omega arith)
+  passed_within (suc fuel) c less w end h = go (unit_at dag c).parent refl (λ p lt v k. passed_within fuel p lt v end k)
+    where
+      best : (o : Option UnitNo) → (unit_at dag c).parent ≡ o → IsBest dag votes o c
+      best o e = subst (λ (o : Option UnitNo). IsBest dag votes o c) e (w c itself)
+
+      go : (o : Option UnitNo) → (unit_at dag c).parent ≡ o → ((p : ℕ) → p < fuel → IsPassed dag votes p → WalksTo dag votes end (Some (record { 0 = p })) → WalksTo dag votes end None) → WalksTo dag votes end None
+      go None e later = goes None (record { 0 = c }) (best None e) h
       go (Some p) e later =
-          let earlier = parent_earlier dag are.graph c p w.known e in
-          later p.0 (omega arith) (parent_on_way c p e w) (goes (Some p) (record { 0 = c }) (on_way_best c (Some p) e w) h)
+          let earlier = parent_earlier dag are.graph c p (w c itself).child.known e in
+          later p.0 (omega arith) (parent_passed c p e w) (goes (Some p) (record { 0 = c }) (best (Some p) e) h)
 
   -- and from above all blocks
-  pub on_way_walk : (c : ℕ) → IsOnTheWay dag votes c → (end : Option UnitNo) → WalksTo dag votes end (Some (record { 0 = c })) → WalksTo dag votes end None
-  on_way_walk c w end h = on_way_within (suc c) c (omega arith) w end h
+  passed_walk : (c : ℕ) → IsPassed dag votes c → (end : Option UnitNo) → WalksTo dag votes end (Some (record { 0 = c })) → WalksTo dag votes end None
+  passed_walk c w end h = passed_within (suc c) c (omega arith) w end h
 
   -- where the walk can begin it comes to the same end
-  pub begins : (place : Option UnitNo) → IfSome place (λ number. IsOnTheWay dag votes number.0) → (IfSome place (λ number. number.0 < count_of dag)) × ((end : Option UnitNo) → WalksTo dag votes end place → WalksTo dag votes end None)
-  begins None w = (tt, λ end h. h)
-  begins (Some number) w = (w.known, on_way_walk number.0 w)
+  pub begins : (place : Option UnitNo) → IfSome place (λ number. IsPassed dag votes number.0) → (end : Option UnitNo) → WalksTo dag votes end place → WalksTo dag votes end None
+  begins None w = λ end h. h
+  begins (Some number) w = passed_walk number.0 w
+
+  -- it is a block of the graph
+  pub passed_known : (place : Option UnitNo) → IfSome place (λ number. IsPassed dag votes number.0) → IfSome place (λ number. number.0 < count_of dag)
+  passed_known None w = tt
+  passed_known (Some number) w = (w number.0 itself).child.known

@@ -1,5 +1,5 @@
 -- The walk of the fork choice, by number.
-use Rattle.std.specs.Prelude.{◌≡◌, ℕ, zero, suc, ◌<◌, ◌⊎◌, Bool, true, ◌||◌, ◌==◌, List, Option, Some, None, sum_by, filter, slice_index, if◌then◌else◌}
+use Rattle.std.specs.Prelude.{◌≡◌, ℕ, zero, suc, ◌≢◌, ◌+◌, ◌-◌, ◌<◌, ◌≤◌, ◌⊎◌, Bool, true, ◌||◌, ◌==◌, List, Option, Some, None, sum_by, filter, slice_index, if◌then◌else◌}
 use Rattle.hw_types.specs.Graph.{is_some_and, digest_lt}
 use Rattle.hw_types.specs.Below.{Among}
 use Rattle.hw_types.specs.Votes.{is_block}
@@ -7,6 +7,7 @@ use Rattle.hw_dag.specs.declared.numbers.UnitNo.{UnitNo}
 use Rattle.hw_dag.specs.Dag.{UnitGraph, unit_at, count_of, node_at}
 use Rattle.hw_dag.specs.Lanes.{IsAncestor}
 use Rattle.hw_forks.specs.declared.votes.Vote.{Vote}
+use Rattle.hw_forks.specs.declared.majority.Leader.{Leader}
 
 -- the one block is the other, or n or fewer parents lead from the other to it
 unfoldable pub is_over_within : ℕ → UnitGraph → ℕ → ℕ → Bool
@@ -59,16 +60,38 @@ pub record IsCommon (dag : UnitGraph) (votes : List Vote) (c : ℕ) : Type 0 whe
   pub block : is_block (node_at dag c) ≡ true
   pub over : (vote : Vote) → Among vote votes → IsAncestor dag c vote.block.0
 
--- no child of the place is one from which all votes descend
-abbrev pub HasNoCommonChild : UnitGraph → List Vote → Option UnitNo → Type 0
-HasNoCommonChild dag votes place = (c : ℕ) → IsChild dag place c → IsCommon dag votes c → ⊥
-
 -- some vote is for the block or a descendant of it, and each other for one of its ancestors
 pub record IsOnTheWay (dag : UnitGraph) (votes : List Vote) (c : ℕ) : Type 0 where
   pub known : c < count_of dag
   pub block : is_block (node_at dag c) ≡ true
   pub some : (vote : Vote) × Among vote votes × IsAncestor dag c vote.block.0
   pub line : (vote : Vote) → Among vote votes → IsAncestor dag c vote.block.0 ⊎ IsAncestor dag vote.block.0 c
+
+-- the walk passes through the block: it and each of its ancestors is the best child of its parent
+abbrev pub IsPassed : UnitGraph → List Vote → ℕ → Type 0
+IsPassed dag votes c = (a : ℕ) → IsAncestor dag a c → IsBest dag votes (unit_at dag a).parent a
+
+-- ---- majorities
+
+-- the weight of all votes
+unfoldable pub weight_in : List Vote → ℕ
+weight_in votes = sum_by (λ (vote : Vote). vote.weight) votes
+
+-- the votes for the block or descendants of it have more than half of the weight of all
+pub record HasMajority (dag : UnitGraph) (votes : List Vote) (c : ℕ) : Type 0 where
+  pub known : c < count_of dag
+  pub block : is_block (node_at dag c) ≡ true
+  pub most : weight_in votes < score_in dag votes c + score_in dag votes c
+
+-- no child of the place has the majority
+abbrev pub NoChildHasMajority : UnitGraph → List Vote → Option UnitNo → Type 0
+NoChildHasMajority dag votes place = (c : ℕ) → IsChild dag place c → HasMajority dag votes c → ⊥
+
+-- a vote for the block that leads adds to its lead, and one for another takes from it or takes the lead over
+abbrev pub IsAhead : Leader → UnitNo → ℕ → Leader → Type 0
+IsAhead before block weight after = ((block ≡ before.block) × (after ≡ record { block = block; lead = before.lead + weight }))
+    ⊎ ((block ≢ before.block) × (before.lead < weight) × (after ≡ record { block = block; lead = weight - before.lead }))
+    ⊎ ((block ≢ before.block) × (weight ≤ before.lead) × (after ≡ record { block = before.block; lead = before.lead - weight }))
 
 -- ---- tallies
 

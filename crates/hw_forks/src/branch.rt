@@ -28,8 +28,8 @@ pub fn keep_towards(votes: &mut [Vote], dag: &Dag, block: UnitNo) -> usize
     count
 }
 
-// Whether the vote is for the block or a descendant of it.
-fn is_towards(dag: &Dag, vote: &Vote, block: UnitNo) -> bool
+/// Whether the vote is for the block or a descendant of it.
+pub fn is_towards(dag: &Dag, vote: &Vote, block: UnitNo) -> bool
     requires graph { IsGraph dag.now }
     requires vote { IsVote dag.now vote.now }
     requires known { block.0 < count_of dag.now }

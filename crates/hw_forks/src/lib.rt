@@ -16,6 +16,7 @@ mod ancestors;
 mod branch;
 mod choice;
 mod laws;
+mod majority;
 mod start;
 mod tallies;
 mod votes;

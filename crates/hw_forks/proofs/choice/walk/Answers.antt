@@ -4,6 +4,7 @@ use Rattle.hw_dag.specs.Dag.{UnitGraph}
 use Rattle.hw_forks.specs.declared.votes.Vote.{Vote}
 use Rattle.hw_forks.specs.Votes.{AreVotes}
 use Rattle.hw_forks.specs.Walk.{votes_towards, stops, IsCommon}
+use Rattle.hw_forks.proofs.StartLaws.{passed_known}
 use Rattle.hw_forks.proofs.BranchLaws.{towards_are, towards_common, towards_some, towards_fewer, under_way_first, under_way_more}
 use Rattle.hw_forks.proofs.choice.walk.Goals as goal
 
@@ -21,6 +22,9 @@ loop-child-init c = (
   c.requires.some,
   under_way_first c.args.dag.now (take c.args.count c.args.votes.now) c.start-place.result c.requires.votes c.start-place.ensures.passed c.start-place.ensures.highest,
 )
+
+pub children_height-requires-clause-known : goal.children_height-requires-clause-known
+children_height-requires-clause-known c = let i = c.loop-child.invariant in passed_known c.args.dag.now (take c.loop-child.kept c.loop-child.votes) i.2.are c.loop-child.place i.2.passed
 
 pub start-place-requires-in-Some-clause-some : goal.start-place-requires-in-Some-clause-some
 start-place-requires-in-Some-clause-some c =
@@ -43,7 +47,7 @@ start-place-requires-in-Some-clause-place c =
 pub loop-child-smaller : goal.loop-child-smaller
 loop-child-smaller c =
     let i = c.loop-child.invariant in
-    let fewer = towards_fewer c.args.dag.now c.requires.votes.graph c.in-Some.child.0 (take c.loop-child.kept c.loop-child.votes) i.2.are c.loop-child.place c.in-Some.ensures.best.child i.2.highest in
+    let fewer = towards_fewer c.args.dag.now c.requires.votes.graph c.in-Some.child.0 (take c.loop-child.kept c.loop-child.votes) i.2.are c.loop-child.place c.in-Some.ensures.best i.2.highest in
     let many = front_many c.args.dag.now c.in-Some.child.0 c.keep_towards-kept.result (take c.loop-child.kept c.loop-child.votes) c.keep_towards-kept.new.votes c.keep_towards-kept.ensures.count c.keep_towards-kept.ensures.kept in
     let before = length-take-le c.loop-child.kept c.loop-child.votes i.0 in
     omega arith
