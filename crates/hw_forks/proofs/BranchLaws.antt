@@ -1,25 +1,25 @@
 -- The walk by the votes of one branch.
 use Rattle.std.proofs.Common.{◌≡◌, ℕ, ◌+◌, ◌<◌, ◌≤◌, inl, inr, Bool, true, false, cond, not, List, [], ◌∷◌, length, Option, Some, None, refl, sym, ap, subst, ◌∙◌, arith}
-use Rattle.std.specs.Prelude.{unwrap_or, sum_by, filter, IfSome, if◌then◌else◌}
+use Rattle.std.specs.Prelude.{sum_by, filter, IfSome, if◌then◌else◌}
 use Rattle.std.proofs.lemmas.Bool.{cases_lt}
 use Rattle.std.proofs.lemmas.List.Sums.{sum_by-cons}
-use Rattle.std.proofs.lemmas.List.Filters.{length-filter_both, sum_by-filter_both}
+use Rattle.std.proofs.lemmas.List.Filters.{sum_by-filter_both}
 use Rattle.hw_types.specs.Below.{Among}
 use Rattle.hw_types.specs.Votes.{is_block}
 use Rattle.hw_types.proofs.WordsLaws.{never_both}
 use Rattle.hw_dag.specs.declared.numbers.UnitNo.{UnitNo}
 use Rattle.hw_dag.specs.Dag.{UnitGraph, count_of, node_at}
 use Rattle.hw_dag.specs.Admission.{IsGraph, height_above}
-use Rattle.hw_dag.specs.Lanes.{IsAncestor, IsAncestorAt, itself, further}
+use Rattle.hw_dag.specs.Lanes.{IsAncestor, itself, further}
 use Rattle.hw_dag.proofs.PlaceLaws.{among_place}
 use Rattle.hw_forks.specs.declared.votes.Vote.{Vote}
-use Rattle.hw_forks.specs.Votes.{height_at, IsVote, AreVotes}
-use Rattle.hw_forks.specs.Walk.{is_over, score_in, votes_towards, Yields, IsBest, WalksTo, stops, goes, IsCommon, IsPassed, NoChildHasMajority}
-use Rattle.hw_forks.proofs.AncestorLaws.{over_anc, anc_over, anc_trans, anc_height, anc_line, anc_between, child_height}
+use Rattle.hw_forks.specs.Votes.{IsVote, AreVotes}
+use Rattle.hw_forks.specs.Walk.{is_over, score_in, weight_in, votes_towards, Yields, IsBest, WalksTo, stops, goes, IsCommon, IsPassed, NoChildHasMajority}
+use Rattle.hw_forks.proofs.AncestorLaws.{over_anc, anc_over, anc_trans, anc_height, anc_between}
 use Rattle.hw_forks.proofs.ScoreLaws.{share, score_some}
 use Rattle.hw_forks.proofs.LoopLaws.{no_vote}
 use Rattle.hw_forks.proofs.StartLaws.{passed_down, begins}
-use Rattle.hw_forks.proofs.MajorityLaws.{common_majority}
+use Rattle.hw_forks.proofs.MajorityLaws.{score_all}
 
 -- what is kept is a vote towards the block
 pub towards_is : (dag : UnitGraph) (c : ℕ) (votes : List Vote) (vote : Vote) → Among vote (votes_towards dag c votes) → Among vote votes × (is_over dag c vote.block.0 ≡ true)
@@ -46,26 +46,7 @@ towards_has dag c (first ∷ votes) vote (inr m) t = go (is_over dag c first.blo
     go true k = inr k
     go false k = k
 
--- they are no more than all
-towards_few : (dag : UnitGraph) (c : ℕ) (votes : List Vote) → length (votes_towards dag c votes) ≤ length votes
-unfolding votes_towards
-towards_few dag c votes =
-    let both = length-filter_both (λ (v : Vote). is_over dag c v.block.0) (λ (v : Vote). not (is_over dag c v.block.0)) (λ v. refl) votes in
-    omega arith
-
--- where they are as many as all, all are towards the block
-all_towards : (dag : UnitGraph) (c : ℕ) (votes : List Vote) → length votes ≤ length (votes_towards dag c votes) → (vote : Vote) → Among vote votes → is_over dag c vote.block.0 ≡ true
-unfolding votes_towards
-all_towards dag c [] many vote m = absurd m
-all_towards dag c (first ∷ votes) many vote m = go (is_over dag c first.block.0) refl many m (towards_few dag c votes) (λ h k. all_towards dag c votes h vote k)
-  where
-    go : (b : Bool) → is_over dag c first.block.0 ≡ b → length (first ∷ votes) ≤ length (cond b (first ∷ filter (λ (v : Vote). is_over dag c v.block.0) votes) (filter (λ (v : Vote). is_over dag c v.block.0) votes)) → Among vote (first ∷ votes)
-        → length (filter (λ (v : Vote). is_over dag c v.block.0) votes) ≤ length votes → (length votes ≤ length (filter (λ (v : Vote). is_over dag c v.block.0) votes) → Among vote votes → is_over dag c vote.block.0 ≡ true) → is_over dag c vote.block.0 ≡ true
-    go true e h (inl same) few later = subst (λ (v : Vote). is_over dag c v.block.0 ≡ true) same e
-    go true e h (inr k) few later = later (omega arith) k
-    go false e h k few later = absurd (omega arith)
-
--- and they weigh no more than all
+-- they weigh no more than all
 towards_weigh : (dag : UnitGraph) (c : ℕ) (votes : List Vote) → sum_by (λ (v : Vote). v.weight) (votes_towards dag c votes) ≤ sum_by (λ (v : Vote). v.weight) votes
 unfolding votes_towards
 towards_weigh dag c votes =
@@ -146,16 +127,17 @@ module _ (dag : UnitGraph) (g : IsGraph dag) where
         let lt = k.1 in
         omega arith
 
-    -- and some vote isn't, where the block hasn't the majority
-    pub towards_fewer : (place : Option UnitNo) → IsBest dag votes place c → NoChildHasMajority dag votes place → length (votes_towards dag c votes) < length votes
-    towards_fewer place best none = elim (cases_lt (length (votes_towards dag c votes)) (length votes)) [
-      | inl less ↦ less
-      | inr above ↦ absurd (none c best.child (common_majority dag g votes are (let some = towards_some place best in let few = towards_few dag c votes in omega arith) c (record {
-        known = best.child.known;
-        block = best.child.block;
-        over = λ vote m. over_anc dag g (count_of dag) c vote.block.0 (all_towards dag c votes above vote m);
-      })))
-    ]
+    -- They have half of the weight of all at most, since no child of the place has the majority.
+    pub towards_half : (place : Option UnitNo) → IsBest dag votes place c → NoChildHasMajority dag votes place
+        → (0 < weight_in (votes_towards dag c votes)) × (weight_in (votes_towards dag c votes) + weight_in (votes_towards dag c votes) ≤ weight_in votes)
+    towards_half place best none =
+        let whole = score_all dag g c (votes_towards dag c votes) (λ vote m. (towards_is dag c votes vote m).1) in
+        let same = score_same c itself in
+        let some = best.some in
+        elim (cases_lt (weight_in votes) (score_in dag votes c + score_in dag votes c)) [
+          | inl more ↦ absurd (none c best.child (record { known = best.child.known; block = best.child.block; most = more }))
+          | inr no_more ↦ (omega arith, omega arith)
+        ]
 
     -- A walk by the votes that are kept, from a block that it passes through and that isn't below the best child, is a walk by all votes.
     next_round : (place next end : Option UnitNo) → IsBest dag votes place c → height_above dag (Some (record { 0 = c })) ≤ height_above dag next

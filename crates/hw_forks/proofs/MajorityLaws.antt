@@ -1,11 +1,12 @@
 -- Blocks that have the majority, and the search for one of some height.
-use Rattle.std.proofs.Common.{◌≡◌, ◌≢◌, ℕ, zero, suc, ◌+◌, ◌-◌, ◌^◌, ◌<◌, ◌≤◌, inl, inr, Bool, true, false, cond, List, [], ◌∷◌, length, get_or, take, Option, Some, None, refl, sym, ap, subst, ◌∙◌, arith}
-use Rattle.std.specs.Prelude.{unwrap_or, sum_by, ◌==◌, IfSome, if◌then◌else◌}
-use Rattle.std.proofs.lemmas.Bool.{cases_lt, eq-eqb, eqb-true}
+use Rattle.std.proofs.Common.{◌≡◌, ◌≢◌, ℕ, zero, suc, ◌+◌, ◌^◌, ◌<◌, ◌≤◌, inl, inr, Bool, true, false, cond, List, [], ◌∷◌, length, get_or, take, Option, Some, None, refl, sym, ap, subst, ◌∙◌, arith}
+use Rattle.std.specs.Prelude.{unwrap_or, ◌==◌, IfSome, if◌then◌else◌}
+use Rattle.std.proofs.lemmas.Bool.{cases_lt, eqb-true}
 use Rattle.std.proofs.lemmas.List.Sums.{sum_by-cons, sum_by_more, sum_by-take-le}
+use Rattle.hw_skip.specs.Skip.{floor_log2}
+use Rattle.hw_skip.proofs.LogLaws.{double, log2_rounded, log2_at_least}
 use Rattle.hw_types.specs.Below.{Among}
 use Rattle.hw_types.specs.Votes.{is_block}
-use Rattle.hw_types.proofs.WordsLaws.{never_both}
 use Rattle.hw_dag.specs.declared.numbers.UnitNo.{UnitNo}
 use Rattle.hw_dag.specs.Dag.{UnitGraph, unit_at, count_of, node_at}
 use Rattle.hw_dag.specs.Admission.{IsGraph, height_above}
@@ -13,7 +14,7 @@ use Rattle.hw_dag.specs.Lanes.{IsAncestor, IsAncestorAt, itself, further}
 use Rattle.hw_dag.proofs.DepthLaws.{parent_earlier, parent_is_block, height_next, height_is}
 use Rattle.hw_forks.specs.declared.votes.Vote.{Vote}
 use Rattle.hw_forks.specs.declared.majority.Leader.{Leader}
-use Rattle.hw_forks.specs.Votes.{height_at, IsVote, AreVotes}
+use Rattle.hw_forks.specs.Votes.{height_at, AreVotes}
 use Rattle.hw_forks.specs.Walk.{is_over, score_in, weight_in, IsChild, IsBest, IsCommon, IsPassed, HasMajority, NoChildHasMajority, IsAhead}
 use Rattle.hw_forks.proofs.AncestorLaws.{anc_trans, anc_known, anc_block, anc_height, over_anc, anc_over, over_test, over_higher, child_height, one_child}
 use Rattle.hw_forks.proofs.ScoreLaws.{share, score_more, score_most, score_some, score_has}
@@ -43,6 +44,13 @@ score_weigh dag votes c = score_most dag votes c
 pub weigh_bounded : (dag : UnitGraph) (votes : List Vote) → AreVotes dag votes → weight_in votes < 2 ^ 62
 unfolding weight_in
 weigh_bounded dag votes are = are.bounded
+
+-- what is half of a weight or less has a logarithm that is less
+pub log2_half : (m n : ℕ) → 0 < m → m + m ≤ n → n < 2 ^ 64 → floor_log2 m < floor_log2 n
+log2_half m n some half fits =
+    let low = (log2_rounded m some (omega arith)).0 in
+    let power = double (floor_log2 m) in
+    log2_at_least n (suc (floor_log2 m)) fits (omega arith)
 
 module _ (dag : UnitGraph) (g : IsGraph dag) where
   abbrev AreKnown : List Vote → Type 0
@@ -88,7 +96,7 @@ module _ (dag : UnitGraph) (g : IsGraph dag) where
       omega (arith, sum_by-cons (share dag a) vote votes, sum_by-cons (share dag d) vote votes, sum_by-cons (λ (v : Vote). v.weight) vote votes)
 
   -- what all votes are for has their whole weight
-  score_all : (c : ℕ) (votes : List Vote) → ((vote : Vote) → Among vote votes → is_over dag c vote.block.0 ≡ true) → score_in dag votes c ≡ weight_in votes
+  pub score_all : (c : ℕ) (votes : List Vote) → ((vote : Vote) → Among vote votes → is_over dag c vote.block.0 ≡ true) → score_in dag votes c ≡ weight_in votes
   unfolding score_in weight_in
   score_all c [] all = refl
   score_all c (vote ∷ votes) all =

@@ -1,16 +1,25 @@
 -- Blocks that the walk passes through, as each that is on the way to all votes.
-use Rattle.std.proofs.Common.{◌≡◌, ℕ, zero, suc, ◌<◌, inl, inr, List, Option, Some, None, refl, sym, subst, ◌∙◌, arith}
+use Rattle.std.proofs.Common.{◌≡◌, ℕ, zero, suc, ◌<◌, inl, inr, true, ◌⊎◌, List, Option, Some, None, refl, sym, subst, ◌∙◌, arith}
 use Rattle.std.specs.Prelude.{IfSome}
 use Rattle.std.proofs.lemmas.Bool.{cases_lt}
 use Rattle.hw_dag.specs.declared.numbers.UnitNo.{UnitNo}
-use Rattle.hw_dag.specs.Dag.{UnitGraph, unit_at, count_of}
+use Rattle.hw_types.specs.Below.{Among}
+use Rattle.hw_types.specs.Votes.{is_block}
+use Rattle.hw_dag.specs.Dag.{UnitGraph, unit_at, count_of, node_at}
 use Rattle.hw_dag.specs.Lanes.{IsAncestor, itself, further}
 use Rattle.hw_dag.proofs.DepthLaws.{parent_earlier, parent_is_block}
 use Rattle.hw_forks.specs.declared.votes.Vote.{Vote}
 use Rattle.hw_forks.specs.Votes.{AreVotes}
-use Rattle.hw_forks.specs.Walk.{score_in, IsChild, IsBest, WalksTo, goes, IsOnTheWay, IsPassed}
+use Rattle.hw_forks.specs.Walk.{score_in, IsChild, IsBest, WalksTo, goes, IsPassed}
 use Rattle.hw_forks.proofs.AncestorLaws.{anc_trans, anc_split, one_child}
 use Rattle.hw_forks.proofs.ScoreLaws.{score_some, score_has}
+
+-- some vote is for the block or a descendant of it, and each other for one of its ancestors
+pub record IsOnTheWay (dag : UnitGraph) (votes : List Vote) (c : ℕ) : Type 0 where
+  pub known : c < count_of dag
+  pub block : is_block (node_at dag c) ≡ true
+  pub some : (vote : Vote) × Among vote votes × IsAncestor dag c vote.block.0
+  pub line : (vote : Vote) → Among vote votes → IsAncestor dag c vote.block.0 ⊎ IsAncestor dag vote.block.0 c
 
 module _ (dag : UnitGraph) (votes : List Vote) (are : AreVotes dag votes) where
   -- its parent is on the way too

@@ -60,13 +60,6 @@ pub record IsCommon (dag : UnitGraph) (votes : List Vote) (c : ℕ) : Type 0 whe
   pub block : is_block (node_at dag c) ≡ true
   pub over : (vote : Vote) → Among vote votes → IsAncestor dag c vote.block.0
 
--- some vote is for the block or a descendant of it, and each other for one of its ancestors
-pub record IsOnTheWay (dag : UnitGraph) (votes : List Vote) (c : ℕ) : Type 0 where
-  pub known : c < count_of dag
-  pub block : is_block (node_at dag c) ≡ true
-  pub some : (vote : Vote) × Among vote votes × IsAncestor dag c vote.block.0
-  pub line : (vote : Vote) → Among vote votes → IsAncestor dag c vote.block.0 ⊎ IsAncestor dag vote.block.0 c
-
 -- the walk passes through the block: it and each of its ancestors is the best child of its parent
 abbrev pub IsPassed : UnitGraph → List Vote → ℕ → Type 0
 IsPassed dag votes c = (a : ℕ) → IsAncestor dag a c → IsBest dag votes (unit_at dag a).parent a

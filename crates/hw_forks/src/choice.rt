@@ -94,8 +94,9 @@ const NO_VOTE: Vote = Vote {
     weight: 0,
 };
 
-// The end of the walk by the first votes, as many as `count` says. Each round loses one or more of
-// those that are kept: not all are towards one child of the highest block on the way to all.
+// The end of the walk by the first votes, as many as `count` says. Each round leaves half of the weight
+// of those that are kept at most: no child of the place has the majority. So votes that are each left
+// behind at a height of its own cost no round each.
 fn walk(votes: &mut [Vote], count: usize, tallies: &mut [u64], dag: &Dag) -> Option<UnitNo>
     requires room { count_of dag.now ≤ length tallies.old }
     requires some { 0 < count }

@@ -2,14 +2,16 @@
 //! greatest score, where a child's score is the weight of the validators whose latest unit votes for it
 //! or a descendant of it. Ties go to the greater digest.
 //!
-//! The votes are gathered once, one for each Correct slot. The walk jumps to the highest block on the
-//! way to all of them: where they are on one chain that is the block of the highest vote, found in one
-//! pass, else the highest block from which all descend, found by bisection over the heights above the
-//! place. At a branching the tallies decide: the weights of the votes are added up at their ancestors of
-//! the next height. Only the votes for the best child or descendants of it are kept, and from that child
-//! the walk jumps again. So each round ends the walk or loses a vote, a vote on an abandoned branch
-//! costs nothing further up, and no step is linear in the length of the chain or in how far the heights
-//! of the votes are apart.
+//! The votes are gathered once, one for each Correct slot. The walk goes at once to a block that it is
+//! known to pass through. Where all votes are on one chain, that is the block of the highest vote, found
+//! in one pass. Else it is the highest block that has the majority: votes of more than half of the weight
+//! are for it or descend from it, so at each branching below it the others weigh less. Its height is
+//! found by bisection, and at one height two passes find it. From there the tallies decide: the weights
+//! of the votes are added up at their ancestors of the next height. Only the votes for the best child or
+//! descendants of it are kept, and from that child the walk goes on in the same way. No child had the
+//! majority, so each round leaves half of the weight at most: however the votes are spread over heights
+//! and branches, there are no more rounds than the weight of all votes can be halved, and no step is
+//! linear in the length of the chain.
 #![tactic(auto)]
 
 mod ancestors;

@@ -25,12 +25,7 @@ struct Leader {
 /// descend from. It is the place where no higher one has it. Where a block has the majority, each of its
 /// ancestors has it too, so the height is found by bisection. The search begins at the highest vote and
 /// goes down in steps that double, since most votes are near the top.
-pub fn majority_block(
-    votes: &[Vote],
-    dag: &Dag,
-    top: Vote,
-    place: Option<UnitNo>,
-) -> Option<UnitNo>
+pub fn majority_block(votes: &[Vote], dag: &Dag, top: Vote, place: Option<UnitNo>) -> Option<UnitNo>
     requires votes { AreVotes dag.now votes.now }
     requires top { Among top votes.now }
     requires highest { (other : Voted) → Among other votes.now → other.height ≤ top.height }
@@ -70,13 +65,7 @@ fn weight_of(votes: &[Vote]) -> u64
 }
 
 // The block of this height that has the majority, where one has it.
-fn majority_at(
-    votes: &[Vote],
-    dag: &Dag,
-    top: Vote,
-    weight: u64,
-    height: u64,
-) -> Option<UnitNo>
+fn majority_at(votes: &[Vote], dag: &Dag, top: Vote, weight: u64, height: u64) -> Option<UnitNo>
     requires votes { AreVotes dag.now votes.now }
     requires top { Among top votes.now }
     requires weight { weight ≡ weight_in votes.now }

@@ -3,9 +3,11 @@ use Rattle.std.proofs.lemmas.List.{take-append-le, length-take-le}
 use Rattle.hw_dag.specs.Dag.{UnitGraph}
 use Rattle.hw_forks.specs.declared.votes.Vote.{Vote}
 use Rattle.hw_forks.specs.Votes.{AreVotes}
-use Rattle.hw_forks.specs.Walk.{votes_towards, stops, IsCommon}
+use Rattle.hw_skip.specs.Skip.{floor_log2}
+use Rattle.hw_forks.specs.Walk.{weight_in, votes_towards, stops, IsCommon}
 use Rattle.hw_forks.proofs.StartLaws.{passed_known}
-use Rattle.hw_forks.proofs.BranchLaws.{towards_are, towards_common, towards_some, towards_fewer, under_way_first, under_way_more}
+use Rattle.hw_forks.proofs.MajorityLaws.{log2_half, weigh_bounded}
+use Rattle.hw_forks.proofs.BranchLaws.{towards_are, towards_common, towards_some, towards_half, under_way_first, under_way_more}
 use Rattle.hw_forks.proofs.choice.walk.Goals as goal
 
 -- what stands in front of all votes after the front was sorted
@@ -47,10 +49,11 @@ start-place-requires-in-Some-clause-place c =
 pub loop-child-smaller : goal.loop-child-smaller
 loop-child-smaller c =
     let i = c.loop-child.invariant in
-    let fewer = towards_fewer c.args.dag.now c.requires.votes.graph c.in-Some.child.0 (take c.loop-child.kept c.loop-child.votes) i.2.are c.loop-child.place c.in-Some.ensures.best i.2.highest in
-    let many = front_many c.args.dag.now c.in-Some.child.0 c.keep_towards-kept.result (take c.loop-child.kept c.loop-child.votes) c.keep_towards-kept.new.votes c.keep_towards-kept.ensures.count c.keep_towards-kept.ensures.kept in
-    let before = length-take-le c.loop-child.kept c.loop-child.votes i.0 in
-    omega arith
+    let half = towards_half c.args.dag.now c.requires.votes.graph c.in-Some.child.0 (take c.loop-child.kept c.loop-child.votes) i.2.are c.loop-child.place c.in-Some.ensures.best i.2.highest in
+    let same = front_is c.args.dag.now c.in-Some.child.0 c.keep_towards-kept.result (take c.loop-child.kept c.loop-child.votes) c.keep_towards-kept.new.votes (drop c.loop-child.kept c.loop-child.votes) c.keep_towards-kept.ensures.count c.keep_towards-kept.ensures.kept in
+    let bounded = weigh_bounded c.args.dag.now (take c.loop-child.kept c.loop-child.votes) i.2.are in
+    subst (λ (vs : List Vote). floor_log2 (weight_in vs) < floor_log2 (weight_in (take c.loop-child.kept c.loop-child.votes))) (sym same)
+    (log2_half (weight_in (votes_towards c.args.dag.now c.in-Some.child.0 (take c.loop-child.kept c.loop-child.votes))) (weight_in (take c.loop-child.kept c.loop-child.votes)) half.0 half.1 (omega arith))
 
 pub loop-child-preserved : goal.loop-child-preserved
 loop-child-preserved c =

@@ -1,4 +1,4 @@
-use Rattle.std.proofs.Common.{◌≡◌, ◌+◌, ◌<◌, List, length, get_or, sym, subst, ◌∙◌, arith, take}
+use Rattle.std.proofs.Common.{◌+◌, ◌<◌, List, length, get_or, sym, subst, arith, take}
 use Rattle.std.proofs.lemmas.List.{take_all}
 use Rattle.hw_forks.specs.declared.votes.Vote.{Vote}
 use Rattle.hw_forks.specs.declared.majority.Leader.{Leader}

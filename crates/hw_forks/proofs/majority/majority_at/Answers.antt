@@ -1,4 +1,4 @@
-use Rattle.std.proofs.Common.{◌<◌, ℕ, ap, arith}
+use Rattle.std.proofs.Common.{ℕ, ap, arith}
 use Rattle.hw_forks.specs.Walk.{score_in}
 use Rattle.hw_forks.proofs.MajorityLaws.{majority_below, score_weigh, weigh_bounded}
 use Rattle.hw_forks.proofs.majority.majority_at.Goals as goal

@@ -1,4 +1,4 @@
-use Rattle.std.proofs.Common.{get_or, arith}
+use Rattle.std.proofs.Common.{arith}
 use Rattle.hw_dag.proofs.KeptLaws.{height_bound}
 use Rattle.hw_forks.proofs.MajorityLaws.{majority_lower, weigh_bounded}
 use Rattle.hw_forks.proofs.majority.majority_block.Goals as goal

@@ -1,5 +1,4 @@
-use Rattle.std.proofs.Common.{◌≡◌, ◌+◌, ◌<◌, length, get_or, ap, ◌∙◌, sym, arith, take}
-use Rattle.hw_forks.proofs.LoopLaws.{no_vote}
+use Rattle.std.proofs.Common.{◌+◌, ◌<◌, length, sym, arith}
 use Rattle.hw_forks.proofs.MajorityLaws.{weigh_none, weigh_more, weigh_front}
 use Rattle.hw_forks.proofs.majority.weight_of.Goals as goal
 
