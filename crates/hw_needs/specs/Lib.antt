@@ -1,3 +1,4 @@
 pub mod Needs
 pub mod Forks
 pub mod Laws
+pub mod Pairs

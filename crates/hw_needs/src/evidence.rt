@@ -6,9 +6,13 @@ ghost use Rattle.hw_types.specs.Settled.{is_faulty};
 ghost use Rattle.hw_types.specs.Spelling.{VertexFits};
 ghost use Rattle.hw_types.specs.Real.{received_in, settled_in};
 ghost use Rattle.hw_core.specs.Readers.{unit_in};
+ghost use Rattle.std.specs.Option.{option_map};
+ghost use Rattle.hw_types.specs.Culprits.{pair_of};
 ghost use Rattle.hw_needs.specs.Needs.{evidence_against, settled_evidence, evidence_between};
+ghost use Rattle.hw_needs.specs.Pairs.{names_of, ArePairs};
 
 use crate::forks::fork_of;
+use crate::pairs::{KnownPairs, PairNames};
 use hw_core::Core;
 use hw_types::{Digest, Evidence, Obs, OutOfMemory};
 use std::alloc::Global;
@@ -27,13 +31,29 @@ pub fn evidence_of(
     ensures none { IfOk result (λ evidence. (evidence ≡ None) ↔ (is_faulty (received_in core.now) (settled_in core.now) validator ≡ false)) }
     ensures fits { IfOk result (λ evidence. IfSome evidence (λ known. VertexFits (vertex.Evidence known))) }
 {
+    evidence_with(alloc, core, &mut KnownPairs::new(alloc), validator)
+}
+
+/// The evidence against the validator, with the pairs that were looked for.
+pub(crate) fn evidence_with(
+    alloc: Global,
+    core: &Core,
+    pairs: &mut KnownPairs,
+    validator: u32,
+) -> Result<Option<Evidence>, OutOfMemory>
+    requires pairs { ArePairs core.now pairs.old }
+    ensures evidence { IfOk result (λ evidence. evidence ≡ evidence_against core.now validator) }
+    ensures none { IfOk result (λ evidence. (evidence ≡ None) ↔ (is_faulty (received_in core.now) (settled_in core.now) validator ≡ false)) }
+    ensures fits { IfOk result (λ evidence. IfSome evidence (λ known. VertexFits (vertex.Evidence known))) }
+    ensures pairs { ArePairs core.now pairs.new }
+{
     // For the prover: each evidence of a journal is a pair.
     let _state = core.state();
     match core.evidence_against(validator) {
         Some(evidence) => Ok(Some(evidence.copy()?)),
         None => {
             if is_faulty(core, validator) {
-                settled_evidence(alloc, core, validator)
+                settled_evidence(alloc, core, pairs, validator)
             } else {
                 Ok(None)
             }
@@ -58,16 +78,51 @@ fn is_faulty(core: &Core, validator: u32) -> bool
 fn settled_evidence(
     alloc: Global,
     core: &Core,
+    pairs: &mut KnownPairs,
     validator: u32,
 ) -> Result<Option<Evidence>, OutOfMemory>
+    requires pairs { ArePairs core.now pairs.old }
     ensures evidence { IfOk result (λ evidence. evidence ≡ settled_evidence core.now validator) }
     ensures fits { IfOk result (λ evidence. IfSome evidence (λ known. VertexFits (vertex.Evidence known))) }
+    ensures pairs { ArePairs core.now pairs.new }
+{
+    match pairs.of(validator) {
+        Some(names) => evidence_between(core, &names.left, &names.right),
+        None => sought_evidence(alloc, core, pairs, validator),
+    }
+}
+
+/// The evidence of two settled units of the validator, which are looked for and kept.
+fn sought_evidence(
+    alloc: Global,
+    core: &Core,
+    pairs: &mut KnownPairs,
+    validator: u32,
+) -> Result<Option<Evidence>, OutOfMemory>
+    requires pairs { ArePairs core.now pairs.old }
+    ensures evidence { IfOk result (λ evidence. evidence ≡ settled_evidence core.now validator) }
+    ensures fits { IfOk result (λ evidence. IfSome evidence (λ known. VertexFits (vertex.Evidence known))) }
+    ensures pairs { ArePairs core.now pairs.new }
+{
+    match pair_names(alloc, core, validator)? {
+        Some(names) => {
+            pairs.keep(alloc, core, validator, names)?;
+            evidence_between(core, &names.left, &names.right)
+        }
+        None => Ok(None),
+    }
+}
+
+/// The names of the two settled units that show the validator, None where it has no two of one sequence number.
+fn pair_names(alloc: Global, core: &Core, validator: u32) -> Result<Option<PairNames>, OutOfMemory>
+    ensures { IfOk result (λ names. names ≡ option_map names_of (pair_of (settled_in core.now) validator)) }
 {
     let dag = core.state().dag();
     match fork_of(alloc, dag, validator)? {
-        Some((left, right)) => {
-            evidence_between(core, dag.unit(left).digest(), dag.unit(right).digest())
-        }
+        Some((left, right)) => Ok(Some(PairNames {
+            left: *dag.unit(left).digest(),
+            right: *dag.unit(right).digest(),
+        })),
         None => Ok(None),
     }
 }

@@ -13,8 +13,10 @@
 mod evidence;
 mod forks;
 mod laws;
+mod pairs;
 mod vertices;
 
 pub use evidence::evidence_of;
 pub use laws::evidence_is_taken;
-pub use vertices::{VertexList, vertices_of};
+pub use pairs::{KnownPairs, PairNames};
+pub use vertices::{VertexList, vertices_of, vertices_with};

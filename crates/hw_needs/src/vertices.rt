@@ -6,8 +6,10 @@ ghost use Rattle.hw_types.specs.declared.unit.Vertex.TheVariants as vertex;
 ghost use Rattle.hw_types.specs.Spelling.{VertexFits};
 ghost use Rattle.hw_core.specs.Readers.{unit_in, endorsements_of};
 ghost use Rattle.hw_needs.specs.Needs.{vertices_of, unit_vertices, evidence_vertices, evidence_against};
+ghost use Rattle.hw_needs.specs.Pairs.{ArePairs};
 
-use crate::evidence::evidence_of;
+use crate::evidence::evidence_with;
+use crate::pairs::KnownPairs;
 use hw_core::Core;
 use hw_types::{Digest, Items, Need, OutOfMemory, Vertex};
 use std::alloc::Global;
@@ -16,15 +18,31 @@ use std::alloc::Global;
 pub type VertexList = Items<Vertex>;
 
 /// The vertices that the node has for the need, in order: the unit; evidence against the validator, as
-/// [`evidence_of`] gives it; or the journal's endorsements of the unit. The list is empty exactly where the
+/// [`crate::evidence_of`] gives it; or the journal's endorsements of the unit. The list is empty exactly where the
 /// node has none.
 pub fn vertices_of(alloc: Global, core: &Core, need: &Need) -> Result<VertexList, OutOfMemory>
     ensures vertices { IfOk result (λ vertices. vertices ≡ vertices_of core.now need.now) }
     ensures fit { IfOk result (λ vertices. All VertexFits vertices) }
 {
+    vertices_with(alloc, core, &mut KnownPairs::new(alloc), need)
+}
+
+/// The vertices that the node has for the need, as [`vertices_of`] gives them, with the pairs that were looked
+/// for before, since when the node's journal has stayed as it is. A pair that is looked for is kept among them.
+pub fn vertices_with(
+    alloc: Global,
+    core: &Core,
+    pairs: &mut KnownPairs,
+    need: &Need,
+) -> Result<VertexList, OutOfMemory>
+    requires pairs { ArePairs core.now pairs.old }
+    ensures vertices { IfOk result (λ vertices. vertices ≡ vertices_of core.now need.now) }
+    ensures fit { IfOk result (λ vertices. All VertexFits vertices) }
+    ensures pairs { ArePairs core.now pairs.new }
+{
     match need {
         Need::Unit(unit) => unit_vertices(alloc, core, unit),
-        Need::Evidence(validator) => evidence_vertices(alloc, core, *validator),
+        Need::Evidence(validator) => evidence_vertices(alloc, core, pairs, *validator),
         Need::Endorsed(unit) => endorsements(alloc, core, unit),
     }
 }
@@ -45,12 +63,19 @@ fn unit_vertices(alloc: Global, core: &Core, unit: &Digest) -> Result<VertexList
 }
 
 /// The evidence against the validator, where there is one.
-fn evidence_vertices(alloc: Global, core: &Core, validator: u32) -> Result<VertexList, OutOfMemory>
+fn evidence_vertices(
+    alloc: Global,
+    core: &Core,
+    pairs: &mut KnownPairs,
+    validator: u32,
+) -> Result<VertexList, OutOfMemory>
+    requires pairs { ArePairs core.now pairs.old }
     ensures vertices { IfOk result (λ vertices. vertices ≡ evidence_vertices (evidence_against core.now validator)) }
     ensures fit { IfOk result (λ vertices. All VertexFits vertices) }
+    ensures pairs { ArePairs core.now pairs.new }
 {
     let mut vertices = VertexList::new(alloc);
-    match evidence_of(alloc, core, validator)? {
+    match evidence_with(alloc, core, pairs, validator)? {
         Some(evidence) => {
             vertices.push(Vertex::Evidence(evidence))?;
             Ok(vertices)

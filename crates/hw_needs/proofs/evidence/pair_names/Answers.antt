@@ -2,7 +2,7 @@ use Rattle.std.proofs.Common.{sym, ap, subst, ◌∙◌}
 use Rattle.hw_dag.specs.Dag.{UnitGraph, graph}
 use Rattle.hw_needs.specs.Forks.{AreNamed}
 use Rattle.hw_needs.proofs.NeedLaws.{settled_named}
-use Rattle.hw_needs.proofs.evidence.settled_evidence.Goals as goal
+use Rattle.hw_needs.proofs.evidence.pair_names.Goals as goal
 
 pub fork_of-requires : goal.fork_of-requires
 fork_of-requires c = record {

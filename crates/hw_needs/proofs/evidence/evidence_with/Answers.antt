@@ -1,7 +1,7 @@
 use Rattle.std.proofs.Common.{Some, sym, ap, ◌∙◌}
 use Rattle.hw_types.specs.declared.unit.Evidence.{Evidence}
 use Rattle.hw_needs.proofs.NeedLaws.{journal_is, settled_is, clear_none, none_is, ok_so}
-use Rattle.hw_needs.proofs.evidence.evidence_of.Goals as goal
+use Rattle.hw_needs.proofs.evidence.evidence_with.Goals as goal
 
 pub returns-in_ok-copy-in-Some-clause-evidence : goal.returns-in_ok-copy-in-Some-clause-evidence
 returns-in_ok-copy-in-Some-clause-evidence c =

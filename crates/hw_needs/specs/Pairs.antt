@@ -1,0 +1,27 @@
+-- The pairs of settled units that were looked for, kept for the next need.
+-- Source: ours.
+use Rattle.std.specs.Prelude.{◌≡◌, ◌≢◌, ℕ, ◌<◌, ◌≤◌, List, length, Option, Some, None, IfSome, slice_index_or}
+use Rattle.std.specs.Option.{option_map}
+use Rattle.hw_types.specs.declared.unit.Digest.{Digest}
+use Rattle.hw_types.specs.Graph.{Node}
+use Rattle.hw_types.specs.Culprits.{pair_of}
+use Rattle.hw_types.specs.Real.{CoreState, settled_in}
+use Rattle.hw_needs.specs.declared.pairs.PairNames.{PairNames}
+
+-- the names of two units
+abbrev pub names_of : Node × Node → PairNames
+names_of pair = record { left = pair.0.digest; right = pair.1.digest }
+
+-- these are the names of the two settled units that show that the validator equivocated
+abbrev pub IsPairOf : CoreState → ℕ → PairNames → Type 0
+IsPairOf c v names = option_map names_of (pair_of (settled_in c) v) ≡ Some names
+
+-- each pair that is kept is that of its validator
+abbrev pub ArePairs : CoreState → List (Option PairNames) → Type 0
+ArePairs c pairs = (v : ℕ) → IfSome (slice_index_or pairs v None) (IsPairOf c v)
+
+-- the pair of the validator has its place, and the others stay
+pub record IsPut (old new : List (Option PairNames)) (v : ℕ) (names : PairNames) : Type 0 where
+  pub own : v < length old → slice_index_or new v None ≡ Some names
+  pub outside : length old ≤ v → new ≡ old
+  pub others : (w : ℕ) → w ≢ v → slice_index_or new w None ≡ slice_index_or old w None

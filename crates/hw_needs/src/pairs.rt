@@ -1,0 +1,101 @@
+//! The pairs of settled units that were looked for.
+
+ghost use Rattle.std.specs.Prelude.{◌≡◌, [], None, slice_index_or};
+ghost use Rattle.hw_needs.specs.Pairs.{IsPairOf, ArePairs, IsPut};
+
+use hw_core::Core;
+use hw_types::{Digest, OutOfMemory};
+use std::alloc::Global;
+use std::marker::Model;
+
+/// The names of two settled units that show that their creator equivocated, the lesser one left.
+#[derive(Clone, Copy)]
+pub struct PairNames {
+    pub left: Digest,
+    pub right: Digest,
+}
+
+/// The pairs that a node's settled units show, one for each validator for which it was looked for. A peer may ask
+/// for one as often as it likes, so it is looked for once, and kept while the node's journal stays as it is.
+/// Contracts see them by validator, None where none was looked for.
+#[derive(Drop)]
+pub struct KnownPairs {
+    pairs: Vec<Option<PairNames>>,
+}
+
+impl Model for KnownPairs {
+    ghost use Rattle.std.specs.Prelude.{List, Option};
+    ghost use Rattle.hw_needs.specs.declared.pairs.PairNames.{PairNames};
+
+    ghost Value = { List (Option PairNames) };
+
+    ghost view = { λ k. k.pairs.items };
+}
+
+impl KnownPairs {
+    /// None was looked for. It takes its memory from `alloc` with the first one that is kept.
+    pub fn new(alloc: Global) -> KnownPairs
+        ensures { result ≡ [] }
+    {
+        KnownPairs {
+            pairs: Vec::new(alloc),
+        }
+    }
+
+    /// Keeps none of them any longer.
+    pub fn forget(&mut self)
+        ensures { self.new ≡ [] }
+    {
+        self.pairs.clear();
+    }
+
+    /// The pair of the validator, None where none is kept.
+    pub(crate) fn of(&self, validator: u32) -> Option<PairNames>
+        ensures { result ≡ slice_index_or self.now validator None }
+    {
+        let validator = validator as usize;
+        if validator < self.pairs.len() {
+            self.pairs[validator]
+        } else {
+            None
+        }
+    }
+
+    /// Keeps the pair of the validator.
+    pub(crate) fn keep(
+        &mut self,
+        alloc: Global,
+        core: &Core,
+        validator: u32,
+        names: PairNames,
+    ) -> Result<(), OutOfMemory>
+        requires pair { IsPairOf core.now validator names }
+        requires pairs { ArePairs core.now self.old }
+        ensures pairs { ArePairs core.now self.new }
+    {
+        self.make_places(alloc, core)?;
+        self.put(validator, names);
+        Ok(())
+    }
+
+    /// Makes a place for each validator, where there are none.
+    fn make_places(&mut self, alloc: Global, core: &Core) -> Result<(), OutOfMemory>
+        requires { ArePairs core.now self.old }
+        ensures { ArePairs core.now self.new }
+    {
+        if self.pairs.is_empty() {
+            self.pairs = Vec::from_elem(alloc, None, core.state().config().weights.len())?;
+        }
+        Ok(())
+    }
+
+    /// Puts the pair of the validator in its place, where it has one.
+    fn put(&mut self, validator: u32, names: PairNames)
+        ensures { IsPut self.old self.new validator names }
+    {
+        let validator = validator as usize;
+        if validator < self.pairs.len() {
+            self.pairs[validator] = Some(names);
+        }
+    }
+}
