@@ -2,7 +2,6 @@
 -- Source: ours.
 use Rattle.std.specs.Prelude.{◌≡◌, ◌≢◌, ℕ, ◌<◌, ◌≤◌, List, length, Option, Some, None, IfSome, slice_index_or}
 use Rattle.std.specs.Option.{option_map}
-use Rattle.hw_types.specs.declared.unit.Digest.{Digest}
 use Rattle.hw_types.specs.Graph.{Node}
 use Rattle.hw_types.specs.Culprits.{pair_of}
 use Rattle.hw_types.specs.Real.{CoreState, settled_in}

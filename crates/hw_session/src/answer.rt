@@ -10,6 +10,7 @@ ghost use Rattle.hw_link.specs.Frames.{framed, sent_bytes};
 ghost use Rattle.hw_link.specs.Links.{IsLinkCounted};
 ghost use Rattle.hw_link.specs.Sent.{Sends};
 ghost use Rattle.hw_needs.specs.Needs.{vertices_of};
+ghost use Rattle.hw_needs.specs.Pairs.{ArePairs};
 ghost use Rattle.hw_session.specs.Serving.{part_from, answer_to_have, answer_to_want, sent_for, first_missing, wanted_by};
 ghost use Rattle.hw_session.specs.Handling.{StandsLast};
 
@@ -18,7 +19,7 @@ use hw_codec::digest_of;
 use hw_core::Core;
 use hw_io::Door;
 use hw_link::SessionEnd;
-use hw_needs::vertices_of;
+use hw_needs::{KnownPairs, vertices_with};
 use hw_types::{Digest, Frame, Need, NeedList, OutOfMemory, Receipt, Vertex};
 use std::alloc::Global;
 
@@ -110,7 +111,8 @@ pub fn answer_want<D: Door>(
     }
 }
 
-/// Sends for each need in order what there is.
+/// Sends for each need in order what there is. A peer may ask for evidence against one validator in each of its
+/// needs, so what is looked for is kept for the needs behind.
 fn send_wanted<D: Door>(
     alloc: Global,
     core: &Core,
@@ -126,8 +128,30 @@ fn send_wanted<D: Door>(
     ensures accepts { D.accepts door.new ≡ D.accepts door.old }
     ensures dials { D.dials door.new ≡ D.dials door.old }
 {
+    send_each(alloc, core, &mut KnownPairs::new(alloc), door, needs)
+}
+
+/// Sends for each need in order what there is, with the pairs that were looked for.
+fn send_each<D: Door>(
+    alloc: Global,
+    core: &Core,
+    pairs: &mut KnownPairs,
+    door: &mut D,
+    needs: &[Need],
+) -> Result<(), SessionEnd>
+    requires pairs { ArePairs core.now pairs.old }
+    requires open { D.is_open door.old ≡ true }
+    ensures pairs { ArePairs core.now pairs.new }
+    ensures sent { Sends (sent_bytes (flat_map (λ need. sent_for need (vertices_of core.now need)) needs.now)) (D.sessions door.old) (D.sessions door.new) result }
+    ensures cause { IsLinkCounted (D.faults door.old) (D.faults door.new) result }
+
+    ensures open { D.is_open door.new ≡ true }
+    ensures ends { D.ends door.new ≡ D.ends door.old }
+    ensures accepts { D.accepts door.new ≡ D.accepts door.old }
+    ensures dials { D.dials door.new ≡ D.dials door.old }
+{
     for need in needs {
-        match send_for(alloc, core, door, need) {
+        match send_for(alloc, core, pairs, door, need) {
             Ok(()) => {}
             Err(end) => return Err(end),
         }
@@ -135,14 +159,17 @@ fn send_wanted<D: Door>(
     Ok(())
 }
 
-/// Sends the vertices of a need, or the need as missing where there is none.
+/// Sends the vertices of a need, or the need as missing where there is none, with the pairs that were looked for.
 fn send_for<D: Door>(
     alloc: Global,
     core: &Core,
+    pairs: &mut KnownPairs,
     door: &mut D,
     need: &Need,
 ) -> Result<(), SessionEnd>
+    requires pairs { ArePairs core.now pairs.old }
     requires open { D.is_open door.old ≡ true }
+    ensures pairs { ArePairs core.now pairs.new }
     ensures sent { Sends (sent_bytes (sent_for need.now (vertices_of core.now need.now))) (D.sessions door.old) (D.sessions door.new) result }
     ensures cause { IsLinkCounted (D.faults door.old) (D.faults door.new) result }
 
@@ -151,7 +178,7 @@ fn send_for<D: Door>(
     ensures accepts { D.accepts door.new ≡ D.accepts door.old }
     ensures dials { D.dials door.new ≡ D.dials door.old }
 {
-    match vertices_of(alloc, core, need) {
+    match vertices_with(alloc, core, pairs, need) {
         Ok(vertices) => send_found(alloc, door, need, vertices.as_slice()),
         Err(OutOfMemory) => Err(SessionEnd::OutOfMemory),
     }

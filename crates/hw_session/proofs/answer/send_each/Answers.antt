@@ -4,11 +4,12 @@ use Rattle.hw_types.specs.declared.unit.Digest.{Digest}
 use Rattle.hw_types.specs.declared.unit.Need.{Need}
 use Rattle.hw_types.specs.declared.unit.Need.TheVariants as need
 use Rattle.hw_session.proofs.SendLaws.{sends_nothing, sends_next, sends_broken, sent_for_all, needs_join, sends_need}
-use Rattle.hw_session.proofs.answer.send_wanted.Goals as goal
+use Rattle.hw_session.proofs.answer.send_each.Goals as goal
 
 pub loop-need-init : goal.loop-need-init
 loop-need-init g c = record {
   sent = sends_nothing (g.D.Door.sessions c.args.door.now);
+  pairs = c.requires.pairs;
   session = c.requires.open;
   ends = refl;
   faults = refl;
@@ -40,6 +41,7 @@ loop-need-preserved g c =
           sends_next (sent_for_all core) (needs_join core) c.args.needs.now (g.D.Door.sessions c.args.door.now) (g.D.Door.sessions l.door) (g.D.Door.sessions c.send_for.new.door) l.need-index l.invariant.sent x
           (slice_get-get_or c.args.needs.now l.need-index no_need c.loop-need-test.true)
           (sends_need core x (g.D.Door.sessions l.door) (g.D.Door.sessions c.send_for.new.door) (Ok tt) e.sent);
+      pairs = e.pairs;
       session = e.open;
       ends = e.ends ∙ l.invariant.ends;
       faults = e.cause ∙ l.invariant.faults;
