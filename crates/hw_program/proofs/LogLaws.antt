@@ -52,29 +52,29 @@ logs_alone n m tells old new t l = ((l.log t).others, l.gains.name)
 cut_alone : (n before : NodeState) (v : Vertex) (m : NodeState) (tells : Bool) (old new : Held) → IsTrue tells → LogsAllBut n before v m tells old new → IsAlone n m old new
 cut_alone n before v m tells old new t l = ((l.log t).1.others, ap (λ (x : NodeState). x.log) l.unlogged.1 ∙ l.gains.name)
 
-leaves_alone : (e : SessionEnd) (n : NodeState) (read : List ℕ) (m : NodeState) (tells : Bool) (old new : Held) → IsTrue tells → Leaves e n read m tells old new → IsAlone n m old new
-leaves_alone end.AppendFault n read m tells old new t l = cut_alone n _ _ m tells old new t l.logs
-leaves_alone end.OutOfMemory n read m tells old new t (inl l) = logs_alone n m tells old new t l.logs
-leaves_alone end.OutOfMemory n read m tells old new t (inr l) = cut_alone n _ _ m tells old new t l.logs
-leaves_alone end.Done n read m tells old new t l = logs_alone n m tells old new t l.1
-leaves_alone end.EndOfInput n read m tells old new t l = logs_alone n m tells old new t l.1
-leaves_alone end.WrongInstance n read m tells old new t l = logs_alone n m tells old new t l.1
-leaves_alone (end.BadFrame at) n read m tells old new t l = logs_alone n m tells old new t l.1
-leaves_alone end.LinkFault n read m tells old new t l = logs_alone n m tells old new t l.1
-leaves_alone end.ByteLimit n read m tells old new t l = logs_alone n m tells old new t l.1
-leaves_alone end.Clash n read m tells old new t l = logs_alone n m tells old new t l.1
+leaves_alone : (e : SessionEnd) (n : NodeState) (read written : List ℕ) (m : NodeState) (tells : Bool) (old new : Held) → IsTrue tells → Leaves e n read written m tells old new → IsAlone n m old new
+leaves_alone end.AppendFault n read written m tells old new t l = cut_alone n _ _ m tells old new t l.logs
+leaves_alone end.OutOfMemory n read written m tells old new t (inl l) = logs_alone n m tells old new t l.logs
+leaves_alone end.OutOfMemory n read written m tells old new t (inr l) = cut_alone n _ _ m tells old new t l.logs
+leaves_alone end.Done n read written m tells old new t l = logs_alone n m tells old new t l.1
+leaves_alone end.EndOfInput n read written m tells old new t l = logs_alone n m tells old new t l.1
+leaves_alone end.WrongInstance n read written m tells old new t l = logs_alone n m tells old new t l.1
+leaves_alone (end.BadFrame at) n read written m tells old new t l = logs_alone n m tells old new t l.1
+leaves_alone end.LinkFault n read written m tells old new t l = logs_alone n m tells old new t l.1
+leaves_alone end.ByteLimit n read written m tells old new t l = logs_alone n m tells old new t l.1
+leaves_alone end.Clash n read written m tells old new t l = logs_alone n m tells old new t l.1
 
-driven_alone : (e : SessionEnd) (n : NodeState) (mark : PeerMark) (read : List ℕ) (m : NodeState) (tells : Bool) (old new : Held) → IsTrue tells → LeavesDriven e n mark read m tells old new → IsAlone n m old new
-driven_alone end.AppendFault n mark read m tells old new t l = cut_alone n _ _ m tells old new t l.logs
-driven_alone end.OutOfMemory n mark read m tells old new t (inl l) = logs_alone n m tells old new t l.logs
-driven_alone end.OutOfMemory n mark read m tells old new t (inr l) = cut_alone n _ _ m tells old new t l.logs
-driven_alone end.Done n mark read m tells old new t l = logs_alone n m tells old new t l.1
-driven_alone end.EndOfInput n mark read m tells old new t l = logs_alone n m tells old new t l.1
-driven_alone end.WrongInstance n mark read m tells old new t l = logs_alone n m tells old new t l.1
-driven_alone (end.BadFrame at) n mark read m tells old new t l = logs_alone n m tells old new t l.1
-driven_alone end.LinkFault n mark read m tells old new t l = logs_alone n m tells old new t l.1
-driven_alone end.ByteLimit n mark read m tells old new t l = logs_alone n m tells old new t l.1
-driven_alone end.Clash n mark read m tells old new t l = logs_alone n m tells old new t l.1
+driven_alone : (e : SessionEnd) (n : NodeState) (mark : PeerMark) (read written : List ℕ) (m : NodeState) (now : PeerMark) (tells : Bool) (old new : Held) → IsTrue tells → LeavesDriven e n mark read written m now tells old new → IsAlone n m old new
+driven_alone end.AppendFault n mark read written m now tells old new t l = cut_alone n _ _ m tells old new t l.logs
+driven_alone end.OutOfMemory n mark read written m now tells old new t (inl l) = logs_alone n m tells old new t l.logs
+driven_alone end.OutOfMemory n mark read written m now tells old new t (inr l) = cut_alone n _ _ m tells old new t l.logs
+driven_alone end.Done n mark read written m now tells old new t l = logs_alone n m tells old new t l.1
+driven_alone end.EndOfInput n mark read written m now tells old new t l = logs_alone n m tells old new t l.1
+driven_alone end.WrongInstance n mark read written m now tells old new t l = logs_alone n m tells old new t l.1
+driven_alone (end.BadFrame at) n mark read written m now tells old new t l = logs_alone n m tells old new t l.1
+driven_alone end.LinkFault n mark read written m now tells old new t l = logs_alone n m tells old new t l.1
+driven_alone end.ByteLimit n mark read written m now tells old new t l = logs_alone n m tells old new t l.1
+driven_alone end.Clash n mark read written m now tells old new t l = logs_alone n m tells old new t l.1
 
 met_alone : (e : MeetEnd) (side : Side) (n : NodeState) (read : List ℕ) (m : NodeState) (tells : Bool) (old new : Held) → IsTrue tells → LeavesMet e side n read m tells old new → IsAlone n m old new
 met_alone meet.AppendFault side n read m tells old new t l = cut_alone n _ _ m tells old new t l.logs
@@ -125,11 +125,11 @@ module _ {B K : Type 0} (sight : Sight B K) (tells : Bool) (t : IsTrue tells) (n
   takes_only step keeps number count first last (Err e) u h = until_only step keeps number count first last e u h
 
   served_only : (old new : Scene B) (e : SessionEnd) → ServesOne tells old new e → IsOnly old → IsOnly new
-  served_only old new e (inl s) h = only_then old new (leaves_alone e old.node s.read new.node tells old.around.files new.around.files t s.serves.left) h
+  served_only old new e (inl s) h = only_then old new (leaves_alone e old.node s.read s.written new.node tells old.around.files new.around.files t s.serves.left) h
   served_only old new e (inr s) h = only_then old new (nothing_done old.node new.node old.around.files new.around.files s.state (s.files t)) h
 
   driven_only : (old new : Scene B) (before after : Peer) (e : SessionEnd) → DrivesOne tells old new before after e → IsOnly old → IsOnly new
-  driven_only old new before after e (inl d) h = only_then old new (driven_alone e old.node before.mark d.read new.node tells old.around.files new.around.files t d.drives.left) h
+  driven_only old new before after e (inl d) h = only_then old new (driven_alone e old.node before.mark d.read d.written new.node after.mark tells old.around.files new.around.files t d.drives.left) h
   driven_only old new before after e (inr d) h = only_then old new (nothing_done old.node new.node old.around.files new.around.files d.state (d.files t)) h
 
   met_only : (side : Side) (address : Option (List ℕ)) (old new : Scene B) (e : MeetEnd)

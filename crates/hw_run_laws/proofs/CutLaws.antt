@@ -64,7 +64,7 @@ module _ (n : NodeState) (tells : Bool) (old new : List ℕ → Option (List ℕ
 
 -- ---- serving
 
-module _ (n m : NodeState) (read : List ℕ) (few : length read ≤ byte_limit) (tells : Bool) (old new : List ℕ → Option (List ℕ)) (told : IsTrue tells) (has : HasLog n (old n.log)) where
+module _ (n m : NodeState) (read written : List ℕ) (few : length read ≤ byte_limit) (tells : Bool) (old new : List ℕ → Option (List ℕ)) (told : IsTrue tells) (has : HasLog n (old n.log)) where
   abbrev LeftServed : Type 0
   LeftServed = LeavesLog n (vertices_sent read) m (new m.log)
 
@@ -72,14 +72,14 @@ module _ (n m : NodeState) (read : List ℕ) (few : length read ≤ byte_limit) 
   served_whole (is, logs) =
       inl (subst (λ (k : NodeState). TakesSome n (vertices_sent read) k) (sym is) (served_life n read), stands n tells old new told has m (ap (λ (k : NodeState). k.core.config) is ∙ served_config n read) logs)
 
-  served_before : StandsBefore n read m tells old new → LeftServed
+  served_before : StandsBefore n read written m tells old new → LeftServed
   served_before s =
       inl (
         first_takes n m read s.first s.part s.split few (subst (λ (k : NodeState). TakesSome n (vertices_sent s.first) k) (sym s.state) (served_life n s.first)),
         stands n tells old new told has m (ap (λ (k : NodeState). k.core.config) s.state ∙ served_config n s.first) s.logs,
       )
 
-  served_cut : StandsCut n read m tells old new → LeftServed
+  served_cut : StandsCut n read written m tells old new → LeftServed
   served_cut s =
       let before = (served n s.first).state in
       inr (record {
@@ -91,7 +91,7 @@ module _ (n m : NodeState) (read : List ℕ) (few : length read ≤ byte_limit) 
         log = cut n tells old new told has before m s.vertex (served_config n s.first) s.logs;
       })
 
-  served_leaves : (e : SessionEnd) → Leaves e n read m tells old new → LeftServed
+  served_leaves : (e : SessionEnd) → Leaves e n read written m tells old new → LeftServed
   served_leaves end.Done left = served_whole left
   served_leaves end.EndOfInput left = served_whole left
   served_leaves end.WrongInstance left = served_whole left
@@ -104,11 +104,11 @@ module _ (n m : NodeState) (read : List ℕ) (few : length read ≤ byte_limit) 
   served_leaves end.OutOfMemory (inr s) = served_cut s
 
 pub serves_leave : ServesLeavesLog
-serves_leave n m read written tells held_old held_new ends_old ends_new e s told has = served_leaves n m read s.within tells held_old held_new told has e s.left
+serves_leave n m read written tells held_old held_new ends_old ends_new e s told has = served_leaves n m read written s.within tells held_old held_new told has e s.left
 
 -- ---- driving
 
-module _ (n m : NodeState) (mark : PeerMark) (read : List ℕ) (few : length read ≤ byte_limit) (tells : Bool) (old new : List ℕ → Option (List ℕ)) (told : IsTrue tells) (has : HasLog n (old n.log)) where
+module _ (n m : NodeState) (mark now : PeerMark) (read written : List ℕ) (few : length read ≤ byte_limit) (tells : Bool) (old new : List ℕ → Option (List ℕ)) (told : IsTrue tells) (has : HasLog n (old n.log)) where
   abbrev LeftDriven : Type 0
   LeftDriven = LeavesLog n (vertices_sent read) m (new m.log)
 
@@ -116,14 +116,14 @@ module _ (n m : NodeState) (mark : PeerMark) (read : List ℕ) (few : length rea
   driven_whole (is, logs) =
       inl (subst (λ (k : NodeState). TakesSome n (vertices_sent read) k) (sym is) (driven_life n mark read), stands n tells old new told has m (ap (λ (k : NodeState). k.core.config) is ∙ driven_config n mark read) logs)
 
-  driven_before : StandsDriven n mark read m tells old new → LeftDriven
+  driven_before : StandsDriven n mark read written m now tells old new → LeftDriven
   driven_before s =
       inl (
         first_takes n m read s.first s.part s.split few (subst (λ (k : NodeState). TakesSome n (vertices_sent s.first) k) (sym s.state) (driven_life n mark s.first)),
         stands n tells old new told has m (ap (λ (k : NodeState). k.core.config) s.state ∙ driven_config n mark s.first) s.logs,
       )
 
-  driven_cut : StandsDrivenCut n mark read m tells old new → LeftDriven
+  driven_cut : StandsDrivenCut n mark read written m now tells old new → LeftDriven
   driven_cut s =
       let before = (driven n mark s.first).state.node in
       inr (record {
@@ -135,7 +135,7 @@ module _ (n m : NodeState) (mark : PeerMark) (read : List ℕ) (few : length rea
         log = cut n tells old new told has before m s.vertex (driven_config n mark s.first) s.logs;
       })
 
-  driven_leaves : (e : SessionEnd) → LeavesDriven e n mark read m tells old new → LeftDriven
+  driven_leaves : (e : SessionEnd) → LeavesDriven e n mark read written m now tells old new → LeftDriven
   driven_leaves end.Done left = driven_whole left
   driven_leaves end.EndOfInput left = driven_whole left
   driven_leaves end.WrongInstance left = driven_whole left
@@ -148,7 +148,7 @@ module _ (n m : NodeState) (mark : PeerMark) (read : List ℕ) (few : length rea
   driven_leaves end.OutOfMemory (inr s) = driven_cut s
 
 pub drives_leave : DrivesLeavesLog
-drives_leave n m mark now read written tells held_old held_new ends_old ends_new e s told has = driven_leaves n m mark read s.within tells held_old held_new told has e s.left
+drives_leave n m mark now read written tells held_old held_new ends_old ends_new e s told has = driven_leaves n m mark now read written s.within tells held_old held_new told has e s.left
 
 -- ---- own units
 

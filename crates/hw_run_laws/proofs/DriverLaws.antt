@@ -211,11 +211,11 @@ driven_says n mark bytes =
     (talk_says IsStaged (λ (d : Driver). d.node) drive_step (λ d f is. (drive_does d f is).staged) (λ d f is. (drive_does d f is).speaks) (frames_of bytes).end (greeting n mark) (frames_of bytes).given (inl refl))
 
 -- what is so of the node that the bytes leave is so of the one that stands there
-whole : (P : NodeState → Type 0) (n : NodeState) (mark : PeerMark) (read : List ℕ) (m : NodeState) (tells : Bool) (held_old held_new : List ℕ → Option (List ℕ)) (e : SessionEnd) → IsLogged e → LeavesDriven e n mark read m tells held_old held_new
+whole : (P : NodeState → Type 0) (n : NodeState) (mark : PeerMark) (read written : List ℕ) (m : NodeState) (now : PeerMark) (tells : Bool) (held_old held_new : List ℕ → Option (List ℕ)) (e : SessionEnd) → IsLogged e → LeavesDriven e n mark read written m now tells held_old held_new
     → P (driven n mark read).state.node → P m
-whole P n mark read m tells held_old held_new e logged stands p = go e logged stands
+whole P n mark read written m now tells held_old held_new e logged stands p = go e logged stands
   where
-    go : (e : SessionEnd) → IsLogged e → LeavesDriven e n mark read m tells held_old held_new → P m
+    go : (e : SessionEnd) → IsLogged e → LeavesDriven e n mark read written m now tells held_old held_new → P m
     go end.Done logged stands = subst P (sym stands.0) p
     go end.EndOfInput logged stands = subst P (sym stands.0) p
     go end.WrongInstance logged stands = subst P (sym stands.0) p
@@ -228,8 +228,8 @@ whole P n mark read m tells held_old held_new e logged stands p = go e logged st
 
 pub drives_life : DrivesIsALife
 drives_life n m mark now read written tells held_old held_new ends_old ends_new e s logged =
-    whole (λ (k : NodeState). TakesSome n (vertices_sent read) k) n mark read m tells held_old held_new e logged s.left (driven_life n mark read)
+    whole (λ (k : NodeState). TakesSome n (vertices_sent read) k) n mark read written m now tells held_old held_new e logged s.left (driven_life n mark read)
 
 pub drives_says : DrivesSaysOfLog
 drives_says n m mark now read written tells held_old held_new ends_old ends_new e s logged =
-    whole (λ (k : NodeState). SaysOfLog (logged_of k) (driven n mark read).said) n mark read m tells held_old held_new e logged s.left (driven_says n mark read)
+    whole (λ (k : NodeState). SaysOfLog (logged_of k) (driven n mark read).said) n mark read written m now tells held_old held_new e logged s.left (driven_says n mark read)

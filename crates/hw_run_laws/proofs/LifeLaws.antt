@@ -213,7 +213,7 @@ serves_life n m read written tells held_old held_new ends_old ends_new e s logge
     whole : m ≡ (served n read).state → TakesSome n (vertices_sent read) m
     whole is = subst (λ (k : NodeState). TakesSome n (vertices_sent read) k) (sym is) (served_life n read)
 
-    go : (e : SessionEnd) → IsLogged e → Leaves e n read m tells held_old held_new → TakesSome n (vertices_sent read) m
+    go : (e : SessionEnd) → IsLogged e → Leaves e n read written m tells held_old held_new → TakesSome n (vertices_sent read) m
     go end.Done logged left = whole left.0
     go end.EndOfInput logged left = whole left.0
     go end.WrongInstance logged left = whole left.0

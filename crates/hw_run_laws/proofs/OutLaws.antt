@@ -298,7 +298,7 @@ serves_says n m read written tells held_old held_new ends_old ends_new e s logge
     whole : m ≡ (served n read).state → SaysOfLog (logged_of m) (served n read).said
     whole is = subst (λ (k : NodeState). SaysOfLog (logged_of k) (served n read).said) (sym is) (served_says n read)
 
-    go : (e : SessionEnd) → IsLogged e → Leaves e n read m tells held_old held_new → SaysOfLog (logged_of m) (served n read).said
+    go : (e : SessionEnd) → IsLogged e → Leaves e n read written m tells held_old held_new → SaysOfLog (logged_of m) (served n read).said
     go end.Done logged left = whole left.0
     go end.EndOfInput logged left = whole left.0
     go end.WrongInstance logged left = whole left.0

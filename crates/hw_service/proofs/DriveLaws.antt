@@ -17,17 +17,17 @@ use Rattle.hw_session.specs.Drives.{StandsDriven, StandsDrivenCut, LeavesDriven,
 use Rattle.hw_session.proofs.ConfigLaws.{driven_config}
 use Rattle.hw_service.proofs.GrowLaws.{HasGrown, behind_logs, behind_cut, grown_same}
 
-module _ (tells : Bool) (n : NodeState) (mark : PeerMark) (m : NodeState) (old new : List ℕ → Option (List ℕ)) (read : List ℕ) where
+module _ (tells : Bool) (n : NodeState) (mark : PeerMark) (m : NodeState) (now : PeerMark) (old new : List ℕ → Option (List ℕ)) (read written : List ℕ) where
   plain_grows : (m ≡ (driven n mark read).state.node) × Logs n m tells old new → HasGrown n.core m.core
   plain_grows left = behind_logs tells n m old new (ap (λ (k : NodeState). k.core.config) left.0 ∙ driven_config n mark read) left.1
 
-  cut_grows : StandsDrivenCut n mark read m tells old new → HasGrown n.core m.core
+  cut_grows : StandsDrivenCut n mark read written m now tells old new → HasGrown n.core m.core
   cut_grows s = behind_cut tells n (driven n mark s.first).state.node m s.vertex old new (driven_config n mark s.first) s.logs
 
-  before_grows : StandsDriven n mark read m tells old new → HasGrown n.core m.core
+  before_grows : StandsDriven n mark read written m now tells old new → HasGrown n.core m.core
   before_grows s = behind_logs tells n m old new (ap (λ (k : NodeState). k.core.config) s.state ∙ driven_config n mark s.first) s.logs
 
-  leaves_grows : (e : SessionEnd) → LeavesDriven e n mark read m tells old new → HasGrown n.core m.core
+  leaves_grows : (e : SessionEnd) → LeavesDriven e n mark read written m now tells old new → HasGrown n.core m.core
   leaves_grows end.Done left = plain_grows left
   leaves_grows end.EndOfInput left = plain_grows left
   leaves_grows end.WrongInstance left = plain_grows left
@@ -41,7 +41,7 @@ module _ (tells : Bool) (n : NodeState) (mark : PeerMark) (m : NodeState) (old n
 
 pub drives_grows : (tells : Bool) (n : NodeState) (mark : PeerMark) (address : List ℕ) (m : NodeState) (now : PeerMark) (old new : List ℕ → Option (List ℕ)) (sessions later : Option (List Session)) (ends_old ends_new : ℕ) (e : SessionEnd)
     → DrivesPeer n mark address m now tells old new sessions later ends_old ends_new e ⊎ DrivesNone n mark m now tells old new sessions later e → HasGrown n.core m.core
-drives_grows tells n mark address m now old new sessions later ends_old ends_new e (inl s) = leaves_grows tells n mark m old new s.read e s.drives.left
+drives_grows tells n mark address m now old new sessions later ends_old ends_new e (inl s) = leaves_grows tells n mark m now old new s.read s.written e s.drives.left
 drives_grows tells n mark address m now old new sessions later ends_old ends_new e (inr s) = grown_same n m s.state
 
 -- ---- own units

@@ -145,17 +145,17 @@ grown_same n m same = record {
   journal = ([], ap (λ (k : NodeState). k.core.journal) same ∙ sym (append-nil n.core.journal));
 }
 
-module _ (tells : Bool) (n m : NodeState) (old new : List ℕ → Option (List ℕ)) (read : List ℕ) where
+module _ (tells : Bool) (n m : NodeState) (old new : List ℕ → Option (List ℕ)) (read written : List ℕ) where
   plain_grows : (m ≡ (served n read).state) × Logs n m tells old new → HasGrown n.core m.core
   plain_grows left = behind_logs tells n m old new (ap (λ (k : NodeState). k.core.config) left.0 ∙ served_config n read) left.1
 
-  cut_grows : StandsCut n read m tells old new → HasGrown n.core m.core
+  cut_grows : StandsCut n read written m tells old new → HasGrown n.core m.core
   cut_grows s = behind_cut tells n (served n s.first).state m s.vertex old new (served_config n s.first) s.logs
 
-  before_grows : StandsBefore n read m tells old new → HasGrown n.core m.core
+  before_grows : StandsBefore n read written m tells old new → HasGrown n.core m.core
   before_grows s = behind_logs tells n m old new (ap (λ (k : NodeState). k.core.config) s.state ∙ served_config n s.first) s.logs
 
-  leaves_grows : (e : SessionEnd) → Leaves e n read m tells old new → HasGrown n.core m.core
+  leaves_grows : (e : SessionEnd) → Leaves e n read written m tells old new → HasGrown n.core m.core
   leaves_grows end.Done left = plain_grows left
   leaves_grows end.EndOfInput left = plain_grows left
   leaves_grows end.WrongInstance left = plain_grows left
@@ -169,5 +169,5 @@ module _ (tells : Bool) (n m : NodeState) (old new : List ℕ → Option (List �
 
 pub serves_grows : (tells : Bool) (n m : NodeState) (old new : List ℕ → Option (List ℕ)) (sessions later : Option (List Session)) (ends_old ends_new : ℕ) (e : SessionEnd)
     → ServesPeer n m tells old new sessions later ends_old ends_new e ⊎ ServesNone n m tells old new sessions later e → HasGrown n.core m.core
-serves_grows tells n m old new sessions later ends_old ends_new e (inl s) = leaves_grows tells n m old new s.read e s.serves.left
+serves_grows tells n m old new sessions later ends_old ends_new e (inl s) = leaves_grows tells n m old new s.read s.written e s.serves.left
 serves_grows tells n m old new sessions later ends_old ends_new e (inr s) = grown_same n m s.state

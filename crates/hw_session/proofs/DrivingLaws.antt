@@ -1,5 +1,5 @@
 -- A session that is driven frame by frame.
-use Rattle.std.specs.Prelude.{◌-◌, ◌==◌, ◌||◌}
+use Rattle.std.specs.Prelude.{◌==◌, ◌||◌}
 use Rattle.std.specs.Option.{option_map}
 use Rattle.std.proofs.Common.{◌≡◌, ◌⊎◌, ℕ, zero, suc, ◌+◌, ◌≤◌, Bool, true, false, cond, List, [], ◌∷◌, ◌++◌, length, take, drop, Option, Some, None, Result, Ok, Err, inl, inr, refl, sym, ap, subst, ◌∙◌, arith, length-append}
 use Rattle.std.proofs.lemmas.List.{append_assoc, append-nil, take_all}
@@ -38,12 +38,13 @@ use Rattle.hw_session.specs.Grows.{Logs, LogsAllBut}
 use Rattle.hw_session.specs.Accept.{given_to, taken_by}
 use Rattle.hw_session.specs.Driving.{Driver, hello, greeting, want_some, want, pull, push_first, push, to_push, with_pushed, with_pulled, not_due, after_vertex, drive_told, drive_at, drive_step, driven}
 use Rattle.hw_session.specs.Handling.{Took, Stayed, WasCut, Reacts, Quits}
-use Rattle.hw_session.specs.Sessions.{EndsAs, IsAnswered}
+use Rattle.hw_session.specs.Sessions.{EndsAs, IsAnswered, IsSaidSoFar}
 use Rattle.hw_session.specs.DriveHandling.{node_part, IsDue, HandlesAs}
 use Rattle.hw_session.specs.Drives.{IsDrivenEnd, StandsDrivenCut, LeavesDriven, LeavesMark, Drives, DrivesThere, DrivesPeer, DrivesNone}
 use Rattle.hw_session.proofs.ReactLaws.{one_sent}
+use Rattle.hw_link.proofs.LinkLaws.{after_nothing}
 use Rattle.hw_session.proofs.GrowsLaws.{logs_nothing, logs_then, logs_but}
-use Rattle.hw_session.proofs.ServingLaws.{before_last_one, said_more, before_less, told_read, told_then, fault_alike, IsOfFrame, some_of, no_frame_so, prefix_of_more, prefix_of_last, IsPlain, all_written, is_answered}
+use Rattle.hw_session.proofs.ServingLaws.{before_last_one, said_more, before_less, told_read, told_then, fault_alike, IsOfFrame, some_of, no_frame_so, prefix_of_more, prefix_of_last, IsPlain, all_written, all_said, is_answered}
 
 -- ---- which reactions end a session
 
@@ -126,6 +127,87 @@ step_ends : (d : Driver) (f : Placed) (e : SessionEnd) → (drive_step d f).end 
 unfolding drive_step
 step_ends d f e is = at_ends d.stage d f.at f.frame e is
 
+-- ---- what a frame moves
+
+first_moves : (d : Driver) (left : ℕ) (vs : List Vertex) → (push_first d left vs).state.node ≡ d.node
+first_moves d left [] = refl
+first_moves d left (v ∷ vs) = refl
+
+push_moves : (d : Driver) (left : ℕ) → (push d left).state.node ≡ d.node
+push_moves d zero = refl
+push_moves d (suc left) = first_moves d left (drop d.mark.pushed d.node.core.journal)
+
+some_moves : (d : Driver) (ns : List Need) → (want_some d ns).state.node ≡ d.node
+some_moves d [] = refl
+some_moves d (n ∷ ns) = refl
+
+told_moves : (d : Driver) (again place : ℕ) → (drive_told d again place).state.node ≡ d.node
+told_moves d zero place = some_moves (with_pulled d place) (take 64 (unmet_in d.node.core))
+told_moves d (suc more) place = go (place == d.mark.pulled)
+  where
+    go : (b : Bool) → (cond b (want (with_pulled d place)) (pull (with_pulled d place) more)).state.node ≡ d.node
+    go true = some_moves (with_pulled d place) (take 64 (unmet_in d.node.core))
+    go false = refl
+
+-- a vertex moves no mark
+vertex_moves : (d : Driver) (a : Result Receipt Cause) → (after_vertex d a).state.mark ≡ d.mark
+vertex_moves d (Ok r) = refl
+vertex_moves d (Err cause.BadSignature) = refl
+vertex_moves d (Err (cause.Local rule)) = refl
+vertex_moves d (Err (cause.Pair f)) = refl
+vertex_moves d (Err (cause.Clash c)) = refl
+vertex_moves d (Err cause.RecordsFull) = refl
+vertex_moves d (Err cause.ParkFull) = refl
+vertex_moves d (Err cause.OutOfMemory) = refl
+
+vertex_at : (s : Stage) (d : Driver) (at : ℕ) (v : Vertex) → (drive_at s d at (frame.Vertex v)).state.mark ≡ d.mark
+vertex_at stage.Greeting d at v = refl
+vertex_at (stage.Pushing left) d at v = refl
+vertex_at (stage.Pulling again) d at v = vertex_moves (record d { node = taken_by d.node v (given_to d.node v) }) (given_to d.node v)
+vertex_at stage.Wanting d at v = vertex_moves (record d { node = taken_by d.node v (given_to d.node v) }) (given_to d.node v)
+vertex_at stage.Leaving d at v = refl
+
+vertex_stays : (d : Driver) (at : ℕ) (f : Frame) (v : Vertex) → f ≡ frame.Vertex v → (drive_step d (record { at = at; frame = f })).state.mark ≡ d.mark
+unfolding drive_step
+vertex_stays d at f v is = subst (λ (x : Frame). (drive_at d.stage d at x).state.mark ≡ d.mark) (sym is) (vertex_at d.stage d at v)
+
+-- a frame leaves the node as it was, or the marks
+at_moves : (s : Stage) (d : Driver) (at : ℕ) (f : Frame) → ((drive_at s d at f).state.node ≡ d.node) ⊎ ((drive_at s d at f).state.mark ≡ d.mark)
+at_moves s d at (frame.Vertex v) = inr (vertex_at s d at v)
+at_moves stage.Greeting d at (frame.Hello instance) = inl (go (digest_eq instance (instance_of d.node.core.config)))
+  where
+    go : (b : Bool) → (cond b (push d (to_push d)) (ends d [] end.WrongInstance)).state.node ≡ d.node
+    go true = push_moves d (to_push d)
+    go false = refl
+at_moves stage.Greeting d at (frame.Have place) = inl refl
+at_moves stage.Greeting d at (frame.Want needs) = inl refl
+at_moves stage.Greeting d at (frame.Missing need) = inl refl
+at_moves stage.Greeting d at frame.Done = inl refl
+at_moves (stage.Pushing left) d at (frame.Want needs) = inl (push_moves (with_pushed d) left)
+at_moves (stage.Pushing left) d at (frame.Hello instance) = inl refl
+at_moves (stage.Pushing left) d at (frame.Have place) = inl refl
+at_moves (stage.Pushing left) d at (frame.Missing need) = inl refl
+at_moves (stage.Pushing left) d at frame.Done = inl refl
+at_moves (stage.Pulling again) d at (frame.Have place) = inl (told_moves d again place)
+at_moves (stage.Pulling again) d at (frame.Hello instance) = inl refl
+at_moves (stage.Pulling again) d at (frame.Want needs) = inl refl
+at_moves (stage.Pulling again) d at (frame.Missing need) = inl refl
+at_moves (stage.Pulling again) d at frame.Done = inl refl
+at_moves stage.Wanting d at (frame.Have place) = inl refl
+at_moves stage.Wanting d at (frame.Missing need) = inl refl
+at_moves stage.Wanting d at (frame.Hello instance) = inl refl
+at_moves stage.Wanting d at (frame.Want needs) = inl refl
+at_moves stage.Wanting d at frame.Done = inl refl
+at_moves stage.Leaving d at frame.Done = inl refl
+at_moves stage.Leaving d at (frame.Hello instance) = inl refl
+at_moves stage.Leaving d at (frame.Have place) = inl refl
+at_moves stage.Leaving d at (frame.Want needs) = inl refl
+at_moves stage.Leaving d at (frame.Missing need) = inl refl
+
+step_moves : (d : Driver) (f : Placed) → ((drive_step d f).state.node ≡ d.node) ⊎ ((drive_step d f).state.mark ≡ d.mark)
+unfolding drive_step
+step_moves d f = at_moves d.stage d f.at f.frame
+
 -- ---- how far a session came
 
 -- what was read so far was read of the session that is there, the node and its log stand behind it, and all was answered
@@ -200,16 +282,16 @@ module _ (n : NodeState) (mark : PeerMark) where
   -- ---- what a session comes to
 
   module _ (m : NodeState) (now_mark : PeerMark) (tells : Bool) (held_old held_new : List ℕ → Option (List ℕ)) where
-    leaves_plain : (e : SessionEnd) (read : List ℕ) → IsPlain e → m ≡ (driven n mark read).state.node → Logs n m tells held_old held_new → LeavesDriven e n mark read m tells held_old held_new
-    leaves_plain end.Done read plain is logs = (is, logs)
-    leaves_plain end.EndOfInput read plain is logs = (is, logs)
-    leaves_plain end.WrongInstance read plain is logs = (is, logs)
-    leaves_plain (end.BadFrame at) read plain is logs = (is, logs)
-    leaves_plain end.LinkFault read plain is logs = (is, logs)
-    leaves_plain end.ByteLimit read plain is logs = (is, logs)
-    leaves_plain end.Clash read plain is logs = (is, logs)
-    leaves_plain end.AppendFault read plain is logs = absurd plain
-    leaves_plain end.OutOfMemory read plain is logs = absurd plain
+    leaves_plain : (e : SessionEnd) (read written : List ℕ) → IsPlain e → m ≡ (driven n mark read).state.node → Logs n m tells held_old held_new → LeavesDriven e n mark read written m now_mark tells held_old held_new
+    leaves_plain end.Done read written plain is logs = (is, logs)
+    leaves_plain end.EndOfInput read written plain is logs = (is, logs)
+    leaves_plain end.WrongInstance read written plain is logs = (is, logs)
+    leaves_plain (end.BadFrame at) read written plain is logs = (is, logs)
+    leaves_plain end.LinkFault read written plain is logs = (is, logs)
+    leaves_plain end.ByteLimit read written plain is logs = (is, logs)
+    leaves_plain end.Clash read written plain is logs = (is, logs)
+    leaves_plain end.AppendFault read written plain is logs = absurd plain
+    leaves_plain end.OutOfMemory read written plain is logs = absurd plain
 
     marks_plain : (e : SessionEnd) (read : List ℕ) → IsPlain e → now_mark ≡ (driven n mark read).state.mark → LeavesMark e n mark read now_mark
     marks_plain end.Done read plain is = is
@@ -231,31 +313,31 @@ module _ (n : NodeState) (mark : PeerMark) where
       end_counted = counted;
       wrote = subst (λ (t : Talk Driver). IsWritten e t.said written) (sym whole) wrote;
       answered = subst (λ (t : Talk Driver). IsAnswered e t.said written) (sym whole) (is_answered e said written all);
-      left = leaves_plain e read plain (node ∙ ap (λ (t : Talk Driver). t.state.node) (sym whole)) logs;
+      left = leaves_plain e read written plain (node ∙ ap (λ (t : Talk Driver). t.state.node) (sym whole)) logs;
       marks = marks_plain e read plain (marks ∙ ap (λ (t : Talk Driver). t.state.mark) (sym whole));
     }
 
     -- there was no memory, and the node stands behind the first bytes that were read
     wanting_drives : (first part written : List ℕ) (said more : List (List Frame)) (d : Driver) (ends_old ends_new : ℕ) (by_bytes : SessionEnd) → length (first ++ part) ≤ byte_limit → Whole first d said by_bytes → m ≡ d.node
-        → LeavesMark end.OutOfMemory n mark (first ++ part) now_mark → (driven n mark (first ++ part)).said ≡ said ++ more → IsPrefixOf written (said_bytes said) → Logs n m tells held_old held_new
+        → now_mark ≡ d.mark → (driven n mark (first ++ part)).said ≡ said ++ more → IsSaidSoFar said written → Logs n m tells held_old held_new
         → Drives n mark (first ++ part) written m now_mark tells held_old held_new ends_old ends_new end.OutOfMemory
     wanting_drives first part written said more d ends_old ends_new by_bytes few whole node marks further wrote logs = record {
       within = few;
       ended = inr tt;
       end_counted = tt;
-      wrote = subst (λ (s : List (List Frame)). IsPrefixOf written (said_bytes s)) (sym further) (prefix_of_more written said more wrote);
+      wrote = subst (λ (s : List (List Frame)). IsPrefixOf written (said_bytes s)) (sym further) (prefix_of_more written said more wrote.0);
       answered = tt;
-      left = inl (record { first = first; part = part; split = refl; state = node ∙ ap (λ (t : Talk Driver). t.state.node) (sym whole); logs = logs });
-      marks = marks;
+      left = inl (record {
+        first = first;
+        part = part;
+        split = refl;
+        state = node ∙ ap (λ (t : Talk Driver). t.state.node) (sym whole);
+        mark_is = marks ∙ ap (λ (t : Talk Driver). t.state.mark) (sym whole);
+        logs = logs;
+        wrote = subst (λ (t : Talk Driver). IsSaidSoFar t.said written) (sym whole) wrote;
+      });
+      marks = tt;
     }
-
-    -- the marks behind the first bytes that were read
-    marks_first : (first part : List ℕ) (said : List (List Frame)) (d : Driver) (by_bytes : SessionEnd) → Whole first d said by_bytes → now_mark ≡ d.mark → LeavesMark end.OutOfMemory n mark (first ++ part) now_mark
-    marks_first first part said d by_bytes whole is = (first, part, refl, is ∙ ap (λ (t : Talk Driver). t.state.mark) (sym whole))
-
-    -- the marks behind all of them
-    marks_whole : (read part : List ℕ) (said : List (List Frame)) (d : Driver) (by_bytes : SessionEnd) → Whole (read ++ part) d said by_bytes → now_mark ≡ d.mark → LeavesMark end.OutOfMemory n mark (read ++ part) now_mark
-    marks_whole read part said d by_bytes whole is = (read ++ part, [], sym (append-nil (read ++ part)), is ∙ ap (λ (t : Talk Driver). t.state.mark) (sym whole))
 
 -- ---- the steps of a session
 
@@ -325,9 +407,8 @@ module _ (n : NodeState) (mark : PeerMark) (d : Driver) (place : ℕ) (tells : B
           record {
             read = s.read ++ h.part;
             written = said_bytes s.said;
-            drives = wanting_drives n mark d.node d.mark tells held_old held_new s.read h.part (said_bytes s.said) s.said further.0 d ends_now ends_new (cut_end (rest_at (length s.read) [])) few here refl
-                (marks_first n mark d.node d.mark tells held_old held_new s.read h.part s.said d (cut_end (rest_at (length s.read) [])) here refl) further.1
-                (length (said_bytes s.said), sym (take_all (length (said_bytes s.said)) (said_bytes s.said) (omega arith))) logs;
+            drives = wanting_drives n mark d.node d.mark tells held_old held_new s.read h.part (said_bytes s.said) s.said further.0 d ends_now ends_new (cut_end (rest_at (length s.read) [])) few here refl refl further.1
+                (all_said s.said) logs;
             told = told;
           }
 
@@ -417,28 +498,38 @@ module _ (n : NodeState) (mark : PeerMark) (d : Driver) (place : ℕ) (tells : B
           read = (s.read ++ part) ++ [];
           written = said_bytes s.said ++ sent;
           drives = wanting_drives n mark k now_mark tells held_old held_new (s.read ++ part) [] (said_bytes s.said ++ sent) said [] reaction.state ends ends whole.0 (subst (λ (bytes : List ℕ). length bytes ≤ byte_limit) (sym (append-nil (s.read ++ part))) fits)
-              whole.1 took.state (marks_first n mark k now_mark tells held_old held_new (s.read ++ part) [] said reaction.state whole.0 whole.1 marks) here (prefix_of_last s.said reaction.says sent first) (stands sent false took);
+              whole.1 took.state marks here (prefix_of_last s.said reaction.says sent first, before_sent sent false took) (stands sent false took);
           told = told sent false took ∙ ap (λ (bytes : List ℕ). after_part bytes (said_bytes s.said ++ sent) false old) (sym (append-nil (s.read ++ part)));
         }
 
-    -- there was none for the frame
-    frame_wanted : (ends : ℕ) → Stayed d.node k tells held_now held_new behind_part new → DrivesThere n mark k now_mark tells held_old held_new old new ends ends end.OutOfMemory
-    frame_wanted ends stayed =
+    -- there was none for the frame, which moves no mark
+    before_frame : (ends : ℕ) → reaction.state.mark ≡ d.mark → Stayed d.node k tells held_now held_new behind_part new → DrivesThere n mark k now_mark tells held_old held_new old new ends ends end.OutOfMemory
+    before_frame ends stays stayed =
         let further = heard_first n mark s.read s.said d s.heard part fits in
         let here = heard_here n mark s.read s.said d s.heard s.within in
         record {
           read = s.read ++ part;
           written = said_bytes s.said;
-          drives = wanting_drives n mark k now_mark tells held_old held_new s.read part (said_bytes s.said) s.said further.0 d ends ends (cut_end (rest_at (length s.read) [])) fits here stayed.state
-              (marks_whole n mark k now_mark tells held_old held_new s.read part said reaction.state whole.0 whole.1 marks) further.1
-              (length (said_bytes s.said), sym (take_all (length (said_bytes s.said)) (said_bytes s.said) (omega arith)))
+          drives = wanting_drives n mark k now_mark tells held_old held_new s.read part (said_bytes s.said) s.said further.0 d ends ends (cut_end (rest_at (length s.read) [])) fits here stayed.state (marks ∙ stays) further.1
+              (all_said s.said)
               (subst (λ (x : NodeState). Logs n x tells held_old held_new) (sym stayed.state) (logs_then tells n d.node d.node held_old held_now held_new s.logs (logs_nothing tells d.node held_now held_new stayed.files)));
           told = told_read s.read part (said_bytes s.said) false old now new s.told stayed.told;
         }
 
+    -- A frame leaves the node or the marks as they were. Where it leaves the node it was handled, and nothing of the answer was sent.
+    frame_wanted : (ends : ℕ) → Stayed d.node k tells held_now held_new behind_part new → DrivesThere n mark k now_mark tells held_old held_new old new ends ends end.OutOfMemory
+    frame_wanted ends stayed = elim (step_moves d (placed_behind s.read f)) [
+      | inl node ↦ answer_wanted [] ends (0, refl) (record {
+        state = stayed.state ∙ sym node;
+        logs = subst (λ (x : NodeState). Logs d.node x tells held_now held_new) (sym stayed.state) (logs_nothing tells d.node held_now held_new stayed.files);
+        told = stayed.told ∙ sym (after_nothing behind_part);
+      })
+      | inr stays ↦ before_frame ends stays stayed
+    ]
+
     -- its vertex's entry was cut
     module _ (cut : WasCut d.node f (node_part reaction) k tells held_now held_new behind_part new) where
-      stands_cut : StandsDrivenCut n mark (s.read ++ part) k tells held_old held_new
+      stands_cut : StandsDrivenCut n mark (s.read ++ part) (said_bytes s.said) k now_mark tells held_old held_new
       stands_cut =
           let here = heard_here n mark s.read s.said d s.heard s.within in
           record {
@@ -448,7 +539,9 @@ module _ (n : NodeState) (mark : PeerMark) (d : Driver) (place : ℕ) (tells : B
             split = refl;
             has = subst (λ (x : Frame). HasFrame (length s.read) part x) cut.frame_is has;
             whole = ap (λ (t : Talk Driver). t.state.node) whole.1 ∙ cut.whole ∙ ap (λ (t : Talk Driver). with_entry t.state.node cut.vertex) (sym here);
+            mark_is = marks ∙ vertex_stays d (length s.read) f cut.vertex cut.frame_is ∙ ap (λ (t : Talk Driver). t.state.mark) (sym here);
             logs = subst (λ (x : NodeState). LogsAllBut n x cut.vertex k tells held_old held_new) (ap (λ (t : Talk Driver). t.state.node) (sym here)) (logs_but tells n d.node d.node cut.vertex k held_old held_now held_new s.logs cut.logs);
+            wrote = ap (λ (t : Talk Driver). said_bytes t.said) (sym here);
           }
 
       told_cut : new ≡ after_part (s.read ++ part) (said_bytes s.said) false old
@@ -485,7 +578,7 @@ module _ (n : NodeState) (mark : PeerMark) (d : Driver) (place : ℕ) (tells : B
                   (prefix_of_more (said_bytes s.said) s.said further.0 (length (said_bytes s.said), sym (take_all (length (said_bytes s.said)) (said_bytes s.said) (omega arith))));
               answered = tt;
               left = inr stands_cut;
-              marks = marks_whole n mark k now_mark tells held_old held_new s.read part said reaction.state whole.0 whole.1 marks;
+              marks = tt;
             };
             told = told_cut;
           }
@@ -579,9 +672,8 @@ module _ (n : NodeState) (mark : PeerMark) (tells : Bool) (held : List ℕ → O
   hello_cut end.OutOfMemory s = record {
     read = [] ++ [];
     written = s.part;
-    drives = wanting_drives n mark n mark tells held held [] [] s.part (hello n ∷ []) [] (greeting n mark) ends ends (cut_end (rest_at 0 [])) (omega arith) start_whole refl
-        (marks_first n mark n mark tells held held [] [] (hello n ∷ []) (greeting n mark) (cut_end (rest_at 0 [])) start_whole refl) (ap (λ (t : Talk Driver). t.said) start_whole)
-        (subst (λ (bytes : List ℕ). IsPrefixOf s.part bytes) hello_said s.first) (logs_nothing tells n held held (λ t name. refl));
+    drives = wanting_drives n mark n mark tells held held [] [] s.part (hello n ∷ []) [] (greeting n mark) ends ends (cut_end (rest_at 0 [])) (omega arith) start_whole refl refl (ap (λ (t : Talk Driver). t.said) start_whole)
+        (subst (λ (bytes : List ℕ). IsPrefixOf s.part bytes) hello_said s.first, omega arith) (logs_nothing tells n held held (λ t name. refl));
     told = s.told;
   }
   hello_cut end.Done s = absurd s.error

@@ -37,7 +37,7 @@ use Rattle.hw_session.specs.Grows.{Logs, LogsAllBut}
 use Rattle.hw_session.specs.Accept.{given_to, taken_by}
 use Rattle.hw_session.specs.Serving.{is_clash, answer_to_vertex, serve_first, serve_frame, serve_step, served}
 use Rattle.hw_session.specs.Handling.{Took, Stayed, WasCut, Reacts, Quits, Handles, IsLogCounted}
-use Rattle.hw_session.specs.Sessions.{EndsAs, IsEndOf, IsAnswered, StandsCut, Leaves, Serves, ServesThere, ServesPeer, ServesNone}
+use Rattle.hw_session.specs.Sessions.{EndsAs, IsEndOf, IsAnswered, IsSaidSoFar, StandsCut, Leaves, Serves, ServesThere, ServesPeer, ServesNone}
 use Rattle.hw_session.proofs.GrowsLaws.{logs_nothing, logs_then, logs_but}
 
 -- ---- what was said
@@ -304,17 +304,21 @@ is_answered end.ByteLimit said written all = all
 is_answered end.Clash said written all = all
 is_answered end.OutOfMemory said written all = tt
 
+-- all that was said is said so far
+pub all_said : (said : List (List Frame)) → IsSaidSoFar said (said_bytes said)
+all_said said = ((length (said_bytes said), sym (take_all (length (said_bytes said)) (said_bytes said) (omega arith))), before_less said)
+
 module _ (n m : NodeState) (tells : Bool) (held_old held_new : List ℕ → Option (List ℕ)) where
-  leaves_plain : (e : SessionEnd) (read : List ℕ) → IsPlain e → m ≡ (served n read).state → Logs n m tells held_old held_new → Leaves e n read m tells held_old held_new
-  leaves_plain end.Done read plain is logs = (is, logs)
-  leaves_plain end.EndOfInput read plain is logs = (is, logs)
-  leaves_plain end.WrongInstance read plain is logs = (is, logs)
-  leaves_plain (end.BadFrame at) read plain is logs = (is, logs)
-  leaves_plain end.LinkFault read plain is logs = (is, logs)
-  leaves_plain end.ByteLimit read plain is logs = (is, logs)
-  leaves_plain end.Clash read plain is logs = (is, logs)
-  leaves_plain end.AppendFault read plain is logs = absurd plain
-  leaves_plain end.OutOfMemory read plain is logs = absurd plain
+  leaves_plain : (e : SessionEnd) (read written : List ℕ) → IsPlain e → m ≡ (served n read).state → Logs n m tells held_old held_new → Leaves e n read written m tells held_old held_new
+  leaves_plain end.Done read written plain is logs = (is, logs)
+  leaves_plain end.EndOfInput read written plain is logs = (is, logs)
+  leaves_plain end.WrongInstance read written plain is logs = (is, logs)
+  leaves_plain (end.BadFrame at) read written plain is logs = (is, logs)
+  leaves_plain end.LinkFault read written plain is logs = (is, logs)
+  leaves_plain end.ByteLimit read written plain is logs = (is, logs)
+  leaves_plain end.Clash read written plain is logs = (is, logs)
+  leaves_plain end.AppendFault read written plain is logs = absurd plain
+  leaves_plain end.OutOfMemory read written plain is logs = absurd plain
 
   -- the whole session is this, and all that was read was handled
   plain_serves : (read written : List ℕ) (said : List (List Frame)) (ends_old ends_new : ℕ) (e by_bytes : SessionEnd) → length read ≤ byte_limit → Whole n read m said by_bytes → IsPlain e → EndsAs e by_bytes → IsEndOf n read ends_old ends_new e
@@ -325,19 +329,19 @@ module _ (n m : NodeState) (tells : Bool) (held_old held_new : List ℕ → Opti
     end_counted = counted;
     wrote = subst (λ (t : Talk NodeState). IsWritten e t.said written) (sym whole) wrote;
     answered = subst (λ (t : Talk NodeState). IsAnswered e t.said written) (sym whole) (is_answered e said written all);
-    left = leaves_plain e read plain (ap (λ (t : Talk NodeState). t.state) (sym whole)) logs;
+    left = leaves_plain e read written plain (ap (λ (t : Talk NodeState). t.state) (sym whole)) logs;
   }
 
   -- there was no memory, and the node stands behind the first bytes that were read
   wanting_serves : (first part written : List ℕ) (said more : List (List Frame)) (ends_old ends_new : ℕ) (by_bytes : SessionEnd) → length (first ++ part) ≤ byte_limit → Whole n first m said by_bytes → (served n (first ++ part)).said ≡ said ++ more
-      → IsPrefixOf written (said_bytes said) → Logs n m tells held_old held_new → Serves n (first ++ part) written m tells held_old held_new ends_old ends_new end.OutOfMemory
+      → IsSaidSoFar said written → Logs n m tells held_old held_new → Serves n (first ++ part) written m tells held_old held_new ends_old ends_new end.OutOfMemory
   wanting_serves first part written said more ends_old ends_new by_bytes few whole further wrote logs = record {
     within = few;
     ended = inr tt;
     end_counted = tt;
-    wrote = subst (λ (s : List (List Frame)). IsPrefixOf written (said_bytes s)) (sym further) (prefix_of_more written said more wrote);
+    wrote = subst (λ (s : List (List Frame)). IsPrefixOf written (said_bytes s)) (sym further) (prefix_of_more written said more wrote.0);
     answered = tt;
-    left = inl (record { first = first; part = part; split = refl; state = ap (λ (t : Talk NodeState). t.state) (sym whole); logs = logs });
+    left = inl (record { first = first; part = part; split = refl; state = ap (λ (t : Talk NodeState). t.state) (sym whole); logs = logs; wrote = subst (λ (t : Talk NodeState). IsSaidSoFar t.said written) (sym whole) wrote });
   }
 
 -- ---- the steps of a session
@@ -405,7 +409,7 @@ module _ (n m : NodeState) (place : ℕ) (tells : Bool) (held_old held_now : Lis
             read = s.read ++ h.part;
             written = said_bytes s.said;
             serves = wanting_serves n m tells held_old held_new s.read h.part (said_bytes s.said) s.said further.0 ends_now ends_new (cut_end (rest_at (length s.read) [])) few (heard_here n s.read s.said m s.heard s.within) further.1
-                (length (said_bytes s.said), sym (take_all (length (said_bytes s.said)) (said_bytes s.said) (omega arith))) logs;
+                (all_said s.said) logs;
             told = told;
           }
 
@@ -496,7 +500,7 @@ module _ (n m : NodeState) (place : ℕ) (tells : Bool) (held_old held_now : Lis
           read = (s.read ++ part) ++ [];
           written = said_bytes s.said ++ sent;
           serves = wanting_serves n k tells held_old held_new (s.read ++ part) [] (said_bytes s.said ++ sent) said [] ends ends whole.0 (subst (λ (bytes : List ℕ). length bytes ≤ byte_limit) (sym (append-nil (s.read ++ part))) fits)
-              (whole_at sent false took whole.0 whole.1) here (prefix_of_last s.said reaction.says sent first) (stands sent false took);
+              (whole_at sent false took whole.0 whole.1) here (prefix_of_last s.said reaction.says sent first, before_sent sent false took) (stands sent false took);
           told = told sent false took ∙ ap (λ (bytes : List ℕ). after_part bytes (said_bytes s.said ++ sent) false old) (sym (append-nil (s.read ++ part)));
         }
 
@@ -509,13 +513,13 @@ module _ (n m : NodeState) (place : ℕ) (tells : Bool) (held_old held_now : Lis
           read = s.read ++ part;
           written = said_bytes s.said;
           serves = wanting_serves n m tells held_old held_new s.read part (said_bytes s.said) s.said further.0 ends ends (cut_end (rest_at (length s.read) [])) fits (heard_here n s.read s.said m s.heard s.within) further.1
-              (length (said_bytes s.said), sym (take_all (length (said_bytes s.said)) (said_bytes s.said) (omega arith))) (logs_then tells n m m held_old held_now held_new s.logs (logs_nothing tells m held_now held_new stayed.files));
+              (all_said s.said) (logs_then tells n m m held_old held_now held_new s.logs (logs_nothing tells m held_now held_new stayed.files));
           told = told_read s.read part (said_bytes s.said) false old now new s.told stayed.told;
         })
 
     -- its vertex's entry was cut
     module _ (cut : WasCut m f reaction k tells held_now held_new behind_part new) where
-      stands_cut : StandsCut n (s.read ++ part) k tells held_old held_new
+      stands_cut : StandsCut n (s.read ++ part) (said_bytes s.said) k tells held_old held_new
       stands_cut =
           let here = heard_here n s.read s.said m s.heard s.within in
           record {
@@ -526,6 +530,7 @@ module _ (n m : NodeState) (place : ℕ) (tells : Bool) (held_old held_now : Lis
             has = subst (λ (x : Frame). HasFrame (length s.read) part x) cut.frame_is has;
             whole = ap (λ (t : Talk NodeState). t.state) whole.1 ∙ cut.whole ∙ ap (λ (t : Talk NodeState). with_entry t.state cut.vertex) (sym here);
             logs = subst (λ (x : NodeState). LogsAllBut n x cut.vertex k tells held_old held_new) (ap (λ (t : Talk NodeState). t.state) (sym here)) (logs_but tells n m m cut.vertex k held_old held_now held_new s.logs cut.logs);
+            wrote = ap (λ (t : Talk NodeState). said_bytes t.said) (sym here);
           }
 
       told_cut : new ≡ after_part (s.read ++ part) (said_bytes s.said) false old

@@ -10,14 +10,14 @@ use Rattle.hw_io.specs.Files.{SameFiles}
 use Rattle.hw_link.specs.declared.end.SessionEnd.{SessionEnd}
 use Rattle.hw_link.specs.declared.end.SessionEnd.TheVariants as end
 use Rattle.hw_link.specs.Frames.{byte_limit}
-use Rattle.hw_link.specs.Talk.{IsWritten}
+use Rattle.hw_link.specs.Talk.{said_bytes, IsWritten}
 use Rattle.hw_link.specs.Links.{after_part, is_link_fault}
 use Rattle.hw_link.specs.UnderWay.{HasFrame}
 use Rattle.hw_session.specs.declared.stage.PeerMark.{PeerMark}
 use Rattle.hw_session.specs.Node.{NodeState}
 use Rattle.hw_session.specs.Make.{with_entry}
 use Rattle.hw_session.specs.Grows.{Logs, LogsAllBut}
-use Rattle.hw_session.specs.Sessions.{EndsAs, IsAnswered}
+use Rattle.hw_session.specs.Sessions.{EndsAs, IsAnswered, IsSaidSoFar}
 use Rattle.hw_session.specs.Driving.{driven}
 
 -- ---- how it ended
@@ -32,34 +32,39 @@ IsDrivenEnd n mark read before now e = Unit {0}
 
 -- ---- what it left
 
--- it stands where the first of these bytes leave it
-pub record StandsDriven (n : NodeState) (mark : PeerMark) (read : List ℕ) (m : NodeState) (tells : Bool) (held_old held_new : List ℕ → Option (List ℕ)) : Type 0 where
+-- It stands where the first of these bytes leave it, and so do its marks and its log. It wrote no more than it says to them.
+pub record StandsDriven (n : NodeState) (mark : PeerMark) (read written : List ℕ) (m : NodeState) (now : PeerMark) (tells : Bool) (held_old held_new : List ℕ → Option (List ℕ)) : Type 0 where
   pub first : List ℕ
   pub part : List ℕ
   pub split : read ≡ first ++ part
   pub state : m ≡ (driven n mark first).state.node
+  pub mark_is : now ≡ (driven n mark first).state.mark
   pub logs : Logs n m tells held_old held_new
+  pub wrote : IsSaidSoFar (driven n mark first).said written
 
 -- The last frame's vertex was accepted, and its entry may be cut. All of these bytes leave the node that has that vertex with its whole entry.
-pub record StandsDrivenCut (n : NodeState) (mark : PeerMark) (read : List ℕ) (m : NodeState) (tells : Bool) (held_old held_new : List ℕ → Option (List ℕ)) : Type 0 where
+-- The marks are those before that frame, and it wrote what it says to the bytes before it.
+pub record StandsDrivenCut (n : NodeState) (mark : PeerMark) (read written : List ℕ) (m : NodeState) (now : PeerMark) (tells : Bool) (held_old held_new : List ℕ → Option (List ℕ)) : Type 0 where
   pub first : List ℕ
   pub part : List ℕ
   pub vertex : Vertex
   pub split : read ≡ first ++ part
   pub has : HasFrame (length first) part (frame.Vertex vertex)
   pub whole : (driven n mark read).state.node ≡ with_entry (driven n mark first).state.node vertex
+  pub mark_is : now ≡ (driven n mark first).state.mark
   pub logs : LogsAllBut n (driven n mark first).state.node vertex m tells held_old held_new
+  pub wrote : written ≡ said_bytes (driven n mark first).said
 
 -- The node stands where the bytes leave it, and so does its log. Where an append failed the last entry may be cut, and where there was
--- no memory the node may stand before the last bytes.
-abbrev pub LeavesDriven : SessionEnd → NodeState → PeerMark → List ℕ → NodeState → Bool → (List ℕ → Option (List ℕ)) → (List ℕ → Option (List ℕ)) → Type 0
-LeavesDriven end.AppendFault n mark read m tells held_old held_new = StandsDrivenCut n mark read m tells held_old held_new
-LeavesDriven end.OutOfMemory n mark read m tells held_old held_new = StandsDriven n mark read m tells held_old held_new ⊎ StandsDrivenCut n mark read m tells held_old held_new
-LeavesDriven e n mark read m tells held_old held_new = (m ≡ (driven n mark read).state.node) × Logs n m tells held_old held_new
+-- no memory the node may stand before the last bytes: it stands, with its marks and its log, where what it wrote says.
+abbrev pub LeavesDriven : SessionEnd → NodeState → PeerMark → List ℕ → List ℕ → NodeState → PeerMark → Bool → (List ℕ → Option (List ℕ)) → (List ℕ → Option (List ℕ)) → Type 0
+LeavesDriven end.AppendFault n mark read written m now tells held_old held_new = StandsDrivenCut n mark read written m now tells held_old held_new
+LeavesDriven end.OutOfMemory n mark read written m now tells held_old held_new = StandsDriven n mark read written m now tells held_old held_new ⊎ StandsDrivenCut n mark read written m now tells held_old held_new
+LeavesDriven e n mark read written m now tells held_old held_new = (m ≡ (driven n mark read).state.node) × Logs n m tells held_old held_new
 
--- The marks are those that the bytes leave. Where there was no memory they may be those that the first of them leave.
+-- The marks are those that the bytes leave. Where there was no memory, `LeavesDriven` says where they stand.
 abbrev pub LeavesMark : SessionEnd → NodeState → PeerMark → List ℕ → PeerMark → Type 0
-LeavesMark end.OutOfMemory n mark read now = (first : List ℕ) × (part : List ℕ) × (read ≡ first ++ part) × (now ≡ (driven n mark first).state.mark)
+LeavesMark end.OutOfMemory n mark read now = Unit {0}
 LeavesMark e n mark read now = now ≡ (driven n mark read).state.mark
 
 -- ---- one session
@@ -71,7 +76,7 @@ pub record Drives (n : NodeState) (mark : PeerMark) (read written : List ℕ) (m
   pub end_counted : IsDrivenEnd n mark read ends_old ends_new e
   pub wrote : IsWritten e (driven n mark read).said written
   pub answered : IsAnswered e (driven n mark read).said written
-  pub left : LeavesDriven e n mark read m tells held_old held_new
+  pub left : LeavesDriven e n mark read written m now tells held_old held_new
   pub marks : LeavesMark e n mark read now
 
 -- A node drove the peer of the session that is there.

@@ -11,7 +11,7 @@ use Rattle.hw_io.specs.Files.{SameFiles}
 use Rattle.hw_link.specs.declared.end.SessionEnd.{SessionEnd}
 use Rattle.hw_link.specs.declared.end.SessionEnd.TheVariants as end
 use Rattle.hw_link.specs.Frames.{byte_limit}
-use Rattle.hw_link.specs.Talk.{said_bytes, before_last, IsWritten}
+use Rattle.hw_link.specs.Talk.{said_bytes, before_last, IsPrefixOf, IsWritten}
 use Rattle.hw_link.specs.Links.{after_part, is_link_fault}
 use Rattle.hw_link.specs.UnderWay.{HasFrame}
 use Rattle.hw_session.specs.Node.{NodeState}
@@ -40,23 +40,29 @@ IsEndOf n read before now (end.BadFrame at) = (now ≡ raised before) ⊎ ((more
 IsEndOf n read before now end.ByteLimit = byte_limit ≤ length read
 IsEndOf n read before now e = Unit {0}
 
--- Each frame but the last was answered whole before the next was read.
+-- Each frame but the last was answered whole before the next was read. Where there was no memory, `Leaves` says it of the frames that were handled.
 abbrev pub IsAnswered : SessionEnd → List (List Frame) → List ℕ → Type 0
 IsAnswered end.OutOfMemory said written = Unit {0}
 IsAnswered e said written = length (said_bytes (before_last said)) ≤ length written
 
+-- It is a first part of what was said, and each answer but the last is whole in it.
+abbrev pub IsSaidSoFar : List (List Frame) → List ℕ → Type 0
+IsSaidSoFar said written = IsPrefixOf written (said_bytes said) × (length (said_bytes (before_last said)) ≤ length written)
+
 -- ---- what it left
 
--- it stands where the first of these bytes leave it
-pub record StandsBefore (n : NodeState) (read : List ℕ) (m : NodeState) (tells : Bool) (held_old held_new : List ℕ → Option (List ℕ)) : Type 0 where
+-- It stands where the first of these bytes leave it, and so does its log. It wrote no more than it says to them.
+pub record StandsBefore (n : NodeState) (read written : List ℕ) (m : NodeState) (tells : Bool) (held_old held_new : List ℕ → Option (List ℕ)) : Type 0 where
   pub first : List ℕ
   pub part : List ℕ
   pub split : read ≡ first ++ part
   pub state : m ≡ (served n first).state
   pub logs : Logs n m tells held_old held_new
+  pub wrote : IsSaidSoFar (served n first).said written
 
 -- The last frame's vertex was accepted, and its entry may be cut. All of these bytes leave the node that has that vertex with its whole entry.
-pub record StandsCut (n : NodeState) (read : List ℕ) (m : NodeState) (tells : Bool) (held_old held_new : List ℕ → Option (List ℕ)) : Type 0 where
+-- It wrote what it says to the bytes before that frame, and nothing behind it.
+pub record StandsCut (n : NodeState) (read written : List ℕ) (m : NodeState) (tells : Bool) (held_old held_new : List ℕ → Option (List ℕ)) : Type 0 where
   pub first : List ℕ
   pub part : List ℕ
   pub vertex : Vertex
@@ -64,13 +70,14 @@ pub record StandsCut (n : NodeState) (read : List ℕ) (m : NodeState) (tells : 
   pub has : HasFrame (length first) part (frame.Vertex vertex)
   pub whole : (served n read).state ≡ with_entry (served n first).state vertex
   pub logs : LogsAllBut n (served n first).state vertex m tells held_old held_new
+  pub wrote : written ≡ said_bytes (served n first).said
 
 -- The node stands where the bytes leave it, and so does its log. Where an append failed the last entry may be cut, and where there was
--- no memory the node may stand before the last bytes.
-abbrev pub Leaves : SessionEnd → NodeState → List ℕ → NodeState → Bool → (List ℕ → Option (List ℕ)) → (List ℕ → Option (List ℕ)) → Type 0
-Leaves end.AppendFault n read m tells held_old held_new = StandsCut n read m tells held_old held_new
-Leaves end.OutOfMemory n read m tells held_old held_new = StandsBefore n read m tells held_old held_new ⊎ StandsCut n read m tells held_old held_new
-Leaves e n read m tells held_old held_new = (m ≡ (served n read).state) × Logs n m tells held_old held_new
+-- no memory the node may stand before the last bytes: it stands, with its log, where what it wrote says.
+abbrev pub Leaves : SessionEnd → NodeState → List ℕ → List ℕ → NodeState → Bool → (List ℕ → Option (List ℕ)) → (List ℕ → Option (List ℕ)) → Type 0
+Leaves end.AppendFault n read written m tells held_old held_new = StandsCut n read written m tells held_old held_new
+Leaves end.OutOfMemory n read written m tells held_old held_new = StandsBefore n read written m tells held_old held_new ⊎ StandsCut n read written m tells held_old held_new
+Leaves e n read written m tells held_old held_new = (m ≡ (served n read).state) × Logs n m tells held_old held_new
 
 -- ---- one session
 
@@ -81,7 +88,7 @@ pub record Serves (n : NodeState) (read written : List ℕ) (m : NodeState) (tel
   pub end_counted : IsEndOf n read ends_old ends_new e
   pub wrote : IsWritten e (served n read).said written
   pub answered : IsAnswered e (served n read).said written
-  pub left : Leaves e n read m tells held_old held_new
+  pub left : Leaves e n read written m tells held_old held_new
 
 -- A node served the peer of the session that is there.
 pub record ServesThere (n m : NodeState) (tells : Bool) (held_old held_new : List ℕ → Option (List ℕ)) (old new : Option (List Session)) (ends_old ends_new : ℕ) (e : SessionEnd) : Type 0 where
