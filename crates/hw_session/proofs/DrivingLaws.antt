@@ -38,13 +38,14 @@ use Rattle.hw_session.specs.Grows.{Logs, LogsAllBut}
 use Rattle.hw_session.specs.Accept.{given_to, taken_by}
 use Rattle.hw_session.specs.Driving.{Driver, hello, greeting, want_some, want, pull, push_first, push, to_push, with_pushed, with_pulled, not_due, after_vertex, drive_told, drive_at, drive_step, driven}
 use Rattle.hw_session.specs.Handling.{Took, Stayed, WasCut, Reacts, Quits}
-use Rattle.hw_session.specs.Sessions.{EndsAs, IsAnswered, IsSaidSoFar}
+use Rattle.hw_session.specs.Sessions.{EndsAs, IsCutEnd, IsReadNoFurther, IsAnswered, IsSaidSoFar}
 use Rattle.hw_session.specs.DriveHandling.{node_part, IsDue, HandlesAs}
 use Rattle.hw_session.specs.Drives.{IsDrivenEnd, StandsDrivenCut, LeavesDriven, LeavesMark, Drives, DrivesThere, DrivesPeer, DrivesNone}
 use Rattle.hw_session.proofs.ReactLaws.{one_sent}
 use Rattle.hw_link.proofs.LinkLaws.{after_nothing}
 use Rattle.hw_session.proofs.GrowsLaws.{logs_nothing, logs_then, logs_but}
-use Rattle.hw_session.proofs.ServingLaws.{before_last_one, said_more, before_less, told_read, told_then, fault_alike, IsOfFrame, some_of, no_frame_so, prefix_of_more, prefix_of_last, IsPlain, all_written, all_said, is_answered}
+use Rattle.hw_session.proofs.FurtherLaws.{NoneBehind, frame_alone, none_there, part_cut, none_further, no_further, stops_so}
+use Rattle.hw_session.proofs.ServingLaws.{cut_so_far, before_last_one, said_more, before_less, told_read, told_then, fault_alike, IsOfFrame, some_of, no_frame_so, prefix_of_more, prefix_of_last, IsPlain, all_written, all_said, is_answered}
 
 -- ---- which reactions end a session
 
@@ -219,6 +220,7 @@ pub record IsDriving (n : NodeState) (mark : PeerMark) (d : Driver) (place : ℕ
   pub heard : HasHeard (hello n) drive_step (greeting n mark) read said d
   pub logs : Logs n d.node tells held_old held_now
   pub told : now ≡ after_part read (said_bytes said) false old
+  pub no_further : IsReadNoFurther (λ (bytes : List ℕ). (driven n mark bytes).end) read
 
 module _ (n : NodeState) (mark : PeerMark) where
   abbrev begun : Driver
@@ -238,6 +240,7 @@ module _ (n : NodeState) (mark : PeerMark) where
     heard = (reads_frame_by_frame Driver).begins drive_step (hello n) begun;
     logs = logs_nothing tells n held held (λ t name. refl);
     told = is ∙ ap (λ (b : List ℕ). after_part [] b false old) (sym (append-nil (sent_bytes (hello n))));
+    no_further = none_further (λ (bytes : List ℕ). (driven n mark bytes).end);
   }
 
   -- ---- what is known at a place
@@ -279,6 +282,15 @@ module _ (n : NodeState) (mark : PeerMark) where
     behind None is few = (cut_end (rest_at (length (read ++ part)) []), heard_here (read ++ part) (said ++ r.says ∷ []) r.state (leads is) few)
     behind (Some e) is few = (e, stops_here e is few)
 
+  -- bytes that are no more than a frame are read no further than it
+  reads_part : (d : Driver) (read : List ℕ) (said : List (List Frame)) → HasHeard (hello n) drive_step begun read said d → (part : List ℕ) → NoneBehind (length read) part → length (read ++ part) ≤ byte_limit
+      → IsReadNoFurther (λ (bytes : List ℕ). (driven n mark bytes).end) read → IsReadNoFurther (λ (bytes : List ℕ). (driven n mark bytes).end) (read ++ part)
+  reads_part d read said heard part none few so_far = no_further (λ (bytes : List ℕ). (driven n mark bytes).end) read part so_far (λ front back is some.
+      let (e, ends) = part_cut (length read) part front back is some none in
+      let all : length (read ++ (front ++ back)) ≤ byte_limit = subst (λ (p : List ℕ). length (read ++ p) ≤ byte_limit) is few in
+      let fewer : length (read ++ front) ≤ byte_limit = omega (arith, length-append read (front ++ back), length-append front back, length-append read front) in
+      subst IsCutEnd (sym (ap (λ (t : Talk Driver). t.end) ((reads_frame_by_frame Driver).no_frame_ends drive_step (hello n) begun read said d front e heard ends fewer))) (cut_so_far (rest_at (length read) front) e (no_frame_so (length read) front e ends)))
+
   -- ---- what a session comes to
 
   module _ (m : NodeState) (now_mark : PeerMark) (tells : Bool) (held_old held_new : List ℕ → Option (List ℕ)) where
@@ -306,11 +318,12 @@ module _ (n : NodeState) (mark : PeerMark) where
 
     -- the whole session is this, and all that was read was handled
     plain_drives : (read written : List ℕ) (said : List (List Frame)) (d : Driver) (ends_old ends_new : ℕ) (e by_bytes : SessionEnd) → length read ≤ byte_limit → Whole read d said by_bytes → m ≡ d.node → now_mark ≡ d.mark → IsPlain e → EndsAs e by_bytes
-        → IsDrivenEnd n mark read ends_old ends_new e → IsWritten e said written → length (said_bytes (before_last said)) ≤ length written → Logs n m tells held_old held_new → Drives n mark read written m now_mark tells held_old held_new ends_old ends_new e
-    plain_drives read written said d ends_old ends_new e by_bytes few whole node marks plain ended counted wrote all logs = record {
+        → IsDrivenEnd n mark read ends_old ends_new e → IsReadNoFurther (λ (bytes : List ℕ). (driven n mark bytes).end) read → IsWritten e said written → length (said_bytes (before_last said)) ≤ length written → Logs n m tells held_old held_new → Drives n mark read written m now_mark tells held_old held_new ends_old ends_new e
+    plain_drives read written said d ends_old ends_new e by_bytes few whole node marks plain ended counted further wrote all logs = record {
       within = few;
       ended = subst (λ (t : Talk Driver). EndsAs e t.end) (sym whole) ended;
       end_counted = counted;
+      no_further = stops_so e (λ (bytes : List ℕ). (driven n mark bytes).end) read further;
       wrote = subst (λ (t : Talk Driver). IsWritten e t.said written) (sym whole) wrote;
       answered = subst (λ (t : Talk Driver). IsAnswered e t.said written) (sym whole) (is_answered e said written all);
       left = leaves_plain e read written plain (node ∙ ap (λ (t : Talk Driver). t.state.node) (sym whole)) logs;
@@ -325,6 +338,7 @@ module _ (n : NodeState) (mark : PeerMark) where
       within = few;
       ended = inr tt;
       end_counted = tt;
+      no_further = tt;
       wrote = subst (λ (s : List (List Frame)). IsPrefixOf written (said_bytes s)) (sym further) (prefix_of_more written said more wrote.0);
       answered = tt;
       left = inl (record {
@@ -360,7 +374,7 @@ module _ (n : NodeState) (mark : PeerMark) (d : Driver) (place : ℕ) (tells : B
             written = said_bytes s.said;
             drives =
                 plain_drives n mark d.node d.mark tells held_old held_now s.read (said_bytes s.said) s.said d ends ends end.ByteLimit (cut_end (rest_at (length s.read) [])) s.within (heard_here n mark s.read s.said d s.heard s.within) refl refl tt (inl (sym by))
-                (omega (arith, s.place_is)) (all_written end.ByteLimit s.said (said_bytes s.said) tt refl) (before_less s.said) s.logs;
+                (omega (arith, s.place_is)) s.no_further (all_written end.ByteLimit s.said (said_bytes s.said) tt refl) (before_less s.said) s.logs;
             told = s.told;
           }
 
@@ -380,7 +394,8 @@ module _ (n : NodeState) (mark : PeerMark) (d : Driver) (place : ℕ) (tells : B
       plain how by_bytes none is_plain agrees counted told = record {
         read = s.read ++ h.part;
         written = said_bytes s.said;
-        drives = plain_drives n mark d.node d.mark tells held_old held_new (s.read ++ h.part) (said_bytes s.said) s.said d ends_now ends_new how by_bytes few (over by_bytes none) refl refl is_plain agrees counted (all_written how s.said (said_bytes s.said) is_plain refl) (before_less s.said) logs;
+        drives = plain_drives n mark d.node d.mark tells held_old held_new (s.read ++ h.part) (said_bytes s.said) s.said d ends_now ends_new how by_bytes few (over by_bytes none) refl refl is_plain agrees counted
+            (reads_part n mark d s.read s.said s.heard h.part (none_there (length s.read) h.part by_bytes none) few s.no_further) (all_written how s.said (said_bytes s.said) is_plain refl) (before_less s.said) logs;
         told = told;
       }
 
@@ -438,6 +453,9 @@ module _ (n : NodeState) (mark : PeerMark) (d : Driver) (place : ℕ) (tells : B
     abbrev said : List (List Frame)
     said = s.said ++ reaction.says ∷ []
 
+    further : IsReadNoFurther (λ (bytes : List ℕ). (driven n mark bytes).end) (s.read ++ part)
+    further = reads_part n mark d s.read s.said s.heard part (frame_alone (length s.read) part f has) fits s.no_further
+
     whole : (e : SessionEnd) × Whole n mark (s.read ++ part) reaction.state said e
     whole = behind n mark d s.read s.said s.heard part f has reaction.end refl fits
 
@@ -464,7 +482,7 @@ module _ (n : NodeState) (mark : PeerMark) (d : Driver) (place : ℕ) (tells : B
           read = s.read ++ part;
           written = said_bytes s.said ++ sent_bytes reaction.says;
           drives = plain_drives n mark k now_mark tells held_old held_new (s.read ++ part) (said_bytes s.said ++ sent_bytes reaction.says) said reaction.state ends ends how how fits
-              (stops_here n mark d s.read s.said s.heard part f has how some fits) took.state marks plain (inl refl) counted
+              (stops_here n mark d s.read s.said s.heard part f has how some fits) took.state marks plain (inl refl) counted further
               (all_written how said (said_bytes s.said ++ sent_bytes reaction.says) plain (sym (said_more s.said reaction.says))) (before_sent (sent_bytes reaction.says) false took) (stands (sent_bytes reaction.says) false took);
           told = told (sent_bytes reaction.says) false took ∙ ap (λ (b : Bool). after_part (s.read ++ part) (said_bytes s.said ++ sent_bytes reaction.says) b old) (sym linked);
         }
@@ -486,7 +504,7 @@ module _ (n : NodeState) (mark : PeerMark) (d : Driver) (place : ℕ) (tells : B
       read = s.read ++ part;
       written = said_bytes s.said ++ sent;
       drives = plain_drives n mark k now_mark tells held_old held_new (s.read ++ part) (said_bytes s.said ++ sent) said reaction.state ends ends end.LinkFault whole.0 fits
-          whole.1 took.state marks tt (inr tt) tt (prefix_of_last s.said reaction.says sent first) (before_sent sent true took) (stands sent true took);
+          whole.1 took.state marks tt (inr tt) tt further (prefix_of_last s.said reaction.says sent first) (before_sent sent true took) (stands sent true took);
       told = told sent true took;
     }
 
@@ -555,6 +573,7 @@ module _ (n : NodeState) (mark : PeerMark) (d : Driver) (place : ℕ) (tells : B
           within = fits;
           ended = inr tt;
           end_counted = tt;
+          no_further = further;
           wrote = subst (λ (t : Talk Driver). said_bytes s.said ≡ said_bytes (before_last t.said)) (sym whole.1) (ap said_bytes (sym (before_last_one s.said reaction.says)));
           answered = subst (λ (t : Talk Driver). length (said_bytes (before_last t.said)) ≤ length (said_bytes s.said)) (sym whole.1)
               (subst (λ (x : List (List Frame)). length (said_bytes x) ≤ length (said_bytes s.said)) (sym (before_last_one s.said reaction.says)) (omega arith));
@@ -574,6 +593,7 @@ module _ (n : NodeState) (mark : PeerMark) (d : Driver) (place : ℕ) (tells : B
               within = fits;
               ended = inr tt;
               end_counted = tt;
+              no_further = tt;
               wrote = subst (λ (x : List (List Frame)). IsPrefixOf (said_bytes s.said) (said_bytes x)) (sym further.1)
                   (prefix_of_more (said_bytes s.said) s.said further.0 (length (said_bytes s.said), sym (take_all (length (said_bytes s.said)) (said_bytes s.said) (omega arith))));
               answered = tt;
@@ -594,6 +614,7 @@ module _ (n : NodeState) (mark : PeerMark) (d : Driver) (place : ℕ) (tells : B
       heard = subst (λ (x : Driver). HasHeard (hello n) drive_step (greeting n mark) (s.read ++ part) said x) (λ i. record { stage = sym waits i; node = sym took.state i; mark = sym marks i }) (leads n mark d s.read s.said s.heard part f has none);
       logs = stands (sent_bytes reaction.says) false took;
       told = told (sent_bytes reaction.says) false took ∙ ap (λ (w : List ℕ). after_part (s.read ++ part) w false old) (sym (said_more s.said reaction.says));
+      no_further = further;
     }
 
     -- or it ends
@@ -665,7 +686,7 @@ module _ (n : NodeState) (mark : PeerMark) (tells : Bool) (held : List ℕ → O
   hello_cut end.LinkFault s = record {
     read = [];
     written = s.part;
-    drives = plain_drives n mark n mark tells held held [] s.part (hello n ∷ []) (greeting n mark) ends ends end.LinkFault (cut_end (rest_at 0 [])) (omega arith) start_whole refl refl tt (inr tt) tt
+    drives = plain_drives n mark n mark tells held held [] s.part (hello n ∷ []) (greeting n mark) ends ends end.LinkFault (cut_end (rest_at 0 [])) (omega arith) start_whole refl refl tt (inr tt) tt (none_further (λ (bytes : List ℕ). (driven n mark bytes).end))
         (subst (λ (bytes : List ℕ). IsPrefixOf s.part bytes) hello_said s.first) (omega arith) (logs_nothing tells n held held (λ t name. refl));
     told = s.told;
   }
@@ -718,7 +739,7 @@ pub drives_failed : (n : NodeState) (mark : PeerMark) (address : List ℕ) (tell
 drives_failed n mark address tells held old ends = record {
   read = [];
   written = [];
-  drives = plain_drives n mark n mark tells held held [] [] (hello n ∷ []) (greeting n mark) ends ends end.LinkFault (cut_end (rest_at 0 [])) (omega arith) (start_whole n mark tells held old old ends) refl refl tt (inr tt) tt
+  drives = plain_drives n mark n mark tells held held [] [] (hello n ∷ []) (greeting n mark) ends ends end.LinkFault (cut_end (rest_at 0 [])) (omega arith) (start_whole n mark tells held old old ends) refl refl tt (inr tt) tt (none_further (λ (bytes : List ℕ). (driven n mark bytes).end))
       (0, refl) (omega arith) (logs_nothing tells n held held (λ t name. refl));
   told = refl;
 }

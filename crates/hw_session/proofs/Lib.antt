@@ -6,6 +6,7 @@ pub mod RestartLaws
 pub mod LineLaws
 pub mod AcceptLaws
 pub mod GrowsLaws
+pub mod FurtherLaws
 pub mod ServingLaws
 pub mod ReactLaws
 pub mod NextLaws

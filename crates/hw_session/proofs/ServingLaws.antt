@@ -37,8 +37,9 @@ use Rattle.hw_session.specs.Grows.{Logs, LogsAllBut}
 use Rattle.hw_session.specs.Accept.{given_to, taken_by}
 use Rattle.hw_session.specs.Serving.{is_clash, answer_to_vertex, serve_first, serve_frame, serve_step, served}
 use Rattle.hw_session.specs.Handling.{Took, Stayed, WasCut, Reacts, Quits, Handles, IsLogCounted}
-use Rattle.hw_session.specs.Sessions.{EndsAs, IsEndOf, IsAnswered, IsSaidSoFar, StandsCut, Leaves, Serves, ServesThere, ServesPeer, ServesNone}
+use Rattle.hw_session.specs.Sessions.{EndsAs, IsEndOf, IsCutEnd, IsReadNoFurther, IsAnswered, IsSaidSoFar, StandsCut, Leaves, Serves, ServesThere, ServesPeer, ServesNone}
 use Rattle.hw_session.proofs.GrowsLaws.{logs_nothing, logs_then, logs_but}
+use Rattle.hw_session.proofs.FurtherLaws.{NoneBehind, frame_alone, none_there, part_cut, none_further, no_further, stops_so}
 
 -- ---- what was said
 
@@ -78,6 +79,7 @@ pub record IsServing (n m : NodeState) (place : ℕ) (tells : Bool) (held_old he
   pub heard : HasHeard [] serve_step n read said m
   pub logs : Logs n m tells held_old held_now
   pub told : now ≡ after_part read (said_bytes said) false old
+  pub no_further : IsReadNoFurther (λ (bytes : List ℕ). (served n bytes).end) read
 
 -- before the first byte
 pub serving_begins : (n : NodeState) (tells : Bool) (held : List ℕ → Option (List ℕ)) (old : Option (List Session)) → IsServing n n 0 tells held held old old
@@ -89,6 +91,7 @@ serving_begins n tells held old = record {
   heard = (reads_frame_by_frame NodeState).begins serve_step [] n;
   logs = logs_nothing tells n held held (λ t name. refl);
   told = sym (after_nothing old);
+  no_further = none_further (λ (bytes : List ℕ). (served n bytes).end);
 }
 
 -- ---- what is known at a place
@@ -257,6 +260,27 @@ here_so r =
 pub no_frame_so : (place : ℕ) (part : List ℕ) (e : SessionEnd) → EndsIn place part e → IsOfBytes (rest_at place part) e
 no_frame_so place part e ends = subst (λ (x : Result (Placed × Rest) SessionEnd). EndsSo (rest_at place part) x) ends (here_so (rest_at place part))
 
+-- such an end is that of bytes which are cut
+pub cut_so_far : (r : Rest) (e : SessionEnd) → IsOfBytes r e → IsCutEnd e
+cut_so_far r end.EndOfInput of = tt
+cut_so_far r (end.BadFrame at) of = tt
+cut_so_far r end.ByteLimit of = tt
+cut_so_far r end.Done of = absurd of
+cut_so_far r end.WrongInstance of = absurd of
+cut_so_far r end.LinkFault of = absurd of
+cut_so_far r end.AppendFault of = absurd of
+cut_so_far r end.Clash of = absurd of
+cut_so_far r end.OutOfMemory of = absurd of
+
+-- bytes that are no more than a frame are read no further than it
+reads_part : (n m : NodeState) (read : List ℕ) (said : List (List Frame)) → HasHeard [] serve_step n read said m → (part : List ℕ) → NoneBehind (length read) part → length (read ++ part) ≤ byte_limit
+    → IsReadNoFurther (λ (bytes : List ℕ). (served n bytes).end) read → IsReadNoFurther (λ (bytes : List ℕ). (served n bytes).end) (read ++ part)
+reads_part n m read said heard part none few so_far = no_further (λ (bytes : List ℕ). (served n bytes).end) read part so_far (λ front back is some.
+    let (e, ends) = part_cut (length read) part front back is some none in
+    let all : length (read ++ (front ++ back)) ≤ byte_limit = subst (λ (p : List ℕ). length (read ++ p) ≤ byte_limit) is few in
+    let fewer : length (read ++ front) ≤ byte_limit = omega (arith, length-append read (front ++ back), length-append front back, length-append read front) in
+    subst IsCutEnd (sym (ap (λ (t : Talk NodeState). t.end) ((reads_frame_by_frame NodeState).no_frame_ends serve_step [] n read said m front e heard ends fewer))) (cut_so_far (rest_at (length read) front) e (no_frame_so (length read) front e ends)))
+
 -- ---- prefixes
 
 pub prefix_of_more : (bytes : List ℕ) (said more : List (List Frame)) → IsPrefixOf bytes (said_bytes said) → IsPrefixOf bytes (said_bytes (said ++ more))
@@ -322,11 +346,12 @@ module _ (n m : NodeState) (tells : Bool) (held_old held_new : List ℕ → Opti
 
   -- the whole session is this, and all that was read was handled
   plain_serves : (read written : List ℕ) (said : List (List Frame)) (ends_old ends_new : ℕ) (e by_bytes : SessionEnd) → length read ≤ byte_limit → Whole n read m said by_bytes → IsPlain e → EndsAs e by_bytes → IsEndOf n read ends_old ends_new e
-      → IsWritten e said written → length (said_bytes (before_last said)) ≤ length written → Logs n m tells held_old held_new → Serves n read written m tells held_old held_new ends_old ends_new e
-  plain_serves read written said ends_old ends_new e by_bytes few whole plain ended counted wrote all logs = record {
+      → IsReadNoFurther (λ (bytes : List ℕ). (served n bytes).end) read → IsWritten e said written → length (said_bytes (before_last said)) ≤ length written → Logs n m tells held_old held_new → Serves n read written m tells held_old held_new ends_old ends_new e
+  plain_serves read written said ends_old ends_new e by_bytes few whole plain ended counted further wrote all logs = record {
     within = few;
     ended = subst (λ (t : Talk NodeState). EndsAs e t.end) (sym whole) ended;
     end_counted = counted;
+    no_further = stops_so e (λ (bytes : List ℕ). (served n bytes).end) read further;
     wrote = subst (λ (t : Talk NodeState). IsWritten e t.said written) (sym whole) wrote;
     answered = subst (λ (t : Talk NodeState). IsAnswered e t.said written) (sym whole) (is_answered e said written all);
     left = leaves_plain e read written plain (ap (λ (t : Talk NodeState). t.state) (sym whole)) logs;
@@ -339,6 +364,7 @@ module _ (n m : NodeState) (tells : Bool) (held_old held_new : List ℕ → Opti
     within = few;
     ended = inr tt;
     end_counted = tt;
+    no_further = tt;
     wrote = subst (λ (s : List (List Frame)). IsPrefixOf written (said_bytes s)) (sym further) (prefix_of_more written said more wrote.0);
     answered = tt;
     left = inl (record { first = first; part = part; split = refl; state = ap (λ (t : Talk NodeState). t.state) (sym whole); logs = logs; wrote = subst (λ (t : Talk NodeState). IsSaidSoFar t.said written) (sym whole) wrote });
@@ -362,7 +388,7 @@ module _ (n m : NodeState) (place : ℕ) (tells : Bool) (held_old held_now : Lis
         written = said_bytes s.said;
         serves =
             plain_serves n m tells held_old held_now s.read (said_bytes s.said) s.said ends ends end.ByteLimit (cut_end (rest_at (length s.read) [])) s.within (heard_here n s.read s.said m s.heard s.within) tt (inl (sym by))
-            (omega (arith, s.place_is)) (all_written end.ByteLimit s.said (said_bytes s.said) tt refl) (before_less s.said) s.logs;
+            (omega (arith, s.place_is)) s.no_further (all_written end.ByteLimit s.said (said_bytes s.said) tt refl) (before_less s.said) s.logs;
         told = s.told;
       }
 
@@ -382,7 +408,8 @@ module _ (n m : NodeState) (place : ℕ) (tells : Bool) (held_old held_now : Lis
       plain how by_bytes none is_plain agrees counted told = record {
         read = s.read ++ h.part;
         written = said_bytes s.said;
-        serves = plain_serves n m tells held_old held_new (s.read ++ h.part) (said_bytes s.said) s.said ends_now ends_new how by_bytes few (over by_bytes none) is_plain agrees counted (all_written how s.said (said_bytes s.said) is_plain refl) (before_less s.said) logs;
+        serves = plain_serves n m tells held_old held_new (s.read ++ h.part) (said_bytes s.said) s.said ends_now ends_new how by_bytes few (over by_bytes none) is_plain agrees counted
+            (reads_part n m s.read s.said s.heard h.part (none_there (length s.read) h.part by_bytes none) few s.no_further) (all_written how s.said (said_bytes s.said) is_plain refl) (before_less s.said) logs;
         told = told;
       }
 
@@ -437,6 +464,9 @@ module _ (n m : NodeState) (place : ℕ) (tells : Bool) (held_old held_now : Lis
     abbrev said : List (List Frame)
     said = s.said ++ reaction.says ∷ []
 
+    further : IsReadNoFurther (λ (bytes : List ℕ). (served n bytes).end) (s.read ++ part)
+    further = reads_part n m s.read s.said s.heard part (frame_alone (length s.read) part f has) fits s.no_further
+
     whole : (e : SessionEnd) × Whole n (s.read ++ part) reaction.state said e
     whole = behind n m s.read s.said s.heard part f has reaction.end refl fits
 
@@ -466,7 +496,7 @@ module _ (n m : NodeState) (place : ℕ) (tells : Bool) (held_old held_now : Lis
           read = s.read ++ part;
           written = said_bytes s.said ++ sent_bytes reaction.says;
           serves = plain_serves n k tells held_old held_new (s.read ++ part) (said_bytes s.said ++ sent_bytes reaction.says) said ends ends how how fits
-              (whole_at (sent_bytes reaction.says) false took how (stops_here n m s.read s.said s.heard part f has how some fits)) plain (inl refl) counted
+              (whole_at (sent_bytes reaction.says) false took how (stops_here n m s.read s.said s.heard part f has how some fits)) plain (inl refl) counted further
               (all_written how said (said_bytes s.said ++ sent_bytes reaction.says) plain (sym (said_more s.said reaction.says))) (before_sent (sent_bytes reaction.says) false took) (stands (sent_bytes reaction.says) false took);
           told = told (sent_bytes reaction.says) false took ∙ ap (λ (b : Bool). after_part (s.read ++ part) (said_bytes s.said ++ sent_bytes reaction.says) b old) (sym linked);
         }
@@ -488,7 +518,7 @@ module _ (n m : NodeState) (place : ℕ) (tells : Bool) (held_old held_now : Lis
       read = s.read ++ part;
       written = said_bytes s.said ++ sent;
       serves = plain_serves n k tells held_old held_new (s.read ++ part) (said_bytes s.said ++ sent) said ends ends end.LinkFault whole.0 fits
-          (whole_at sent true took whole.0 whole.1) tt (inr tt) tt (prefix_of_last s.said reaction.says sent first) (before_sent sent true took) (stands sent true took);
+          (whole_at sent true took whole.0 whole.1) tt (inr tt) tt further (prefix_of_last s.said reaction.says sent first) (before_sent sent true took) (stands sent true took);
       told = told sent true took;
     }
 
@@ -544,6 +574,7 @@ module _ (n m : NodeState) (place : ℕ) (tells : Bool) (held_old held_now : Lis
           within = fits;
           ended = inr tt;
           end_counted = tt;
+          no_further = further;
           wrote = subst (λ (t : Talk NodeState). said_bytes s.said ≡ said_bytes (before_last t.said)) (sym whole.1) (ap said_bytes (sym (before_last_one s.said reaction.says)));
           answered = subst (λ (t : Talk NodeState). length (said_bytes (before_last t.said)) ≤ length (said_bytes s.said)) (sym whole.1)
               (subst (λ (x : List (List Frame)). length (said_bytes x) ≤ length (said_bytes s.said)) (sym (before_last_one s.said reaction.says)) (omega arith));
@@ -562,6 +593,7 @@ module _ (n m : NodeState) (place : ℕ) (tells : Bool) (held_old held_now : Lis
               within = fits;
               ended = inr tt;
               end_counted = tt;
+              no_further = tt;
               wrote = subst (λ (x : List (List Frame)). IsPrefixOf (said_bytes s.said) (said_bytes x)) (sym further.1)
                   (prefix_of_more (said_bytes s.said) s.said further.0 (length (said_bytes s.said), sym (take_all (length (said_bytes s.said)) (said_bytes s.said) (omega arith))));
               answered = tt;
@@ -580,6 +612,7 @@ module _ (n m : NodeState) (place : ℕ) (tells : Bool) (held_old held_now : Lis
       heard = subst (λ (x : NodeState). HasHeard [] serve_step n (s.read ++ part) said x) (sym took.state) (leads n m s.read s.said s.heard part f has none);
       logs = stands (sent_bytes reaction.says) false took;
       told = told (sent_bytes reaction.says) false took ∙ ap (λ (w : List ℕ). after_part (s.read ++ part) w false old) (sym (said_more s.said reaction.says));
+      no_further = further;
     }
 
     -- or it ends
@@ -654,7 +687,7 @@ pub serves_failed : (n : NodeState) (tells : Bool) (held : List ℕ → Option (
 serves_failed n tells held old ends = record {
   read = [];
   written = [];
-  serves = plain_serves n n tells held held [] [] ([] ∷ []) ends ends end.LinkFault (cut_end (rest_at 0 [])) (omega arith) (heard_here n [] ([] ∷ []) n ((reads_frame_by_frame NodeState).begins serve_step [] n) (omega arith)) tt (inr tt) tt
+  serves = plain_serves n n tells held held [] [] ([] ∷ []) ends ends end.LinkFault (cut_end (rest_at 0 [])) (omega arith) (heard_here n [] ([] ∷ []) n ((reads_frame_by_frame NodeState).begins serve_step [] n) (omega arith)) tt (inr tt) tt (none_further (λ (bytes : List ℕ). (served n bytes).end))
       (0, refl) (omega arith) (logs_nothing tells n held held (λ t name. refl));
   told = refl;
 }

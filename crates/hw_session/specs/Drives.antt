@@ -17,7 +17,7 @@ use Rattle.hw_session.specs.declared.stage.PeerMark.{PeerMark}
 use Rattle.hw_session.specs.Node.{NodeState}
 use Rattle.hw_session.specs.Make.{with_entry}
 use Rattle.hw_session.specs.Grows.{Logs, LogsAllBut}
-use Rattle.hw_session.specs.Sessions.{EndsAs, IsAnswered, IsSaidSoFar}
+use Rattle.hw_session.specs.Sessions.{EndsAs, StopsReading, IsAnswered, IsSaidSoFar}
 use Rattle.hw_session.specs.Driving.{driven}
 
 -- ---- how it ended
@@ -74,6 +74,7 @@ pub record Drives (n : NodeState) (mark : PeerMark) (read written : List ℕ) (m
   pub within : length read ≤ byte_limit
   pub ended : EndsAs e (driven n mark read).end
   pub end_counted : IsDrivenEnd n mark read ends_old ends_new e
+  pub no_further : StopsReading e (λ (bytes : List ℕ). (driven n mark bytes).end) read
   pub wrote : IsWritten e (driven n mark read).said written
   pub answered : IsAnswered e (driven n mark read).said written
   pub left : LeavesDriven e n mark read written m now tells held_old held_new

@@ -1,6 +1,6 @@
 -- What a session in which a node serves comes to, by the bytes that were read in it.
 -- Source: ours.
-use Rattle.std.specs.Prelude.{◌≡◌, ◌⊎◌, ℕ, ◌≤◌, Bool, List, [], ◌∷◌, ◌++◌, length, IsTrue, Option, None, Err}
+use Rattle.std.specs.Prelude.{◌≡◌, ◌≢◌, ◌⊎◌, ℕ, ◌≤◌, Bool, List, [], ◌∷◌, ◌++◌, length, IsTrue, Option, None, Err}
 use Rattle.std.specs.Option.{option_map}
 use Rattle.hw_types.specs.declared.unit.Vertex.{Vertex}
 use Rattle.hw_types.specs.declared.answers.Frame.{Frame}
@@ -39,6 +39,23 @@ IsEndOf n read before now end.EndOfInput = now ≡ raised before
 IsEndOf n read before now (end.BadFrame at) = (now ≡ raised before) ⊎ ((more : List ℕ) → length (read ++ more) ≤ byte_limit → (served n (read ++ more)).end ≡ end.BadFrame at)
 IsEndOf n read before now end.ByteLimit = byte_limit ≤ length read
 IsEndOf n read before now e = Unit {0}
+
+-- how a session ends whose bytes end before a frame or inside it, or spell none
+abbrev pub IsCutEnd : SessionEnd → Type 0
+IsCutEnd end.EndOfInput = Unit {0}
+IsCutEnd (end.BadFrame at) = Unit {0}
+IsCutEnd end.ByteLimit = Unit {0}
+IsCutEnd e = ⊥
+
+-- No byte was read past a frame that ends the session: where fewer are read, it ends as one that is cut, and not by Done, by a Hello of another
+-- instance or by a clash.
+abbrev pub IsReadNoFurther : (List ℕ → SessionEnd) → List ℕ → Type 0
+IsReadNoFurther ends read = (first part : List ℕ) → read ≡ first ++ part → part ≢ [] → IsCutEnd (ends first)
+
+-- So it is of each session but one that had no memory, which may end inside whatever frame is there.
+abbrev pub StopsReading : SessionEnd → (List ℕ → SessionEnd) → List ℕ → Type 0
+StopsReading end.OutOfMemory ends read = Unit {0}
+StopsReading e ends read = IsReadNoFurther ends read
 
 -- Each frame but the last was answered whole before the next was read. Where there was no memory, `Leaves` says it of the frames that were handled.
 abbrev pub IsAnswered : SessionEnd → List (List Frame) → List ℕ → Type 0
@@ -86,6 +103,7 @@ pub record Serves (n : NodeState) (read written : List ℕ) (m : NodeState) (tel
   pub within : length read ≤ byte_limit
   pub ended : EndsAs e (served n read).end
   pub end_counted : IsEndOf n read ends_old ends_new e
+  pub no_further : StopsReading e (λ (bytes : List ℕ). (served n bytes).end) read
   pub wrote : IsWritten e (served n read).said written
   pub answered : IsAnswered e (served n read).said written
   pub left : Leaves e n read written m tells held_old held_new
