@@ -4,7 +4,8 @@ use Rattle.std.specs.Prelude.{◌||◌, ◌==◌, slice_get, filter_map, IfSome,
 use Rattle.std.specs.Borrow.{Bor}
 use Rattle.std.specs.Option.{option_map, option_copied}
 use Rattle.std.specs.Map.{lookup}
-use Rattle.std.proofs.lemmas.Option.{slice_get_past}
+use Rattle.std.proofs.lemmas.Option.{slice_get_past, slice_get_within, slice_get-get_or}
+use Rattle.std.proofs.lemmas.List.{length-map}
 use Rattle.hw_types.specs.declared.unit.Digest.{Digest}
 use Rattle.hw_types.specs.declared.unit.Need.{Need}
 use Rattle.hw_types.specs.declared.unit.SignedUnit.{SignedUnit}
@@ -12,7 +13,7 @@ use Rattle.hw_types.specs.declared.unit.Vertex.{Vertex}
 use Rattle.hw_types.specs.declared.unit.Vertex.TheVariants as vertex
 use Rattle.hw_types.specs.declared.answers.Rule.{Rule}
 use Rattle.hw_types.specs.declared.unit.Obs.{Obs}
-use Rattle.hw_types.specs.Graph.{Node, digest_eq}
+use Rattle.hw_types.specs.Graph.{Node, digest_eq, cites}
 use Rattle.hw_types.specs.Below.{Among}
 use Rattle.hw_types.specs.Rules.{state_rule}
 use Rattle.hw_types.specs.Spelling.{instance_of, digest_of, Fits}
@@ -31,22 +32,23 @@ use Rattle.hw_types.proofs.RisingLaws.{rising_filter}
 use Rattle.hw_types.proofs.BoundLaws.{rising_length}
 use Rattle.hw_types.proofs.StepLaws.{split, parked_is, dropped_is}
 use Rattle.hw_dag.specs.declared.numbers.UnitNo.{UnitNo}
-use Rattle.hw_dag.specs.Dag.{graph, count_of, unit_at, node_at, observations}
+use Rattle.hw_dag.specs.Dag.{stand_in, graph, count_of, unit_at, node_of, node_at, by_name_of, observations}
 use Rattle.hw_dag.specs.Admission.{PreparedUnit, IsGraph, IsNew, IsFor}
 use Rattle.hw_dag.proofs.NodeLaws.{node_among, among_node}
+use Rattle.hw_dag.proofs.LawfulLaws.{observed_earlier}
 use Rattle.hw_rules.proofs.LocalLaws.{fits}
 use Rattle.hw_admit.specs.State.{NodeState, observed_in}
 use Rattle.hw_park.specs.Parked.{Parked}
 use Rattle.hw_core.specs.declared.place.Place.TheVariants as place
 use Rattle.hw_core.specs.declared.unmet.Search.TheVariants as search
-use Rattle.hw_core.specs.Settle.{known_in, rule_in}
+use Rattle.hw_core.specs.Settle.{known_in, admitted_in, rule_in}
 use Rattle.hw_finality.specs.Detected.{decisions_of as found_in}
 use Rattle.hw_core.specs.Decided.{DecidedState, decided_in}
-use Rattle.hw_core.proofs.DecidedLaws.{decided_is}
+use Rattle.hw_core.proofs.DecidedLaws.{decided_is, get_mapped}
 use Rattle.hw_core.specs.Shown.{ShownState}
 use Rattle.hw_core.specs.Keeps.{IsKept}
 use Rattle.hw_core.specs.Missing.{IsFoundIn}
-use Rattle.hw_core.specs.Readers.{signed_unit, unit_in, missed_by, missing_needs, IsPlace, IsUnsettled, fork_in}
+use Rattle.hw_core.specs.Readers.{signed_unit, unit_in, missed_by, missing_needs, IsOrder, IsPlace, IsUnsettled, fork_in}
 use Rattle.hw_core.proofs.CountLaws.{graph_length}
 use Rattle.hw_core.proofs.UnitBoundLaws.{few_missing, missing_is, units_few}
 use Rattle.hw_core.proofs.WaitLaws.{no_needs}
@@ -214,6 +216,24 @@ module _ (instance : Digest) (journal : List Vertex) (names : List (Digest × �
 
   -- ---- where it stands
 
+  -- the state's numbers are an order
+  admitted_at : (n : ℕ) (x : Node) → slice_get (admitted_in state) n ≡ Some x → (n < count_of state.dag) × (node_at state.dag n ≡ x)
+  admitted_at n x at =
+      let lt : n < count_of state.dag = (let within = slice_get_within (admitted_in state) n x at in let many = length-map state.dag.units node_of in omega arith) in
+      let both : Some (node_at state.dag n) ≡ Some x = sym (get_mapped node_of state.dag.units n (unit_at state.dag n) (slice_get-get_or state.dag.units n stand_in lt)) ∙ at in
+      (lt, cc)
+
+  admitted_order : IsGraph state.dag → IsOrder core (admitted_in state)
+  unfolding by_name_of
+  admitted_order g = record {
+    all = kept.node.is_of.settled;
+    once = length-map state.dag.units node_of ∙ sym (graph_length state.dag g) ∙ ap (λ (units : List Node). length units) kept.node.is_of.settled;
+    earlier = λ m n x y ax ay t.
+        let p = admitted_at m x ax in
+        let q = admitted_at n y ay in
+        observed_earlier state.dag g m n p.0 q.0 (subst (λ (z : Node). cites (unit_at state.dag n).signed.unit.panorama z ≡ true) (sym p.1) (subst (λ (z : Node). cites z.unit.panorama x ≡ true) (sym q.1) t));
+  }
+
   pub settled_place : (d : Digest) (number : UnitNo) → IsGraph state.dag → number.0 < count_of state.dag → (unit_at state.dag number.0).digest ≡ d → IsPlace core d (place.Settled number)
   settled_place d number g lt name =
       let x = node_at state.dag number.0 in
@@ -221,7 +241,8 @@ module _ (instance : Digest) (journal : List Vertex) (names : List (Digest × �
       let found = node_found x (settled_admits state.config k (received_rising s journal) x settled).0 in
       let long = graph_length state.dag g in
       let same = ap (λ (units : List Node). length units) kept.node.is_of.settled in
-      (found.0, ap (unit_in core) (sym name) ∙ found.1.is, subst (λ (y : Node). Among y (settled_of state.config k)) (sym found.2) settled, omega arith)
+      (found.0, ap (unit_in core) (sym name) ∙ found.1.is, subst (λ (y : Node). Among y (settled_of state.config k)) (sym found.2) settled, omega arith,
+      (admitted_in state, admitted_order g, subst (λ (y : Node). slice_get (admitted_in state) number.0 ≡ Some y) (sym found.2) (get_mapped node_of state.dag.units number.0 (unit_at state.dag number.0) (slice_get-get_or state.dag.units number.0 stand_in lt))))
 
   pub dropped_place : (d : Digest) (rule : Rule) → rule_in rules d ≡ Some rule → IsPlace core d (place.Dropped rule)
   dropped_place d rule at =

@@ -1,5 +1,5 @@
 -- What a node tells of its journal.
-use Rattle.std.specs.Prelude.{◌≡◌, ℕ, ◌<◌, ◌==◌, nat_lt, List, [], length, find, filter, filter_map, Option, Some, None, if◌then◌else◌}
+use Rattle.std.specs.Prelude.{◌≡◌, ℕ, ◌<◌, ◌==◌, nat_lt, true, List, [], length, find, filter, filter_map, slice_get, Option, Some, None, if◌then◌else◌}
 use Rattle.std.specs.List.{flat_map}
 use Rattle.std.specs.Option.{option_map}
 use Rattle.hw_types.specs.declared.unit.Digest.{Digest}
@@ -9,7 +9,8 @@ use Rattle.hw_types.specs.declared.unit.Evidence.{Evidence}
 use Rattle.hw_types.specs.declared.unit.Endorsement.{Endorsement}
 use Rattle.hw_types.specs.declared.unit.Vertex.{Vertex}
 use Rattle.hw_types.specs.declared.unit.Vertex.TheVariants as vertex
-use Rattle.hw_types.specs.Graph.{Node, digest_eq}
+use Rattle.hw_types.specs.Graph.{Node, digest_eq, cites}
+use Rattle.hw_types.specs.ByName.{by_name}
 use Rattle.hw_types.specs.Below.{Among}
 use Rattle.hw_types.specs.Rules.{state_rule}
 use Rattle.hw_types.specs.Settled.{distinct, missing_of, fork_choice}
@@ -68,10 +69,21 @@ evidence_of c v = find (λ e. v == e.left.unit.creator) (filter_map signed_evide
 unfoldable pub endorsements_of : CoreState → Digest → List Endorsement
 endorsements_of c d = filter (λ e. digest_eq d e.unit) (filter_map signed_endorsement c.journal)
 
--- What became of the journal's unit of this name. The number of a settled one is one of the state's graph.
+-- An order in which the settled units may have come: each of them once, and behind those that it observes. The graph of the state
+-- numbers them in such an order. Which one it is the journal alone doesn't say. Source: ours.
+pub record IsOrder (c : CoreState) (order : List Node) : Type 0 where
+  pub all : by_name order ≡ settled_in c
+  pub once : length order ≡ length (settled_in c)
+  pub earlier : (m n : ℕ) (x y : Node) → slice_get order m ≡ Some x → slice_get order n ≡ Some y → cites y.unit.panorama x ≡ true → m < n
+
+-- the unit stands at that number of such an order
+abbrev pub IsNumber : CoreState → Node → ℕ → Type 0
+IsNumber c x n = (order : List Node) × IsOrder c order × (slice_get order n ≡ Some x)
+
+-- What became of the journal's unit of this name. A settled one has its number in an order of the settled units.
 abbrev pub IsPlace : CoreState → Digest → Place → Type 0
 IsPlace c d place.Unknown = unit_in c d ≡ None
-IsPlace c d (place.Settled number) = (u : SignedUnit) × (unit_in c d ≡ Some u) × Among (node_in c u) (settled_in c) × (number.0 < length (settled_in c))
+IsPlace c d (place.Settled number) = (u : SignedUnit) × (unit_in c d ≡ Some u) × Among (node_in c u) (settled_in c) × (number.0 < length (settled_in c)) × IsNumber c (node_in c u) number.0
 IsPlace c d (place.Parked missing) = (0 < missing) × (length (missing_needs c d) ≡ missing)
 IsPlace c d (place.Dropped rule) = (u : SignedUnit) × (unit_in c d ≡ Some u) × (missing_needs c d ≡ []) × (state_rule c.config (settled_in c) (node_in c u) ≡ Some rule)
 
