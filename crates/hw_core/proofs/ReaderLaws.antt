@@ -240,9 +240,13 @@ module _ (instance : Digest) (journal : List Vertex) (names : List (Digest × �
       let settled : Among x (settled_of state.config k) = subst (λ (units : List Node). Among x units) kept.node.is_of.settled (node_among state.dag g number.0 lt) in
       let found = node_found x (settled_admits state.config k (received_rising s journal) x settled).0 in
       let long = graph_length state.dag g in
-      let same = ap (λ (units : List Node). length units) kept.node.is_of.settled in
-      (found.0, ap (unit_in core) (sym name) ∙ found.1.is, subst (λ (y : Node). Among y (settled_of state.config k)) (sym found.2) settled, omega arith,
-      (admitted_in state, admitted_order g, subst (λ (y : Node). slice_get (admitted_in state) number.0 ≡ Some y) (sym found.2) (get_mapped node_of state.dag.units number.0 (unit_at state.dag number.0) (slice_get-get_or state.dag.units number.0 stand_in lt))))
+      let same = ap (λ (units : List Node). length units) kept.node.is_of.settled in (
+        found.0,
+        ap (unit_in core) (sym name) ∙ found.1.is,
+        subst (λ (y : Node). Among y (settled_of state.config k)) (sym found.2) settled,
+        omega arith,
+        (admitted_in state, admitted_order g, subst (λ (y : Node). slice_get (admitted_in state) number.0 ≡ Some y) (sym found.2) (get_mapped node_of state.dag.units number.0 (unit_at state.dag number.0) (slice_get-get_or state.dag.units number.0 stand_in lt))),
+      )
 
   pub dropped_place : (d : Digest) (rule : Rule) → rule_in rules d ≡ Some rule → IsPlace core d (place.Dropped rule)
   dropped_place d rule at =

@@ -1,0 +1,77 @@
+//! A list of needs, each once.
+
+ghost use Rattle.std.specs.Prelude.{◌≡◌, [], ◌∷◌, ◌++◌, IfOk, OnOk};
+ghost use Rattle.std.specs.List.{list_any};
+ghost use Rattle.hw_types.specs.Settled.{need_eq};
+
+use hw_park::{NeedKey, key_of};
+use hw_types::{Need, OutOfMemory};
+use std::alloc::Global;
+use std::collections::BTreeSet;
+use std::marker::Model;
+
+/// So many needs are looked for one by one.
+const FEW: usize = 16;
+
+/// Needs in order. A peer may name very many, so those behind the first few are looked for by their keys, at
+/// the cost of a look-up.
+#[derive(Drop)]
+pub struct Wanted {
+    needs: Vec<Need>,
+    /// The keys of the needs behind the first few.
+    keys: BTreeSet<NeedKey>,
+}
+
+impl Model for Wanted {
+    ghost use Rattle.std.specs.Prelude.{List};
+    ghost use Rattle.hw_types.specs.declared.unit.Need.{Need as Missed};
+
+    ghost Value = { List Missed };
+
+    ghost use Rattle.hw_core.specs.Missing.{AreKeysBehind};
+
+    ghost view = { λ w. w.needs.items };
+
+    ghost invariant = { λ w. AreKeysBehind w.keys.keys w.needs.items };
+}
+
+impl Wanted {
+    /// No needs.
+    pub fn new(alloc: Global) -> Wanted
+        ensures { result ≡ [] }
+    {
+        Wanted {
+            needs: Vec::new(alloc),
+            keys: BTreeSet::new(alloc),
+        }
+    }
+
+    /// Whether the need is there.
+    pub fn has(&self, need: &Need) -> bool
+        ensures { result ≡ list_any (λ m. need_eq m need.now) self.now }
+    {
+        let few = self.needs.len().min(FEW);
+        self.needs[..few].contains(need) || self.keys.contains(&key_of(need))
+    }
+
+    /// Puts a need last.
+    pub fn put(&mut self, need: Need) -> Result<(), OutOfMemory>
+        ensures { OnOk result (self.new ≡ self.old ++ need ∷ []) }
+    {
+        // Once there is room for it, only its key can want memory, and then nothing has changed.
+        self.needs.reserve(1)?;
+        if self.needs.len() >= FEW {
+            self.keys.insert(key_of(&need))?;
+        }
+        self.needs.push_reserved(need);
+        Ok(())
+    }
+
+    /// The list alone.
+    pub fn into_needs(self) -> Vec<Need>
+        ensures { result.items ≡ self }
+    {
+        let Wanted { needs, keys: _keys } = self;
+        needs
+    }
+}
