@@ -40,7 +40,7 @@ module _ (instance : Digest) (journal : List Vertex) (names : List (Digest × �
     -- then the node keeps what it should
     pub kept_followed : (vs : List Vertex) → vs ≡ journal ++ v ∷ [] → (names' : List (Digest × ℕ)) (rules' : List (Digest × Rule)) (room' : ℕ) → IsTable (setting_of state.config) (journal ++ v ∷ []) names' → AreRules (setting_of state.config) (journal ++ v ∷ []) rules'
         → length after.waiting ≤ room' → ((w : Vertex) → Among w (journal ++ v ∷ []) → VertexFits w) → HasPairs (setting_of state.config) (journal ++ v ∷ [])
-        → (done : DecidedState) (choice : Option UnitNo) → HasFollowed later (length vs) roomy done choice → (forgot : ShownState) → forgot ≡ record shown { present = false }
+        → (done : DecidedState) (choice : Option UnitNo) → HasFollowed later (length vs) roomy done choice → (forgot : ShownState) → forgot ≡ record shown { asked = None }
         → (still : NodeState) → still ≡ later → IsKept instance vs names' after rules' room' still choice done forgot
     kept_followed vs is names' rules' room' table are places fit pairs done choice followed forgot forgets still same =
         subst (λ (t : NodeState). IsKept instance vs names' after rules' room' t choice done forgot) (sym same)

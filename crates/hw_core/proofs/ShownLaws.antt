@@ -1,6 +1,7 @@
 -- The summit of a decided block in the present state.
-use Rattle.std.proofs.Common.{◌≡◌, ℕ, ◌<◌, ◌≤◌, Bool, true, false, List, cond, Some, refl, sym, ap, subst, subst₂, ◌∙◌}
-use Rattle.std.specs.Prelude.{slice_get, Option, None, is_some, IfSome}
+use Rattle.std.proofs.Common.{◌≡◌, ℕ, ◌<◌, ◌≤◌, Bool, true, false, List, cond, Some, refl, sym, ap, subst, subst₂, ◌∙◌, arith}
+use Rattle.std.proofs.lemmas.Bool.{leb-true}
+use Rattle.std.specs.Prelude.{◌↔◌, IsTrue, nat_le, slice_get, Option, None, is_some, IfSome, IfNone}
 use Rattle.hw_types.specs.declared.unit.Digest.{Digest}
 use Rattle.hw_types.specs.declared.unit.Obs.{Obs}
 use Rattle.hw_types.specs.declared.unit.Vertex.{Vertex}
@@ -8,7 +9,7 @@ use Rattle.hw_types.specs.declared.answers.Decision.{Decision}
 use Rattle.hw_types.specs.declared.config.Config.{Config}
 use Rattle.hw_types.specs.Graph.{Node, digest_eq}
 use Rattle.hw_types.specs.Below.{Among}
-use Rattle.hw_types.specs.Summit.{Committees, HasSummit, IsGreatest}
+use Rattle.hw_types.specs.Summit.{HasSummit, IsGreatest}
 use Rattle.hw_types.specs.Decisions.{IsRecord}
 use Rattle.hw_types.specs.Real.{CoreState, setting_of, settled_in, panorama_in}
 use Rattle.hw_types.proofs.GraphLaws.{rising_one_name}
@@ -19,7 +20,8 @@ use Rattle.hw_dag.proofs.NodeLaws.{node_among, graph_rising}
 use Rattle.hw_admit.specs.State.{NodeState, observed_in}
 use Rattle.hw_park.specs.Parked.{Parked}
 use Rattle.hw_horizon.specs.Kept.{AreKept}
-use Rattle.hw_horizon.specs.Search.{Search, start_of, committees_of}
+use Rattle.hw_horizon.specs.Search.{Search, table_of, start_of, committees_of}
+use Rattle.hw_horizon.specs.Tables.{entry}
 use Rattle.hw_summit.specs.Pruned.{or_zero}
 use Rattle.hw_horizon.proofs.WalkLaws.{walks_stay}
 use Rattle.hw_finality.specs.declared.found.Found.{Found}
@@ -27,7 +29,7 @@ use Rattle.hw_finality.specs.Detected.{decision_of, decisions_of as found_in}
 use Rattle.hw_core.specs.Settle.{HasMoreRoom}
 use Rattle.hw_core.specs.Keeps.{IsNode}
 use Rattle.hw_core.specs.Decided.{DecidedState, IsDecided}
-use Rattle.hw_core.specs.Shown.{IsDecidedBlock, HasSummitNow, AreGreatestNow, IsStartNow, ShownState, IsSearchOf, IsShown}
+use Rattle.hw_core.specs.Shown.{IsDecidedBlock, HasSummitNow, IsStartNow, IsStartOf, ShownState, IsSearchOf, IsAnswer, IsAnswerOf, IsShown}
 use Rattle.hw_core.proofs.SettleLaws.{grows_roomy}
 use Rattle.hw_core.proofs.EndLaws.{all_at}
 use Rattle.hw_core.proofs.DecidedLaws.{decided_is, get_mapped, found_at, node_panorama}
@@ -41,43 +43,110 @@ search_stays q state later g h config grows is = record {
   walks = walks_stay state.dag later.dag g h grows q.walks is.walks;
 }
 
--- what is not present shows nothing
-pub shown_none : (c : CoreState) (state : NodeState) (shown : ShownState) → shown.present ≡ false → IsSearchOf shown.search state → IsShown c state shown
-shown_none c state shown none is = record { search = is; present = λ t. absurd (let both : false ≡ true = sym none ∙ t in cc) }
+-- nothing was asked for
+pub shown_none : (c : CoreState) (state : NodeState) (shown : ShownState) → shown.asked ≡ None → IsSearchOf shown.search state → IsShown c state shown
+shown_none c state shown none is = record { search = is; asked = λ i e. absurd (let both : None ≡ Some i = sym none ∙ e in cc) }
 
 -- a vertex came
-pub shown_forgot : (before after : CoreState) (state later : NodeState) (shown forgot : ShownState) → IsGraph state.dag → IsGraph later.dag → later.config ≡ state.config → GrowsTo state.dag later.dag → forgot ≡ record shown { present = false }
+pub shown_forgot : (before after : CoreState) (state later : NodeState) (shown forgot : ShownState) → IsGraph state.dag → IsGraph later.dag → later.config ≡ state.config → GrowsTo state.dag later.dag → forgot ≡ record shown { asked = None }
     → IsShown before state shown → IsShown after later forgot
-shown_forgot before after state later shown forgot g h config grows is shows = shown_none after later forgot (ap (λ (t : ShownState). t.present) is)
+shown_forgot before after state later shown forgot g h config grows is shows = shown_none after later forgot (ap (λ (t : ShownState). t.asked) is)
     (subst (λ (t : ShownState). IsSearchOf t.search later) (sym is) (search_stays shown.search state later g h config grows shows.search))
 
 -- more room in the state changes nothing
 pub shown_still : (c : CoreState) (state later : NodeState) (shown : ShownState) → IsGraph state.dag → IsGraph later.dag → HasMoreRoom state later → IsShown c state shown → IsShown c later shown
 shown_still c state later shown g h more is = record {
   search = search_stays shown.search state later g h (ap (λ (t : NodeState). t.config) more.unchanged) (grows_roomy state later more) is.search;
-  present = is.present;
+  asked = is.asked;
 }
 
 pub shown_start : (c : CoreState) (state : NodeState) (shown : ShownState) (validators : ℕ) → state.dag.validators ≡ validators → shown.search.validators ≡ validators → shown.search.levels ≡ state.config.levels
-    → ((dag : UnitGraph) → AreKept dag shown.search.walks) → shown.present ≡ false → IsShown c state shown
+    → ((dag : UnitGraph) → AreKept dag shown.search.walks) → shown.asked ≡ None → IsShown c state shown
 shown_start c state shown validators same many levels walks none = shown_none c state shown none (record { validators = many ∙ sym same; levels = levels; walks = walks state.dag })
 
 -- ---- what is told
 
-pub start_told : (c : CoreState) (state : NodeState) (shown : ShownState) → IsShown c state shown → (level validator : ℕ) (r : Option ℕ) → r ≡ cond shown.present (start_of shown.search level validator) None
+-- a search answers
+pub answered : (weights : List ℕ) (units : List Node) (panorama : List Obs) (block : Node) (level quorum : ℕ) (q : Search) (b : Bool) → IsTrue b ↔ HasSummit weights units panorama block level quorum
+    → (IsTrue b → IsGreatest weights units panorama block level quorum (committees_of q)) → (IsTrue b → q.found ≡ Some level) → (b ≡ false → q.found ≡ None) → IsAnswer weights units panorama block level quorum q
+answered weights units panorama block level quorum q true exact greatest found none = record {
+  level_is = λ top e. (let both : Some top ≡ Some level = sym e ∙ found refl in cc);
+  greatest = λ t. greatest refl;
+  none = λ h. ap is_some (found refl);
+}
+answered weights units panorama block level quorum q false exact greatest found none = record {
+  level_is = λ top e. absurd (let both : Some top ≡ None = sym e ∙ none refl in cc);
+  greatest = λ t. absurd (let both : false ≡ true = sym (ap is_some (none refl)) ∙ t in cc);
+  none = λ h. absurd (let both : false ≡ true = exact.1 h in cc);
+}
+
+-- a start that was found is that of a level of the search
+found_within : (q : Search) (level validator n : ℕ) → start_of q level validator ≡ Some n → (top : ℕ) × (q.found ≡ Some top) × (level ≤ top)
+found_within q level validator n at = go q.found refl
+  where
+    told : Option ℕ → Option ℕ
+    told o = elim o as (λ _. Option ℕ) [ None ↦ None | Some top ↦ cond (nat_le level top) (entry (table_of q.tables level) validator) None ]
+
+    go : (o : Option ℕ) → q.found ≡ o → (top : ℕ) × (q.found ≡ Some top) × (level ≤ top)
+    go None e = absurd (let none : Some n ≡ None = sym at ∙ ap told e in cc)
+    go (Some top) e = (top, e, below (nat_le level top) refl)
+      where
+        below : (b : Bool) → nat_le level top ≡ b → level ≤ top
+        below true t = leb-true level top t
+        below false f = absurd (let none : Some n ≡ None = sym at ∙ ap told e ∙ ap (λ (b : Bool). cond b (entry (table_of q.tables level) validator) None) f in cc)
+
+module _ (c : CoreState) (index : ℕ) (q : Search) (asked : IsAnswerOf c index q) (level validator : ℕ) where
+  -- what is found is a start
+  pub start_is_of : (n : ℕ) → start_of q level validator ≡ Some n → IsStartOf c index level validator n
+  start_is_of n at =
+      let found = found_within q level validator n at in
+      let top = asked.answer.level_is found.0 found.1 in
+      let low = found.2 in
+      record {
+        decision = asked.decision;
+        block = asked.block;
+        is = asked.is;
+        committees = committees_of q;
+        greatest = asked.answer.greatest (ap is_some found.1);
+        within = omega arith;
+        member = ap is_some at;
+        start_is = ap or_zero at;
+      }
+
+  -- and where nothing is, there is none
+  pub start_is_none : start_of q level validator ≡ None → ((d : Decision) (x : Node) → IsDecidedBlock c index d x → (d ≡ asked.decision) × (x ≡ asked.block)) → (n : ℕ) → IsStartOf c index level validator n → ⊥
+  start_is_none at one n s =
+      let same = one s.decision s.block s.is in
+      let greatest : IsGreatest c.config.weights (settled_in c) (panorama_in c) asked.block asked.decision.level asked.decision.quorum s.committees =
+      subst₂ (λ (x : Node) (d : Decision). IsGreatest c.config.weights (settled_in c) (panorama_in c) x d.level d.quorum s.committees) same.1 same.0 s.greatest in
+      let found = asked.answer.greatest (asked.answer.none (s.committees, greatest.summit)) in
+      let within : level ≤ asked.decision.level = subst (λ (d : Decision). level ≤ d.level) same.0 s.within in
+      let member = found.greatest s.committees greatest.summit level validator within s.member in
+      absurd (let both : false ≡ true = sym (ap is_some at) ∙ member.0 in cc)
+
+  pub told_some : (r : Option ℕ) → r ≡ start_of q level validator → IfSome r (IsStartOf c index level validator)
+  told_some None e = tt
+  told_some (Some n) e = start_is_of n (sym e)
+
+  pub told_none : ((d : Decision) (x : Node) → IsDecidedBlock c index d x → (d ≡ asked.decision) × (x ≡ asked.block)) → (r : Option ℕ) → r ≡ start_of q level validator → IfNone r ((n : ℕ) → IsStartOf c index level validator n → ⊥)
+  told_none one None e = start_is_none (sym e) one
+  told_none one (Some n) e = tt
+
+pub start_told : (c : CoreState) (state : NodeState) (shown : ShownState) → IsShown c state shown → (level validator : ℕ) (r : Option ℕ) → r ≡ cond (is_some shown.asked) (start_of shown.search level validator) None
     → IfSome r (IsStartNow c level validator)
 start_told c state shown is level validator None e = tt
-start_told c state shown is level validator (Some n) e = go shown.present refl
+start_told c state shown is level validator (Some n) e = go shown.asked refl
   where
-    go : (b : Bool) → shown.present ≡ b → IsStartNow c level validator n
-    go false f = absurd (let none : Some n ≡ None = e ∙ ap (λ (b : Bool). cond b (start_of shown.search level validator) None) f in cc)
-    go true f =
-        let at : start_of shown.search level validator ≡ Some n = sym (e ∙ ap (λ (b : Bool). cond b (start_of shown.search level validator) None) f) in
+    go : (o : Option ℕ) → shown.asked ≡ o → IsStartNow c level validator n
+    go None f = absurd (let none : Some n ≡ None = e ∙ ap (λ (o : Option ℕ). cond (is_some o) (start_of shown.search level validator) None) f in cc)
+    go (Some index) f =
+        let at : start_of shown.search level validator ≡ Some n = sym (e ∙ ap (λ (o : Option ℕ). cond (is_some o) (start_of shown.search level validator) None) f) in
+        let s = start_is_of c index shown.search (is.asked index f) level validator n at in
         record {
-          committees = committees_of shown.search;
-          greatest = is.present f;
-          member = ap (λ (o : Option ℕ). is_some o) at;
-          start_is = ap or_zero at;
+          committees = s.committees;
+          greatest = record { index = index; decision = s.decision; block = s.block; is = s.is; greatest = s.greatest };
+          member = s.member;
+          start_is = s.start_is;
         }
 
 module _ (journal : List Vertex) (park : Parked PreparedUnit) (state : NodeState) (node : IsNode journal park state) (d : DecidedState) (waiting : ℕ) (decided : IsDecided (setting_of state.config) journal state waiting d)
@@ -112,18 +181,34 @@ module _ (journal : List Vertex) (park : Parked PreparedUnit) (state : NodeState
       name = sym (ap (λ (e : Decision). e.block) record_is);
     }
 
+    -- and no other is
+    pub one_block : (d : Decision) (x : Node) → IsDecidedBlock core index d x → (d ≡ told) × (x ≡ block)
+    one_block d x is =
+        let one : d ≡ told = (let both : Some d ≡ Some told = sym is.at ∙ is_block.at in cc) in
+        let name : x.digest ≡ block.digest = is.name ∙ ap (λ (e : Decision). e.block) (one ∙ record_is) in
+        let there : Among x (graph state.dag) = subst (λ (xs : List Node). Among x xs) (sym node.is_of.settled) is.settled in (
+          one,
+          rising_one_name (graph state.dag) (graph_rising state.dag) x block x.digest there (node_among state.dag g f.block.0 block_known) (digest_self x.digest)
+              (subst (λ (e : Digest). digest_eq e x.digest ≡ true) name (digest_self x.digest)),
+        )
+
     module _ (observed : observations state.dag state.panorama ≡ observed_in state.config state.marked (graph state.dag)) where
       panorama_same : observations state.dag state.panorama ≡ panorama_in core
       panorama_same = observed ∙ node_panorama journal park state node
 
-      pub greatest_now : (m : Committees) → IsGreatest state.config.weights (graph state.dag) (observations state.dag state.panorama) block told.level told.quorum m → AreGreatestNow core m
-      greatest_now m is = record {
-        index = index;
+      pub answer_to : (q : Search) → IsAnswer state.config.weights (graph state.dag) (observations state.dag state.panorama) block told.level told.quorum q → IsAnswerOf core index q
+      answer_to q is = record {
         decision = told;
         block = block;
         is = is_block;
-        greatest = subst₂ (λ (units : List Node) (p : List Obs). IsGreatest state.config.weights units p block told.level told.quorum m) node.is_of.settled panorama_same is;
+        answer = subst₂ (λ (units : List Node) (p : List Obs). IsAnswer state.config.weights units p block told.level told.quorum q) node.is_of.settled panorama_same is;
       }
+
+      pub answer_back : (q : Search) → IsAnswerOf core index q → IsAnswer state.config.weights (graph state.dag) (observations state.dag state.panorama) block told.level told.quorum q
+      answer_back q is =
+          let one = one_block is.decision is.block is.is in
+          let moved = subst₂ (λ (units : List Node) (p : List Obs). IsAnswer state.config.weights units p is.block is.decision.level is.decision.quorum q) (sym node.is_of.settled) (sym panorama_same) is.answer in
+          subst₂ (λ (x : Node) (d : Decision). IsAnswer state.config.weights (graph state.dag) (observations state.dag state.panorama) x d.level d.quorum q) one.1 one.0 moved
 
       pub summit_to : HasSummit state.config.weights (graph state.dag) (observations state.dag state.panorama) block told.level told.quorum → HasSummitNow core index
       summit_to summit = record {
@@ -135,10 +220,6 @@ module _ (journal : List Vertex) (park : Parked PreparedUnit) (state : NodeState
 
       pub summit_back : HasSummitNow core index → HasSummit state.config.weights (graph state.dag) (observations state.dag state.panorama) block told.level told.quorum
       summit_back h =
-          let one : h.decision ≡ told = (let both : Some h.decision ≡ Some told = sym h.is.at ∙ is_block.at in cc) in
-          let name : h.block.digest ≡ block.digest = h.is.name ∙ ap (λ (e : Decision). e.block) (one ∙ record_is) in
-          let there : Among h.block (graph state.dag) = subst (λ (xs : List Node). Among h.block xs) (sym node.is_of.settled) h.is.settled in
-          let same : h.block ≡ block = rising_one_name (graph state.dag) (graph_rising state.dag) h.block block h.block.digest there (node_among state.dag g f.block.0 block_known) (digest_self h.block.digest)
-          (subst (λ (e : Digest). digest_eq e h.block.digest ≡ true) name (digest_self h.block.digest)) in
+          let one = one_block h.decision h.block h.is in
           let moved = subst₂ (λ (units : List Node) (p : List Obs). HasSummit state.config.weights units p h.block h.decision.level h.decision.quorum) (sym node.is_of.settled) (sym panorama_same) h.summit in
-          subst₂ (λ (b : Node) (e : Decision). HasSummit state.config.weights (graph state.dag) (observations state.dag state.panorama) b e.level e.quorum) same one moved
+          subst₂ (λ (b : Node) (e : Decision). HasSummit state.config.weights (graph state.dag) (observations state.dag state.panorama) b e.level e.quorum) one.1 one.0 moved

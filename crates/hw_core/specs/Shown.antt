@@ -1,6 +1,7 @@
 -- The summit of a decided block in the present state.
-use Rattle.std.specs.Prelude.{◌≡◌, ℕ, Bool, true, Some, IsTrue, slice_get}
+use Rattle.std.specs.Prelude.{◌≡◌, ℕ, ◌≤◌, List, Option, Some, is_some, IsTrue, slice_get}
 use Rattle.hw_types.specs.declared.answers.Decision.{Decision}
+use Rattle.hw_types.specs.declared.unit.Obs.{Obs}
 use Rattle.hw_types.specs.Graph.{Node}
 use Rattle.hw_types.specs.Below.{Among}
 use Rattle.hw_types.specs.Summit.{Committees, HasSummit, IsGreatest}
@@ -40,12 +41,37 @@ pub record IsStartNow (c : CoreState) (level validator start : ℕ) : Type 0 whe
   pub member : IsTrue (committees.member level validator)
   pub start_is : committees.start level validator ≡ start
 
+-- there the validator starts in the committee of that level, which is none above the decision's, of the greatest such summit of the
+-- decided block of that place; source: Highway
+pub record IsStartOf (c : CoreState) (index level validator start : ℕ) : Type 0 where
+  pub decision : Decision
+  pub block : Node
+  pub is : IsDecidedBlock c index decision block
+  pub committees : Committees
+  pub greatest : IsGreatest c.config.weights (settled_in c) (panorama_in c) block decision.level decision.quorum committees
+  pub within : level ≤ decision.level
+  pub member : IsTrue (committees.member level validator)
+  pub start_is : committees.start level validator ≡ start
+
 -- ---- what a node keeps of it
 
--- what the last search left, and whether it found a summit and no vertex came since
+-- what the last search left, and the place of the decided block that it was for, where no vertex came since
 pub record ShownState : Type 0 where
   pub search : Search
-  pub present : Bool
+  pub asked : Option ℕ
+
+-- the search left the greatest such summit for the block, or none where there is none
+pub record IsAnswer (weights : List ℕ) (units : List Node) (panorama : List Obs) (block : Node) (level quorum : ℕ) (search : Search) : Type 0 where
+  pub level_is : (top : ℕ) → search.found ≡ Some top → top ≡ level
+  pub greatest : IsTrue (is_some search.found) → IsGreatest weights units panorama block level quorum (committees_of search)
+  pub none : HasSummit weights units panorama block level quorum → IsTrue (is_some search.found)
+
+-- the search left what there is for the decided block of that place
+pub record IsAnswerOf (c : CoreState) (index : ℕ) (search : Search) : Type 0 where
+  pub decision : Decision
+  pub block : Node
+  pub is : IsDecidedBlock c index decision block
+  pub answer : IsAnswer c.config.weights (settled_in c) (panorama_in c) block decision.level decision.quorum search
 
 -- the search is one for the state, and what it keeps is true of the graph
 pub record IsSearchOf (s : Search) (state : NodeState) : Type 0 where
@@ -53,7 +79,7 @@ pub record IsSearchOf (s : Search) (state : NodeState) : Type 0 where
   pub levels : s.levels ≡ state.config.levels
   pub walks : AreKept state.dag s.walks
 
--- what is shown is the greatest summit of some decided block
+-- what is shown is what there is for the decided block that was asked for
 pub record IsShown (c : CoreState) (state : NodeState) (shown : ShownState) : Type 0 where
   pub search : IsSearchOf shown.search state
-  pub present : shown.present ≡ true → AreGreatestNow c (committees_of shown.search)
+  pub asked : (index : ℕ) → shown.asked ≡ Some index → IsAnswerOf c index shown.search

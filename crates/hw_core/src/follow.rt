@@ -1,6 +1,6 @@
 //! What follows from the state after a delivery.
 
-ghost use Rattle.std.specs.Prelude.{◌≡◌, false, length};
+ghost use Rattle.std.specs.Prelude.{◌≡◌, None, length};
 ghost use Rattle.hw_dag.specs.Dag.{graph};
 ghost use Rattle.hw_core.specs.Decided.{IsToldOf, HasRoomFor};
 ghost use Rattle.hw_core.specs.Followed.{HasFollowed};
@@ -23,7 +23,7 @@ pub fn follow(
     requires room { HasRoomFor decided.old (length (graph state.old.dag)) }
     ensures followed { HasFollowed state.old (length journal.now) decided.old decided.new result }
     ensures state { state.new ≡ state.old }
-    ensures shown { shown.new ≡ record shown.old { present = false } }
+    ensures shown { shown.new ≡ record shown.old { asked = None } }
 {
     shown.forget();
     decided.run(state, journal.len() as u64)

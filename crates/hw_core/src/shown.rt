@@ -1,14 +1,14 @@
 //! The summit of a decided block in the present state.
 
-ghost use Rattle.std.specs.Prelude.{◌≡◌, ℕ, ◌<◌, ◌≤◌, ◌↔◌, length, true, false, IsTrue, IfOk, None, if◌then◌else◌};
+ghost use Rattle.std.specs.Prelude.{◌≡◌, ℕ, ◌<◌, ◌≤◌, ◌↔◌, length, IsTrue, IfOk, Some, None, is_some, if◌then◌else◌};
 ghost use Rattle.hw_types.specs.Limits.{config_fault};
-ghost use Rattle.hw_types.specs.Summit.{HasSummit, IsGreatest};
+ghost use Rattle.hw_types.specs.Summit.{HasSummit};
 ghost use Rattle.hw_dag.specs.Dag.{UnitGraph, graph, count_of, node_at, observations};
 ghost use Rattle.hw_dag.specs.Admission.{IsGraph};
 ghost use Rattle.hw_admit.specs.State.{observed_in};
-ghost use Rattle.hw_horizon.specs.Search.{start_of, committees_of};
+ghost use Rattle.hw_horizon.specs.Search.{start_of};
 ghost use Rattle.hw_horizon.specs.Kept.{AreKept};
-ghost use Rattle.hw_core.specs.Shown.{IsSearchOf};
+ghost use Rattle.hw_core.specs.Shown.{IsSearchOf, IsAnswer};
 
 use hw_admit::State;
 use hw_dag::UnitNo;
@@ -20,8 +20,8 @@ use std::marker::Model;
 /// The greatest summit that was asked for last.
 pub struct Shown {
     horizons: Horizons,
-    /// Whether the last search found one, and no vertex came since.
-    is_present: bool,
+    /// The place of the decided block that the last search was for, where no vertex came since.
+    asked: Option<u64>,
 }
 
 // For the prover: so its drop is one call, and else is written out wherever one is let go.
@@ -29,7 +29,7 @@ impl Drop for Shown {
     fn drop(self) {
         let Shown {
             horizons: _horizons,
-            is_present: _,
+            asked: _,
         } = self;
     }
 }
@@ -39,7 +39,7 @@ impl Model for Shown {
 
     ghost Value = { ShownState };
 
-    ghost view = { λ s. record { search = s.horizons; present = s.is_present } };
+    ghost view = { λ s. record { search = s.horizons; asked = s.asked } };
 }
 
 impl Shown {
@@ -49,30 +49,39 @@ impl Shown {
         ensures validators { IfOk result (λ shown. shown.search.validators ≡ length config.now.weights) }
         ensures levels { IfOk result (λ shown. shown.search.levels ≡ config.now.levels) }
         ensures walks { IfOk result (λ shown. (dag : UnitGraph) → AreKept dag shown.search.walks) }
-        ensures none { IfOk result (λ shown. shown.present ≡ false) }
+        ensures none { IfOk result (λ shown. shown.asked ≡ None) }
     {
         let validators = config.weights.len() as u32;
         let horizons = Horizons::new(alloc, validators, u32::from(config.levels))?;
         Ok(Shown {
             horizons,
-            is_present: false,
+            asked: None,
         })
     }
 
     /// A vertex came, so that nothing is shown any more.
     pub fn forget(&mut self)
-        ensures { self.new ≡ record self.old { present = false } }
+        ensures { self.new ≡ record self.old { asked = None } }
     {
-        self.is_present = false;
+        self.asked = None;
     }
 
-    /// Whether the block has a summit of this level and quorum in the state, whose greatest is then shown.
-    pub fn show(&mut self, state: &State, block: UnitNo, level: u32, quorum: u64) -> bool
+    /// Whether the block has a summit of this level and quorum in the state, whose greatest is then shown. It
+    /// is the decided block of that place.
+    pub fn show(
+        &mut self,
+        state: &State,
+        index: u64,
+        block: UnitNo,
+        level: u32,
+        quorum: u64,
+    ) -> bool
         requires search { IsSearchOf self.old.search state.now }
         requires known { block.0 < count_of state.now.dag }
         requires level { level ≤ state.now.config.levels }
         ensures exact { IsTrue result ↔ HasSummit state.now.config.weights (graph state.now.dag) (observations state.now.dag state.now.panorama) (node_at state.now.dag block.0) level quorum }
-        ensures greatest { self.new.present ≡ true → IsGreatest state.now.config.weights (graph state.now.dag) (observations state.now.dag state.now.panorama) (node_at state.now.dag block.0) level quorum (committees_of self.new.search) }
+        ensures asked { self.new.asked ≡ Some index }
+        ensures answer { IsAnswer state.now.config.weights (graph state.now.dag) (observations state.now.dag state.now.panorama) (node_at state.now.dag block.0) level quorum self.new.search }
         ensures search { IsSearchOf self.new.search state.now }
         ensures graph { IsGraph state.now.dag }
         ensures observed { observations state.now.dag state.now.panorama ≡ observed_in state.now.config state.now.marked (graph state.now.dag) }
@@ -83,15 +92,31 @@ impl Shown {
         let found = self
             .horizons
             .greatest(dag, weights, panorama, block, level, quorum);
-        self.is_present = found;
+        self.asked = Some(index);
         found
+    }
+
+    /// Shows the same, unless it is shown already.
+    pub fn show_once(&mut self, state: &State, index: u64, block: UnitNo, level: u32, quorum: u64)
+        requires search { IsSearchOf self.old.search state.now }
+        requires known { block.0 < count_of state.now.dag }
+        requires level { level ≤ state.now.config.levels }
+        requires shown { self.old.asked ≡ Some index → IsAnswer state.now.config.weights (graph state.now.dag) (observations state.now.dag state.now.panorama) (node_at state.now.dag block.0) level quorum self.old.search }
+        ensures asked { self.new.asked ≡ Some index }
+        ensures answer { IsAnswer state.now.config.weights (graph state.now.dag) (observations state.now.dag state.now.panorama) (node_at state.now.dag block.0) level quorum self.new.search }
+        ensures search { IsSearchOf self.new.search state.now }
+    {
+        if self.asked == Some(index) {
+            return;
+        }
+        self.show(state, index, block, level, quorum);
     }
 
     /// The start of a validator in the committee of a level of the summit that is shown.
     pub fn start(&self, level: u32, validator: u32) -> Option<u64>
-        ensures { result ≡ (if self.now.present then start_of self.now.search level validator else None) }
+        ensures { result ≡ (if is_some self.now.asked then start_of self.now.search level validator else None) }
     {
-        if self.is_present {
+        if self.asked.is_some() {
             self.horizons.start(level, validator)
         } else {
             None

@@ -1,6 +1,6 @@
 //! What a node has beside its state before it has received anything.
 
-ghost use Rattle.std.specs.Prelude.{◌≡◌, [], false, length, None, IfOk};
+ghost use Rattle.std.specs.Prelude.{◌≡◌, [], length, None, IfOk};
 ghost use Rattle.hw_types.specs.Limits.{config_fault};
 ghost use Rattle.hw_types.specs.Spelling.{instance_of};
 ghost use Rattle.hw_dag.specs.Dag.{UnitGraph};
@@ -36,7 +36,7 @@ pub fn begin(alloc: Global, config: &Config) -> Result<Start, OutOfMemory>
     ensures validators { IfOk result (λ start. start.shown.search.validators ≡ length config.now.weights) }
     ensures levels { IfOk result (λ start. start.shown.search.levels ≡ config.now.levels) }
     ensures walks { IfOk result (λ start. (dag : UnitGraph) → AreKept dag start.shown.search.walks) }
-    ensures unshown { IfOk result (λ start. start.shown.present ≡ false) }
+    ensures unshown { IfOk result (λ start. start.shown.asked ≡ None) }
 {
     let instance = instance_of(alloc, config)?;
     let decided = Decided::new(alloc, config)?;

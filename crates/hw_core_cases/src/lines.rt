@@ -98,6 +98,7 @@ fn moved(answer: &mut Answer, node: &mut Node, kind: &str, words: &[&str]) {
         "endorse" => endorse(answer, node, words),
         "chain" => chain(answer, node.instance, &mut node.core, words),
         "summit" => summit(answer, &mut node.core, words),
+        "starts" => starts(answer, &mut node.core, words),
         _ => told(answer, node, kind, words),
     }
 }
@@ -110,7 +111,6 @@ fn told(answer: &mut Answer, node: &Node, kind: &str, words: &[&str]) {
         "unmet" => unmet(answer, node, words),
         "against" => against(answer, node, words),
         "endorsers" => endorsers(answer, node, words),
-        "starts" => starts(answer, node, words),
         "show" => show(answer, node, words),
         _ => answer.refuse(),
     }

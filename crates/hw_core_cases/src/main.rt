@@ -15,6 +15,7 @@
 //! | `endorsers NAME ..` | who endorsed each unit, in the order of the journal |
 //! | `summit N ..` | whether the decided block of each of these places, counted from 0, has a summit now |
 //! | `starts LEVEL` | where each validator starts in the committee of that level of the summit that was asked for last |
+//! | `starts LEVEL of N` | where each validator starts in the committee of that level of the greatest summit that the decided block of place N has now |
 //! | `show fork`, `show panorama`, `show faulty`, `show final` | the fork choice; what the node observes; who is faulty; the decided blocks, and the faulty weight where it exceeds the threshold |
 //! | `show counts`, `show journal` | how many units are settled, parked and dropped, and the faulty weight; the journal in order |
 //! | `chain N forward`, `chain N reverse` | delivers a chain of N units of validator 0 in that order: the sums of what became of them |

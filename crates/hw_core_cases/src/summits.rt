@@ -1,6 +1,5 @@
 //! The summit of a decided block, as a node tells it.
 
-use crate::names::Node;
 use hw_case_words::{Answer, number, small};
 use hw_core::Core;
 
@@ -22,28 +21,45 @@ fn told(answer: &mut Answer, core: &mut Core, index: u64) {
     }
 }
 
-/// Where each validator starts in the committee of this level of the summit that was asked for last.
-pub fn starts(answer: &mut Answer, node: &Node, words: &[&str]) {
-    let [word] = words else {
-        return answer.refuse();
-    };
-    answer.put("starts ");
-    answer.put(word);
-    for validator in 0..node.core.state().config().weights.len() {
-        answer.put(" ");
-        put_start(answer, &node.core, small(word), validator);
+/// Where each validator starts in the committee of this level, of the summit that was asked for last or of
+/// that of a decided block.
+pub fn starts(answer: &mut Answer, core: &mut Core, words: &[&str]) {
+    match words {
+        [level] => shown_starts(answer, core, level),
+        [level, "of", index] => block_starts(answer, core, level, index),
+        _ => answer.refuse(),
+    }
+}
+
+fn shown_starts(answer: &mut Answer, core: &Core, word: &str) {
+    let put = write!(answer.text, "starts {word}");
+    answer.keep(put);
+    for validator in 0..count(core) {
+        told_start(answer, core.summit_start(small(word), validator));
     }
     answer.put("\n");
 }
 
-fn put_start(answer: &mut Answer, core: &Core, level: u32, validator: usize) {
-    match u32::try_from(validator) {
-        Ok(validator) => told_start(answer, core.summit_start(level, validator)),
-        Err(_) => answer.refuse(),
+fn block_starts(answer: &mut Answer, core: &mut Core, word: &str, place: &str) {
+    let put = write!(answer.text, "starts {word} of {place}");
+    answer.keep(put);
+    let index = number(place);
+    if index < core.decision_count() {
+        for validator in 0..count(core) {
+            told_start(answer, core.summit_start_of(index, small(word), validator));
+        }
+    } else {
+        answer.put(" undecided");
     }
+    answer.put("\n");
+}
+
+fn count(core: &Core) -> u32 {
+    core.state().config().weights.len() as u32
 }
 
 fn told_start(answer: &mut Answer, start: Option<u64>) {
+    answer.put(" ");
     match start {
         Some(start) => answer.number(start),
         None => answer.put("-"),

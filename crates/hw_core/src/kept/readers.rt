@@ -1,6 +1,6 @@
 //! What a node tells of its journal. No reader takes memory.
 
-ghost use Rattle.std.specs.Prelude.{◌≡◌, ℕ, ◌<◌, ◌≤◌, ◌↔◌, IsTrue, length, slice_get, take, Some, IfSome};
+ghost use Rattle.std.specs.Prelude.{◌≡◌, ℕ, ◌<◌, ◌≤◌, ◌↔◌, IsTrue, length, slice_get, take, Some, IfSome, IfNone};
 ghost use Rattle.std.specs.Option.{option_copied};
 ghost use Rattle.hw_types.specs.Graph.{slot};
 ghost use Rattle.hw_types.specs.Settled.{has_evidence, parked_of, dropped_of};
@@ -11,7 +11,7 @@ ghost use Rattle.hw_types.specs.Real.{setting_of, received_in, settled_in, panor
 ghost use Rattle.hw_dag.specs.Dag.{graph, observations};
 ghost use Rattle.hw_admit.specs.State.{is_marked};
 ghost use Rattle.hw_core.specs.Decided.{decided_in};
-ghost use Rattle.hw_core.specs.Shown.{HasSummitNow, IsStartNow};
+ghost use Rattle.hw_core.specs.Shown.{HasSummitNow, IsStartNow, IsStartOf};
 ghost use Rattle.hw_types.specs.declared.unit.Vertex.TheVariants as vertex;
 ghost use Rattle.hw_core.specs.Readers.{unit_in, missing_needs, unmet_in, evidence_of, endorsements_of, IsPlace, IsUnsettled, fork_in, exceeded_in};
 
@@ -217,15 +217,34 @@ impl Kept {
         let block = self.decided.block(index);
         let decision = *self.decided.get(index);
         self.shown
-            .show(&self.state, block, decision.level, decision.quorum)
+            .show(&self.state, index, block, decision.level, decision.quorum)
     }
 
     /// Where the validator starts in the committee of the level of the greatest summit that the last
-    /// `summit_now` found. None for a validator outside the committee, where it found none, and where a
-    /// vertex came since.
+    /// `summit_now` or `summit_start_of` found. None for a validator outside the committee, where it found
+    /// none, and where a vertex came since.
     pub(crate) fn summit_start(&self, level: u32, validator: u32) -> Option<u64>
         ensures { IfSome result (IsStartNow self.now level validator) }
     {
+        self.shown.start(level, validator)
+    }
+
+    /// Where the validator starts in the committee of the level of the greatest summit, of its level and quorum,
+    /// that the decided block of that place has in the present state. None exactly where it has none, where the
+    /// level is above the decision's, and for a validator outside the committee.
+    pub(crate) fn summit_start_of(&mut self, index: u64, level: u32, validator: u32) -> Option<u64>
+        requires { index < length (decided_in self.old) }
+        ensures start { IfSome result (IsStartOf self.old index level validator) }
+        ensures none { IfNone result ((start : ℕ) → IsStartOf self.old index level validator start → ⊥) }
+        ensures unchanged { self.new ≡ self.old }
+    {
+        // For the prover: what holds of the state's graph and panorama.
+        let _dag = self.state.dag();
+        let _panorama = self.state.panorama();
+        let block = self.decided.block(index);
+        let decision = *self.decided.get(index);
+        self.shown
+            .show_once(&self.state, index, block, decision.level, decision.quorum);
         self.shown.start(level, validator)
     }
 

@@ -1,18 +1,17 @@
-use Rattle.std.proofs.Common.{◌<◌, List, length, refl, sym, ap, subst, arith}
+use Rattle.std.proofs.Common.{◌≡◌, ℕ, ◌<◌, Some, ◌∙◌, List, length, refl, sym, ap, subst, arith}
 use Rattle.std.specs.Prelude.{◌↔◌, IsTrue}
 use Rattle.indexmap.specs.IndexMap.{spare as room_of}
 use Rattle.hw_types.specs.declared.answers.Decision.{Decision}
-use Rattle.hw_types.specs.Summit.{HasSummit, IsGreatest}
+use Rattle.hw_types.specs.Summit.{HasSummit}
 use Rattle.hw_types.specs.Real.{CoreState}
 use Rattle.hw_dag.specs.declared.numbers.UnitNo.{UnitNo}
 use Rattle.hw_dag.specs.Dag.{graph, count_of, node_at, observations}
-use Rattle.hw_horizon.specs.Search.{committees_of}
 use Rattle.hw_core.specs.Decided.{decided_in}
-use Rattle.hw_core.specs.Shown.{HasSummitNow}
+use Rattle.hw_core.specs.Shown.{HasSummitNow, IsAnswer, IsAnswerOf}
 use Rattle.hw_core.proofs.KeptLaws.{kept_with}
 use Rattle.hw_core.proofs.DecidedLaws.{mapped_length}
 use Rattle.hw_core.proofs.ReaderLaws.{decisions_is}
-use Rattle.hw_core.proofs.ShownLaws.{block_known, level_high, greatest_now, summit_to, summit_back}
+use Rattle.hw_core.proofs.ShownLaws.{block_known, level_high, answer_to, summit_to, summit_back}
 use Rattle.hw_core.proofs.kept.Kept.summit_now.Goals as goal
 
 pub block-block-requires : goal.block-block-requires
@@ -57,11 +56,14 @@ invariant_of-self c =
     let core = c.self.inside in
     let f = c.block-block.ensures in
     let told = c.get-decision.result.now in
-    let greatest = greatest_now core.journal.items core.park core.state c.self.invariant.node core.decided (length core.park.waiting) c.self.invariant.decided_is c.args.index told (sym c.get-decision.ensures) f.0 f.1 c.show.ensures.graph c.show.ensures.observed in
+    let answer = answer_to core.journal.items core.park core.state c.self.invariant.node core.decided (length core.park.waiting) c.self.invariant.decided_is c.args.index told (sym c.get-decision.ensures) f.0 f.1 c.show.ensures.graph c.show.ensures.observed in
     kept_with core.instance core.journal.items core.names.entries core.park core.dropped.entries (room_of core.dropped) core.state core.fork core.decided core.shown c.self.invariant
     core.journal.items core.names.entries core.park core.dropped.entries (room_of core.dropped) core.state core.fork core.decided c.show.new.self refl c.self.invariant.table c.self.invariant.rules_are c.self.invariant.places c.self.invariant.fit
     c.self.invariant.pairs c.self.invariant.node c.self.invariant.fork_is c.self.invariant.decided_is
     (record {
       search = c.show.ensures.search;
-      present = λ t. greatest (committees_of c.show.new.self.search) (subst (λ (b : UnitNo). IsGreatest core.state.config.weights (graph core.state.dag) (observations core.state.dag core.state.panorama) (node_at core.state.dag b.0) told.level told.quorum (committees_of c.show.new.self.search)) f.2 (c.show.ensures.greatest t));
+      asked = λ i e.
+          let same : c.args.index ≡ i = (let both : Some c.args.index ≡ Some i = sym c.show.ensures.asked ∙ e in cc) in
+          subst (λ (k : ℕ). IsAnswerOf (record { config = core.state.config; journal = core.journal.items }) k c.show.new.self.search) same
+          (answer c.show.new.self.search (subst (λ (b : UnitNo). IsAnswer core.state.config.weights (graph core.state.dag) (observations core.state.dag core.state.panorama) (node_at core.state.dag b.0) told.level told.quorum c.show.new.self.search) f.2 c.show.ensures.answer));
     })
