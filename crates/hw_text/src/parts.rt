@@ -2,7 +2,7 @@
 
 ghost use Rattle.std.specs.Prelude.{◌≡◌, ◌++◌, OnOk, OnErr};
 ghost use Rattle.hw_text.specs.Text.{number_text, digest_text};
-ghost use Rattle.hw_text.specs.Lines.{line_feed};
+ghost use Rattle.hw_text.specs.Lines.{line_feed, AddsFront};
 
 use hw_types::{Bytes, Digest, OutOfMemory};
 use itoa::Buffer;
@@ -37,10 +37,12 @@ pub fn put_word(out: &mut Bytes, word: &str) -> Result<(), OutOfMemory>
     out.extend(word.as_bytes())
 }
 
-/// Puts the word and then the decimal digits of the number last.
+/// Puts the word and then the decimal digits of the number last. Where memory ends between them, the
+/// word stays.
 #[tactic(auto, using(std::proofs::Common::append_assoc))]
 pub fn put_numbered(out: &mut Bytes, word: &str, number: u64) -> Result<(), OutOfMemory>
-    ensures { OnOk result (out.new ≡ out.old ++ (word.now ++ number_text number)) }
+    ensures ok { OnOk result (out.new ≡ out.old ++ (word.now ++ number_text number)) }
+    ensures err { OnErr result (AddsFront out.old out.new (word.now ++ number_text number)) }
 {
     put_word(out, word)?;
     put_number(out, number)

@@ -3,4 +3,4 @@ use Rattle.hw_light_texts.proofs.errors.put_limit.Goals as goal
 
 pub returns-in-ZeroWeight : goal.returns-in-ZeroWeight
 unfolding limit_text
-returns-in-ZeroWeight c = rw c.in-ZeroWeight.is (rw c.from.ensures at c.put_numbered.ensures)
+returns-in-ZeroWeight c = rw c.in-ZeroWeight.is (rw c.from.ensures at c.put_numbered.ensures.ok)
