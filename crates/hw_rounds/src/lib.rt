@@ -30,7 +30,8 @@ pub fn witness_time(round: u64, exponent: u8) -> u64
 }
 
 /// Whether a unit at `time` may have `exponent` where its creator's unit before, at the moment `before`,
-/// has `before_exponent`: it is the same, or the two units lie in different rounds of the greater one.
+/// has `before_exponent`: it is the same, or the later unit lies in a later round of the greater
+/// exponent.
 pub fn changes_lawfully(before: u64, before_exponent: u8, time: u64, exponent: u8) -> bool
     requires before { before_exponent ≤ MAX_EXPONENT }
     requires length { exponent ≤ MAX_EXPONENT }

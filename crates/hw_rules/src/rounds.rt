@@ -31,7 +31,8 @@ pub fn rounds(leaders: &LeaderTable, dag: &Dag, prepared: &Prepared) -> Result<(
     Ok(())
 }
 
-/// Whether its exponent isn't that of the unit before it, and not both rounds are over.
+/// Whether its exponent isn't that of the unit before it, and it doesn't lie in a later round of the
+/// greater exponent.
 fn changes_round(dag: &Dag, prepared: &Prepared) -> bool
     requires case { IsCase dag.now prepared.now }
     requires exponent { prepared.now.signed.unit.exponent ≤ MAX_EXPONENT }

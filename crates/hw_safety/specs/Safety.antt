@@ -35,7 +35,8 @@ StandsSafety =
     → keeps s.config.weights (settled_in_either s.config (received_of s left) (received_of s right)) (joint_panorama s.config (received_of s left) (received_of s right)) block ≡ false
     → s.config.ftt < weight_of s.config.weights (faulty_in_either s.config (received_of s left) (received_of s right))
 
--- The same for one journal that has grown since.
+-- Where a block has a summit in one journal, and the fork choice over the journal as it has grown since isn't
+-- the block or a descendant of it, the faulty weight is at least this share of the quorum's surplus.
 abbrev pub LaterSafety : Type 0
 LaterSafety =
     (s : Setting) (journal more : List Vertex) (block : Node) (level quorum : ℕ)

@@ -34,7 +34,7 @@ pub record Rounds : Type 0 where
   pub long_round : witness_time 0 40 ≡ 733007751850
   pub last_round : round_id (2 ^ 63 - 1) 40 ≡ 9223370937343148032
   pub leaders : map (leader_of equal_three) (0 ∷ 16 ∷ 32 ∷ 48 ∷ []) ≡ 0 ∷ 0 ∷ 2 ∷ 0 ∷ []
-  -- an exponent may change where both rounds are over
+  -- an exponent may change where the later unit lies in a later round of the greater exponent
   pub same_exponent : changes_lawfully 16 4 17 4 ≡ true
   pub within_the_longer : changes_lawfully 16 4 31 3 ≡ false
   pub after_the_longer : changes_lawfully 16 4 32 3 ≡ true

@@ -34,7 +34,8 @@ pub enum Rule {
     Inconsistent,
     /// A cited unit has a greater time.
     TimeGoesBack,
-    /// Its exponent isn't that of its creator's cited unit, and both rounds aren't over.
+    /// Its exponent isn't that of its creator's cited unit, and it doesn't lie in a later round of the
+    /// greater exponent.
     RoundChange,
     /// It is its creator's third unit in its round.
     ThirdInRound,
