@@ -42,13 +42,6 @@ impl KnownPairs {
         }
     }
 
-    /// Keeps none of them any longer.
-    pub fn forget(&mut self)
-        ensures { self.new ≡ [] }
-    {
-        self.pairs.clear();
-    }
-
     /// The pair of the validator, None where none is kept.
     pub(crate) fn of(&self, validator: u32) -> Option<PairNames>
         ensures { result ≡ slice_index_or self.now validator None }
