@@ -34,28 +34,37 @@ pub fn starts(answer: &mut Answer, core: &mut Core, words: &[&str]) {
 fn shown_starts(answer: &mut Answer, core: &Core, word: &str) {
     let put = write!(answer.text, "starts {word}");
     answer.keep(put);
-    for validator in 0..count(core) {
-        told_start(answer, core.summit_start(small(word), validator));
+    for validator in 0..core.state().config().weights.len() {
+        put_start(answer, core, small(word), validator);
     }
     answer.put("\n");
+}
+
+fn put_start(answer: &mut Answer, core: &Core, level: u32, validator: usize) {
+    match u32::try_from(validator) {
+        Ok(validator) => told_start(answer, core.summit_start(level, validator)),
+        Err(_) => answer.refuse(),
+    }
 }
 
 fn block_starts(answer: &mut Answer, core: &mut Core, word: &str, place: &str) {
     let put = write!(answer.text, "starts {word} of {place}");
     answer.keep(put);
-    let index = number(place);
-    if index < core.decision_count() {
-        for validator in 0..count(core) {
-            told_start(answer, core.summit_start_of(index, small(word), validator));
-        }
-    } else {
-        answer.put(" undecided");
+    let validators = core.state().config().weights.len();
+    for validator in 0..validators {
+        put_start_of(answer, core, number(place), small(word), validator);
     }
     answer.put("\n");
 }
 
-fn count(core: &Core) -> u32 {
-    core.state().config().weights.len() as u32
+fn put_start_of(answer: &mut Answer, core: &mut Core, index: u64, level: u32, validator: usize) {
+    match u32::try_from(validator) {
+        Ok(validator) if index < core.decision_count() => {
+            told_start(answer, core.summit_start_of(index, level, validator));
+        }
+        Ok(_) => told_start(answer, None),
+        Err(_) => answer.refuse(),
+    }
 }
 
 fn told_start(answer: &mut Answer, start: Option<u64>) {
