@@ -59,11 +59,17 @@ fn block_starts(answer: &mut Answer, core: &mut Core, word: &str, place: &str) {
 
 fn put_start_of(answer: &mut Answer, core: &mut Core, index: u64, level: u32, validator: usize) {
     match u32::try_from(validator) {
-        Ok(validator) if index < core.decision_count() => {
-            told_start(answer, core.summit_start_of(index, level, validator));
-        }
-        Ok(_) => told_start(answer, None),
+        Ok(validator) => told_start(answer, start_of(core, index, level, validator)),
         Err(_) => answer.refuse(),
+    }
+}
+
+/// None too where no block of that place is decided.
+fn start_of(core: &mut Core, index: u64, level: u32, validator: u32) -> Option<u64> {
+    if index < core.decision_count() {
+        core.summit_start_of(index, level, validator)
+    } else {
+        None
     }
 }
 
