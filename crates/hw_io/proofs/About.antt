@@ -1,6 +1,6 @@
 -- One call after another: what becomes of the counts of failures by name.
-use Rattle.std.proofs.Common.{◌≡◌, ℕ, List, Option, Result, sym, subst}
-use Rattle.hw_io.specs.Faults.{IsCountedAbout, FailsAbout}
+use Rattle.std.proofs.Common.{◌≡◌, ℕ, List, Option, Result, subst}
+use Rattle.hw_io.specs.Faults.{IsCountedAbout}
 use Rattle.hw_io.specs.declared.outside.IoFault.{IoFault}
 
 -- what came before left the counts and the file that is begun

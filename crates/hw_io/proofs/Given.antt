@@ -1,7 +1,7 @@
 -- The moments that a clock gave.
-use Rattle.std.proofs.Common.{◌≡◌, ℕ, suc, zero, ◌+◌, ◌-◌, ◌<◌, ◌≤◌, ◌^◌, ◌==◌, min, cond, List, [], ◌∷◌, ◌++◌, length, get_or, Bool, true, false, Option, Some, None, refl, sym, ap, arith}
-use Rattle.std.proofs.lemmas.Bool.{eqb-true, eqb-false, eq-eqb}
-use Rattle.hw_io.specs.Moments.{GivesMoment, SetMoments, moment_at, first_moments, moments_given}
+use Rattle.std.proofs.Common.{◌≡◌, ℕ, suc, zero, ◌+◌, ◌-◌, ◌<◌, ◌≤◌, ◌^◌, ◌==◌, min, cond, List, [], ◌∷◌, length, get_or, Bool, true, false, Option, Some, None, refl, ap, arith}
+use Rattle.std.proofs.lemmas.Bool.{eqb-true, eqb-false}
+use Rattle.hw_io.specs.Moments.{GivesMoment, moment_at, first_moments, moments_given}
 
 -- behind the last one it is the last one
 pub moment_last : (moments : List ℕ) (call n d : ℕ) → length moments ≡ suc n → n ≤ call → moment_at moments call ≡ get_or moments n d

@@ -1,5 +1,5 @@
 -- The last session of a list.
-use Rattle.std.proofs.Common.{◌≡◌, ℕ, suc, zero, ◌+◌, ◌-◌, ◌<◌, List, [], ◌∷◌, length, set, get_or, Bool, true, refl, sym, ap, subst, ◌∙◌, arith}
+use Rattle.std.proofs.Common.{◌≡◌, ℕ, suc, zero, List, [], ◌∷◌, length, set, get_or, Bool, true, refl, sym, ap, subst, ◌∙◌, arith}
 use Rattle.hw_io.specs.Doors.{Session, with_last, in_session}
 
 pub set-last : (sessions : List Session) (change : Session → Session) (n : ℕ) (d : Session) → length sessions ≡ suc n → set sessions n (change (get_or sessions n d)) ≡ with_last change sessions

@@ -1,5 +1,5 @@
 -- What a door tells: its sessions, and its numbers.
-use Rattle.std.specs.Prelude.{ℕ, ◌==◌, ◌&&◌, nat_lt, if◌then◌else◌, Bool, true, false, List, [], ◌∷◌, ◌++◌, length, take, Option, Some, None, Result, Ok, Err}
+use Rattle.std.specs.Prelude.{ℕ, ◌==◌, ◌&&◌, nat_lt, if◌then◌else◌, Bool, true, false, List, [], ◌∷◌, ◌++◌, length, take, Option, Result, Ok, Err}
 use Rattle.hw_io.specs.Faults.{raised}
 use Rattle.hw_io.specs.declared.outside.IoFault.{IoFault}
 use Rattle.hw_io.specs.declared.outside.IoFault.TheVariants.{Failed, OutOfMemory}

@@ -1,7 +1,11 @@
 -- What the outside in memory tells, and which of its calls are to fail.
-use Rattle.std.specs.Prelude.{◌≡◌, ℕ, ◌==◌, Bool, List, Option, Some}
-use Rattle.std.specs.List.{find}
+use Rattle.std.specs.Prelude.{◌≡◌, ℕ, ◌==◌, Bool, true, false, List, ◌++◌, take, Option, Some, Result, Err, IfErr}
+use Rattle.std.specs.List.{find, list_any}
 use Rattle.std.specs.Option.{option_map}
+use Rattle.hw_io.specs.declared.outside.IoFault.{IoFault}
+use Rattle.hw_io.specs.declared.outside.IoFault.TheVariants.{Failed, OutOfMemory}
+use Rattle.hw_io.specs.Faults.{raised}
+use Rattle.hw_io.specs.Files.{bytes_of}
 use Rattle.hw_io.specs.Shelves.{held_in, begun_in, unread_in, allowance_of, faults_in}
 use Rattle.hw_io.specs.declared.memory.Planned.{Planned}
 use Rattle.hw_io.specs.declared.memory.MemFiles.{MemFiles}
@@ -53,6 +57,12 @@ pub record SameCounts (old new : MemFiles) : Type 0 where
   pub calls : new.calls ≡ old.calls
   pub read_faults : new.read_faults ≡ old.read_faults
   pub append_faults : new.append_faults ≡ old.append_faults
+  pub faults_about : mem_faults_about new ≡ mem_faults_about old
+
+-- a call was made, and the plan stays
+pub record CountsCall (old new : MemFiles) : Type 0 where
+  pub calls : mem_calls new ≡ raised (mem_calls old)
+  pub planned : mem_planned new ≡ mem_planned old
 
 -- what a sink in memory took
 abbrev pub mem_taken : MemSink → Option (List ℕ)
@@ -62,13 +72,41 @@ mem_taken sink = Some sink.bytes.items
 abbrev pub mem_faults : MemSink → ℕ
 mem_faults sink = sink.faults
 
+-- how many of them found no memory
+abbrev pub mem_wants : MemSink → ℕ
+mem_wants sink = sink.wants
+
 -- the calls of the sink that are to fail
 abbrev pub sink_planned : MemSink → List ℕ
 sink_planned sink = sink.planned.items
 
+-- how many calls of the sink were made
+abbrev pub sink_calls : MemSink → ℕ
+sink_calls sink = sink.calls
+
 -- how much is written by the call of this number, where it is to fail
 abbrev pub planned_at : List Planned → ℕ → Option ℕ
 planned_at planned call = option_map (λ p. p.written) (find (λ p. p.call == call) planned)
+
+-- the same of the next call
+abbrev pub mem_next : MemFiles → Option ℕ
+mem_next files = planned_at (mem_planned files) (mem_calls files)
+
+-- an append that failed as planned put so many of the bytes at the end of the file
+abbrev pub CutAt : {T : Type 0} → ℕ → Option (List ℕ) → Option (List ℕ) → List ℕ → Result T IoFault → Type 0
+CutAt written old new bytes result = IfErr result (λ fault. fault ≡ Failed → new ≡ Some (bytes_of old ++ take written bytes))
+
+-- whether the call of this number is to fail
+abbrev pub is_planned : List ℕ → ℕ → Bool
+is_planned planned call = list_any (λ c. c == call) planned
+
+-- a call that is planned fails as the outside does
+abbrev pub FailsAsPlanned : {T : Type 0} → Bool → Result T IoFault → Type 0
+FailsAsPlanned planned result = planned ≡ true → result ≡ Err Failed
+
+-- a call that isn't planned fails for want of memory alone
+abbrev pub FailsForMemory : {T : Type 0} → Bool → Result T IoFault → Type 0
+FailsForMemory planned result = planned ≡ false → IfErr result (λ fault. fault ≡ OutOfMemory)
 
 -- the sessions of a door in memory
 abbrev pub door_sessions : MemDoor → List Session
@@ -86,6 +124,10 @@ door_numbers door = door.numbers
 abbrev pub door_planned : MemDoor → List ℕ
 door_planned door = door.planned.items
 
+-- how many calls of the door were made
+abbrev pub door_calls : MemDoor → ℕ
+door_calls door = door.calls
+
 -- what a consumer in memory took
 abbrev pub list_consumed : ListConsumer → Consumed
 list_consumed consumer = record { pairs = consumer.blocks.items; finishes = consumer.finishes }
@@ -93,6 +135,10 @@ list_consumed consumer = record { pairs = consumer.blocks.items; finishes = cons
 -- the calls of the consumer that are to fail
 abbrev pub list_planned : ListConsumer → List ℕ
 list_planned consumer = consumer.planned.items
+
+-- how many calls of the consumer were made
+abbrev pub list_calls : ListConsumer → ℕ
+list_calls consumer = consumer.calls
 
 -- how many of its calls failed
 abbrev pub list_faults : ListConsumer → ℕ

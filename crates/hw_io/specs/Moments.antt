@@ -1,5 +1,5 @@
 -- The moments that a clock gives.
-use Rattle.std.specs.Prelude.{◌≡◌, ℕ, zero, suc, ◌+◌, ◌-◌, ◌==◌, ◌^◌, if◌then◌else◌, List, [], ◌∷◌, ◌++◌, Option, Some, None}
+use Rattle.std.specs.Prelude.{◌≡◌, ℕ, zero, suc, ◌-◌, ◌==◌, ◌^◌, if◌then◌else◌, List, [], ◌∷◌, ◌++◌, Option, Some, None}
 
 -- one more moment was given, where the clock still tells them
 abbrev pub GivesMoment : Option (List ℕ) → Option (List ℕ) → ℕ → Type 0

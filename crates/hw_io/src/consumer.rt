@@ -1,8 +1,9 @@
 //! A consumer in memory, which tells what it took.
-ghost use Rattle.std.specs.Prelude.{◌≡◌, ◌++◌, ◌∷◌, ℕ, List, [], Some, OnOk, OnErr, vec_len};
+ghost use Rattle.std.specs.Prelude.{◌≡◌, ◌++◌, ◌∷◌, ℕ, List, [], Some, false, IsOk, OnOk, OnErr, vec_len};
 ghost use Rattle.std.specs.Option.{option_map};
 ghost use Rattle.hw_io.specs.Faults.{HasCause, raised};
 ghost use Rattle.hw_io.specs.Consumers.{Consumed, after_take, after_finish};
+ghost use Rattle.hw_io.specs.Memory.{is_planned, FailsAsPlanned, FailsForMemory};
 
 use crate::outside::{Consumer, IoFault};
 use std::alloc::{AllocError, Global};
@@ -50,12 +51,13 @@ pub struct ListConsumer {
 }
 
 impl ListConsumer {
-    ghost use Rattle.hw_io.specs.Memory.{list_consumed, list_planned, list_faults};
+    ghost use Rattle.hw_io.specs.Memory.{list_consumed, list_planned, list_calls, list_faults};
 
     /// Nothing was taken, and no call is to fail.
     pub fn new(alloc: Global) -> ListConsumer
         ensures consumed { list_consumed result ≡ record { pairs = []; finishes = 0 } }
         ensures planned { list_planned result ≡ [] }
+        ensures calls { list_calls result ≡ 0 }
         ensures faults { list_faults result ≡ 0 }
     {
         ListConsumer {
@@ -72,6 +74,7 @@ impl ListConsumer {
         ensures ok { OnOk result (list_planned self.new ≡ list_planned self.old ++ call ∷ []) }
         ensures err { OnErr result (list_planned self.new ≡ list_planned self.old) }
         ensures consumed { list_consumed self.new ≡ list_consumed self.old }
+        ensures calls { list_calls self.new ≡ list_calls self.old }
         ensures faults { list_faults self.new ≡ list_faults self.old }
     {
         self.planned.push(call)?;
@@ -101,6 +104,10 @@ impl ListConsumer {
 
     /// Counts a call. It is an error where the call is to fail, which is counted.
     fn next_call(&mut self) -> Result<(), IoFault>
+        ensures planned { FailsAsPlanned (is_planned self.old.planned.items self.old.calls) result }
+        ensures sure { is_planned self.old.planned.items self.old.calls ≡ false → IsOk result }
+        ensures calls { self.new.calls ≡ raised self.old.calls }
+        ensures plan { self.new.planned ≡ self.old.planned }
         ensures cause { HasCause self.old.faults self.new.faults result }
         ensures blocks { self.new.blocks ≡ self.old.blocks }
         ensures finishes { self.new.finishes ≡ self.old.finishes }
@@ -120,6 +127,8 @@ impl ListConsumer {
         ensures err { OnErr result (self.new.blocks.items ≡ self.old.blocks.items) }
         ensures finishes { self.new.finishes ≡ self.old.finishes }
         ensures faults { self.new.faults ≡ self.old.faults }
+        ensures calls { self.new.calls ≡ self.old.calls }
+        ensures plan { self.new.planned ≡ self.old.planned }
     {
         let value = Vec::from_slice(*self.blocks.allocator(), value)?;
         self.blocks.push(TakenBlock { height, value })?;
@@ -132,7 +141,15 @@ impl Consumer for ListConsumer {
 
     ghost faults = { λ consumer. consumer.faults };
 
-    fn take(&mut self, height: u64, value: &[u8]) -> Result<(), IoFault> {
+    fn take(&mut self, height: u64, value: &[u8]) -> Result<(), IoFault>
+        ensures planned { FailsAsPlanned (is_planned self.old.planned.items self.old.calls) result }
+        ensures sure { FailsForMemory (is_planned self.old.planned.items self.old.calls) result }
+        ensures calls { self.new.calls ≡ raised self.old.calls }
+        ensures plan { self.new.planned.items ≡ self.old.planned.items }
+
+        ensures consumed { Some (record { pairs = self.new.blocks.items; finishes = self.new.finishes }) ≡ option_map (after_take height value.now result) (Some (record { pairs = self.old.blocks.items; finishes = self.old.finishes })) }
+        ensures cause { HasCause self.old.faults self.new.faults result }
+    {
         match self.next_call() {
             Ok(()) => Ok(self.keep(height, value)?),
             Err(fault) => Err(fault),
@@ -140,7 +157,15 @@ impl Consumer for ListConsumer {
     }
 
     /// Where the number of finishes is at the end of a `u64` there is no memory for one more.
-    fn finish(&mut self) -> Result<(), IoFault> {
+    fn finish(&mut self) -> Result<(), IoFault>
+        ensures planned { FailsAsPlanned (is_planned self.old.planned.items self.old.calls) result }
+        ensures sure { FailsForMemory (is_planned self.old.planned.items self.old.calls) result }
+        ensures calls { self.new.calls ≡ raised self.old.calls }
+        ensures plan { self.new.planned.items ≡ self.old.planned.items }
+
+        ensures consumed { Some (record { pairs = self.new.blocks.items; finishes = self.new.finishes }) ≡ option_map (after_finish result) (Some (record { pairs = self.old.blocks.items; finishes = self.old.finishes })) }
+        ensures cause { HasCause self.old.faults self.new.faults result }
+    {
         self.next_call()?;
         match self.finishes.checked_add(1) {
             Some(finishes) => {

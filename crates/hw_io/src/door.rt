@@ -5,6 +5,7 @@ ghost use Rattle.std.specs.Option.{option_map};
 ghost use Rattle.hw_io.specs.Faults.{HasCause, raised};
 ghost use Rattle.hw_io.specs.Sinks.{TakesSome};
 ghost use Rattle.hw_io.specs.Doors.{Session, sessions_after, after_read, after_write, in_session, ends_after};
+ghost use Rattle.hw_io.specs.Memory.{is_planned, FailsAsPlanned, FailsForMemory};
 
 use crate::book::SessionBook;
 use crate::outside::{Door, IoFault};
@@ -84,13 +85,14 @@ pub struct MemDoor {
 }
 
 impl MemDoor {
-    ghost use Rattle.hw_io.specs.Memory.{door_sessions, door_is_open, door_numbers, door_planned};
+    ghost use Rattle.hw_io.specs.Memory.{door_sessions, door_is_open, door_numbers, door_planned, door_calls};
 
     /// No session, no peer was told of, and no call is to fail.
     pub fn new(alloc: Global) -> MemDoor
         ensures sessions { door_sessions result ≡ [] }
         ensures open { door_is_open result ≡ false }
         ensures planned { door_planned result ≡ [] }
+        ensures calls { door_calls result ≡ 0 }
         ensures numbers { door_numbers result ≡ record { accepts = 0; dials = 0; ends = 0; faults = 0 } }
     {
         MemDoor::in_pieces(alloc, usize::MAX)
@@ -101,6 +103,7 @@ impl MemDoor {
         ensures sessions { door_sessions result ≡ [] }
         ensures open { door_is_open result ≡ false }
         ensures planned { door_planned result ≡ [] }
+        ensures calls { door_calls result ≡ 0 }
         ensures numbers { door_numbers result ≡ record { accepts = 0; dials = 0; ends = 0; faults = 0 } }
     {
         MemDoor {
@@ -116,6 +119,7 @@ impl MemDoor {
         ensures sessions { door_sessions self.new ≡ door_sessions self.old }
         ensures open { door_is_open self.new ≡ door_is_open self.old }
         ensures planned { door_planned self.new ≡ door_planned self.old }
+        ensures calls { door_calls self.new ≡ door_calls self.old }
         ensures numbers { door_numbers self.new ≡ door_numbers self.old }
     {
         self.book.expect(said)
@@ -127,6 +131,7 @@ impl MemDoor {
         ensures err { OnErr result (door_planned self.new ≡ door_planned self.old) }
         ensures sessions { door_sessions self.new ≡ door_sessions self.old }
         ensures open { door_is_open self.new ≡ door_is_open self.old }
+        ensures calls { door_calls self.new ≡ door_calls self.old }
         ensures numbers { door_numbers self.new ≡ door_numbers self.old }
     {
         self.planned.push(call)?;
@@ -149,7 +154,8 @@ impl MemDoor {
 
     /// Counts a call, and answers whether it is to fail.
     fn next_call(&mut self) -> bool
-        ensures { self.new ≡ record self.old { calls = raised self.old.calls } }
+        ensures planned { result ≡ is_planned self.old.planned.items self.old.calls }
+        ensures rest { self.new ≡ record self.old { calls = raised self.old.calls } }
     {
         let call = self.calls;
         self.calls = call.saturating_add(1);
@@ -158,6 +164,10 @@ impl MemDoor {
 
     /// Accepts, or fails as planned.
     fn welcome(&mut self) -> Result<(), IoFault>
+        ensures planned { is_planned self.old.planned.items self.old.calls ≡ true → IsErr result }
+        ensures sure { FailsForMemory (is_planned self.old.planned.items self.old.calls) result }
+        ensures calls { self.new.calls ≡ raised self.old.calls }
+        ensures plan { self.new.planned.items ≡ self.old.planned.items }
         ensures sessions { self.new.book.sessions.items ≡ sessions_after None result self.old.book.sessions.items }
         ensures open { self.new.book.is_open ≡ is_ok result }
         ensures numbers { self.new.numbers ≡ self.old.numbers }
@@ -172,6 +182,10 @@ impl MemDoor {
 
     /// Dials, or fails as planned.
     fn call(&mut self, address: &str) -> Result<(), IoFault>
+        ensures planned { is_planned self.old.planned.items self.old.calls ≡ true → IsErr result }
+        ensures sure { FailsForMemory (is_planned self.old.planned.items self.old.calls) result }
+        ensures calls { self.new.calls ≡ raised self.old.calls }
+        ensures plan { self.new.planned.items ≡ self.old.planned.items }
         ensures sessions { self.new.book.sessions.items ≡ sessions_after (Some address.now) result self.old.book.sessions.items }
         ensures open { self.new.book.is_open ≡ is_ok result }
         ensures numbers { self.new.numbers ≡ self.old.numbers }
@@ -186,6 +200,10 @@ impl MemDoor {
 
     /// Reads, or fails as planned.
     fn hear(&mut self, buf: &mut [u8]) -> Result<usize, IoFault>
+        ensures planned { FailsAsPlanned (is_planned self.old.planned.items self.old.calls) result }
+        ensures sure { is_planned self.old.planned.items self.old.calls ≡ false → self.old.book.is_open ≡ true → IsOk result }
+        ensures calls { self.new.calls ≡ raised self.old.calls }
+        ensures plan { self.new.planned.items ≡ self.old.planned.items }
         ensures bound { ReadsAtMost result buf.new }
         ensures sessions { self.new.book.sessions.items ≡ in_session self.old.book.is_open (after_read result buf.new) self.old.book.sessions.items }
         ensures none { self.old.book.is_open ≡ false → IsErr result }
@@ -201,6 +219,10 @@ impl MemDoor {
 
     /// Writes, or fails as planned.
     fn tell(&mut self, bytes: &[u8]) -> Result<usize, IoFault>
+        ensures planned { FailsAsPlanned (is_planned self.old.planned.items self.old.calls) result }
+        ensures sure { self.old.book.is_open ≡ true → FailsForMemory (is_planned self.old.planned.items self.old.calls) result }
+        ensures calls { self.new.calls ≡ raised self.old.calls }
+        ensures plan { self.new.planned.items ≡ self.old.planned.items }
         ensures some { TakesSome result bytes.now }
         ensures sessions { self.new.book.sessions.items ≡ in_session self.old.book.is_open (after_write result bytes.now) self.old.book.sessions.items }
         ensures none { self.old.book.is_open ≡ false → IsErr result }
@@ -228,34 +250,96 @@ impl Door for MemDoor {
 
     ghost faults = { λ door. door.numbers.faults };
 
-    fn accept(&mut self) -> Result<(), IoFault> {
+    fn accept(&mut self) -> Result<(), IoFault>
+        ensures planned { is_planned self.old.planned.items self.old.calls ≡ true → IsErr result }
+        ensures sure { FailsForMemory (is_planned self.old.planned.items self.old.calls) result }
+        ensures calls { self.new.calls ≡ raised self.old.calls }
+        ensures plan { self.new.planned.items ≡ self.old.planned.items }
+
+        ensures sessions { Some self.new.book.sessions.items ≡ option_map (sessions_after None result) (Some self.old.book.sessions.items) }
+        ensures session { self.new.book.is_open ≡ is_ok result }
+        ensures accepts { self.new.numbers.accepts ≡ raised self.old.numbers.accepts }
+        ensures cause { HasCause self.old.numbers.faults self.new.numbers.faults result }
+        ensures dials { self.new.numbers.dials ≡ self.old.numbers.dials }
+        ensures ends { self.new.numbers.ends ≡ self.old.numbers.ends }
+    {
         let outcome = self.welcome();
         self.numbers.count_accept();
         self.numbers.count_failure(&outcome);
         outcome
     }
 
-    fn dial(&mut self, address: &str) -> Result<(), IoFault> {
+    fn dial(&mut self, address: &str) -> Result<(), IoFault>
+        ensures planned { is_planned self.old.planned.items self.old.calls ≡ true → IsErr result }
+        ensures sure { FailsForMemory (is_planned self.old.planned.items self.old.calls) result }
+        ensures calls { self.new.calls ≡ raised self.old.calls }
+        ensures plan { self.new.planned.items ≡ self.old.planned.items }
+
+        ensures sessions { Some self.new.book.sessions.items ≡ option_map (sessions_after (Some address.now) result) (Some self.old.book.sessions.items) }
+        ensures session { self.new.book.is_open ≡ is_ok result }
+        ensures dials { self.new.numbers.dials ≡ raised self.old.numbers.dials }
+        ensures cause { HasCause self.old.numbers.faults self.new.numbers.faults result }
+        ensures accepts { self.new.numbers.accepts ≡ self.old.numbers.accepts }
+        ensures ends { self.new.numbers.ends ≡ self.old.numbers.ends }
+    {
         let outcome = self.call(address);
         self.numbers.count_dial();
         self.numbers.count_failure(&outcome);
         outcome
     }
 
-    fn read(&mut self, buf: &mut [u8]) -> Result<usize, IoFault> {
+    fn read(&mut self, buf: &mut [u8]) -> Result<usize, IoFault>
+        ensures planned { FailsAsPlanned (is_planned self.old.planned.items self.old.calls) result }
+        ensures sure { is_planned self.old.planned.items self.old.calls ≡ false → self.old.book.is_open ≡ true → IsOk result }
+        ensures calls { self.new.calls ≡ raised self.old.calls }
+        ensures plan { self.new.planned.items ≡ self.old.planned.items }
+
+        ensures bound { ReadsAtMost result buf.new }
+        ensures sessions { Some self.new.book.sessions.items ≡ option_map (in_session self.old.book.is_open (after_read result buf.new)) (Some self.old.book.sessions.items) }
+        ensures none { self.old.book.is_open ≡ false → IsErr result }
+        ensures ends { self.new.numbers.ends ≡ ends_after self.old.numbers.ends result buf.new }
+        ensures cause { HasCause self.old.numbers.faults self.new.numbers.faults result }
+        ensures session { self.new.book.is_open ≡ self.old.book.is_open }
+        ensures accepts { self.new.numbers.accepts ≡ self.old.numbers.accepts }
+        ensures dials { self.new.numbers.dials ≡ self.old.numbers.dials }
+    {
         let outcome = self.hear(buf);
         self.numbers.count_end(&outcome, buf);
         self.numbers.count_failure(&outcome);
         outcome
     }
 
-    fn write(&mut self, bytes: &[u8]) -> Result<usize, IoFault> {
+    fn write(&mut self, bytes: &[u8]) -> Result<usize, IoFault>
+        ensures planned { FailsAsPlanned (is_planned self.old.planned.items self.old.calls) result }
+        ensures sure { self.old.book.is_open ≡ true → FailsForMemory (is_planned self.old.planned.items self.old.calls) result }
+        ensures calls { self.new.calls ≡ raised self.old.calls }
+        ensures plan { self.new.planned.items ≡ self.old.planned.items }
+
+        ensures some { TakesSome result bytes.now }
+        ensures sessions { Some self.new.book.sessions.items ≡ option_map (in_session self.old.book.is_open (after_write result bytes.now)) (Some self.old.book.sessions.items) }
+        ensures none { self.old.book.is_open ≡ false → IsErr result }
+        ensures cause { HasCause self.old.numbers.faults self.new.numbers.faults result }
+        ensures session { self.new.book.is_open ≡ self.old.book.is_open }
+        ensures accepts { self.new.numbers.accepts ≡ self.old.numbers.accepts }
+        ensures dials { self.new.numbers.dials ≡ self.old.numbers.dials }
+        ensures ends { self.new.numbers.ends ≡ self.old.numbers.ends }
+    {
         let outcome = self.tell(bytes);
         self.numbers.count_failure(&outcome);
         outcome
     }
 
-    fn hang_up(&mut self) {
+    fn hang_up(&mut self)
+        ensures calls { self.new.calls ≡ self.old.calls }
+        ensures plan { self.new.planned.items ≡ self.old.planned.items }
+
+        ensures session { self.new.book.is_open ≡ false }
+        ensures sessions { Some self.new.book.sessions.items ≡ Some self.old.book.sessions.items }
+        ensures faults { self.new.numbers.faults ≡ self.old.numbers.faults }
+        ensures accepts { self.new.numbers.accepts ≡ self.old.numbers.accepts }
+        ensures dials { self.new.numbers.dials ≡ self.old.numbers.dials }
+        ensures ends { self.new.numbers.ends ≡ self.old.numbers.ends }
+    {
         self.book.hang_up();
     }
 }

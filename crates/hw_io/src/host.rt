@@ -20,9 +20,11 @@ pub struct HostFiles<R: rt::Files> {
 }
 
 impl<R: rt::Files> HostFiles<R> {
-    /// No file is begun, and both counts are 0.
+    /// No file is begun, and each of the three counts is 0.
     pub fn new(runtime: R) -> HostFiles<R>
+        ensures begun { result.file ≡ None }
         ensures read_faults { result.read_faults ≡ 0 }
+        ensures faults_about { result.faults_about ≡ 0 }
         ensures append_faults { result.append_faults ≡ 0 }
     {
         HostFiles {

@@ -1,9 +1,12 @@
 //! The outside in memory, which tells its content and fails at the calls that it is told.
-ghost use Rattle.std.specs.Prelude.{◌≡◌, ◌≢◌, ◌≤◌, ℕ, List, [], ◌∷◌, ◌++◌, true, Some, None, OnOk, OnErr};
+ghost use Rattle.std.specs.Prelude.{◌≡◌, ◌≢◌, ◌↔◌, ◌^◌, ◌≤◌, ◌⊎◌, ℕ, List, [], ◌∷◌, ◌++◌, true, false, Some, None, IsOk, IsErr, IsSome, IsNone, IfSome, OnOk, OnErr, IfOk, IfErr};
 ghost use Rattle.std.specs.Option.{option_copied};
-ghost use Rattle.hw_io.specs.Faults.{raised};
-ghost use Rattle.hw_io.specs.Files.{SameFiles, Appended};
-ghost use Rattle.hw_io.specs.Memory.{mem_held, mem_begun, mem_unread, mem_allowance, mem_read_faults, mem_append_faults, mem_faults_about, mem_planned, mem_calls, mem_taken, mem_faults, sink_planned, planned_at, SameCounts};
+ghost use Rattle.std.specs.Io.KnownBytes.{WriteAppends, ReadConsumes};
+ghost use Rattle.std.specs.Io.{ReadsAtMost};
+ghost use Rattle.hw_io.specs.Faults.{HasCause, IsCountedAbout, OnlyAbout, IsWantCounted, raised};
+ghost use Rattle.hw_io.specs.Files.{SameFiles, IsAnswer, Begins, Appended, Spends};
+ghost use Rattle.hw_io.specs.Sinks.{TakesSome};
+ghost use Rattle.hw_io.specs.Memory.{mem_held, mem_begun, mem_unread, mem_allowance, mem_read_faults, mem_append_faults, mem_faults_about, mem_planned, mem_calls, mem_next, mem_taken, mem_faults, mem_wants, sink_planned, sink_calls, planned_at, is_planned, SameCounts, CountsCall, CutAt, FailsAsPlanned, FailsForMemory};
 
 use crate::outside::{Files, IoFault, Sink};
 use crate::shelf::Shelf;
@@ -36,6 +39,7 @@ impl MemFiles {
         ensures calls { mem_calls result ≡ 0 }
         ensures read_faults { mem_read_faults result ≡ 0 }
         ensures append_faults { mem_append_faults result ≡ 0 }
+        ensures faults_about { (name : List ℕ) → mem_faults_about result name ≡ 0 }
     {
         MemFiles::in_pieces(alloc, usize::MAX)
     }
@@ -48,6 +52,7 @@ impl MemFiles {
         ensures calls { mem_calls result ≡ 0 }
         ensures read_faults { mem_read_faults result ≡ 0 }
         ensures append_faults { mem_append_faults result ≡ 0 }
+        ensures faults_about { (name : List ℕ) → mem_faults_about result name ≡ 0 }
     {
         MemFiles {
             shelf: Shelf::new(alloc, piece),
@@ -155,7 +160,20 @@ impl Files for MemFiles {
 
     ghost faults_about = { mem_faults_about };
 
-    fn exists(&mut self, name: &str) -> Result<bool, IoFault> {
+    fn exists(&mut self, name: &str) -> Result<bool, IoFault>
+        ensures planned { IsErr result ↔ IsSome (mem_next self.old) }
+        ensures counted { CountsCall self.old self.new }
+
+        ensures answer { IfOk result (IsAnswer (mem_held self.old name.now)) }
+        ensures cause { HasCause (mem_read_faults self.old) (mem_read_faults self.new) result }
+        ensures about { IsCountedAbout (Some name.now) (mem_faults_about self.old) (mem_faults_about self.new) result }
+        ensures others { OnlyAbout (Some name.now) (mem_faults_about self.old) (mem_faults_about self.new) }
+        ensures files { SameFiles (mem_held self.old) (mem_held self.new) }
+        ensures begun { mem_begun self.new ≡ mem_begun self.old }
+        ensures unread { mem_unread self.new ≡ mem_unread self.old }
+        ensures allowance { mem_allowance self.new ≡ mem_allowance self.old }
+        ensures appends { mem_append_faults self.new ≡ mem_append_faults self.old }
+    {
         if self.next_call().is_some() {
             self.shelf.blame(name)?;
             self.count_read_fault();
@@ -164,7 +182,20 @@ impl Files for MemFiles {
         Ok(self.shelf.has(name))
     }
 
-    fn begin(&mut self, name: &str) -> Result<(), IoFault> {
+    fn begin(&mut self, name: &str) -> Result<(), IoFault>
+        ensures planned { IsSome (mem_next self.old) → IsErr result }
+        ensures sure { IsNone (mem_next self.old) → (IsOk result ↔ IsSome (mem_held self.old name.now)) }
+        ensures counted { CountsCall self.old self.new }
+
+        ensures whole { OnOk result (Begins (mem_held self.old name.now) name.now (mem_begun self.new) (mem_unread self.new)) }
+        ensures none { OnErr result (mem_begun self.new ≡ None) }
+        ensures allowance { OnOk result (mem_allowance self.new ≤ 2 ^ 62) }
+        ensures cause { HasCause (mem_read_faults self.old) (mem_read_faults self.new) result }
+        ensures about { IsCountedAbout (Some name.now) (mem_faults_about self.old) (mem_faults_about self.new) result }
+        ensures others { OnlyAbout (Some name.now) (mem_faults_about self.old) (mem_faults_about self.new) }
+        ensures files { SameFiles (mem_held self.old) (mem_held self.new) }
+        ensures appends { mem_append_faults self.new ≡ mem_append_faults self.old }
+    {
         if self.next_call().is_some() {
             self.shelf.close();
             self.shelf.blame(name)?;
@@ -179,7 +210,22 @@ impl Files for MemFiles {
         Ok(())
     }
 
-    fn read(&mut self, buf: &mut [u8]) -> Result<usize, IoFault> {
+    fn read(&mut self, buf: &mut [u8]) -> Result<usize, IoFault>
+        ensures planned { IsSome (mem_next self.old) → IsErr result }
+        ensures sure { IsNone (mem_next self.old) → OnErr result ((mem_begun self.old ≡ None) ⊎ (mem_allowance self.old ≡ 0)) }
+        ensures counted { CountsCall self.old self.new }
+
+        ensures bound { ReadsAtMost result buf.new }
+        ensures bytes { ReadConsumes (Some (mem_unread self.old)) (Some (mem_unread self.new)) result buf.new }
+        ensures none { IsNone (mem_begun self.old) → IsErr result }
+        ensures allowance { Spends (mem_allowance self.old) (mem_allowance self.new) result }
+        ensures cause { HasCause (mem_read_faults self.old) (mem_read_faults self.new) result }
+        ensures about { IsCountedAbout (mem_begun self.old) (mem_faults_about self.old) (mem_faults_about self.new) result }
+        ensures others { OnlyAbout (mem_begun self.old) (mem_faults_about self.old) (mem_faults_about self.new) }
+        ensures files { SameFiles (mem_held self.old) (mem_held self.new) }
+        ensures begun { mem_begun self.new ≡ mem_begun self.old }
+        ensures appends { mem_append_faults self.new ≡ mem_append_faults self.old }
+    {
         if self.next_call().is_some() {
             self.shelf.blame_begun()?;
             self.count_read_fault();
@@ -195,7 +241,20 @@ impl Files for MemFiles {
         }
     }
 
-    fn append(&mut self, name: &str, bytes: &[u8]) -> Result<(), IoFault> {
+    fn append(&mut self, name: &str, bytes: &[u8]) -> Result<(), IoFault>
+        ensures planned { IsSome (mem_next self.old) → IsErr result }
+        ensures cut { IfSome (mem_next self.old) (λ written. CutAt written (mem_held self.old name.now) (mem_held self.new name.now) bytes.now result) }
+        ensures sure { IsNone (mem_next self.old) → IfErr result (λ fault. fault ≡ IoFault.OutOfMemory) }
+        ensures counted { CountsCall self.old self.new }
+
+        ensures bytes { Appended (mem_held self.old) (mem_held self.new) name.now bytes.now result }
+        ensures cause { HasCause (mem_append_faults self.old) (mem_append_faults self.new) result }
+        ensures begun { mem_begun self.new ≡ mem_begun self.old }
+        ensures unread { mem_begun self.old ≢ Some name.now → mem_unread self.new ≡ mem_unread self.old }
+        ensures allowance { mem_allowance self.new ≡ mem_allowance self.old }
+        ensures reads { mem_read_faults self.new ≡ mem_read_faults self.old }
+        ensures about { mem_faults_about self.new ≡ mem_faults_about self.old }
+    {
         match self.next_call() {
             Some(written) => {
                 let written = written.min(bytes.len());
@@ -227,7 +286,9 @@ impl MemSink {
     pub fn new(alloc: Global) -> MemSink
         ensures taken { mem_taken result ≡ Some [] }
         ensures planned { sink_planned result ≡ [] }
+        ensures calls { sink_calls result ≡ 0 }
         ensures faults { mem_faults result ≡ 0 }
+        ensures wants { mem_wants result ≡ 0 }
     {
         MemSink::in_pieces(alloc, usize::MAX)
     }
@@ -236,7 +297,9 @@ impl MemSink {
     pub fn in_pieces(alloc: Global, piece: usize) -> MemSink
         ensures taken { mem_taken result ≡ Some [] }
         ensures planned { sink_planned result ≡ [] }
+        ensures calls { sink_calls result ≡ 0 }
         ensures faults { mem_faults result ≡ 0 }
+        ensures wants { mem_wants result ≡ 0 }
     {
         MemSink {
             bytes: Vec::new(alloc),
@@ -252,8 +315,10 @@ impl MemSink {
     pub fn fail_at(&mut self, call: u64) -> Result<(), AllocError>
         ensures ok { OnOk result (sink_planned self.new ≡ sink_planned self.old ++ call ∷ []) }
         ensures err { OnErr result (sink_planned self.new ≡ sink_planned self.old) }
+        ensures calls { sink_calls self.new ≡ sink_calls self.old }
         ensures taken { mem_taken self.new ≡ mem_taken self.old }
         ensures faults { mem_faults self.new ≡ mem_faults self.old }
+        ensures wants { mem_wants self.new ≡ mem_wants self.old }
     {
         self.planned.push(call)?;
         Ok(())
@@ -272,6 +337,16 @@ impl MemSink {
     {
         self.faults
     }
+
+    /// Counts a call, and answers whether it is to fail.
+    fn next_call(&mut self) -> bool
+        ensures planned { result ≡ is_planned (sink_planned self.old) (sink_calls self.old) }
+        ensures rest { self.new ≡ record self.old { calls = raised self.old.calls } }
+    {
+        let call = self.calls;
+        self.calls = call.saturating_add(1);
+        self.planned.contains(&call)
+    }
 }
 
 impl Sink for MemSink {
@@ -279,12 +354,20 @@ impl Sink for MemSink {
 
     ghost faults = { mem_faults };
 
-    ghost wants = { λ sink. sink.wants };
+    ghost wants = { mem_wants };
 
-    fn write(&mut self, bytes: &[u8]) -> Result<usize, IoFault> {
-        let call = self.calls;
-        self.calls = call.saturating_add(1);
-        if self.planned.contains(&call) {
+    fn write(&mut self, bytes: &[u8]) -> Result<usize, IoFault>
+        ensures planned { FailsAsPlanned (is_planned (sink_planned self.old) (sink_calls self.old)) result }
+        ensures sure { FailsForMemory (is_planned (sink_planned self.old) (sink_calls self.old)) result }
+        ensures calls { sink_calls self.new ≡ raised (sink_calls self.old) }
+        ensures plan { sink_planned self.new ≡ sink_planned self.old }
+
+        ensures bytes { WriteAppends (mem_taken self.old) (mem_taken self.new) result bytes.now }
+        ensures some { TakesSome result bytes.now }
+        ensures cause { HasCause (mem_faults self.old) (mem_faults self.new) result }
+        ensures want { IsWantCounted (mem_wants self.old) (mem_wants self.new) result }
+    {
+        if self.next_call() {
             self.faults = self.faults.saturating_add(1);
             return Err(IoFault::Failed);
         }

@@ -25,6 +25,7 @@ impl SureFiles {
         ensures files { (name : List ℕ) → sure_held result name ≡ None }
         ensures begun { sure_begun result ≡ None }
         ensures read_faults { sure_read_faults result ≡ 0 }
+        ensures faults_about { (name : List ℕ) → sure_faults_about result name ≡ 0 }
     {
         SureFiles {
             shelf: Shelf::new(alloc, usize::MAX),
@@ -38,6 +39,7 @@ impl SureFiles {
         ensures begun { sure_begun self.new ≡ sure_begun self.old }
         ensures unread { sure_begun self.old ≢ Some name.now → sure_unread self.new ≡ sure_unread self.old }
         ensures read_faults { sure_read_faults self.new ≡ sure_read_faults self.old }
+        ensures faults_about { sure_faults_about self.new ≡ sure_faults_about self.old }
     {
         self.shelf.append(name, bytes)
     }
