@@ -1,3 +1,4 @@
+//! Reading ahead of a file, so that its next bytes can be looked at before they are used.
 ghost use Rattle.std.specs.Prelude.{◌≡◌, ℕ, ◌+◌, ◌-◌, ◌<◌, ◌≤◌, List, [], ◌++◌, length, take, drop, slice_range, IsTrue, OnOk, OnErr, IfOk, vec_len, vec_items};
 ghost use Rattle.std.specs.Io.{StartsWith};
 ghost use Rattle.hw_io.specs.Faults.{HasCause, IsCountedAbout};

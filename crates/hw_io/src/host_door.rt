@@ -26,8 +26,10 @@ const PARTING_READS: usize = 64;
 /// dials addresses of that form, or with the name of a host.
 ///
 /// `accept` waits until a peer comes. A dial waits 10 seconds for each address of the peer, and a read
-/// or a write 60 seconds for the peer. Each error of the system is `Failed` and counted. `hang_up` waits until the
-/// peer has read what was written, or half a second for each of 64 pieces of what it still sends.
+/// or a write 60 seconds for the peer. Each error of the system is `Failed` and counted. `hang_up` ends
+/// what is written, and then reads on until the peer ends its side, an error comes, half a second
+/// passes without a byte, or 64 pieces were read. It doesn't learn whether the peer read what was
+/// written.
 #[derive(Drop)]
 pub struct HostDoor<R: Net> {
     runtime: R,

@@ -1,3 +1,4 @@
+//! A clock whose moments are set beforehand.
 ghost use Rattle.std.specs.Prelude.{◌≡◌, ℕ, ◌+◌, ◌^◌, ◌<◌, List, All};
 ghost use Rattle.hw_io.specs.Faults.{raised};
 ghost use Rattle.hw_io.specs.Moments.{SetMoments, GivesMoment, moment_at, moments_given};

@@ -1,3 +1,4 @@
+//! Writing to a sink until it has taken all.
 ghost use Rattle.std.specs.Prelude.{OnOk, OnErr};
 ghost use Rattle.std.specs.Io.KnownBytes.{Appends};
 ghost use Rattle.hw_io.specs.Faults.{HasCause, IsWantCounted};
