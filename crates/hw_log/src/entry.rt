@@ -2,7 +2,7 @@
 
 use hw_types::Vertex;
 
-/// One vertex that was accepted, with the verdict on its signatures.
+/// One vertex that came, with the verdict on its signatures.
 #[derive(Drop)]
 pub struct LogEntry {
     /// The place in the file of the entry's first byte.

@@ -16,7 +16,7 @@ pub const FULL: u8 = 1;
 /// The version in which a unit has the compact form where it is due.
 pub const COMPACT: u8 = 2;
 
-/// The one event: a vertex was accepted.
+/// The one event: a vertex came.
 pub const VERTEX_EVENT: u8 = 1;
 
 /// A configuration or a vertex has at most this many bytes.

@@ -38,6 +38,7 @@ pub fn append_header<F: Files>(
         → F.unread files.new ≡ F.unread files.old }
     ensures allowance { F.allowance files.new ≡ F.allowance files.old }
     ensures reads { F.read_faults files.new ≡ F.read_faults files.old }
+    ensures about { F.faults_about files.new ≡ F.faults_about files.old }
 {
     let header = spelled_header(alloc, version, config)?;
     append(files, name, header.as_slice())
@@ -56,6 +57,7 @@ pub fn entry_bytes(
     ensures { IfOk result (λ bytes. bytes ≡ entry_bytes lasts.now verdict vertex.now) }
 {
     let spelling = lasts.encode(alloc, vertex)?;
+    // For the prover alone: each number of the vertex is in the range of its type, so its spelling is short.
     vertex_is_in_range(vertex);
     let length = spelling.len() as u32;
     let mut entry = Bytes::new(alloc);
@@ -80,6 +82,7 @@ pub fn append_entry<F: Files>(files: &mut F, name: &str, entry: &Bytes) -> Resul
         → F.unread files.new ≡ F.unread files.old }
     ensures allowance { F.allowance files.new ≡ F.allowance files.old }
     ensures reads { F.read_faults files.new ≡ F.read_faults files.old }
+    ensures about { F.faults_about files.new ≡ F.faults_about files.old }
 {
     append(files, name, entry.as_slice())
 }
@@ -94,6 +97,7 @@ fn append<F: Files>(files: &mut F, name: &str, bytes: &[u8]) -> Result<(), LogEr
         → F.unread files.new ≡ F.unread files.old }
     ensures allowance { F.allowance files.new ≡ F.allowance files.old }
     ensures reads { F.read_faults files.new ≡ F.read_faults files.old }
+    ensures about { F.faults_about files.new ≡ F.faults_about files.old }
 {
     match files.append(name, bytes) {
         Ok(()) => Ok(()),
@@ -108,6 +112,7 @@ fn spelled_header(alloc: Global, version: u8, config: &Config) -> Result<Bytes, 
     ensures { IfOk result (λ bytes. bytes ≡ header_bytes version config.now) }
 {
     let spelling = encode_config(alloc, config)?;
+    // For the prover alone: the same of the configuration.
     config_is_in_range(config);
     let length = spelling.len() as u32;
     let mut header = Bytes::new(alloc);
