@@ -5,7 +5,7 @@ use crate::deliveries::{deliver, endorse};
 use crate::names::Node;
 use crate::places::{missing, place};
 use crate::shown::show;
-use crate::summits::{starts, summit};
+use crate::summits::{explain, starts, summit};
 use crate::units::{evidence, unit};
 use crate::wanted::{against, endorsers, unmet};
 use hw_admit::StateStart;
@@ -99,6 +99,7 @@ fn moved(answer: &mut Answer, node: &mut Node, kind: &str, words: &[&str]) {
         "chain" => chain(answer, node.instance, &mut node.core, words),
         "summit" => summit(answer, &mut node.core, words),
         "starts" => starts(answer, &mut node.core, words),
+        "explain" => explain(answer, &mut node.core, words),
         _ => told(answer, node, kind, words),
     }
 }

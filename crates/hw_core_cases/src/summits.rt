@@ -2,6 +2,8 @@
 
 use hw_case_words::{Answer, number, small};
 use hw_core::Core;
+use hw_explain::explain_line;
+use hw_types::Bytes;
 
 /// Whether the decided block of each of these places, counted from 0, has a summit now.
 pub fn summit(answer: &mut Answer, core: &mut Core, words: &[&str]) {
@@ -78,5 +80,25 @@ fn told_start(answer: &mut Answer, start: Option<u64>) {
     match start {
         Some(start) => answer.number(start),
         None => answer.put("-"),
+    }
+}
+
+/// The lines of the decided blocks of these places, which are there right after the vertex that decided them.
+pub fn explain(answer: &mut Answer, core: &mut Core, words: &[&str]) {
+    for word in words {
+        let put = write!(answer.text, "explain {word} ");
+        answer.keep(put);
+        match explain_line(answer.alloc(), core, number(word)) {
+            Ok(line) => put_line(answer, line),
+            Err(_) => answer.refuse(),
+        }
+    }
+}
+
+/// The line, which ends itself.
+fn put_line(answer: &mut Answer, line: Option<Bytes>) {
+    match line {
+        Some(line) => answer.characters(line.as_slice()),
+        None => answer.put("-\n"),
     }
 }
