@@ -211,3 +211,21 @@ fn the_count_of_blocks_is_a_line(rt: HostRuntime) {
     assert_eq!(rt; consume(&mut count), [Ok(0); 3]);
     assert_eq!(rt; count.into_out().taken(), b"2\n".as_slice());
 }
+
+#[test]
+fn a_peer_hears_all_that_was_written_before_the_end(rt: HostRuntime) -> Result<(), Fail> {
+    let mut host = HostDoor::new(&rt, "127.0.0.1:0");
+    let mut peer = HostDoor::without_address(&rt);
+    let port = host.port().unwrap_or(0);
+    let address = format!(in rt.alloc(); "127.0.0.1:{port}")?;
+    let mut heard = [0; 12];
+    assert_eq!(rt; peer.dial(address.as_str()), Ok(()));
+    assert_eq!(rt; host.accept(), Ok(()));
+    assert_eq!(rt; peer.write(b"not read"), Ok(8));
+    assert_eq!(rt; host.write(b"last words"), Ok(10));
+    host.hang_up();
+    assert_eq!(rt; peer.read(&mut heard), Ok(10));
+    assert_eq!(rt; heard, *b"last words\0\0");
+    assert_eq!(rt; peer.read(&mut heard), Ok(0));
+    Ok(())
+}
