@@ -40,8 +40,8 @@ returns-in_err-put_word-3-clause-err c =
       front = (first ++ codes " ") ++ words;
       rest = rest ++ line_feed;
       whole = append_assoc (first ++ codes " ") words (rest ++ line_feed) ∙ ap (λ (l : List ℕ). (first ++ codes " ") ++ l) (sym (append_assoc words rest line_feed))
-      ∙ append_assoc first (codes " ") ((words ++ rest) ++ line_feed) ∙ sym (append_assoc first (32 ∷ (words ++ rest)) line_feed);
+          ∙ append_assoc first (codes " ") ((words ++ rest) ++ line_feed) ∙ sym (append_assoc first (32 ∷ (words ++ rest)) line_feed);
       last = c.in_err-put_word-3.ensures.err ∙ c.in_ok-put_word-2.ensures.ok ∙ ap (λ (l : List ℕ). c.put_word.new.out ++ l) c.fault_words.ensures
-      ∙ ap (λ (l : List ℕ). l ++ words) (c.in_ok-put_word.ensures.ok ∙ before) ∙ append_assoc c.args.out.now (first ++ codes " ") words;
+          ∙ ap (λ (l : List ℕ). l ++ words) (c.in_ok-put_word.ensures.ok ∙ before) ∙ append_assoc c.args.out.now (first ++ codes " ") words;
     } in
     on_err _ added
