@@ -1,5 +1,5 @@
 -- What was noted stays so as a graph grows.
-use Rattle.std.proofs.Common.{◌≡◌, ℕ, ◌<◌, ◌≤◌, true, List, Option, Some, None, refl, sym, ap, subst, ◌∙◌, arith}
+use Rattle.std.proofs.Common.{◌≡◌, ℕ, ◌<◌, ◌≤◌, true, List, Option, Some, None, refl, sym, ap, subst, ◌∙◌, arith, get_or}
 use Rattle.hw_types.specs.declared.unit.Digest.{Digest}
 use Rattle.hw_types.specs.Graph.{Node}
 use Rattle.hw_types.specs.Rules.{has_naive_fork}
@@ -13,7 +13,7 @@ use Rattle.hw_dag.specs.Tables.{IsKnown}
 use Rattle.hw_dag.proofs.NodeLaws.{node_among}
 use Rattle.hw_dag.proofs.GrowthLaws as growth
 use Rattle.hw_dag.proofs.MarkLaws.{seen_earlier}
-use Rattle.hw_naivety.specs.Tips.{IsBelow, IsBelowEndorsed, IsNaive, IsUnder, IsNaiveTip, IsTip, IsOnLaneOf, LanesAre, tip_at}
+use Rattle.hw_naivety.specs.Tips.{IsBelow, IsBelowEndorsed, IsNaive, IsUnder, IsNaiveTip, IsTip, IsOnLaneOf, LanesAre, placed_tip, tip_at}
 use Rattle.hw_naivety.specs.Naivety.{NaiveTips, KeepsEndorsed, HasNoNaiveFork, IsNoted}
 use Rattle.hw_naivety.specs.Laws.{NotedStays}
 
@@ -159,7 +159,9 @@ module _ (dag later : UnitGraph) (g : IsGraph dag) (h : IsGraph later) (grows : 
     within = let more = count_grows in let less = noted.within in omega arith;
     endorsed = λ n lt. endorsed_stays n (earlier n lt) (noted.endorsed n lt);
     forkless = λ n lt. forkless_stays n (earlier n lt) (noted.forkless n lt);
-    tips_are = λ n v lt small. tip_of_stays n v (tip_at tips.tips n v) (earlier n lt) (noted.tips_are n v lt (subst (λ (k : ℕ). v < k) grows.validators_are small));
+    tips_are = λ n v lt small.
+        subst (λ (u : SettledUnit). IsTip later (unit_at later n).panorama (unit_at later n).signed.unit.endorsed v (placed_tip tips.tips.rows (view_at u.panorama v) v (get_or tips.tips.places n 0))) (sym (unit_stays n (earlier n lt)))
+        (tip_of_stays n v (tip_at dag tips.tips n v) (earlier n lt) (noted.tips_are n v lt (subst (λ (k : ℕ). v < k) grows.validators_are small)));
     lanes_are = lanes_stay tips.count tips.lanes noted.within noted.lanes_are;
   }
     where

@@ -2,7 +2,7 @@
 use Rattle.std.specs.Prelude.{◌==◌, if◌then◌else◌, slice_set}
 use Rattle.std.proofs.lemmas.List.{get_or-set_same, get_or-set_other}
 use Rattle.std.proofs.lemmas.Bool.{cases_lt}
-use Rattle.std.proofs.Common.{Result, Ok, Err, IfOk, ◌≢◌, eqb-true, eq-eqb, cond, ◌≡◌, ℕ, ◌+◌, ◌<◌, ◌⊎◌, inl, inr, Bool, true, false, List, length, Option, Some, None, refl, sym, ap, subst, ◌∙◌, arith}
+use Rattle.std.proofs.Common.{Result, Ok, Err, IfOk, eqb-true, eq-eqb, cond, ◌≡◌, ℕ, ◌+◌, ◌<◌, ◌⊎◌, inl, inr, Bool, true, false, List, length, Option, Some, None, refl, sym, ap, subst, ◌∙◌, arith}
 use Rattle.hw_types.specs.declared.unit.Digest.{Digest}
 use Rattle.hw_types.specs.declared.unit.Obs.{Obs}
 use Rattle.hw_types.specs.Graph.{past}
@@ -15,7 +15,7 @@ use Rattle.hw_dag.specs.Dag.{UnitGraph, unit_at, count_of, node_at, graph, creat
 use Rattle.hw_dag.specs.Admission.{IsGraph}
 use Rattle.hw_dag.specs.Lanes.{is_lane_below, is_seen}
 use Rattle.hw_dag.proofs.LaneLaws.{seen_cases, past_seen, seen_itself, lane_is_seen, seen_on_lane, seen_entry}
-use Rattle.hw_naivety.specs.Tips.{IsBelow, IsBelowEndorsed, IsNaive, IsUnder, IsNaiveTip, IsTip, HasLists, IsSightOf, IsRaised, IsRaisedOver, IsOnLaneOf, LanesAre, HasTips, tip_at}
+use Rattle.hw_naivety.specs.Tips.{IsBelow, IsBelowEndorsed, IsNaive, IsUnder, IsNaiveTip, IsTip, HasLists, IsSightOf, IsRaised, IsRaisedOver, IsOnLaneOf, LanesAre, HasTips, KeptTips, IsPlain, slot_tip, tip_at}
 use Rattle.hw_naivety.specs.Heirs.{IsBequeathed}
 use Rattle.hw_naivety.specs.declared.fork.NaiveFork.{NaiveFork}
 use Rattle.hw_naivety.proofs.BelowLaws.{seen_trans, lane_trans, lane_order, lane_itself, under_below, below_under}
@@ -120,18 +120,18 @@ module _ (dag : UnitGraph) (g : IsGraph dag) where
 
     -- ---- what a slot's candidate is
 
-    module _ (validators : ℕ) (same : validators ≡ dag.validators) (tips : List (List (Option UnitNo))) (has : HasTips dag panorama tips) (lists : HasLists dag panorama endorsed)
+    module _ (validators : ℕ) (same : validators ≡ dag.validators) (tips : KeptTips) (has : HasTips dag panorama tips) (lists : HasLists dag panorama endorsed)
         (slot : ℕ) (cited : UnitNo) (v : ℕ) (e : view_at panorama slot ≡ view.Correct cited) (small : v < validators) where
       abbrev pub candidate_of : Option UnitNo
-      candidate_of = if slot == v then Some cited else tip_at tips cited.0 v
+      candidate_of = if slot == v then Some cited else tip_at dag tips cited.0 v
 
-      right : IsTip dag (unit_at dag cited.0).panorama (unit_at dag cited.0).signed.unit.endorsed v (tip_at tips cited.0 v)
+      right : IsTip dag (unit_at dag cited.0).panorama (unit_at dag cited.0).signed.unit.endorsed v (tip_at dag tips cited.0 v)
       right = has.right slot cited v e (subst (λ (k : ℕ). v < k) same small)
 
       pub candidate_known : (t : UnitNo) → candidate_of ≡ Some t → (t.0 < count_of dag) × (creator_of (unit_at dag t.0) ≡ v) × IsBelow dag panorama t.0
       candidate_known t is = go (slot == v) refl is
         where
-          go : (b : Bool) → (slot == v) ≡ b → cond b (Some cited) (tip_at tips cited.0 v) ≡ Some t → (t.0 < count_of dag) × (creator_of (unit_at dag t.0) ≡ v) × IsBelow dag panorama t.0
+          go : (b : Bool) → (slot == v) ≡ b → cond b (Some cited) (tip_at dag tips cited.0 v) ≡ Some t → (t.0 < count_of dag) × (creator_of (unit_at dag t.0) ≡ v) × IsBelow dag panorama t.0
           go true at i =
               let it : cited ≡ t = cc in
               subst (λ (k : UnitNo). (k.0 < count_of dag) × (creator_of (unit_at dag k.0) ≡ v) × IsBelow dag panorama k.0) it (
@@ -144,9 +144,9 @@ module _ (dag : UnitGraph) (g : IsGraph dag) where
       pub candidate_all : (n : ℕ) → IsNaive dag panorama endorsed v n → is_seen dag n cited.0 ≡ true → IsUnder dag n candidate_of
       candidate_all n h s = go (slot == v) refl
         where
-          go : (b : Bool) → (slot == v) ≡ b → IsUnder dag n (cond b (Some cited) (tip_at tips cited.0 v))
+          go : (b : Bool) → (slot == v) ≡ b → IsUnder dag n (cond b (Some cited) (tip_at dag tips cited.0 v))
           go true at = own_candidate slot cited n e (subst (λ (k : ℕ). IsNaive dag panorama endorsed k n) (sym (eqb-true slot v at)) h) s
-          go false at = tip_candidate lists slot cited v n (tip_at tips cited.0 v) e (λ is. never_both (slot == v) (eq-eqb slot v is) at) right h s
+          go false at = tip_candidate lists slot cited v n (tip_at dag tips cited.0 v) e (λ is. never_both (slot == v) (eq-eqb slot v is) at) right h s
 
       -- raised over the candidate, it is raised over the slot
       pub raised_over : (tip candidate raised : Option UnitNo) → candidate_of ≡ candidate → IsRaised dag panorama endorsed v tip candidate raised → IsRaisedOver dag panorama endorsed v slot tip raised
@@ -244,15 +244,21 @@ module _ (dag : UnitGraph) (g : IsGraph dag) where
         }));
       }
 
-      pub cited_earlier : (slot : ℕ) (cited : UnitNo) → view_at panorama slot ≡ view.Correct cited → cited.0 < no
-      cited_earlier slot cited e = (g.settled no sight.known).earlier slot cited (subst (λ (ws : List View). view_at ws slot ≡ view.Correct cited) sight.panorama_is e)
+      -- a unit that marks nobody and endorses nothing: its slots are its tips
+      pub plain_tip : IsPlain panorama endorsed → (v : ℕ) → IsTip dag panorama endorsed v (slot_tip (view_at panorama v))
+      plain_tip plain v = go (view_at panorama v) refl
+        where
+          go : (slot : View) → view_at panorama v ≡ slot → IsTip dag panorama endorsed v (slot_tip slot)
+          go view.Absent e = absent_tip v e
+          go (view.Correct last) e = last_tip v last e (λ b. subst (λ (ds : List Digest). Among b.name ds) plain.unlisted b.among)
+          go view.Faulty e = absurd (plain.unmarked v e)
 
-      pub tips_stay : (old new : List (List (Option UnitNo))) → HasTips dag panorama old → length new ≡ length old → ((n v : ℕ) → n ≢ no → tip_at new n v ≡ tip_at old n v) → HasTips dag panorama new
-      tips_stay old new has same stay = record {
-        kept = λ slot cited e. subst (λ (k : ℕ). cited.0 < k) (sym same) (has.kept slot cited e);
-        right = λ slot cited v e small.
-            subst (λ (o : Option UnitNo). IsTip dag (unit_at dag cited.0).panorama (unit_at dag cited.0).signed.unit.endorsed v o) (sym (stay cited.0 v (λ is. let less = cited_earlier slot cited e in absurd (omega arith)))) (has.right slot cited v e small);
-      }
+    pub tips_stay : (old new : KeptTips) → HasTips dag panorama old → new.places ≡ old.places → ((n v : ℕ) → v < dag.validators → tip_at dag new n v ≡ tip_at dag old n v) → HasTips dag panorama new
+    tips_stay old new has same stay = record {
+      kept = λ slot cited e. subst (λ (ps : List ℕ). cited.0 < length ps) (sym same) (has.kept slot cited e);
+      right = λ slot cited v e small.
+          subst (λ (o : Option UnitNo). IsTip dag (unit_at dag cited.0).panorama (unit_at dag cited.0).signed.unit.endorsed v o) (sym (stay cited.0 v small)) (has.right slot cited v e small);
+    }
 
   -- ---- lanes
 

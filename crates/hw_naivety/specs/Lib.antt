@@ -1,4 +1,5 @@
 pub mod Naivety
+pub mod Rows
 pub mod Tips
 pub mod Heirs
 pub mod Forks

@@ -1,14 +1,13 @@
 -- Naive units, over a graph in numbers.
-use Rattle.std.specs.Prelude.{◌≡◌, ℕ, ◌<◌, ◌≤◌, true, false, List, Option}
+use Rattle.std.specs.Prelude.{◌≡◌, ℕ, ◌<◌, ◌≤◌, true, false, List}
 use Rattle.std.specs.List.{list_all}
 use Rattle.hw_types.specs.declared.unit.Digest.{Digest}
 use Rattle.hw_types.specs.Graph.{Node, cites, past, are_comparable}
 use Rattle.hw_types.specs.Below.{Among}
 use Rattle.hw_types.specs.Rules.{has_digest, has_naive_fork, is_naive}
-use Rattle.hw_dag.specs.declared.numbers.UnitNo.{UnitNo}
 use Rattle.hw_dag.specs.declared.numbers.View.{View}
 use Rattle.hw_dag.specs.Dag.{UnitGraph, count_of, node_at, graph, observations}
-use Rattle.hw_naivety.specs.Tips.{TipsAre, LanesAre}
+use Rattle.hw_naivety.specs.Tips.{KeptTips, TipsAre, LanesAre}
 use Rattle.hw_naivety.specs.declared.fork.NaiveFork.{NaiveFork}
 
 -- the list of endorsed units has each one of the lists of the units that it cites
@@ -44,7 +43,7 @@ pub record NaiveTips : Type 0 where
   pub validators : ℕ
   pub spare : ℕ
   pub count : ℕ
-  pub tips : List (List (Option UnitNo))
+  pub tips : KeptTips
   pub lanes : List View
 
 -- the first units of the graph were noted, each of which keeps the rules of endorsed lists and of naive forks

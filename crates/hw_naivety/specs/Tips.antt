@@ -1,5 +1,5 @@
 -- Naive units by number, and the tip that stands for all of one creator.
-use Rattle.std.specs.Prelude.{◌≡◌, ℕ, zero, suc, ◌<◌, ◌≤◌, true, List, [], length, Option, Some, None, slice_index_or}
+use Rattle.std.specs.Prelude.{◌≡◌, ℕ, zero, suc, ◌+◌, ◌-◌, ◌*◌, ◌<◌, ◌≤◌, true, List, [], length, Option, Some, None, slice_index_or}
 use Rattle.hw_types.specs.declared.unit.Digest.{Digest}
 use Rattle.hw_types.specs.Below.{Among}
 use Rattle.hw_dag.specs.declared.numbers.UnitNo.{UnitNo}
@@ -8,6 +8,7 @@ use Rattle.hw_dag.specs.declared.numbers.View.TheVariants as view
 use Rattle.hw_dag.specs.Dag.{UnitGraph, unit_at, count_of, creator_of, view_at, IsPanorama}
 use Rattle.hw_dag.specs.Admission.{IsGraph}
 use Rattle.hw_dag.specs.Lanes.{is_lane_below, is_seen}
+use Rattle.hw_naivety.specs.Rows.{TipRows, IsLonger, row_tip}
 pub use Rattle.hw_dag.specs.Lanes.{IsBelow}
 pub use Rattle.hw_dag.specs.Walks.{HasRoom}
 
@@ -50,14 +51,31 @@ pub record IsTip (dag : UnitGraph) (panorama : List View) (endorsed : List Diges
   pub naive : IsNaiveTip dag panorama endorsed creator tip
   pub all : (n : ℕ) → IsNaive dag panorama endorsed creator n → IsUnder dag n tip
 
+-- what is kept of units: of each the place of its row, which is 0 where its tips are its slots, else one more than the row's number; so many rows are taken
+pub record KeptTips : Type 0 where
+  pub places : List ℕ
+  pub taken : ℕ
+  pub rows : TipRows
+
+-- a slot as a tip
+abbrev pub slot_tip : View → Option UnitNo
+slot_tip view.Absent = None
+slot_tip (view.Correct last) = Some last
+slot_tip view.Faulty = None
+
+-- the tip of a creator: from the row of this place, or from the slot where there is no row
+abbrev pub placed_tip : TipRows → View → ℕ → ℕ → Option UnitNo
+placed_tip rows slot creator zero = slot_tip slot
+placed_tip rows slot creator (suc row) = row_tip rows row creator
+
 -- the tip that is kept of a unit and a creator
-abbrev pub tip_at : List (List (Option UnitNo)) → ℕ → ℕ → Option UnitNo
-tip_at tips n creator = slice_index_or (slice_index_or tips n []) creator None
+abbrev pub tip_at : UnitGraph → KeptTips → ℕ → ℕ → Option UnitNo
+tip_at dag tips n creator = placed_tip tips.rows (view_at (unit_at dag n).panorama creator) creator (slice_index_or tips.places n 0)
 
 -- what is kept of the first units is right
-abbrev pub TipsAre : UnitGraph → ℕ → List (List (Option UnitNo)) → Type 0
+abbrev pub TipsAre : UnitGraph → ℕ → KeptTips → Type 0
 TipsAre dag count tips = (n creator : ℕ) → n < count → creator < dag.validators
-    → IsTip dag (unit_at dag n).panorama (unit_at dag n).signed.unit.endorsed creator (tip_at tips n creator)
+    → IsTip dag (unit_at dag n).panorama (unit_at dag n).signed.unit.endorsed creator (tip_at dag tips n creator)
 
 -- a unit on the lane that its creator is known by; Faulty is for a creator whose units aren't known to be on one lane
 abbrev pub IsOnLaneOf : UnitGraph → ℕ → View → Type 0
@@ -100,10 +118,10 @@ pub record IsRaisedOver (dag : UnitGraph) (panorama : List View) (endorsed : Lis
   pub more : (cited : UnitNo) (n : ℕ) → view_at panorama slot ≡ view.Correct cited → IsNaive dag panorama endorsed creator n → is_seen dag n cited.0 ≡ true → IsUnder dag n raised
 
 -- the tips that are kept of the observed units are right
-pub record HasTips (dag : UnitGraph) (panorama : List View) (tips : List (List (Option UnitNo))) : Type 0 where
-  pub kept : (slot : ℕ) (cited : UnitNo) → view_at panorama slot ≡ view.Correct cited → cited.0 < length tips
+pub record HasTips (dag : UnitGraph) (panorama : List View) (tips : KeptTips) : Type 0 where
+  pub kept : (slot : ℕ) (cited : UnitNo) → view_at panorama slot ≡ view.Correct cited → cited.0 < length tips.places
   pub right : (slot : ℕ) (cited : UnitNo) (creator : ℕ) → view_at panorama slot ≡ view.Correct cited → creator < dag.validators
-      → IsTip dag (unit_at dag cited.0).panorama (unit_at dag cited.0).signed.unit.endorsed creator (tip_at tips cited.0 creator)
+      → IsTip dag (unit_at dag cited.0).panorama (unit_at dag cited.0).signed.unit.endorsed creator (tip_at dag tips cited.0 creator)
 
 -- the panorama and the endorsed list are those of this unit
 pub record IsSightOf (dag : UnitGraph) (n : ℕ) (panorama : List View) (endorsed : List Digest) : Type 0 where
@@ -111,18 +129,37 @@ pub record IsSightOf (dag : UnitGraph) (n : ℕ) (panorama : List View) (endorse
   pub panorama_is : panorama ≡ (unit_at dag n).panorama
   pub endorsed_is : endorsed ≡ (unit_at dag n).signed.unit.endorsed
 
--- a slot's number as it is kept: 0 is for none
-abbrev pub tip_of : ℕ → Option UnitNo
-tip_of zero = None
-tip_of (suc n) = Some (record { 0 = n })
+-- ---- what is kept
 
--- each unit has a slot for each validator
-abbrev pub AreRows : ℕ → List (List (Option UnitNo)) → Type 0
-AreRows validators tips = (n : ℕ) → n < length tips → length (slice_index_or tips n []) ≡ validators
+-- rows have a slot for each validator, those that are taken are there, and each unit's row is one of them
+pub record AreRows (validators : ℕ) (tips : KeptTips) : Type 0 where
+  pub validators_are : tips.rows.validators ≡ validators
+  pub placed : (n : ℕ) → slice_index_or tips.places n 0 ≤ tips.taken
+  pub there : tips.taken * tips.rows.validators ≤ length tips.rows.slots
 
--- the rows so far stay, and there are no more than are wanted
-pub record IsGrown (validators wanted : ℕ) (old new : List (List (Option UnitNo))) : Type 0 where
-  pub rows : AreRows validators new
-  pub longer : length old ≤ length new
-  pub kept : (n : ℕ) → n < length old → slice_index_or new n [] ≡ slice_index_or old n []
-  pub bounded : (room : ℕ) → length old ≤ room → wanted ≤ room → length new ≤ room
+-- so many units were noted, and there is a row for each one more that has a place
+pub record IsRoomy (tips : KeptTips) (count : ℕ) : Type 0 where
+  pub taken_within : tips.taken ≤ count
+  pub count_within : count ≤ length tips.places
+  pub rows_left : (tips.taken + (length tips.places - count)) * tips.rows.validators ≤ length tips.rows.slots
+
+-- the places and rows so far stay, and there are no more places than are wanted
+pub record IsGrown (wanted : ℕ) (old new : KeptTips) : Type 0 where
+  pub taken_is : new.taken ≡ old.taken
+  pub rows_longer : IsLonger old.rows new.rows
+  pub longer : length old.places ≤ length new.places
+  pub kept : (n : ℕ) → n < length old.places → slice_index_or new.places n 0 ≡ slice_index_or old.places n 0
+  pub bounded : (room : ℕ) → length old.places ≤ room → wanted ≤ room → length new.places ≤ room
+
+-- the tips that are in rows stay, and there are as many rows
+pub record AreKept (old new : KeptTips) : Type 0 where
+  pub places_are : new.places ≡ old.places
+  pub taken_is : new.taken ≡ old.taken
+  pub validators_are : new.rows.validators ≡ old.rows.validators
+  pub length_is : length new.rows.slots ≡ length old.rows.slots
+  pub kept : (row creator : ℕ) → row < old.taken → creator < old.rows.validators → row_tip new.rows row creator ≡ row_tip old.rows row creator
+
+-- the unit marks nobody and endorses nothing: of each creator all that it has below it is naive and on one lane
+pub record IsPlain (panorama : List View) (endorsed : List Digest) : Type 0 where
+  pub unmarked : (v : ℕ) → view_at panorama v ≡ view.Faulty → ⊥
+  pub unlisted : endorsed ≡ []

@@ -2,13 +2,17 @@
 //! a unit of the later one's endorsed list. Any two naive units of one creator have to be comparable.
 //!
 //! [`Naivety`] follows a graph: after a `note` for each admission in order, `check` is that rule. For each
-//! noted unit and each creator it keeps one tip, the naive unit on whose lane all naive units of that
+//! noted unit and each creator it knows one tip, the naive unit on whose lane all naive units of that
 //! creator are. The tips of the units that a later unit cites are all that has to be looked at.
+//!
+//! Where a unit marks nobody and endorses nothing, as mostly, its tips are what it observes. So only the
+//! other units have a row of tips; all rows stand in one list.
 #![tactic(auto)]
 
 mod fork;
 mod heir;
 mod laws;
+mod rows;
 mod sight;
 mod tips;
 mod tracker;

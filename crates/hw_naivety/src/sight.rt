@@ -2,7 +2,7 @@
 
 ghost use Rattle.std.specs.Prelude.{◌≡◌, ◌<◌, ◌≤◌, ◌↔◌, Some, IsTrue, IfOk, IfErr};
 ghost use Rattle.hw_dag.specs.Dag.{unit_at, count_of, creator_of};
-ghost use Rattle.hw_naivety.specs.Tips.{IsBelow, IsBelowNamed, IsBelowEndorsed, IsNaiveTip, IsSight, IsEndOfList, HasRoom, IsRaised};
+ghost use Rattle.hw_naivety.specs.Tips.{IsBelow, IsBelowNamed, IsBelowEndorsed, IsNaiveTip, IsSight, IsEndOfList, IsPlain, HasRoom, IsRaised};
 ghost use Rattle.hw_naivety.specs.Forks.{IsNaiveFork};
 
 use crate::fork::NaiveFork;
@@ -19,6 +19,20 @@ pub struct Sight<'a> {
 }
 
 impl Sight<'_> {
+    /// Whether the unit marks nobody and endorses nothing, as mostly. Then the tip of each creator is what the
+    /// unit observes of it.
+    pub fn is_plain(&self) -> bool
+        requires { IsSight self.now.dag.now self.now.panorama.now self.now.validators }
+        ensures { IsTrue result → IsPlain self.now.panorama.now self.now.endorsed.now }
+    {
+        for creator in 0..self.validators {
+            if let View::Faulty = self.panorama.get(creator) {
+                return false;
+            }
+        }
+        self.endorsed.is_empty()
+    }
+
     /// Whether the unit has another one strictly below it.
     pub fn has_below(&self, no: UnitNo, marks: &mut Marks) -> bool
         requires sight { IsSight self.now.dag.now self.now.panorama.now self.now.validators }

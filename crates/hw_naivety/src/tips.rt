@@ -1,135 +1,144 @@
 //! The tips of noted units.
 
-ghost use Rattle.std.specs.Prelude.{◌≡◌, ℕ, ◌+◌, ◌<◌, ◌≤◌, ◌≢◌, ◌^◌, [], ◌==◌, if◌then◌else◌, None, Some, length, slice_index_or, slice_set, IfOk, IfErr, IfSome, OnOk};
-ghost use Rattle.hw_naivety.specs.Tips.{IsNaiveTip, IsTip, IsSight, IsSightOf, HasRoom, HasLists, HasTips, IsRaisedOver, AreRows, IsGrown, tip_at};
+ghost use Rattle.std.specs.Prelude.{◌≡◌, ℕ, ◌+◌, ◌<◌, ◌≤◌, ◌≢◌, ◌^◌, ◌*◌, [], ◌==◌, if◌then◌else◌, None, Some, length, slice_index_or, slice_set, IfOk, IfErr, IfSome, OnOk};
+ghost use Rattle.hw_dag.specs.Dag.{view_at, count_of};
+ghost use Rattle.hw_dag.specs.declared.numbers.View.TheVariants as view;
+ghost use Rattle.hw_naivety.specs.Rows.{row_tip, with_tip};
+ghost use Rattle.hw_naivety.specs.Tips.{IsNaiveTip, IsTip, IsSight, IsSightOf, HasRoom, HasLists, HasTips, IsRaisedOver, AreRows, IsRoomy, IsGrown, AreKept, slot_tip, tip_at};
 ghost use Rattle.hw_naivety.specs.Heirs.{IsListed};
 ghost use Rattle.hw_naivety.specs.Forks.{IsNaiveFork, IsForkless};
-ghost use Rattle.hw_dag.specs.Dag.{view_at};
-ghost use Rattle.hw_dag.specs.declared.numbers.View.TheVariants as view;
 
 use crate::fork::NaiveFork;
 use crate::heir::Listed;
+use crate::rows::Rows;
 use crate::sight::Sight;
 use hw_dag::{Marks, UnitNo, View};
 use hw_types::OutOfMemory;
 use std::alloc::Global;
 use std::marker::Model;
 
-/// The tips of one unit, four bytes for each creator: 0 where there is none, else one more than the number.
-#[derive(Drop)]
-pub struct Row {
-    slots: Vec<u32>,
-}
-
-impl Model for Row {
-    ghost use Rattle.std.specs.Prelude.{List, Option, map};
-    ghost use Rattle.hw_dag.specs.declared.numbers.UnitNo.{UnitNo};
-    ghost use Rattle.hw_naivety.specs.Tips.{tip_of};
-
-    ghost Value = { List (Option UnitNo) };
-
-    ghost view = { λ row. map tip_of row.slots.items };
-}
-
-impl Row {
-    fn new(alloc: Global, validators: u32) -> Result<Row, OutOfMemory>
-        ensures { IfOk result (λ row. length row ≡ validators) }
-    {
-        let mut slots = Vec::with_capacity(alloc, validators as usize)?;
-        slots.resize(validators as usize, 0)?;
-        Ok(Row { slots })
-    }
-
-    fn get(&self, creator: u32) -> Option<UnitNo>
-        requires { creator < length self.now }
-        ensures { result ≡ slice_index_or self.now creator None }
-    {
-        match self.slots[creator as usize] {
-            0 => None,
-            next => Some(UnitNo(next - 1)),
-        }
-    }
-
-    fn set(&mut self, creator: u32, tip: Option<UnitNo>)
-        requires known { creator < length self.old }
-        requires fits { IfSome tip (λ no. no.0 + 1 < 2 ^ 32) }
-        ensures { self.new ≡ slice_set self.old creator tip }
-    {
-        let next = match tip {
-            Some(no) => no.0 + 1,
-            None => 0,
-        };
-        self.slots[creator as usize] = next;
-    }
-}
-
-/// The tips of noted units, and rows for more of them.
+/// The tips of noted units, and places and rows for more of them. Only a unit that marks somebody or endorses
+/// something has a row: of any other one each tip is what it observes of that creator.
 #[derive(Drop)]
 pub struct Tips {
-    rows: Vec<Row>,
+    /// Of each unit 0 where it has no row, else one more than the row's number.
+    places: Vec<u32>,
+    /// How many rows are taken.
+    taken: u32,
+    rows: Rows,
 }
 
 impl Model for Tips {
-    ghost use Rattle.std.specs.Prelude.{List, Option};
-    ghost use Rattle.hw_dag.specs.declared.numbers.UnitNo.{UnitNo};
+    ghost use Rattle.hw_naivety.specs.Tips.{KeptTips};
 
-    ghost Value = { List (List (Option UnitNo)) };
+    ghost Value = { KeptTips };
 
-    ghost view = { λ tips. tips.rows.items };
+    ghost view = { λ tips. record { places = tips.places.items; taken = tips.taken; rows = tips.rows } };
+}
+
+/// A slot as a tip.
+fn tip_of_slot(slot: View) -> Option<UnitNo>
+    ensures { result ≡ slot_tip slot }
+{
+    match slot {
+        View::Correct(last) => Some(last),
+        View::Absent | View::Faulty => None,
+    }
 }
 
 impl Tips {
-    /// No rows.
-    pub fn new(alloc: Global) -> Tips
-        ensures { result ≡ [] }
+    /// No places and no rows.
+    pub fn new(alloc: Global, validators: u32) -> Tips
+        ensures places { result.places ≡ [] }
+        ensures taken { result.taken ≡ 0 }
+        ensures validators { result.rows.validators ≡ validators }
     {
         Tips {
-            rows: Vec::new(alloc),
+            places: Vec::new(alloc),
+            taken: 0,
+            rows: Rows::new(alloc, validators),
         }
     }
 
-    /// Makes rows for so many units, where there are fewer.
-    pub fn grow(&mut self, validators: u32, wanted: usize) -> Result<(), OutOfMemory>
-        requires { AreRows validators self.old }
-        ensures wanted { OnOk result (wanted ≤ length self.new) }
-        ensures grown { IsGrown validators wanted self.old self.new }
+    /// Makes places and rows for so many units more than were noted, where there are fewer.
+    pub fn grow(&mut self, noted: u32, more: u32) -> Result<(), OutOfMemory>
+        requires roomy { IsRoomy self.old noted }
+        requires fits { noted + more < 2 ^ 32 }
+        ensures wanted { OnOk result (noted + more ≤ length self.new.places) }
+        ensures grown { IsGrown (noted + more) self.old self.new }
+        ensures rows { (validators : ℕ) → AreRows validators self.old → AreRows validators self.new }
+        ensures roomy { IsRoomy self.new noted }
     {
-        let alloc = *self.rows.allocator();
-        for _ in self.rows.len()..wanted {
-            self.rows.push(Row::new(alloc, validators)?)?;
-        }
+        self.rows.grow(self.taken + more)?;
+        let wanted = (noted + more) as usize;
+        let length = wanted.max(self.places.len());
+        self.places.resize(length, 0)?;
         Ok(())
     }
 
-    /// The tip that is kept.
-    fn at(&self, no: UnitNo, creator: u32) -> Option<UnitNo>
-        requires known { no.0 < length self.now }
-        requires creator { creator < length (slice_index_or self.now no.0 []) }
-        ensures { result ≡ tip_at self.now no.0 creator }
+    /// The tip that is kept of a unit: from its row, or its slot where it has none.
+    fn at(&self, sight: &Sight<'_>, no: UnitNo, creator: u32) -> Option<UnitNo>
+        requires sight { IsSight sight.now.dag.now sight.now.panorama.now sight.now.validators }
+        requires creator { creator < sight.now.validators }
+        requires rows { AreRows sight.now.validators self.now }
+        requires known { no.0 < count_of sight.now.dag.now }
+        requires noted { no.0 < length self.now.places }
+        ensures { result ≡ tip_at sight.now.dag.now self.now no.0 creator }
     {
-        self.rows[no.0 as usize].get(creator)
+        match self.places[no.0 as usize] {
+            0 => tip_of_slot(sight.dag.unit(no).panorama().get(creator)),
+            next => self.rows.get(next - 1, creator),
+        }
     }
 
-    /// Changes one tip.
-    fn put(&mut self, no: UnitNo, creator: u32, tip: Option<UnitNo>)
-        requires known { no.0 < length self.old }
-        requires creator { creator < length (slice_index_or self.old no.0 []) }
+    /// Puts a tip into the first row that isn't taken.
+    fn put(&mut self, creator: u32, tip: Option<UnitNo>)
+        requires creator { creator < self.old.rows.validators }
+        requires spare { (self.old.taken + 1) * self.old.rows.validators ≤ length self.old.rows.slots }
         requires fits { IfSome tip (λ no. no.0 + 1 < 2 ^ 32) }
-        ensures { self.new ≡ slice_set self.old no.0 (slice_set (slice_index_or self.old no.0 []) creator tip) }
+        ensures places { self.new.places ≡ self.old.places }
+        ensures taken { self.new.taken ≡ self.old.taken }
+        ensures rows { self.new.rows ≡ with_tip self.old.rows self.old.taken creator tip }
     {
-        self.rows[no.0 as usize].set(creator, tip);
+        self.rows.set(self.taken, creator, tip);
+    }
+
+    /// Notes that the unit has no row.
+    fn pass(&mut self, no: UnitNo)
+        requires known { no.0 < length self.old.places }
+        ensures places { self.new.places ≡ slice_set self.old.places no.0 0 }
+        ensures taken { self.new.taken ≡ self.old.taken }
+        ensures rows { self.new.rows ≡ self.old.rows }
+    {
+        self.places[no.0 as usize] = 0;
+    }
+
+    /// Notes that the first row that isn't taken is the unit's.
+    fn take(&mut self, no: UnitNo)
+        requires known { no.0 < length self.old.places }
+        requires spare { (self.old.taken + 1) * self.old.rows.validators ≤ length self.old.rows.slots }
+        requires fits { self.old.taken + 1 < 2 ^ 32 }
+        ensures places { self.new.places ≡ slice_set self.old.places no.0 (self.old.taken + 1) }
+        ensures taken { self.new.taken ≡ self.old.taken + 1 }
+        ensures rows { self.new.rows ≡ self.old.rows }
+    {
+        self.taken += 1;
+        self.places[no.0 as usize] = self.taken;
     }
 
     /// The unit on whose lane all naive units are that the observed unit is or has below it.
-    fn candidate(&self, creator: u32, slot: u32, cited: UnitNo) -> Option<UnitNo>
-        requires known { cited.0 < length self.now }
-        requires creator { creator < length (slice_index_or self.now cited.0 []) }
-        ensures { result ≡ (if slot == creator then Some cited else tip_at self.now cited.0 creator) }
+    fn candidate(&self, sight: &Sight<'_>, creator: u32, slot: u32, cited: UnitNo) -> Option<UnitNo>
+        requires sight { IsSight sight.now.dag.now sight.now.panorama.now sight.now.validators }
+        requires creator { creator < sight.now.validators }
+        requires rows { AreRows sight.now.validators self.now }
+        requires known { cited.0 < count_of sight.now.dag.now }
+        requires noted { cited.0 < length self.now.places }
+        ensures { result ≡ (if slot == creator then Some cited else tip_at sight.now.dag.now self.now cited.0 creator) }
     {
         if slot == creator {
             Some(cited)
         } else {
-            self.at(cited, creator)
+            self.at(sight, cited, creator)
         }
     }
 
@@ -157,7 +166,7 @@ impl Tips {
         let View::Correct(cited) = sight.panorama.get(slot) else {
             return Ok(tip);
         };
-        match self.candidate(creator, slot, cited) {
+        match self.candidate(sight, creator, slot, cited) {
             Some(candidate) => sight.raise(creator, tip, candidate, marks),
             None => Ok(tip),
         }
@@ -212,7 +221,9 @@ impl Tips {
         ensures room { marks.new ≡ marks.old }
     {
         match listed.heir {
-            Some(before) if sight.is_seen_by(last, creator, before) => self.at(before, creator),
+            Some(before) if sight.is_seen_by(last, creator, before) => self.at(
+                sight, before, creator,
+            ),
             _ if sight.is_covered(last, listed.end, marks) => None,
             _ => Some(last),
         }
@@ -249,27 +260,51 @@ impl Tips {
         }
     }
 
-    /// Puts in the tips of a settled unit that has no fork.
-    pub fn fill(&mut self, sight: &Sight<'_>, no: UnitNo, marks: &mut Marks)
+    /// Puts the tips of a settled unit that has no fork into the first row that isn't taken.
+    fn fill_row(&mut self, sight: &Sight<'_>, no: UnitNo, marks: &mut Marks)
         requires sight { IsSight sight.now.dag.now sight.now.panorama.now sight.now.validators }
         requires unit { IsSightOf sight.now.dag.now no.0 sight.now.panorama.now sight.now.endorsed.now }
         requires room { HasRoom sight.now.panorama.now marks.old }
-        requires known { no.0 < length self.old }
         requires rows { AreRows sight.now.validators self.old }
+        requires spare { (self.old.taken + 1) * self.old.rows.validators ≤ length self.old.rows.slots }
         requires tips { HasTips sight.now.dag.now sight.now.panorama.now self.old }
         requires lists { HasLists sight.now.dag.now sight.now.panorama.now sight.now.endorsed.now }
         requires forkless { IsForkless sight.now.dag.now sight.now.panorama.now sight.now.endorsed.now }
-        ensures filled { (creator : ℕ) → creator < sight.now.validators → IsTip sight.now.dag.now sight.now.panorama.now sight.now.endorsed.now creator (tip_at self.new no.0 creator) }
-        ensures kept { (n creator : ℕ) → n ≢ no.0 → tip_at self.new n creator ≡ tip_at self.old n creator }
-        ensures rows { AreRows sight.now.validators self.new }
-        ensures length { length self.new ≡ length self.old }
+        ensures filled { (creator : ℕ) → creator < sight.now.validators → IsTip sight.now.dag.now sight.now.panorama.now sight.now.endorsed.now creator (row_tip self.new.rows self.new.taken creator) }
+        ensures kept { AreKept self.old self.new }
         ensures room { marks.new ≡ marks.old }
     {
         let own = sight.dag.unit(no).signed().unit.creator;
         let listed = sight.listed(own, marks);
         for creator in 0..sight.validators {
             let tip = self.tip_of(sight, no, creator, &listed, marks);
-            self.put(no, creator, tip);
+            self.put(creator, tip);
+        }
+    }
+
+    /// Keeps the tips of a settled unit that has no fork.
+    pub fn fill(&mut self, sight: &Sight<'_>, no: UnitNo, marks: &mut Marks)
+        requires sight { IsSight sight.now.dag.now sight.now.panorama.now sight.now.validators }
+        requires unit { IsSightOf sight.now.dag.now no.0 sight.now.panorama.now sight.now.endorsed.now }
+        requires room { HasRoom sight.now.panorama.now marks.old }
+        requires known { no.0 < length self.old.places }
+        requires rows { AreRows sight.now.validators self.old }
+        requires roomy { IsRoomy self.old no.0 }
+        requires tips { HasTips sight.now.dag.now sight.now.panorama.now self.old }
+        requires lists { HasLists sight.now.dag.now sight.now.panorama.now sight.now.endorsed.now }
+        requires forkless { IsForkless sight.now.dag.now sight.now.panorama.now sight.now.endorsed.now }
+        ensures filled { (creator : ℕ) → creator < sight.now.validators → IsTip sight.now.dag.now sight.now.panorama.now sight.now.endorsed.now creator (tip_at sight.now.dag.now self.new no.0 creator) }
+        ensures kept { (n creator : ℕ) → n ≢ no.0 → creator < sight.now.validators → tip_at sight.now.dag.now self.new n creator ≡ tip_at sight.now.dag.now self.old n creator }
+        ensures rows { AreRows sight.now.validators self.new }
+        ensures roomy { IsRoomy self.new (no.0 + 1) }
+        ensures length { length self.new.places ≡ length self.old.places }
+        ensures room { marks.new ≡ marks.old }
+    {
+        if sight.is_plain() {
+            self.pass(no);
+        } else {
+            self.fill_row(sight, no, marks);
+            self.take(no);
         }
     }
 }

@@ -15,8 +15,9 @@ use hw_types::{Digest, OutOfMemory};
 use std::alloc::Global;
 use std::marker::Model;
 
-/// What is kept of each settled unit to find naive forks: its tips. Of each validator it keeps the lane that
-/// all its noted units are on, or Faulty where they aren't on one.
+/// What is kept of settled units to find naive forks: the tips of each that marks somebody or endorses
+/// something; those of another one are read off its panorama. Of each validator it keeps the lane that all
+/// its noted units are on, or Faulty where they aren't on one.
 #[derive(Drop)]
 pub struct Naivety {
     validators: u32,
@@ -29,19 +30,19 @@ pub struct Naivety {
 impl Model for Naivety {
     ghost use Rattle.std.specs.Prelude.{◌≡◌, ◌-◌, ◌≤◌, length};
     ghost use Rattle.hw_naivety.specs.Naivety.{NaiveTips};
-    ghost use Rattle.hw_naivety.specs.Tips.{AreRows};
+    ghost use Rattle.hw_naivety.specs.Tips.{AreRows, IsRoomy};
 
     ghost Value = { NaiveTips };
 
     ghost view = { λ n. record {
       validators = n.validators;
-      spare = length n.tips - n.count;
+      spare = length n.tips.places - n.count;
       count = n.count;
       tips = n.tips;
       lanes = n.lanes;
     } };
 
-    ghost invariant = { λ n. AreRows n.validators n.tips × (n.count ≤ length n.tips) × (length n.tips ≤ n.marks) × (length n.lanes ≡ n.validators) };
+    ghost invariant = { λ n. AreRows n.validators n.tips × IsRoomy n.tips n.count × (length n.tips.places ≤ n.marks) × (length n.lanes ≡ n.validators) };
 }
 
 impl Naivety {
@@ -54,13 +55,14 @@ impl Naivety {
         Ok(Naivety {
             validators,
             count: 0,
-            tips: Tips::new(alloc),
+            tips: Tips::new(alloc, validators),
             lanes: Panorama::new(alloc, validators)?,
             marks: Marks::new(alloc),
         })
     }
 
-    /// Makes room for at least `count` more units. What was noted stays, and the room never shrinks.
+    /// Makes room for at least `count` more units, even if each of them has a row of tips. What was noted stays,
+    /// and the room never shrinks. Units without a row use up none of the rows.
     pub fn reserve(&mut self, count: u32) -> Result<(), OutOfMemory>
         ensures room { OnOk result (count ≤ self.new.spare) }
         ensures kept { self.old.spare ≤ self.new.spare }
@@ -71,7 +73,7 @@ impl Naivety {
         // Units have numbers below 2^32, so no graph has more of them.
         let wanted = self.count.checked_add(count).ok_or(OutOfMemory)?;
         self.marks.reserve(wanted)?;
-        self.tips.grow(self.validators, wanted as usize)
+        self.tips.grow(self.count, count)
     }
 
     /// None where any two naive units of one creator are comparable, else two of the least creator that

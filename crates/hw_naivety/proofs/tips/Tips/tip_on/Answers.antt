@@ -13,12 +13,12 @@ is_seen_by-requires-clause-known c =
 pub at-requires-clause-known : goal.at-requires-clause-known
 at-requires-clause-known c =
     let b = c.requires.listed.heir c.in-Some.before c.in-Some.is in
-    c.requires.tips.kept b.slot c.in-Some.before b.observed
+    c.requires.sight.panorama_is.known b.slot c.in-Some.before b.observed
 
-pub at-requires-clause-creator : goal.at-requires-clause-creator
-at-requires-clause-creator c =
+pub at-requires-clause-noted : goal.at-requires-clause-noted
+at-requires-clause-noted c =
     let b = c.requires.listed.heir c.in-Some.before c.in-Some.is in
-    subst (λ (k : ℕ). c.args.creator < k) (sym (c.requires.rows c.in-Some.before.0 (c.requires.tips.kept b.slot c.in-Some.before b.observed))) c.requires.creator
+    c.requires.tips.kept b.slot c.in-Some.before b.observed
 
 pub returns-in-Some-clause-tip : goal.returns-in-Some-clause-tip
 returns-in-Some-clause-tip c =

@@ -15,7 +15,7 @@ pub tip_over-requires-clause-tips : goal.tip_over-requires-clause-tips
 tip_over-requires-clause-tips c =
     let noted = subst (λ (t : NaiveTips). IsNoted t c.args.dag.now) (sym c.self.view_is) c.requires.noted in
     let all = ap (λ (t : NaiveTips). t.count) c.self.view_is ∙ c.requires.all in
-    has_tips c.args.dag.now c.args.panorama.now c.self.inside.count c.self.inside.tips noted.tips_are c.self.invariant.1
+    has_tips c.args.dag.now c.args.panorama.now c.self.inside.count c.self.inside.tips noted.tips_are c.self.invariant.1.count_within
     (λ slot cited e. subst (λ (k : ℕ). cited.0 < k) (sym all) (c.requires.panorama.known slot cited e))
 
 pub returns-in-Err-clause-none : goal.returns-in-Err-clause-none

@@ -17,7 +17,7 @@ fill-requires-clause-tips c =
     let noted = subst (λ (t : NaiveTips). IsNoted t c.args.dag.now) (sym c.self.view_is) c.requires.noted in
     let count = ap (λ (t : NaiveTips). t.count) c.self.view_is ∙ c.requires.next in
     subst (λ (ws : List View). HasTips c.args.dag.now ws c.self.inside.tips) (sym panorama)
-    (has_tips c.args.dag.now (unit_at c.args.dag.now c.args.no.0).panorama c.self.inside.count c.self.inside.tips noted.tips_are c.self.invariant.1
+    (has_tips c.args.dag.now (unit_at c.args.dag.now c.args.no.0).panorama c.self.inside.count c.self.inside.tips noted.tips_are c.self.invariant.1.count_within
     (λ slot cited e. subst (λ (k : ℕ). cited.0 < k) (sym count) (u.earlier slot cited e)))
 
 pub fill-requires-clause-lists : goal.fill-requires-clause-lists
@@ -43,9 +43,9 @@ returns-clause-noted c =
     let validators = ap (λ (t : NaiveTips). t.validators) c.self.view_is in
     let count = ap (λ (t : NaiveTips). t.count) c.self.view_is ∙ c.requires.next in
     noted_next c.args.dag.now c.args.self.now _ c.args.no.0 c.requires.noted c.requires.next c.requires.known c.requires.endorsed c.requires.forkless validators (ap (λ (k : ℕ). k + 1) count)
-    (λ v small. moved (λ ws ds. IsTip c.args.dag.now ws ds v (tip_at c.fill.new.self c.args.no.0 v)) c.panorama.result.now (unit_at c.args.dag.now c.args.no.0).panorama c.as_slice.result.now (unit_at c.args.dag.now c.args.no.0).signed.unit.endorsed
+    (λ v small. moved (λ ws ds. IsTip c.args.dag.now ws ds v (tip_at c.args.dag.now c.fill.new.self c.args.no.0 v)) c.panorama.result.now (unit_at c.args.dag.now c.args.no.0).panorama c.as_slice.result.now (unit_at c.args.dag.now c.args.no.0).signed.unit.endorsed
     (c.panorama.ensures ∙ ap (λ (s : SettledUnit). s.panorama) c.unit-unit.ensures)
     (c.as_slice.ensures ∙ ap (λ (s : SignedUnit). s.unit.endorsed) c.signed.ensures ∙ ap (λ (s : SettledUnit). s.signed.unit.endorsed) c.unit-unit.ensures)
     (c.fill.ensures.filled v (subst (λ (k : ℕ). v < k) (sym (validators ∙ c.requires.noted.validators_are)) small)))
-    (λ n v other. c.fill.ensures.kept n v other ∙ ap (λ (t : NaiveTips). tip_at t.tips n v) c.self.view_is)
+    (λ n v other small. c.fill.ensures.kept n v other (subst (λ (k : ℕ). v < k) (sym (validators ∙ c.requires.noted.validators_are)) small) ∙ ap (λ (t : NaiveTips). tip_at c.args.dag.now t.tips n v) c.self.view_is)
     c.follow.ensures.lanes
