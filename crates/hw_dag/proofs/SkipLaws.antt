@@ -392,3 +392,10 @@ module _ (table : List (List UnitNo)) (t : IsSkipTable table) (backs : List (Opt
                 subst (λ (k : ℕ). IsSkips (backs ++ back ∷ []) k (pointers_at (table ++ last ∷ []) n)) same
                 (subst (λ (ps : List UnitNo). IsSkips (backs ++ back ∷ []) (length backs) ps) (sym (get_or_push table last [] n (omega arith))) last_skips)
           ]
+
+-- a number below 2 ^ 32 has no more pointers than 32
+pub few_pointers : (d : ℕ) → d < 2 ^ 32 → pointer_count_of d ≤ 32
+few_pointers d small = elim (cases_lt 32 (pointer_count_of d)) [
+  | inl many ↦ absurd (let far = (pointers_lead d 32 (omega arith) many).0 in omega arith)
+  | inr few ↦ few
+]
