@@ -1,21 +1,17 @@
 -- The tables with one unit more.
-use Rattle.std.proofs.Common.{◌≡◌, ℕ, ◌-◌, ◌^◌, ◌<◌, ◌≤◌, inl, inr, Bool, true, false, List, [], ◌∷◌, ◌++◌, length, Option, Some, None, refl, sym, ap, subst, ◌∙◌, arith, length-append}
-use Rattle.std.specs.Prelude.{unwrap_or, if◌then◌else◌}
+use Rattle.std.proofs.Common.{◌≡◌, ℕ, ◌-◌, ◌^◌, ◌<◌, ◌≤◌, inl, inr, false, List, [], ◌∷◌, ◌++◌, length, Option, Some, None, refl, sym, ap, subst, ◌∙◌, arith, length-append}
+use Rattle.std.specs.Prelude.{unwrap_or}
 use Rattle.std.specs.List.{list_any}
 use Rattle.std.proofs.lemmas.List.{get_or_push, map-append}
-use Rattle.std.proofs.lemmas.Bool.{cases_lt}
 use Rattle.hw_types.specs.declared.unit.Digest.{Digest}
 use Rattle.hw_types.specs.Graph.{digest_eq}
 use Rattle.hw_types.specs.Below.{Among}
 use Rattle.hw_types.proofs.SettledLaws.{digest_same}
 use Rattle.hw_types.proofs.EntryLaws.{map_among}
 use Rattle.hw_types.proofs.WordsLaws.{either, none_any}
-use Rattle.hw_skip.specs.Skip.{pointer_count_of}
-use Rattle.hw_skip.proofs.JumpLaws.{pointers_lead}
 use Rattle.hw_dag.specs.declared.numbers.UnitNo.{UnitNo}
 use Rattle.hw_dag.specs.Dag.{SettledUnit, UnitGraph, stand_in, unit_at, count_of, seq_of}
-use Rattle.hw_dag.specs.Admission.{IsNew, IsGraph, with_unit, height_above}
-use Rattle.hw_dag.proofs.KeptLaws.{height_bound}
+use Rattle.hw_dag.specs.Admission.{IsNew, IsGraph, with_unit}
 use Rattle.hw_dag.specs.Skips.{IsDepth, LeadsDown}
 use Rattle.hw_dag.specs.Tables.{IsKept, predecessor_of, names_of, lanes_of, chains_of}
 use Rattle.hw_dag.proofs.PlaceLaws.{among_place}

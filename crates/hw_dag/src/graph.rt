@@ -70,7 +70,7 @@ impl Dag {
         })
     }
 
-    /// Takes all the room that the unit will need in the graph. The digest is its name.
+    /// Takes room for what the unit observes in numbers. The digest is its name.
     pub fn prepare(&self, unit: SignedUnit, digest: Digest) -> Result<Prepared, NoRoom>
         requires { IsFor self.now.validators unit }
         ensures signed { IfOk result (λ prepared. prepared.signed ≡ unit) }
@@ -80,7 +80,8 @@ impl Dag {
         Prepared::new(*self.units.allocator(), self.validators, unit, digest)
     }
 
-    /// Makes room for at least `count` more units. What is in the graph stays, and the room never shrinks.
+    /// Makes room for at least `count` more units, with their names and pointers. What is in the graph stays, and the room
+    /// never shrinks.
     pub fn reserve(&mut self, count: u32) -> Result<(), OutOfMemory>
         requires { count_of self.old + count < 2 ^ 32 }
         ensures room { OnOk result (count ≤ self.new.spare) }

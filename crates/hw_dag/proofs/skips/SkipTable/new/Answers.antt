@@ -1,7 +1,6 @@
-use Rattle.std.proofs.Common.{rules, ◌≡◌, ◌-◌, ℕ, List, [], sym, ap, subst, ◌∙◌, arith}
+use Rattle.std.proofs.Common.{◌-◌, ap}
 use Rattle.std.specs.Prelude.{vec_len, vec_capacity}
-use Rattle.hw_dag.specs.declared.numbers.UnitNo.{UnitNo}
-use Rattle.hw_dag.specs.Skips.{IsArena, backs_of, lists_of}
+use Rattle.hw_dag.specs.Skips.{backs_of}
 use Rattle.hw_dag.proofs.ArenaLaws.{no_lists, empty_arena}
 use Rattle.hw_dag.proofs.skips.SkipTable.new.Goals as goal
 
