@@ -1,33 +1,22 @@
 -- The tables with one unit more.
-use Rattle.std.proofs.Common.{◌≡◌, ℕ, ◌-◌, ◌^◌, ◌<◌, ◌≤◌, inl, inr, Bool, true, false, List, [], ◌∷◌, ◌++◌, length, Option, Some, None, refl, sym, ap, subst, ◌∙◌, arith, length-append}
-use Rattle.std.specs.Prelude.{unwrap_or, if◌then◌else◌}
+use Rattle.std.proofs.Common.{◌≡◌, ℕ, ◌-◌, ◌^◌, ◌<◌, ◌≤◌, inl, inr, false, List, [], ◌∷◌, ◌++◌, length, Option, Some, None, refl, sym, ap, subst, ◌∙◌, arith, length-append}
+use Rattle.std.specs.Prelude.{unwrap_or}
 use Rattle.std.specs.List.{list_any}
 use Rattle.std.proofs.lemmas.List.{get_or_push, map-append}
-use Rattle.std.proofs.lemmas.Bool.{cases_lt}
 use Rattle.hw_types.specs.declared.unit.Digest.{Digest}
 use Rattle.hw_types.specs.Graph.{digest_eq}
 use Rattle.hw_types.specs.Below.{Among}
 use Rattle.hw_types.proofs.SettledLaws.{digest_same}
 use Rattle.hw_types.proofs.EntryLaws.{map_among}
 use Rattle.hw_types.proofs.WordsLaws.{either, none_any}
-use Rattle.hw_skip.specs.Skip.{pointer_count_of}
-use Rattle.hw_skip.proofs.JumpLaws.{pointers_lead}
 use Rattle.hw_dag.specs.declared.numbers.UnitNo.{UnitNo}
 use Rattle.hw_dag.specs.Dag.{SettledUnit, UnitGraph, stand_in, unit_at, count_of, seq_of}
-use Rattle.hw_dag.specs.Admission.{IsNew, IsGraph, with_unit, height_above}
-use Rattle.hw_dag.proofs.KeptLaws.{height_bound}
+use Rattle.hw_dag.specs.Admission.{IsNew, IsGraph, with_unit}
 use Rattle.hw_dag.specs.Skips.{IsDepth, LeadsDown}
 use Rattle.hw_dag.specs.Tables.{IsKept, predecessor_of, names_of, lanes_of, chains_of}
 use Rattle.hw_dag.proofs.PlaceLaws.{among_place}
 use Rattle.hw_dag.proofs.DepthLaws.{height_at, lane_depth, chain_depth, lanes_down, chains_down, length-lanes, length-chains, lane_at_is, chain_at_is}
-use Rattle.hw_dag.proofs.SkipLaws.{last_first, last_next, none_count}
-
--- a number below 2 ^ 32 has no more pointers than 32
-pub few_pointers : (d : ℕ) → d < 2 ^ 32 → pointer_count_of d ≤ 32
-few_pointers d small = elim (cases_lt 32 (pointer_count_of d)) [
-  | inl many ↦ absurd (let far = (pointers_lead d 32 (omega arith) many).0 in omega arith)
-  | inr few ↦ few
-]
+use Rattle.hw_dag.proofs.SkipLaws.{last_first, last_next, depth_bound, down_more}
 
 module _ (dag : UnitGraph) (u : SettledUnit) (names : List Digest) (lanes chains : List (Option UnitNo)) (k : IsKept dag names lanes chains) (more : IsGraph (with_unit dag u)) where
   abbrev later : UnitGraph
@@ -81,6 +70,14 @@ module _ (dag : UnitGraph) (u : SettledUnit) (names : List Digest) (lanes chains
   pub lane_next : (p : UnitNo) → predecessor_of u ≡ Some p → (1 ≤ seq_of u) × IsDepth lanes p.0 (seq_of u - 1)
   lane_next p e = last_next lanes kept_lanes_down (predecessor_of u) (seq_of u) p e (lane_known p e) lane_deep
 
+  pub lane_small : seq_of u < 2 ^ 32
+  lane_small =
+      let known = length-append lanes (predecessor_of u ∷ []) in
+      let low = depth_bound (lanes ++ predecessor_of u ∷ []) (down_more lanes kept_lanes_down (predecessor_of u) lane_known) (length lanes) (seq_of u) (omega arith) lane_deep in
+      let many = many_lanes in
+      let bounded = k.graph_is.bounded in
+      omega arith
+
   pub chain_known : (p : UnitNo) → u.parent ≡ Some p → p.0 < length chains
   chain_known p e =
       let below = chains_down later more (count_of dag) p (let len = length-chains later more in let lt = last_known in omega arith)
@@ -92,6 +89,14 @@ module _ (dag : UnitGraph) (u : SettledUnit) (names : List Digest) (lanes chains
 
   pub chain_next : (p : UnitNo) → u.parent ≡ Some p → (1 ≤ unwrap_or u.height 0) × IsDepth chains p.0 (unwrap_or u.height 0 - 1)
   chain_next p e = last_next chains kept_chains_down u.parent (unwrap_or u.height 0) p e (chain_known p e) chain_deep
+
+  pub chain_small : unwrap_or u.height 0 < 2 ^ 32
+  chain_small =
+      let known = length-append chains (u.parent ∷ []) in
+      let low = depth_bound (chains ++ u.parent ∷ []) (down_more chains kept_chains_down u.parent chain_known) (length chains) (unwrap_or u.height 0) (omega arith) chain_deep in
+      let many = many_chains in
+      let bounded = k.graph_is.bounded in
+      omega arith
 
   -- the tables of the graph with the unit
   pub kept_more : IsKept later (names ++ u.digest ∷ []) (lanes ++ predecessor_of u ∷ []) (chains ++ u.parent ∷ [])
@@ -123,12 +128,3 @@ pub kept_as : (validators spare : ℕ) (units units' : List SettledUnit) (names 
 kept_as validators spare units units' names names' lanes lanes' chains chains' k a b c d =
     let e : IsKept (record { validators = validators; spare = spare; units = units' }) names lanes chains = subst (λ (us : List SettledUnit). IsKept (record { validators = validators; spare = spare; units = us }) names lanes chains) (sym a) k in
     record { graph_is = e.graph_is; names_are = b ∙ e.names_are; lanes_are = c ∙ e.lanes_are; chains_are = d ∙ e.chains_are }
-
--- a block has room for its pointers
-pub chain_room : (b : Bool) (h room : ℕ) → h < 2 ^ 32 → (b ≡ true → 32 ≤ room) → pointer_count_of (unwrap_or (if b then Some h else None) 0) ≤ room
-chain_room true h room small fits = let few = few_pointers h small in let enough = fits refl in omega arith
-chain_room false h room small fits = let none = none_count 0 refl in omega arith
-
-pub height_above_bound : (dag : UnitGraph) → IsGraph dag → (parent : Option UnitNo) → ((p : UnitNo) → parent ≡ Some p → p.0 < count_of dag) → height_above dag parent ≤ count_of dag
-height_above_bound dag g None known = omega arith
-height_above_bound dag g (Some p) known = let low = height_bound dag g p.0 (known p refl) in let less = known p refl in omega arith

@@ -6,6 +6,7 @@ pub mod ChainLaws
 pub mod GrowthLaws
 pub mod LaneLaws
 pub mod SkipLaws
+pub mod ArenaLaws
 pub mod DepthLaws
 pub mod AdmitLaws
 pub mod KeptLaws

@@ -1,11 +1,11 @@
 -- Steps back along chains.
-use Rattle.std.proofs.Common.{◌≡◌, ℕ, zero, suc, ◌+◌, ◌-◌, ◌*◌, ◌^◌, ◌<◌, ◌≤◌, inl, inr, List, [], ◌∷◌, ◌++◌, length, get_or, map, Option, Some, None, refl, sym, ap, subst, ◌∙◌, arith, length-append}
+use Rattle.std.proofs.Common.{◌≡◌, ℕ, zero, suc, ◌+◌, ◌-◌, ◌*◌, ◌^◌, ◌<◌, ◌≤◌, inl, inr, List, [], ◌∷◌, ◌++◌, length, get_or, Option, Some, None, refl, sym, ap, subst, ◌∙◌, arith, length-append}
 use Rattle.std.specs.Prelude.{Bool, true, false, slice_get, if◌then◌else◌}
 use Rattle.std.proofs.lemmas.Nat.{pow_pos}
 use Rattle.hw_skip.proofs.JumpLaws.{pointers_lead}
 use Rattle.hw_skip.proofs.LogLaws.{double}
 use Rattle.std.specs.Option.{option_and_then}
-use Rattle.std.proofs.lemmas.List.{get_or_append_left, get_or_push, get_or_read, get_or-map, length-map, map-append}
+use Rattle.std.proofs.lemmas.List.{get_or_append_left, get_or_push, get_or_read, length-map, map-append}
 use Rattle.std.proofs.lemmas.Bool.Decides.{nat_tests}
 use Rattle.std.proofs.lemmas.Bool.{cases_lt}
 use Rattle.hw_dag.specs.declared.numbers.UnitNo.{UnitNo}
@@ -171,18 +171,10 @@ module _ (backs : List (Option UnitNo)) (down : LeadsDown backs) (last : Option 
 
 -- ---- pointers
 
--- an element that was read, in a list of lists
-pub read_list : {V : Type 0} (f : V → List UnitNo) (items : List V) (n : ℕ) (x : V) → n < length items → x ≡ get_or items n x → pointers_at (map f items) n ≡ f x
-read_list f items n x lt e = get_or-map f items n x [] lt ∙ ap f (sym e)
-
 pub read_pointer : (pointers items : List UnitNo) (i : ℕ) (x : UnitNo) → pointers ≡ items → i < length pointers → x ≡ get_or items i x → pointer_at pointers i ≡ x
 read_pointer pointers items i x same lt e =
     let P : List UnitNo → Type 0 = λ xs. i < length xs in
     ap (λ (xs : List UnitNo). pointer_at xs i) same ∙ sym (get_or_read items i x (subst P same lt) e (record { 0 = 0 }))
-
--- a place of a list is one of the lists made of it
-pub place_list : {V : Type 0} (f : V → List UnitNo) (items : List V) (n : ℕ) → n < length (map f items) → n < length items
-place_list f items n lt = simp length-map at lt
 
 module _ (table : List (List UnitNo)) (t : IsSkipTable table) (backs : List (Option UnitNo)) (e : backs_of table ≡ backs) where
   pub length-table : length table ≡ length backs
@@ -392,3 +384,10 @@ module _ (table : List (List UnitNo)) (t : IsSkipTable table) (backs : List (Opt
                 subst (λ (k : ℕ). IsSkips (backs ++ back ∷ []) k (pointers_at (table ++ last ∷ []) n)) same
                 (subst (λ (ps : List UnitNo). IsSkips (backs ++ back ∷ []) (length backs) ps) (sym (get_or_push table last [] n (omega arith))) last_skips)
           ]
+
+-- a number below 2 ^ 32 has no more pointers than 32
+pub few_pointers : (d : ℕ) → d < 2 ^ 32 → pointer_count_of d ≤ 32
+few_pointers d small = elim (cases_lt 32 (pointer_count_of d)) [
+  | inl many ↦ absurd (let far = (pointers_lead d 32 (omega arith) many).0 in omega arith)
+  | inr few ↦ few
+]

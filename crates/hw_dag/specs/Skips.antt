@@ -1,5 +1,5 @@
 -- Chains that lead back one by one, and the pointers that jump along them.
-use Rattle.std.specs.Prelude.{◌≡◌, ℕ, zero, suc, ◌^◌, ◌<◌, List, [], length, map, Option, Some, None, slice_get, slice_index_or}
+use Rattle.std.specs.Prelude.{◌≡◌, ℕ, zero, suc, ◌-◌, ◌*◌, ◌^◌, ◌<◌, ◌≤◌, List, [], ◌∷◌, ◌++◌, length, map, take, drop, Option, Some, None, slice_get, slice_index_or}
 use Rattle.std.specs.Option.{option_and_then}
 use Rattle.hw_skip.specs.Skip.{pointer_count_of}
 use Rattle.hw_dag.specs.declared.numbers.UnitNo.{UnitNo}
@@ -52,3 +52,29 @@ pub record IsSkips (backs : List (Option UnitNo)) (n : ℕ) (pointers : List Uni
 pub record IsSkipTable (table : List (List UnitNo)) : Type 0 where
   pub down : LeadsDown (backs_of table)
   pub skips : (n : ℕ) → n < length table → IsSkips (backs_of table) n (pointers_at table n)
+
+-- ---- all pointers in one list, and where those of each number begin
+
+-- the pointers of each number: they end where the next ones begin
+unfoldable pub lists_of : List ℕ → List UnitNo → List (List UnitNo)
+lists_of [] pointers = []
+lists_of (start ∷ starts) pointers = take (slice_index_or starts 0 (length pointers) - start) (drop start pointers) ∷ lists_of starts pointers
+
+-- no pointers begin before those of the number before, nor behind the end
+unfoldable pub AreStarts : List ℕ → ℕ → Type 0
+AreStarts [] end = Unit {0}
+AreStarts (start ∷ starts) end = (start ≤ slice_index_or starts 0 end) × AreStarts starts end
+
+-- each list of pointers is that of its number, and there is room for so many more numbers, of which none has more pointers than 32
+pub record IsArena (spare : ℕ) (starts : List ℕ) (starts_room : ℕ) (pointers : List UnitNo) (pointers_room : ℕ) : Type 0 where
+  pub table : IsSkipTable (lists_of starts pointers)
+  pub ordered : AreStarts starts (length pointers)
+  pub starts_fit : spare ≤ starts_room
+  pub pointers_fit : spare * 32 ≤ pointers_room
+
+-- one pointer after the other of a unit that stands behind this one, put behind the pointers that were there
+pub record IsAddedBehind (backs : List (Option UnitNo)) (back count : ℕ) (before after : List UnitNo) : Type 0 where
+  pub added : List UnitNo
+  pub items : after ≡ before ++ added
+  pub length_is : length added ≡ count
+  pub leads : (i : ℕ) → i < count → back_from backs (2 ^ i - 1) back ≡ Some (pointer_at added i).0

@@ -1,8 +1,7 @@
 -- What is kept beside the units of a graph to find them.
-use Rattle.std.specs.Prelude.{◌≡◌, ℕ, ◌^◌, ◌<◌, ◌≤◌, ◌⊎◌, true, List, [], length, map, Option, Some, None, is_some}
+use Rattle.std.specs.Prelude.{◌≡◌, ℕ, ◌^◌, ◌<◌, ◌≤◌, ◌⊎◌, true, List, length, map, Option, Some, None}
 use Rattle.hw_types.specs.declared.unit.Digest.{Digest}
 use Rattle.hw_types.specs.declared.unit.SignedUnit.{SignedUnit}
-use Rattle.hw_skip.specs.Skip.{pointer_count_of}
 use Rattle.hw_dag.specs.declared.numbers.UnitNo.{UnitNo}
 use Rattle.hw_dag.specs.declared.numbers.View.{View}
 use Rattle.hw_dag.specs.declared.numbers.View.TheVariants as view
@@ -65,14 +64,10 @@ pub record HasSpare (spare units names lanes chains : ℕ) : Type 0 where
   pub in_lanes : spare ≤ lanes
   pub in_chains : spare ≤ chains
 
--- a slot for each observation, and empty lists with room for the pointers that the unit will have
-pub record HasRoom (unit : SignedUnit) (panorama : List View) (lane : List UnitNo) (lane_room : ℕ) (chain : List UnitNo) (chain_room : ℕ) : Type 0 where
+-- a slot for each observation
+pub record HasSlots (unit : SignedUnit) (panorama : List View) : Type 0 where
   pub bounded : length panorama < 2 ^ 32
   pub length_is : length panorama ≡ length unit.unit.panorama
-  pub lane_empty : lane ≡ []
-  pub lane_fits : pointer_count_of unit.unit.seq ≤ lane_room
-  pub chain_empty : chain ≡ []
-  pub chain_fits : is_some unit.unit.value ≡ true → 32 ≤ chain_room
 
 -- the slot in numbers stands for the observation
 pub record StandsFor (dag : UnitGraph) (o : Obs) (w : View) : Type 0 where

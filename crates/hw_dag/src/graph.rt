@@ -1,17 +1,16 @@
 //! The graph and what comes into it.
 
-ghost use Rattle.std.specs.Prelude.{◌≡◌, ℕ, ◌+◌, ◌-◌, ◌^◌, ◌<◌, ◌≤◌, ◌↔◌, [], ◌∷◌, ◌++◌, false, length, Some, unwrap_or, vec_capacity, IsTrue, IsNone, IfSome, IfNone, IfOk, IfErr, OnOk, OnErr};
+ghost use Rattle.std.specs.Prelude.{◌≡◌, ℕ, ◌+◌, ◌-◌, ◌^◌, ◌<◌, ◌≤◌, ◌↔◌, [], ◌∷◌, ◌++◌, false, length, Some, IsTrue, IsNone, IfSome, IfNone, IfOk, IfErr, OnOk, OnErr};
 ghost use Rattle.std.specs.List.{list_any};
 ghost use Rattle.indexmap.specs.IndexSet.{spare as room_of};
 ghost use Rattle.hw_types.specs.Graph.{digest_eq};
 ghost use Rattle.hw_types.specs.declared.unit.Obs.TheVariants as Obs;
-ghost use Rattle.hw_skip.specs.Skip.{pointer_count_of};
-ghost use Rattle.hw_dag.specs.Dag.{unit_at, count_of, graph, observations, seq_of};
+ghost use Rattle.hw_dag.specs.Dag.{unit_at, count_of, graph, observations};
 ghost use Rattle.hw_dag.specs.Admission.{IsFor, IsNew, IsResolved, IsFork, IsGraph, KeepsRules, AllKnown, node_prepared, height_above, settled_from, with_unit};
 ghost use Rattle.hw_dag.specs.Tables.{StandsFor, IsUnknown, IsKnown, IsLatestAfter};
 
 use crate::numbers::{Panorama, UnitNo, View};
-use crate::preparing::{NoRoom, Prepared, Settling};
+use crate::preparing::{NoRoom, Prepared};
 use crate::settled::Unit;
 use crate::skips::SkipTable;
 use hw_types::{Digest, Obs, OutOfMemory, SignedUnit};
@@ -71,7 +70,7 @@ impl Dag {
         })
     }
 
-    /// Takes all the room that the unit will need in the graph. The digest is its name.
+    /// Takes room for what the unit observes in numbers. The digest is its name.
     pub fn prepare(&self, unit: SignedUnit, digest: Digest) -> Result<Prepared, NoRoom>
         requires { IsFor self.now.validators unit }
         ensures signed { IfOk result (λ prepared. prepared.signed ≡ unit) }
@@ -81,7 +80,8 @@ impl Dag {
         Prepared::new(*self.units.allocator(), self.validators, unit, digest)
     }
 
-    /// Makes room for at least `count` more units. What is in the graph stays, and the room never shrinks.
+    /// Makes room for at least `count` more units, with their names and pointers. What is in the graph stays, and the room
+    /// never shrinks.
     pub fn reserve(&mut self, count: u32) -> Result<(), OutOfMemory>
         requires { count_of self.old + count < 2 ^ 32 }
         ensures room { OnOk result (count ≤ self.new.spare) }
@@ -264,26 +264,20 @@ impl Dag {
     }
 
     /// Puts a settled unit last, with its name and its pointers.
-    fn keep(&mut self, settling: Settling)
+    fn keep(&mut self, unit: Unit)
         requires room { 1 ≤ self.old.spare }
-        requires fresh { IsNew self.old settling.unit.digest }
-        requires graph { IsGraph (with_unit self.old settling.unit) }
-        requires lane { settling.lane.items ≡ [] }
-        requires lane_fits { pointer_count_of (seq_of settling.unit) ≤ vec_capacity settling.lane }
-        requires chain { settling.chain.items ≡ [] }
-        requires chain_fits { pointer_count_of (unwrap_or settling.unit.height 0) ≤ vec_capacity settling.chain }
-        ensures { self.new ≡ with_unit self.old settling.unit }
+        requires fresh { IsNew self.old unit.digest }
+        requires graph { IsGraph (with_unit self.old unit) }
+        ensures { self.new ≡ with_unit self.old unit }
     {
-        let Settling { unit, lane, chain } = settling;
         let before = unit.predecessor();
         let creator = unit.signed().unit.creator;
         let no = UnitNo(self.units.len() as u32);
         let next = latest_after(self.latest.get(creator), before, no);
         self.latest.set(creator, next);
         self.spare -= 1;
-        self.lanes.push(lane, before, unit.signed().unit.seq);
-        self.chains
-            .push(chain, unit.parent(), unit.height().unwrap_or(0));
+        self.lanes.push(before, unit.signed().unit.seq);
+        self.chains.push(unit.parent(), unit.height().unwrap_or(0));
         add_name(&mut self.names, *unit.digest());
         if self.units.push(unit).is_err() {
             unreachable!()

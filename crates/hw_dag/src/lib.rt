@@ -5,8 +5,9 @@
 //! where it is a block, its parent and its height. The definitions see the same units by name
 //! (`graph`), and each graph keeps the rules that make it lawful (`IsGraph`).
 //!
-//! A unit comes in by three steps. `prepare` takes all the memory that it will need. `resolve` turns
-//! the names that it observes into numbers, once they are all settled. `admit` puts it last.
+//! A unit comes in by three steps. `prepare` takes the memory for what it observes, beside the room in
+//! the graph that `reserve` makes. `resolve` turns the names that it observes into numbers, once they
+//! are all settled. `admit` puts it last, and takes no memory.
 //!
 //! Look-ups along lanes and along parents jump, so they take logarithmic time. Of the tables and
 //! pointers that they use nothing is seen from outside.

@@ -1,49 +1,85 @@
-use Rattle.std.proofs.Common.{◌≡◌, ◌-◌, ◌^◌, length, [], ◌∷◌, ◌++◌, map, Some, None, sym, ap, ◌∙◌, subst, Vec, Global}
-use Rattle.std.proofs.lemmas.List.{map-append}
+use Rattle.std.proofs.Common.{◌≡◌, ℕ, ◌+◌, ◌-◌, length, List, [], ◌∷◌, ◌++◌, Option, refl, sym, ap, ◌∙◌, subst, arith}
+use Rattle.std.specs.Prelude.{vec_len, vec_capacity}
+use Rattle.hw_skip.specs.Skip.{pointer_count_of}
 use Rattle.hw_dag.specs.declared.numbers.UnitNo.{UnitNo}
-use Rattle.hw_dag.specs.Skips.{BackLinks, IsSkipTable, back_from, backs_of, pointer_at}
-use Rattle.hw_dag.proofs.SkipLaws.{IsBehind, pushed, table_more, backs_more, none_count}
+use Rattle.hw_dag.specs.Skips.{BackLinks, IsDepth, IsSkipTable, IsAddedBehind, backs_of, lists_of}
+use Rattle.hw_dag.proofs.SkipLaws.{few_pointers}
+use Rattle.hw_dag.proofs.ArenaLaws.{HasItsPointers, many_starts, its_pointers, no_pointers, arena_more, backs_are, length_after}
 use Rattle.hw_dag.proofs.skips.SkipTable.push.Goals as goal
-use Rattle.hw_dag.proofs.skips.SkipTable.push.Goals.{in-Some, in-None}
+use Rattle.hw_dag.proofs.skips.SkipTable.push.Goals.{in-Some, in_default}
 
-pub pointers_behind-pointers-requires-clause-some : goal.pointers_behind-pointers-requires-clause-some
-pointers_behind-pointers-requires-clause-some c = (c.requires.next c.in-Some.back c.in-Some.is).0
+pub push_pointers-requires-clause-table : goal.push_pointers-requires-clause-table
+push_pointers-requires-clause-table c = subst (λ (xs : List ℕ). IsSkipTable (lists_of xs c.self.inside.pointers.items)) (sym c.as_slice.ensures.value) c.self.invariant.table
 
-behind : (c : goal.Else-is_err) → IsBehind c.args.self.now.backs c.args.back c.args.depth c.match-back.pointers.items
-behind c = elim c.match-back.branch [
+pub push_pointers-requires-clause-room : goal.push_pointers-requires-clause-room
+push_pointers-requires-clause-room c =
+    let few = few_pointers c.args.depth c.requires.small in
+    let spare = ap (λ (b : BackLinks). b.spare) c.self.view_is in
+    let some = c.requires.spare in
+    let fit = c.self.invariant.pointers_fit in
+    omega arith
+
+pub push_pointers-requires-clause-known : goal.push_pointers-requires-clause-known
+push_pointers-requires-clause-known c =
+    let backs = ap (λ (b : BackLinks). b.backs) c.self.view_is in
+    let many = many_starts c.self.inside.starts.items c.self.inside.pointers.items c.self.invariant.table c.args.self.now.backs backs in
+    let known = c.requires.known c.in-Some.back c.in-Some.is in
+    let same = ap length c.as_slice.ensures.value in
+    omega arith
+
+pub push_pointers-requires-clause-some : goal.push_pointers-requires-clause-some
+push_pointers-requires-clause-some c = (c.requires.next c.in-Some.back c.in-Some.is).0
+
+pub push_pointers-requires-clause-depth : goal.push_pointers-requires-clause-depth
+push_pointers-requires-clause-depth c =
+    let backs = ap (λ (b : BackLinks). b.backs) c.self.view_is in
+    let here = ap (λ (xs : List ℕ). backs_of (lists_of xs c.self.inside.pointers.items)) c.as_slice.ensures.value ∙ backs in
+    subst (λ (bs : List (Option UnitNo)). IsDepth bs c.in-Some.back.0 (c.args.depth - 1)) (sym here) (c.requires.next c.in-Some.back c.in-Some.is).1
+
+-- the pointers of the new unit, and the room that they leave
+made : (c : goal.After-self-1) → HasItsPointers c.args.self.now.backs c.args.back c.args.depth c.self.inside.pointers.items c.match-back.self-inside.pointers.items
+    × (c.match-back.self-inside.spare ≡ c.self.inside.spare) × (c.match-back.self-inside.starts ≡ c.self.inside.starts) × (vec_capacity c.match-back.self-inside.pointers ≡ vec_capacity c.self.inside.pointers)
+made c = elim c.match-back.branch [
   | in-Some w ↦
-      let made = w.pointers_behind-pointers.ensures in
-      record {
-        fits = c.ranges.depth.fits;
-        known = c.requires.known;
-        first = c.requires.first;
-        next = c.requires.next;
-        length_is = ap (λ (v : Vec UnitNo Global). length v.items) w.pointers-is ∙ made.length_is;
-        leads = λ p e i few.
-            let same : w.in-Some.back ≡ p = (let s : Some w.in-Some.back ≡ Some p = sym w.in-Some.is ∙ e in cc) in
-            ap (λ (q : UnitNo). back_from c.args.self.now.backs (2 ^ i - 1) q.0) (sym same) ∙ made.leads i few ∙ ap (λ (v : Vec UnitNo Global). Some (pointer_at v.items i).0) (sym w.pointers-is);
-      }
-  | in-None w ↦ record {
-    fits = c.ranges.depth.fits;
-    known = c.requires.known;
-    first = c.requires.first;
-    next = c.requires.next;
-    length_is = ap (λ (v : Vec UnitNo Global). length v.items) w.pointers-is ∙ ap length c.requires.empty ∙ sym (none_count c.args.depth (c.requires.first w.in-None.is));
-    leads = λ p e. absurd (let no : None ≡ Some p = sym w.in-None.is ∙ e in cc);
-  }
+      let backs = ap (λ (b : BackLinks). b.backs) c.self.view_is in
+      let here = ap (λ (xs : List ℕ). backs_of (lists_of xs c.self.inside.pointers.items)) w.as_slice.ensures.value ∙ backs in
+      let added = subst (λ (bs : List (Option UnitNo)). IsAddedBehind bs w.in-Some.back.0 (pointer_count_of c.args.depth) c.self.inside.pointers.items w.push_pointers.new.pointers.items) here w.push_pointers.ensures.added in
+      rw w.self-inside-is (
+        its_pointers c.args.self.now.backs c.args.back c.args.depth c.self.inside.pointers.items w.push_pointers.new.pointers.items w.in-Some.back
+            c.ranges.depth.fits c.requires.known c.requires.next w.in-Some.is added,
+        refl,
+        refl,
+        w.push_pointers.ensures.capacity,
+      )
+  | in_default w ↦
+      rw w.self-inside-is (no_pointers c.args.self.now.backs c.args.back c.args.depth c.self.inside.pointers.items c.ranges.depth.fits w.in_default.is c.requires.first, refl, refl, refl)
 ]
-
-lists : (c : goal.Else-is_err) → map (λ (p : Vec UnitNo Global). p.items) c.push.new.self.items ≡ map (λ (p : Vec UnitNo Global). p.items) c.self-2.inside.pointers.items ++ c.match-back.pointers.items ∷ []
-lists c =
-    ap (map (λ (p : Vec UnitNo Global). p.items)) (pushed _ c.self-2.inside.pointers.items c.push.new.self.items c.match-back.pointers c.push.ensures.items c.if-is_err.ensures.negation)
-    ∙ map-append (λ (p : Vec UnitNo Global). p.items) c.self-2.inside.pointers.items (c.match-back.pointers ∷ [])
 
 pub invariant_of-self : goal.invariant_of-self
 invariant_of-self c =
-    let backs = ap (λ (b : BackLinks). b.backs) c.self-2.view_is in
-    subst IsSkipTable (sym (lists c)) (table_more _ c.self-2.invariant c.args.self.now.backs backs c.args.back c.args.depth c.match-back.pointers.items (behind c))
+    let backs = ap (λ (b : BackLinks). b.backs) c.self.view_is in
+    let spare = ap (λ (b : BackLinks). b.spare) c.self.view_is in
+    let some = c.requires.spare in
+    let m = made c in
+    let same = m.1 in
+    let capacity = c.push_reserved.ensures.capacity ∙ (λ i. vec_capacity (m.2 i)) in
+    let len = c.push_reserved.ensures.len ∙ (λ i. vec_len (m.2 i) + 1) in
+    let room = m.3 in
+    let starts_fit = c.self.invariant.starts_fit in
+    let pointers_fit = c.self.invariant.pointers_fit in
+    let few = few_pointers c.args.depth c.requires.small in
+    let before = c.self.inside.pointers.ok in
+    let after = c.match-back.self-inside.pointers.ok in
+    let longer = length_after c.self.inside.starts.items c.self.inside.pointers.items c.self.invariant.table c.self.invariant.ordered c.args.self.now.backs backs
+    c.args.back c.args.depth c.match-back.self-inside.pointers.items m.0 in
+    arena_more c.self.inside.starts.items c.self.inside.pointers.items c.self.invariant.table c.self.invariant.ordered c.args.self.now.backs backs
+    c.args.back c.args.depth c.match-back.self-inside.pointers.items m.0 _ _ _ c.push_reserved.new.self.items c.len-start.result
+    (c.push_reserved.ensures.items ∙ (λ i. (m.2 i).items ++ c.len-start.result ∷ [])) (c.len-start.ensures ∙ before.0) (omega arith) (omega arith)
 
 pub returns-clause-backs : goal.returns-clause-backs
 returns-clause-backs c =
-    let backs = ap (λ (b : BackLinks). b.backs) c.self-2.view_is in
-    ap backs_of (lists c) ∙ backs_more _ c.self-2.invariant c.args.self.now.backs backs c.args.back c.args.depth c.match-back.pointers.items (behind c)
+    let backs = ap (λ (b : BackLinks). b.backs) c.self.view_is in
+    let m = made c in
+    backs_are c.self.inside.starts.items c.self.inside.pointers.items c.self.invariant.table c.self.invariant.ordered c.args.self.now.backs backs
+    c.args.back c.args.depth c.match-back.self-inside.pointers.items m.0 c.push_reserved.new.self.items c.len-start.result
+    (c.push_reserved.ensures.items ∙ (λ i. (m.2 i).items ++ c.len-start.result ∷ [])) (c.len-start.ensures ∙ c.self.inside.pointers.ok.0)
