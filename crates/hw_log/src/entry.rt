@@ -1,6 +1,6 @@
 //! An entry of a log.
 
-use hw_types::Vertex;
+use hw_types::{Digest, Vertex};
 
 /// One vertex that came, with the verdict on its signatures.
 #[derive(Drop)]
@@ -9,4 +9,11 @@ pub struct LogEntry {
     pub at: u64,
     pub verdict: bool,
     pub vertex: Vertex,
+}
+
+/// An entry of a log, and the name of its unit where it is known from the log's bytes.
+#[derive(Drop)]
+pub struct NamedEntry {
+    pub entry: LogEntry,
+    pub name: Option<Digest>,
 }

@@ -1,13 +1,15 @@
 //! The last unit of each validator, as a log goes on.
 
-ghost use Rattle.std.specs.Prelude.{◌≡◌, Some, None, Ok, set, replicate, IfOk, IfErr};
+ghost use Rattle.std.specs.Prelude.{◌≡◌, Some, None, Ok, set, replicate, IfOk, IfErr, IfSome};
 ghost use Rattle.hw_types.specs.Spelling.{VertexFits};
 ghost use Rattle.hw_codec.specs.Decoded.{IsErrorOf};
+ghost use Rattle.hw_log.specs.Named.{IsNameOf};
 ghost use Rattle.hw_log.specs.Lasts.{IsVersion, no_lasts, noted_in, with_noted, vertex_bytes_in, vertex_in};
 
 use crate::head::FULL;
+use crate::name::name_in;
 use hw_codec::{Last, decode_vertex, decode_vertex_after, encode_vertex, encode_vertex_after};
-use hw_types::{Bytes, CodecError, OutOfMemory, Vertex};
+use hw_types::{Bytes, CodecError, Digest, OutOfMemory, Vertex};
 use std::alloc::Global;
 use std::marker::Model;
 
@@ -133,6 +135,19 @@ impl Lasts {
             decode_vertex(self.alloc, bytes)
         } else {
             decode_vertex_after(self.alloc, self.units.as_slice(), bytes)
+        }
+    }
+
+    /// The name of the unit that these bytes spell here, where they hold the whole of it: in version 1, of a vertex
+    /// that is a unit.
+    pub(crate) fn name_in(&self, vertex: &Vertex, bytes: &[u8]) -> Option<Digest>
+        requires { vertex_in self.now bytes.now ≡ Ok vertex.now }
+        ensures { IfSome result (IsNameOf vertex.now) }
+    {
+        if self.version == FULL {
+            name_in(vertex, bytes)
+        } else {
+            None
         }
     }
 }

@@ -13,11 +13,12 @@ mod error;
 mod head;
 mod lasts;
 mod laws;
+mod name;
 mod reader;
 mod whole;
 mod writer;
 
-pub use entry::LogEntry;
+pub use entry::{LogEntry, NamedEntry};
 pub use error::LogError;
 pub use lasts::{Lasts, Noted};
 pub use laws::{

@@ -9,15 +9,16 @@ ghost use Rattle.hw_log.specs.declared.error.LogError.TheVariants.{Torn, BadConf
 ghost use Rattle.hw_log.specs.Lasts.{IsVersion, lasts_after, vertex_in};
 ghost use Rattle.hw_log.specs.Log.{rest_at, bytes_at, decoded, front_of, checked_config, header_of, head_at, body_at, entry_at, next_at};
 ghost use Rattle.hw_log.specs.Causes.{Fails, IsOutside, IsOfBytes, Gives, HasReadCause, IsReadAbout};
+ghost use Rattle.hw_log.specs.Named.{IsNameOf, entry_in};
 ghost use Rattle.hw_log.specs.Reader.{Reading, lasts_with, left_of, ahead_of, end_of, PlacesFit, Opens};
 
-use crate::entry::LogEntry;
+use crate::entry::{LogEntry, NamedEntry};
 use crate::error::{LogError, error_of_read};
 use crate::head::{EntryHead, FRONT_LENGTH, Front, HEAD_LENGTH, MAX_LENGTH, front_of, head_of};
 use crate::lasts::Lasts;
 use hw_codec::decode_config;
 use hw_io::{Files, ReadBuffer};
-use hw_types::{CodecError, Config, Vertex};
+use hw_types::{CodecError, Config, Digest, Vertex};
 use std::alloc::Global;
 use std::marker::Model;
 
@@ -39,6 +40,13 @@ impl Model for LogReader {
     ghost Value = { Reading };
 
     ghost view = { λ r. record { config = r.config; lasts = r.lasts; place = r.place; held = r.buffer } };
+}
+
+/// A vertex that was read, and its name where it is a unit, the name is wanted and the bytes hold the whole unit.
+#[derive(Drop)]
+struct ReadVertex {
+    vertex: Vertex,
+    name: Option<Digest>,
 }
 
 impl LogReader {
@@ -122,7 +130,39 @@ impl LogReader {
         if self.is_at_end(files)? {
             Ok(None)
         } else {
-            Ok(Some(self.entry(files)?))
+            let NamedEntry { entry, name: _name } = self.entry(files, false)?;
+            Ok(Some(entry))
+        }
+    }
+
+    /// The next entry as `next` answers it, and with it the name of its unit, where the verdict is right and the
+    /// log is of version 1: there an entry's bytes hold the whole unit, and its name is worked out from them.
+    #[tactic(auto, unfolding(crate::specs::Log::next_at))]
+    pub fn next_named<F: Files>(&mut self, files: &mut F) -> Result<Option<NamedEntry>, LogError>
+        requires { PlacesFit self.old (F.allowance files.old) }
+        // The answer is what the log says next, and the reader stands behind it.
+        ensures said { IsTrue F.tells →
+            Gives (λ named. (entry_in named, left_of self.new (F.unread files.new))) result
+            (next_at (left_of self.old (F.unread files.old))) }
+        ensures entry { IfOk result (λ named. IfSome named (λ n. (n.entry.at ≡ self.old.place) × VertexFits n.entry.vertex)) }
+        ensures name { IfOk result (λ named. IfSome named (λ n. IfSome n.name (IsNameOf n.entry.vertex))) }
+        ensures lasts { IfOk result (λ named. self.new.lasts ≡ lasts_with self.old.lasts (entry_in named)) }
+        ensures config { self.new.config ≡ self.old.config }
+        ensures places { PlacesFit self.new (F.allowance files.new) }
+        // After an entry fewer bytes may still come.
+        ensures nearer { IfOk result (λ named. IfSome named (λ n.
+            ahead_of self.new (F.allowance files.new) < ahead_of self.old (F.allowance files.old))) }
+        ensures cause { HasReadCause (F.read_faults files.old) (F.read_faults files.new) result }
+        ensures about { IsReadAbout (F.begun files.old) (F.faults_about files.old) (F.faults_about files.new) result }
+
+        ensures files { SameFiles (F.held files.old) (F.held files.new) }
+        ensures begun { F.begun files.new ≡ F.begun files.old }
+        ensures appends { F.append_faults files.new ≡ F.append_faults files.old }
+    {
+        if self.is_at_end(files)? {
+            Ok(None)
+        } else {
+            Ok(Some(self.entry(files, true)?))
         }
     }
 
@@ -148,13 +188,14 @@ impl LogReader {
         }
     }
 
-    /// The entry that begins at the reader's place.
+    /// The entry that begins at the reader's place, with its unit's name if it is wanted.
     #[tactic(auto, unfolding(crate::specs::Log::entry_at))]
-    fn entry<F: Files>(&mut self, files: &mut F) -> Result<LogEntry, LogError>
+    fn entry<F: Files>(&mut self, files: &mut F, named: bool) -> Result<NamedEntry, LogError>
         requires { PlacesFit self.old (F.allowance files.old) }
-        ensures said { IsTrue F.tells → Gives (λ entry. (entry, left_of self.new (F.unread files.new))) result (entry_at (left_of self.old (F.unread files.old))) }
-        ensures entry { IfOk result (λ e. (e.at ≡ self.old.place) × VertexFits e.vertex) }
-        ensures lasts { IfOk result (λ e. self.new.lasts ≡ lasts_after self.old.lasts e.vertex) }
+        ensures said { IsTrue F.tells → Gives (λ read. (read.entry, left_of self.new (F.unread files.new))) result (entry_at (left_of self.old (F.unread files.old))) }
+        ensures entry { IfOk result (λ read. (read.entry.at ≡ self.old.place) × VertexFits read.entry.vertex) }
+        ensures name { IfOk result (λ read. IfSome read.name (IsNameOf read.entry.vertex)) }
+        ensures lasts { IfOk result (λ read. self.new.lasts ≡ lasts_after self.old.lasts read.entry.vertex) }
         ensures place { OnOk result (self.old.place < self.new.place) }
         ensures config { self.new.config ≡ self.old.config }
         ensures end { end_of self.new (F.allowance files.new) ≡ end_of self.old (F.allowance files.old) }
@@ -167,13 +208,15 @@ impl LogReader {
     {
         let at = self.place;
         let head = self.head(files)?;
-        let vertex = self.body(files, at, head.length)?;
-        self.keep(&vertex)?;
-        Ok(LogEntry {
+        let read = self.body(files, at, head.length, named && head.verdict)?;
+        self.keep(&read.vertex)?;
+        let ReadVertex { vertex, name } = read;
+        let entry = LogEntry {
             at,
             verdict: head.verdict,
             vertex,
-        })
+        };
+        Ok(NamedEntry { entry, name })
     }
 
     /// The head of the entry that begins at the reader's place.
@@ -201,13 +244,21 @@ impl LogReader {
         Ok(head)
     }
 
-    /// The vertex of so many bytes at the reader's place, in the entry that begins at `at`.
+    /// The vertex of so many bytes at the reader's place, in the entry that begins at `at`, with its
+    /// unit's name if it is wanted.
     #[tactic(auto, using(crate::proofs::CauseLaws::cause_of_bytes), unfolding(crate::specs::Log::body_at))]
-    fn body<F: Files>(&mut self, files: &mut F, at: u64, length: usize) -> Result<Vertex, LogError>
+    fn body<F: Files>(
+        &mut self,
+        files: &mut F,
+        at: u64,
+        length: usize,
+        named: bool,
+    ) -> Result<ReadVertex, LogError>
         requires limit { length ≤ MAX_LENGTH }
         requires places { PlacesFit self.old (F.allowance files.old) }
-        ensures said { IsTrue F.tells → Gives (λ vertex. (vertex, (left_of self.new (F.unread files.new)).rest)) result (body_at self.old.lasts at length (left_of self.old (F.unread files.old)).rest) }
-        ensures fits { IfOk result VertexFits }
+        ensures said { IsTrue F.tells → Gives (λ read. (read.vertex, (left_of self.new (F.unread files.new)).rest)) result (body_at self.old.lasts at length (left_of self.old (F.unread files.old)).rest) }
+        ensures fits { IfOk result (λ read. VertexFits read.vertex) }
+        ensures name { IfOk result (λ read. IfSome read.name (IsNameOf read.vertex)) }
         ensures lasts { self.new.lasts ≡ self.old.lasts }
         ensures place { OnOk result (self.old.place ≤ self.new.place) }
         ensures config { self.new.config ≡ self.old.config }
@@ -220,10 +271,10 @@ impl LogReader {
         ensures appends { F.append_faults files.new ≡ F.append_faults files.old }
     {
         need(&mut self.buffer, files, length, at)?;
-        let vertex = decoded_vertex(&self.lasts, at, &self.buffer.as_slice()[..length])?;
+        let read = decoded_vertex(&self.lasts, at, &self.buffer.as_slice()[..length], named)?;
         self.buffer.consume(length);
         self.place += length as u64;
-        Ok(vertex)
+        Ok(read)
     }
 
     /// Goes behind an entry with this vertex.
@@ -364,14 +415,23 @@ fn decoded_config(alloc: Global, bytes: &[u8]) -> Result<Config, LogError>
     }
 }
 
-/// The vertex that these bytes spell, in the entry at this place, behind these last units.
-fn decoded_vertex(lasts: &Lasts, at: u64, bytes: &[u8]) -> Result<Vertex, LogError>
-    ensures said { Gives (λ vertex. vertex) result (decoded (BadVertex at) (vertex_in lasts.now bytes.now)) }
+/// The vertex that these bytes spell, in the entry at this place, behind these last units, with its unit's name if it
+/// is wanted.
+fn decoded_vertex(lasts: &Lasts, at: u64, bytes: &[u8], named: bool) -> Result<ReadVertex, LogError>
+    ensures said { Gives (λ read. read.vertex) result (decoded (BadVertex at) (vertex_in lasts.now bytes.now)) }
     ensures error { IfErr result IsOfBytes }
-    ensures fits { IfOk result (λ vertex. VertexFits vertex) }
+    ensures fits { IfOk result (λ read. VertexFits read.vertex) }
+    ensures name { IfOk result (λ read. IfSome read.name (IsNameOf read.vertex)) }
 {
     match lasts.decode(bytes) {
-        Ok(vertex) => Ok(vertex),
+        Ok(vertex) => {
+            let name = if named {
+                lasts.name_in(&vertex, bytes)
+            } else {
+                None
+            };
+            Ok(ReadVertex { vertex, name })
+        }
         Err(CodecError::OutOfMemory) => Err(LogError::OutOfMemory),
         Err(error) => Err(LogError::BadVertex(at, error)),
     }

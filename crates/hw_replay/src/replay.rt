@@ -5,6 +5,9 @@ ghost use Rattle.std.specs.Option.{option_copied};
 ghost use Rattle.hw_io.specs.Files.{SameFiles};
 ghost use Rattle.hw_types.specs.Limits.{config_fault};
 ghost use Rattle.hw_types.specs.Spelling.{Fits, VertexFits, ConfigFits};
+ghost use Rattle.hw_types.specs.Real.{answer_in, after_in};
+ghost use Rattle.hw_core.specs.Deliver.{IsRefusal};
+ghost use Rattle.hw_log.specs.Named.{IsNameOf};
 ghost use Rattle.hw_log.specs.Reader.{ahead_of, PlacesFit};
 ghost use Rattle.hw_types.specs.declared.answers.Cause.TheVariants as Causes;
 ghost use Rattle.hw_replay.specs.declared.fault.StartFault.TheVariants as Faults;
@@ -18,7 +21,7 @@ use crate::fault::{StartFault, fault_of};
 use hw_codec::{encode_config, encode_unit};
 use hw_core::{Core, Refused};
 use hw_io::Files;
-use hw_log::{Lasts, LogEntry, LogReader};
+use hw_log::{Lasts, LogReader, NamedEntry};
 use hw_types::{Bytes, Cause, Config, Digest, OutOfMemory, Receipt, SignedUnit, Vertex};
 use std::alloc::Global;
 
@@ -97,9 +100,9 @@ impl Replay {
         ensures files { SameFiles (F.held files.old) (F.held files.new) }
         ensures appends { F.append_faults files.new ≡ F.append_faults files.old }
     {
-        match self.reader.next(files) {
-            Ok(Some(entry)) => {
-                self.take(entry)?;
+        match self.reader.next_named(files) {
+            Ok(Some(named)) => {
+                self.take(named)?;
                 Ok(true)
             }
             Ok(None) => Ok(false),
@@ -121,18 +124,20 @@ impl Replay {
 
     /// Delivers an entry, and counts it where it is refused or came again.
     #[tactic(auto, using(crate::proofs::TakeLaws::grows_accepted, crate::proofs::TakeLaws::stop_is_of_entry, crate::proofs::EndLaws::reached_after))]
-    fn take(&mut self, entry: LogEntry) -> Result<(), StartFault>
-        requires fits { VertexFits entry.vertex }
+    fn take(&mut self, named: NamedEntry) -> Result<(), StartFault>
+        requires fits { VertexFits named.entry.vertex }
+        requires name { IfSome named.name (IsNameOf named.entry.vertex) }
         requires room { self.old.refused + self.old.repeats < 2 ^ 62 }
-        ensures taken { OnOk result (entry_taken (taken_in self.old) entry ≡ Ok (taken_in self.new)) }
-        ensures stopped { IfErr result (λ e. IsStop e (entry_taken (taken_in self.old) entry)) }
+        ensures taken { OnOk result (entry_taken (taken_in self.old) named.entry ≡ Ok (taken_in self.new)) }
+        ensures stopped { IfErr result (λ e. IsStop e (entry_taken (taken_in self.old) named.entry)) }
         ensures fault { IfErr result IsOfEntry }
         ensures grows { GrowsByOne self.old.core self.new.core }
         ensures reached { IsReached self.old.core → IsReached self.new.core }
         ensures counts { self.new.refused + self.new.repeats ≤ self.old.refused + self.old.repeats + 1 }
         ensures reader { self.new.reader ≡ self.old.reader }
     {
-        match self.core.deliver(entry.vertex, entry.verdict) {
+        let NamedEntry { entry, name } = named;
+        match deliver(&mut self.core, entry.vertex, entry.verdict, name) {
             Ok(receipt) => {
                 self.count(receipt);
                 Ok(())
@@ -163,6 +168,44 @@ impl Replay {
         stop(self.alloc, &self.core, at, refused.cause, &refused.vertex)?;
         self.refused += 1;
         Ok(())
+    }
+}
+
+/// Delivers a vertex with its verdict. Where the verdict is right, a unit whose name is known goes by that name, and isn't
+/// hashed again.
+fn deliver(
+    core: &mut Core,
+    vertex: Vertex,
+    verdict: bool,
+    name: Option<Digest>,
+) -> Result<Receipt, Refused>
+    requires fits { VertexFits vertex }
+    requires name { IfSome name (IsNameOf vertex) }
+    ensures accepted { IfOk result (λ receipt. answer_in core.old vertex verdict ≡ Ok receipt) }
+    ensures refused { IfErr result (λ r. IsRefusal r.cause (answer_in core.old vertex verdict)) }
+    ensures returned { IfErr result (λ r. r.vertex ≡ vertex) }
+    ensures journal { OnOk result (core.new ≡ after_in core.old vertex verdict) }
+    ensures unchanged { OnErr result (core.new ≡ core.old) }
+{
+    match name {
+        Some(name) if verdict => deliver_named(core, vertex, name),
+        Some(_) | None => core.deliver(vertex, verdict),
+    }
+}
+
+/// Delivers a unit of this name, whose signature is right.
+fn deliver_named(core: &mut Core, vertex: Vertex, name: Digest) -> Result<Receipt, Refused>
+    requires fits { VertexFits vertex }
+    requires name { IsNameOf vertex name }
+    ensures accepted { IfOk result (λ receipt. answer_in core.old vertex true ≡ Ok receipt) }
+    ensures refused { IfErr result (λ r. IsRefusal r.cause (answer_in core.old vertex true)) }
+    ensures returned { IfErr result (λ r. r.vertex ≡ vertex) }
+    ensures journal { OnOk result (core.new ≡ after_in core.old vertex true) }
+    ensures unchanged { OnErr result (core.new ≡ core.old) }
+{
+    match vertex {
+        Vertex::Unit(unit) => core.deliver_named(unit, name),
+        other => core.deliver(other, true),
     }
 }
 

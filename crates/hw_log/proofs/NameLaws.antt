@@ -1,0 +1,41 @@
+-- A unit's spelling stands in that of its vertex, between the kind and the signature.
+use Rattle.std.proofs.Common.{◌≡◌, ℕ, ◌+◌, ◌-◌, ◌<◌, List, ◌∷◌, ◌++◌, length, take, drop, Ok, sym, ap, subst, ◌∙◌, arith, length-append}
+use Rattle.std.specs.Prelude.{slice_range}
+use Rattle.std.proofs.Math.Seq.{take-append_seam}
+use Rattle.sha2.specs.Sha256.{sha256}
+use Rattle.hw_types.specs.declared.unit.SignedUnit.{SignedUnit}
+use Rattle.hw_types.specs.declared.unit.Vertex.{Vertex}
+use Rattle.hw_types.specs.declared.unit.Vertex.TheVariants as vertex
+use Rattle.hw_types.specs.Spelling.{unit_bytes, digest_of}
+use Rattle.hw_types.specs.Reading.{vertex_of}
+use Rattle.hw_codec.specs.Ranges.{AreBytes}
+use Rattle.hw_codec.proofs.Spelled.{vertex_read_spells, vertex_read_in_range}
+use Rattle.hw_log.specs.Named.{IsNameOf}
+
+long : (bytes unit signature : List ℕ) (kind : ℕ) → bytes ≡ kind ∷ (unit ++ signature) → length bytes ≡ 1 + length unit + length signature
+long bytes unit signature kind is = let same = ap (λ (l : List ℕ). length l) is in omega (arith, length-append unit signature)
+
+between : (bytes unit signature : List ℕ) (kind size : ℕ) → bytes ≡ kind ∷ (unit ++ signature) → length signature ≡ size → slice_range bytes 1 (length bytes - size) ≡ unit
+between bytes unit signature kind size is count =
+    let whole = long bytes unit signature kind is in
+    let n : length bytes - size - 1 ≡ length unit = omega arith in
+    ap (λ (l : List ℕ). take (length bytes - size - 1) (drop 1 l)) is ∙ ap (λ (m : ℕ). take m (unit ++ signature)) n ∙ take-append_seam unit signature
+
+-- there are more bytes than those of the signature
+pub holds_unit : (bytes : List ℕ) (v : Vertex) (s : SignedUnit) → AreBytes bytes → vertex_of bytes ≡ Ok v → v ≡ vertex.Unit s → 32 < length bytes
+holds_unit bytes v s are read is =
+    let read' = read ∙ ap Ok is in
+    let whole = long bytes (unit_bytes s.unit) s.signature.0 1 (vertex_read_spells bytes (vertex.Unit s) are read').is in
+    let size = (vertex_read_in_range bytes (vertex.Unit s) are read').signature.size in
+    omega arith
+
+-- the digest of what stands between is the unit's name
+pub named_between : (bytes unit digest : List ℕ) (v : Vertex) (s : SignedUnit) → AreBytes bytes → vertex_of bytes ≡ Ok v → v ≡ vertex.Unit s
+    → unit ≡ slice_range bytes 1 (length bytes - 32) → digest ≡ sha256 unit → IsNameOf v (record { 0 = digest })
+unfolding digest_of
+named_between bytes unit digest v s are read is part hashed =
+    let read' = read ∙ ap Ok is in
+    let spelled = (vertex_read_spells bytes (vertex.Unit s) are read').is in
+    let size = (vertex_read_in_range bytes (vertex.Unit s) are read').signature.size in
+    let whole = hashed ∙ ap sha256 (part ∙ between bytes (unit_bytes s.unit) s.signature.0 1 32 spelled size) in
+    subst (λ (w : Vertex). IsNameOf w (record { 0 = digest })) (sym is) (ap (λ (h : List ℕ). record { 0 = h }) whole)
