@@ -1,28 +1,33 @@
 -- Laws of the list of the first needs.
-use Rattle.std.proofs.Common.{◌≡◌, ℕ, ◌+◌, ◌<◌, ◌≤◌, Bool, true, false, not, cond, List, [], ◌∷◌, ◌++◌, length, take, drop, filter, refl, sym, ap, ◌∙◌, arith}
+use Rattle.std.proofs.Common.{◌≡◌, ℕ, ◌+◌, ◌<◌, ◌≤◌, Bool, true, false, not, cond, List, [], ◌∷◌, ◌++◌, length, take, drop, filter, refl, sym, ap, ◌∙◌, arith, Option, Some, None}
 use Rattle.std.specs.Prelude.{◌||◌, ◌&&◌, nat_le}
 use Rattle.std.specs.List.{list_any}
+use Rattle.std.specs.BTreeSet.{BTreeSet}
 use Rattle.std.proofs.lemmas.Bool.Decides.{nat_tests}
 use Rattle.std.proofs.lemmas.List.{take_at, take_all, append_assoc, append-nil, length-append}
 use Rattle.hw_types.specs.declared.unit.Need.{Need}
 use Rattle.hw_types.specs.Settled.{need_eq, distinct}
 use Rattle.hw_park.specs.declared.key.NeedKey.{NeedKey}
-use Rattle.hw_park.specs.Left.{has_key, left_of}
+use Rattle.hw_park.specs.Left.{left_of, is_left_by, left_by}
 use Rattle.hw_park.specs.First.{with_first, with_firsts}
 use Rattle.hw_park.proofs.KeyLaws.{need_same}
 
 -- one need more, which is left or not
-pub put_step : (keys : List NeedKey) (items : List Need) (i most : ℕ) (n : Need) (ns now : List Need) (b : Bool) → drop i items ≡ n ∷ drop (i + 1) items → has_key keys n ≡ b → now ≡ cond b (with_first most ns n) ns
-    → with_firsts most now (left_of keys (drop (i + 1) items)) ≡ with_firsts most ns (left_of keys (drop i items))
+pub put_step : (keys : Option (BTreeSet NeedKey)) (items : List Need) (i most : ℕ) (n : Need) (ns now : List Need) (b : Bool) → drop i items ≡ n ∷ drop (i + 1) items → is_left_by keys n ≡ b
+    → now ≡ cond b (with_first most ns n) ns → with_firsts most now (left_by keys (drop (i + 1) items)) ≡ with_firsts most ns (left_by keys (drop i items))
 put_step keys items i most n ns now b more has is =
-    ap (λ (xs : List Need). with_firsts most xs (left_of keys rest)) is ∙ go b has ∙ sym (ap (λ (xs : List Need). with_firsts most ns (left_of keys xs)) more)
+    ap (λ (xs : List Need). with_firsts most xs (left_by keys rest)) is ∙ go b ∙ sym (ap (λ (xs : List Need). with_firsts most ns (left_by keys xs)) more ∙ ap (with_firsts most ns) (one_more keys has))
   where
     rest : List Need
     rest = drop (i + 1) items
 
-    go : (b : Bool) → has_key keys n ≡ b → with_firsts most (cond b (with_first most ns n) ns) (left_of keys rest) ≡ with_firsts most ns (left_of keys (n ∷ rest))
-    go true e = rw e refl
-    go false e = rw e refl
+    one_more : (keys : Option (BTreeSet NeedKey)) → is_left_by keys n ≡ b → left_by keys (n ∷ rest) ≡ cond b (n ∷ left_by keys rest) (left_by keys rest)
+    one_more None has = ap (λ (b : Bool). cond b (n ∷ rest) rest) has
+    one_more (Some set) has = ap (λ (b : Bool). cond b (n ∷ left_of set.keys rest) (left_of set.keys rest)) has
+
+    go : (b : Bool) → with_firsts most (cond b (with_first most ns n) ns) (left_by keys rest) ≡ with_firsts most ns (cond b (n ∷ left_by keys rest) (left_by keys rest))
+    go true = refl
+    go false = refl
 
 -- the list, and these needs behind it
 pub firsts-append : (most : ℕ) (ns xs ys : List Need) → with_firsts most ns (xs ++ ys) ≡ with_firsts most (with_firsts most ns xs) ys

@@ -1,14 +1,15 @@
 -- Laws of the needs that are left.
-use Rattle.std.proofs.Common.{◌≡◌, ℕ, ◌<◌, ◌+◌, Bool, true, false, cond, ◌||◌, ◌==◌, List, [], ◌∷◌, length, take, get_or, refl, sym, ap, ◌∙◌, subst, rules}
+use Rattle.std.proofs.Common.{◌≡◌, ℕ, ◌<◌, ◌+◌, Bool, true, false, not, cond, ◌||◌, ◌==◌, List, [], ◌∷◌, length, take, get_or, refl, sym, ap, ◌∙◌, subst, rules}
 use Rattle.std.specs.List.{list_any}
 use Rattle.std.proofs.lemmas.List.Folds.{list_any_more}
 use Rattle.hw_types.specs.declared.unit.Need.{Need}
+use Rattle.hw_types.specs.contracts.unit.NeedPartialEq.TheImpl as test
 use Rattle.hw_types.specs.Settled.{need_eq}
 use Rattle.hw_park.specs.declared.key.NeedKey.{NeedKey}
 use Rattle.hw_park.specs.Keys.{key_of, ties}
 use Rattle.hw_park.specs.Left.{has_key, left_of, AreKeysOf, AreAllKeys}
 use Rattle.hw_park.specs.Parked.{without_need}
-use Rattle.hw_park.proofs.KeyLaws.{key_same, need_same, need_self, need_of, key_of_need}
+use Rattle.hw_park.proofs.KeyLaws.{key_same, need_same, need_self, need_turned, need_of, key_of_need, test_same}
 
 -- the keys with one more
 pub keys_more : (old new : List NeedKey) (needs : List Need) (i : ℕ) (d : Need) → i < length needs
@@ -19,7 +20,7 @@ keys_more old new needs i d within puts all n =
     ∙ ap (λ (b : Bool). cond b true (has_key old n)) (key_same (get_or needs i d) n)
     ∙ ap (λ (b : Bool). cond (need_eq (get_or needs i d) n) true b) (all n)
     ∙ either (need_eq (get_or needs i d) n) (list_any (need_eq n) (take i needs))
-    ∙ ap (λ (b : Bool). list_any (need_eq n) (take i needs) || b) (turned (get_or needs i d) n)
+    ∙ ap (λ (b : Bool). list_any (need_eq n) (take i needs) || b) (need_turned (get_or needs i d) n)
     ∙ sym (list_any_more (need_eq n) needs i d within)
   where
     either : (a b : Bool) → cond a true b ≡ b || a
@@ -27,14 +28,6 @@ keys_more old new needs i d within puts all n =
     either true false = refl
     either false true = refl
     either false false = refl
-
-    turned : (m n : Need) → need_eq m n ≡ need_eq n m
-    turned m n = go (need_eq m n) refl (need_eq n m) refl
-      where
-        go : (a : Bool) → need_eq m n ≡ a → (b : Bool) → need_eq n m ≡ b → need_eq m n ≡ need_eq n m
-        go true e b f = ap (λ (x : Need). need_eq m x) (sym (need_same m n e)) ∙ need_self m ∙ sym (need_self n) ∙ ap (λ (x : Need). need_eq n x) (sym (need_same m n e))
-        go false e true f = ap (λ (x : Need). need_eq m x) (need_same n m f) ∙ need_self m ∙ sym f
-        go false e false f = e ∙ sym f
 
 -- all needs are left
 pub all_left : (keys : List NeedKey) (needs : List Need) → AreAllKeys keys needs → left_of keys needs ≡ needs
@@ -50,6 +43,10 @@ all_left keys needs all = go needs (λ n h. all n ∙ h)
         right : (a b : Bool) → b ≡ true → a || b ≡ true
         right true b h = refl
         right false b h = h
+
+-- a need stays where it isn't the one that is struck
+pub kept_test : (m n : Need) → not (test.eq-value.it n m) ≡ not (need_eq m n)
+kept_test m n = ap not (test_same n m ∙ need_turned n m)
 
 -- one key less
 pub left_struck : (old new : List NeedKey) (needs : List Need) (m : Need)

@@ -1,6 +1,8 @@
--- The needs that an item has left: those whose key is still kept.
-use Rattle.std.specs.Prelude.{◌≡◌, Bool, true, List, filter}
+-- The needs that an item has left: all of its list, or those whose key is still kept.
+use Rattle.std.specs.Prelude.{◌≡◌, Bool, true, List, filter, Option, IfSome}
 use Rattle.std.specs.List.{list_any}
+use Rattle.std.specs.Option.{option_map_or}
+use Rattle.std.specs.BTreeSet.{BTreeSet}
 use Rattle.hw_types.specs.declared.unit.Need.{Need}
 use Rattle.hw_types.specs.Settled.{need_eq}
 use Rattle.hw_park.specs.declared.key.NeedKey.{NeedKey}
@@ -21,3 +23,15 @@ AreKeysOf keys needs = (n : Need) → has_key keys n ≡ true → list_any (need
 -- the keys are exactly those of the needs
 abbrev pub AreAllKeys : List NeedKey → List Need → Type 0
 AreAllKeys keys needs = (n : Need) → has_key keys n ≡ list_any (need_eq n) needs
+
+-- no keys are kept, or the need's key is among them
+abbrev pub is_left_by : Option (BTreeSet NeedKey) → Need → Bool
+is_left_by keys n = option_map_or (λ set. has_key set.keys n) keys true
+
+-- all needs where no keys are kept, else those whose keys are among them
+abbrev pub left_by : Option (BTreeSet NeedKey) → List Need → List Need
+left_by keys needs = option_map_or (λ set. left_of set.keys needs) keys needs
+
+-- where keys are kept, each is that of one of the needs
+abbrev pub AreKeptFor : Option (BTreeSet NeedKey) → List Need → Type 0
+AreKeptFor keys needs = IfSome keys (λ set. AreKeysOf set.keys needs)

@@ -2,7 +2,7 @@
 
 ghost use Rattle.std.specs.Prelude.{◌≡◌, ◌≤◌, ◌==◌, length, take, IfOk};
 ghost use Rattle.hw_park.specs.First.{with_first, with_firsts};
-ghost use Rattle.hw_park.specs.Left.{AreAllKeys};
+ghost use Rattle.hw_park.specs.Left.{is_left_by, AreAllKeys};
 ghost use Rattle.hw_park.specs.Parked.{without_need};
 
 use crate::key::{NeedKey, key_of};
@@ -11,12 +11,17 @@ use std::alloc::Global;
 use std::collections::BTreeSet;
 use std::marker::Model;
 
-/// The needs of an item, in their order, and the keys of those that aren't met. So a need is struck at the
-/// cost of a look-up, however many there are.
+/// So many needs are looked through one by one.
+const FEW: usize = 16;
+
+/// The needs of an item, in their order. Where they are few, a need that is met is taken out of the list.
+/// Where they are more, the list stays as it was, and the keys of those that aren't met are kept beside it.
+/// So a need is struck at the cost of a look-up, however many there are.
 #[derive(Drop)]
 pub struct NeedsLeft {
     needs: Vec<Need>,
-    keys: BTreeSet<NeedKey>,
+    /// None where the needs are few.
+    keys: Option<BTreeSet<NeedKey>>,
 }
 
 impl Model for NeedsLeft {
@@ -25,11 +30,11 @@ impl Model for NeedsLeft {
 
     ghost Value = { List Wanted };
 
-    ghost use Rattle.hw_park.specs.Left.{left_of, AreKeysOf};
+    ghost use Rattle.hw_park.specs.Left.{left_by, AreKeptFor};
 
-    ghost view = { λ l. left_of l.keys.keys l.needs.items };
+    ghost view = { λ l. left_by l.keys l.needs.items };
 
-    ghost invariant = { λ l. AreKeysOf l.keys.keys l.needs.items };
+    ghost invariant = { λ l. AreKeptFor l.keys l.needs.items };
 }
 
 impl NeedsLeft {
@@ -37,7 +42,11 @@ impl NeedsLeft {
     pub fn new(alloc: Global, needs: &[Need]) -> Result<NeedsLeft, OutOfMemory>
         ensures { IfOk result (λ left. left ≡ needs.now) }
     {
-        let keys = keys_of(alloc, needs)?;
+        let keys = if needs.len() > FEW {
+            Some(keys_of(alloc, needs)?)
+        } else {
+            None
+        };
         let needs = Vec::from_slice(alloc, needs)?;
         Ok(NeedsLeft { needs, keys })
     }
@@ -46,7 +55,10 @@ impl NeedsLeft {
     pub fn is_empty(&self) -> bool
         ensures { result ≡ (length self.now == 0) }
     {
-        self.keys.is_empty()
+        match &self.keys {
+            Some(keys) => keys.is_empty(),
+            None => self.needs.is_empty(),
+        }
     }
 
     /// Puts the needs into the list behind the first so many, but for those that stand there, while it has
@@ -62,7 +74,7 @@ impl NeedsLeft {
         }
         let mut filled = count;
         for need in &self.needs {
-            if self.keys.contains(&key_of(need)) {
+            if is_left(&self.keys, need) {
                 filled = put_once(list, filled, need);
             }
         }
@@ -73,7 +85,22 @@ impl NeedsLeft {
     pub fn strike(&mut self, need: &Need)
         ensures { self.new ≡ without_need need.now self.old }
     {
-        self.keys.remove(&key_of(need));
+        match &mut self.keys {
+            Some(keys) => {
+                keys.remove(&key_of(need));
+            }
+            None => self.needs.retain(|left| left != need),
+        }
+    }
+}
+
+// Whether a need of the list is left: its key is there, or the list has no keys.
+fn is_left(keys: &Option<BTreeSet<NeedKey>>, need: &Need) -> bool
+    ensures { result ≡ is_left_by keys.now need.now }
+{
+    match keys {
+        Some(keys) => keys.contains(&key_of(need)),
+        None => true,
     }
 }
 

@@ -9,8 +9,9 @@
 //! is taken again once the item is gone. An ordered table has the places by number, one the numbers that
 //! wait for each need, and a heap has the numbers of the items without a need left. Peers choose what is
 //! needed, so no table's cost depends on it. To meet a need costs a few look-ups for each item that waits
-//! for it, and to hand one out costs the logarithm of how many are parked. All memory is taken when an item
-//! is parked; where it isn't enough, what was noted for the item is taken back.
+//! for it, and a walk through the item's needs where these are few. To hand one out costs the logarithm of
+//! how many are parked. All memory is taken when an item is parked; where it isn't enough, what was noted
+//! for the item is taken back.
 #![tactic(auto)]
 
 mod key;

@@ -97,6 +97,10 @@ impl<T: Drop> Park<T> {
     pub fn met(&mut self, need: &Need)
         ensures { self.new ≡ record self.old { waiting = struck need.now self.old.waiting } }
     {
+        // Mostly nothing is parked, and then there is nothing to look up.
+        if self.count == 0 {
+            return;
+        }
         let Some(numbers) = self.waits.remove(&key_of(need)) else {
             return;
         };
@@ -116,9 +120,9 @@ impl<T: Drop> Park<T> {
         ensures unchanged { IfNone result (self.new ≡ self.old) }
     {
         let Reverse(number) = self.ready.pop()?;
-        let Waiter { item, .. } = self.waiters.remove(number)?;
+        let waiter = self.waiters.remove(number)?;
         self.count -= 1;
-        Some(item)
+        Some(waiter.into_item())
     }
 
     /// Parks an item until all of its needs are met. Where it is refused, it comes back and nothing has
@@ -161,7 +165,7 @@ impl<T: Drop> Park<T> {
             }
             Err(waiter) => {
                 withdraw(&mut self.waits, needs);
-                Err(refused(ParkCause::OutOfMemory, waiter.item))
+                Err(refused(ParkCause::OutOfMemory, waiter.into_item()))
             }
         }
     }

@@ -20,6 +20,16 @@ pub struct Waiter<T> {
     pub item: T,
 }
 
+impl<T: Drop> Waiter<T> {
+    /// The item alone.
+    pub fn into_item(self) -> T
+        ensures { result ≡ self.item }
+    {
+        let Waiter { item, .. } = self;
+        item
+    }
+}
+
 /// The parked items by number. Numbers rise from one parking to the next, and places in the slab are
 /// taken again.
 #[derive(Drop)]

@@ -1,4 +1,4 @@
-use Rattle.std.proofs.Common.{◌∙◌, sym, ap, List, heap_items, heap_len}
+use Rattle.std.proofs.Common.{◌∙◌, sym, ap, Some, List, heap_items, heap_len}
 use Rattle.std.specs.BinaryHeap.{heap_capacity}
 use Rattle.hw_park.specs.Parked.{Waiting}
 use Rattle.hw_park.specs.Held.{held, seen}
@@ -19,26 +19,26 @@ pub invariant_of-self-2 : goal.invariant_of-self-2
 invariant_of-self-2 g c =
     rw c.pop.ensures.capacity
     (handed_out c.self.inside.limit c.self.inside.count c.self.inside.next (held c.self.inside.waiters) (held c.remove.new.self) c.self.inside.waits.entries
-    (heap_items c.self.inside.ready) (heap_items c.pop.new.self) (heap_len c.self.inside.ready) (heap_len c.pop.new.self) _ c.in_ok-number.field-0 (seen c.in_ok-item.field-0)
+    (heap_items c.self.inside.ready) (heap_items c.pop.new.self) (heap_len c.self.inside.ready) (heap_len c.pop.new.self) _ c.in_ok-number.field-0 (seen c.in_ok-waiter.waiter)
     c.self.invariant c.in_ok-number.ensures.permutation (c.in_ok-number.ensures.below_top c.self.invariant.queue.ordered) (c.in_ok-number.ensures.heap_order c.self.invariant.queue.ordered).0
-    c.in_ok-number.ensures.len (sym c.in_ok-item.ensures.item) (record { at = c.in_ok-item.ensures.held })).kept
+    c.in_ok-number.ensures.len (sym c.in_ok-waiter.ensures.item) (record { at = c.in_ok-waiter.ensures.held })).kept
 
 pub returns-clause-item : goal.returns-clause-item
 returns-clause-item g c =
     rw (← c.self.view_is)
-    (handed_out c.self.inside.limit c.self.inside.count c.self.inside.next (held c.self.inside.waiters) (held c.remove.new.self) c.self.inside.waits.entries
-    (heap_items c.self.inside.ready) (heap_items c.pop.new.self) (heap_len c.self.inside.ready) (heap_len c.pop.new.self) _ c.in_ok-number.field-0 (seen c.in_ok-item.field-0)
+    (ap Some c.into_item.ensures ∙ (handed_out c.self.inside.limit c.self.inside.count c.self.inside.next (held c.self.inside.waiters) (held c.remove.new.self) c.self.inside.waits.entries
+    (heap_items c.self.inside.ready) (heap_items c.pop.new.self) (heap_len c.self.inside.ready) (heap_len c.pop.new.self) _ c.in_ok-number.field-0 (seen c.in_ok-waiter.waiter)
     c.self.invariant c.in_ok-number.ensures.permutation (c.in_ok-number.ensures.below_top c.self.invariant.queue.ordered) (c.in_ok-number.ensures.heap_order c.self.invariant.queue.ordered).0
-    c.in_ok-number.ensures.len (sym c.in_ok-item.ensures.item) (record { at = c.in_ok-item.ensures.held })).item_is
+    c.in_ok-number.ensures.len (sym c.in_ok-waiter.ensures.item) (record { at = c.in_ok-waiter.ensures.held })).item_is)
 
 pub returns-clause-others : goal.returns-clause-others
 returns-clause-others g c =
     rw (← c.self.view_is)
     (ap (λ (ws : List (Waiting g.row.T.Denot)). record { limit = c.self.inside.limit; waiting = ws })
     (handed_out c.self.inside.limit c.self.inside.count c.self.inside.next (held c.self.inside.waiters) (held c.remove.new.self) c.self.inside.waits.entries
-    (heap_items c.self.inside.ready) (heap_items c.pop.new.self) (heap_len c.self.inside.ready) (heap_len c.pop.new.self) (heap_capacity c.self.inside.ready) c.in_ok-number.field-0 (seen c.in_ok-item.field-0)
+    (heap_items c.self.inside.ready) (heap_items c.pop.new.self) (heap_len c.self.inside.ready) (heap_len c.pop.new.self) (heap_capacity c.self.inside.ready) c.in_ok-number.field-0 (seen c.in_ok-waiter.waiter)
     c.self.invariant c.in_ok-number.ensures.permutation (c.in_ok-number.ensures.below_top c.self.invariant.queue.ordered) (c.in_ok-number.ensures.heap_order c.self.invariant.queue.ordered).0
-    c.in_ok-number.ensures.len (sym c.in_ok-item.ensures.item) (record { at = c.in_ok-item.ensures.held })).others)
+    c.in_ok-number.ensures.len (sym c.in_ok-waiter.ensures.item) (record { at = c.in_ok-waiter.ensures.held })).others)
 
 pub returns-clause-none : goal.returns-clause-none
 returns-clause-none g c =
@@ -46,7 +46,7 @@ returns-clause-none g c =
       λ e. absurd cc,
       λ all. absurd (none_waits _ all _
           (handed_out c.self.inside.limit c.self.inside.count c.self.inside.next (held c.self.inside.waiters) (held c.remove.new.self) c.self.inside.waits.entries
-          (heap_items c.self.inside.ready) (heap_items c.pop.new.self) (heap_len c.self.inside.ready) (heap_len c.pop.new.self) (heap_capacity c.self.inside.ready) c.in_ok-number.field-0 (seen c.in_ok-item.field-0)
+          (heap_items c.self.inside.ready) (heap_items c.pop.new.self) (heap_len c.self.inside.ready) (heap_len c.pop.new.self) (heap_capacity c.self.inside.ready) c.in_ok-number.field-0 (seen c.in_ok-waiter.waiter)
           c.self.invariant c.in_ok-number.ensures.permutation (c.in_ok-number.ensures.below_top c.self.invariant.queue.ordered) (c.in_ok-number.ensures.heap_order c.self.invariant.queue.ordered).0
-          c.in_ok-number.ensures.len (sym c.in_ok-item.ensures.item) (record { at = c.in_ok-item.ensures.held })).item_is),
+          c.in_ok-number.ensures.len (sym c.in_ok-waiter.ensures.item) (record { at = c.in_ok-waiter.ensures.held })).item_is),
     )
