@@ -6,13 +6,12 @@ use Rattle.std.proofs.lemmas.List.{take-append-drop, drop-append-le, drop_all, l
 use Rattle.std.proofs.lemmas.Bool.{cases_lt}
 use Rattle.std.proofs.lemmas.List.Folds.{list_any-append}
 use Rattle.hw_types.specs.declared.unit.Need.{Need}
-use Rattle.hw_types.specs.declared.unit.Need.TheVariants as need
 use Rattle.hw_types.specs.contracts.unit.NeedPartialEq.TheImpl as test
 use Rattle.hw_types.specs.Settled.{need_eq}
 use Rattle.hw_park.specs.declared.key.NeedKey.{NeedKey}
 use Rattle.hw_park.specs.Keys.{key_of, ties}
 use Rattle.hw_park.specs.Left.{has_key}
-use Rattle.hw_park.proofs.KeyLaws.{key_same}
+use Rattle.hw_park.proofs.KeyLaws.{key_same, test_same}
 use Rattle.hw_core.specs.Missing.{AreKeysBehind}
 use Rattle.hw_core.proofs.MissingLaws.{any_last}
 
@@ -50,17 +49,6 @@ any_looked p needs k few within whole =
     behind (inr more) = let same : k ≡ 16 = omega arith in ap (λ (n : ℕ). drop n needs) same
 
 -- the derived test is that of the definitions
-test_same : (m n : Need) → test.eq-value.it m n ≡ need_eq m n
-test_same (need.Unit d) (need.Unit e) = refl
-test_same (need.Evidence v) (need.Evidence w) = refl
-test_same (need.Endorsed d) (need.Endorsed e) = refl
-test_same (need.Unit d) (need.Evidence w) = refl
-test_same (need.Unit d) (need.Endorsed e) = refl
-test_same (need.Evidence v) (need.Unit e) = refl
-test_same (need.Evidence v) (need.Endorsed e) = refl
-test_same (need.Endorsed d) (need.Unit e) = refl
-test_same (need.Endorsed d) (need.Evidence w) = refl
-
 pub tests_same : (n : Need) (needs : List Need) → list_any (λ m. test.eq-value.it m n) needs ≡ list_any (λ m. need_eq m n) needs
 tests_same n needs = λ i. list_any (λ m. test_same m n i) needs
 

@@ -58,9 +58,12 @@ impl Wanted {
     pub fn put(&mut self, need: Need) -> Result<(), OutOfMemory>
         ensures { OnOk result (self.new ≡ self.old ++ need ∷ []) }
     {
-        // Once there is room for it, only its key can want memory, and then nothing has changed.
-        self.needs.reserve(1)?;
-        if self.needs.len() >= FEW {
+        if self.needs.len() < FEW {
+            // The first few get their room at once.
+            self.needs.reserve(FEW - self.needs.len())?;
+        } else {
+            // Once there is room for it, only its key can want memory, and then nothing has changed.
+            self.needs.reserve(1)?;
             self.keys.insert(key_of(&need))?;
         }
         self.needs.push_reserved(need);
