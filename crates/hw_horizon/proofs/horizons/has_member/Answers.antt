@@ -1,4 +1,4 @@
-use Rattle.std.proofs.Common.{◌≡◌, ◌+◌, length, sym, ap, ◌∙◌, arith}
+use Rattle.std.proofs.Common.{sym, ◌∙◌, arith}
 use Rattle.hw_dag.specs.Dag.{graph, observations, node_at}
 use Rattle.hw_horizon.proofs.KeptLaws.{member_above}
 use Rattle.hw_horizon.proofs.horizons.has_member.Goals as goal

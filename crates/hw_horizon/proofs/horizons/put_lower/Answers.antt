@@ -1,6 +1,6 @@
 use Rattle.std.proofs.Common.{◌≡◌, ◌+◌, length, sym, ap, subst, refl, ◌∙◌, arith}
 use Rattle.hw_dag.specs.Dag.{graph, observations, node_at}
-use Rattle.hw_horizon.specs.Tables.{Starts, pruned_table}
+use Rattle.hw_horizon.specs.Tables.{Starts}
 use Rattle.hw_horizon.specs.Starts.{HasSlots}
 use Rattle.hw_horizon.proofs.SightLaws.{vote_start_is, slots_first}
 use Rattle.hw_horizon.proofs.RoundLaws.{first_table, level_table, after_slots, after_length}

@@ -1,6 +1,6 @@
-use Rattle.std.proofs.Common.{◌≡◌, ℕ, true, false, get_or, sym, ap, ◌∙◌, arith}
+use Rattle.std.proofs.Common.{◌≡◌, true, false, sym, ap, ◌∙◌, arith}
 use Rattle.std.specs.Prelude.{is_some, not}
-use Rattle.hw_horizon.specs.Tables.{is_member, entry}
+use Rattle.hw_horizon.specs.Tables.{is_member}
 use Rattle.hw_horizon.proofs.RoundLaws.{put_same}
 use Rattle.hw_horizon.proofs.StrikeLaws.{other_entry, fallen_firsts}
 use Rattle.hw_horizon.proofs.WeightLaws.{one_fewer}
