@@ -14,7 +14,8 @@ use Rattle.hw_dag.specs.Lanes.{is_lane_below}
 use Rattle.hw_dag.specs.Tables.{predecessor_of}
 use Rattle.hw_horizon.specs.Starts.{votes_over}
 use Rattle.hw_horizon.specs.Firsts.{is_after, sees_after, weight_after, has_quorum}
-use Rattle.hw_horizon.specs.Bounds.{LevelBound, KeptBounds, AreBounds, tip_in, bound_of, first_of, support_of, counts_at, counts_over, IsFirstOf, IsBounded, AreLowered}
+use Rattle.hw_horizon.specs.Bounds.{LevelBound, KeptBounds, AreBounds, tip_in, bound_of, first_of, support_of, counts_at, counts_over, IsFirstOf, IsBounded, AreLowered, IsOutside}
+use Rattle.hw_horizon.specs.declared.follow.Span.{Span}
 use Rattle.hw_horizon.proofs.LaneLaws.{lane_self, lane_same, lane_lower, lane_above, before_is, first_is}
 use Rattle.hw_horizon.proofs.BoundLaws.{lane_earlier, lane_order}
 
@@ -280,3 +281,32 @@ tips_put panorama tips long put v tip e = elim (cases_lt v (length panorama)) [
   | inl lt ↦ tip_correct (view_at panorama v) tip (sym (put v lt) ∙ e)
   | inr le ↦ (let none = get_or-eq_default tips None (let same = long in omega arith) in absurd (let bad : None ≡ Some tip = sym none ∙ e in cc))
 ]
+
+-- ---- whose latest unit changed
+
+-- before this validator, the latest units outside the span are those that are kept
+pub record HasSame (panorama : List View) (tips : List (Option UnitNo)) (span : Span) (v : ℕ) : Type 0 where
+  pub order : span.from ≤ span.to
+  pub behind : span.to ≤ v
+  pub same : (w : ℕ) → w < v → IsOutside span w → get_or tips w None ≡ tip_in (view_at panorama w)
+
+pub same_stretched : (panorama : List View) (tips : List (Option UnitNo)) (span next : Span) (v : ℕ) → HasSame panorama tips span v → next.from ≤ v → next.to ≡ v + 1
+    → ((w : ℕ) → w < v → IsOutside next w → IsOutside span w) → HasSame panorama tips next (v + 1)
+same_stretched panorama tips span next v h from to outside = record {
+  order = omega arith;
+  behind = omega arith;
+  same = λ w lt out. elim (cases_lt w v) [
+    | inl less ↦ h.same w less (outside w less out)
+    | inr le ↦ elim out [ inl before ↦ absurd (omega arith) | inr past ↦ absurd (omega arith) ]
+  ];
+}
+
+pub same_kept : (panorama : List View) (tips : List (Option UnitNo)) (span : Span) (v : ℕ) → HasSame panorama tips span v → get_or tips v None ≡ tip_in (view_at panorama v) → HasSame panorama tips span (v + 1)
+same_kept panorama tips span v h here = record {
+  order = h.order;
+  behind = let le = h.behind in omega arith;
+  same = λ w lt out. elim (cases_lt w v) [
+    | inl less ↦ h.same w less out
+    | inr le ↦ (let is : v ≡ w = omega arith in subst (λ (k : ℕ). get_or tips k None ≡ tip_in (view_at panorama k)) is here)
+  ];
+}

@@ -9,6 +9,7 @@ use Rattle.hw_dag.specs.Dag.{UnitGraph, count_of, view_at}
 use Rattle.hw_dag.specs.Lanes.{is_lane_below}
 use Rattle.hw_horizon.specs.Firsts.{weight_after, has_quorum}
 use Rattle.hw_horizon.specs.Starts.{votes_over}
+use Rattle.hw_horizon.specs.declared.follow.Span.{Span}
 
 -- of one level: for each validator the number of the first unit that may count, and at least the weight that its latest unit sees of them
 pub record LevelBound : Type 0 where
@@ -91,3 +92,7 @@ counts_over weights dag block least is_votes firsts n = if is_votes then votes_o
 -- each first unit is no lesser than before, or no lesser than this number
 abbrev pub AreLowered : LevelBound → LevelBound → ℕ → Type 0
 AreLowered old new low = (v : ℕ) → (first_of old v ≤ first_of new v) ⊎ (low ≤ first_of new v)
+
+-- the validator is before or behind the span
+abbrev pub IsOutside : Span → ℕ → Type 0
+IsOutside span v = (v < span.from) ⊎ (span.to ≤ v)

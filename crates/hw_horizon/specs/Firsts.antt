@@ -1,5 +1,5 @@
 -- What a unit sees of a committee, by numbers of units alone.
-use Rattle.std.specs.Prelude.{◌≡◌, ℕ, ◌<◌, Bool, true, false, nat_le, List, is_some, slice_index_or}
+use Rattle.std.specs.Prelude.{◌≡◌, ℕ, ◌<◌, ◌^◌, Bool, true, false, nat_le, List, is_some, slice_index_or}
 use Rattle.hw_types.specs.Votes.{weight_of}
 use Rattle.hw_dag.specs.declared.numbers.View.{View}
 use Rattle.hw_dag.specs.declared.numbers.View.TheVariants as view
@@ -40,3 +40,7 @@ pub record IsFirst (dag : UnitGraph) (slot : View) (lower present : Starts) (v f
 -- the first unit of each validator
 abbrev pub AreFirsts : UnitGraph → List View → Starts → Starts → List ℕ → Type 0
 AreFirsts dag panorama lower present firsts = (v : ℕ) → v < dag.validators → IsFirst dag (view_at panorama v) lower present v (slice_index_or firsts v 0)
+
+-- each is a number of 32 bits
+abbrev pub AreNumbers : List ℕ → Type 0
+AreNumbers firsts = (v : ℕ) → slice_index_or firsts v 0 < 2 ^ 32

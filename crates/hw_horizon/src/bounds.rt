@@ -10,10 +10,10 @@ ghost use Rattle.hw_types.specs.Votes.{weight_of};
 ghost use Rattle.hw_dag.specs.declared.numbers.UnitNo.{UnitNo as Number};
 ghost use Rattle.hw_dag.specs.Dag.{UnitGraph, IsPanorama, count_of, view_at};
 ghost use Rattle.hw_dag.specs.Lanes.{AreWeights};
-ghost use Rattle.hw_horizon.specs.Bounds.{AreBounds, AreTips, AreWide, IsBounded, IsRuledOut, bound_of, support_of, tip_in};
+ghost use Rattle.hw_horizon.specs.Bounds.{AreBounds, AreTips, AreWide, IsBounded, IsOutside, IsRuledOut, bound_of, support_of, tip_in};
 
 use crate::firsts::{Firsts, NO_UNIT};
-use crate::follow::follow_level;
+use crate::follow::{Span, changed_span, follow_level};
 use hw_dag::{Dag, Panorama, UnitNo, View};
 use hw_types::{OutOfMemory, WeightList};
 use std::alloc::Global;
@@ -167,6 +167,7 @@ impl Bounds {
         forget_unless(self.tips.as_mut_slice(), again);
         self.block = Some(block);
         self.least = least;
+        let changed = changed_span(dag, panorama, self.tips.as_slice());
         follow_levels(
             self.levels.as_mut_slice(),
             &mut self.lower,
@@ -176,6 +177,7 @@ impl Bounds {
             self.tips.as_slice(),
             block,
             least,
+            changed,
         );
         put_tips(self.tips.as_mut_slice(), dag, panorama);
     }
@@ -211,11 +213,14 @@ fn follow_levels(
     tips: &[Option<UnitNo>],
     block: UnitNo,
     least: u64,
+    changed: Span,
 )
     requires panorama { IsPanorama dag.now panorama.now }
     requires weights { AreWeights weights.now dag.now }
     requires known { block.0 < count_of dag.now }
     requires tips { length tips.now ≡ dag.now.validators }
+    requires changed { (v : ℕ) → v < dag.now.validators → IsOutside changed v → slice_index_or tips.now v None ≡ tip_in (view_at panorama.now v) }
+    requires span { changed.to ≤ dag.now.validators }
     requires firsts { (j : ℕ) → j < length levels.old → length (bound_of levels.old j).firsts ≡ dag.now.validators }
     requires support { (j : ℕ) → j < length levels.old → length (bound_of levels.old j).support ≡ dag.now.validators }
     requires lower_firsts { length lower.old.firsts ≡ dag.now.validators }
@@ -241,6 +246,7 @@ fn follow_levels(
             tips,
             block,
             least,
+            changed,
             low,
         );
         lower.copy_from(&levels[level]);

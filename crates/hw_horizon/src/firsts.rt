@@ -8,7 +8,7 @@ ghost use Rattle.hw_dag.specs.Dag.{count_of, graph, observations, unit_at, seq_o
 ghost use Rattle.hw_dag.specs.Admission.{IsGraph};
 ghost use Rattle.hw_dag.specs.Lanes.{is_lane_below};
 ghost use Rattle.hw_dag.specs.declared.numbers.UnitNo.{UnitNo as Number};
-ghost use Rattle.hw_horizon.specs.Firsts.{AreFirsts, IsFirst};
+ghost use Rattle.hw_horizon.specs.Firsts.{AreFirsts, IsFirst, AreNumbers};
 
 use crate::jumps::lane_at;
 use crate::table::Table;
@@ -32,6 +32,10 @@ impl Model for Firsts {
     ghost Value = { List ℕ };
 
     ghost view = { λ f. f.numbers.items };
+
+    ghost use Rattle.hw_horizon.specs.Firsts.{AreNumbers};
+
+    ghost invariant = { λ f. AreNumbers f.numbers.items };
 }
 
 impl Firsts {
@@ -50,6 +54,13 @@ impl Firsts {
         ensures { result ≡ slice_index_or self.now validator 0 }
     {
         self.numbers[validator as usize]
+    }
+
+    /// For the prover: recalls that each is a number of 32 bits. It does nothing.
+    pub(crate) fn recall_numbers(&self)
+        ensures { AreNumbers self.now }
+    {
+        let _ = &self.numbers;
     }
 
     /// Changes the number for the validator, and no other.

@@ -1,13 +1,13 @@
 //! How the bound of a level follows the panorama.
 
-ghost use Rattle.std.specs.Prelude.{◌≡◌, ℕ, ◌<◌, ◌≤◌, length, true, false, Some, None, slice_index_or, IsTrue};
+ghost use Rattle.std.specs.Prelude.{◌≡◌, ℕ, ◌<◌, ◌≤◌, ◌+◌, ◌⊎◌, ◌^◌, ◌-◌, length, true, false, Some, None, slice_index_or, IsTrue};
 ghost use Rattle.hw_dag.specs.Dag.{IsPanorama, count_of, view_at, unit_at};
 ghost use Rattle.hw_dag.specs.Admission.{IsGraph};
 ghost use Rattle.hw_dag.specs.Lanes.{AreWeights};
 ghost use Rattle.hw_dag.specs.Tables.{predecessor_of};
 ghost use Rattle.hw_dag.specs.declared.numbers.UnitNo.{UnitNo as Number};
 ghost use Rattle.hw_horizon.specs.Firsts.{weight_after};
-ghost use Rattle.hw_horizon.specs.Bounds.{first_of, support_of, counts_over, IsFirstOf, AreLowered};
+ghost use Rattle.hw_horizon.specs.Bounds.{first_of, support_of, tip_in, counts_over, IsFirstOf, AreLowered, IsOutside};
 
 use crate::bounds::Bound;
 use crate::firsts::NO_UNIT;
@@ -15,8 +15,78 @@ use crate::quorums::{has_quorum, weight_after};
 use crate::votes::votes_for;
 use hw_dag::{Dag, Panorama, UnitNo, View};
 
+/// The validators from one on, up to another one.
+#[derive(Clone, Copy)]
+pub(crate) struct Span {
+    pub(crate) from: u32,
+    pub(crate) to: u32,
+}
+
+/// The span from the first validator to the last whose latest unit isn't the one that is kept.
+pub(crate) fn changed_span(dag: &Dag, panorama: &Panorama, tips: &[Option<UnitNo>]) -> Span
+    requires panorama { IsPanorama dag.now panorama.now }
+    requires tips { length tips.now ≡ dag.now.validators }
+    ensures same { (v : ℕ) → v < dag.now.validators → IsOutside result v → slice_index_or tips.now v None ≡ tip_in (view_at panorama.now v) }
+    ensures known { result.to ≤ dag.now.validators }
+{
+    let mut span = Span { from: 0, to: 0 };
+    for v in 0..dag.validators() {
+        if !is_same(tips[v as usize], panorama.get(v)) {
+            span = stretched(span, v);
+        }
+    }
+    span
+}
+
+// Whether it is the unit of the slot that is kept.
+fn is_same(kept: Option<UnitNo>, view: View) -> bool
+    ensures { IsTrue result → kept ≡ tip_in view }
+{
+    match view {
+        View::Correct(tip) => is_kept(kept, tip),
+        View::Absent | View::Faulty => kept.is_none(),
+    }
+}
+
+// The span up to this validator, which comes behind it.
+fn stretched(span: Span, validator: u32) -> Span
+    requires order { span.from ≤ span.to }
+    requires behind { span.to ≤ validator }
+    requires fits { validator + 1 < 2 ^ 32 }
+    ensures within { result.from ≤ validator }
+    ensures to { result.to ≡ validator + 1 }
+    ensures outside { (v : ℕ) → v < validator → IsOutside result v → IsOutside span v }
+{
+    let from = if span.from == span.to {
+        validator
+    } else {
+        span.from
+    };
+    Span {
+        from,
+        to: validator + 1,
+    }
+}
+
+// Whom a pass has to look at: all, once a first unit below came down, else those who changed.
+fn looked_at(dag: &Dag, changed: Span, low: u32) -> Span
+    requires known { changed.to ≤ dag.now.validators }
+    ensures kept { (v : ℕ) → v < dag.now.validators → IsOutside result v → (low ≡ 2 ^ 32 - 1) × IsOutside changed v }
+    ensures known { result.to ≤ dag.now.validators }
+{
+    if low == NO_UNIT {
+        changed
+    } else {
+        Span {
+            from: 0,
+            to: dag.validators(),
+        }
+    }
+}
+
 /// Makes the bound of a level that of the panorama, over the level below it, of which no first unit came
-/// down below the number `low`. Answers the same number for this level.
+/// down below the number `low`. Answers the same number for this level. Outside the span no latest unit
+/// changed: there nothing has to be looked at while no first unit came down.
 pub(crate) fn follow_level(
     bound: &mut Bound,
     lower: &Bound,
@@ -27,12 +97,15 @@ pub(crate) fn follow_level(
     tips: &[Option<UnitNo>],
     block: UnitNo,
     least: u64,
+    changed: Span,
     low: u32,
 ) -> u32
     requires panorama { IsPanorama dag.now panorama.now }
     requires weights { AreWeights weights.now dag.now }
     requires block_known { block.0 < count_of dag.now }
     requires tips { length tips.now ≡ dag.now.validators }
+    requires changed { (v : ℕ) → v < dag.now.validators → IsOutside changed v → slice_index_or tips.now v None ≡ tip_in (view_at panorama.now v) }
+    requires span { changed.to ≤ dag.now.validators }
     requires firsts_length { length bound.old.firsts ≡ dag.now.validators }
     requires support_length { length bound.old.support ≡ dag.now.validators }
     requires lower_firsts { length lower.now.firsts ≡ dag.now.validators }
@@ -48,14 +121,19 @@ pub(crate) fn follow_level(
     ensures firsts_length { length bound.new.firsts ≡ length bound.old.firsts }
     ensures support_length { length bound.new.support ≡ length bound.old.support }
 {
+    // For the prover: recalls what is said of each graph, and of first units.
+    dag.recall_graph();
+    bound.firsts().recall_numbers();
+    let span = looked_at(dag, changed, low);
     let low = put_firsts(
-        bound, lower, is_votes, dag, weights, panorama, tips, block, least, low,
+        bound, lower, is_votes, dag, weights, panorama, tips, block, least, span, low,
     );
-    put_support(bound, dag, weights, panorama, tips, low);
+    let span = looked_at(dag, changed, low);
+    put_support(bound, dag, weights, panorama, tips, span, low);
     low
 }
 
-// Puts the first units, and answers a number that none of them came down below.
+// Puts the first units of the span, and answers a number that none of them came down below.
 fn put_firsts(
     bound: &mut Bound,
     lower: &Bound,
@@ -66,8 +144,10 @@ fn put_firsts(
     tips: &[Option<UnitNo>],
     block: UnitNo,
     least: u64,
+    span: Span,
     low: u32,
 ) -> u32
+    requires graph { IsGraph dag.now }
     requires panorama { IsPanorama dag.now panorama.now }
     requires weights { AreWeights weights.now dag.now }
     requires block_known { block.0 < count_of dag.now }
@@ -75,17 +155,18 @@ fn put_firsts(
     requires firsts_length { length bound.old.firsts ≡ dag.now.validators }
     requires lower_firsts { length lower.now.firsts ≡ dag.now.validators }
     requires lower_support { length lower.now.support ≡ dag.now.validators }
+    requires span { span.to ≤ dag.now.validators }
+    requires outside { (v : ℕ) (tip : Number) → IsOutside span v → view_at panorama.now v ≡ View.Correct tip → IsFirstOf dag.now tip.0 (counts_over weights.now dag.now block.0 least is_votes lower.now.firsts) (first_of bound.old v) }
     requires known { (v : ℕ) (tip : Number) → slice_index_or tips.now v None ≡ Some tip → tip.0 < count_of dag.now }
     requires kept { (v : ℕ) (tip : Number) → slice_index_or tips.now v None ≡ Some tip → first_of bound.old v ≤ low → IsFirstOf dag.now tip.0 (counts_over weights.now dag.now block.0 least is_votes lower.now.firsts) (first_of bound.old v) }
     requires supported { is_votes ≡ false → (v : ℕ) (tip : Number) → view_at panorama.now v ≡ View.Correct tip → weight_after weights.now dag.now lower.now.firsts tip.0 ≤ support_of lower.now v }
-    ensures graph { IsGraph dag.now }
     ensures firsts { (v : ℕ) (tip : Number) → view_at panorama.now v ≡ View.Correct tip → IsFirstOf dag.now tip.0 (counts_over weights.now dag.now block.0 least is_votes lower.now.firsts) (first_of bound.new v) }
     ensures lowered { AreLowered bound.old bound.new result }
     ensures firsts_length { length bound.new.firsts ≡ length bound.old.firsts }
     ensures support { bound.new.support ≡ bound.old.support }
 {
     let mut lowest = NO_UNIT;
-    for v in 0..dag.validators() {
+    for v in span.from..span.to {
         let before = bound.firsts().get(v);
         let first = next_first(
             lower,
@@ -251,26 +332,31 @@ fn is_known_from(kept: Option<UnitNo>, no: UnitNo, first: u32, low: u32) -> bool
     is_kept(kept, no) && first <= low && first <= no.0
 }
 
-// Puts what the latest units see of the first units, none of which came down below the number `low`.
+// Puts what the latest units of the span see of the first units, none of which came down below the number
+// `low`.
 fn put_support(
     bound: &mut Bound,
     dag: &Dag,
     weights: &[u64],
     panorama: &Panorama,
     tips: &[Option<UnitNo>],
+    span: Span,
     low: u32,
 )
+    requires graph { IsGraph dag.now }
     requires panorama { IsPanorama dag.now panorama.now }
     requires weights { AreWeights weights.now dag.now }
     requires tips { length tips.now ≡ dag.now.validators }
     requires firsts_length { length bound.old.firsts ≡ dag.now.validators }
     requires support_length { length bound.old.support ≡ dag.now.validators }
+    requires span { span.to ≤ dag.now.validators }
+    requires outside { (v : ℕ) (tip : Number) → IsOutside span v → view_at panorama.now v ≡ View.Correct tip → weight_after weights.now dag.now bound.old.firsts tip.0 ≤ support_of bound.old v }
     requires kept { (v : ℕ) (tip : Number) → slice_index_or tips.now v None ≡ Some tip → tip.0 ≤ low → weight_after weights.now dag.now bound.old.firsts tip.0 ≤ support_of bound.old v }
     ensures support { (v : ℕ) (tip : Number) → view_at panorama.now v ≡ View.Correct tip → weight_after weights.now dag.now bound.new.firsts tip.0 ≤ support_of bound.new v }
     ensures firsts { bound.new.firsts ≡ bound.old.firsts }
     ensures support_length { length bound.new.support ≡ length bound.old.support }
 {
-    for v in 0..dag.validators() {
+    for v in span.from..span.to {
         let weight = next_support(
             bound,
             dag,

@@ -1,17 +1,26 @@
-use Rattle.std.proofs.Common.{◌≡◌, ◌<◌, inl, inr, ℕ, List, length, set, get_or, sym, ap, subst, ◌∙◌, arith}
+use Rattle.std.proofs.Common.{◌≡◌, ◌<◌, ◌≤◌, inl, inr, ℕ, List, length, set, get_or, refl, sym, ap, subst, ◌∙◌, arith}
 use Rattle.std.proofs.Math.ListN.{length-set}
-use Rattle.std.proofs.lemmas.Bool.{cases_eq}
+use Rattle.std.proofs.lemmas.Bool.{cases_eq, cases_lt}
 use Rattle.hw_dag.specs.declared.numbers.View.TheVariants as view
 use Rattle.hw_dag.specs.Dag.{view_at}
 use Rattle.hw_horizon.specs.Bounds.{LevelBound, first_of, counts_over, IsFirstOf}
 use Rattle.hw_horizon.proofs.FollowLaws.{put_other, put_same, lowered_more}
 use Rattle.hw_horizon.proofs.follow.put_firsts.Goals as goal
 
+pub loop-v-init : goal.loop-v-init
+loop-v-init c = record {
+  long = refl;
+  support = refl;
+  rest = λ w le. refl;
+  firsts = λ w tip lt e. c.requires.outside w tip (inl lt) e;
+  lowered = λ w. inl (omega arith);
+}
+
 pub loop-v-preserved : goal.loop-v-preserved
 loop-v-preserved c =
     let i = c.loop-v.invariant in
     let less = c.loop-v-test.true in
-    let end = c.validators-v-end.ensures.validators in
+    let end = c.requires.span in
     let wide = c.requires.firsts_length in
     let long = i.long in
     let inside : c.loop-v.v < length c.loop-v.bound.firsts = omega arith in
@@ -34,3 +43,12 @@ loop-v-preserved c =
       lowered = lowered_more c.args.bound.now c.loop-v.bound c.set_first.new.self c.loop-v.v c.next_first-first.result c.loop-v.lowest c.lowest_of-lowest.result i.lowered (i.rest c.loop-v.v (omega arith)) put inside
           c.lowest_of-lowest.ensures.most (λ lt. c.lowest_of-lowest.ensures.lowered (omega arith));
     }
+
+pub returns-clause-firsts : goal.returns-clause-firsts
+returns-clause-firsts c = λ w tip e. elim (cases_lt w c.loop-v.v) [
+  | inl less ↦ c.loop-v.invariant.firsts w tip less e
+  | inr le ↦
+      (let past = c.loop-v-test.false in
+      subst (λ (n : ℕ). IsFirstOf c.args.dag.now tip.0 (counts_over c.args.weights.now c.args.dag.now c.args.block.0 c.args.least c.args.is_votes c.args.lower.now.firsts) n)
+      (sym (c.loop-v.invariant.rest w le)) (c.requires.outside w tip (inr (omega arith)) e))
+]

@@ -1,6 +1,6 @@
-use Rattle.std.proofs.Common.{◌≡◌, ◌≤◌, ◌<◌, inl, inr, ℕ, List, length, set, sym, ap, subst, ◌∙◌, arith}
+use Rattle.std.proofs.Common.{◌≡◌, ◌≤◌, ◌<◌, inl, inr, ℕ, List, length, set, refl, sym, ap, subst, ◌∙◌, arith}
 use Rattle.std.proofs.Math.ListN.{length-set}
-use Rattle.std.proofs.lemmas.Bool.{cases_eq}
+use Rattle.std.proofs.lemmas.Bool.{cases_eq, cases_lt}
 use Rattle.hw_dag.specs.declared.numbers.View.TheVariants as view
 use Rattle.hw_dag.specs.Dag.{view_at}
 use Rattle.hw_horizon.specs.Firsts.{weight_after}
@@ -8,11 +8,19 @@ use Rattle.hw_horizon.specs.Bounds.{LevelBound, support_of}
 use Rattle.hw_horizon.proofs.FollowLaws.{put_other, put_same}
 use Rattle.hw_horizon.proofs.follow.put_support.Goals as goal
 
+pub loop-v-init : goal.loop-v-init
+loop-v-init c = record {
+  firsts = refl;
+  long = refl;
+  rest = λ w le. refl;
+  done = λ w tip lt e. c.requires.outside w tip (inl lt) e;
+}
+
 pub loop-v-preserved : goal.loop-v-preserved
 loop-v-preserved c =
     let i = c.loop-v.invariant in
     let less = c.loop-v-test.true in
-    let end = c.validators-v-end.ensures.validators in
+    let end = c.requires.span in
     let wide = c.requires.support_length in
     let long = i.long in
     let inside : c.loop-v.v < length c.loop-v.bound.support = omega arith in
@@ -32,3 +40,13 @@ loop-v-preserved c =
             (sym (put_other c.loop-v.bound.support c.set_support.new.self.support c.loop-v.v w c.next_support-weight.result put other)) (i.done w tip (omega arith) e)
       ];
     }
+
+pub returns-clause-support : goal.returns-clause-support
+returns-clause-support c = λ w tip e. elim (cases_lt w c.loop-v.v) [
+  | inl less ↦
+      subst (λ (ns : List ℕ). weight_after c.args.weights.now c.args.dag.now ns tip.0 ≤ support_of c.loop-v.bound w) (sym c.loop-v.invariant.firsts) (c.loop-v.invariant.done w tip less e)
+  | inr le ↦
+      (let past = c.loop-v-test.false in
+      subst (λ (ns : List ℕ). weight_after c.args.weights.now c.args.dag.now ns tip.0 ≤ support_of c.loop-v.bound w) (sym c.loop-v.invariant.firsts)
+      (subst (λ (n : ℕ). weight_after c.args.weights.now c.args.dag.now c.args.bound.now.firsts tip.0 ≤ n) (sym (c.loop-v.invariant.rest w le)) (c.requires.outside w tip (inr (omega arith)) e)))
+]
