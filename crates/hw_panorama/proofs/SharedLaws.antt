@@ -5,11 +5,11 @@ use Rattle.hw_types.proofs.WordsLaws.{either, never_both}
 use Rattle.hw_dag.specs.declared.numbers.UnitNo.{UnitNo}
 use Rattle.hw_dag.specs.declared.numbers.View.{View}
 use Rattle.hw_dag.specs.declared.numbers.View.TheVariants as view
-use Rattle.hw_dag.specs.Dag.{UnitGraph, unit_at, graph, view_at, observations, IsPanorama}
+use Rattle.hw_dag.specs.Dag.{UnitGraph, unit_at, count_of, graph, view_at, observations, IsPanorama}
 use Rattle.hw_dag.specs.Admission.{IsGraph}
-use Rattle.hw_panorama.specs.Views.{IsKnownView, IsViewOf, is_met, IsColumnMet, AreSharedMet, AreOthersMet}
+use Rattle.hw_panorama.specs.Views.{IsKnownView, IsViewOf, is_met, HasSeen, IsColumnMet, AreSharedMet, AreOthersMet}
 use Rattle.hw_panorama.proofs.ViewLaws.{known_view, met_trans}
-use Rattle.hw_panorama.proofs.OrderLaws.{IsCitedBelow, all_met, each_met, one_not_met, cited_below_consistent, consistent_cited_below, not_below_inconsistent}
+use Rattle.hw_panorama.proofs.OrderLaws.{is_below_all, IsCitedBelow, below_trans, unit_consistent, all_met, each_met, one_not_met, cited_below_consistent, consistent_cited_below, not_below_inconsistent}
 
 -- the slot of a validator has a unit of it
 pub slot_view : (dag : UnitGraph) (panorama : List View) → IsPanorama dag panorama → (v : ℕ) (w : View) → w ≡ view_at panorama v → IsViewOf dag v w
@@ -30,6 +30,23 @@ same_unit (view.Correct m) number = elim (either (m.0 == number.0)) [
   | inl t ↦ inl (let e : m.0 ≡ number.0 = eqb-true m.0 number.0 t in ap (λ (k : ℕ). view.Correct (record { 0 = k })) e)
   | inr f ↦ inr (λ e. let same : m ≡ number = cc in never_both (m.0 == number.0) (eq-eqb m.0 number.0 (ap (λ (k : UnitNo). k.0) same)) f)
 ]
+
+-- the panorama of the unit in a slot, where there is one, is at most the panorama
+abbrev pub IsUnitBelow : UnitGraph → List View → View → Type 0
+IsUnitBelow dag panorama view.Absent = Unit {0}
+IsUnitBelow dag panorama (view.Correct number) = (number.0 < count_of dag) × (is_below_all dag (unit_at dag number.0).panorama panorama ≡ true)
+IsUnitBelow dag panorama view.Faulty = Unit {0}
+
+-- what such a unit has seen is at most the panorama too
+pub seen_below : (dag : UnitGraph) (g : IsGraph dag) (panorama : List View) → IsPanorama dag panorama → (last : View) → IsUnitBelow dag panorama last
+    → (v : ℕ) (number : UnitNo) → HasSeen dag last v (view.Correct number) → is_below_all dag (unit_at dag number.0).panorama panorama ≡ true
+seen_below dag g panorama hp view.Absent below v number seen = absurd seen
+seen_below dag g panorama hp view.Faulty below v number seen = absurd seen
+seen_below dag g panorama hp (view.Correct last) below v number seen =
+    let row = (g.settled last.0 below.0).panorama_is in
+    let inner = (g.settled number.0 (row.known v number seen)).panorama_is in
+    below_trans dag g (unit_at dag number.0).panorama (unit_at dag last.0).panorama panorama inner row hp
+    (consistent_cited_below dag g (unit_at dag last.0).panorama row (unit_consistent dag g last.0 below.0) v number seen) below.1
 
 module _ (dag : UnitGraph) (g : IsGraph dag) (known panorama : List View) (hk : IsPanorama dag known) (hp : IsPanorama dag panorama) where
   -- what a unit observes that the known panorama has is met where that is met

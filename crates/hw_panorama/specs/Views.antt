@@ -22,6 +22,12 @@ IsViewOf dag v view.Faulty = Unit {0}
 abbrev pub is_met : UnitGraph → View → View → Bool
 is_met dag low high = obs_at_most (graph dag) (obs_of dag low) (obs_of dag high)
 
+-- the slot has a unit that observes the same of the validator
+abbrev pub HasSeen : UnitGraph → View → ℕ → View → Type 0
+HasSeen dag view.Absent v seen = ⊥
+HasSeen dag (view.Correct number) v seen = view_at (unit_at dag number.0).panorama v ≡ seen
+HasSeen dag view.Faulty v seen = ⊥
+
 -- both panoramas have the unit in the slot of the validator
 pub record IsShared (known panorama : List View) (v : ℕ) (number : UnitNo) : Type 0 where
   pub here : view_at panorama v ≡ view.Correct number

@@ -3,7 +3,8 @@
 ghost use Rattle.std.specs.Prelude.{◌≡◌, ◌<◌, false, IsTrue};
 ghost use Rattle.hw_types.specs.Graph.{is_consistent};
 ghost use Rattle.hw_dag.specs.Dag.{graph, observations, IsPanorama};
-ghost use Rattle.hw_panorama.specs.Views.{IsColumnMet, AreSharedMet, AreOthersMet};
+ghost use Rattle.hw_dag.specs.Admission.{IsGraph};
+ghost use Rattle.hw_panorama.specs.Views.{IsKnownView, HasSeen, IsColumnMet, AreSharedMet, AreOthersMet};
 
 use crate::order::{at_most, meets};
 use hw_dag::{Dag, Panorama, UnitNo, View};
@@ -64,23 +65,39 @@ fn is_column_met(dag: &Dag, known: &Panorama, panorama: &Panorama, of: u32) -> b
     true
 }
 
-/// Whether the panorama of each unit that only the one panorama has is at most it.
+/// Whether the panorama of each unit that only the one panorama has is at most it. A unit that the last one
+/// looked at observes needs no look: what it observes is at most what that one does.
 fn are_others_met(dag: &Dag, known: &Panorama, panorama: &Panorama) -> bool
     requires panorama { IsPanorama dag.now panorama.now }
     requires known { IsPanorama dag.now known.now }
     ensures met { IsTrue result → AreOthersMet dag.now known.now panorama.now }
     ensures unmet { result ≡ false → is_consistent (graph dag.now) (observations dag.now panorama.now) ≡ false }
 {
+    let mut last = View::Absent;
     for validator in 0..dag.validators() {
         let view = panorama.get(validator);
-        if view == known.get(validator) {
+        if view == known.get(validator) || has_seen(dag, last, validator, view) {
             continue;
         }
         if let View::Correct(no) = view {
             if !at_most(dag, dag.unit(no).panorama(), panorama) {
                 return false;
             }
+            last = view;
         }
     }
     true
+}
+
+/// Whether there is a unit in the slot, and it observes the same of the validator.
+fn has_seen(dag: &Dag, slot: View, validator: u32, view: View) -> bool
+    requires graph { IsGraph dag.now }
+    requires slot { IsKnownView dag.now slot }
+    requires validator { validator < dag.now.validators }
+    ensures { IsTrue result → HasSeen dag.now slot validator view }
+{
+    match slot {
+        View::Correct(no) => dag.unit(no).panorama().get(validator) == view,
+        View::Absent | View::Faulty => false,
+    }
 }
