@@ -4,7 +4,7 @@ use Rattle.std.specs.Prelude.{nat_lt}
 use Rattle.hw_types.specs.declared.unit.SignedUnit.{SignedUnit}
 use Rattle.hw_types.specs.declared.unit.WireUnit.{WireUnit}
 use Rattle.hw_types.specs.Graph.{Node}
-use Rattle.hw_dag.specs.Dag.{unit_at, view_at}
+use Rattle.hw_dag.specs.Dag.{unit_at}
 use Rattle.hw_rules.proofs.CaseLaws.{length_is, view_within, some_number, no_number}
 use Rattle.hw_rules.proofs.citations.goes_back.Goals as goal
 

@@ -1,7 +1,6 @@
 use Rattle.std.proofs.Common.{sym, ap, ◌∙◌, arith}
 use Rattle.std.proofs.lemmas.Bool.{ne_eqb}
 use Rattle.hw_types.specs.declared.unit.WireUnit.{WireUnit}
-use Rattle.hw_dag.specs.Dag.{view_at}
 use Rattle.hw_rules.proofs.CaseLaws.{length_is, view_within, foreign_slot, no_foreign_slot}
 use Rattle.hw_rules.proofs.citations.has_foreign_slot.Goals as goal
 

@@ -5,7 +5,7 @@ use Rattle.hw_types.specs.declared.unit.SignedUnit.{SignedUnit}
 use Rattle.hw_types.specs.declared.unit.WireUnit.{WireUnit}
 use Rattle.hw_types.specs.Graph.{Node}
 use Rattle.hw_types.specs.Rules.{has_digest}
-use Rattle.hw_dag.specs.Dag.{unit_at, view_at}
+use Rattle.hw_dag.specs.Dag.{unit_at}
 use Rattle.hw_rules.proofs.CaseLaws.{length_is, view_within, some_number, no_number}
 use Rattle.hw_rules.proofs.endorsed.drops_endorsed.Goals as goal
 
