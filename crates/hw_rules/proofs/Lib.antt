@@ -5,3 +5,4 @@ pub mod HeightLaws
 pub mod StateLaws
 pub mod LocalLaws
 pub mod ListLaws
+pub mod NewestLaws

@@ -1,5 +1,5 @@
 -- What is judged: a unit over the units below it, by groups of rules.
-use Rattle.std.specs.Prelude.{◌≡◌, ℕ, ◌+◌, ◌&&◌, ◌||◌, ◌==◌, Bool, not, nat_lt, List, [], ◌∷◌, Option, None}
+use Rattle.std.specs.Prelude.{◌≡◌, ℕ, ◌+◌, ◌<◌, ◌&&◌, ◌||◌, ◌==◌, Bool, not, nat_lt, List, [], ◌∷◌, Option, None}
 use Rattle.std.specs.List.{list_any, list_all}
 use Rattle.std.specs.Option.{option_map}
 use Rattle.hw_types.specs.declared.answers.Rule.{Rule}
@@ -13,9 +13,12 @@ use Rattle.hw_types.specs.Votes.{is_block, height_of, fork_over, fork_of}
 use Rattle.hw_types.specs.Rounds.{round_id, changes_lawfully, leader_of}
 use Rattle.hw_types.specs.Rules.{local_rule, some_cited, has_digest, same_round, has_naive_fork, is_after_terminal}
 use Rattle.hw_dag.specs.declared.numbers.UnitNo.{UnitNo}
-use Rattle.hw_dag.specs.Dag.{UnitGraph, node_at, graph, view_at}
+use Rattle.hw_dag.specs.declared.numbers.View.{View}
+use Rattle.hw_dag.specs.declared.numbers.View.TheVariants as view
+use Rattle.hw_dag.specs.Dag.{UnitGraph, count_of, node_at, graph, view_at}
 use Rattle.hw_dag.specs.Tables.{number_of}
 use Rattle.hw_dag.specs.Admission.{PreparedUnit, IsFor, IsResolved, IsGraph}
+use Rattle.hw_naivety.specs.Naivety.{KeepsEndorsed}
 
 -- a resolved unit for the validators of a graph
 pub record IsCase (dag : UnitGraph) (p : PreparedUnit) : Type 0 where
@@ -34,6 +37,14 @@ below_of dag p = past (graph dag) p.signed.unit.panorama
 -- the number of the unit that it cites of its own creator
 abbrev pub before_of : PreparedUnit → Option UnitNo
 before_of p = number_of (view_at p.panorama p.signed.unit.creator)
+
+-- this holds of each unit that the slots name, beside the validator of its slot
+abbrev pub EachNamed : List View → (ℕ → UnitNo → Type 0) → Type 0
+EachNamed slots fact = (v : ℕ) (no : UnitNo) → view_at slots v ≡ view.Correct no → fact v no
+
+-- each unit's endorsed list has those of the units that it cites
+abbrev pub AllKeepEndorsed : UnitGraph → Type 0
+AllKeepEndorsed dag = (n : ℕ) → n < count_of dag → KeepsEndorsed (graph dag) (node_at dag n)
 
 -- ---- each rule, true where it is broken
 

@@ -1,17 +1,17 @@
 //! The rules of what a unit cites.
 
-ghost use Rattle.std.specs.Prelude.{◌≡◌, ◌==◌, ◌+◌, ◌<◌, length, not, false};
+ghost use Rattle.std.specs.Prelude.{◌≡◌, ◌==◌, ◌+◌, ◌<◌, length, not, nat_lt, false};
 ghost use Rattle.hw_types.specs.Graph.{is_consistent};
 ghost use Rattle.hw_types.specs.Tests.{first_broken};
 ghost use Rattle.hw_dag.specs.declared.numbers.View.TheVariants as view;
-ghost use Rattle.hw_dag.specs.Dag.{view_at, count_of};
-ghost use Rattle.hw_dag.specs.Admission.{node_prepared};
+ghost use Rattle.hw_dag.specs.Dag.{unit_at, creator_of, view_at, count_of};
+ghost use Rattle.hw_dag.specs.Admission.{IsGraph, node_prepared};
 ghost use Rattle.hw_dag.specs.Tables.{number_of};
-ghost use Rattle.hw_rules.specs.Judged.{IsCase, below_of, citation_tests, has_foreign_slot, skips_number, goes_back};
+ghost use Rattle.hw_rules.specs.Judged.{IsCase, EachNamed, below_of, citation_tests, has_foreign_slot, skips_number, goes_back};
 ghost use Rattle.hw_rules.specs.Verdict.{verdict_of};
 
-use crate::lookups::{cited, previous, wire_unit};
-use hw_dag::{Dag, Prepared};
+use crate::lookups::{cited_beside, newest, previous, wire_unit};
+use hw_dag::{Dag, Prepared, View};
 use hw_panorama::consistent;
 use hw_types::Rule;
 
@@ -40,14 +40,26 @@ fn has_foreign_slot(dag: &Dag, prepared: &Prepared) -> bool
     requires { IsCase dag.now prepared.now }
     ensures { result ≡ has_foreign_slot (below_of dag.now prepared.now) (node_prepared prepared.now) }
 {
+    let known = own_slots(dag);
     for validator in 0..dag.validators() {
-        if let Some(no) = cited(prepared, validator) {
+        if let Some(no) = cited_beside(known, prepared, validator) {
             if wire_unit(dag, no).creator != validator {
                 return true;
             }
         }
     }
     false
+}
+
+/// Slots that name units of their validators only: what the newest unit observes.
+fn own_slots(dag: &Dag) -> &[View]
+    requires { IsGraph dag.now }
+    ensures { EachNamed result.now (λ validator no. creator_of (unit_at dag.now no.0) ≡ validator) }
+{
+    match newest(dag) {
+        Some(unit) => unit.panorama().views(),
+        None => &[],
+    }
 }
 
 /// Whether its number isn't the next one on its lane.
@@ -83,12 +95,25 @@ fn goes_back(dag: &Dag, prepared: &Prepared) -> bool
     ensures { result ≡ goes_back (below_of dag.now prepared.now) (node_prepared prepared.now) }
 {
     let time = prepared.signed().unit.time;
+    let known = timely_slots(dag, time);
     for validator in 0..dag.validators() {
-        if let Some(no) = cited(prepared, validator) {
+        if let Some(no) = cited_beside(known, prepared, validator) {
             if time < wire_unit(dag, no).time {
                 return true;
             }
         }
     }
     false
+}
+
+/// Slots that name no unit later than this time: what the newest unit observes, where that one isn't later,
+/// since it observes no unit later than itself.
+fn timely_slots(dag: &Dag, time: u64) -> &[View]
+    requires { IsGraph dag.now }
+    ensures { EachNamed result.now (λ validator no. nat_lt time (unit_at dag.now no.0).signed.unit.time ≡ false) }
+{
+    match newest(dag) {
+        Some(unit) if unit.signed().unit.time <= time => unit.panorama().views(),
+        _ => &[],
+    }
 }

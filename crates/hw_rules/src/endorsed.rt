@@ -1,18 +1,19 @@
 //! The rules of a unit's endorsed list.
 
-ghost use Rattle.std.specs.Prelude.{◌≡◌, ◌<◌, ◌≤◌, ◌↔◌, IsTrue, false};
+ghost use Rattle.std.specs.Prelude.{◌≡◌, ◌<◌, ◌≤◌, ◌↔◌, IsTrue, true, false};
+ghost use Rattle.std.specs.List.{list_all};
 ghost use Rattle.hw_types.specs.Below.{Among};
-ghost use Rattle.hw_types.specs.Rules.{has_naive_fork};
+ghost use Rattle.hw_types.specs.Rules.{has_digest, has_naive_fork};
 ghost use Rattle.hw_types.specs.Tests.{first_broken};
-ghost use Rattle.hw_dag.specs.Dag.{count_of, node_at};
-ghost use Rattle.hw_dag.specs.Admission.{node_prepared};
+ghost use Rattle.hw_dag.specs.Dag.{count_of, unit_at, node_at};
+ghost use Rattle.hw_dag.specs.Admission.{IsGraph, node_prepared};
 ghost use Rattle.hw_naivety.specs.Naivety.{IsNoted};
-ghost use Rattle.hw_rules.specs.Judged.{IsCase, below_of, endorsed_tests, has_foreign_slot, drops_endorsed, endorses_unseen, has_named};
+ghost use Rattle.hw_rules.specs.Judged.{IsCase, EachNamed, AllKeepEndorsed, below_of, endorsed_tests, has_foreign_slot, drops_endorsed, endorses_unseen, has_named};
 ghost use Rattle.hw_rules.specs.Verdict.{verdict_of};
 
 use crate::lists::has_all;
-use crate::lookups::{cited, wire_unit};
-use hw_dag::{Dag, Marks, Prepared, UnitNo};
+use crate::lookups::{cited, cited_beside, newest, wire_unit};
+use hw_dag::{Dag, Marks, Prepared, UnitNo, View};
 use hw_naivety::Naivety;
 use hw_types::{Digest, Rule};
 
@@ -45,18 +46,35 @@ pub fn endorsements(
 
 /// Whether a cited unit's list has a digest that its own hasn't.
 fn drops_endorsed(dag: &Dag, prepared: &Prepared) -> bool
-    requires { IsCase dag.now prepared.now }
+    requires case { IsCase dag.now prepared.now }
+    requires kept { AllKeepEndorsed dag.now }
     ensures { result ≡ drops_endorsed (below_of dag.now prepared.now) (node_prepared prepared.now) }
 {
     let own = prepared.signed().unit.endorsed.as_slice();
+    let known = listed_slots(dag, own);
     for validator in 0..dag.validators() {
-        if let Some(no) = cited(prepared, validator) {
+        if let Some(no) = cited_beside(known, prepared, validator) {
             if !has_all(own, wire_unit(dag, no).endorsed.as_slice()) {
                 return true;
             }
         }
     }
     false
+}
+
+/// Slots that name only units whose lists are parts of the own one: what the newest unit observes, where its
+/// list is a part of the own one, since its list has those of the units that it observes.
+fn listed_slots<'a>(dag: &'a Dag, own: &[Digest]) -> &'a [View]
+    requires graph { IsGraph dag.now }
+    requires kept { AllKeepEndorsed dag.now }
+    ensures { EachNamed result.now (λ validator no. list_all (has_digest own.now) (unit_at dag.now no.0).signed.unit.endorsed ≡ true) }
+{
+    match newest(dag) {
+        Some(unit) if has_all(own, unit.signed().unit.endorsed.as_slice()) => {
+            unit.panorama().views()
+        }
+        _ => &[],
+    }
 }
 
 /// Whether its list has a digest of no unit below it.

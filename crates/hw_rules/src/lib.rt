@@ -5,6 +5,9 @@
 //!
 //! The definitions state each rule as a test over the units below, by name. The graph answers it by
 //! number: units in slots, steps back along a lane, a walk over what is cited. Nothing here takes memory.
+//!
+//! A settled unit keeps the rules. So where a unit cites what the newest unit of the graph cites, as most
+//! do in nearly all slots, the one that it cites there isn't looked at again.
 #![tactic(auto)]
 
 mod alone;

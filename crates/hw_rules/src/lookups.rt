@@ -1,12 +1,14 @@
 //! Units that a panorama names.
 
-ghost use Rattle.std.specs.Prelude.{◌≡◌, ◌<◌, length};
+ghost use Rattle.std.specs.Prelude.{◌≡◌, ◌<◌, ◌-◌, length, IfSome, IfNone};
+ghost use Rattle.hw_dag.specs.declared.numbers.UnitNo.{UnitNo as Number};
+ghost use Rattle.hw_dag.specs.declared.numbers.View.TheVariants as Slot;
 ghost use Rattle.hw_dag.specs.Dag.{count_of, unit_at, view_at};
 ghost use Rattle.hw_dag.specs.Admission.{IsGraph};
 ghost use Rattle.hw_dag.specs.Tables.{number_of, predecessor_of};
 ghost use Rattle.hw_rules.specs.Judged.{before_of};
 
-use hw_dag::{Dag, Panorama, Prepared, UnitNo, View};
+use hw_dag::{Dag, Panorama, Prepared, Unit, UnitNo, View};
 use hw_types::WireUnit;
 
 /// The unit that a slot names.
@@ -14,7 +16,14 @@ fn unit_in(panorama: &Panorama, validator: u32) -> Option<UnitNo>
     requires { validator < length panorama.now }
     ensures { result ≡ number_of (view_at panorama.now validator) }
 {
-    match panorama.get(validator) {
+    named(panorama.get(validator))
+}
+
+/// The unit that what is seen of a validator names.
+fn named(view: View) -> Option<UnitNo>
+    ensures { result ≡ number_of view }
+{
+    match view {
         View::Correct(no) => Some(no),
         View::Absent | View::Faulty => None,
     }
@@ -26,6 +35,20 @@ pub fn cited(prepared: &Prepared, validator: u32) -> Option<UnitNo>
     ensures { result ≡ number_of (view_at prepared.now.panorama validator) }
 {
     unit_in(prepared.panorama(), validator)
+}
+
+/// The unit that it cites of a validator, unless the known slots name it too.
+pub fn cited_beside(known: &[View], prepared: &Prepared, validator: u32) -> Option<UnitNo>
+    requires { validator < length prepared.now.panorama }
+    ensures cited { IfSome result (λ no. view_at prepared.now.panorama validator ≡ Slot.Correct no) }
+    ensures known { IfNone result ((no : Number) → view_at prepared.now.panorama validator ≡ Slot.Correct no → view_at known.now validator ≡ Slot.Correct no) }
+{
+    let view = prepared.panorama().get(validator);
+    let slot = validator as usize;
+    if slot < known.len() && known[slot] == view {
+        return None;
+    }
+    named(view)
 }
 
 /// The unit that it cites of its own creator.
@@ -52,4 +75,17 @@ pub fn wire_unit(dag: &Dag, no: UnitNo) -> &WireUnit
     ensures { result.now ≡ (unit_at dag.now no.0).signed.unit }
 {
     &dag.unit(no).signed().unit
+}
+
+/// The newest unit of the graph, if it has one. Most units observe nearly what that one does, and what it
+/// observes is known to be lawful.
+pub fn newest(dag: &Dag) -> Option<&Unit>
+    ensures some { IfSome result (λ unit. 0 < count_of dag.now) }
+    ensures last { IfSome result (λ unit. unit.now ≡ unit_at dag.now (count_of dag.now - 1)) }
+{
+    let count = dag.count();
+    if count == 0 {
+        return None;
+    }
+    Some(dag.unit(UnitNo(count - 1)))
 }

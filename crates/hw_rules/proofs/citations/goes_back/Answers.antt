@@ -4,15 +4,13 @@ use Rattle.std.specs.Prelude.{nat_lt}
 use Rattle.hw_types.specs.declared.unit.SignedUnit.{SignedUnit}
 use Rattle.hw_types.specs.declared.unit.WireUnit.{WireUnit}
 use Rattle.hw_types.specs.Graph.{Node}
-use Rattle.hw_dag.specs.Dag.{unit_at, view_at}
-use Rattle.hw_dag.proofs.DepthLaws.{number_some}
+use Rattle.hw_dag.specs.Dag.{unit_at}
 use Rattle.hw_rules.proofs.CaseLaws.{length_is, view_within, some_number, no_number}
 use Rattle.hw_rules.proofs.citations.goes_back.Goals as goal
 
 pub returns-then-time-wire_unit : goal.returns-then-time-wire_unit
 returns-then-time-wire_unit c =
-    let e = number_some (view_at c.args.prepared.now.panorama c.loop-validator.validator) c.in-Some.no (sym c.cited.ensures ∙ c.in-Some.is) in
-    sym (some_number c.args.dag.now c.args.prepared.now c.requires (λ (w : Node). nat_lt c.args.prepared.now.signed.unit.time w.unit.time) c.loop-validator.validator c.in-Some.no e
+    sym (some_number c.args.dag.now c.args.prepared.now c.requires (λ (w : Node). nat_lt c.args.prepared.now.signed.unit.time w.unit.time) c.loop-validator.validator c.in-Some.no c.in-Some.ensures.cited
     (lt-ltb _ _ (subst (λ (t : ℕ). t < (unit_at c.args.dag.now c.in-Some.no.0).signed.unit.time) (ap (λ (s : SignedUnit). s.unit.time) c.signed.ensures)
     (subst (λ (w : WireUnit). c.signed.result.now.unit.time < w.time) c.wire_unit.ensures c.if-time-wire_unit.true))))
 

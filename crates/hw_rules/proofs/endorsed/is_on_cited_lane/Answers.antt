@@ -1,5 +1,5 @@
-use Rattle.std.proofs.Common.{◌≡◌, true, sym, ap, ◌∙◌}
-use Rattle.hw_dag.specs.Dag.{view_at, unit_at, creator_of, count_of}
+use Rattle.std.proofs.Common.{sym, ◌∙◌}
+use Rattle.hw_dag.specs.Dag.{view_at}
 use Rattle.hw_dag.proofs.DepthLaws.{number_some}
 use Rattle.hw_dag.proofs.LaneLaws.{lane_is_seen}
 use Rattle.hw_rules.proofs.CaseLaws.{seen_below}

@@ -1,4 +1,4 @@
-use Rattle.std.proofs.Common.{sym, ◌∙◌, arith}
+use Rattle.std.proofs.Common.{sym, arith}
 use Rattle.hw_rules.proofs.ListLaws.{each_rises, rises_more, never_rises}
 use Rattle.hw_rules.proofs.lists.rises.Goals as goal
 
