@@ -1,18 +1,19 @@
 -- Tables that are those of the levels are the greatest summit, where somebody is left.
-use Rattle.std.proofs.Common.{◌≡◌, ℕ, zero, suc, ◌-◌, ◌+◌, ◌≤◌, Bool, true, cond, List, [], ◌∷◌, Option, Some, None, refl, sym, ap, subst, ◌∙◌, arith}
+use Rattle.std.proofs.Common.{◌≡◌, ℕ, zero, suc, ◌-◌, ◌+◌, ◌≤◌, Bool, true, cond, List, [], ◌∷◌, length, Option, Some, None, refl, sym, ap, subst, ◌∙◌, arith}
 use Rattle.std.specs.Prelude.{◌&&◌, nat_le, is_some, ◌↔◌}
 use Rattle.std.specs.List.{list_any}
 use Rattle.std.proofs.lemmas.Bool.{le-leb}
 use Rattle.hw_types.specs.declared.unit.Obs.{Obs}
 use Rattle.hw_types.specs.Graph.{Node}
 use Rattle.hw_types.specs.Summit.{Committees, IsSummit, HasSummit, IsGreatest, sees_from, seen_weight}
-use Rattle.hw_types.proofs.StableLaws.{and_parts, and_whole}
+use Rattle.hw_types.proofs.StableLaws.{both_ways, and_parts, and_whole}
 use Rattle.hw_types.proofs.SummitLaws.{weight_le}
 use Rattle.hw_summit.specs.Pruned.{or_zero, start_in, pruned, pruned_committees}
 use Rattle.hw_summit.proofs.PrunedLaws.{pruned_is_summit, pruned_least, pruned_is_greatest, summit_is_left}
-use Rattle.hw_horizon.specs.Tables.{Starts, entry, pruned_table}
+use Rattle.hw_horizon.specs.Tables.{Starts, entry, SameMembers, table_after, pruned_table}
 use Rattle.hw_horizon.specs.Search.{Search, table_of, start_of, committees_of}
-use Rattle.hw_horizon.proofs.TableLaws.{table_shows}
+use Rattle.hw_horizon.proofs.TableLaws.{rounds_enough, table_shows}
+use Rattle.hw_horizon.proofs.RoundLaws.{level_table}
 
 pub some_entry : (t : Starts) → list_any is_some t ≡ true → (v : ℕ) × (is_some (entry t v) ≡ true)
 some_entry [] h = absurd cc
@@ -25,7 +26,19 @@ entry_some (None ∷ os) zero h = absurd cc
 entry_some (Some x ∷ os) v h = refl
 entry_some (None ∷ os) (suc v) h = entry_some os v h
 
+-- of two tables with the same members both have one or neither
+pub same_any : (s t : Starts) → SameMembers s t → list_any is_some s ≡ list_any is_some t
+same_any s t same = both_ways (list_any is_some s) (list_any is_some t) (λ h. let v = some_entry s h in entry_some t v.0 (sym (same v.0) ∙ v.1)) (λ h. let v = some_entry t h in entry_some s v.0 (same v.0 ∙ v.1))
+
 module _ (weights : List ℕ) (units : List Node) (panorama : List Obs) (block : Node) (quorum : ℕ) where
+  -- those who are left over the table of a level are the members of the next one
+  pub member_above : (k j : ℕ) (lower t : Starts) → lower ≡ pruned_table weights units panorama block quorum k → length lower ≡ length weights
+      → SameMembers t (table_after (length weights) weights units panorama quorum lower) → j ≡ k + 1 → list_any is_some t ≡ list_any is_some (pruned_table weights units panorama block quorum j)
+  member_above k j lower t e len same one =
+      same_any t (pruned_table weights units panorama block quorum j)
+      (λ v. same v ∙ sym (rounds_enough weights units panorama quorum lower len v)
+      ∙ ap (λ (s : Starts). is_some (entry s v)) (level_table weights units panorama quorum block k j lower (table_after (suc (length weights)) weights units panorama quorum lower) e refl one))
+
   abbrev true_levels : Committees
   true_levels = pruned_committees weights units panorama block quorum
 

@@ -5,6 +5,7 @@ pub mod VoteLaws
 pub mod SightLaws
 pub mod FirstLaws
 pub mod RoundLaws
+pub mod StrikeLaws
 pub mod SearchLaws
 pub mod WeightLaws
 pub mod WalkLaws

@@ -126,7 +126,7 @@ module _ (weights : List ℕ) (units : List Node) (panorama : List Obs) (quorum 
   pub after_first : (lower t : Starts) → t ≡ lower → t ≡ table_after 0 weights units panorama quorum lower
   after_first lower t e = e ∙ sym (after_none lower)
 
-  after_next : (k : ℕ) (lower : Starts) → table_after (suc k) weights units panorama quorum lower ≡ next_table weights units panorama quorum lower (table_after k weights units panorama quorum lower)
+  pub after_next : (k : ℕ) (lower : Starts) → table_after (suc k) weights units panorama quorum lower ≡ next_table weights units panorama quorum lower (table_after k weights units panorama quorum lower)
   unfolding table_after
   after_next k lower = refl
 

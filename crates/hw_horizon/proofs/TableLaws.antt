@@ -88,7 +88,7 @@ module _ (f : List ℕ → ℕ → Option ℕ) where
   left_next zero present = refl
   left_next (suc n) present = left_next n (stay present)
 
-module _ (weights : List ℕ) (units : List Node) (panorama : List Obs) (block : Node) (quorum : ℕ) where
+module _ (weights : List ℕ) (units : List Node) (panorama : List Obs) (quorum : ℕ) where
   -- over tables that show them, starts are the same
   same_start : (lower : Pairs) (low now : Starts) (present : List ℕ) → Shows low lower → ((v : ℕ) → is_some (entry now v) ≡ is_in present v) → (v : ℕ)
       → start_over weights units panorama quorum low now v ≡ quorum_start weights units panorama quorum lower present v
@@ -150,28 +150,6 @@ module _ (weights : List ℕ) (units : List Node) (panorama : List Obs) (block :
   short_left f zero vs = omega arith
   short_left f (suc k) vs = let a = short_left f k (filter (λ v. is_some (f vs v)) vs) in let b = length-filter (λ v. is_some (f vs v)) vs in omega arith
 
-  abbrev level_of : ℕ → Pairs
-  level_of j = pruned weights units panorama block quorum j
-
-  abbrev left_of : ℕ → List ℕ
-  left_of j = left_in (level_of j) (length (members (level_of j)))
-
-  level_next : (j : ℕ) → level_of (suc j) ≡ choose (quorum_start weights units panorama quorum (level_of j) (left_of j)) (left_of j)
-  unfolding pruned settle
-  level_next j = refl
-
-  level_zero : level_of 0 ≡ choose (vote_start weights units panorama block) (range_with_len 0 n)
-  unfolding pruned
-  level_zero = refl
-
-  few : (j : ℕ) → length (members (level_of j)) ≤ n
-  few zero = let a = short_members (vote_start weights units panorama block) (range_with_len 0 n) in let b = length-range_with_len 0 n in subst (λ ps. length (members ps) ≤ n) (sym level_zero) (omega arith)
-  few (suc j) =
-      let a = short_members (quorum_start weights units panorama quorum (level_of j) (left_of j)) (left_of j) in
-      let b = short_left (quorum_start weights units panorama quorum (level_of j)) (length (members (level_of j))) (members (level_of j)) in
-      let c = few j in
-      subst (λ ps. length (members ps) ≤ n) (sym (level_next j)) (omega arith)
-
   -- members are chosen from the list
   chosen_member : (f : ℕ → Option ℕ) (vs : List ℕ) (v : ℕ) → Among v (members (choose f vs)) → Among v vs
   chosen_member f vs v m =
@@ -182,36 +160,85 @@ module _ (weights : List ℕ) (units : List Node) (panorama : List Obs) (block :
       go None e h = absurd cc
       go (Some s) e h = (choose_in f vs v s e).0
 
-  in_range : (j : ℕ) → InRange (level_of j)
-  in_range zero v m = let r = range_among 0 n v (chosen_member (vote_start weights units panorama block) (range_with_len 0 n) v (subst (λ ps. Among v (members ps)) level_zero m)) in let lt = r.1 in omega arith
+  -- the entries of a table, as pairs
+  abbrev pairs_of : Starts → Pairs
+  pairs_of t = choose (entry t) (range_with_len 0 n)
+
+  pairs_show : (t : Starts) → length t ≡ n → Shows t (pairs_of t)
+  pairs_show t len v = elim (cases_lt v n) [
+    | inl lt ↦ sym (chosen (entry t) (range_with_len 0 n) v ∙ ap (λ b. cond b (entry t v) None) (among_is_in (range_with_len 0 n) v (among_range 0 n v (omega arith) (omega arith))))
+    | inr le ↦ past_end t v (omega arith) ∙ sym (chosen (entry t) (range_with_len 0 n) v ∙ ap (λ b. cond b (entry t v) None)
+        (both_ways (is_in (range_with_len 0 n) v) false (λ h. let r = (range_among 0 n v (is_in_among (range_with_len 0 n) v h)).1 in absurd (omega arith)) (λ h. absurd cc)))
+  ]
+
+  pairs_range : (t : Starts) → InRange (pairs_of t)
+  pairs_range t v m = let r = range_among 0 n v (chosen_member (entry t) (range_with_len 0 n) v m) in let lt = r.1 in omega arith
+
+  -- After as many rounds as there are validators, nobody falls any more.
+  pub rounds_enough : (low : Starts) → length low ≡ n → (v : ℕ) → is_some (entry (table_after (suc n) weights units panorama quorum low) v) ≡ is_some (entry (table_after n weights units panorama quorum low) v)
+  rounds_enough low len v =
+      let ps : Pairs = pairs_of low in
+      let shows = pairs_show low len in
+      let range = pairs_range low in
+      let a = short_members (entry low) (range_with_len 0 n) in
+      let b = length-range_with_len 0 n in
+      rounds_show ps low shows range (suc n) v
+      ∙ ap (λ (vs : List ℕ). is_in vs v) (left_more (quorum_start weights units panorama quorum ps) (suc n) n (members ps) (omega arith) (omega arith))
+      ∙ sym (rounds_show ps low shows range n v)
+
+module _ (weights : List ℕ) (units : List Node) (panorama : List Obs) (block : Node) (quorum : ℕ) where
+  abbrev level_of : ℕ → Pairs
+  level_of j = pruned weights units panorama block quorum j
+
+  abbrev left_of : ℕ → List ℕ
+  left_of j = left_in weights units panorama quorum (level_of j) (length (members (level_of j)))
+
+  level_next : (j : ℕ) → level_of (suc j) ≡ choose (quorum_start weights units panorama quorum (level_of j) (left_of j)) (left_of j)
+  unfolding pruned settle
+  level_next j = refl
+
+  level_zero : level_of 0 ≡ choose (vote_start weights units panorama block) (range_with_len 0 (length weights))
+  unfolding pruned
+  level_zero = refl
+
+  few : (j : ℕ) → length (members (level_of j)) ≤ length weights
+  few zero = let a = short_members weights units panorama quorum (vote_start weights units panorama block) (range_with_len 0 (length weights)) in let b = length-range_with_len 0 (length weights) in subst (λ ps. length (members ps) ≤ length weights) (sym level_zero) (omega arith)
+  few (suc j) =
+      let a = short_members weights units panorama quorum (quorum_start weights units panorama quorum (level_of j) (left_of j)) (left_of j) in
+      let b = short_left weights units panorama quorum (quorum_start weights units panorama quorum (level_of j)) (length (members (level_of j))) (members (level_of j)) in
+      let c = few j in
+      subst (λ ps. length (members ps) ≤ length weights) (sym (level_next j)) (omega arith)
+
+  in_range : (j : ℕ) → InRange weights units panorama quorum (level_of j)
+  in_range zero v m = let r = range_among 0 (length weights) v (chosen_member weights units panorama quorum (vote_start weights units panorama block) (range_with_len 0 (length weights)) v (subst (λ ps. Among v (members ps)) level_zero m)) in let lt = r.1 in omega arith
   in_range (suc j) v m = in_range j v (left_within (quorum_start weights units panorama quorum (level_of j)) (length (members (level_of j))) (members (level_of j)) v
-      (chosen_member (quorum_start weights units panorama quorum (level_of j) (left_of j)) (left_of j) v (subst (λ ps. Among v (members ps)) (level_next j) m)))
+      (chosen_member weights units panorama quorum (quorum_start weights units panorama quorum (level_of j) (left_of j)) (left_of j) v (subst (λ ps. Among v (members ps)) (level_next j) m)))
 
   -- each level's table shows the level's committee with its starts
   pub table_shows : (j : ℕ) → Shows (pruned_table weights units panorama block quorum j) (level_of j)
   unfolding pruned_table table_after next_table
   table_shows zero v =
       let f = vote_start weights units panorama block in
-      let right = ap (λ ps. start_in ps v) level_zero ∙ chosen f (range_with_len 0 n) v in
-      elim (cases_lt v n) [
-        | inl lt ↦ made_entry f n v lt ∙ sym (right ∙ ap (λ b. cond b (f v) None) (among_is_in (range_with_len 0 n) v (among_range 0 n v (omega arith) (omega arith))))
-        | inr le ↦ made_beyond f n v le ∙ sym (right ∙ ap (λ b. cond b (f v) None)
-            (both_ways (is_in (range_with_len 0 n) v) false (λ h. let r = (range_among 0 n v (is_in_among (range_with_len 0 n) v h)).1 in absurd (omega arith)) (λ h. absurd cc)))
+      let right = ap (λ ps. start_in ps v) level_zero ∙ chosen f (range_with_len 0 (length weights)) v in
+      elim (cases_lt v (length weights)) [
+        | inl lt ↦ made_entry f (length weights) v lt ∙ sym (right ∙ ap (λ b. cond b (f v) None) (among_is_in (range_with_len 0 (length weights)) v (among_range 0 (length weights) v (omega arith) (omega arith))))
+        | inr le ↦ made_beyond f (length weights) v le ∙ sym (right ∙ ap (λ b. cond b (f v) None)
+            (both_ways (is_in (range_with_len 0 (length weights)) v) false (λ h. let r = (range_among 0 (length weights) v (is_in_among (range_with_len 0 (length weights)) v h)).1 in absurd (omega arith)) (λ h. absurd cc)))
       ]
   table_shows (suc j) v =
       let lower : Pairs = level_of j in
       let low : Starts = pruned_table weights units panorama block quorum j in
-      let T : Starts = table_after n weights units panorama quorum low in
-      let L : List ℕ = left_in lower n in
-      let same : L ≡ left_of j = left_more (quorum_start weights units panorama quorum lower) n (length (members lower)) (members lower) (few j) (omega arith) in
+      let T : Starts = table_after (length weights) weights units panorama quorum low in
+      let L : List ℕ = left_in weights units panorama quorum lower (length weights) in
+      let same : L ≡ left_of j = left_more (quorum_start weights units panorama quorum lower) (length weights) (length (members lower)) (members lower) (few j) (omega arith) in
       let f : ℕ → Option ℕ = λ w. cond (is_some (entry T w)) (start_over weights units panorama quorum low T w) None in
-      let shows = rounds_show lower low (table_shows j) (in_range j) n in
+      let shows = rounds_show weights units panorama quorum lower low (table_shows j) (in_range j) (length weights) in
       let right : start_in (level_of (suc j)) v ≡ cond (is_in L v) (quorum_start weights units panorama quorum lower L v) None =
       ap (λ ps. start_in ps v) (level_next j) ∙ ap (λ vs. start_in (choose (quorum_start weights units panorama quorum lower vs) vs) v) (sym same) ∙ chosen (quorum_start weights units panorama quorum lower L) L v in
-      elim (cases_lt v n) [
-        | inl lt ↦ made_entry f n v lt
-            ∙ ap (λ o. cond (is_some (entry T v)) o None) (same_start lower low T L (table_shows j) shows v)
+      elim (cases_lt v (length weights)) [
+        | inl lt ↦ made_entry f (length weights) v lt
+            ∙ ap (λ o. cond (is_some (entry T v)) o None) (same_start weights units panorama quorum lower low T L (table_shows j) shows v)
             ∙ ap (λ b. cond b (quorum_start weights units panorama quorum lower L v) None) (shows v)
             ∙ sym right
-        | inr le ↦ made_beyond f n v le ∙ sym (right ∙ ap (λ b. cond b (quorum_start weights units panorama quorum lower L v) None) (out_of_range lower (in_range j) n v le))
+        | inr le ↦ made_beyond f (length weights) v le ∙ sym (right ∙ ap (λ b. cond b (quorum_start weights units panorama quorum lower L v) None) (out_of_range weights units panorama quorum lower (in_range j) (length weights) v le))
       ]

@@ -1,5 +1,5 @@
 -- Pruning over tables: for each validator its start, or none.
-use Rattle.std.specs.Prelude.{◌≡◌, ℕ, zero, suc, Bool, ◌&&◌, nat_le, ◌==◌, List, length, map, Option, None, is_some, slice_index_or, if◌then◌else◌}
+use Rattle.std.specs.Prelude.{◌≡◌, ℕ, zero, suc, Bool, true, ◌&&◌, nat_le, ◌==◌, List, length, map, Option, None, is_some, slice_index_or, if◌then◌else◌}
 use Rattle.std.specs.List.{list_any, range_with_len}
 use Rattle.hw_types.specs.declared.unit.Obs.{Obs}
 use Rattle.hw_types.specs.Graph.{Node, latest, past}
@@ -21,6 +21,10 @@ is_member table v = is_some (entry table v)
 -- the two committees have the same members
 abbrev pub SameMembers : Starts → Starts → Type 0
 SameMembers s t = (v : ℕ) → is_some (entry s v) ≡ is_some (entry t v)
+
+-- each member of the one is a member of the other
+abbrev pub AreAmong : Starts → Starts → Type 0
+AreAmong s t = (v : ℕ) → is_some (entry s v) ≡ true → is_some (entry t v) ≡ true
 
 -- the validator is present, and among the units below there is one of it from its start of the level below on
 abbrev pub is_seen : List Node → Starts → Starts → ℕ → Bool

@@ -2,7 +2,7 @@
 //! one with the greater number comes later, so to see a member is to observe that unit or a greater
 //! number, and no far unit is read.
 
-ghost use Rattle.std.specs.Prelude.{◌≡◌, ℕ, ◌<◌, length, true, nat_le, replicate, slice_index_or, slice_set, IsTrue, IfOk};
+ghost use Rattle.std.specs.Prelude.{◌≡◌, ℕ, ◌-◌, ◌^◌, ◌<◌, length, true, nat_le, replicate, slice_index_or, slice_set, IsTrue, IfOk};
 ghost use Rattle.hw_types.specs.Graph.{is_consistent};
 ghost use Rattle.hw_dag.specs.Dag.{count_of, graph, observations, unit_at, seq_of, IsPanorama, view_at};
 ghost use Rattle.hw_dag.specs.Admission.{IsGraph};
@@ -79,6 +79,16 @@ impl Firsts {
         self.numbers
             .as_mut_slice()
             .copy_from_slice(other.numbers.as_slice());
+    }
+
+    /// For nobody a unit is one.
+    pub(crate) fn clear(&mut self)
+        ensures length { length self.new ≡ length self.old }
+        ensures none { (v : ℕ) → v < length self.new → slice_index_or self.new v 0 ≡ 2 ^ 32 - 1 }
+    {
+        for number in self.numbers.iter_mut() {
+            *number = NO_UNIT;
+        }
     }
 
     /// Finds the first unit of each member that is present. For the others no unit is one.

@@ -1,17 +1,19 @@
 //! The search.
 
-ghost use Rattle.std.specs.Prelude.{◌≡◌, ℕ, ◌<◌, ◌≤◌, ◌↔◌, length, Some, None, false, IsTrue, IfOk};
+ghost use Rattle.std.specs.Prelude.{◌≡◌, ℕ, ◌<◌, ◌≤◌, ◌↔◌, length, Some, None, false, is_some, IsTrue, IfOk};
+ghost use Rattle.std.specs.List.{list_any};
 ghost use Rattle.hw_types.specs.Graph.{is_consistent};
 ghost use Rattle.hw_types.specs.Summit.{HasSummit, IsGreatest};
 ghost use Rattle.hw_dag.specs.Dag.{UnitGraph, graph, observations, count_of, node_at, IsPanorama};
 ghost use Rattle.hw_dag.specs.Lanes.{AreWeights};
 ghost use Rattle.hw_horizon.specs.Kept.{AreKept};
 ghost use Rattle.hw_horizon.specs.Tables.{pruned_table};
+ghost use Rattle.hw_horizon.specs.Starts.{HasSlots};
 ghost use Rattle.hw_horizon.specs.Search.{table_of, start_of, committees_of, AreTables, IsScratch};
 
 use crate::firsts::Firsts;
 use crate::kept::Walks;
-use crate::rounds::prune;
+use crate::rounds::{prune, put_members};
 use crate::table::Table;
 use crate::votes::put_vote_starts;
 use hw_dag::{Dag, Panorama, UnitNo};
@@ -130,6 +132,43 @@ impl Horizons {
         found
     }
 
+    /// Whether a summit for the block exists, of this level and quorum, in this panorama. Nothing of it is
+    /// kept, so this costs less than finding the greatest.
+    pub fn has_summit(
+        &mut self,
+        dag: &Dag,
+        weights: &WeightList,
+        panorama: &Panorama,
+        block: UnitNo,
+        level: u32,
+        quorum: u64,
+    ) -> bool
+        requires panorama { IsPanorama dag.now panorama.now }
+        requires consistent { IsTrue (is_consistent (graph dag.now) (observations dag.now panorama.now)) }
+        requires weights { AreWeights weights.now dag.now }
+        requires known { block.0 < count_of dag.now }
+        requires level { level ≤ self.old.levels }
+        requires validators { self.old.validators ≡ dag.now.validators }
+        requires walks { AreKept dag.now self.old.walks }
+        ensures exact { IsTrue result ↔ HasSummit weights.now (graph dag.now) (observations dag.now panorama.now) (node_at dag.now block.0) level quorum }
+        ensures found { self.new.found ≡ None }
+        ensures walks { AreKept dag.now self.new.walks }
+        ensures validators { self.new.validators ≡ self.old.validators }
+        ensures levels { self.new.levels ≡ self.old.levels }
+    {
+        self.found = None;
+        has_member(
+            &mut self.scratch,
+            &mut self.walks,
+            dag,
+            weights.as_slice(),
+            panorama,
+            block,
+            level,
+            quorum,
+        )
+    }
+
     /// The start of a validator in the committee of a level, of the summit that the last search found.
     /// None for a validator outside the committee, and where the last search found none.
     pub fn start(&self, level: u32, validator: u32) -> Option<u64>
@@ -182,5 +221,89 @@ fn put_tables(
         prune(present, next, firsts, dag, weights, panorama, quorum, lower);
         lower.copy_from(present);
         tables[below + 1].copy_from(lower);
+    }
+}
+
+// Whether somebody is in the committee of this level. Starts are found only of the levels below it.
+fn has_member(
+    scratch: &mut Scratch,
+    walks: &mut Walks,
+    dag: &Dag,
+    weights: &[u64],
+    panorama: &Panorama,
+    block: UnitNo,
+    level: u32,
+    quorum: u64,
+) -> bool
+    requires panorama { IsPanorama dag.now panorama.now }
+    requires consistent { IsTrue (is_consistent (graph dag.now) (observations dag.now panorama.now)) }
+    requires weights { AreWeights weights.now dag.now }
+    requires known { block.0 < count_of dag.now }
+    requires scratch { IsScratch dag.now.validators scratch.old }
+    requires walk_count { length walks.old.walks ≡ dag.now.validators }
+    requires walks { AreKept dag.now walks.old }
+    ensures member { result ≡ list_any is_some (pruned_table weights.now (graph dag.now) (observations dag.now panorama.now) (node_at dag.now block.0) quorum level) }
+    ensures scratch { IsScratch dag.now.validators scratch.new }
+    ensures walk_count { length walks.new.walks ≡ dag.now.validators }
+    ensures walks { AreKept dag.now walks.new }
+{
+    if level == 0 {
+        put_lower(scratch, walks, dag, weights, panorama, block, level, quorum);
+        return scratch.lower.has_member();
+    }
+    put_lower(
+        scratch,
+        walks,
+        dag,
+        weights,
+        panorama,
+        block,
+        level - 1,
+        quorum,
+    );
+    let Scratch {
+        lower,
+        present,
+        firsts,
+        ..
+    } = scratch;
+    put_members(present, firsts, dag, weights, panorama, quorum, lower);
+    present.has_member()
+}
+
+// Leaves in `lower` the table of this level.
+fn put_lower(
+    scratch: &mut Scratch,
+    walks: &mut Walks,
+    dag: &Dag,
+    weights: &[u64],
+    panorama: &Panorama,
+    block: UnitNo,
+    level: u32,
+    quorum: u64,
+)
+    requires panorama { IsPanorama dag.now panorama.now }
+    requires consistent { IsTrue (is_consistent (graph dag.now) (observations dag.now panorama.now)) }
+    requires weights { AreWeights weights.now dag.now }
+    requires known { block.0 < count_of dag.now }
+    requires scratch { IsScratch dag.now.validators scratch.old }
+    requires walk_count { length walks.old.walks ≡ dag.now.validators }
+    requires walks { AreKept dag.now walks.old }
+    ensures lower { scratch.new.lower ≡ pruned_table weights.now (graph dag.now) (observations dag.now panorama.now) (node_at dag.now block.0) quorum level }
+    ensures slots { HasSlots panorama.now scratch.new.lower }
+    ensures scratch { IsScratch dag.now.validators scratch.new }
+    ensures walk_count { length walks.new.walks ≡ dag.now.validators }
+    ensures walks { AreKept dag.now walks.new }
+{
+    put_vote_starts(&mut scratch.lower, walks, dag, panorama, block);
+    for _ in 0..level {
+        let Scratch {
+            lower,
+            present,
+            next,
+            firsts,
+        } = scratch;
+        prune(present, next, firsts, dag, weights, panorama, quorum, lower);
+        lower.copy_from(present);
     }
 }

@@ -4,9 +4,11 @@
 //! A table has the start of each member of a committee. That of level 0 is found by a walk down each
 //! lane for as long as its units vote for the block. What it found is kept, so when the same block is
 //! asked again only new units of a lane are looked at. From there each level is pruned out of the one
-//! below it: members whose latest unit sees no quorum fall, until no more do or those who are left weigh
-//! less than one. Then their starts are found by bisection, since the units of a lane that see a quorum
-//! are its last ones. The tables of all levels stay as they are until the next search.
+//! below it: members whose latest unit sees no quorum of those still there fall one after the other, until
+//! no more do or those who are left weigh less than one, even amid a round. Then their starts are found by
+//! bisection, since the units of a lane that see a quorum are its last ones. The tables of all levels stay
+//! as they are until the next search. Who only asks whether there is a summit saves the starts of its
+//! level.
 //!
 //! Mostly there is no summit, and bounds that are kept say so early: for each level before which unit
 //! nobody is in a committee, and what each latest unit sees at most. They follow the panorama in a pass

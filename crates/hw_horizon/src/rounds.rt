@@ -1,16 +1,16 @@
 //! One level out of the level below it: members fall until no more do.
 
-ghost use Rattle.std.specs.Prelude.{◌≡◌, suc, ◌<◌, length, ◌&&◌, not, false, None, IsTrue, is_some, if◌then◌else◌};
+ghost use Rattle.std.specs.Prelude.{◌≡◌, ℕ, suc, ◌+◌, ◌<◌, ◌≤◌, length, None, is_some, IsTrue, if◌then◌else◌};
 ghost use Rattle.hw_types.specs.Votes.{weight_of};
 ghost use Rattle.hw_types.specs.Graph.{is_consistent};
 ghost use Rattle.hw_dag.specs.Dag.{graph, observations, IsPanorama};
 ghost use Rattle.hw_dag.specs.Admission.{IsGraph};
 ghost use Rattle.hw_dag.specs.Lanes.{AreWeights};
-ghost use Rattle.hw_horizon.specs.Tables.{entry, is_member, start_over, next_table, table_after, SameMembers};
+ghost use Rattle.hw_horizon.specs.Tables.{Starts, entry, is_member, start_over, next_table, table_after, SameMembers, AreAmong};
 ghost use Rattle.hw_horizon.specs.Starts.{HasSlots};
 ghost use Rattle.hw_horizon.specs.Firsts.{AreFirsts};
 
-use crate::firsts::Firsts;
+use crate::firsts::{Firsts, NO_UNIT};
 use crate::quorums::{has_start, quorum_start};
 use crate::table::Table;
 use hw_dag::{Dag, Panorama, View};
@@ -38,17 +38,15 @@ pub fn prune(
     ensures next_length { length next.new ≡ dag.now.validators }
     ensures firsts_length { length firsts.new ≡ dag.now.validators }
 {
-    put_members(present, next, firsts, dag, weights, panorama, quorum, lower);
-    firsts.find(dag, panorama, lower, present);
+    put_members(present, firsts, dag, weights, panorama, quorum, lower);
     put_next(next, dag, weights, panorama, quorum, lower, present, firsts);
     present.copy_from(next);
 }
 
-// Leaves in `present` who is in the committee of the level above that of `lower`. Their starts aren't
-// looked for.
-fn put_members(
+/// Leaves in `present` who is in the committee of the level above that of `lower`, with their first units.
+/// Their starts aren't looked for.
+pub fn put_members(
     present: &mut Table,
-    next: &mut Table,
     firsts: &mut Firsts,
     dag: &Dag,
     weights: &[u64],
@@ -62,26 +60,29 @@ fn put_members(
     requires slots { HasSlots panorama.now lower.now }
     requires lower_length { length lower.now ≡ dag.now.validators }
     requires present_length { length present.old ≡ dag.now.validators }
-    requires next_length { length next.old ≡ dag.now.validators }
     requires firsts_length { length firsts.old ≡ dag.now.validators }
     ensures members { SameMembers present.new (table_after (length weights.now) weights.now (graph dag.now) (observations dag.now panorama.now) quorum lower.now) }
     ensures present_length { length present.new ≡ dag.now.validators }
-    ensures next_length { length next.new ≡ dag.now.validators }
     ensures firsts_length { length firsts.new ≡ dag.now.validators }
+    ensures firsts { AreFirsts dag.now panorama.now lower.now present.new firsts.new }
 {
     present.copy_from(lower);
+    firsts.find(dag, panorama, lower, present);
+    let mut weight = members_weight(dag, weights, present);
     for _ in 0..weights.len() {
+        let left = strike(
+            present, firsts, dag, weights, panorama, quorum, lower, weight,
+        );
         // Nobody sees a quorum of those who weigh less than one.
-        if members_weight(dag, weights, present) < quorum {
+        if left < quorum {
             present.clear();
+            firsts.clear();
             return;
         }
-        firsts.find(dag, panorama, lower, present);
-        let fell = put_left(next, dag, weights, panorama, quorum, lower, present, firsts);
-        present.copy_from(next);
-        if !fell {
+        if left == weight {
             return;
         }
+        weight = left;
     }
 }
 
@@ -100,46 +101,83 @@ fn members_weight(dag: &Dag, weights: &[u64], present: &Table) -> u64
     total
 }
 
-// Puts into `next` those present whose latest unit sees a quorum of them, and says whether somebody
-// fell.
-fn put_left(
-    next: &mut Table,
+// One round: lets fall, one after the other, those present whose latest unit sees no quorum of those still
+// there, and says what those left weigh. It ends as soon as that is less than a quorum.
+fn strike(
+    present: &mut Table,
+    firsts: &mut Firsts,
     dag: &Dag,
     weights: &[u64],
     panorama: &Panorama,
     quorum: u64,
     lower: &Table,
-    present: &Table,
-    firsts: &Firsts,
-) -> bool
+    weight: u64,
+) -> u64
     requires panorama { IsPanorama dag.now panorama.now }
     requires consistent { IsTrue (is_consistent (graph dag.now) (observations dag.now panorama.now)) }
     requires weights { AreWeights weights.now dag.now }
-    requires slots { HasSlots panorama.now present.now }
-    requires firsts_length { length firsts.now ≡ dag.now.validators }
-    requires firsts { AreFirsts dag.now panorama.now lower.now present.now firsts.now }
-    requires present_length { length present.now ≡ dag.now.validators }
-    requires length { length next.old ≡ dag.now.validators }
-    ensures length { length next.new ≡ dag.now.validators }
-    ensures next { SameMembers next.new (next_table weights.now (graph dag.now) (observations dag.now panorama.now) quorum lower.now present.now) }
-    ensures stays { result ≡ false → SameMembers next.new present.now }
+    requires slots { HasSlots panorama.now present.old }
+    requires present_length { length present.old ≡ dag.now.validators }
+    requires firsts_length { length firsts.old ≡ dag.now.validators }
+    requires firsts { AreFirsts dag.now panorama.now lower.now present.old firsts.old }
+    requires weight { weight ≡ weight_of weights.now (is_member present.old) }
+    ensures present_length { length present.new ≡ dag.now.validators }
+    ensures firsts_length { length firsts.new ≡ dag.now.validators }
+    ensures firsts { AreFirsts dag.now panorama.now lower.now present.new firsts.new }
+    ensures weight { result ≡ weight_of weights.now (is_member present.new) }
+    ensures among { AreAmong present.new present.old }
+    ensures keeps { (kept : Starts) → AreAmong kept (next_table weights.now (graph dag.now) (observations dag.now panorama.now) quorum lower.now kept) → AreAmong kept present.old → AreAmong kept present.new }
+    ensures judged { quorum ≤ result → AreAmong present.new (next_table weights.now (graph dag.now) (observations dag.now panorama.now) quorum lower.now present.old) }
+    ensures settled { result ≡ weight → AreAmong present.old present.new }
 {
-    let mut fell = false;
+    let mut left = weight;
     for v in 0..dag.validators() {
-        let stays = remains(dag, weights, panorama, quorum, lower, present, firsts, v);
-        if falls(present, v, stays) {
-            fell = true;
+        if left < quorum {
+            return left;
         }
-        next.set(v, stays.then_some(0));
+        left -= judge(present, firsts, dag, weights, panorama, quorum, lower, v);
     }
-    fell
+    left
 }
 
-// Whether the validator is present, and doesn't remain.
-fn falls(present: &Table, validator: u32, stays: bool) -> bool
-    ensures { result ≡ (is_some (entry present.now validator) && not stays) }
+// Lets the validator fall where it is present and doesn't remain, and says how much less those left weigh.
+fn judge(
+    present: &mut Table,
+    firsts: &mut Firsts,
+    dag: &Dag,
+    weights: &[u64],
+    panorama: &Panorama,
+    quorum: u64,
+    lower: &Table,
+    validator: u32,
+) -> u64
+    requires graph { IsGraph dag.now }
+    requires panorama { IsPanorama dag.now panorama.now }
+    requires consistent { IsTrue (is_consistent (graph dag.now) (observations dag.now panorama.now)) }
+    requires weights { AreWeights weights.now dag.now }
+    requires slots { HasSlots panorama.now present.old }
+    requires present_length { length present.old ≡ dag.now.validators }
+    requires firsts_length { length firsts.old ≡ dag.now.validators }
+    requires firsts { AreFirsts dag.now panorama.now lower.now present.old firsts.old }
+    requires within { validator < dag.now.validators }
+    ensures present_length { length present.new ≡ dag.now.validators }
+    ensures firsts_length { length firsts.new ≡ dag.now.validators }
+    ensures firsts { AreFirsts dag.now panorama.now lower.now present.new firsts.new }
+    ensures weight { result + weight_of weights.now (is_member present.new) ≡ weight_of weights.now (is_member present.old) }
+    ensures others { (v : ℕ) → (v ≡ validator → ⊥) → entry present.new v ≡ entry present.old v }
+    ensures judged { is_some (entry present.new validator) ≡ is_some (if is_some (entry present.old validator) then start_over weights.now (graph dag.now) (observations dag.now panorama.now) quorum lower.now present.old validator else None) }
+    ensures stays { result ≡ 0 → entry present.new validator ≡ entry present.old validator }
 {
-    present.get(validator).is_some() && !stays
+    if present.get(validator).is_none()
+        || remains(
+            dag, weights, panorama, quorum, lower, present, firsts, validator,
+        )
+    {
+        return 0;
+    }
+    present.set(validator, None);
+    firsts.set(validator, NO_UNIT);
+    weights[validator as usize]
 }
 
 // Whether the validator is present, and has a start over those present: its latest unit sees a quorum of

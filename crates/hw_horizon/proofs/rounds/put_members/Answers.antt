@@ -1,46 +1,76 @@
-use Rattle.std.proofs.Common.{length, sym, ap, subst, ◌∙◌, arith}
+use Rattle.std.proofs.Common.{◌≡◌, ℕ, length, sym, ap, ◌∙◌, arith}
+use Rattle.std.specs.Prelude.{is_some}
 use Rattle.hw_dag.specs.Dag.{graph, observations}
-use Rattle.hw_horizon.specs.Tables.{Starts, SameMembers, next_table, table_after}
+use Rattle.hw_horizon.specs.Tables.{Starts, entry, AreAmong, table_after}
 use Rattle.hw_horizon.specs.Starts.{HasSlots}
-use Rattle.hw_horizon.proofs.RoundLaws.{after_slots, slots_same, members_first, members_more, members_settled, members_none}
+use Rattle.hw_horizon.proofs.RoundLaws.{after_slots, members_first}
 use Rattle.hw_horizon.proofs.SightLaws.{light_none}
+use Rattle.hw_horizon.proofs.StrikeLaws.{among_both, among_more, among_weight, cleared_firsts, left_stable, left_within, none_left, stable_left}
 use Rattle.hw_horizon.proofs.rounds.put_members.Goals as goal
 
 pub loop-init : goal.loop-init
 loop-init c = record {
-  members = members_first c.args.weights.now (graph c.args.dag.now) (observations c.args.dag.now c.args.panorama.now) c.args.quorum c.args.lower.now c.copy_from.new.self c.copy_from.ensures;
   present_length = ap length c.copy_from.ensures ∙ c.requires.lower_length;
-  next_length = c.requires.next_length;
-  firsts_length = c.requires.firsts_length;
+  firsts_length = c.find.ensures.length;
+  firsts = c.find.ensures.firsts;
+  weight = c.members_weight-weight.ensures.weight;
+  down = λ v h. sym (members_first c.args.weights.now (graph c.args.dag.now) (observations c.args.dag.now c.args.panorama.now) c.args.quorum c.args.lower.now c.copy_from.new.self c.copy_from.ensures v) ∙ h;
+  up = λ v h. ap (λ (t : Starts). is_some (entry t v)) c.copy_from.ensures
+      ∙ left_within c.args.weights.now (graph c.args.dag.now) (observations c.args.dag.now c.args.panorama.now) c.args.quorum (length c.args.weights.now) c.args.lower.now v h;
 }
 
-pub put_left-fell-requires-clause-slots : goal.put_left-fell-requires-clause-slots
-put_left-fell-requires-clause-slots c =
-    slots_same c.args.panorama.now c.loop.present _ c.loop.invariant.members (after_slots c.args.weights.now (graph c.args.dag.now) (observations c.args.dag.now c.args.panorama.now) c.args.quorum c.args.panorama.now c.loop.counter c.args.lower.now c.requires.slots)
+pub strike-left-requires-clause-slots : goal.strike-left-requires-clause-slots
+strike-left-requires-clause-slots c = λ v h.
+    after_slots c.args.weights.now (graph c.args.dag.now) (observations c.args.dag.now c.args.panorama.now) c.args.quorum c.args.panorama.now c.loop.counter c.args.lower.now c.requires.slots v (c.loop.invariant.down v h)
 
-pub returns-then-members_weight-quorum-clause-members : goal.returns-then-members_weight-quorum-clause-members
-returns-then-members_weight-quorum-clause-members c =
-    let slots : HasSlots c.args.panorama.now c.loop.present = slots_same c.args.panorama.now c.loop.present _ c.loop.invariant.members (after_slots c.args.weights.now (graph c.args.dag.now) (observations c.args.dag.now c.args.panorama.now) c.args.quorum c.args.panorama.now c.loop.counter c.args.lower.now c.requires.slots) in
-    let light = c.if-members_weight-quorum.true in
-    let weight = c.members_weight.ensures.weight in
-    members_none c.args.weights.now (graph c.args.dag.now) (observations c.args.dag.now c.args.panorama.now) c.args.quorum c.loop.counter c.args.lower.now c.loop.present c.clear.new.self c.loop.invariant.members
-    (light_none c.args.dag.now c.members_weight.ensures.graph c.args.panorama.now c.requires.panorama c.requires.consistent c.args.weights.now c.args.quorum c.args.lower.now c.loop.present slots (omega arith))
-    c.loop-test.true c.clear.ensures.nobody
+pub returns-then-left-quorum-clause-members : goal.returns-then-left-quorum-clause-members
+returns-then-left-quorum-clause-members c =
+    let T : Starts = table_after (length c.args.weights.now) c.args.weights.now (graph c.args.dag.now) (observations c.args.dag.now c.args.panorama.now) c.args.quorum c.args.lower.now in
+    let slots : HasSlots c.args.panorama.now T =
+    after_slots c.args.weights.now (graph c.args.dag.now) (observations c.args.dag.now c.args.panorama.now) c.args.quorum c.args.panorama.now (length c.args.weights.now) c.args.lower.now c.requires.slots in
+    let long : length c.args.lower.now ≡ length c.args.weights.now = c.requires.lower_length ∙ sym c.requires.weights.length_is in
+    let stays : AreAmong T c.strike-left.new.present =
+    c.strike-left.ensures.keeps T (left_stable c.args.weights.now (graph c.args.dag.now) (observations c.args.dag.now c.args.panorama.now) c.args.quorum c.args.lower.now long) c.loop.invariant.up in
+    let less = among_weight c.args.weights.now (graph c.args.dag.now) (observations c.args.dag.now c.args.panorama.now) c.args.quorum T c.strike-left.new.present stays in
+    let weight = c.strike-left.ensures.weight in
+    let light = c.if-left-quorum.true in
+    none_left c.args.weights.now (graph c.args.dag.now) (observations c.args.dag.now c.args.panorama.now) c.args.quorum c.args.lower.now c.clear.new.self long
+    (light_none c.args.dag.now c.members_weight-weight.ensures.graph c.args.panorama.now c.requires.panorama c.requires.consistent c.args.weights.now c.args.quorum c.args.lower.now T slots (omega arith))
+    c.clear.ensures.nobody
 
-pub returns-then-not-fell-clause-members : goal.returns-then-not-fell-clause-members
-returns-then-not-fell-clause-members c =
-    let same = c.copy_from-in-loop.ensures in
-    subst (λ (t : Starts). SameMembers t (table_after (length c.args.weights.now) c.args.weights.now (graph c.args.dag.now) (observations c.args.dag.now c.args.panorama.now) c.args.quorum c.args.lower.now)) (sym same)
-    (members_settled c.args.weights.now (graph c.args.dag.now) (observations c.args.dag.now c.args.panorama.now) c.args.quorum c.loop.counter c.args.lower.now c.loop.present c.put_left-fell.new.next c.loop.invariant.members c.put_left-fell.ensures.next (c.put_left-fell.ensures.stays c.if-not-fell.true) c.loop-test.true)
+pub returns-then-left-quorum-clause-firsts : goal.returns-then-left-quorum-clause-firsts
+returns-then-left-quorum-clause-firsts c =
+    cleared_firsts c.args.dag.now c.members_weight-weight.ensures.graph c.args.panorama.now c.args.lower.now c.clear.new.self c.clear-then-left-quorum.new.self c.clear.ensures.nobody
+    (c.clear-then-left-quorum.ensures.length ∙ c.strike-left.ensures.firsts_length) c.clear-then-left-quorum.ensures.none
+
+pub returns-then-left-weight-clause-members : goal.returns-then-left-weight-clause-members
+returns-then-left-weight-clause-members c =
+    let T : Starts = table_after (length c.args.weights.now) c.args.weights.now (graph c.args.dag.now) (observations c.args.dag.now c.args.panorama.now) c.args.quorum c.args.lower.now in
+    let long : length c.args.lower.now ≡ length c.args.weights.now = c.requires.lower_length ∙ sym c.requires.weights.length_is in
+    let same = c.strike-left.ensures.settled c.if-left-weight.true in
+    let judged = c.strike-left.ensures.judged c.if-left-quorum.false in
+    among_both c.strike-left.new.present T
+    (λ v h. stable_left c.args.weights.now (graph c.args.dag.now) (observations c.args.dag.now c.args.panorama.now) c.args.quorum c.loop.counter c.args.lower.now c.loop.present c.loop-test.true c.loop.invariant.down
+    (λ w m. judged w (same w m)) v (c.strike-left.ensures.among v h))
+    (c.strike-left.ensures.keeps T (left_stable c.args.weights.now (graph c.args.dag.now) (observations c.args.dag.now c.args.panorama.now) c.args.quorum c.args.lower.now long) c.loop.invariant.up)
 
 pub loop-preserved : goal.loop-preserved
 loop-preserved c =
-    let same = c.copy_from-in-loop.ensures in
-    let left : SameMembers c.copy_from-in-loop.new.self (next_table c.args.weights.now (graph c.args.dag.now) (observations c.args.dag.now c.args.panorama.now) c.args.quorum c.args.lower.now c.loop.present) =
-    subst (λ (t : Starts). SameMembers t (next_table c.args.weights.now (graph c.args.dag.now) (observations c.args.dag.now c.args.panorama.now) c.args.quorum c.args.lower.now c.loop.present)) (sym same) c.put_left-fell.ensures.next in
+    let T : Starts = table_after (length c.args.weights.now) c.args.weights.now (graph c.args.dag.now) (observations c.args.dag.now c.args.panorama.now) c.args.quorum c.args.lower.now in
+    let long : length c.args.lower.now ≡ length c.args.weights.now = c.requires.lower_length ∙ sym c.requires.weights.length_is in
     record {
-      members = members_more c.args.weights.now (graph c.args.dag.now) (observations c.args.dag.now c.args.panorama.now) c.args.quorum c.loop.counter _ c.args.lower.now c.loop.present c.copy_from-in-loop.new.self c.loop.invariant.members left (omega arith);
-      present_length = ap length same ∙ c.put_left-fell.ensures.length;
-      next_length = c.put_left-fell.ensures.length;
-      firsts_length = c.find.ensures.length;
+      present_length = c.strike-left.ensures.present_length;
+      firsts_length = c.strike-left.ensures.firsts_length;
+      firsts = c.strike-left.ensures.firsts;
+      weight = c.strike-left.ensures.weight;
+      down = among_more c.args.weights.now (graph c.args.dag.now) (observations c.args.dag.now c.args.panorama.now) c.args.quorum c.loop.counter _ c.args.lower.now c.loop.present c.strike-left.new.present
+          c.loop.invariant.down (c.strike-left.ensures.judged c.if-left-quorum.false) (omega arith);
+      up = c.strike-left.ensures.keeps T (left_stable c.args.weights.now (graph c.args.dag.now) (observations c.args.dag.now c.args.panorama.now) c.args.quorum c.args.lower.now long) c.loop.invariant.up;
     }
+
+pub returns-clause-members : goal.returns-clause-members
+returns-clause-members c =
+    let T : Starts = table_after (length c.args.weights.now) c.args.weights.now (graph c.args.dag.now) (observations c.args.dag.now c.args.panorama.now) c.args.quorum c.args.lower.now in
+    among_both c.loop.present T
+    (λ v h. ap (λ (i : ℕ). is_some (entry (table_after i c.args.weights.now (graph c.args.dag.now) (observations c.args.dag.now c.args.panorama.now) c.args.quorum c.args.lower.now) v)) (omega arith) ∙ c.loop.invariant.down v h)
+    c.loop.invariant.up
