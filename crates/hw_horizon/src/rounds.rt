@@ -135,13 +135,13 @@ fn strike(
         if left < quorum {
             return left;
         }
-        left -= judge(present, firsts, dag, weights, panorama, quorum, lower, v);
+        left -= let_fall(present, firsts, dag, weights, panorama, quorum, lower, v);
     }
     left
 }
 
 // Lets the validator fall where it is present and doesn't remain, and says how much less those left weigh.
-fn judge(
+fn let_fall(
     present: &mut Table,
     firsts: &mut Firsts,
     dag: &Dag,

@@ -23,12 +23,12 @@ loop-v-init c = record {
 pub loop-v-preserved : goal.loop-v-preserved
 loop-v-preserved c =
     let i = c.loop-v.invariant in
-    let j = c.judge-left.ensures in
+    let j = c.let_fall-left.ensures in
     let most = i.most in
     let weight = i.weight in
     let less = j.weight in
-    let among : AreAmong c.judge-left.new.present c.loop-v.present =
-    judged_among c.args.weights.now (graph c.args.dag.now) (observations c.args.dag.now c.args.panorama.now) c.args.quorum c.args.lower.now c.loop-v.present c.judge-left.new.present c.loop-v.v j.others j.judged in
+    let among : AreAmong c.let_fall-left.new.present c.loop-v.present =
+    judged_among c.args.weights.now (graph c.args.dag.now) (observations c.args.dag.now c.args.panorama.now) c.args.quorum c.args.lower.now c.loop-v.present c.let_fall-left.new.present c.loop-v.v j.others j.judged in
     record {
       present_length = j.present_length;
       firsts_length = j.firsts_length;
@@ -38,16 +38,16 @@ loop-v-preserved c =
       most = omega arith;
       among = λ v h. i.among v (among v h);
       keeps = λ kept stable down.
-          judged_keeps c.args.weights.now (graph c.args.dag.now) (observations c.args.dag.now c.args.panorama.now) c.args.quorum c.args.lower.now c.loop-v.present c.judge-left.new.present c.loop-v.v j.others j.judged
+          judged_keeps c.args.weights.now (graph c.args.dag.now) (observations c.args.dag.now c.args.panorama.now) c.args.quorum c.args.lower.now c.loop-v.present c.let_fall-left.new.present c.loop-v.v j.others j.judged
           kept stable (i.keeps kept stable down);
       judged = below_more _ _ (λ v lt h. i.judged v lt (among v h))
-          (judged_start c.args.weights.now (graph c.args.dag.now) (observations c.args.dag.now c.args.panorama.now) c.args.quorum c.args.lower.now c.loop-v.present c.judge-left.new.present c.loop-v.v j.others j.judged
+          (judged_start c.args.weights.now (graph c.args.dag.now) (observations c.args.dag.now c.args.panorama.now) c.args.quorum c.args.lower.now c.loop-v.present c.let_fall-left.new.present c.loop-v.v j.others j.judged
           c.args.present.now i.among);
       settled = λ same v h.
-          let none : c.judge-left.result ≡ 0 = omega arith in
+          let none : c.let_fall-left.result ≡ 0 = omega arith in
           let was = i.settled (omega arith) v h in
           elim (cases_eq v c.loop-v.v) [
-            | inl here ↦ ap (λ (k : ℕ). is_some (entry c.judge-left.new.present k)) here ∙ ap is_some (j.stays none) ∙ ap (λ (k : ℕ). is_some (entry c.loop-v.present k)) (sym here) ∙ was
+            | inl here ↦ ap (λ (k : ℕ). is_some (entry c.let_fall-left.new.present k)) here ∙ ap is_some (j.stays none) ∙ ap (λ (k : ℕ). is_some (entry c.loop-v.present k)) (sym here) ∙ was
             | inr other ↦ ap is_some (j.others v other) ∙ was
           ];
     }

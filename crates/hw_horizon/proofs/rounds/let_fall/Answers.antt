@@ -4,7 +4,7 @@ use Rattle.hw_horizon.specs.Tables.{is_member}
 use Rattle.hw_horizon.proofs.RoundLaws.{put_same}
 use Rattle.hw_horizon.proofs.StrikeLaws.{other_entry, fallen_firsts}
 use Rattle.hw_horizon.proofs.WeightLaws.{one_fewer}
-use Rattle.hw_horizon.proofs.rounds.judge.Goals as goal
+use Rattle.hw_horizon.proofs.rounds.let_fall.Goals as goal
 
 pub returns-clause-firsts : goal.returns-clause-firsts
 returns-clause-firsts c =
