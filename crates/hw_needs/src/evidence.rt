@@ -106,7 +106,7 @@ fn sought_evidence(
 {
     match pair_names(alloc, core, validator)? {
         Some(names) => {
-            pairs.keep(alloc, core, validator, names)?;
+            pairs.keep(core, validator, names)?;
             evidence_between(core, &names.left, &names.right)
         }
         None => Ok(None),
