@@ -1,7 +1,7 @@
 //! The pairs of settled units that were looked for.
 
-ghost use Rattle.std.specs.Prelude.{ℕ, ◌≡◌, ◌≢◌, ◌<◌, ◌≤◌, [], length, None, Some, OnOk, slice_index_or};
-ghost use Rattle.hw_needs.specs.Pairs.{IsPairOf, ArePairs, IsPut};
+ghost use Rattle.std.specs.Prelude.{ℕ, ◌≡◌, ◌<◌, ◌≤◌, [], length, None, Some, OnOk, slice_index_or};
+ghost use Rattle.hw_needs.specs.Pairs.{IsPairOf, ArePairs, StayKept, IsPut};
 
 use hw_core::Core;
 use hw_types::{Digest, OutOfMemory};
@@ -54,7 +54,7 @@ impl KnownPairs {
         }
     }
 
-    /// Keeps the pair of the validator, where the node has such a validator. Those of the others stay.
+    /// Keeps the pair of the validator, where the node has such a validator. What was kept stays.
     pub(crate) fn keep(
         &mut self,
         core: &Core,
@@ -65,7 +65,7 @@ impl KnownPairs {
         requires pairs { ArePairs core.now self.old }
         ensures pairs { ArePairs core.now self.new }
         ensures kept { OnOk result (validator < length core.now.config.weights → slice_index_or self.new validator None ≡ Some names) }
-        ensures others { (w : ℕ) → w ≢ validator → slice_index_or self.new w None ≡ slice_index_or self.old w None }
+        ensures stay { StayKept self.old self.new }
     {
         self.make_places(core.state().config().weights.len())?;
         self.put(validator, names);
