@@ -5,3 +5,4 @@ pub mod ForkLaws
 pub mod NeedLaws
 pub mod ListLaws
 pub mod TakenLaws
+pub mod PairLaws

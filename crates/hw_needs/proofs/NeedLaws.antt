@@ -16,6 +16,7 @@ use Rattle.hw_types.specs.Graph.{Node, digest_eq, is_faulty_mark, slot}
 use Rattle.hw_types.specs.Below.{Among}
 use Rattle.hw_types.specs.Spelling.{digest_of}
 use Rattle.hw_types.specs.Settled.{Received, validators, has_evidence, equivocates, is_faulty, correct_or_absent, tip_of, panorama_of}
+use Rattle.hw_types.specs.Culprits.{pair_of}
 use Rattle.hw_types.specs.Journal.{Setting, named, unit_of_vertex, evidence_in, received_of, evidence_fault}
 use Rattle.hw_types.specs.Real.{CoreState, setting_of, received_in, settled_in, panorama_in}
 use Rattle.hw_types.proofs.ClosureLaws.{Among-filter, filter-Among}
@@ -168,6 +169,14 @@ module _ (c : CoreState) where
       go : (o : Option Evidence) → evidence_of c v ≡ o → option_or o (settled_evidence c v) ≡ None
       go (Some e) is = absurd (never_both (has_evidence k.with_evidence v) (told_back pairs v e is) parts.0)
       go None is = made_none v parts.1
+
+  -- who isn't faulty has no two settled units of one sequence number
+  pub clear_pair : (v : ℕ) → is_faulty k (settled_in c) v ≡ false → pair_of (settled_in c) v ≡ None
+  clear_pair v h = no_pair (settled_in c) settled_named settled_one v (clear (has_evidence k.with_evidence v) (equivocates (settled_in c) v) h)
+    where
+      clear : (a b : Bool) → (a || b) ≡ false → b ≡ false
+      clear false b e = e
+      clear true b e = absurd cc
 
   -- the journal's comes first
   pub journal_is : (v : ℕ) (e : Evidence) → evidence_of c v ≡ Some e → Some e ≡ evidence_against c v

@@ -1,6 +1,6 @@
 //! Evidence against a validator.
 
-ghost use Rattle.std.specs.Prelude.{◌≡◌, ◌<◌, ◌↔◌, false, true, length, None, IsTrue, IfOk, IfSome};
+ghost use Rattle.std.specs.Prelude.{◌≡◌, ◌<◌, ◌↔◌, false, true, length, None, IsTrue, IfOk, OnOk, IfSome};
 ghost use Rattle.hw_types.specs.declared.unit.Vertex.TheVariants as vertex;
 ghost use Rattle.hw_types.specs.Settled.{is_faulty};
 ghost use Rattle.hw_types.specs.Spelling.{VertexFits};
@@ -9,7 +9,7 @@ ghost use Rattle.hw_core.specs.Readers.{unit_in};
 ghost use Rattle.std.specs.Option.{option_map};
 ghost use Rattle.hw_types.specs.Culprits.{pair_of};
 ghost use Rattle.hw_needs.specs.Needs.{evidence_against, settled_evidence, evidence_between};
-ghost use Rattle.hw_needs.specs.Pairs.{names_of, ArePairs};
+ghost use Rattle.hw_needs.specs.Pairs.{names_of, ArePairs, StayKept, IsPairKept, IsSoughtKept};
 
 use crate::forks::fork_of;
 use crate::pairs::{KnownPairs, PairNames};
@@ -46,6 +46,8 @@ pub(crate) fn evidence_with(
     ensures none { IfOk result (λ evidence. (evidence ≡ None) ↔ (is_faulty (received_in core.now) (settled_in core.now) validator ≡ false)) }
     ensures fits { IfOk result (λ evidence. IfSome evidence (λ known. VertexFits (vertex.Evidence known))) }
     ensures pairs { ArePairs core.now pairs.new }
+    ensures kept { OnOk result (IsSoughtKept core.now validator pairs.new) }
+    ensures stay { StayKept pairs.old pairs.new }
 {
     // For the prover: each evidence of a journal is a pair.
     let _state = core.state();
@@ -85,6 +87,8 @@ fn settled_evidence(
     ensures evidence { IfOk result (λ evidence. evidence ≡ settled_evidence core.now validator) }
     ensures fits { IfOk result (λ evidence. IfSome evidence (λ known. VertexFits (vertex.Evidence known))) }
     ensures pairs { ArePairs core.now pairs.new }
+    ensures kept { OnOk result (validator < length core.now.config.weights → IsPairKept core.now validator pairs.new) }
+    ensures stay { StayKept pairs.old pairs.new }
 {
     match pairs.of(validator) {
         Some(names) => evidence_between(core, &names.left, &names.right),
@@ -103,10 +107,12 @@ fn sought_evidence(
     ensures evidence { IfOk result (λ evidence. evidence ≡ settled_evidence core.now validator) }
     ensures fits { IfOk result (λ evidence. IfSome evidence (λ known. VertexFits (vertex.Evidence known))) }
     ensures pairs { ArePairs core.now pairs.new }
+    ensures kept { OnOk result (validator < length core.now.config.weights → IsPairKept core.now validator pairs.new) }
+    ensures stay { StayKept pairs.old pairs.new }
 {
     match pair_names(alloc, core, validator)? {
         Some(names) => {
-            pairs.keep(alloc, core, validator, names)?;
+            pairs.keep(core, validator, names)?;
             evidence_between(core, &names.left, &names.right)
         }
         None => Ok(None),

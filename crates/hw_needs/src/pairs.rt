@@ -1,7 +1,7 @@
 //! The pairs of settled units that were looked for.
 
-ghost use Rattle.std.specs.Prelude.{◌≡◌, [], None, slice_index_or};
-ghost use Rattle.hw_needs.specs.Pairs.{IsPairOf, ArePairs, IsPut};
+ghost use Rattle.std.specs.Prelude.{ℕ, ◌≡◌, ◌<◌, ◌≤◌, [], length, None, Some, OnOk, slice_index_or};
+ghost use Rattle.hw_needs.specs.Pairs.{IsPairOf, ArePairs, StayKept, IsPut};
 
 use hw_core::Core;
 use hw_types::{Digest, OutOfMemory};
@@ -54,10 +54,9 @@ impl KnownPairs {
         }
     }
 
-    /// Keeps the pair of the validator.
+    /// Keeps the pair of the validator, where the node has such a validator. What was kept stays.
     pub(crate) fn keep(
         &mut self,
-        alloc: Global,
         core: &Core,
         validator: u32,
         names: PairNames,
@@ -65,19 +64,21 @@ impl KnownPairs {
         requires pair { IsPairOf core.now validator names }
         requires pairs { ArePairs core.now self.old }
         ensures pairs { ArePairs core.now self.new }
+        ensures kept { OnOk result (validator < length core.now.config.weights → slice_index_or self.new validator None ≡ Some names) }
+        ensures stay { StayKept self.old self.new }
     {
-        self.make_places(alloc, core)?;
+        self.make_places(core.state().config().weights.len())?;
         self.put(validator, names);
         Ok(())
     }
 
-    /// Makes a place for each validator, where there are none.
-    fn make_places(&mut self, alloc: Global, core: &Core) -> Result<(), OutOfMemory>
-        requires { ArePairs core.now self.old }
-        ensures { ArePairs core.now self.new }
+    /// Makes a place for each of so many validators, where there are fewer. What is kept stays.
+    fn make_places(&mut self, validators: usize) -> Result<(), OutOfMemory>
+        ensures places { OnOk result (validators ≤ length self.new) }
+        ensures same { (w : ℕ) → slice_index_or self.new w None ≡ slice_index_or self.old w None }
     {
-        if self.pairs.is_empty() {
-            self.pairs = Vec::from_elem(alloc, None, core.state().config().weights.len())?;
+        if self.pairs.len() < validators {
+            self.pairs.resize(validators, None)?;
         }
         Ok(())
     }

@@ -1,12 +1,12 @@
 //! The vertices of a need.
 
-ghost use Rattle.std.specs.Prelude.{◌≡◌, map, IfOk};
+ghost use Rattle.std.specs.Prelude.{◌≡◌, map, IfOk, OnOk};
 ghost use Rattle.std.specs.List.{All};
 ghost use Rattle.hw_types.specs.declared.unit.Vertex.TheVariants as vertex;
 ghost use Rattle.hw_types.specs.Spelling.{VertexFits};
 ghost use Rattle.hw_core.specs.Readers.{unit_in, endorsements_of};
 ghost use Rattle.hw_needs.specs.Needs.{vertices_of, unit_vertices, evidence_vertices, evidence_against};
-ghost use Rattle.hw_needs.specs.Pairs.{ArePairs};
+ghost use Rattle.hw_needs.specs.Pairs.{ArePairs, StayKept, IsSoughtKept, IsNeedKept};
 
 use crate::evidence::evidence_with;
 use crate::pairs::KnownPairs;
@@ -39,6 +39,8 @@ pub fn vertices_with(
     ensures vertices { IfOk result (λ vertices. vertices ≡ vertices_of core.now need.now) }
     ensures fit { IfOk result (λ vertices. All VertexFits vertices) }
     ensures pairs { ArePairs core.now pairs.new }
+    ensures kept { OnOk result (IsNeedKept core.now need.now pairs.new) }
+    ensures stay { StayKept pairs.old pairs.new }
 {
     match need {
         Need::Unit(unit) => unit_vertices(alloc, core, unit),
@@ -73,6 +75,8 @@ fn evidence_vertices(
     ensures vertices { IfOk result (λ vertices. vertices ≡ evidence_vertices (evidence_against core.now validator)) }
     ensures fit { IfOk result (λ vertices. All VertexFits vertices) }
     ensures pairs { ArePairs core.now pairs.new }
+    ensures kept { OnOk result (IsSoughtKept core.now validator pairs.new) }
+    ensures stay { StayKept pairs.old pairs.new }
 {
     let mut vertices = VertexList::new(alloc);
     match evidence_with(alloc, core, pairs, validator)? {
