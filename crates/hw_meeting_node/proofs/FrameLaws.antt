@@ -10,7 +10,7 @@ use Rattle.hw_meeting.specs.Frames.{meeting_of}
 use Rattle.hw_meeting_link.specs.Frames.{Placed, decoded, frame_here}
 use Rattle.hw_meeting_node.specs.Talk.{Frames, with_next, frames_in, frames_from}
 
-chosen : {A : Type 0} (b : Bool) (d : SessionEnd) (x : Result A SessionEnd) (y : A) → cond b (Err d) x ≡ Ok y → (b ≡ false) × (x ≡ Ok y)
+pub chosen : {A : Type 0} (b : Bool) (d : SessionEnd) (x : Result A SessionEnd) (y : A) → cond b (Err d) x ≡ Ok y → (b ≡ false) × (x ≡ Ok y)
 chosen true d x y e = absurd cc
 chosen false d x y e = (refl, e)
 
@@ -18,14 +18,14 @@ chosen false d x y e = (refl, e)
 front_enough : (n : ℕ) (r : Rest) (x : List ℕ) → front_of n r ≡ Ok x → n ≤ length r.bytes
 front_enough n r x e = let c = chosen (ltb (length r.bytes) n) (cut_end r) (Ok (take n r.bytes)) x e in ltb-false _ _ c.0
 
-abbrev placed : Rest → ℕ → MeetingFrame → Result (Placed × Rest) SessionEnd
+abbrev pub placed : Rest → ℕ → MeetingFrame → Result (Placed × Rest) SessionEnd
 placed r n frame = Ok (record { at = r.place; frame = frame }, record { place = r.place + (4 + n); bytes = drop (4 + n) r.bytes })
 
 module _ (validators : ℕ) where
-  abbrev with_whole : Rest → ℕ → List ℕ → Result (Placed × Rest) SessionEnd
+  abbrev pub with_whole : Rest → ℕ → List ℕ → Result (Placed × Rest) SessionEnd
   with_whole r n whole = decoded r (meeting_of validators (drop 4 whole)) >>= placed r n
 
-  abbrev with_length : Rest → ℕ → Result (Placed × Rest) SessionEnd
+  abbrev pub with_length : Rest → ℕ → Result (Placed × Rest) SessionEnd
   with_length r n = front_of (4 + n) r >>= with_whole r n
 
   -- behind a frame fewer bytes are left

@@ -1,6 +1,7 @@
 pub mod FrameLaws
 pub mod TalkLaws
 pub mod EndLaws
+pub mod FurtherLaws
 pub mod TakingLaws
 pub mod TakenLaws
 pub mod MeetingLaws

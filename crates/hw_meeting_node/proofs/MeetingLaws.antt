@@ -28,11 +28,12 @@ use Rattle.hw_meeting_node.specs.declared.end.MeetEnd.TheVariants as end
 use Rattle.hw_meeting_node.specs.declared.meeter.Side.{Side}
 use Rattle.hw_meeting_node.specs.Talk.{Reaction, Talk, HasHeard, placed_behind}
 use Rattle.hw_meeting_node.specs.Meeting.{Meeting, first_word, begun, meet_step, met}
-use Rattle.hw_meeting_node.specs.Sessions.{meet_end, IsOfOutside, EndsAs, IsFinal, IsEndOf, IsWritten, Leaves, Meets, is_link_end, MeetsPeer, MeetsNone, IsLinkEnd, IsTakerEnd}
+use Rattle.hw_meeting_node.specs.Sessions.{meet_end, IsOfOutside, EndsAs, IsFinal, IsEndOf, IsCutEnd, IsReadNoFurther, IsWritten, Leaves, Meets, is_link_end, MeetsPeer, MeetsNone, IsLinkEnd, IsTakerEnd}
 use Rattle.hw_meeting_node.specs.Handling.{Reacts, Quits, Handles, IsTakerCounted}
 use Rattle.hw_meeting_node.specs.Taking.{vertex_at, taken_in, TakeStep, TakesAll, Took, TakesThere, TakesPeer, TakesNone, TakesOf, GoesNext}
 use Rattle.hw_meeting_node.proofs.TalkLaws.{begins, leads_on, frame_ends, no_frame_ends, heard_here, heard_first}
 use Rattle.hw_meeting_node.proofs.EndLaws.{IsOfFrame, step_ends, no_frame_so}
+use Rattle.hw_meeting_node.proofs.FurtherLaws.{NoneBehind, frame_alone, none_there, part_cut, cut_so_far, none_further, no_further, stops_so}
 use Rattle.hw_meeting_node.proofs.TakingLaws.{HasTaken, taken_nothing, takes_here, takes_over, takes_first, takes_more, takes_last, takes_alike}
 
 -- ---- what was said
@@ -137,6 +138,10 @@ module _ {A : Type 0} (taking : TakeStep A) (side : Side) (c : CoreState) (judge
   abbrev Heard : List ℕ → List MeetingFrame → Meeting → Type 0
   Heard read said m = HasHeard n first step (begun c) read said m
 
+  -- no byte of these was read past a frame that ends the session
+  abbrev Further : List ℕ → Type 0
+  Further read = IsReadNoFurther (λ (bytes : List ℕ). (met side c judge bytes).end) read
+
   -- what was read so far was read of the session that is there, the node stands behind it, and all that it said was sent
   pub record IsMeeting (m : Meeting) (place : ℕ) (u : A) (old now : Option (List Session)) : Type 0 where
     pub read : List ℕ
@@ -144,6 +149,7 @@ module _ {A : Type 0} (taking : TakeStep A) (side : Side) (c : CoreState) (judge
     pub place_is : place ≡ length read
     pub within : length read ≤ byte_limit
     pub heard : Heard read said m
+    pub no_further : Further read
     pub told : now ≡ after_part read (sent_bytes said) false old
     pub took : HasTaken taking side c judge t m read u
 
@@ -155,6 +161,7 @@ module _ {A : Type 0} (taking : TakeStep A) (side : Side) (c : CoreState) (judge
     place_is = refl;
     within = omega arith;
     heard = subst (λ (x : Meeting). Heard [] first x) (sym is) (begins n step first (begun c));
+    no_further = none_further (λ (bytes : List ℕ). (met side c judge bytes).end);
     told = told;
     took = subst (λ (x : Meeting). HasTaken taking side c judge t x [] t) (sym is) (taken_nothing taking side c judge t);
   }
@@ -162,15 +169,24 @@ module _ {A : Type 0} (taking : TakeStep A) (side : Side) (c : CoreState) (judge
   abbrev Whole : List ℕ → Meeting → List MeetingFrame → SessionEnd → Type 0
   Whole bytes m said e = met side c judge bytes ≡ record { state = m; said = said; end = e }
 
+  -- bytes that are no more than a frame are read no further than it
+  reads_part : (m : Meeting) (read : List ℕ) (said : List MeetingFrame) → Heard read said m → (part : List ℕ) → NoneBehind n (length read) part → length (read ++ part) ≤ byte_limit → Further read → Further (read ++ part)
+  reads_part m read said heard part none few so_far = no_further (λ (bytes : List ℕ). (met side c judge bytes).end) read part so_far (λ front back is some.
+      let (e, ends) = part_cut n (length read) part front back is some none in
+      let all : length (read ++ (front ++ back)) ≤ byte_limit = subst (λ (p : List ℕ). length (read ++ p) ≤ byte_limit) is few in
+      let fewer : length (read ++ front) ≤ byte_limit = omega (arith, length-append read (front ++ back), length-append front back, length-append read front) in
+      subst IsCutEnd (sym (ap (λ (t : Talk Meeting). t.end) (no_frame_ends n step first (begun c) read said m heard front e ends fewer))) (cut_so_far (rest_at (length read) front) e (no_frame_so n (length read) front e ends)))
+
   -- ---- what a meeting comes to
 
   -- it ended so, and all that was read was handled
   plain_meets : (read written : List ℕ) (said : List MeetingFrame) (m : Meeting) (ends_old ends_new : ℕ) (e by_bytes : SessionEnd) → length read ≤ byte_limit → Whole read m said by_bytes → EndsAs (meet_end e m.refused) (record { state = m; said = said; end = by_bytes })
-      → IsEndOf side c judge read ends_old ends_new (meet_end e m.refused) → IsWritten (meet_end e m.refused) said written → (e ≡ by.OutOfMemory → ⊥) → Meets side c judge read written m.core ends_old ends_new (meet_end e m.refused)
-  plain_meets read written said m ends_old ends_new e by_bytes few whole ended counted wrote some = record {
+      → IsEndOf side c judge read ends_old ends_new (meet_end e m.refused) → Further read → IsWritten (meet_end e m.refused) said written → (e ≡ by.OutOfMemory → ⊥) → Meets side c judge read written m.core ends_old ends_new (meet_end e m.refused)
+  plain_meets read written said m ends_old ends_new e by_bytes few whole ended counted further wrote some = record {
     within = few;
     ended = subst (λ (t : Talk Meeting). EndsAs (meet_end e m.refused) t) (sym whole) ended;
     end_counted = counted;
+    no_further = stops_so (meet_end e m.refused) (λ (bytes : List ℕ). (met side c judge bytes).end) read further;
     wrote = subst (λ (t : Talk Meeting). IsWritten (meet_end e m.refused) t.said written) (sym whole) wrote;
     left = leaves e (ap (λ (t : Talk Meeting). t.state.core) (sym whole)) some;
   }
@@ -193,6 +209,7 @@ module _ {A : Type 0} (taking : TakeStep A) (side : Side) (c : CoreState) (judge
     within = few;
     ended = inr tt;
     end_counted = tt;
+    no_further = tt;
     wrote = subst (λ (s : List MeetingFrame). IsPrefixOf written (sent_bytes s)) (sym further) (first_of_more written said more wrote);
     left = record { first = front; part = part; split = refl; stands = stands };
   }
@@ -215,7 +232,7 @@ module _ {A : Type 0} (taking : TakeStep A) (side : Side) (c : CoreState) (judge
           meets = record {
             read = s.read;
             written = sent_bytes s.said;
-            meets = plain_meets s.read (sent_bytes s.said) s.said m ends ends by.ByteLimit (cut_end (rest_at (length s.read) [])) s.within here (inl (ap (λ (e : SessionEnd). meet_end e m.refused) (sym is))) (omega (arith, s.place_is)) refl (λ e. cc);
+            meets = plain_meets s.read (sent_bytes s.said) s.said m ends ends by.ByteLimit (cut_end (rest_at (length s.read) [])) s.within here (inl (ap (λ (e : SessionEnd). meet_end e m.refused) (sym is))) (omega (arith, s.place_is)) s.no_further refl (λ e. cc);
             told = s.told;
           };
           took = takes_here taking side c judge t m s.read u s.took s.within;
@@ -240,7 +257,7 @@ module _ {A : Type 0} (taking : TakeStep A) (side : Side) (c : CoreState) (judge
           meets = record {
             read = s.read ++ h.part;
             written = sent_bytes s.said;
-            meets = plain_meets (s.read ++ h.part) (sent_bytes s.said) s.said m ends_now ends_new how by_bytes few (over by_bytes none) agrees counted wrote some;
+            meets = plain_meets (s.read ++ h.part) (sent_bytes s.said) s.said m ends_now ends_new how by_bytes few (over by_bytes none) agrees counted (reads_part m s.read s.said s.heard h.part (none_there n (length s.read) h.part by_bytes none) few s.no_further) wrote some;
             told = told;
           };
           took = took;
@@ -304,6 +321,9 @@ module _ {A : Type 0} (taking : TakeStep A) (side : Side) (c : CoreState) (judge
       fits_more : length (bytes ++ []) ≤ byte_limit
       fits_more = subst (λ (bytes : List ℕ). length bytes ≤ byte_limit) (sym (append-nil bytes)) fits
 
+      further : Further bytes
+      further = reads_part m s.read s.said s.heard part (frame_alone n (length s.read) part f has) fits s.no_further
+
       stops : (e : SessionEnd) → reaction.end ≡ Some e → (more : List ℕ) → length (bytes ++ more) ≤ byte_limit → Whole (bytes ++ more) reaction.state said e
       stops e some more few = frame_ends n step first (begun c) s.read s.said m s.heard part f has e some more few
 
@@ -343,7 +363,7 @@ module _ {A : Type 0} (taking : TakeStep A) (side : Side) (c : CoreState) (judge
             meets = record {
               read = bytes;
               written = sent_bytes s.said ++ sent_bytes reaction.says;
-              meets = plain_meets bytes (sent_bytes s.said ++ sent_bytes reaction.says) said reaction.state ends ends how how fits (stops_here how some) (inl refl) counted wrote others;
+              meets = plain_meets bytes (sent_bytes s.said ++ sent_bytes reaction.says) said reaction.state ends ends how how fits (stops_here how some) (inl refl) counted further wrote others;
               told = told (sent_bytes reaction.says) false sent ∙ ap (λ (b : Bool). after_part bytes (sent_bytes s.said ++ sent_bytes reaction.says) b old) (sym linked);
             };
             took = took how reaction.state.refused of_taker;
@@ -369,7 +389,7 @@ module _ {A : Type 0} (taking : TakeStep A) (side : Side) (c : CoreState) (judge
             meets = record {
               read = bytes;
               written = sent_bytes s.said ++ sent;
-              meets = plain_meets bytes (sent_bytes s.said ++ sent) said reaction.state ends ends how whole.0 fits whole.1 (inr of) counted wrote others;
+              meets = plain_meets bytes (sent_bytes s.said ++ sent) said reaction.state ends ends how whole.0 fits whole.1 (inr of) counted further wrote others;
               told = told sent failed is ∙ ap (λ (b : Bool). after_part bytes (sent_bytes s.said ++ sent) b old) linked;
             };
             took = took how reaction.state.refused takes;
@@ -406,6 +426,7 @@ module _ {A : Type 0} (taking : TakeStep A) (side : Side) (c : CoreState) (judge
         place_is = sym (length-append s.read part);
         within = fits;
         heard = subst (λ (x : Meeting). Heard bytes said x) (sym r.1) (leads_on n step first (begun c) s.read s.said m s.heard part f has r.0);
+        no_further = further;
         told = told (sent_bytes reaction.says) false r.2 ∙ ap (λ (w : List ℕ). after_part bytes w false old) all_said;
         took = subst (λ (x : Meeting). HasTaken taking side c judge t x bytes w) (sym r.1) (takes_more taking side c judge t m s.read u s.took part f has fits w x r.0 takes);
       }
@@ -472,7 +493,7 @@ module _ {A : Type 0} (taking : TakeStep A) (side : Side) (c : CoreState) (judge
     meets = record {
       read = [];
       written = s.part;
-      meets = plain_meets [] s.part first (begun c) ends ends by.LinkFault (cut_end (rest_at 0 [])) (omega arith) start (inr tt) tt s.first (λ e. cc);
+      meets = plain_meets [] s.part first (begun c) ends ends by.LinkFault (cut_end (rest_at 0 [])) (omega arith) start (inr tt) tt (none_further (λ (bytes : List ℕ). (met side c judge bytes).end)) s.first (λ e. cc);
       told = s.told;
     };
     took = none_taken;
@@ -539,7 +560,7 @@ module _ {A : Type 0} (taking : TakeStep A) (side : Side) (c : CoreState) (judge
           meets = record {
             read = [];
             written = [];
-            meets = plain_meets [] [] first (begun c) ends_old ends_old by.LinkFault (cut_end (rest_at 0 [])) (omega arith) start (inr tt) tt (0, refl) (λ e. cc);
+            meets = plain_meets [] [] first (begun c) ends_old ends_old by.LinkFault (cut_end (rest_at 0 [])) (omega arith) start (inr tt) tt (none_further (λ (bytes : List ℕ). (met side c judge bytes).end)) (0, refl) (λ e. cc);
             told = told;
           };
           took = none_taken;

@@ -1,6 +1,6 @@
 -- What a meeting comes to, by the bytes that were read in it.
 -- Source: ours.
-use Rattle.std.specs.Prelude.{◌≡◌, ◌⊎◌, ℕ, ◌≤◌, Bool, true, false, List, [], ◌∷◌, ◌++◌, length, Option, Some, None}
+use Rattle.std.specs.Prelude.{◌≡◌, ◌≢◌, ◌⊎◌, ℕ, ◌≤◌, Bool, true, false, List, [], ◌∷◌, ◌++◌, length, Option, Some, None}
 use Rattle.std.specs.Option.{option_map}
 use Rattle.hw_types.specs.declared.unit.Vertex.{Vertex}
 use Rattle.hw_types.specs.Real.{CoreState}
@@ -64,6 +64,23 @@ IsEndOf side c judge read before now end.WrongInstance = IsFinal side c judge re
 IsEndOf side c judge read before now end.Clash = IsFinal side c judge read
 IsEndOf side c judge read before now e = Unit {0}
 
+-- how a session ends whose bytes end before a frame or inside it, or spell none
+abbrev pub IsCutEnd : SessionEnd → Type 0
+IsCutEnd by.EndOfInput = Unit {0}
+IsCutEnd (by.BadFrame at) = Unit {0}
+IsCutEnd by.ByteLimit = Unit {0}
+IsCutEnd e = ⊥
+
+-- No byte was read past a frame that ends the session: where fewer are read, it ends as one that is cut, and not by Done, by a Hello of another
+-- instance or by a clash.
+abbrev pub IsReadNoFurther : (List ℕ → SessionEnd) → List ℕ → Type 0
+IsReadNoFurther ends read = (first part : List ℕ) → read ≡ first ++ part → part ≢ [] → IsCutEnd (ends first)
+
+-- So it is of each session but one that had no memory, which may end inside whatever frame is there.
+abbrev pub StopsReading : MeetEnd → (List ℕ → SessionEnd) → List ℕ → Type 0
+StopsReading end.OutOfMemory ends read = Unit {0}
+StopsReading e ends read = IsReadNoFurther ends read
+
 -- All that was said was written; after a fault of the link or want of memory a first part of it.
 abbrev pub IsWritten : MeetEnd → List MeetingFrame → List ℕ → Type 0
 IsWritten end.LinkFault said written = IsPrefixOf written (sent_bytes said)
@@ -91,6 +108,7 @@ pub record Meets (side : Side) (c : CoreState) (judge : Vertex → Bool) (read w
   pub within : length read ≤ byte_limit
   pub ended : EndsAs e (met side c judge read)
   pub end_counted : IsEndOf side c judge read ends_old ends_new e
+  pub no_further : StopsReading e (λ (bytes : List ℕ). (met side c judge bytes).end) read
   pub wrote : IsWritten e (met side c judge read).said written
   pub left : Leaves e side c judge read m
 
