@@ -4,11 +4,35 @@ ghost use Rattle.std.specs.Prelude.{◌≡◌, IfOk};
 ghost use Rattle.hw_types.specs.Graph.{digest_lt};
 
 use crate::items::{Bytes, DigestList, ObsList, OutOfMemory};
+use crate::words::is_same;
 use std::hash::{Hash, Hasher};
 
 /// A SHA-256 digest: the name of a unit, or of an instance. Digests are ordered by their bytes.
-#[derive(Clone, Copy, Debug, PartialEq, Eq, PartialOrd, Ord)]
+#[derive(Clone, Copy, Debug, PartialOrd, Ord)]
 pub struct Digest(pub [u8; 32]);
+
+// Four words against four; derived code would compare the bytes one by one.
+impl PartialEq for Digest {
+    ghost use Rattle.std.specs.Prelude.{bytes_eq};
+    ghost use Rattle.std.specs.Cmp.Rules.{comparing};
+    ghost use Rattle.std.proofs.Common.{rules};
+
+    ghost eq = { λ x y. bytes_eq x.0 y.0 };
+
+    ghost laws = { Prim.search (comparing, rules) };
+
+    #[inline]
+    fn eq(&self, other: &Digest) -> bool {
+        is_same(&self.0, &other.0)
+    }
+}
+
+impl Eq for Digest {
+    ghost use Rattle.std.specs.Cmp.Rules.{comparing};
+    ghost use Rattle.std.proofs.Common.{rules};
+
+    ghost laws = { Prim.search (comparing, rules) };
+}
 
 // The 32 bytes go to the hasher in one piece; derived code would hand them over one by one.
 impl Hash for Digest {
