@@ -9,24 +9,24 @@ use Rattle.std.proofs.lemmas.Bool.Decides.{Decides-eqb}
 use Rattle.std.proofs.lemmas.Slice.Eq.{bytes_eq-Decides}
 use Rattle.hw_types.proofs.StableLaws.{and_parts, and_whole, both_ways}
 
-abbrev Small : List ℕ → Type 0
+abbrev pub Small : List ℕ → Type 0
 Small xs = (i : ℕ) → get_or xs i 0 < 256
 
 -- eight bytes from i on
-abbrev eight : List ℕ → ℕ → List ℕ
+abbrev pub eight : List ℕ → ℕ → List ℕ
 eight xs i = take 8 (drop i xs)
 
 -- n is the number that they spell
 abbrev Spells : List ℕ → ℕ → ℕ → Type 0
 Spells xs i n = n ≡ from_le_bytes w64 (eight xs i)
 
-small_take : (n : ℕ) (xs : List ℕ) → Small xs → Small (take n xs)
+pub small_take : (n : ℕ) (xs : List ℕ) → Small xs → Small (take n xs)
 small_take zero xs s i = omega arith
 small_take (suc n) [] s i = s i
 small_take (suc n) (x ∷ xs) s zero = s 0
 small_take (suc n) (x ∷ xs) s (suc i) = small_take n xs (λ k. s (suc k)) i
 
-small_drop : (n : ℕ) (xs : List ℕ) → Small xs → Small (drop n xs)
+pub small_drop : (n : ℕ) (xs : List ℕ) → Small xs → Small (drop n xs)
 small_drop n xs s i = subst (λ x. x < 256) (sym (get_or-drop n xs i 0)) (s (n + i))
 
 module _ (xs ys : List ℕ) (long : length xs ≡ 32) (wide : length ys ≡ 32) (small : Small xs) (low : Small ys) where
