@@ -12,6 +12,7 @@ mod items;
 mod laws;
 mod same;
 mod unit;
+mod words;
 
 pub use answers::{
     Cause, CodecError, Culprit, Decision, Frame, PairFault, Plan, PlanKind, Receipt, Rule,

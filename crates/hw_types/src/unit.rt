@@ -4,11 +4,73 @@ ghost use Rattle.std.specs.Prelude.{◌≡◌, IfOk};
 ghost use Rattle.hw_types.specs.Graph.{digest_lt};
 
 use crate::items::{Bytes, DigestList, ObsList, OutOfMemory};
+use crate::words::{is_same, order};
+use std::cmp::Ordering;
 use std::hash::{Hash, Hasher};
 
 /// A SHA-256 digest: the name of a unit, or of an instance. Digests are ordered by their bytes.
-#[derive(Clone, Copy, Debug, PartialEq, Eq, PartialOrd, Ord)]
+#[derive(Clone, Copy, Debug)]
 pub struct Digest(pub [u8; 32]);
+
+// Four words against four; derived code would compare the bytes one by one.
+impl PartialEq for Digest {
+    ghost use Rattle.std.specs.Prelude.{bytes_eq};
+    ghost use Rattle.std.specs.Cmp.Rules.{comparing};
+    ghost use Rattle.std.proofs.Common.{rules};
+
+    ghost eq = { λ x y. bytes_eq x.0 y.0 };
+
+    ghost laws = { Prim.search (comparing, rules) };
+
+    #[inline]
+    fn eq(&self, other: &Digest) -> bool {
+        is_same(&self.0, &other.0)
+    }
+}
+
+impl Eq for Digest {
+    ghost use Rattle.std.specs.Cmp.Rules.{comparing};
+    ghost use Rattle.std.proofs.Common.{rules};
+
+    ghost laws = { Prim.search (comparing, rules) };
+}
+
+impl Ord for Digest {
+    ghost use Rattle.std.specs.Ordering.{nat_cmp, on};
+    ghost use Rattle.std.specs.Cmp.Lexicographic.{slice_cmp};
+    ghost use Rattle.std.specs.Cmp.Rules.{comparing};
+    ghost use Rattle.std.proofs.Common.{rules};
+
+    ghost cmp = { on (λ d. d.0) (slice_cmp nat_cmp) };
+
+    ghost total = { Prim.search (comparing, rules) };
+
+    ghost matches_partial_cmp = { Prim.search (comparing, rules) };
+
+    ghost matches_eq = { Prim.search (comparing, rules) };
+
+    #[inline]
+    fn cmp(&self, other: &Digest) -> Ordering {
+        order(&self.0, &other.0)
+    }
+}
+
+impl PartialOrd for Digest {
+    ghost use Rattle.std.specs.Ordering.{nat_cmp, on, as_partial_cmp};
+    ghost use Rattle.std.specs.Cmp.Lexicographic.{slice_cmp};
+    ghost use Rattle.std.specs.Cmp.{partial_order_from_own_ties};
+    ghost use Rattle.std.specs.Cmp.Rules.{comparing};
+    ghost use Rattle.std.proofs.Common.{rules};
+
+    ghost partial_cmp = { as_partial_cmp (on (λ d. d.0) (slice_cmp nat_cmp)) };
+
+    ghost laws = { partial_order_from_own_ties (Prim.search (comparing, rules)) (Prim.search (comparing, rules)) };
+
+    #[inline]
+    fn partial_cmp(&self, other: &Digest) -> Option<Ordering> {
+        Some(self.cmp(other))
+    }
+}
 
 // The 32 bytes go to the hasher in one piece; derived code would hand them over one by one.
 impl Hash for Digest {
@@ -30,7 +92,7 @@ impl Digest {
     pub fn comes_before(&self, other: &Digest) -> bool
         ensures { result ≡ digest_lt self.now other.now }
     {
-        self.0.cmp(&other.0).is_lt()
+        order(&self.0, &other.0).is_lt()
     }
 }
 
