@@ -85,7 +85,7 @@ impl Lanes {
             seq: seq_behind(self.last_of(creator)),
             time,
             exponent: EXPONENT,
-            panorama: observations(alloc, self.last.as_slice())?,
+            panorama: observations(alloc, self.last.as_slice())?.shared()?,
             value,
             endorsed: DigestList::new(alloc),
         })

@@ -204,7 +204,7 @@ fn read_panorama(creator: u32, last: &Last, reader: &mut Reader<'_>) -> Result<O
     let count = reader.count(MAX_OBSERVATIONS)?;
     let mut panorama = last.base(creator)?;
     read_changes(creator, count, panorama.as_mut_slice(), reader)?;
-    Ok(ObsList::from_vec(panorama))
+    Ok(ObsList::from_vec(panorama).shared()?)
 }
 
 /// Reads so many changes, and makes them.
@@ -332,7 +332,7 @@ fn compact_len(changes: &Items<Change>, unit: &WireUnit) -> usize {
     changes
         .saturating_add(54)
         .saturating_add(value_len(&unit.value))
-        .saturating_add(list_len(&unit.endorsed))
+        .saturating_add(list_len(unit.endorsed.as_slice()))
 }
 
 /// Writes a unit in the compact form, with these changes.
@@ -368,7 +368,7 @@ fn put_tail(signed: &SignedUnit, out: &mut Vec<u8>) -> Result<(), OutOfMemory>
     ensures { OnOk result (out.new.items ≡ out.old.items ++ tail_bytes signed.now) }
 {
     put_value(&signed.unit.value, out)?;
-    put_list(&signed.unit.endorsed, out)?;
+    put_list(signed.unit.endorsed.as_slice(), out)?;
     Ok(out.extend_from_slice(&signed.signature.0)?)
 }
 

@@ -89,7 +89,7 @@ fn read_end(version: u8, reader: &mut Reader<'_>) -> Result<Option<u64>, CodecEr
 /// How many bytes a configuration has.
 pub(crate) fn config_len(config: &Config) -> usize {
     let leaders = match &config.leaders {
-        Leaders::Table(entries) => list_len(entries),
+        Leaders::Table(entries) => list_len(entries.as_slice()),
         Leaders::Drawn(_) => 32,
     };
     let end = match config.end {
@@ -99,7 +99,7 @@ pub(crate) fn config_len(config: &Config) -> usize {
     leaders
         .saturating_add(21)
         .saturating_add(end)
-        .saturating_add(list_len(&config.weights))
+        .saturating_add(list_len(config.weights.as_slice()))
 }
 
 /// Writes a configuration behind what stands in `out`.
@@ -111,7 +111,7 @@ pub(crate) fn put_config(config: &Config, out: &mut Vec<u8>) -> Result<(), OutOf
         None => ENDLESS,
         Some(_) => WITH_END,
     })?;
-    put_list(&config.weights, out)?;
+    put_list(config.weights.as_slice(), out)?;
     config.ftt.put(out)?;
     out.extend_from_slice(&[config.levels, config.min_exponent, config.max_exponent])?;
     put_leaders(&config.leaders, out)?;
@@ -127,7 +127,7 @@ fn put_leaders(leaders: &Leaders, out: &mut Vec<u8>) -> Result<(), OutOfMemory>
     match leaders {
         Leaders::Table(entries) => {
             out.push(0)?;
-            put_list(entries, out)
+            put_list(entries.as_slice(), out)
         }
         Leaders::Drawn(key) => {
             out.push(1)?;

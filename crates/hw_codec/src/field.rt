@@ -81,18 +81,18 @@ pub(crate) fn read_list<F: Field>(
 }
 
 /// How many bytes a list has with its count.
-pub(crate) fn list_len<F: Field>(list: &Items<F>) -> usize {
-    let items = list.as_slice().iter();
-    items.fold(4, |sum: usize, item| sum.saturating_add(item.len()))
+pub(crate) fn list_len<F: Field>(list: &[F]) -> usize {
+    list.iter()
+        .fold(4, |sum: usize, item| sum.saturating_add(item.len()))
 }
 
 /// Writes how many items there are, and each of them.
-pub(crate) fn put_list<F: Field>(list: &Items<F>, out: &mut Vec<u8>) -> Result<(), OutOfMemory>
+pub(crate) fn put_list<F: Field>(list: &[F], out: &mut Vec<u8>) -> Result<(), OutOfMemory>
     requires { length list.now < 2 ^ 32 }
     ensures { OnOk result (out.new.items ≡ out.old.items ++ counted F.spelling list.now) }
 {
     out.extend_from_slice(&(list.len() as u32).to_be_bytes())?;
-    for item in list.as_slice() {
+    for item in list {
         item.put(out)?;
     }
     Ok(())

@@ -36,7 +36,7 @@ pub(crate) fn frame_len(frame: &Frame) -> usize {
         Frame::Hello(_) => 33,
         Frame::Vertex(vertex) => vertex_len(vertex).saturating_add(1),
         Frame::Have(_) => 9,
-        Frame::Want(needs) => list_len(needs).saturating_add(1),
+        Frame::Want(needs) => list_len(needs.as_slice()).saturating_add(1),
         Frame::Done => 1,
         Frame::Missing(need) => need.len().saturating_add(1),
     }
@@ -62,7 +62,7 @@ pub(crate) fn put_frame(frame: &Frame, out: &mut Vec<u8>) -> Result<(), OutOfMem
         }
         Frame::Want(needs) => {
             out.push(4)?;
-            put_list(needs, out)
+            put_list(needs.as_slice(), out)
         }
         Frame::Done => Ok(out.push(5)?),
         Frame::Missing(need) => {

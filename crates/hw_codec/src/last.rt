@@ -67,7 +67,7 @@ impl Last {
         ensures base { IfOk result (λ base. base.items ≡ base_of self.now creator) }
         ensures limit { IfOk result (λ base. length base.items ≤ 1024) }
     {
-        let mut base = self.panorama.copy()?.into_vec();
+        let mut base = self.panorama.to_vec()?;
         base[creator as usize] = Obs::Correct(self.name);
         Ok(base)
     }

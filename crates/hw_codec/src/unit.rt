@@ -1,13 +1,13 @@
 //! Units as bytes.
 
 ghost use Rattle.std.specs.Prelude.{◌≡◌, ◌≤◌, ◌++◌, ◌↔◌, length, IsTrue, IfOk, OnOk, IfSome};
-ghost use Rattle.hw_types.specs.Reading.{Gives, obs_at, time_at, value_at, unit_at};
+ghost use Rattle.hw_types.specs.Reading.{Gives, counted_at, obs_at, time_at, value_at, unit_at};
 ghost use Rattle.hw_types.specs.Spelling.{obs_bytes, value_bytes, unit_bytes, Fits};
 ghost use Rattle.std.proofs.Common.{lit<};
 
 use crate::field::{Field, list_len, put_list, read_list};
 use crate::reader::Reader;
-use hw_types::{Bytes, CodecError, Obs, OutOfMemory, WireUnit};
+use hw_types::{Bytes, CodecError, Items, Obs, ObsList, OutOfMemory, WireUnit};
 use std::alloc::Global;
 
 /// The most observations of a unit, one for each validator.
@@ -52,7 +52,7 @@ pub(crate) fn read_unit(alloc: Global, reader: &mut Reader<'_>) -> Result<WireUn
     let seq = reader.u64()?;
     let time = read_time(reader)?;
     let exponent = reader.u8()?;
-    let panorama = read_list(alloc, MAX_OBSERVATIONS, reader)?;
+    let panorama = read_panorama(alloc, reader)?;
     let value = read_value(alloc, reader)?;
     let endorsed = read_list(alloc, MAX_ENDORSED, reader)?;
     Ok(WireUnit {
@@ -65,6 +65,14 @@ pub(crate) fn read_unit(alloc: Global, reader: &mut Reader<'_>) -> Result<WireUn
         value,
         endorsed,
     })
+}
+
+/// Reads the observations, which copies of the unit share.
+fn read_panorama(alloc: Global, reader: &mut Reader<'_>) -> Result<ObsList, CodecError>
+    ensures { Gives (λ list. (list, reader.new)) result (counted_at obs_at 1024 reader.old) }
+{
+    let list: Items<Obs> = read_list(alloc, MAX_OBSERVATIONS, reader)?;
+    Ok(ObsList::from_vec(list.into_vec()).shared()?)
 }
 
 pub(crate) fn read_time(reader: &mut Reader<'_>) -> Result<u64, CodecError>
@@ -107,8 +115,8 @@ fn copy_of(alloc: Global, bytes: &[u8]) -> Result<Bytes, OutOfMemory>
 pub(crate) fn unit_len(unit: &WireUnit) -> usize {
     value_len(&unit.value)
         .saturating_add(53)
-        .saturating_add(list_len(&unit.panorama))
-        .saturating_add(list_len(&unit.endorsed))
+        .saturating_add(list_len(unit.panorama.as_slice()))
+        .saturating_add(list_len(unit.endorsed.as_slice()))
 }
 
 /// How many bytes a value has with its flag.
@@ -129,9 +137,9 @@ pub(crate) fn put_unit(unit: &WireUnit, out: &mut Vec<u8>) -> Result<(), OutOfMe
     unit.seq.put(out)?;
     unit.time.put(out)?;
     out.push(unit.exponent)?;
-    put_list(&unit.panorama, out)?;
+    put_list(unit.panorama.as_slice(), out)?;
     put_value(&unit.value, out)?;
-    put_list(&unit.endorsed, out)
+    put_list(unit.endorsed.as_slice(), out)
 }
 
 pub(crate) fn put_value(value: &Option<Bytes>, out: &mut Vec<u8>) -> Result<(), OutOfMemory>

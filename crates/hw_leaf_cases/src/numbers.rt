@@ -4,7 +4,9 @@ use hw_case_words::{Answer, byte, number, small};
 use hw_evidence::check_pair;
 use hw_rounds::{changes_lawfully, round_id, witness_time};
 use hw_skip::{jump, pointer_count};
-use hw_types::{Digest, Evidence, Items, MAX_TOTAL, Signature, SignedUnit, WireUnit, quorum};
+use hw_types::{
+    Digest, DigestList, Evidence, MAX_TOTAL, ObsList, Signature, SignedUnit, WireUnit, quorum,
+};
 
 const NOT_ALLOWED: &str = "not allowed";
 
@@ -73,9 +75,9 @@ fn unit_of(answer: &mut Answer, word: &str) -> SignedUnit {
             seq,
             time,
             exponent: 4,
-            panorama: Items::new(answer.alloc()),
+            panorama: ObsList::new(answer.alloc()),
             value: None,
-            endorsed: Items::new(answer.alloc()),
+            endorsed: DigestList::new(answer.alloc()),
         },
         signature: Signature([0; 32]),
     }

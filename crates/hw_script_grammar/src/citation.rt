@@ -90,7 +90,7 @@ fn nothing_of(observation: Obs) -> Citation
 pub(crate) fn panorama_of(alloc: Global, citations: &[Citation]) -> Result<ObsList, OutOfMemory>
     ensures { IfOk result (λ list. list ≡ map (λ c. c.observation) citations.now) }
 {
-    Ok(ObsList::from_vec(observations(alloc, citations)?))
+    Ok(ObsList::from_vec(observations(alloc, citations)?).shared()?)
 }
 
 /// The observations of these citations.

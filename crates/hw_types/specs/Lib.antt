@@ -13,6 +13,7 @@ pub mod Summit
 pub mod Spelling
 pub mod Reading
 pub mod Same
+pub mod Shared
 pub mod Journal
 pub mod Decisions
 pub mod Culprits

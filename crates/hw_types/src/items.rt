@@ -3,7 +3,7 @@
 ghost use Rattle.std.specs.Prelude.{◌≡◌, ◌++◌, ◌∷◌, [], length, OnOk, OnErr, IfOk};
 
 use crate::answers::Culprit;
-use crate::unit::{Digest, Need, Obs};
+use crate::unit::{Digest, Need};
 use std::alloc::{AllocError, AllocFailed, Global};
 use std::marker::Model;
 
@@ -108,9 +108,6 @@ impl<T: Copy> Items<T> {
 
 /// Bytes, as those of a block's value.
 pub type Bytes = Items<u8>;
-
-/// A panorama: one observation for each validator, in their order.
-pub type ObsList = Items<Obs>;
 
 /// Names of units.
 pub type DigestList = Items<Digest>;

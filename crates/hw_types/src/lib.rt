@@ -11,6 +11,7 @@ mod config;
 mod items;
 mod laws;
 mod same;
+mod shared;
 mod unit;
 mod words;
 
@@ -23,7 +24,7 @@ pub use config::{
     MAX_PARKED, MAX_RECORDS, MAX_RECORDS_OF_MANY, MAX_TOTAL, MAX_VALIDATORS, MIN_EXPONENT,
 };
 pub use items::{
-    Bytes, CulpritList, DigestList, IndexList, Items, NeedList, ObsList, OutOfMemory, WeightList,
+    Bytes, CulpritList, DigestList, IndexList, Items, NeedList, OutOfMemory, WeightList,
 };
 pub use laws::{
     a_block_stands, decisions_are_one, fork_is_the_walk, journal_is_bounded, lanes_are_histories,
@@ -32,4 +33,5 @@ pub use laws::{
     step_is_settled, tip_is_one, union_is_lawful,
 };
 pub use same::is_same_unit;
+pub use shared::{ObsList, Shared};
 pub use unit::{Digest, Endorsement, Evidence, Need, Obs, Signature, SignedUnit, Vertex, WireUnit};

@@ -2,7 +2,8 @@
 
 ghost use Rattle.std.specs.Prelude.{◌≡◌, ◌↔◌, IsTrue};
 
-use crate::items::{Bytes, DigestList, ObsList};
+use crate::items::{Bytes, DigestList};
+use crate::shared::ObsList;
 use crate::unit::WireUnit;
 
 /// Whether the two units are equal, field by field.

@@ -3,7 +3,8 @@
 ghost use Rattle.std.specs.Prelude.{◌≡◌, IfOk};
 ghost use Rattle.hw_types.specs.Graph.{digest_lt};
 
-use crate::items::{Bytes, DigestList, ObsList, OutOfMemory};
+use crate::items::{Bytes, DigestList, OutOfMemory};
+use crate::shared::ObsList;
 use crate::words::{is_same, order};
 use std::cmp::Ordering;
 use std::hash::{Hash, Hasher};
