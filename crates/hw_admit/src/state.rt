@@ -166,9 +166,9 @@ impl State {
     {
         let weights = self.config.weights.as_slice();
         let mut total = 0;
-        for validator in 0..weights.len() as u32 {
-            if self.is_faulty(validator) {
-                total += weights[validator as usize];
+        for (view, weight) in self.panorama.views().iter().zip(weights) {
+            if *view == View::Faulty {
+                total += *weight;
             }
         }
         total

@@ -43,10 +43,11 @@ pub fn gather(votes: &mut [Vote], dag: &Dag, weights: &[u64], panorama: &Panoram
     ensures votes { take result votes.new ≡ votes_of dag.now weights.now panorama.now dag.now.validators }
     ensures are { AreVotes dag.now (take result votes.new) }
 {
+    dag.recall_graph();
     let mut count = 0;
-    for v in 0..dag.validators() {
-        if let View::Correct(no) = panorama.get(v) {
-            votes[count] = vote_of(dag, no, weights[v as usize]);
+    for (view, weight) in panorama.views().iter().zip(weights) {
+        if let View::Correct(no) = *view {
+            votes[count] = vote_of(dag, no, *weight);
             count += 1;
         }
     }

@@ -1,5 +1,5 @@
 -- Lists of digests, by places.
-use Rattle.std.proofs.Common.{◌≡◌, ℕ, zero, suc, ◌+◌, ◌-◌, ◌<◌, ◌≤◌, inl, inr, Bool, true, false, List, [], ◌∷◌, length, get_or, refl, sym, ap, subst, ◌∙◌, arith}
+use Rattle.std.proofs.Common.{◌≡◌, ℕ, zero, suc, ◌+◌, ◌<◌, inl, inr, Bool, true, false, List, [], ◌∷◌, length, get_or, refl, sym, ap, subst, ◌∙◌, arith}
 use Rattle.std.specs.List.{list_all}
 use Rattle.std.proofs.lemmas.List.{get_or_default}
 use Rattle.std.proofs.lemmas.Bool.{cases_lt}
@@ -36,24 +36,23 @@ pub rises_each : (ds : List Digest) → is_rising ds ≡ true → (k : ℕ) → 
 rises_each [] t k lt = absurd (omega arith)
 rises_each (d ∷ ds) t k lt = after_rises d ds t k (omega arith)
 
--- one step of a walk over the places
-module _ (ds : List Digest) (next : ℕ) (answer : Bool) (d f : Digest) (some : 1 ≤ next) (inside : next < length ds) (is : answer ≡ digest_lt (get_or ds (next - 1) d) (get_or ds next f)) where
-  here : (k : ℕ) → suc k ≡ next → (e : Digest) → digest_lt (get_or ds k e) (get_or ds (suc k) e) ≡ answer
-  here k up e =
-      let at : k ≡ next - 1 = omega arith in
-      let low : get_or ds k e ≡ get_or ds (next - 1) d = ap (λ (m : ℕ). get_or ds m e) at ∙ get_or_default ds (next - 1) e d (omega arith) in
-      let high : get_or ds (suc k) e ≡ get_or ds next f = ap (λ (m : ℕ). get_or ds m e) up ∙ get_or_default ds next e f inside in
-      ap (λ (x : Digest). digest_lt x (get_or ds (suc k) e)) low ∙ ap (λ (y : Digest). digest_lt (get_or ds (next - 1) d) y) high ∙ sym is
+-- one step of a walk over the pairs of neighbours
+module _ (ds pair : List Digest) (at : ℕ) (answer : Bool) (d : Digest) (inside : suc at < length ds) (low : get_or pair 0 d ≡ get_or ds (at + 0) d) (high : get_or pair 1 d ≡ get_or ds (at + 1) d) (is : answer ≡ digest_lt (get_or pair 0 d) (get_or pair 1 d)) where
+  here : (e : Digest) → digest_lt (get_or ds at e) (get_or ds (suc at) e) ≡ answer
+  here e =
+      let first : get_or ds at e ≡ get_or pair 0 d = get_or_default ds at e d (omega arith) ∙ ap (λ (m : ℕ). get_or ds m d) (omega arith) ∙ sym low in
+      let second : get_or ds (suc at) e ≡ get_or pair 1 d = get_or_default ds (suc at) e d inside ∙ ap (λ (m : ℕ). get_or ds m d) (omega arith) ∙ sym high in
+      ap (λ (x : Digest). digest_lt x (get_or ds (suc at) e)) first ∙ ap (λ (y : Digest). digest_lt (get_or pair 0 d) y) second ∙ sym is
 
-  pub rises_more : answer ≡ true → ((k : ℕ) → suc k < next → RisesAt ds k) → (k : ℕ) → suc k < next + 1 → RisesAt ds k
-  rises_more t before k lt e = elim (cases_lt (suc k) next) [
+  pub rises_more : answer ≡ true → ((k : ℕ) → k < at → RisesAt ds k) → (k : ℕ) → k < at + 1 → RisesAt ds k
+  rises_more t before k lt e = elim (cases_lt k at) [
     | inl less ↦ before k less e
-    | inr last ↦ here k (omega arith) e ∙ t
+    | inr last ↦ (let same : at ≡ k = omega arith in subst (λ (m : ℕ). digest_lt (get_or ds m e) (get_or ds (suc m) e) ≡ true) same (here e ∙ t))
   ]
 
   pub never_rises : answer ≡ false → false ≡ is_rising ds
   never_rises f_is = elim (either (is_rising ds)) [
-    | inl t ↦ absurd (never_both answer (sym (here (next - 1) (omega arith) d) ∙ rises_each ds t (next - 1) (omega arith) d) f_is)
+    | inl t ↦ absurd (never_both answer (sym (here d) ∙ rises_each ds t at inside d) f_is)
     | inr f ↦ sym f
   ]
 

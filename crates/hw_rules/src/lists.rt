@@ -10,8 +10,8 @@ use hw_types::Digest;
 pub fn rises(digests: &[Digest]) -> bool
     ensures { result ≡ is_rising digests.now }
 {
-    for next in 1..digests.len() {
-        if !digests[next - 1].comes_before(&digests[next]) {
+    for pair in digests.windows(2) {
+        if !pair[0].comes_before(&pair[1]) {
             return false;
         }
     }
@@ -50,12 +50,9 @@ fn place_from(own: &[Digest], from: usize, digest: &Digest) -> Option<usize>
     ensures inside { IfSome result (λ place. place < length own.now) }
     ensures has { IfSome result (λ place. has_digest own.now digest.now ≡ true) }
 {
-    for place in from..own.len() {
-        if *digest == own[place] {
-            return Some(place);
-        }
-    }
-    None
+    let rest = own.get(from..)?;
+    let place = rest.iter().position(|other| *digest == *other)?;
+    Some(from + place)
 }
 
 /// Whether the digest is among the own ones.

@@ -1,48 +1,70 @@
-use Rattle.std.proofs.Common.{◌≡◌, ◌++◌, ◌∷◌, [], ℕ, List, length, take, sym, ap, subst, ◌∙◌, arith}
+use Rattle.std.proofs.Common.{rules, ◌≡◌, ◌+◌, ◌++◌, ◌∷◌, [], length, refl, sym, ap, subst, ◌∙◌, arith}
+use Rattle.std.proofs.lemmas.List.{length_push}
+use Rattle.std.proofs.lemmas.Slice.Zip.{zip_turn, zip_end}
+use Rattle.hw_dag.specs.declared.numbers.View.TheVariants as view
 use Rattle.hw_forks.specs.declared.votes.Vote.{Vote}
-use Rattle.hw_forks.specs.Votes.{votes_of, AreVotes}
+use Rattle.hw_forks.specs.Votes.{votes_of, vote_of, AreVotes}
 use Rattle.hw_forks.proofs.GatherLaws.{votes_none, votes_with, votes_without, count_room, put_last, votes_are}
 use Rattle.hw_forks.proofs.votes.gather.Goals as goal
-use Rattle.hw_forks.proofs.votes.gather.Goals.{in-Correct, in_default}
 
-pub loop-v-init : goal.loop-v-init
-loop-v-init c = (omega arith, sym (votes_none c.args.dag.now c.args.weights.now c.args.panorama.now))
+pub loop-view-init : goal.loop-view-init
+loop-view-init c = (omega arith, sym (votes_none c.args.dag.now c.args.weights.now c.args.panorama.now))
 
 pub bounds-votes-count : goal.bounds-votes-count
 bounds-votes-count c =
-    let i = c.loop-v.invariant in
+    let i = c.loop-view.invariant in
     let large = c.requires.room in
-    let kept = c.loop-v.auto.votes in
-    count_room c.args.dag.now c.args.weights.now c.args.panorama.now c.requires.panorama c.loop-v.votes c.loop-v.count c.loop-v.v c.in-Correct.no i.0 i.1 (omega arith) (sym c.in-Correct.ensures)
+    let kept = c.loop-view.auto.votes in
+    let turn = zip_turn c.args.panorama.now c.args.weights.now c.loop-view.yielded c.into_iter-view-iterator.result c.loop-view.view-iterator c.next.new.self c.next.result
+    (search rules) (search rules) c.loop-view.yielded_by (c.in-Some.view, c.in-Some.weight) c.in-Some.is c.next.ensures.steps in
+    count_room c.args.dag.now c.args.weights.now c.args.panorama.now c.requires.panorama c.loop-view.votes c.loop-view.count (length c.loop-view.yielded) c.in-Correct.no i.0 i.1 (omega arith)
+    (sym (turn.2 view.Absent) ∙ c.in-Correct.is)
 
-pub loop-v-preserved : goal.loop-v-preserved
-loop-v-preserved c =
-    let i = c.loop-v.invariant in
+pub loop-view-preserved-in-Correct : goal.loop-view-preserved-in-Correct
+loop-view-preserved-in-Correct c =
+    let i = c.loop-view.invariant in
     let large = c.requires.room in
-    let kept = c.loop-v.auto.votes in
-    elim c.match-get.branch [
-      | in-Correct w ↦
-          let less = count_room c.args.dag.now c.args.weights.now c.args.panorama.now c.requires.panorama c.loop-v.votes c.loop-v.count c.loop-v.v w.in-Correct.no i.0 i.1 (omega arith) (sym w.in-Correct.ensures) in
-          let put = put_last c.loop-v.votes c.match-get.votes (votes_of c.args.dag.now c.args.weights.now c.args.panorama.now c.loop-v.v) c.loop-v.count c.match-get.count w.vote_of.result less i.1 w.votes-is w.count-is in (
-            put.0,
-            put.1 ∙ ap (λ (vote : Vote). votes_of c.args.dag.now c.args.weights.now c.args.panorama.now c.loop-v.v ++ vote ∷ []) w.vote_of.ensures
-                ∙ sym (votes_with c.args.dag.now c.args.weights.now c.args.panorama.now c.loop-v.v w.in-Correct.no (sym w.in-Correct.ensures)),
-          )
-      | in_default w ↦
-          let votes = w.votes-is in
-          let count = w.count-is in (
-            (let long = ap length votes in omega arith),
-            ap (λ (k : ℕ). take k c.match-get.votes) count ∙ ap (λ (xs : List Vote). take c.loop-v.count xs) votes ∙ i.1
-                ∙ sym (votes_without c.args.dag.now c.args.weights.now c.args.panorama.now c.loop-v.v (λ number e. w.in_default.not-Correct number (c.get.ensures ∙ e))),
-          )
-    ]
+    let kept = c.loop-view.auto.votes in
+    let n = length c.loop-view.yielded in
+    let long : length (c.loop-view.yielded ++ (c.in-Some.view, c.in-Some.weight) ∷ []) ≡ n + 1 = length_push c.loop-view.yielded (c.in-Some.view, c.in-Some.weight) in
+    let turn = zip_turn c.args.panorama.now c.args.weights.now c.loop-view.yielded c.into_iter-view-iterator.result c.loop-view.view-iterator c.next.new.self c.next.result
+    (search rules) (search rules) c.loop-view.yielded_by (c.in-Some.view, c.in-Some.weight) c.in-Some.is c.next.ensures.steps in
+    let here = sym (turn.2 view.Absent) ∙ c.in-Correct.is in
+    let less = count_room c.args.dag.now c.args.weights.now c.args.panorama.now c.requires.panorama c.loop-view.votes c.loop-view.count n c.in-Correct.no i.0 i.1 (omega arith) here in
+    let put = put_last c.loop-view.votes _ (votes_of c.args.dag.now c.args.weights.now c.args.panorama.now n) c.loop-view.count _ c.vote_of.result less i.1 refl refl in (
+      put.0,
+      put.1 ∙ ap (λ (vote : Vote). votes_of c.args.dag.now c.args.weights.now c.args.panorama.now n ++ vote ∷ [])
+          (c.vote_of.ensures ∙ ap (vote_of c.args.dag.now c.in-Correct.no) (turn.3 0))
+          ∙ sym (votes_with c.args.dag.now c.args.weights.now c.args.panorama.now n c.in-Correct.no here)
+          ∙ ap (votes_of c.args.dag.now c.args.weights.now c.args.panorama.now) (sym long),
+    )
+
+pub loop-view-preserved : goal.loop-view-preserved
+loop-view-preserved c =
+    let n = length c.loop-view.yielded in
+    let long : length (c.loop-view.yielded ++ (c.in-Some.view, c.in-Some.weight) ∷ []) ≡ n + 1 = length_push c.loop-view.yielded (c.in-Some.view, c.in-Some.weight) in
+    let turn = zip_turn c.args.panorama.now c.args.weights.now c.loop-view.yielded c.into_iter-view-iterator.result c.loop-view.view-iterator c.next.new.self c.next.result
+    (search rules) (search rules) c.loop-view.yielded_by (c.in-Some.view, c.in-Some.weight) c.in-Some.is c.next.ensures.steps in
+    let i = c.loop-view.invariant in (
+      i.0,
+      i.1 ∙ sym (votes_without c.args.dag.now c.args.weights.now c.args.panorama.now n (λ number e. c.in_default.not-Correct number (turn.2 view.Absent ∙ e)))
+          ∙ ap (votes_of c.args.dag.now c.args.weights.now c.args.panorama.now) (sym long),
+    )
+
+pub returns-clause-votes : goal.returns-clause-votes
+returns-clause-votes c =
+    let turns = zip_end c.args.panorama.now c.args.weights.now c.loop-view.yielded c.into_iter-view-iterator.result c.loop-view.view-iterator c.next.new.self c.next.result
+    (search rules) (search rules) c.loop-view.yielded_by c.in-None.is c.next.ensures.steps in
+    let slots = c.requires.panorama.length_is in
+    let weights = c.requires.weights.length_is in
+    c.loop-view.invariant.1 ∙ ap (votes_of c.args.dag.now c.args.weights.now c.args.panorama.now) (omega arith)
 
 pub returns-clause-are : goal.returns-clause-are
 returns-clause-are c =
-    let i = c.loop-v.invariant in
-    let many = c.validators-v-end.ensures.validators in
-    let end = c.loop-v-test.false in
-    let upto = c.loop-v.auto.v-end in
-    let all : c.loop-v.v ≡ c.args.dag.now.validators = omega arith in
-    subst (AreVotes c.args.dag.now) (sym (i.1 ∙ ap (votes_of c.args.dag.now c.args.weights.now c.args.panorama.now) all))
-    (votes_are c.args.dag.now c.args.weights.now c.args.panorama.now c.requires.panorama c.validators-v-end.ensures.graph c.requires.weights)
+    let turns = zip_end c.args.panorama.now c.args.weights.now c.loop-view.yielded c.into_iter-view-iterator.result c.loop-view.view-iterator c.next.new.self c.next.result
+    (search rules) (search rules) c.loop-view.yielded_by c.in-None.is c.next.ensures.steps in
+    let slots = c.requires.panorama.length_is in
+    let weights = c.requires.weights.length_is in
+    let all : length c.loop-view.yielded ≡ c.args.dag.now.validators = omega arith in
+    subst (AreVotes c.args.dag.now) (sym (c.loop-view.invariant.1 ∙ ap (votes_of c.args.dag.now c.args.weights.now c.args.panorama.now) all))
+    (votes_are c.args.dag.now c.args.weights.now c.args.panorama.now c.requires.panorama c.recall_graph.ensures c.requires.weights)

@@ -1,40 +1,78 @@
-use Rattle.std.proofs.Common.{◌≡◌, ℕ, ◌+◌, Bool, true, false, List, length, get_or, sym, ap, ◌∙◌, arith}
+use Rattle.std.proofs.Common.{rules, ◌≡◌, ◌+◌, ◌++◌, ◌∷◌, [], ◌<◌, ℕ, Bool, true, false, List, length, get_or, sym, ap, subst, ◌∙◌, arith}
 use Rattle.std.specs.Prelude.{sum}
+use Rattle.std.proofs.lemmas.List.{length_push}
+use Rattle.std.proofs.lemmas.Slice.Zip.{zip_turn, zip_end}
 use Rattle.hw_types.proofs.LimitLaws.{within_limits}
-use Rattle.hw_dag.specs.Dag.{graph}
+use Rattle.hw_dag.specs.declared.numbers.View.{View}
+use Rattle.hw_dag.specs.declared.numbers.View.TheVariants as view
+use Rattle.hw_dag.specs.Dag.{graph, view_at}
 use Rattle.hw_admit.specs.State.{NodeState, is_faulty_in}
-use Rattle.hw_admit.proofs.WeightLaws.{one_more, so_far_most}
+use Rattle.hw_admit.proofs.StateLaws.{is_faulty_seen, not_faulty_seen}
+use Rattle.hw_admit.proofs.WeightLaws.{so_far, one_more, so_far_most}
 use Rattle.hw_admit.proofs.state.State.faulty_weight.Goals as goal
-use Rattle.hw_admit.proofs.state.State.faulty_weight.Goals.{then-is_faulty, else-is_faulty}
-
-pub overflow_cast-validator-end : goal.overflow_cast-validator-end
-overflow_cast-validator-end c =
-    let few = (within_limits c.self.inside.config c.self.invariant.0.lawful).few in
-    let long = ap length c.as_slice-weights.ensures in
-    omega arith
 
 pub overflow_add-total : goal.overflow_add-total
 overflow_add-total c =
     let test : ℕ → Bool = is_faulty_in c.args.self.now.marked (graph c.args.self.now.dag) in
+    let n = length c.loop-view.yielded in
     let same : c.as_slice-weights.result.now ≡ c.args.self.now.config.weights = c.as_slice-weights.ensures ∙ ap (λ (s : NodeState). s.config.weights) c.self.view_is in
-    let passes : test c.loop-validator.validator ≡ true = sym c.is_faulty.ensures ∙ c.if-is_faulty.true in
-    let more = one_more c.args.self.now.config.weights test c.loop-validator.validator true passes in
-    let this = ap (λ (ws : List ℕ). get_or ws c.loop-validator.validator 0) same in
-    let long = ap length same in
-    let below = c.loop-validator-test.true in
-    let most = so_far_most c.args.self.now.config.weights test (c.loop-validator.validator + 1) (omega arith) in
+    let turn = zip_turn c.views.result.now c.as_slice-weights.result.now c.loop-view.yielded c.into_iter-view-iterator.result c.loop-view.view-iterator c.next.new.self c.next.result
+    (search rules) (search rules) c.loop-view.yielded_by (c.in-Some.view, c.in-Some.weight) c.in-Some.is c.next.ensures.steps in
+    let answer : test n ≡ true =
+    sym (subst (λ (s : NodeState). true ≡ is_faulty_in s.marked (graph s.dag) n) c.self.view_is
+    (is_faulty_seen _ c.self.invariant.0 n (subst (λ (ws : List ℕ). n < length ws) c.as_slice-weights.ensures turn.1) c.in-Some.view.now
+    (turn.2 view.Absent ∙ ap (λ (ws : List View). view_at ws n) c.views.ensures) (let same_view : c.in-Some.view.now ≡ view.Faulty = search rules in same_view))) in
+    let more = one_more c.args.self.now.config.weights test n true answer in
+    let this : c.in-Some.weight.now ≡ get_or c.args.self.now.config.weights n 0 = turn.3 0 ∙ ap (λ (ws : List ℕ). get_or ws n 0) same in
+    let inside : n < length c.args.self.now.config.weights = subst (λ (ws : List ℕ). n < length ws) same turn.1 in
+    let most = so_far_most c.args.self.now.config.weights test (n + 1) (omega arith) in
     let total = (within_limits c.self.inside.config c.self.invariant.0.lawful).total in
     let sums = ap (λ (s : NodeState). sum s.config.weights) c.self.view_is in
-    let so_far = c.loop-validator.invariant in
+    let before = c.loop-view.invariant in
     omega arith
 
-pub loop-validator-preserved : goal.loop-validator-preserved
-loop-validator-preserved c =
+pub loop-view-preserved-then-eq : goal.loop-view-preserved-then-eq
+loop-view-preserved-then-eq c =
     let test : ℕ → Bool = is_faulty_in c.args.self.now.marked (graph c.args.self.now.dag) in
+    let n = length c.loop-view.yielded in
     let same : c.as_slice-weights.result.now ≡ c.args.self.now.config.weights = c.as_slice-weights.ensures ∙ ap (λ (s : NodeState). s.config.weights) c.self.view_is in
-    let this = ap (λ (ws : List ℕ). get_or ws c.loop-validator.validator 0) same in
-    let so_far = c.loop-validator.invariant in
-    elim c.if-is_faulty.branch [
-      | then-is_faulty w ↦ (let h : test c.loop-validator.validator ≡ true = sym c.is_faulty.ensures ∙ w.if-is_faulty.true in let more = one_more c.args.self.now.config.weights test c.loop-validator.validator true h in let is = w.total-is in omega arith)
-      | else-is_faulty w ↦ (let h : test c.loop-validator.validator ≡ false = sym c.is_faulty.ensures ∙ w.if-is_faulty.false in let more = one_more c.args.self.now.config.weights test c.loop-validator.validator false h in let is = w.total-is in omega arith)
-    ]
+    let turn = zip_turn c.views.result.now c.as_slice-weights.result.now c.loop-view.yielded c.into_iter-view-iterator.result c.loop-view.view-iterator c.next.new.self c.next.result
+    (search rules) (search rules) c.loop-view.yielded_by (c.in-Some.view, c.in-Some.weight) c.in-Some.is c.next.ensures.steps in
+    let answer : test n ≡ true =
+    sym (subst (λ (s : NodeState). true ≡ is_faulty_in s.marked (graph s.dag) n) c.self.view_is
+    (is_faulty_seen _ c.self.invariant.0 n (subst (λ (ws : List ℕ). n < length ws) c.as_slice-weights.ensures turn.1) c.in-Some.view.now
+    (turn.2 view.Absent ∙ ap (λ (ws : List View). view_at ws n) c.views.ensures) (let same_view : c.in-Some.view.now ≡ view.Faulty = search rules in same_view))) in
+    let more = one_more c.args.self.now.config.weights test n true answer in
+    let this : c.in-Some.weight.now ≡ get_or c.args.self.now.config.weights n 0 = turn.3 0 ∙ ap (λ (ws : List ℕ). get_or ws n 0) same in
+    let long : length (c.loop-view.yielded ++ (c.in-Some.view, c.in-Some.weight) ∷ []) ≡ n + 1 = length_push c.loop-view.yielded (c.in-Some.view, c.in-Some.weight) in
+    let grown = ap (λ (k : ℕ). so_far c.args.self.now.config.weights test k) long in
+    let before = c.loop-view.invariant in
+    omega arith
+
+pub loop-view-preserved : goal.loop-view-preserved
+loop-view-preserved c =
+    let test : ℕ → Bool = is_faulty_in c.args.self.now.marked (graph c.args.self.now.dag) in
+    let n = length c.loop-view.yielded in
+    let same : c.as_slice-weights.result.now ≡ c.args.self.now.config.weights = c.as_slice-weights.ensures ∙ ap (λ (s : NodeState). s.config.weights) c.self.view_is in
+    let turn = zip_turn c.views.result.now c.as_slice-weights.result.now c.loop-view.yielded c.into_iter-view-iterator.result c.loop-view.view-iterator c.next.new.self c.next.result
+    (search rules) (search rules) c.loop-view.yielded_by (c.in-Some.view, c.in-Some.weight) c.in-Some.is c.next.ensures.steps in
+    let answer : test n ≡ false =
+    sym (subst (λ (s : NodeState). false ≡ is_faulty_in s.marked (graph s.dag) n) c.self.view_is
+    (not_faulty_seen _ c.self.invariant.0 n (subst (λ (ws : List ℕ). n < length ws) c.as_slice-weights.ensures turn.1) c.in-Some.view.now
+    (turn.2 view.Absent ∙ ap (λ (ws : List View). view_at ws n) c.views.ensures) (λ e. absurd (search rules)))) in
+    let more = one_more c.args.self.now.config.weights test n false answer in
+    let this : c.in-Some.weight.now ≡ get_or c.args.self.now.config.weights n 0 = turn.3 0 ∙ ap (λ (ws : List ℕ). get_or ws n 0) same in
+    let long : length (c.loop-view.yielded ++ (c.in-Some.view, c.in-Some.weight) ∷ []) ≡ n + 1 = length_push c.loop-view.yielded (c.in-Some.view, c.in-Some.weight) in
+    let grown = ap (λ (k : ℕ). so_far c.args.self.now.config.weights test k) long in
+    let before = c.loop-view.invariant in
+    omega arith
+
+pub returns : goal.returns
+returns c =
+    let turns = zip_end c.views.result.now c.as_slice-weights.result.now c.loop-view.yielded c.into_iter-view-iterator.result c.loop-view.view-iterator c.next.new.self c.next.result
+    (search rules) (search rules) c.loop-view.yielded_by c.in-None.is c.next.ensures.steps in
+    let slots = ap length c.views.ensures ∙ c.self.invariant.0.panorama_is.length_is in
+    let weights = ap length c.as_slice-weights.ensures ∙ c.self.invariant.0.weights_are.length_is in
+    let same = ap length (c.as_slice-weights.ensures ∙ ap (λ (s : NodeState). s.config.weights) c.self.view_is) in
+    let all : length c.loop-view.yielded ≡ length c.args.self.now.config.weights = omega arith in
+    c.loop-view.invariant ∙ ap (λ (k : ℕ). so_far c.args.self.now.config.weights (is_faulty_in c.args.self.now.marked (graph c.args.self.now.dag)) k) all
