@@ -64,6 +64,13 @@ impl Bound {
         self.support[validator as usize]
     }
 
+    /// What the latest unit of each validator sees at most, in their order.
+    pub(crate) fn supports(&self) -> &[u64]
+        ensures { result.now ≡ self.now.support }
+    {
+        self.support.as_slice()
+    }
+
     /// Changes the first unit of the validator, and nothing else.
     pub(crate) fn set_first(&mut self, validator: u32, first: u32)
         requires { validator < length self.old.firsts }
@@ -192,9 +199,9 @@ impl Bounds {
         if quorum < self.least {
             return false;
         }
-        for below in 0..self.levels.len() {
+        for (below, bound) in self.levels.iter().enumerate() {
             if below < level as usize
-                && supporters(dag, weights.as_slice(), &self.levels[below], quorum) < quorum
+                && supporters(dag, weights.as_slice(), bound, quorum) < quorum
             {
                 return true;
             }
@@ -260,9 +267,9 @@ fn supporters(dag: &Dag, weights: &[u64], bound: &Bound, quorum: u64) -> u64
     ensures { result ≡ weight_of weights.now (λ v. nat_le quorum (support_of bound.now v)) }
 {
     let mut total = 0;
-    for v in 0..dag.validators() {
-        if quorum <= bound.support(v) {
-            total += weights[v as usize];
+    for (slot, support) in bound.supports().iter().enumerate() {
+        if quorum <= *support {
+            total += weights[slot];
         }
     }
     total
@@ -307,9 +314,9 @@ fn put_tips(tips: &mut [Option<UnitNo>], dag: &Dag, panorama: &Panorama)
     ensures tips { (v : ℕ) → v < length panorama.now → slice_index_or tips.new v None ≡ tip_in (view_at panorama.now v) }
     ensures length { length tips.new ≡ length tips.old }
 {
-    for v in 0..dag.validators() {
-        tips[v as usize] = match panorama.get(v) {
-            View::Correct(no) => Some(no),
+    for (slot, view) in panorama.views().iter().enumerate() {
+        tips[slot] = match view {
+            View::Correct(no) => Some(*no),
             View::Absent | View::Faulty => None,
         };
     }

@@ -1,5 +1,4 @@
-use Rattle.std.proofs.Common.{◌≡◌, ◌+◌, ◌<◌, inl, inr, ℕ, None, sym, ap, subst, get_or, ◌∙◌, arith}
-use Rattle.hw_dag.specs.Dag.{view_at}
+use Rattle.std.proofs.Common.{◌+◌, sym, ap, subst, ◌∙◌, arith}
 use Rattle.hw_horizon.specs.Bounds.{tip_in}
 use Rattle.hw_horizon.specs.declared.follow.Span.{Span}
 use Rattle.hw_horizon.proofs.FollowLaws.{HasSame, same_stretched, same_kept}

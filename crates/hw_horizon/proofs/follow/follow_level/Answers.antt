@@ -1,7 +1,4 @@
-use Rattle.std.proofs.Common.{◌≡◌, ◌≤◌, ◌<◌, ◌-◌, ◌^◌, ℕ, List, Option, Some, None, sym, ap, subst, get_or, length, ◌∙◌, arith}
-use Rattle.hw_dag.specs.declared.numbers.UnitNo.{UnitNo}
-use Rattle.hw_dag.specs.declared.numbers.View.TheVariants as view
-use Rattle.hw_dag.specs.Dag.{view_at}
+use Rattle.std.proofs.Common.{◌≡◌, ◌≤◌, ◌<◌, ◌^◌, ℕ, List, Some, None, sym, ap, subst, get_or, ◌∙◌, arith}
 use Rattle.hw_horizon.specs.Firsts.{weight_after}
 use Rattle.hw_horizon.specs.Bounds.{tip_in, first_of}
 use Rattle.hw_horizon.proofs.FirstLaws.{correct_inside}
