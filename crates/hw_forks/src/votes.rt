@@ -43,6 +43,7 @@ pub fn gather(votes: &mut [Vote], dag: &Dag, weights: &[u64], panorama: &Panoram
     ensures votes { take result votes.new ≡ votes_of dag.now weights.now panorama.now dag.now.validators }
     ensures are { AreVotes dag.now (take result votes.new) }
 {
+    // For the prover: recalls what is said of each graph.
     dag.recall_graph();
     let mut count = 0;
     for (view, weight) in panorama.views().iter().zip(weights) {

@@ -51,6 +51,7 @@ fn is_column_met(dag: &Dag, known: &Panorama, panorama: &Panorama, of: u32) -> b
     ensures unmet { result ≡ false → is_consistent (graph dag.now) (observations dag.now panorama.now) ≡ false }
 {
     let high = panorama.get(of);
+    // For the prover: recalls what is said of each graph.
     dag.recall_graph();
     for (view, shared) in panorama.views().iter().zip(known.views()) {
         if *view != *shared {
