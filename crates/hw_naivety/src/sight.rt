@@ -25,8 +25,8 @@ impl Sight<'_> {
         requires { IsSight self.now.dag.now self.now.panorama.now self.now.validators }
         ensures { IsTrue result → IsPlain self.now.panorama.now self.now.endorsed.now }
     {
-        for creator in 0..self.validators {
-            if let View::Faulty = self.panorama.get(creator) {
+        for view in self.panorama.views() {
+            if let View::Faulty = view {
                 return false;
             }
         }
