@@ -73,11 +73,11 @@ fn unmet_units(state: &State, panorama: &[Obs], place: u32) -> Search
     ensures { IsFoundIn (unmet (is_met_in state.now) (unit_needs panorama.now)) place result }
 {
     let mut count = 0;
-    for slot in 0..panorama.len() {
-        if let Obs::Correct(digest) = panorama[slot] {
-            if is_wanted_unit(state, &panorama[..slot], &digest) {
+    for (slot, obs) in panorama.iter().enumerate() {
+        if let Obs::Correct(digest) = obs {
+            if is_wanted_unit(state, &panorama[..slot], digest) {
                 if count == place {
-                    return Search::Found(Need::Unit(digest));
+                    return Search::Found(Need::Unit(*digest));
                 }
                 count += 1;
             }
@@ -123,11 +123,10 @@ fn unmet_list(state: &State, unit: &WireUnit, before: u32, place: u32) -> Search
 {
     let mut count = before;
     let endorsed = unit.endorsed.as_slice();
-    for listed in 0..endorsed.len() {
-        let digest = endorsed[listed];
-        if is_wanted_listed(state, &endorsed[..listed], digest) {
+    for (listed, digest) in endorsed.iter().enumerate() {
+        if is_wanted_listed(state, &endorsed[..listed], *digest) {
             if count == place {
-                return Search::Found(Need::Endorsed(digest));
+                return Search::Found(Need::Endorsed(*digest));
             }
             count += 1;
         }

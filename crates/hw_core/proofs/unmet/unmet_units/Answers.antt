@@ -26,7 +26,7 @@ loop-slot-preserved c =
     let lt : k < length panorama = c.loop-slot-test.true in
     let long = c.loop-slot.invariant.0 in
     let within = c.loop-slot.invariant.1 in
-    elim c.match-panorama-slot.branch [
+    elim c.match-obs.branch [
       | in-Correct+then-is_wanted_unit+else-count-place w ↦
           (let at : slice_get panorama k ≡ Some (Correct w.in-Correct.digest) = get_of panorama k Absent lt ∙ (λ i. Some (w.in-Correct.is i)) in
           let more = units_more met panorama k lt w.in-Correct.digest at (sym w.is_wanted_unit.ensures ∙ w.if-is_wanted_unit.true) in
