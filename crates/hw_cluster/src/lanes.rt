@@ -85,7 +85,7 @@ impl Lanes {
             seq: seq_behind(self.last_of(creator)),
             time,
             exponent: EXPONENT,
-            panorama: observations(alloc, self.last.as_slice())?.shared()?,
+            panorama: observations(alloc, self.last.as_slice())?,
             value,
             endorsed: DigestList::new(alloc),
         })
@@ -158,5 +158,5 @@ fn observations(alloc: Global, last: &[Option<LastUnit>]) -> Result<ObsList, Out
     for last in last {
         list.push(observed(*last))?;
     }
-    Ok(list)
+    Ok(list.shared()?)
 }
