@@ -51,13 +51,12 @@ fn is_column_met(dag: &Dag, known: &Panorama, panorama: &Panorama, of: u32) -> b
     ensures unmet { result ≡ false → is_consistent (graph dag.now) (observations dag.now panorama.now) ≡ false }
 {
     let high = panorama.get(of);
-    // For the prover: recalls what is said of each graph.
-    dag.recall_graph();
-    for (view, shared) in panorama.views().iter().zip(known.views()) {
-        if *view != *shared {
+    for validator in 0..dag.validators() {
+        let view = panorama.get(validator);
+        if view != known.get(validator) {
             continue;
         }
-        if let View::Correct(no) = *view {
+        if let View::Correct(no) = view {
             if !meets(dag, of, dag.unit(no).panorama().get(of), high) {
                 return false;
             }
