@@ -1,5 +1,6 @@
 pub mod ViewLaws
 pub mod OrderLaws
 pub mod SharedLaws
+pub mod BehindLaws
 pub mod JoinLaws
 pub mod JoiningLaws

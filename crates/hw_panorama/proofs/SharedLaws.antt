@@ -49,13 +49,18 @@ seen_below dag g panorama hp (view.Correct last) below v number seen =
     (consistent_cited_below dag g (unit_at dag last.0).panorama row (unit_consistent dag g last.0 below.0) v number seen) below.1
 
 module _ (dag : UnitGraph) (g : IsGraph dag) (known panorama : List View) (hk : IsPanorama dag known) (hp : IsPanorama dag panorama) where
-  -- what a unit observes that the known panorama has is met where that is met
+  -- what a unit observes that the known panorama has is at most what that does
+  pub seen_by_known : is_consistent (graph dag) (observations dag known) ≡ true → (of : ℕ) → of < dag.validators → (v : ℕ) (number : UnitNo) → view_at known v ≡ view.Correct number
+      → is_met dag (view_at (unit_at dag number.0).panorama of) (view_at known of) ≡ true
+  seen_by_known ok of inside v number there =
+      each_met dag (unit_at dag number.0).panorama known (consistent_cited_below dag g known hk ok v number there) of (let len = (g.settled number.0 (hk.known v number there)).panorama_is.length_is in omega arith)
+
+  -- and is met where that is met
   pub column_by_known : is_consistent (graph dag) (observations dag known) ≡ true → (of : ℕ) → of < dag.validators → is_met dag (view_at known of) (view_at panorama of) ≡ true → IsColumnMet dag known panorama of
   column_by_known ok of inside met v number s =
-      let hr = (g.settled number.0 (hp.known v number s.here)).panorama_is in
-      let low = each_met dag (unit_at dag number.0).panorama known (consistent_cited_below dag g known hk ok v number s.there) of (let len = hr.length_is in omega arith) in
       met_trans dag g (view_at (unit_at dag number.0).panorama of) (view_at known of) (view_at panorama of)
-      (known_view dag (unit_at dag number.0).panorama hr of) (known_view dag known hk of) (known_view dag panorama hp of) low met
+      (known_view dag (unit_at dag number.0).panorama (g.settled number.0 (hk.known v number s.there)).panorama_is of) (known_view dag known hk of) (known_view dag panorama hp of)
+      (seen_by_known ok of inside v number s.there) met
 
   -- a panorama is consistent where what shared units and others observe is met
   pub both_met : AreSharedMet dag known panorama → AreOthersMet dag known panorama → is_consistent (graph dag) (observations dag panorama) ≡ true

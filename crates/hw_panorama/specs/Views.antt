@@ -28,6 +28,10 @@ HasSeen dag view.Absent v seen = ⊥
 HasSeen dag (view.Correct number) v seen = view_at (unit_at dag number.0).panorama v ≡ seen
 HasSeen dag view.Faulty v seen = ⊥
 
+-- what the units before the first one observe of the validator is at most the high slot where it is at most the known one
+abbrev pub HaveSeenNoMore : UnitGraph → ℕ → View → View → ℕ → Type 0
+HaveSeenNoMore dag of known high first = (n : ℕ) → n < first → is_met dag (view_at (unit_at dag n).panorama of) known ≡ true → is_met dag (view_at (unit_at dag n).panorama of) high ≡ true
+
 -- both panoramas have the unit in the slot of the validator
 pub record IsShared (known panorama : List View) (v : ℕ) (number : UnitNo) : Type 0 where
   pub here : view_at panorama v ≡ view.Correct number

@@ -4,7 +4,7 @@ ghost use Rattle.std.specs.Prelude.{◌≡◌, ◌<◌, false, IsTrue};
 ghost use Rattle.hw_types.specs.Graph.{is_consistent};
 ghost use Rattle.hw_dag.specs.Dag.{graph, observations, IsPanorama};
 ghost use Rattle.hw_dag.specs.Admission.{IsGraph};
-ghost use Rattle.hw_panorama.specs.Views.{IsKnownView, HasSeen, IsColumnMet, AreSharedMet, AreOthersMet};
+ghost use Rattle.hw_panorama.specs.Views.{IsKnownView, IsViewOf, HasSeen, HaveSeenNoMore, IsColumnMet, AreSharedMet, AreOthersMet};
 
 use crate::order::{at_most, meets};
 use hw_dag::{Dag, Panorama, UnitNo, View};
@@ -42,27 +42,54 @@ fn are_shared_met(dag: &Dag, known: &Panorama, panorama: &Panorama) -> bool
     true
 }
 
-/// Whether what each unit that both panoramas have observes of one validator is met.
+/// Whether what each unit that both panoramas have observes of one validator is met. Those that were there
+/// before the first unit that the panorama is behind by need no look.
 fn is_column_met(dag: &Dag, known: &Panorama, panorama: &Panorama, of: u32) -> bool
     requires panorama { IsPanorama dag.now panorama.now }
     requires known { IsPanorama dag.now known.now }
+    requires consistent { IsTrue (is_consistent (graph dag.now) (observations dag.now known.now)) }
     requires of { of < dag.now.validators }
     ensures met { IsTrue result → IsColumnMet dag.now known.now panorama.now of }
     ensures unmet { result ≡ false → is_consistent (graph dag.now) (observations dag.now panorama.now) ≡ false }
 {
+    let count = dag.validators();
     let high = panorama.get(of);
-    for validator in 0..dag.validators() {
+    let first = first_behind(dag, of, known.get(of), high);
+    for validator in 0..count {
         let view = panorama.get(validator);
         if view != known.get(validator) {
             continue;
         }
         if let View::Correct(no) = view {
-            if !meets(dag, of, dag.unit(no).panorama().get(of), high) {
+            if no.0 >= first && !meets(dag, of, dag.unit(no).panorama().get(of), high) {
                 return false;
             }
         }
     }
     true
+}
+
+/// The number of the first unit that the known slot's lane has behind the high slot. A unit cites lesser numbers
+/// alone, so one before it that has seen no more of the validator than the known slot has seen no more than
+/// the high one. It is 0, which no unit is before, where the high slot isn't earlier on the known one's lane.
+fn first_behind(dag: &Dag, of: u32, known: View, high: View) -> u32
+    requires graph { IsGraph dag.now }
+    requires known { IsViewOf dag.now of known }
+    requires high { IsViewOf dag.now of high }
+    ensures { HaveSeenNoMore dag.now of known high result }
+{
+    match (known, high) {
+        (View::Correct(top), View::Absent) => dag.unit_on_lane(top, 0).0,
+        (View::Correct(top), View::Correct(low)) => {
+            let seq = dag.unit(low).signed().unit.seq;
+            if seq < dag.unit(top).signed().unit.seq && dag.on_lane_of(of, low, top) {
+                dag.unit_on_lane(top, seq + 1).0
+            } else {
+                0
+            }
+        }
+        _ => 0,
+    }
 }
 
 /// Whether the panorama of each unit that only the one panorama has is at most it. A unit that the last one

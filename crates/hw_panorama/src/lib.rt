@@ -6,9 +6,9 @@
 //!
 //! Nothing here takes memory. Two slots are compared by their numbers, unless their validator has units
 //! on two lanes. `consistent` begins with what the newest unit of the graph observes, which is consistent:
-//! a unit that it observes too is looked at only where the panorama is behind it. Of the others one that the
-//! last one looked at observes needs no look either. So a unit that observes what the one before it did
-//! costs one pass over the slots.
+//! a unit that it observes too is looked at only where the panorama is behind it, and only if it came after
+//! the first unit that the panorama is behind by. Of the others one that the last one looked at observes needs
+//! no look either. So a unit that observes what the one before it did costs one pass over the slots.
 #![tactic(auto)]
 
 mod consistency;
