@@ -47,7 +47,12 @@ pub fn audit_logs<F: Files>(
     ensures appends { F.append_faults files.new ≡ F.append_faults files.old }
 {
     match replay_log(alloc, files, left, None) {
-        Ok(replay) => audit_against(alloc, files, &replay.core, right),
+        Ok(replay) => {
+            let ended = audit_against(alloc, files, &replay.core, right);
+            // The run ends with this text, and so does the process.
+            replay.core.leave();
+            ended
+        }
         Err(fault) => stopped(alloc, left, fault),
     }
 }
@@ -111,7 +116,11 @@ fn audit_against<F: Files>(
     ensures appends { F.append_faults files.new ≡ F.append_faults files.old }
 {
     match replay_against(alloc, files, left, right) {
-        Ok(replay) => or_no_memory(audited(alloc, left, &replay.core, right)),
+        Ok(replay) => {
+            let ended = or_no_memory(audited(alloc, left, &replay.core, right));
+            replay.core.leave();
+            ended
+        }
         Err(fault) => stopped(alloc, right, fault),
     }
 }

@@ -68,7 +68,12 @@ fn replay_told<F: Files>(
     ensures appends { F.append_faults files.new ≡ F.append_faults files.old }
 {
     match replay_fed(alloc, files, log, None, fanout, consumers) {
-        Ok(replay) => reported(alloc, &replay, fanout, consumers),
+        Ok(replay) => {
+            let ended = reported(alloc, &replay, fanout, consumers);
+            // The run ends with this text, and so does the process.
+            replay.core.leave();
+            ended
+        }
         Err(fault) => stopped(alloc, log, fault),
     }
 }
