@@ -127,8 +127,8 @@ const PAIRS: [(&str, &str); 3] = [
     ("hw_io_turn_1.tmp", "hw_io_turn_2.tmp"),
     ("hw_io_turn.tmp", "hw_io_turn.tmp.tmp"),
     (
-        "hw_io_a_name_of_so_many_bytes_that_its_file_is_closed_after_each_1.tmp",
-        "hw_io_a_name_of_so_many_bytes_that_its_file_is_closed_after_each_2.tmp",
+        "hw_io_a_name_of_so_many_bytes_that_its_file_is_opened_for_each_append_1.tmp",
+        "hw_io_a_name_of_so_many_bytes_that_its_file_is_opened_for_each_append_2.tmp",
     ),
 ];
 
