@@ -3,8 +3,8 @@ use hw_io::{
     Clock, Consumer, Door, DoorNumbers, Files, HostClock, HostDoor, HostFiles, HostSink, IoFault,
     MemSink, write_all,
 };
-use std::fs;
 use std::test::Fail;
+use std::{fs, rt};
 
 type Count = Result<usize, IoFault>;
 
@@ -62,6 +62,92 @@ fn real_files_are_read_and_appended_to(rt: HostRuntime) -> Result<(), Fail> {
     assert_eq!(rt; answers, EXCHANGED);
     assert_eq!(rt; buf, *b"abcde\0\0\0");
     assert_eq!(rt; nowhere, Err(IoFault::Failed));
+    Ok(())
+}
+
+/// Appends two lines, reads them, and reads on after one more.
+fn read_on<F: Files>(files: &mut F, name: &str, buf: &mut [u8; 14]) -> [Count; 6] {
+    [
+        done(files.append(name, b"one\n")),
+        done(files.append(name, b"two\n")),
+        done(files.begin(name)),
+        files.read(&mut buf[..8]),
+        done(files.append(name, b"three\n")),
+        files.read(&mut buf[8..]),
+    ]
+}
+
+/// What `read_on` answers.
+const READ_ON: [Count; 6] = [Ok(0), Ok(0), Ok(0), Ok(8), Ok(0), Ok(6)];
+
+#[test]
+fn an_append_after_a_read_shows_up(rt: HostRuntime) -> Result<(), Fail> {
+    let name = "hw_io_read_on.tmp";
+    let _ = fs::remove_file(&rt, name);
+    let mut files = HostFiles::new(&rt);
+    let mut buf = [0; 14];
+    let answers = read_on(&mut files, name, &mut buf);
+    fs::remove_file(&rt, name)?;
+    assert_eq!(rt; answers, READ_ON);
+    assert_eq!(rt; buf, *b"one\ntwo\nthree\n");
+    Ok(())
+}
+
+/// The first four bytes of a file, which is removed.
+fn removed(rt: &impl rt::Files, name: &str) -> [u8; 4] {
+    let mut files = HostFiles::new(rt);
+    let mut buf = [0; 4];
+    let _ = done(files.begin(name));
+    let _ = files.read(&mut buf);
+    let _ = fs::remove_file(rt, name);
+    buf
+}
+
+/// Appends to two files by turns.
+fn by_turns<F: Files>(files: &mut F, first: &str, second: &str) -> [Count; 4] {
+    [
+        done(files.append(first, b"a")),
+        done(files.append(second, b"b")),
+        done(files.append(first, b"cd")),
+        done(files.append(second, b"e")),
+    ]
+}
+
+/// Whether two new files hold each what was appended to it by turns.
+fn are_apart(rt: &impl rt::Files, first: &str, second: &str) -> bool {
+    removed(rt, first);
+    removed(rt, second);
+    let answers = by_turns(&mut HostFiles::new(rt), first, second);
+    let held = [removed(rt, first), removed(rt, second)];
+    answers == [Ok(0); 4] && held == [*b"acd\0", *b"be\0\0"]
+}
+
+/// Names of one length, a name that begins with the other, and names that differ after 64 bytes.
+const PAIRS: [(&str, &str); 3] = [
+    ("hw_io_turn_1.tmp", "hw_io_turn_2.tmp"),
+    ("hw_io_turn.tmp", "hw_io_turn.tmp.tmp"),
+    (
+        "hw_io_a_name_of_so_many_bytes_that_its_file_is_opened_for_each_append_1.tmp",
+        "hw_io_a_name_of_so_many_bytes_that_its_file_is_opened_for_each_append_2.tmp",
+    ),
+];
+
+#[test]
+fn appends_by_turns_land_each_in_its_file(rt: HostRuntime) {
+    for (first, second) in &PAIRS {
+        assert!(rt; are_apart(&rt, first, second));
+    }
+}
+
+#[test]
+fn a_file_that_was_renamed_is_appended_to(rt: HostRuntime) -> Result<(), Fail> {
+    let mut files = HostFiles::new(&rt);
+    let first = done(files.append("hw_io_old.tmp", b"a"));
+    fs::rename(&rt, "hw_io_old.tmp", "hw_io_new.tmp")?;
+    let second = done(files.append("hw_io_old.tmp", b"b"));
+    let held = removed(&rt, "hw_io_new.tmp");
+    assert_eq!(rt; (first, second), (Ok(0), Ok(0)));
+    assert_eq!(rt; held, *b"ab\0\0");
     Ok(())
 }
 

@@ -3,16 +3,23 @@ ghost use Rattle.std.specs.Prelude.{◌≡◌, ◌≤◌, ℕ, [], false, None, 
 ghost use Rattle.std.specs.Option.{option_map};
 ghost use Rattle.hw_io.specs.Faults.{raised};
 
+use crate::appended::{Appended, append_to};
 use crate::outside::{Files, IoFault, READ_LIMIT, Sink};
 use std::io::{Read, Write};
-use std::{fs, io, rt};
+use std::{fs, rt};
 
 /// The files of a runtime. A name is a path, as the system reads it. Failures are counted for all
 /// names together, and a read where no file is begun for none.
+///
+/// The file that was appended to last stays open, and the next append to the same name goes on with
+/// it, where the name has at most 64 bytes. So where somebody removes or renames that file meanwhile,
+/// later bytes go into the file that was removed or renamed, until an append fails or is to another
+/// name.
 #[derive(Drop)]
 pub struct HostFiles<R: rt::Files> {
     runtime: R,
     file: Option<R::File>,
+    appended: Option<Appended<R::File>>,
     allowance: usize,
     read_faults: u64,
     faults_about: u64,
@@ -30,6 +37,7 @@ impl<R: rt::Files> HostFiles<R> {
         HostFiles {
             runtime,
             file: None,
+            appended: None,
             allowance: 0,
             read_faults: 0,
             faults_about: 0,
@@ -120,7 +128,7 @@ impl<R: rt::Files> Files for HostFiles<R> {
     }
 
     fn append(&mut self, name: &str, bytes: &[u8]) -> Result<(), IoFault> {
-        match append_to(&self.runtime, name, bytes) {
+        match append_to(&self.runtime, &mut self.appended, name, bytes) {
             Ok(()) => Ok(()),
             Err(_) => {
                 self.count_append_fault();
@@ -128,17 +136,6 @@ impl<R: rt::Files> Files for HostFiles<R> {
             }
         }
     }
-}
-
-/// Makes the file where it is missing, and writes all of the bytes at its end, by one write where
-/// the system takes them all.
-fn append_to(files: &impl rt::Files, name: &str, bytes: &[u8]) -> io::Result<()> {
-    let mut file = fs::OpenOptions::new()
-        .append(true)
-        .create(true)
-        .open(files, name)?;
-    file.write_all(bytes)?;
-    file.flush()
 }
 
 /// Standard output, or any other writer.

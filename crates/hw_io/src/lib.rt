@@ -6,6 +6,7 @@
 //! `OutOfMemory`; a sink counts it apart.
 #![tactic(auto)]
 
+mod appended;
 mod book;
 mod buffer;
 mod consumer;
