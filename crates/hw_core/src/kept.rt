@@ -159,7 +159,10 @@ impl Kept {
         ensures unchanged { OnErr result (self.new ≡ self.old) }
     {
         match self.name_unit(&unit) {
-            Ok(name) => self.deliver_lawful(unit, name),
+            Ok(name) => match self.deliver_lawful(unit, name) {
+                Ok(receipt) => Ok(receipt),
+                Err(refused) => Err(unit_sent_back(refused)),
+            },
             Err(cause) => Err(sent_back(cause, Vertex::Unit(unit))),
         }
     }
@@ -169,36 +172,36 @@ impl Kept {
         &mut self,
         unit: SignedUnit,
         name: Digest,
-    ) -> Result<Receipt, Refused>
+    ) -> Result<Receipt, UnitRefused>
         requires fits { VertexFits (vertex.Unit unit) }
         requires name { name ≡ digest_of unit.unit }
         ensures accepted { IfOk result (λ receipt. answer_in self.old (vertex.Unit unit) true ≡ Ok receipt) }
         ensures refused { IfErr result (λ r. IsRefusal r.cause (answer_in self.old (vertex.Unit unit) true)) }
-        ensures returned { IfErr result (λ r. r.vertex ≡ vertex.Unit unit) }
+        ensures returned { IfErr result (λ r. r.unit ≡ unit) }
         ensures journal { OnOk result (self.new ≡ after_in self.old (vertex.Unit unit) true) }
         ensures unchanged { OnErr result (self.new ≡ self.old) }
     {
         match self.test_local(&unit) {
             Ok(()) => self.deliver_lawful(unit, name),
-            Err(cause) => Err(sent_back(cause, Vertex::Unit(unit))),
+            Err(cause) => Err(UnitRefused { cause, unit }),
         }
     }
 
     /// Takes a unit of this name that keeps the local rules.
-    fn deliver_lawful(&mut self, unit: SignedUnit, name: Digest) -> Result<Receipt, Refused>
+    fn deliver_lawful(&mut self, unit: SignedUnit, name: Digest) -> Result<Receipt, UnitRefused>
         requires fits { VertexFits (vertex.Unit unit) }
         requires name { name ≡ digest_of unit.unit }
         requires local { local_rule self.old.config (instance_of self.old.config) unit.unit ≡ None }
         ensures accepted { IfOk result (λ receipt. answer_in self.old (vertex.Unit unit) true ≡ Ok receipt) }
         ensures refused { IfErr result (λ r. IsRefusal r.cause (answer_in self.old (vertex.Unit unit) true)) }
-        ensures returned { IfErr result (λ r. r.vertex ≡ vertex.Unit unit) }
+        ensures returned { IfErr result (λ r. r.unit ≡ unit) }
         ensures journal { OnOk result (self.new ≡ after_in self.old (vertex.Unit unit) true) }
         ensures unchanged { OnErr result (self.new ≡ self.old) }
     {
         match self.test_named(&unit, &name) {
             Ok(true) => self.take_unit(unit, name),
             Ok(false) => Ok(Receipt::Repeat),
-            Err(cause) => Err(sent_back(cause, Vertex::Unit(unit))),
+            Err(cause) => Err(UnitRefused { cause, unit }),
         }
     }
 
@@ -244,12 +247,12 @@ impl Kept {
     }
 
     /// Takes a unit that passed the tests, but where the park is full.
-    fn take_unit(&mut self, unit: SignedUnit, name: Digest) -> Result<Receipt, Refused>
+    fn take_unit(&mut self, unit: SignedUnit, name: Digest) -> Result<Receipt, UnitRefused>
         requires new { IsNewUnit self.old.config self.old.journal unit name }
         requires fits { VertexFits (vertex.Unit unit) }
         ensures accepted { IfOk result (λ receipt. answer_in self.old (vertex.Unit unit) true ≡ Ok receipt) }
         ensures refused { IfErr result (λ r. IsRefusal r.cause (answer_in self.old (vertex.Unit unit) true)) }
-        ensures returned { IfErr result (λ r. r.vertex ≡ vertex.Unit unit) }
+        ensures returned { IfErr result (λ r. r.unit ≡ unit) }
         ensures journal { OnOk result (self.new ≡ after_in self.old (vertex.Unit unit) true) }
         ensures unchanged { OnErr result (self.new ≡ self.old) }
     {
@@ -275,7 +278,7 @@ impl Kept {
                 );
                 Ok(receipt)
             }
-            Err(UnitRefused { cause, unit }) => Err(sent_back(cause, Vertex::Unit(unit))),
+            Err(refused) => Err(refused),
         }
     }
 
@@ -400,4 +403,12 @@ fn sent_back(cause: Cause, vertex: Vertex) -> Refused
     ensures { result ≡ record { cause = cause; vertex = vertex } }
 {
     Refused { cause, vertex }
+}
+
+/// A unit that was refused, as a vertex.
+fn unit_sent_back(refused: UnitRefused) -> Refused
+    ensures { result ≡ record { cause = refused.cause; vertex = vertex.Unit refused.unit } }
+{
+    let UnitRefused { cause, unit } = refused;
+    sent_back(cause, Vertex::Unit(unit))
 }
