@@ -224,5 +224,5 @@ fn has_summit(
     if bounds.rules_out(dag, &config.weights, level, quorum) {
         return false;
     }
-    horizons.has_summit(dag, &config.weights, panorama, block, level, quorum)
+    horizons.has_summit(bounds, dag, &config.weights, panorama, block, level, quorum)
 }

@@ -203,7 +203,7 @@ module _ (weights : List ℕ) (dag later : UnitGraph) (g : IsGraph dag) (h : IsG
               m.4,
               counts_stay block least levels j m.0 m.1 ∙ m.5,
             );
-        support = λ j lj. subst (λ n. n ≤ support_of (bound_of levels j) v) (sym (sums_stay dag later grows weights (bound_of levels j).firsts tip known)) (b.support j lj);
+        support = λ j lj. sums_stay dag later grows weights (bound_of levels j).firsts tip known ∙ b.support j lj;
       }
 
 pub bounds_stay : BoundsStay

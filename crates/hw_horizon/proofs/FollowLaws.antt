@@ -1,8 +1,9 @@
 -- The bound of a level follows the panorama.
 use Rattle.std.proofs.Common.{◌≡◌, ◌≢◌, ℕ, zero, suc, ◌+◌, ◌-◌, ◌^◌, ◌≤◌, ◌<◌, inl, inr, Bool, true, false, List, length, set, get_or, get_or-set_other, get_or-set_same, Option, Some, None, refl, sym, ap, subst, ◌∙◌, arith}
-use Rattle.std.specs.Prelude.{◌==◌, nat_le, if◌then◌else◌}
+use Rattle.std.specs.Prelude.{◌==◌, ◌⊎◌, nat_le, if◌then◌else◌}
 use Rattle.std.proofs.Math.ListN.{length-set, get_or-eq_default}
 use Rattle.std.proofs.lemmas.Bool.{cases_lt, cases_eq, eqb-true, le-leb, leb-true, lt-leb}
+use Rattle.hw_types.specs.Votes.{weight_of}
 use Rattle.hw_types.proofs.SummitLaws.{weight_le}
 use Rattle.hw_types.proofs.WordsLaws.{either}
 use Rattle.hw_dag.specs.declared.numbers.UnitNo.{UnitNo}
@@ -14,7 +15,7 @@ use Rattle.hw_dag.specs.Lanes.{is_lane_below}
 use Rattle.hw_dag.specs.Tables.{predecessor_of}
 use Rattle.hw_horizon.specs.Starts.{votes_over}
 use Rattle.hw_horizon.specs.Firsts.{is_after, sees_after, weight_after, has_quorum}
-use Rattle.hw_horizon.specs.Bounds.{LevelBound, KeptBounds, AreBounds, tip_in, bound_of, first_of, support_of, counts_at, counts_over, IsFirstOf, IsBounded, AreLowered, IsOutside}
+use Rattle.hw_horizon.specs.Bounds.{LevelBound, KeptBounds, AreBounds, tip_in, bound_of, first_of, support_of, counts_at, counts_over, IsFirstOf, IsBounded, AreLowered, AreSameBelow, IsOutside}
 use Rattle.hw_horizon.specs.declared.follow.Span.{Span}
 use Rattle.hw_horizon.proofs.LaneLaws.{lane_self, lane_same, lane_lower, lane_above, before_is, first_is}
 use Rattle.hw_horizon.proofs.BoundLaws.{lane_earlier, lane_order}
@@ -91,7 +92,7 @@ module _ (dag : UnitGraph) (g : IsGraph dag) (tip : ℕ) (lt : tip < count_of da
   none_first counts f = come_stop counts (2 ^ 32 - 1) tip come_first f
 
 -- a unit that sees less than the least quorum doesn't count
-pub too_little : (weights : List ℕ) (dag : UnitGraph) (block least : ℕ) (is_votes : Bool) (firsts : List ℕ) (n support : ℕ) → is_votes ≡ false → weight_after weights dag firsts n ≤ support → support < least
+pub too_little : (weights : List ℕ) (dag : UnitGraph) (block least : ℕ) (is_votes : Bool) (firsts : List ℕ) (n support : ℕ) → is_votes ≡ false → weight_after weights dag firsts n ≡ support → support < least
     → counts_over weights dag block least is_votes firsts n ≡ false
 too_little weights dag block least is_votes firsts n support e le lt =
     ap (λ (b : Bool). if b then votes_over dag block n else has_quorum weights dag least firsts n) e ∙ lt-leb least (weight_after weights dag firsts n) (omega arith)
@@ -124,6 +125,20 @@ first_kept weights dag g old new low least tip first lowered le is = λ n ln on 
     ] in
     (m.0, m.1, m.2, m.3, m.4, fails)
 
+-- a first unit of no lesser number is no other to a unit
+pub same_above : (first before low n : ℕ) (w : View) → (before ≡ first) ⊎ ((low ≤ before) × (low ≤ first)) → ((number : UnitNo) → w ≡ view.Correct number → number.0 < n) → n ≤ low → is_after before w ≡ is_after first w
+same_above first before low n view.Absent moved earlier le = refl
+same_above first before low n view.Faulty moved earlier le = refl
+same_above first before low n (view.Correct number) moved earlier le = elim moved [
+  | inl same ↦ ap (λ (k : ℕ). nat_le k number.0) same
+  | inr above ↦ (let less = earlier number refl in lt-leb before number.0 (omega (arith, above.0)) ∙ sym (lt-leb first number.0 (omega (arith, above.1))))
+]
+
+-- what a unit sees is by first units of lesser numbers alone
+pub same_seen : (weights : List ℕ) (dag : UnitGraph) → IsGraph dag → (old new : LevelBound) (low n : ℕ) → AreSameBelow old new low → n < count_of dag → n ≤ low → weight_after weights dag new.firsts n ≡ weight_after weights dag old.firsts n
+same_seen weights dag g old new low n same ln le =
+    ap (weight_of weights) (λ i v. sym (same_above (first_of new v) (first_of old v) low n (view_at (unit_at dag n).panorama v) (same v) (λ number e. (g.settled n ln).earlier v number e) le) i)
+
 -- ---- one validator after the other
 
 pub put_other : (xs ys : List ℕ) (at v n : ℕ) → ys ≡ set xs at n → v ≢ at → get_or ys v 0 ≡ get_or xs v 0
@@ -143,6 +158,18 @@ lowered_more old before after at first lowest next lowered same put lt most down
   | inr other ↦
       (let here = put_other before.firsts after.firsts at v first put other in
       elim (lowered v) [ inl le ↦ inl (omega arith) | inr le ↦ inr (omega arith) ])
+]
+
+pub same_more : (old before after : LevelBound) (at first lowest next : ℕ) → AreSameBelow old before lowest → first_of before at ≡ first_of old at → after.firsts ≡ set before.firsts at first → at < length before.firsts
+    → next ≤ lowest → (first_of old at ≡ first) ⊎ ((next ≤ first_of old at) × (next ≤ first)) → AreSameBelow old after next
+same_more old before after at first lowest next same is put lt most moved v = elim (cases_eq v at) [
+  | inl e ↦
+      (let here : first_of after v ≡ first = ap (λ (i : ℕ). first_of after i) e ∙ put_same before.firsts after.firsts at first put lt in
+      let there : first_of old v ≡ first_of old at = ap (λ (i : ℕ). first_of old i) e in
+      elim moved [ inl stays ↦ inl (there ∙ stays ∙ sym here) | inr above ↦ inr (omega (arith, above.0), omega (arith, above.1)) ])
+  | inr other ↦
+      (let here = put_other before.firsts after.firsts at v first put other in
+      elim (same v) [ inl stays ↦ inl (stays ∙ sym here) | inr above ↦ inr (omega (arith, above.0), omega (arith, above.1)) ])
 ]
 
 -- ---- one level after the other
@@ -177,7 +204,7 @@ pub record HasFollowed (weights : List ℕ) (dag : UnitGraph) (panorama : List V
   pub same : (i : ℕ) → j ≤ i → bound_of now i ≡ bound_of start i
   pub lower_is : (i : ℕ) → suc i ≡ j → lower ≡ bound_of now i
   pub first : (i v : ℕ) (tip : UnitNo) → i < j → view_at panorama v ≡ view.Correct tip → IsFirstOf dag tip.0 (counts_at weights dag block least now i) (first_of (bound_of now i) v)
-  pub support : (i v : ℕ) (tip : UnitNo) → i < j → view_at panorama v ≡ view.Correct tip → weight_after weights dag (bound_of now i).firsts tip.0 ≤ support_of (bound_of now i) v
+  pub support : (i v : ℕ) (tip : UnitNo) → i < j → view_at panorama v ≡ view.Correct tip → weight_after weights dag (bound_of now i).firsts tip.0 ≡ support_of (bound_of now i) v
   pub ready : (v : ℕ) (tip : UnitNo) → j < length now → get_or tips v None ≡ Some tip → first_of (bound_of now j) v ≤ low → IsFirstOf dag tip.0 (counts_over weights dag block least (j == 0) lower.firsts) (first_of (bound_of now j) v)
 
 module _ (weights : List ℕ) (dag : UnitGraph) (g : IsGraph dag) (panorama : List View) (tips : List (Option UnitNo)) (block least : ℕ) (start : List LevelBound)
@@ -207,7 +234,7 @@ module _ (weights : List ℕ) (dag : UnitGraph) (g : IsGraph dag) (panorama : Li
     first_by f g same tip first is = λ n ln on less. let m = is n ln on less in (m.0, m.1, m.2, m.3, m.4, sym (same m.0) ∙ m.5)
 
     pub followed_more : ((v : ℕ) (tip : UnitNo) → view_at panorama v ≡ view.Correct tip → IsFirstOf dag tip.0 (counts_over weights dag block least (j == 0) lower.firsts) (first_of bound v))
-        → ((v : ℕ) (tip : UnitNo) → view_at panorama v ≡ view.Correct tip → weight_after weights dag bound.firsts tip.0 ≤ support_of bound v)
+        → ((v : ℕ) (tip : UnitNo) → view_at panorama v ≡ view.Correct tip → weight_after weights dag bound.firsts tip.0 ≡ support_of bound v)
         → AreLowered (bound_of now j) bound next → HasFollowed weights dag panorama tips block least start after bound next (j + 1)
     followed_more firsts supports lowered =
         let long : length after ≡ length now = ap length put ∙ length-set now j bound in record {
@@ -226,9 +253,9 @@ module _ (weights : List ℕ) (dag : UnitGraph) (g : IsGraph dag) (panorama : Li
           ];
           support = λ i v tip lt e. elim (cases_eq i j) [
             | inl is ↦
-                subst (λ (k : ℕ). weight_after weights dag (bound_of after k).firsts tip.0 ≤ support_of (bound_of after k) v) (sym is)
-                (subst (λ (b : LevelBound). weight_after weights dag b.firsts tip.0 ≤ support_of b v) (sym here) (supports v tip e))
-            | inr ne ↦ subst (λ (b : LevelBound). weight_after weights dag b.firsts tip.0 ≤ support_of b v) (sym (other i ne)) (h.support i v tip (omega arith) e)
+                subst (λ (k : ℕ). weight_after weights dag (bound_of after k).firsts tip.0 ≡ support_of (bound_of after k) v) (sym is)
+                (subst (λ (b : LevelBound). weight_after weights dag b.firsts tip.0 ≡ support_of b v) (sym here) (supports v tip e))
+            | inr ne ↦ subst (λ (b : LevelBound). weight_after weights dag b.firsts tip.0 ≡ support_of b v) (sym (other i ne)) (h.support i v tip (omega arith) e)
           ];
           ready = λ v tip more e le. get_ready lowered v tip more e le;
         }
@@ -254,9 +281,9 @@ module _ (weights : List ℕ) (dag : UnitGraph) (g : IsGraph dag) (panorama : Li
 
 -- what the latest units see of a level above level 0, they see of the one that was copied
 pub support_below : (weights : List ℕ) (dag : UnitGraph) (panorama : List View) (tips : List (Option UnitNo)) (block least : ℕ) (start now : List LevelBound) (lower : LevelBound) (low j : ℕ) → HasFollowed weights dag panorama tips block least start now lower low j → (j == 0) ≡ false
-    → (v : ℕ) (tip : UnitNo) → view_at panorama v ≡ view.Correct tip → weight_after weights dag lower.firsts tip.0 ≤ support_of lower v
+    → (v : ℕ) (tip : UnitNo) → view_at panorama v ≡ view.Correct tip → weight_after weights dag lower.firsts tip.0 ≡ support_of lower v
 support_below weights dag panorama tips block least start now lower low zero h e v tip t = absurd cc
-support_below weights dag panorama tips block least start now lower low (suc i) h e v tip t = subst (λ (b : LevelBound). weight_after weights dag b.firsts tip.0 ≤ support_of b v) (sym (h.lower_is i refl)) (h.support i v tip (omega arith) t)
+support_below weights dag panorama tips block least start now lower low (suc i) h e v tip t = subst (λ (b : LevelBound). weight_after weights dag b.firsts tip.0 ≡ support_of b v) (sym (h.lower_is i refl)) (h.support i v tip (omega arith) t)
 
 -- ---- what was kept
 

@@ -12,3 +12,4 @@ pub mod WalkLaws
 pub mod LesserLaws
 pub mod BoundLaws
 pub mod FollowLaws
+pub mod SeenLaws

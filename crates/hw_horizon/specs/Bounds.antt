@@ -11,7 +11,7 @@ use Rattle.hw_horizon.specs.Firsts.{weight_after, has_quorum}
 use Rattle.hw_horizon.specs.Starts.{votes_over}
 use Rattle.hw_horizon.specs.declared.follow.Span.{Span}
 
--- of one level: for each validator the number of the first unit that may count, and at least the weight that its latest unit sees of them
+-- of one level: for each validator the number of the first unit that may count, and the weight that its latest unit sees of them
 pub record LevelBound : Type 0 where
   pub firsts : List ℕ
   pub support : List ℕ
@@ -53,7 +53,7 @@ IsFirstOf dag tip counts first = (n : ℕ) → n < count_of dag → is_lane_belo
 pub record IsBounded (weights : List ℕ) (dag : UnitGraph) (block least : ℕ) (levels : List LevelBound) (v tip : ℕ) : Type 0 where
   pub known : tip < count_of dag
   pub first : (j : ℕ) → j < length levels → IsFirstOf dag tip (counts_at weights dag block least levels j) (first_of (bound_of levels j) v)
-  pub support : (j : ℕ) → j < length levels → weight_after weights dag (bound_of levels j).firsts tip ≤ support_of (bound_of levels j) v
+  pub support : (j : ℕ) → j < length levels → weight_after weights dag (bound_of levels j).firsts tip ≡ support_of (bound_of levels j) v
 
 -- what is kept is true of the graph
 abbrev pub AreBounds : List ℕ → UnitGraph → KeptBounds → Type 0
@@ -75,6 +75,15 @@ pub record AreWide (validators : ℕ) (kept : KeptBounds) : Type 0 where
   pub firsts : (j : ℕ) → j < length kept.levels → length (bound_of kept.levels j).firsts ≡ validators
   pub support : (j : ℕ) → j < length kept.levels → length (bound_of kept.levels j).support ≡ validators
 
+-- a level has for each validator the weight that its latest unit sees of the level's first units
+pub record IsExact (weights : List ℕ) (dag : UnitGraph) (panorama : List View) (bound : LevelBound) : Type 0 where
+  pub long : length bound.support ≡ dag.validators
+  pub each : (v : ℕ) (tip : UnitNo) → view_at panorama v ≡ view.Correct tip → weight_after weights dag bound.firsts tip.0 ≡ support_of bound v
+
+-- each level has
+abbrev pub AreExact : List ℕ → UnitGraph → List View → KeptBounds → Type 0
+AreExact weights dag panorama kept = (j : ℕ) → j < length kept.levels → IsExact weights dag panorama (bound_of kept.levels j)
+
 -- at some lesser level those whose latest unit may see the quorum weigh less than one
 pub record IsRuledOut (weights : List ℕ) (kept : KeptBounds) (level quorum : ℕ) : Type 0 where
   pub few : kept.least ≤ quorum
@@ -92,6 +101,10 @@ counts_over weights dag block least is_votes firsts n = if is_votes then votes_o
 -- each first unit is no lesser than before, or no lesser than this number
 abbrev pub AreLowered : LevelBound → LevelBound → ℕ → Type 0
 AreLowered old new low = (v : ℕ) → (first_of old v ≤ first_of new v) ⊎ (low ≤ first_of new v)
+
+-- each first unit is the one before, or neither of the two is less than this number
+abbrev pub AreSameBelow : LevelBound → LevelBound → ℕ → Type 0
+AreSameBelow old new low = (v : ℕ) → (first_of old v ≡ first_of new v) ⊎ ((low ≤ first_of old v) × (low ≤ first_of new v))
 
 -- the validator is before or behind the span
 abbrev pub IsOutside : Span → ℕ → Type 0

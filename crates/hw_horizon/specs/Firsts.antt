@@ -1,6 +1,7 @@
 -- What a unit sees of a committee, by numbers of units alone.
-use Rattle.std.specs.Prelude.{◌≡◌, ℕ, ◌<◌, ◌^◌, Bool, true, false, nat_le, List, is_some, slice_index_or}
+use Rattle.std.specs.Prelude.{◌≡◌, ℕ, ◌+◌, ◌<◌, ◌≤◌, ◌^◌, Bool, true, false, nat_le, List, length, is_some, slice_index_or}
 use Rattle.hw_types.specs.Votes.{weight_of}
+use Rattle.hw_dag.specs.declared.numbers.UnitNo.{UnitNo}
 use Rattle.hw_dag.specs.declared.numbers.View.{View}
 use Rattle.hw_dag.specs.declared.numbers.View.TheVariants as view
 use Rattle.hw_dag.specs.Dag.{UnitGraph, unit_at, count_of, seq_of, view_at}
@@ -25,6 +26,16 @@ weight_after weights dag firsts n = weight_of weights (sees_after dag firsts n)
 -- it is a quorum
 abbrev pub has_quorum : List ℕ → UnitGraph → ℕ → List ℕ → ℕ → Bool
 has_quorum weights dag quorum firsts n = nat_le quorum (weight_after weights dag firsts n)
+
+-- the unit sees no more than this weight, and no less but for those who fell, who weigh so much
+pub record IsNear (weights : List ℕ) (dag : UnitGraph) (firsts : List ℕ) (n seen fallen : ℕ) : Type 0 where
+  pub most : weight_after weights dag firsts n ≤ seen
+  pub less : seen ≤ weight_after weights dag firsts n + fallen
+
+-- a weight for each validator: what its latest unit saw before those fell who weigh so much
+pub record AreSeen (weights : List ℕ) (dag : UnitGraph) (panorama : List View) (firsts seen : List ℕ) (fallen : ℕ) : Type 0 where
+  pub long : length seen ≡ dag.validators
+  pub each : (v : ℕ) (tip : UnitNo) → view_at panorama v ≡ view.Correct tip → IsNear weights dag firsts tip.0 (slice_index_or seen v 0) fallen
 
 -- the units of the slot's lane from that number on are those from the first unit on
 abbrev pub IsLaneFrom : UnitGraph → View → ℕ → ℕ → Type 0

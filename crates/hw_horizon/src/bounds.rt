@@ -2,10 +2,10 @@
 //!
 //! At each level a validator's units before some number are in no committee of any summit of the least
 //! quorum or a greater one: each is followed by one that doesn't vote for the block or sees too little of
-//! the level below. And the latest unit of each validator sees no more than some weight of the units that
-//! may count. Where those who may see a quorum weigh less than one, there is no summit.
+//! the level below. And it is known what weight the latest unit of each validator sees of the units that may
+//! count. Where those who may see a quorum weigh less than one, there is no summit.
 
-ghost use Rattle.std.specs.Prelude.{◌≡◌, ℕ, ◌<◌, ◌≤◌, ◌↔◌, List, length, nat_le, true, false, None, Some, slice_index_or, slice_set, IsTrue, IfOk};
+ghost use Rattle.std.specs.Prelude.{◌≡◌, ℕ, ◌<◌, ◌≤◌, ◌↔◌, List, length, nat_le, true, false, None, Some, slice_index_or, slice_set, IsTrue, IfOk, IfSome};
 ghost use Rattle.hw_types.specs.Votes.{weight_of};
 ghost use Rattle.hw_dag.specs.declared.numbers.UnitNo.{UnitNo as Number};
 ghost use Rattle.hw_dag.specs.Dag.{UnitGraph, IsPanorama, count_of, view_at};
@@ -19,8 +19,8 @@ use hw_types::{OutOfMemory, WeightList};
 use std::alloc::Global;
 use std::marker::Model;
 
-/// Of one level, for each validator the number of the first unit that may count, and at least the weight
-/// that its latest unit sees of those units.
+/// Of one level, for each validator the number of the first unit that may count, and the weight that its
+/// latest unit sees of those units.
 #[derive(Drop)]
 pub(crate) struct Bound {
     firsts: Firsts,
@@ -56,7 +56,7 @@ impl Bound {
         &self.firsts
     }
 
-    /// What the latest unit of the validator sees at most.
+    /// What the latest unit of the validator sees of them.
     pub(crate) fn support(&self, validator: u32) -> u64
         requires { validator < length self.now.support }
         ensures { result ≡ support_of self.now validator }
@@ -64,11 +64,22 @@ impl Bound {
         self.support[validator as usize]
     }
 
-    /// What the latest unit of each validator sees at most, in their order.
+    /// What the latest unit of each validator sees of them, in their order.
     pub(crate) fn supports(&self) -> &[u64]
         ensures { result.now ≡ self.now.support }
     {
         self.support.as_slice()
+    }
+
+    /// The same, where these are its first units.
+    pub(crate) fn supports_of(&self, firsts: &Firsts) -> Option<&[u64]>
+        ensures { IfSome result (λ supports. (supports.now ≡ self.now.support) × (self.now.firsts ≡ firsts.now)) }
+    {
+        if self.firsts.is_same(firsts) {
+            Some(self.supports())
+        } else {
+            None
+        }
     }
 
     /// Changes the first unit of the validator, and nothing else.
@@ -79,7 +90,7 @@ impl Bound {
         self.firsts.set(validator, first);
     }
 
-    /// Changes what the latest unit of the validator sees at most, and nothing else.
+    /// Changes what the latest unit of the validator sees of them, and nothing else.
     pub(crate) fn set_support(&mut self, validator: u32, weight: u64)
         requires { validator < length self.old.support }
         ensures { self.new ≡ record self.old { support = slice_set self.old.support validator weight } }
@@ -187,6 +198,13 @@ impl Bounds {
             changed,
         );
         put_tips(self.tips.as_mut_slice(), dag, panorama);
+    }
+
+    /// The bound of a level.
+    pub(crate) fn level(&self, level: u32) -> Option<&Bound>
+        ensures { IfSome result (λ bound. (level < length self.now.levels) × (bound.now ≡ bound_of self.now.levels level)) }
+    {
+        self.levels.get(level as usize)
     }
 
     /// Whether at some lesser level those who may see the quorum weigh less than one, so that there is no

@@ -2,7 +2,7 @@
 //! one with the greater number comes later, so to see a member is to observe that unit or a greater
 //! number, and no far unit is read.
 
-ghost use Rattle.std.specs.Prelude.{◌≡◌, ℕ, ◌-◌, ◌^◌, ◌<◌, length, true, nat_le, replicate, slice_index_or, slice_set, IsTrue, IfOk};
+ghost use Rattle.std.specs.Prelude.{◌≡◌, ℕ, ◌-◌, ◌^◌, ◌<◌, ◌↔◌, length, true, nat_le, replicate, slice_index_or, slice_set, IsTrue, IfOk};
 ghost use Rattle.hw_types.specs.Graph.{is_consistent};
 ghost use Rattle.hw_dag.specs.Dag.{count_of, graph, observations, unit_at, seq_of, IsPanorama, view_at};
 ghost use Rattle.hw_dag.specs.Admission.{IsGraph};
@@ -79,6 +79,13 @@ impl Firsts {
         self.numbers
             .as_mut_slice()
             .copy_from_slice(other.numbers.as_slice());
+    }
+
+    /// Whether they are the same for each validator.
+    pub(crate) fn is_same(&self, other: &Firsts) -> bool
+        ensures { IsTrue result ↔ (self.now ≡ other.now) }
+    {
+        self.numbers.as_slice() == other.numbers.as_slice()
     }
 
     /// For nobody a unit is one.

@@ -7,7 +7,7 @@ ghost use Rattle.hw_dag.specs.Lanes.{AreWeights};
 ghost use Rattle.hw_dag.specs.Tables.{predecessor_of};
 ghost use Rattle.hw_dag.specs.declared.numbers.UnitNo.{UnitNo as Number};
 ghost use Rattle.hw_horizon.specs.Firsts.{weight_after};
-ghost use Rattle.hw_horizon.specs.Bounds.{first_of, support_of, tip_in, counts_over, IsFirstOf, AreLowered, IsOutside};
+ghost use Rattle.hw_horizon.specs.Bounds.{first_of, support_of, tip_in, counts_over, IsFirstOf, AreLowered, AreSameBelow, IsOutside};
 
 use crate::bounds::Bound;
 use crate::firsts::NO_UNIT;
@@ -20,6 +20,14 @@ use hw_dag::{Dag, Panorama, UnitNo, View};
 pub(crate) struct Span {
     pub(crate) from: u32,
     pub(crate) to: u32,
+}
+
+/// How the first units of a level changed: none came down below the one number, and none that was or is less
+/// than the other changed at all.
+#[derive(Clone, Copy)]
+pub(crate) struct Moves {
+    pub(crate) down: u32,
+    pub(crate) any: u32,
 }
 
 /// The span from the first validator to the last whose latest unit isn't the one that is kept.
@@ -68,7 +76,7 @@ fn stretched(span: Span, validator: u32) -> Span
     }
 }
 
-// Whom a pass has to look at: all, once a first unit below came down, else those who changed.
+// Whom a pass has to look at: all, once a first unit moved, else those whose latest unit changed.
 fn looked_at(dag: &Dag, changed: Span, low: u32) -> Span
     requires known { changed.to ≤ dag.now.validators }
     ensures kept { (v : ℕ) → v < dag.now.validators → IsOutside result v → (low ≡ 2 ^ 32 - 1) × IsOutside changed v }
@@ -112,11 +120,11 @@ pub(crate) fn follow_level(
     requires lower_support { length lower.now.support ≡ dag.now.validators }
     requires known { (v : ℕ) (tip : Number) → slice_index_or tips.now v None ≡ Some tip → tip.0 < count_of dag.now }
     requires kept { (v : ℕ) (tip : Number) → slice_index_or tips.now v None ≡ Some tip → first_of bound.old v ≤ low → IsFirstOf dag.now tip.0 (counts_over weights.now dag.now block.0 least is_votes lower.now.firsts) (first_of bound.old v) }
-    requires seen { (v : ℕ) (tip : Number) → slice_index_or tips.now v None ≡ Some tip → weight_after weights.now dag.now bound.old.firsts tip.0 ≤ support_of bound.old v }
-    requires supported { is_votes ≡ false → (v : ℕ) (tip : Number) → view_at panorama.now v ≡ View.Correct tip → weight_after weights.now dag.now lower.now.firsts tip.0 ≤ support_of lower.now v }
+    requires seen { (v : ℕ) (tip : Number) → slice_index_or tips.now v None ≡ Some tip → weight_after weights.now dag.now bound.old.firsts tip.0 ≡ support_of bound.old v }
+    requires supported { is_votes ≡ false → (v : ℕ) (tip : Number) → view_at panorama.now v ≡ View.Correct tip → weight_after weights.now dag.now lower.now.firsts tip.0 ≡ support_of lower.now v }
     ensures graph { IsGraph dag.now }
     ensures firsts { (v : ℕ) (tip : Number) → view_at panorama.now v ≡ View.Correct tip → IsFirstOf dag.now tip.0 (counts_over weights.now dag.now block.0 least is_votes lower.now.firsts) (first_of bound.new v) }
-    ensures support { (v : ℕ) (tip : Number) → view_at panorama.now v ≡ View.Correct tip → weight_after weights.now dag.now bound.new.firsts tip.0 ≤ support_of bound.new v }
+    ensures support { (v : ℕ) (tip : Number) → view_at panorama.now v ≡ View.Correct tip → weight_after weights.now dag.now bound.new.firsts tip.0 ≡ support_of bound.new v }
     ensures lowered { AreLowered bound.old bound.new result }
     ensures firsts_length { length bound.new.firsts ≡ length bound.old.firsts }
     ensures support_length { length bound.new.support ≡ length bound.old.support }
@@ -125,15 +133,15 @@ pub(crate) fn follow_level(
     dag.recall_graph();
     bound.firsts().recall_numbers();
     let span = looked_at(dag, changed, low);
-    let low = put_firsts(
+    let moves = put_firsts(
         bound, lower, is_votes, dag, weights, panorama, tips, block, least, span, low,
     );
-    let span = looked_at(dag, changed, low);
-    put_support(bound, dag, weights, panorama, tips, span, low);
-    low
+    let span = looked_at(dag, changed, moves.any);
+    put_support(bound, dag, weights, panorama, tips, span, moves.any);
+    moves.down
 }
 
-// Puts the first units of the span, and answers a number that none of them came down below.
+// Puts the first units of the span, and answers how they changed.
 fn put_firsts(
     bound: &mut Bound,
     lower: &Bound,
@@ -146,7 +154,7 @@ fn put_firsts(
     least: u64,
     span: Span,
     low: u32,
-) -> u32
+) -> Moves
     requires graph { IsGraph dag.now }
     requires panorama { IsPanorama dag.now panorama.now }
     requires weights { AreWeights weights.now dag.now }
@@ -159,13 +167,17 @@ fn put_firsts(
     requires outside { (v : ℕ) (tip : Number) → IsOutside span v → view_at panorama.now v ≡ View.Correct tip → IsFirstOf dag.now tip.0 (counts_over weights.now dag.now block.0 least is_votes lower.now.firsts) (first_of bound.old v) }
     requires known { (v : ℕ) (tip : Number) → slice_index_or tips.now v None ≡ Some tip → tip.0 < count_of dag.now }
     requires kept { (v : ℕ) (tip : Number) → slice_index_or tips.now v None ≡ Some tip → first_of bound.old v ≤ low → IsFirstOf dag.now tip.0 (counts_over weights.now dag.now block.0 least is_votes lower.now.firsts) (first_of bound.old v) }
-    requires supported { is_votes ≡ false → (v : ℕ) (tip : Number) → view_at panorama.now v ≡ View.Correct tip → weight_after weights.now dag.now lower.now.firsts tip.0 ≤ support_of lower.now v }
+    requires supported { is_votes ≡ false → (v : ℕ) (tip : Number) → view_at panorama.now v ≡ View.Correct tip → weight_after weights.now dag.now lower.now.firsts tip.0 ≡ support_of lower.now v }
     ensures firsts { (v : ℕ) (tip : Number) → view_at panorama.now v ≡ View.Correct tip → IsFirstOf dag.now tip.0 (counts_over weights.now dag.now block.0 least is_votes lower.now.firsts) (first_of bound.new v) }
-    ensures lowered { AreLowered bound.old bound.new result }
+    ensures lowered { AreLowered bound.old bound.new result.down }
+    ensures same { AreSameBelow bound.old bound.new result.any }
     ensures firsts_length { length bound.new.firsts ≡ length bound.old.firsts }
     ensures support { bound.new.support ≡ bound.old.support }
 {
-    let mut lowest = NO_UNIT;
+    let mut moves = Moves {
+        down: NO_UNIT,
+        any: NO_UNIT,
+    };
     for v in span.from..span.to {
         let before = bound.firsts().get(v);
         let first = next_first(
@@ -181,21 +193,31 @@ fn put_firsts(
             low,
             v,
         );
-        lowest = lowest_of(lowest, before, first);
+        moves = moved(moves, before, first);
         bound.set_first(v, first);
     }
-    lowest
+    moves
 }
 
-// The lesser of the number and the first unit, where that came down.
-fn lowest_of(lowest: u32, before: u32, first: u32) -> u32
-    ensures most { result ≤ lowest }
-    ensures lowered { first < before → result ≤ first }
+// How they changed with one more, which was `before`.
+fn moved(moves: Moves, before: u32, first: u32) -> Moves
+    ensures down { result.down ≤ moves.down }
+    ensures lowered { first < before → result.down ≤ first }
+    ensures any { result.any ≤ moves.any }
+    ensures same { (before ≡ first) ⊎ ((result.any ≤ before) × (result.any ≤ first)) }
 {
     if first < before {
-        lowest.min(first)
+        Moves {
+            down: moves.down.min(first),
+            any: moves.any.min(first),
+        }
+    } else if before < first {
+        Moves {
+            down: moves.down,
+            any: moves.any.min(before),
+        }
     } else {
-        lowest
+        moves
     }
 }
 
@@ -222,7 +244,7 @@ fn next_first(
     requires view_known { (tip : Number) → view ≡ View.Correct tip → tip.0 < count_of dag.now }
     requires known { (tip : Number) → kept ≡ Some tip → tip.0 < count_of dag.now }
     requires kept { (tip : Number) → kept ≡ Some tip → first ≤ low → IsFirstOf dag.now tip.0 (counts_over weights.now dag.now block.0 least is_votes lower.now.firsts) first }
-    requires supported { is_votes ≡ false → (tip : Number) → view ≡ View.Correct tip → weight_after weights.now dag.now lower.now.firsts tip.0 ≤ support_of lower.now validator }
+    requires supported { is_votes ≡ false → (tip : Number) → view ≡ View.Correct tip → weight_after weights.now dag.now lower.now.firsts tip.0 ≡ support_of lower.now validator }
     ensures { (tip : Number) → view ≡ View.Correct tip → IsFirstOf dag.now tip.0 (counts_over weights.now dag.now block.0 least is_votes lower.now.firsts) result }
 {
     let View::Correct(tip) = view else {
@@ -332,8 +354,8 @@ fn is_known_from(kept: Option<UnitNo>, no: UnitNo, first: u32, low: u32) -> bool
     is_kept(kept, no) && first <= low && first <= no.0
 }
 
-// Puts what the latest units of the span see of the first units, none of which came down below the number
-// `low`.
+// Puts what the latest units of the span see of the first units. None that was or is less than `low` has
+// changed.
 fn put_support(
     bound: &mut Bound,
     dag: &Dag,
@@ -350,9 +372,9 @@ fn put_support(
     requires firsts_length { length bound.old.firsts ≡ dag.now.validators }
     requires support_length { length bound.old.support ≡ dag.now.validators }
     requires span { span.to ≤ dag.now.validators }
-    requires outside { (v : ℕ) (tip : Number) → IsOutside span v → view_at panorama.now v ≡ View.Correct tip → weight_after weights.now dag.now bound.old.firsts tip.0 ≤ support_of bound.old v }
-    requires kept { (v : ℕ) (tip : Number) → slice_index_or tips.now v None ≡ Some tip → tip.0 ≤ low → weight_after weights.now dag.now bound.old.firsts tip.0 ≤ support_of bound.old v }
-    ensures support { (v : ℕ) (tip : Number) → view_at panorama.now v ≡ View.Correct tip → weight_after weights.now dag.now bound.new.firsts tip.0 ≤ support_of bound.new v }
+    requires outside { (v : ℕ) (tip : Number) → IsOutside span v → view_at panorama.now v ≡ View.Correct tip → weight_after weights.now dag.now bound.old.firsts tip.0 ≡ support_of bound.old v }
+    requires kept { (v : ℕ) (tip : Number) → slice_index_or tips.now v None ≡ Some tip → tip.0 ≤ low → weight_after weights.now dag.now bound.old.firsts tip.0 ≡ support_of bound.old v }
+    ensures support { (v : ℕ) (tip : Number) → view_at panorama.now v ≡ View.Correct tip → weight_after weights.now dag.now bound.new.firsts tip.0 ≡ support_of bound.new v }
     ensures firsts { bound.new.firsts ≡ bound.old.firsts }
     ensures support_length { length bound.new.support ≡ length bound.old.support }
 {
@@ -370,7 +392,7 @@ fn put_support(
     }
 }
 
-// What the unit of the slot sees of the first units at most.
+// What the unit of the slot sees of the first units. Nothing where it has none.
 fn next_support(
     bound: &Bound,
     dag: &Dag,
@@ -385,8 +407,8 @@ fn next_support(
     requires firsts { length bound.now.firsts ≡ dag.now.validators }
     requires within { validator < length bound.now.support }
     requires view_known { (tip : Number) → view ≡ View.Correct tip → tip.0 < count_of dag.now }
-    requires kept { (tip : Number) → kept ≡ Some tip → tip.0 ≤ low → weight_after weights.now dag.now bound.now.firsts tip.0 ≤ support_of bound.now validator }
-    ensures { (tip : Number) → view ≡ View.Correct tip → weight_after weights.now dag.now bound.now.firsts tip.0 ≤ result }
+    requires kept { (tip : Number) → kept ≡ Some tip → tip.0 ≤ low → weight_after weights.now dag.now bound.now.firsts tip.0 ≡ support_of bound.now validator }
+    ensures { (tip : Number) → view ≡ View.Correct tip → weight_after weights.now dag.now bound.now.firsts tip.0 ≡ result }
 {
     match view {
         View::Correct(tip) if is_kept(kept, tip) && tip.0 <= low => bound.support(validator),

@@ -7,10 +7,12 @@ ghost use Rattle.hw_types.specs.Summit.{HasSummit, IsGreatest};
 ghost use Rattle.hw_dag.specs.Dag.{UnitGraph, graph, observations, count_of, node_at, IsPanorama};
 ghost use Rattle.hw_dag.specs.Lanes.{AreWeights};
 ghost use Rattle.hw_horizon.specs.Kept.{AreKept};
+ghost use Rattle.hw_horizon.specs.Bounds.{AreBounds, AreTips, AreWide, AreExact};
 ghost use Rattle.hw_horizon.specs.Tables.{pruned_table};
 ghost use Rattle.hw_horizon.specs.Starts.{HasSlots};
 ghost use Rattle.hw_horizon.specs.Search.{table_of, start_of, committees_of, AreTables, IsScratch};
 
+use crate::bounds::Bounds;
 use crate::firsts::Firsts;
 use crate::kept::Walks;
 use crate::rounds::{prune, put_members};
@@ -133,9 +135,11 @@ impl Horizons {
     }
 
     /// Whether a summit for the block exists, of this level and quorum, in this panorama. Nothing of it is
-    /// kept, so this costs less than finding the greatest.
+    /// kept, so this costs less than finding the greatest. The bounds are those of this panorama, and spare
+    /// looks at units.
     pub fn has_summit(
         &mut self,
+        bounds: &Bounds,
         dag: &Dag,
         weights: &WeightList,
         panorama: &Panorama,
@@ -150,6 +154,10 @@ impl Horizons {
         requires level { level ≤ self.old.levels }
         requires validators { self.old.validators ≡ dag.now.validators }
         requires walks { AreKept dag.now self.old.walks }
+        requires wide { AreWide dag.now.validators bounds.now }
+        requires bounds { AreBounds weights.now dag.now bounds.now }
+        requires tips { AreTips panorama.now bounds.now }
+        requires asked { bounds.now.block ≡ Some block }
         ensures exact { IsTrue result ↔ HasSummit weights.now (graph dag.now) (observations dag.now panorama.now) (node_at dag.now block.0) level quorum }
         ensures found { self.new.found ≡ None }
         ensures walks { AreKept dag.now self.new.walks }
@@ -160,6 +168,7 @@ impl Horizons {
         has_member(
             &mut self.scratch,
             &mut self.walks,
+            bounds,
             dag,
             weights.as_slice(),
             panorama,
@@ -218,7 +227,9 @@ fn put_tables(
             next,
             firsts,
         } = scratch;
-        prune(present, next, firsts, dag, weights, panorama, quorum, lower);
+        prune(
+            present, next, firsts, None, dag, weights, panorama, quorum, lower,
+        );
         lower.copy_from(present);
         tables[below + 1].copy_from(lower);
     }
@@ -228,6 +239,7 @@ fn put_tables(
 fn has_member(
     scratch: &mut Scratch,
     walks: &mut Walks,
+    bounds: &Bounds,
     dag: &Dag,
     weights: &[u64],
     panorama: &Panorama,
@@ -242,18 +254,22 @@ fn has_member(
     requires scratch { IsScratch dag.now.validators scratch.old }
     requires walk_count { length walks.old.walks ≡ dag.now.validators }
     requires walks { AreKept dag.now walks.old }
+    requires exact { AreExact weights.now dag.now panorama.now bounds.now }
     ensures member { result ≡ list_any is_some (pruned_table weights.now (graph dag.now) (observations dag.now panorama.now) (node_at dag.now block.0) quorum level) }
     ensures scratch { IsScratch dag.now.validators scratch.new }
     ensures walk_count { length walks.new.walks ≡ dag.now.validators }
     ensures walks { AreKept dag.now walks.new }
 {
     if level == 0 {
-        put_lower(scratch, walks, dag, weights, panorama, block, level, quorum);
+        put_lower(
+            scratch, walks, bounds, dag, weights, panorama, block, level, quorum,
+        );
         return scratch.lower.has_member();
     }
     put_lower(
         scratch,
         walks,
+        bounds,
         dag,
         weights,
         panorama,
@@ -267,7 +283,10 @@ fn has_member(
         firsts,
         ..
     } = scratch;
-    put_members(present, firsts, dag, weights, panorama, quorum, lower);
+    let bound = bounds.level(level - 1);
+    put_members(
+        present, firsts, bound, dag, weights, panorama, quorum, lower,
+    );
     present.has_member()
 }
 
@@ -275,6 +294,7 @@ fn has_member(
 fn put_lower(
     scratch: &mut Scratch,
     walks: &mut Walks,
+    bounds: &Bounds,
     dag: &Dag,
     weights: &[u64],
     panorama: &Panorama,
@@ -289,6 +309,7 @@ fn put_lower(
     requires scratch { IsScratch dag.now.validators scratch.old }
     requires walk_count { length walks.old.walks ≡ dag.now.validators }
     requires walks { AreKept dag.now walks.old }
+    requires exact { AreExact weights.now dag.now panorama.now bounds.now }
     ensures lower { scratch.new.lower ≡ pruned_table weights.now (graph dag.now) (observations dag.now panorama.now) (node_at dag.now block.0) quorum level }
     ensures slots { HasSlots panorama.now scratch.new.lower }
     ensures scratch { IsScratch dag.now.validators scratch.new }
@@ -296,14 +317,17 @@ fn put_lower(
     ensures walks { AreKept dag.now walks.new }
 {
     put_vote_starts(&mut scratch.lower, walks, dag, panorama, block);
-    for _ in 0..level {
+    for below in 0..level {
         let Scratch {
             lower,
             present,
             next,
             firsts,
         } = scratch;
-        prune(present, next, firsts, dag, weights, panorama, quorum, lower);
+        let bound = bounds.level(below);
+        prune(
+            present, next, firsts, bound, dag, weights, panorama, quorum, lower,
+        );
         lower.copy_from(present);
     }
 }

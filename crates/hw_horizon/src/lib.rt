@@ -11,8 +11,9 @@
 //! level.
 //!
 //! Mostly there is no summit, and bounds that are kept say so early: for each level before which unit
-//! nobody is in a committee, and what each latest unit sees at most. They follow the panorama in a pass
-//! over the validators for each level.
+//! nobody is in a committee, and what each latest unit sees of the units from there on. They follow the
+//! panorama in a pass over the validators for each level. A search that begins with the same units doesn't
+//! work those weights out again.
 #![tactic(auto)]
 
 mod bounds;

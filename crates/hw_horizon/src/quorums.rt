@@ -1,11 +1,11 @@
 //! From where on a lane sees a quorum of those who are present.
 
-ghost use Rattle.std.specs.Prelude.{◌≡◌, ◌<◌, ◌&&◌, length, nat_le};
+ghost use Rattle.std.specs.Prelude.{◌≡◌, ◌<◌, ◌&&◌, length, nat_le, IfSome};
 ghost use Rattle.hw_dag.specs.Dag.{count_of, unit_at, seq_of};
 ghost use Rattle.hw_dag.specs.Admission.{IsGraph};
 ghost use Rattle.hw_dag.specs.Lanes.{AreWeights};
 ghost use Rattle.hw_horizon.specs.Starts.{IsStart, IsSuffix};
-ghost use Rattle.hw_horizon.specs.Firsts.{is_after, weight_after, has_quorum as has_quorum_lem};
+ghost use Rattle.hw_horizon.specs.Firsts.{is_after, weight_after, has_quorum as has_quorum_lem, IsNear};
 
 use crate::firsts::Firsts;
 use crate::jumps::lane_at;
@@ -50,7 +50,8 @@ pub fn quorum_start(
     Some(low)
 }
 
-/// Whether there is such a number: the latest unit has one not below the floor, and sees a quorum.
+/// Whether there is such a number: the latest unit has one not below the floor, and sees a quorum. `seen`
+/// is what it saw, where that is known, before those fell who weigh `fallen`.
 pub fn has_start(
     dag: &Dag,
     weights: &[u64],
@@ -58,14 +59,45 @@ pub fn has_start(
     floor: u64,
     quorum: u64,
     firsts: &Firsts,
+    seen: Option<u64>,
+    fallen: u64,
 ) -> bool
     requires graph { IsGraph dag.now }
     requires weights { AreWeights weights.now dag.now }
     requires firsts { length firsts.now ≡ dag.now.validators }
     requires known { tip.0 < count_of dag.now }
+    requires near { IfSome seen (λ seen. IsNear weights.now dag.now firsts.now tip.0 seen fallen) }
     ensures { result ≡ (nat_le floor (seq_of (unit_at dag.now tip.0)) && has_quorum_lem weights.now dag.now quorum firsts.now tip.0) }
 {
-    floor <= dag.unit(tip).signed().unit.seq && has_quorum(dag, weights, tip, quorum, firsts)
+    floor <= dag.unit(tip).signed().unit.seq
+        && still_has_quorum(dag, weights, tip, quorum, firsts, seen, fallen)
+}
+
+// Whether the unit sees a quorum of those present. They are looked at only where what it saw before doesn't
+// tell.
+fn still_has_quorum(
+    dag: &Dag,
+    weights: &[u64],
+    no: UnitNo,
+    quorum: u64,
+    firsts: &Firsts,
+    seen: Option<u64>,
+    fallen: u64,
+) -> bool
+    requires graph { IsGraph dag.now }
+    requires weights { AreWeights weights.now dag.now }
+    requires firsts { length firsts.now ≡ dag.now.validators }
+    requires known { no.0 < count_of dag.now }
+    requires near { IfSome seen (λ seen. IsNear weights.now dag.now firsts.now no.0 seen fallen) }
+    ensures { result ≡ has_quorum_lem weights.now dag.now quorum firsts.now no.0 }
+{
+    let Some(seen) = seen else {
+        return has_quorum(dag, weights, no, quorum, firsts);
+    };
+    if seen < quorum {
+        return false;
+    }
+    fallen <= seen - quorum || has_quorum(dag, weights, no, quorum, firsts)
 }
 
 /// Whether the unit sees a quorum of those present.

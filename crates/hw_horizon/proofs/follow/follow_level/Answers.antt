@@ -1,12 +1,11 @@
-use Rattle.std.proofs.Common.{◌≡◌, ◌≤◌, ◌<◌, ◌^◌, ℕ, List, Some, None, sym, ap, subst, get_or, ◌∙◌, arith}
-use Rattle.hw_horizon.specs.Firsts.{weight_after}
+use Rattle.std.proofs.Common.{◌≡◌, ◌<◌, ◌^◌, ℕ, List, Some, None, sym, ap, subst, get_or, ◌∙◌, arith}
 use Rattle.hw_horizon.specs.Bounds.{tip_in, first_of}
 use Rattle.hw_horizon.proofs.FirstLaws.{correct_inside}
-use Rattle.hw_horizon.proofs.FollowLaws.{lower_sees_less}
+use Rattle.hw_horizon.proofs.FollowLaws.{same_seen}
 use Rattle.hw_horizon.proofs.follow.follow_level.Goals as goal
 
-pub put_firsts-low-requires-clause-outside : goal.put_firsts-low-requires-clause-outside
-put_firsts-low-requires-clause-outside c = λ v tip out e.
+pub put_firsts-moves-requires-clause-outside : goal.put_firsts-moves-requires-clause-outside
+put_firsts-moves-requires-clause-outside c = λ v tip out e.
     let inside : v < c.args.dag.now.validators = let long = c.requires.panorama.length_is in let lt = correct_inside c.args.panorama.now v tip e in omega arith in
     let kept = c.looked_at-span.ensures.kept v inside out in
     let was : get_or c.args.tips.now v None ≡ Some tip = c.requires.changed v inside kept.1 ∙ ap tip_in e in
@@ -15,19 +14,17 @@ put_firsts-low-requires-clause-outside c = λ v tip out e.
 
 pub put_support-requires-clause-kept : goal.put_support-requires-clause-kept
 put_support-requires-clause-kept c = λ v tip e le.
-    let done = c.put_firsts-low.ensures in
-    let sees = lower_sees_less c.args.weights.now c.args.dag.now c.recall_graph.ensures c.args.bound.now c.put_firsts-low.new.bound c.put_firsts-low.result tip.0 done.lowered (c.requires.known v tip e) le in
-    let before = c.requires.seen v tip e in
-    subst (λ (ns : List ℕ). weight_after c.args.weights.now c.args.dag.now c.put_firsts-low.new.bound.firsts tip.0 ≤ get_or ns v 0) (sym done.support) (omega arith)
+    let done = c.put_firsts-moves.ensures in
+    same_seen c.args.weights.now c.args.dag.now c.recall_graph.ensures c.args.bound.now c.put_firsts-moves.new.bound c.put_firsts-moves.result.any tip.0 done.same (c.requires.known v tip e) le
+    ∙ c.requires.seen v tip e ∙ ap (λ (ns : List ℕ). get_or ns v 0) (sym done.support)
 
 pub put_support-requires-clause-outside : goal.put_support-requires-clause-outside
 put_support-requires-clause-outside c = λ v tip out e.
-    let done = c.put_firsts-low.ensures in
+    let done = c.put_firsts-moves.ensures in
     let inside : v < c.args.dag.now.validators = let long = c.requires.panorama.length_is in let lt = correct_inside c.args.panorama.now v tip e in omega arith in
     let kept = c.looked_at-span-2.ensures.kept v inside out in
     let was : get_or c.args.tips.now v None ≡ Some tip = c.requires.changed v inside kept.1 ∙ ap tip_in e in
     let known = c.requires.known v tip was in
     let few = c.recall_graph.ensures.bounded in
-    let sees = lower_sees_less c.args.weights.now c.args.dag.now c.recall_graph.ensures c.args.bound.now c.put_firsts-low.new.bound c.put_firsts-low.result tip.0 done.lowered known (omega (arith, kept.0)) in
-    let before = c.requires.seen v tip was in
-    subst (λ (ns : List ℕ). weight_after c.args.weights.now c.args.dag.now c.put_firsts-low.new.bound.firsts tip.0 ≤ get_or ns v 0) (sym done.support) (omega arith)
+    same_seen c.args.weights.now c.args.dag.now c.recall_graph.ensures c.args.bound.now c.put_firsts-moves.new.bound c.put_firsts-moves.result.any tip.0 done.same known (omega (arith, kept.0))
+    ∙ c.requires.seen v tip was ∙ ap (λ (ns : List ℕ). get_or ns v 0) (sym done.support)

@@ -1,10 +1,10 @@
-use Rattle.std.proofs.Common.{◌≡◌, ◌<◌, inl, inr, ℕ, List, length, set, get_or, refl, sym, ap, subst, ◌∙◌, arith}
+use Rattle.std.proofs.Common.{◌≡◌, ◌<◌, ◌≤◌, ◌⊎◌, inl, inr, ℕ, List, length, set, get_or, refl, sym, ap, subst, ◌∙◌, arith}
 use Rattle.std.proofs.Math.ListN.{length-set}
 use Rattle.std.proofs.lemmas.Bool.{cases_eq, cases_lt}
 use Rattle.hw_dag.specs.declared.numbers.View.TheVariants as view
 use Rattle.hw_dag.specs.Dag.{view_at}
 use Rattle.hw_horizon.specs.Bounds.{LevelBound, first_of, counts_over, IsFirstOf}
-use Rattle.hw_horizon.proofs.FollowLaws.{put_other, put_same, lowered_more}
+use Rattle.hw_horizon.proofs.FollowLaws.{put_other, put_same, lowered_more, same_more}
 use Rattle.hw_horizon.proofs.follow.put_firsts.Goals as goal
 
 pub loop-v-init : goal.loop-v-init
@@ -14,6 +14,7 @@ loop-v-init c = record {
   rest = λ w le. refl;
   firsts = λ w tip lt e. c.requires.outside w tip (inl lt) e;
   lowered = λ w. inl (omega arith);
+  same = λ w. inl refl;
 }
 
 pub loop-v-preserved : goal.loop-v-preserved
@@ -40,8 +41,11 @@ loop-v-preserved c =
             subst (λ (n : ℕ). IsFirstOf c.args.dag.now tip.0 (counts_over c.args.weights.now c.args.dag.now c.args.block.0 c.args.least c.args.is_votes c.args.lower.now.firsts) n)
             (sym (put_other c.loop-v.bound.firsts c.set_first.new.self.firsts c.loop-v.v w c.next_first-first.result put other)) (i.firsts w tip (omega arith) e)
       ];
-      lowered = lowered_more c.args.bound.now c.loop-v.bound c.set_first.new.self c.loop-v.v c.next_first-first.result c.loop-v.lowest c.lowest_of-lowest.result i.lowered (i.rest c.loop-v.v (omega arith)) put inside
-          c.lowest_of-lowest.ensures.most (λ lt. c.lowest_of-lowest.ensures.lowered (omega arith));
+      lowered = lowered_more c.args.bound.now c.loop-v.bound c.set_first.new.self c.loop-v.v c.next_first-first.result c.loop-v.moves.down c.moved-moves.result.down i.lowered (i.rest c.loop-v.v (omega arith)) put inside
+          c.moved-moves.ensures.down (λ lt. c.moved-moves.ensures.lowered (omega arith));
+      same = same_more c.args.bound.now c.loop-v.bound c.set_first.new.self c.loop-v.v c.next_first-first.result c.loop-v.moves.any c.moved-moves.result.any i.same (i.rest c.loop-v.v (omega arith)) put inside
+          c.moved-moves.ensures.any
+          (subst (λ (k : ℕ). (k ≡ c.next_first-first.result) ⊎ ((c.moved-moves.result.any ≤ k) × (c.moved-moves.result.any ≤ c.next_first-first.result))) before c.moved-moves.ensures.same);
     }
 
 pub returns-clause-firsts : goal.returns-clause-firsts

@@ -2,7 +2,7 @@ use Rattle.std.proofs.Common.{◌≡◌, ℕ, ◌<◌, ◌≤◌, length}
 use Rattle.hw_dag.specs.Dag.{view_at}
 use Rattle.hw_dag.specs.declared.numbers.UnitNo.{UnitNo}
 use Rattle.hw_dag.specs.declared.numbers.View.TheVariants as view
-use Rattle.hw_horizon.specs.Bounds.{first_of, counts_over, IsFirstOf, AreLowered}
+use Rattle.hw_horizon.specs.Bounds.{first_of, counts_over, IsFirstOf, AreLowered, AreSameBelow}
 use Rattle.hw_horizon.proofs.follow.put_firsts.Given as goal
 
 abbrev pub invariant-loop-v : goal.invariant-loop-v
@@ -11,5 +11,6 @@ invariant-loop-v l = record {
   support : l.bound.support ≡ l.fn.bound.support;
   rest : (v : ℕ) → l.v ≤ v → first_of l.bound v ≡ first_of l.fn.bound v;
   firsts : (v : ℕ) (tip : UnitNo) → v < l.v → view_at l.panorama v ≡ view.Correct tip → IsFirstOf l.dag tip.0 (counts_over l.weights l.dag l.fn.block.0 l.fn.least l.fn.is_votes l.lower.firsts) (first_of l.bound v);
-  lowered : AreLowered l.fn.bound l.bound l.lowest;
+  lowered : AreLowered l.fn.bound l.bound l.moves.down;
+  same : AreSameBelow l.fn.bound l.bound l.moves.any;
 }

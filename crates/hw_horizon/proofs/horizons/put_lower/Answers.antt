@@ -6,8 +6,8 @@ use Rattle.hw_horizon.proofs.SightLaws.{vote_start_is, slots_first}
 use Rattle.hw_horizon.proofs.RoundLaws.{first_table, level_table, after_slots, after_length}
 use Rattle.hw_horizon.proofs.horizons.put_lower.Goals as goal
 
-pub loop-init : goal.loop-init
-loop-init c =
+pub loop-below-init : goal.loop-below-init
+loop-below-init c =
     let first = c.put_vote_starts.ensures in
     let width = c.requires.weights.length_is in
     let scratch = c.requires.scratch in
@@ -20,18 +20,18 @@ loop-init c =
 
 pub copy_from-requires : goal.copy_from-requires
 copy_from-requires c =
-    c.loop.invariant.scratch.lower
-    ∙ sym (ap length c.prune.ensures.present ∙ after_length c.args.weights.now (graph c.args.dag.now) (observations c.args.dag.now c.args.panorama.now) c.args.quorum (length c.args.weights.now) c.loop.scratch.lower ∙ c.requires.weights.length_is)
+    c.loop-below.invariant.scratch.lower
+    ∙ sym (ap length c.prune.ensures.present ∙ after_length c.args.weights.now (graph c.args.dag.now) (observations c.args.dag.now c.args.panorama.now) c.args.quorum (length c.args.weights.now) c.loop-below.scratch.lower ∙ c.requires.weights.length_is)
 
-pub loop-preserved : goal.loop-preserved
-loop-preserved c =
-    let i = c.loop.invariant in
+pub loop-below-preserved : goal.loop-below-preserved
+loop-below-preserved c =
+    let i = c.loop-below.invariant in
     let long : length c.prune.new.present ≡ c.args.dag.now.validators = ap length c.prune.ensures.present
-    ∙ after_length c.args.weights.now (graph c.args.dag.now) (observations c.args.dag.now c.args.panorama.now) c.args.quorum (length c.args.weights.now) c.loop.scratch.lower ∙ c.requires.weights.length_is in
+    ∙ after_length c.args.weights.now (graph c.args.dag.now) (observations c.args.dag.now c.args.panorama.now) c.args.quorum (length c.args.weights.now) c.loop-below.scratch.lower ∙ c.requires.weights.length_is in
     record {
-      lower = level_table c.args.weights.now (graph c.args.dag.now) (observations c.args.dag.now c.args.panorama.now) c.args.quorum (node_at c.args.dag.now c.args.block.0) c.loop.counter (c.loop.counter + 1) c.loop.scratch.lower c.copy_from.new.self
+      lower = level_table c.args.weights.now (graph c.args.dag.now) (observations c.args.dag.now c.args.panorama.now) c.args.quorum (node_at c.args.dag.now c.args.block.0) c.loop-below.below (c.loop-below.below + 1) c.loop-below.scratch.lower c.copy_from.new.self
           i.lower (c.copy_from.ensures ∙ c.prune.ensures.present) refl;
       slots = subst (λ (t : Starts). HasSlots c.args.panorama.now t) (sym (c.copy_from.ensures ∙ c.prune.ensures.present))
-          (after_slots c.args.weights.now (graph c.args.dag.now) (observations c.args.dag.now c.args.panorama.now) c.args.quorum c.args.panorama.now _ c.loop.scratch.lower i.slots);
+          (after_slots c.args.weights.now (graph c.args.dag.now) (observations c.args.dag.now c.args.panorama.now) c.args.quorum c.args.panorama.now _ c.loop-below.scratch.lower i.slots);
       scratch = record { lower = ap length c.copy_from.ensures ∙ long; present = long; next = c.prune.ensures.next_length; firsts = c.prune.ensures.firsts_length };
     }

@@ -3,6 +3,7 @@ use Rattle.std.specs.Prelude.{is_some, not}
 use Rattle.hw_horizon.specs.Tables.{is_member}
 use Rattle.hw_horizon.proofs.RoundLaws.{put_same}
 use Rattle.hw_horizon.proofs.StrikeLaws.{other_entry, fallen_firsts}
+use Rattle.hw_horizon.proofs.SeenLaws.{one_fell}
 use Rattle.hw_horizon.proofs.WeightLaws.{one_fewer}
 use Rattle.hw_horizon.proofs.rounds.let_fall.Goals as goal
 
@@ -24,3 +25,10 @@ returns-clause-weight c =
     let less = one_fewer c.args.weights.now (is_member c.args.present.now) (is_member c.set.new.self) c.args.validator was now
     (λ v other. ap is_some (sym (other_entry c.args.present.now c.set.new.self c.args.validator v _ c.set.ensures other))) (omega arith) in
     omega arith
+
+pub returns-clause-near : goal.returns-clause-near
+returns-clause-near c = λ n ln.
+    let lf = c.requires.firsts_length in
+    let lw = c.requires.weights.length_is in
+    let lt = c.requires.within in
+    one_fell c.args.weights.now c.args.dag.now c.requires.graph c.args.firsts.now c.set-2.new.self c.args.validator c.set-2.ensures (omega arith) (omega arith) n ln

@@ -1,8 +1,9 @@
-use Rattle.std.proofs.Common.{◌≡◌, length}
+use Rattle.std.proofs.Common.{◌≡◌, ◌≤◌, ◌-◌, length}
+use Rattle.std.specs.Prelude.{IfSome}
 use Rattle.hw_types.specs.Votes.{weight_of}
 use Rattle.hw_dag.specs.Dag.{graph, observations}
 use Rattle.hw_horizon.specs.Tables.{is_member, AreAmong, table_after}
-use Rattle.hw_horizon.specs.Firsts.{AreFirsts}
+use Rattle.hw_horizon.specs.Firsts.{AreFirsts, AreSeen}
 use Rattle.hw_horizon.proofs.rounds.put_members.Given as goal
 
 abbrev pub invariant-loop : goal.invariant-loop
@@ -11,6 +12,8 @@ invariant-loop l = record {
   firsts_length : length l.firsts ≡ l.dag.validators;
   firsts : AreFirsts l.dag l.panorama l.lower l.present l.firsts;
   weight : l.weight ≡ weight_of l.weights (is_member l.present);
+  total : l.weight ≤ l.total;
+  seen : IfSome l.seen (λ s. AreSeen l.weights l.dag l.panorama l.firsts s.now (l.total - l.weight));
   down : AreAmong l.present (table_after l.counter l.weights (graph l.dag) (observations l.dag l.panorama) l.quorum l.lower);
   up : AreAmong (table_after (length l.weights) l.weights (graph l.dag) (observations l.dag l.panorama) l.quorum l.lower) l.present;
 }

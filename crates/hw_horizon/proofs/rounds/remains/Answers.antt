@@ -1,16 +1,24 @@
-use Rattle.std.proofs.Common.{◌≡◌, ℕ, Bool, true, cond, Option, Some, None, refl, sym, ap, ◌∙◌}
+use Rattle.std.proofs.Common.{◌≡◌, ℕ, Bool, true, cond, Option, Some, None, get_or, refl, sym, ap, ◌∙◌}
 use Rattle.std.specs.Prelude.{is_some, not, nat_le, ◌&&◌, unwrap_or}
+use Rattle.std.proofs.lemmas.Option.{IfSome_then}
 use Rattle.hw_summit.specs.Pruned.{or_zero}
 use Rattle.hw_dag.specs.declared.numbers.View.TheVariants as view
 use Rattle.hw_dag.specs.Dag.{graph, observations, view_at, unit_at, seq_of}
 use Rattle.hw_horizon.specs.Tables.{entry, start_over}
-use Rattle.hw_horizon.specs.Firsts.{has_quorum}
+use Rattle.hw_horizon.specs.Firsts.{has_quorum, IsNear}
 use Rattle.hw_horizon.proofs.FirstLaws.{tip_decides_after}
+use Rattle.hw_horizon.proofs.SeenLaws.{seen_one}
 use Rattle.hw_horizon.proofs.rounds.remains.Goals as goal
 
 zero_where_none : (o : Option ℕ) → unwrap_or o 0 ≡ or_zero o
 zero_where_none None = refl
 zero_where_none (Some n) = refl
+
+pub has_start-requires-clause-near : goal.has_start-requires-clause-near
+has_start-requires-clause-near c =
+    let slot : view_at c.args.panorama.now c.args.validator ≡ view.Correct c.in-Correct.tip = sym c.get-2.ensures ∙ c.in-Correct.is in
+    seen_one c.args.seen (λ s. get_or s.now c.args.validator 0) (λ k. IsNear c.args.weights.now c.args.dag.now c.args.firsts.now c.in-Correct.tip.0 k c.args.fallen) c.seen_by-saw.result c.seen_by-saw.ensures
+    (IfSome_then c.args.seen c.requires.seen (λ s are. are.each c.args.validator c.in-Correct.tip slot))
 
 pub returns-in-Correct : goal.returns-in-Correct
 returns-in-Correct c =

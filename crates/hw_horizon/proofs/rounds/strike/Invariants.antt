@@ -1,10 +1,10 @@
-use Rattle.std.proofs.Common.{◌≡◌, ℕ, ◌<◌, ◌≤◌, true, length}
-use Rattle.std.specs.Prelude.{is_some}
+use Rattle.std.proofs.Common.{◌≡◌, ℕ, ◌<◌, ◌≤◌, ◌-◌, true, length}
+use Rattle.std.specs.Prelude.{is_some, IfSome}
 use Rattle.hw_types.specs.Votes.{weight_of}
 use Rattle.hw_dag.specs.Dag.{graph, observations}
 use Rattle.hw_horizon.specs.Tables.{Starts, entry, is_member, start_over, next_table, AreAmong}
 use Rattle.hw_horizon.specs.Starts.{HasSlots}
-use Rattle.hw_horizon.specs.Firsts.{AreFirsts}
+use Rattle.hw_horizon.specs.Firsts.{AreFirsts, AreSeen}
 use Rattle.hw_horizon.proofs.rounds.strike.Given as goal
 
 abbrev pub invariant-loop-v : goal.invariant-loop-v
@@ -19,4 +19,5 @@ invariant-loop-v l = record {
   keeps : (kept : Starts) → AreAmong kept (next_table l.weights (graph l.dag) (observations l.dag l.panorama) l.quorum l.lower kept) → AreAmong kept l.fn.present → AreAmong kept l.present;
   judged : (v : ℕ) → v < l.v → is_some (entry l.present v) ≡ true → is_some (start_over l.weights (graph l.dag) (observations l.dag l.panorama) l.quorum l.lower l.fn.present v) ≡ true;
   settled : l.left ≡ l.fn.weight → AreAmong l.fn.present l.present;
+  seen : IfSome l.seen (λ s. AreSeen l.weights l.dag l.panorama l.firsts s.now (l.fn.total - l.left));
 }

@@ -5,7 +5,9 @@ use Rattle.hw_horizon.specs.Kept.{AreKept}
 use Rattle.hw_horizon.specs.Search.{Search}
 use Rattle.hw_dag.specs.Dag.{graph, observations, node_at}
 use Rattle.hw_horizon.specs.Tables.{pruned_table}
+use Rattle.hw_horizon.specs.Bounds.{AreExact}
 use Rattle.hw_horizon.proofs.KeptLaws.{left_where_summit}
+use Rattle.hw_horizon.proofs.SeenLaws.{exact_levels}
 use Rattle.hw_horizon.proofs.horizons.Horizons.has_summit.Goals as goal
 
 pub returns-clause-exact : goal.returns-clause-exact
@@ -18,3 +20,8 @@ returns-clause-exact c =
 
 pub has_member-requires-clause-walks : goal.has_member-requires-clause-walks
 has_member-requires-clause-walks c = subst (λ (s : Search). AreKept c.args.dag.now s.walks) (sym c.self.view_is) c.requires.walks
+
+pub has_member-requires-clause-exact : goal.has_member-requires-clause-exact
+has_member-requires-clause-exact c =
+    subst (λ (ws : List ℕ). AreExact ws c.args.dag.now c.args.panorama.now c.args.bounds.now) (sym c.as_slice.ensures)
+    (exact_levels c.args.weights.now c.args.dag.now c.args.panorama.now c.args.bounds.now c.args.block c.requires.wide c.requires.bounds c.requires.tips c.requires.asked)
