@@ -19,7 +19,7 @@ ghost use Rattle.hw_replay.specs.Ends.{lasts_of_file, lasts_ahead, LeadsLasts, I
 
 use crate::fault::{StartFault, fault_of};
 use hw_codec::{encode_config, encode_unit};
-use hw_core::{Core, Refused};
+use hw_core::{Core, Refused, UnitRefused};
 use hw_io::Files;
 use hw_log::{Lasts, LogReader, NamedEntry};
 use hw_types::{Bytes, Cause, Config, Digest, OutOfMemory, Receipt, SignedUnit, Vertex};
@@ -209,7 +209,13 @@ fn deliver_named(core: &mut Core, vertex: Box<Vertex>, name: Digest) -> Result<R
     ensures unchanged { OnErr result (core.new ≡ core.old) }
 {
     match Box::into_inner(vertex) {
-        Vertex::Unit(unit) => core.deliver_named(unit, name),
+        Vertex::Unit(unit) => match core.deliver_named(unit, name) {
+            Ok(receipt) => Ok(receipt),
+            Err(UnitRefused { cause, unit }) => Err(Refused {
+                cause,
+                vertex: Vertex::Unit(unit),
+            }),
+        },
         other => core.deliver(other, true),
     }
 }
