@@ -82,6 +82,11 @@ impl Lasts {
         self.version
     }
 
+    /// Where it takes its memory.
+    pub(crate) fn allocator(&self) -> Global {
+        self.alloc
+    }
+
     /// What this vertex changes, whose units keep the limits of their format. It takes the memory
     /// that is needed to note it.
     pub fn prepare(&self, vertex: &Vertex) -> Result<Noted, OutOfMemory>

@@ -1,6 +1,6 @@
 //! The reader of a log.
 
-ghost use Rattle.std.specs.Prelude.{◌≡◌, ℕ, ◌+◌, ◌≤◌, ◌<◌, ◌^◌, ◌==◌, Some, None, ◌++◌, length, take, drop, IsTrue, IfOk, IfErr, IfSome, OnOk, OnErr};
+ghost use Rattle.std.specs.Prelude.{◌≡◌, ℕ, ◌+◌, ◌≤◌, ◌<◌, ◌^◌, ◌==◌, Some, None, ◌++◌, length, take, drop, IsTrue, IfOk, IfErr, IfSome, OnOk, OnErr, box_value};
 ghost use Rattle.hw_io.specs.Files.{SameFiles, Begins};
 ghost use Rattle.hw_types.specs.Limits.{config_fault};
 ghost use Rattle.hw_types.specs.Reading.{config_of};
@@ -9,7 +9,7 @@ ghost use Rattle.hw_log.specs.declared.error.LogError.TheVariants.{Torn, BadConf
 ghost use Rattle.hw_log.specs.Lasts.{IsVersion, lasts_after, vertex_in};
 ghost use Rattle.hw_log.specs.Log.{rest_at, bytes_at, decoded, front_of, checked_config, header_of, head_at, body_at, entry_at, next_at};
 ghost use Rattle.hw_log.specs.Causes.{Fails, IsOutside, IsOfBytes, Gives, HasReadCause, IsReadAbout};
-ghost use Rattle.hw_log.specs.Named.{IsNameOf, entry_in};
+ghost use Rattle.hw_log.specs.Named.{IsNameOf, entry_in, unnamed};
 ghost use Rattle.hw_log.specs.Reader.{Reading, lasts_with, left_of, ahead_of, end_of, PlacesFit, Opens};
 
 use crate::entry::{LogEntry, NamedEntry};
@@ -42,10 +42,11 @@ impl Model for LogReader {
     ghost view = { λ r. record { config = r.config; lasts = r.lasts; place = r.place; held = r.buffer } };
 }
 
-/// A vertex that was read, and its name where it is a unit, the name is wanted and the bytes hold the whole unit.
+/// A vertex that was read, and its name where it is a unit, the name is wanted and the bytes hold the whole unit. It
+/// stands in a box from here on.
 #[derive(Drop)]
 struct ReadVertex {
-    vertex: Vertex,
+    vertex: Box<Vertex>,
     name: Option<Digest>,
 }
 
@@ -130,8 +131,17 @@ impl LogReader {
         if self.is_at_end(files)? {
             Ok(None)
         } else {
-            let NamedEntry { entry, name: _name } = self.entry(files, false)?;
-            Ok(Some(entry))
+            let NamedEntry {
+                at,
+                verdict,
+                vertex,
+                name: _name,
+            } = self.entry(files, false)?;
+            Ok(Some(LogEntry {
+                at,
+                verdict,
+                vertex: Box::into_inner(vertex),
+            }))
         }
     }
 
@@ -144,8 +154,8 @@ impl LogReader {
         ensures said { IsTrue F.tells →
             Gives (λ named. (entry_in named, left_of self.new (F.unread files.new))) result
             (next_at (left_of self.old (F.unread files.old))) }
-        ensures entry { IfOk result (λ named. IfSome named (λ n. (n.entry.at ≡ self.old.place) × VertexFits n.entry.vertex)) }
-        ensures name { IfOk result (λ named. IfSome named (λ n. IfSome n.name (IsNameOf n.entry.vertex))) }
+        ensures entry { IfOk result (λ named. IfSome named (λ n. (n.at ≡ self.old.place) × VertexFits (box_value n.vertex))) }
+        ensures name { IfOk result (λ named. IfSome named (λ n. IfSome n.name (IsNameOf (box_value n.vertex)))) }
         ensures lasts { IfOk result (λ named. self.new.lasts ≡ lasts_with self.old.lasts (entry_in named)) }
         ensures config { self.new.config ≡ self.old.config }
         ensures places { PlacesFit self.new (F.allowance files.new) }
@@ -192,10 +202,10 @@ impl LogReader {
     #[tactic(auto, unfolding(crate::specs::Log::entry_at))]
     fn entry<F: Files>(&mut self, files: &mut F, named: bool) -> Result<NamedEntry, LogError>
         requires { PlacesFit self.old (F.allowance files.old) }
-        ensures said { IsTrue F.tells → Gives (λ read. (read.entry, left_of self.new (F.unread files.new))) result (entry_at (left_of self.old (F.unread files.old))) }
-        ensures entry { IfOk result (λ read. (read.entry.at ≡ self.old.place) × VertexFits read.entry.vertex) }
-        ensures name { IfOk result (λ read. IfSome read.name (IsNameOf read.entry.vertex)) }
-        ensures lasts { IfOk result (λ read. self.new.lasts ≡ lasts_after self.old.lasts read.entry.vertex) }
+        ensures said { IsTrue F.tells → Gives (λ read. (unnamed read, left_of self.new (F.unread files.new))) result (entry_at (left_of self.old (F.unread files.old))) }
+        ensures entry { IfOk result (λ read. (read.at ≡ self.old.place) × VertexFits (box_value read.vertex)) }
+        ensures name { IfOk result (λ read. IfSome read.name (IsNameOf (box_value read.vertex))) }
+        ensures lasts { IfOk result (λ read. self.new.lasts ≡ lasts_after self.old.lasts (box_value read.vertex)) }
         ensures place { OnOk result (self.old.place < self.new.place) }
         ensures config { self.new.config ≡ self.old.config }
         ensures end { end_of self.new (F.allowance files.new) ≡ end_of self.old (F.allowance files.old) }
@@ -211,12 +221,12 @@ impl LogReader {
         let read = self.body(files, at, head.length, named && head.verdict)?;
         self.keep(&read.vertex)?;
         let ReadVertex { vertex, name } = read;
-        let entry = LogEntry {
+        Ok(NamedEntry {
             at,
             verdict: head.verdict,
             vertex,
-        };
-        Ok(NamedEntry { entry, name })
+            name,
+        })
     }
 
     /// The head of the entry that begins at the reader's place.
@@ -256,9 +266,9 @@ impl LogReader {
     ) -> Result<ReadVertex, LogError>
         requires limit { length ≤ MAX_LENGTH }
         requires places { PlacesFit self.old (F.allowance files.old) }
-        ensures said { IsTrue F.tells → Gives (λ read. (read.vertex, (left_of self.new (F.unread files.new)).rest)) result (body_at self.old.lasts at length (left_of self.old (F.unread files.old)).rest) }
-        ensures fits { IfOk result (λ read. VertexFits read.vertex) }
-        ensures name { IfOk result (λ read. IfSome read.name (IsNameOf read.vertex)) }
+        ensures said { IsTrue F.tells → Gives (λ read. (box_value read.vertex, (left_of self.new (F.unread files.new)).rest)) result (body_at self.old.lasts at length (left_of self.old (F.unread files.old)).rest) }
+        ensures fits { IfOk result (λ read. VertexFits (box_value read.vertex)) }
+        ensures name { IfOk result (λ read. IfSome read.name (IsNameOf (box_value read.vertex))) }
         ensures lasts { self.new.lasts ≡ self.old.lasts }
         ensures place { OnOk result (self.old.place ≤ self.new.place) }
         ensures config { self.new.config ≡ self.old.config }
@@ -418,10 +428,10 @@ fn decoded_config(alloc: Global, bytes: &[u8]) -> Result<Config, LogError>
 /// The vertex that these bytes spell, in the entry at this place, behind these last units, with its unit's name if it
 /// is wanted.
 fn decoded_vertex(lasts: &Lasts, at: u64, bytes: &[u8], named: bool) -> Result<ReadVertex, LogError>
-    ensures said { Gives (λ read. read.vertex) result (decoded (BadVertex at) (vertex_in lasts.now bytes.now)) }
+    ensures said { Gives (λ read. box_value read.vertex) result (decoded (BadVertex at) (vertex_in lasts.now bytes.now)) }
     ensures error { IfErr result IsOfBytes }
-    ensures fits { IfOk result (λ read. VertexFits read.vertex) }
-    ensures name { IfOk result (λ read. IfSome read.name (IsNameOf read.vertex)) }
+    ensures fits { IfOk result (λ read. VertexFits (box_value read.vertex)) }
+    ensures name { IfOk result (λ read. IfSome read.name (IsNameOf (box_value read.vertex))) }
 {
     match lasts.decode(bytes) {
         Ok(vertex) => {
@@ -430,7 +440,10 @@ fn decoded_vertex(lasts: &Lasts, at: u64, bytes: &[u8], named: bool) -> Result<R
             } else {
                 None
             };
-            Ok(ReadVertex { vertex, name })
+            match Box::new(lasts.allocator(), vertex) {
+                Ok(vertex) => Ok(ReadVertex { vertex, name }),
+                Err(_) => Err(LogError::OutOfMemory),
+            }
         }
         Err(CodecError::OutOfMemory) => Err(LogError::OutOfMemory),
         Err(error) => Err(LogError::BadVertex(at, error)),

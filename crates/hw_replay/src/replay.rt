@@ -1,13 +1,13 @@
 //! A replay, entry by entry.
 
-ghost use Rattle.std.specs.Prelude.{◌≡◌, ◌≢◌, ◌+◌, ◌<◌, ◌≤◌, ◌^◌, ◌⊎◌, true, false, [], Ok, Some, None, IsTrue, IfOk, IfErr, IfSome, OnOk, OnErr};
+ghost use Rattle.std.specs.Prelude.{◌≡◌, ◌≢◌, ◌+◌, ◌<◌, ◌≤◌, ◌^◌, ◌⊎◌, true, false, [], Ok, Some, None, IsTrue, IfOk, IfErr, IfSome, OnOk, OnErr, box_value};
 ghost use Rattle.std.specs.Option.{option_copied};
 ghost use Rattle.hw_io.specs.Files.{SameFiles};
 ghost use Rattle.hw_types.specs.Limits.{config_fault};
 ghost use Rattle.hw_types.specs.Spelling.{Fits, VertexFits, ConfigFits};
 ghost use Rattle.hw_types.specs.Real.{answer_in, after_in};
 ghost use Rattle.hw_core.specs.Deliver.{IsRefusal};
-ghost use Rattle.hw_log.specs.Named.{IsNameOf};
+ghost use Rattle.hw_log.specs.Named.{IsNameOf, unnamed};
 ghost use Rattle.hw_log.specs.Reader.{ahead_of, PlacesFit};
 ghost use Rattle.hw_types.specs.declared.answers.Cause.TheVariants as Causes;
 ghost use Rattle.hw_replay.specs.declared.fault.StartFault.TheVariants as Faults;
@@ -125,24 +125,29 @@ impl Replay {
     /// Delivers an entry, and counts it where it is refused or came again.
     #[tactic(auto, using(crate::proofs::TakeLaws::grows_accepted, crate::proofs::TakeLaws::stop_is_of_entry, crate::proofs::EndLaws::reached_after))]
     fn take(&mut self, named: NamedEntry) -> Result<(), StartFault>
-        requires fits { VertexFits named.entry.vertex }
-        requires name { IfSome named.name (IsNameOf named.entry.vertex) }
+        requires fits { VertexFits (box_value named.vertex) }
+        requires name { IfSome named.name (IsNameOf (box_value named.vertex)) }
         requires room { self.old.refused + self.old.repeats < 2 ^ 62 }
-        ensures taken { OnOk result (entry_taken (taken_in self.old) named.entry ≡ Ok (taken_in self.new)) }
-        ensures stopped { IfErr result (λ e. IsStop e (entry_taken (taken_in self.old) named.entry)) }
+        ensures taken { OnOk result (entry_taken (taken_in self.old) (unnamed named) ≡ Ok (taken_in self.new)) }
+        ensures stopped { IfErr result (λ e. IsStop e (entry_taken (taken_in self.old) (unnamed named))) }
         ensures fault { IfErr result IsOfEntry }
         ensures grows { GrowsByOne self.old.core self.new.core }
         ensures reached { IsReached self.old.core → IsReached self.new.core }
         ensures counts { self.new.refused + self.new.repeats ≤ self.old.refused + self.old.repeats + 1 }
         ensures reader { self.new.reader ≡ self.old.reader }
     {
-        let NamedEntry { entry, name } = named;
-        match deliver(&mut self.core, entry.vertex, entry.verdict, name) {
+        let NamedEntry {
+            at,
+            verdict,
+            vertex,
+            name,
+        } = named;
+        match deliver(&mut self.core, vertex, verdict, name) {
             Ok(receipt) => {
                 self.count(receipt);
                 Ok(())
             }
-            Err(refused) => self.refuse(entry.at, refused),
+            Err(refused) => self.refuse(at, refused),
         }
     }
 
@@ -175,35 +180,35 @@ impl Replay {
 /// hashed again.
 fn deliver(
     core: &mut Core,
-    vertex: Vertex,
+    vertex: Box<Vertex>,
     verdict: bool,
     name: Option<Digest>,
 ) -> Result<Receipt, Refused>
-    requires fits { VertexFits vertex }
-    requires name { IfSome name (IsNameOf vertex) }
-    ensures accepted { IfOk result (λ receipt. answer_in core.old vertex verdict ≡ Ok receipt) }
-    ensures refused { IfErr result (λ r. IsRefusal r.cause (answer_in core.old vertex verdict)) }
-    ensures returned { IfErr result (λ r. r.vertex ≡ vertex) }
-    ensures journal { OnOk result (core.new ≡ after_in core.old vertex verdict) }
+    requires fits { VertexFits (box_value vertex) }
+    requires name { IfSome name (IsNameOf (box_value vertex)) }
+    ensures accepted { IfOk result (λ receipt. answer_in core.old (box_value vertex) verdict ≡ Ok receipt) }
+    ensures refused { IfErr result (λ r. IsRefusal r.cause (answer_in core.old (box_value vertex) verdict)) }
+    ensures returned { IfErr result (λ r. r.vertex ≡ box_value vertex) }
+    ensures journal { OnOk result (core.new ≡ after_in core.old (box_value vertex) verdict) }
     ensures unchanged { OnErr result (core.new ≡ core.old) }
 {
     match name {
         Some(name) if verdict => deliver_named(core, vertex, name),
-        Some(_) | None => core.deliver(vertex, verdict),
+        Some(_) | None => core.deliver(Box::into_inner(vertex), verdict),
     }
 }
 
 /// Delivers a unit of this name, whose signature is right.
-fn deliver_named(core: &mut Core, vertex: Vertex, name: Digest) -> Result<Receipt, Refused>
-    requires fits { VertexFits vertex }
-    requires name { IsNameOf vertex name }
-    ensures accepted { IfOk result (λ receipt. answer_in core.old vertex true ≡ Ok receipt) }
-    ensures refused { IfErr result (λ r. IsRefusal r.cause (answer_in core.old vertex true)) }
-    ensures returned { IfErr result (λ r. r.vertex ≡ vertex) }
-    ensures journal { OnOk result (core.new ≡ after_in core.old vertex true) }
+fn deliver_named(core: &mut Core, vertex: Box<Vertex>, name: Digest) -> Result<Receipt, Refused>
+    requires fits { VertexFits (box_value vertex) }
+    requires name { IsNameOf (box_value vertex) name }
+    ensures accepted { IfOk result (λ receipt. answer_in core.old (box_value vertex) true ≡ Ok receipt) }
+    ensures refused { IfErr result (λ r. IsRefusal r.cause (answer_in core.old (box_value vertex) true)) }
+    ensures returned { IfErr result (λ r. r.vertex ≡ box_value vertex) }
+    ensures journal { OnOk result (core.new ≡ after_in core.old (box_value vertex) true) }
     ensures unchanged { OnErr result (core.new ≡ core.old) }
 {
-    match vertex {
+    match Box::into_inner(vertex) {
         Vertex::Unit(unit) => core.deliver_named(unit, name),
         other => core.deliver(other, true),
     }

@@ -1,17 +1,18 @@
 use Rattle.std.proofs.Common.{ap}
+use Rattle.hw_log.specs.Named.{unnamed}
 use Rattle.hw_replay.specs.declared.replay.Replay.{Replay}
 use Rattle.hw_replay.specs.Replay.{taken_in}
 use Rattle.hw_replay.proofs.TakeLaws.{taken_answered, took_refused, stopped_by}
 use Rattle.hw_replay.proofs.replay.Replay.take.Goals as goal
 
 pub returns-in-Ok-clause-taken : goal.returns-in-Ok-clause-taken
-returns-in-Ok-clause-taken c = rw (c.count.ensures, c.in-Ok.ensures.journal) (taken_answered (taken_in c.args.self.now) c.args.named.entry c.in-Ok.receipt c.in-Ok.ensures.accepted)
+returns-in-Ok-clause-taken c = rw (c.count.ensures, c.in-Ok.ensures.journal) (taken_answered (taken_in c.args.self.now) (unnamed c.args.named) c.in-Ok.receipt c.in-Ok.ensures.accepted)
 
 pub returns-in-Err-clause-taken : goal.returns-in-Err-clause-taken
 returns-in-Err-clause-taken c =
     let old = c.args.self.now in
     let after : Replay = record { alloc = old.alloc; reader = old.reader; core = c.deliver.new.core; refused = old.refused; repeats = old.repeats } in
-    took_refused c.refuse.result after c.refuse.new.self (taken_in old) c.args.named.entry c.in-Err.refused.cause c.in-Err.refused.vertex
+    took_refused c.refuse.result after c.refuse.new.self (taken_in old) (unnamed c.args.named) c.in-Err.refused.cause c.in-Err.refused.vertex
     (ap (λ core. record { core = core; refused = old.refused; repeats = old.repeats }) c.in-Err.ensures.unchanged) c.in-Err.ensures.returned c.in-Err.ensures.refused
     c.refuse.ensures.counted c.refuse.ensures.goes_on
 
@@ -19,6 +20,6 @@ pub returns-in-Err-clause-stopped : goal.returns-in-Err-clause-stopped
 returns-in-Err-clause-stopped c =
     let old = c.args.self.now in
     let after : Replay = record { alloc = old.alloc; reader = old.reader; core = c.deliver.new.core; refused = old.refused; repeats = old.repeats } in
-    stopped_by c.refuse.result after (taken_in old) c.args.named.entry c.in-Err.refused.cause c.in-Err.refused.vertex
+    stopped_by c.refuse.result after (taken_in old) (unnamed c.args.named) c.in-Err.refused.cause c.in-Err.refused.vertex
     (ap (λ core. record { core = core; refused = old.refused; repeats = old.repeats }) c.in-Err.ensures.unchanged) c.in-Err.ensures.returned c.in-Err.ensures.refused
     c.refuse.ensures.stops
