@@ -14,7 +14,7 @@ ghost use Rattle.hw_cluster.specs.Numbers.{word_in, totals_of};
 use crate::lanes::Lanes;
 use crate::made::{ROUND, make_round};
 use crate::named::NamedUnit;
-use crate::nodes::begin_all;
+use crate::nodes::begin;
 use crate::order::shuffle;
 use crate::simulated::ones;
 use crate::words::{Words, key_for};
@@ -49,7 +49,8 @@ pub struct GenSummary {
 /// that the next word names, modulo how many places there are up to it. Signatures are zero bytes, and are taken for
 /// right.
 ///
-/// Beside the node, no more is kept than one round's units and the names of the validators' last ones.
+/// Beside the node, no more is kept than one round's units and the names of the validators' last ones. The node's
+/// memory is left to the end of the process.
 pub fn generate(alloc: Global, number: u64, rounds: u32) -> Result<GenSummary, OutOfMemory>
     requires some { 1 ≤ rounds }
     requires few { rounds ≤ 4096 }
@@ -107,9 +108,12 @@ fn totals(
     ensures { IfOk result (λ n. let s = setting_of config.now in AreTotals s (journal_of_rounds s (word_in (key_of key)) rounds) (totals_of n)) }
 {
     let table = LeaderTable::new(alloc, config)?;
-    let mut nodes = begin_all(alloc, config, 1)?;
-    play(alloc, &mut nodes[0], &table, config, key, rounds)?;
-    Ok(summary(&nodes[0]))
+    let mut core = begin(alloc, config.copy()?)?;
+    play(alloc, &mut core, &table, config, key, rounds)?;
+    let ended = summary(&core);
+    // The program that asks for this ends after it, and so the node's memory is left to that end.
+    core.leave();
+    Ok(ended)
 }
 
 /// Gives the units of so many rounds to a node that received nothing. The words of the key put them into order.

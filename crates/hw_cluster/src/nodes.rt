@@ -116,7 +116,7 @@ impl Cluster {
 }
 
 /// A node that received nothing.
-fn begin(alloc: Global, config: Config) -> Result<Core, OutOfMemory>
+pub fn begin(alloc: Global, config: Config) -> Result<Core, OutOfMemory>
     requires { config_fault config ≡ None }
     ensures { IfOk result (λ core. core ≡ begun_core config) }
 {
