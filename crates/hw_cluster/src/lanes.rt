@@ -154,9 +154,9 @@ fn observed(last: Option<LastUnit>) -> Obs
 fn observations(alloc: Global, last: &[Option<LastUnit>]) -> Result<ObsList, OutOfMemory>
     ensures { IfOk result (λ list. list ≡ map observed last.now) }
 {
-    let mut list = ObsList::new(alloc);
+    let mut list = Vec::with_capacity(alloc, last.len())?;
     for last in last {
         list.push(observed(*last))?;
     }
-    Ok(list.shared()?)
+    Ok(ObsList::from_vec(list).shared()?)
 }
