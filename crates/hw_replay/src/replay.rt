@@ -4,12 +4,11 @@ ghost use Rattle.std.specs.Prelude.{◌≡◌, ◌≢◌, ◌+◌, ◌<◌, ◌�
 ghost use Rattle.std.specs.Option.{option_copied};
 ghost use Rattle.hw_io.specs.Files.{SameFiles};
 ghost use Rattle.hw_types.specs.Limits.{config_fault};
-ghost use Rattle.hw_types.specs.Spelling.{Fits, VertexFits, ConfigFits};
-ghost use Rattle.hw_types.specs.Real.{answer_in, after_in};
-ghost use Rattle.hw_core.specs.Deliver.{IsRefusal};
+ghost use Rattle.hw_types.specs.Spelling.{Fits, VertexFits, ConfigFits, digest_of};
 ghost use Rattle.hw_log.specs.Named.{IsNameOf, unnamed};
 ghost use Rattle.hw_log.specs.Reader.{ahead_of, PlacesFit};
 ghost use Rattle.hw_types.specs.declared.answers.Cause.TheVariants as Causes;
+ghost use Rattle.hw_types.specs.declared.unit.Vertex.TheVariants as Vertices;
 ghost use Rattle.hw_replay.specs.declared.fault.StartFault.TheVariants as Faults;
 ghost use Rattle.hw_replay.specs.Taken.{nothing_taken, entry_taken, spelling_of, stop_of, clash_with};
 ghost use Rattle.hw_replay.specs.Replay.{is_wanted, taken_in, ahead_in, Begins, Leads, TakesAll, GrowsByOne, Replays};
@@ -19,7 +18,7 @@ ghost use Rattle.hw_replay.specs.Ends.{lasts_of_file, lasts_ahead, LeadsLasts, I
 
 use crate::fault::{StartFault, fault_of};
 use hw_codec::{encode_config, encode_unit};
-use hw_core::{Core, Refused, UnitRefused};
+use hw_core::{Core, Refused};
 use hw_io::Files;
 use hw_log::{Lasts, LogReader, NamedEntry};
 use hw_types::{Bytes, Cause, Config, Digest, OutOfMemory, Receipt, SignedUnit, Vertex};
@@ -122,8 +121,8 @@ impl Replay {
         }
     }
 
-    /// Delivers an entry, and counts it where it is refused or came again.
-    #[tactic(auto, using(crate::proofs::TakeLaws::grows_accepted, crate::proofs::TakeLaws::stop_is_of_entry, crate::proofs::EndLaws::reached_after))]
+    /// Delivers an entry, and counts it where it is refused or came again. Where its verdict is right, a unit whose name is
+    /// known goes by that name, and isn't hashed again.
     fn take(&mut self, named: NamedEntry) -> Result<(), StartFault>
         requires fits { VertexFits (box_value named.vertex) }
         requires name { IfSome named.name (IsNameOf (box_value named.vertex)) }
@@ -142,7 +141,73 @@ impl Replay {
             vertex,
             name,
         } = named;
-        match deliver(&mut self.core, vertex, verdict, name) {
+        match name {
+            Some(name) if verdict => self.take_named(at, vertex, name),
+            Some(_) | None => self.take_any(at, Box::into_inner(vertex), verdict),
+        }
+    }
+
+    /// Takes the vertex of an entry at that byte, which is a unit of this name with a right verdict.
+    fn take_named(&mut self, at: u64, vertex: Box<Vertex>, name: Digest) -> Result<(), StartFault>
+        requires fits { VertexFits (box_value vertex) }
+        requires name { IsNameOf (box_value vertex) name }
+        requires room { self.old.refused + self.old.repeats < 2 ^ 62 }
+        ensures taken { OnOk result (entry_taken (taken_in self.old) (record { at = at; verdict = true; vertex = box_value vertex }) ≡ Ok (taken_in self.new)) }
+        ensures stopped { IfErr result (λ e. IsStop e (entry_taken (taken_in self.old) (record { at = at; verdict = true; vertex = box_value vertex }))) }
+        ensures fault { IfErr result IsOfEntry }
+        ensures grows { GrowsByOne self.old.core self.new.core }
+        ensures reached { IsReached self.old.core → IsReached self.new.core }
+        ensures counts { self.new.refused + self.new.repeats ≤ self.old.refused + self.old.repeats + 1 }
+        ensures reader { self.new.reader ≡ self.old.reader }
+    {
+        match Box::into_inner(vertex) {
+            Vertex::Unit(unit) => self.take_unit(at, unit, name),
+            other => self.take_any(at, other, true),
+        }
+    }
+
+    /// Takes the unit of an entry at that byte, whose verdict is right, by its name. Its answer is small; only a refused
+    /// unit is made a vertex again.
+    #[tactic(auto, using(crate::proofs::TakeLaws::grows_accepted, crate::proofs::TakeLaws::stop_is_of_entry, crate::proofs::EndLaws::reached_after))]
+    fn take_unit(&mut self, at: u64, unit: SignedUnit, name: Digest) -> Result<(), StartFault>
+        requires fits { Fits unit.unit }
+        requires name { name ≡ digest_of unit.unit }
+        requires room { self.old.refused + self.old.repeats < 2 ^ 62 }
+        ensures taken { OnOk result (entry_taken (taken_in self.old) (record { at = at; verdict = true; vertex = Vertices.Unit unit }) ≡ Ok (taken_in self.new)) }
+        ensures stopped { IfErr result (λ e. IsStop e (entry_taken (taken_in self.old) (record { at = at; verdict = true; vertex = Vertices.Unit unit }))) }
+        ensures fault { IfErr result IsOfEntry }
+        ensures grows { GrowsByOne self.old.core self.new.core }
+        ensures reached { IsReached self.old.core → IsReached self.new.core }
+        ensures counts { self.new.refused + self.new.repeats ≤ self.old.refused + self.old.repeats + 1 }
+        ensures reader { self.new.reader ≡ self.old.reader }
+    {
+        match self.core.deliver_named(unit, name) {
+            Ok(receipt) => {
+                self.count(receipt);
+                Ok(())
+            }
+            Err(refused) => {
+                let cause = refused.cause;
+                let vertex = Vertex::Unit(refused.unit);
+                self.refuse(at, Refused { cause, vertex })
+            }
+        }
+    }
+
+    /// Takes the vertex of an entry at that byte, with its verdict.
+    #[tactic(auto, using(crate::proofs::TakeLaws::grows_accepted, crate::proofs::TakeLaws::stop_is_of_entry, crate::proofs::EndLaws::reached_after))]
+    fn take_any(&mut self, at: u64, vertex: Vertex, verdict: bool) -> Result<(), StartFault>
+        requires fits { VertexFits vertex }
+        requires room { self.old.refused + self.old.repeats < 2 ^ 62 }
+        ensures taken { OnOk result (entry_taken (taken_in self.old) (record { at = at; verdict = verdict; vertex = vertex }) ≡ Ok (taken_in self.new)) }
+        ensures stopped { IfErr result (λ e. IsStop e (entry_taken (taken_in self.old) (record { at = at; verdict = verdict; vertex = vertex }))) }
+        ensures fault { IfErr result IsOfEntry }
+        ensures grows { GrowsByOne self.old.core self.new.core }
+        ensures reached { IsReached self.old.core → IsReached self.new.core }
+        ensures counts { self.new.refused + self.new.repeats ≤ self.old.refused + self.old.repeats + 1 }
+        ensures reader { self.new.reader ≡ self.old.reader }
+    {
+        match self.core.deliver(vertex, verdict) {
             Ok(receipt) => {
                 self.count(receipt);
                 Ok(())
@@ -173,50 +238,6 @@ impl Replay {
         stop(self.alloc, &self.core, at, refused.cause, &refused.vertex)?;
         self.refused += 1;
         Ok(())
-    }
-}
-
-/// Delivers a vertex with its verdict. Where the verdict is right, a unit whose name is known goes by that name, and isn't
-/// hashed again.
-fn deliver(
-    core: &mut Core,
-    vertex: Box<Vertex>,
-    verdict: bool,
-    name: Option<Digest>,
-) -> Result<Receipt, Refused>
-    requires fits { VertexFits (box_value vertex) }
-    requires name { IfSome name (IsNameOf (box_value vertex)) }
-    ensures accepted { IfOk result (λ receipt. answer_in core.old (box_value vertex) verdict ≡ Ok receipt) }
-    ensures refused { IfErr result (λ r. IsRefusal r.cause (answer_in core.old (box_value vertex) verdict)) }
-    ensures returned { IfErr result (λ r. r.vertex ≡ box_value vertex) }
-    ensures journal { OnOk result (core.new ≡ after_in core.old (box_value vertex) verdict) }
-    ensures unchanged { OnErr result (core.new ≡ core.old) }
-{
-    match name {
-        Some(name) if verdict => deliver_named(core, vertex, name),
-        Some(_) | None => core.deliver(Box::into_inner(vertex), verdict),
-    }
-}
-
-/// Delivers a unit of this name, whose signature is right.
-fn deliver_named(core: &mut Core, vertex: Box<Vertex>, name: Digest) -> Result<Receipt, Refused>
-    requires fits { VertexFits (box_value vertex) }
-    requires name { IsNameOf (box_value vertex) name }
-    ensures accepted { IfOk result (λ receipt. answer_in core.old (box_value vertex) true ≡ Ok receipt) }
-    ensures refused { IfErr result (λ r. IsRefusal r.cause (answer_in core.old (box_value vertex) true)) }
-    ensures returned { IfErr result (λ r. r.vertex ≡ box_value vertex) }
-    ensures journal { OnOk result (core.new ≡ after_in core.old (box_value vertex) true) }
-    ensures unchanged { OnErr result (core.new ≡ core.old) }
-{
-    match Box::into_inner(vertex) {
-        Vertex::Unit(unit) => match core.deliver_named(unit, name) {
-            Ok(receipt) => Ok(receipt),
-            Err(UnitRefused { cause, unit }) => Err(Refused {
-                cause,
-                vertex: Vertex::Unit(unit),
-            }),
-        },
-        other => core.deliver(other, true),
     }
 }
 
