@@ -18,18 +18,18 @@ replay_fed-requires-clause-room g c =
 pub returns-in-Ok-clause-text : goal.returns-in-Ok-clause-text
 returns-in-Ok-clause-text g c = λ tells.
     let held = g.F.Files.held c.args.files.now in
-    let told = told_all (seen (λ b. (goal.Consumer-dyn g (b.vtable, b.value)).consumed b.value) (λ b. (goal.Consumer-dyn g (b.vtable, b.value)).faults b.value) (λ b. b.vtable)) (taken_in c.in-Ok.replay).core c.args.consumers.now.items c.replay_fed.new.consumers.items c.reported.new.consumers.items c.args.fanout.now c.replay_fed.new.fanout c.reported.new.fanout
-    c.requires c.in-Ok.ensures.fed c.reported.ensures.finished in
-    reported_text (seen (λ b. (goal.Consumer-dyn g (b.vtable, b.value)).consumed b.value) (λ b. (goal.Consumer-dyn g (b.vtable, b.value)).faults b.value) (λ b. b.vtable)) g.F.Files.tells held c.args.log.now c.args.consumers.now.items c.reported.new.consumers.items c.in-Ok.replay c.reported.result c.reported.new.fanout.drops (c.in-Ok.ensures.said tells)
-    (of_replay (seen (λ b. (goal.Consumer-dyn g (b.vtable, b.value)).consumed b.value) (λ b. (goal.Consumer-dyn g (b.vtable, b.value)).faults b.value) (λ b. b.vtable)) g.F.Files.tells held c.args.log.now c.args.consumers.now.items c.reported.new.consumers.items c.in-Ok.replay c.reported.new.fanout.drops c.in-Ok.ensures.said told) c.reported.ensures.text
+    let told = told_all (seen (λ b. (goal.Consumer-dyn g (b.vtable, b.value)).consumed b.value) (λ b. (goal.Consumer-dyn g (b.vtable, b.value)).faults b.value) (λ b. b.vtable)) (taken_in c.in-Ok.replay).core c.args.consumers.now.items c.replay_fed.new.consumers.items c.reported-ended.new.consumers.items c.args.fanout.now c.replay_fed.new.fanout c.reported-ended.new.fanout
+    c.requires c.in-Ok.ensures.fed c.reported-ended.ensures.finished in
+    reported_text (seen (λ b. (goal.Consumer-dyn g (b.vtable, b.value)).consumed b.value) (λ b. (goal.Consumer-dyn g (b.vtable, b.value)).faults b.value) (λ b. b.vtable)) g.F.Files.tells held c.args.log.now c.args.consumers.now.items c.reported-ended.new.consumers.items c.in-Ok.replay c.reported-ended.result c.reported-ended.new.fanout.drops (c.in-Ok.ensures.said tells)
+    (of_replay (seen (λ b. (goal.Consumer-dyn g (b.vtable, b.value)).consumed b.value) (λ b. (goal.Consumer-dyn g (b.vtable, b.value)).faults b.value) (λ b. b.vtable)) g.F.Files.tells held c.args.log.now c.args.consumers.now.items c.reported-ended.new.consumers.items c.in-Ok.replay c.reported-ended.new.fanout.drops c.in-Ok.ensures.said told) c.reported-ended.ensures.text
 
 pub returns-in-Ok-clause-told : goal.returns-in-Ok-clause-told
 returns-in-Ok-clause-told g c =
     let held = g.F.Files.held c.args.files.now in
-    let told = told_all (seen (λ b. (goal.Consumer-dyn g (b.vtable, b.value)).consumed b.value) (λ b. (goal.Consumer-dyn g (b.vtable, b.value)).faults b.value) (λ b. b.vtable)) (taken_in c.in-Ok.replay).core c.args.consumers.now.items c.replay_fed.new.consumers.items c.reported.new.consumers.items c.args.fanout.now c.replay_fed.new.fanout c.reported.new.fanout
-    c.requires c.in-Ok.ensures.fed c.reported.ensures.finished in
-    reported_told (seen (λ b. (goal.Consumer-dyn g (b.vtable, b.value)).consumed b.value) (λ b. (goal.Consumer-dyn g (b.vtable, b.value)).faults b.value) (λ b. b.vtable)) g.F.Files.tells held c.args.log.now c.args.consumers.now.items c.reported.new.consumers.items c.reported.result c.reported.new.fanout.drops _
-    (of_replay (seen (λ b. (goal.Consumer-dyn g (b.vtable, b.value)).consumed b.value) (λ b. (goal.Consumer-dyn g (b.vtable, b.value)).faults b.value) (λ b. b.vtable)) g.F.Files.tells held c.args.log.now c.args.consumers.now.items c.reported.new.consumers.items c.in-Ok.replay c.reported.new.fanout.drops c.in-Ok.ensures.said told) c.reported.ensures.text c.reported.ensures.fault
+    let told = told_all (seen (λ b. (goal.Consumer-dyn g (b.vtable, b.value)).consumed b.value) (λ b. (goal.Consumer-dyn g (b.vtable, b.value)).faults b.value) (λ b. b.vtable)) (taken_in c.in-Ok.replay).core c.args.consumers.now.items c.replay_fed.new.consumers.items c.reported-ended.new.consumers.items c.args.fanout.now c.replay_fed.new.fanout c.reported-ended.new.fanout
+    c.requires c.in-Ok.ensures.fed c.reported-ended.ensures.finished in
+    reported_told (seen (λ b. (goal.Consumer-dyn g (b.vtable, b.value)).consumed b.value) (λ b. (goal.Consumer-dyn g (b.vtable, b.value)).faults b.value) (λ b. b.vtable)) g.F.Files.tells held c.args.log.now c.args.consumers.now.items c.reported-ended.new.consumers.items c.reported-ended.result c.reported-ended.new.fanout.drops _
+    (of_replay (seen (λ b. (goal.Consumer-dyn g (b.vtable, b.value)).consumed b.value) (λ b. (goal.Consumer-dyn g (b.vtable, b.value)).faults b.value) (λ b. b.vtable)) g.F.Files.tells held c.args.log.now c.args.consumers.now.items c.reported-ended.new.consumers.items c.in-Ok.replay c.reported-ended.new.fanout.drops c.in-Ok.ensures.said told) c.reported-ended.ensures.text c.reported-ended.ensures.fault
 
 -- ---- it was stopped
 
