@@ -1,5 +1,6 @@
 -- A unit that is admitted, and what becomes of the state.
-use Rattle.std.proofs.Common.{◌≡◌, ℕ, ◌<◌, ◌⊎◌, inl, inr, Bool, true, false, cond, List, length, Option, set, refl, sym, ap, subst, subst₂, ◌∙◌, arith}
+use Rattle.std.proofs.Common.{◌≡◌, ℕ, ◌+◌, ◌<◌, ◌⊎◌, inl, inr, Bool, true, false, cond, List, length, Option, set, refl, sym, ap, subst, subst₂, ◌∙◌, arith}
+use Rattle.std.specs.Prelude.{◌^◌}
 use Rattle.std.specs.Option.{option_map}
 use Rattle.std.proofs.lemmas.Bool.{cases_lt}
 use Rattle.hw_types.specs.declared.unit.Obs.{Obs}
@@ -20,6 +21,7 @@ use Rattle.hw_dag.specs.declared.numbers.View.TheVariants as view
 use Rattle.hw_dag.specs.Dag.{SettledUnit, UnitGraph, unit_at, count_of, node_at, node_of, graph, view_at, obs_of, creator_of, observations, IsPanorama}
 use Rattle.hw_dag.specs.Admission.{PreparedUnit, IsGraph, IsReady, node_prepared, settled_from, with_unit}
 use Rattle.hw_dag.specs.Lanes.{AreWeights}
+use Rattle.hw_dag.specs.Slots.{HasCode}
 use Rattle.hw_dag.proofs.AdmitLaws.{grows, last_at, count_later, later_apart, graph_more, panorama_stays}
 use Rattle.hw_dag.proofs.GrowthLaws.{observations_stay, graph_part, node_stays}
 use Rattle.hw_dag.proofs.NodeLaws.{among_node, node_among}
@@ -27,6 +29,19 @@ use Rattle.hw_dag.proofs.SlotLaws.{slot_of}
 use Rattle.hw_dag.proofs.VoteLaws.{votes_more}
 use Rattle.hw_admit.specs.State.{NodeState, IsState, MarksAreMet, is_faulty_in, observed_in}
 use Rattle.hw_admit.proofs.FaultyLaws.{evidence_in, faulty_same, more_faulty, lawful_in, over_faulty, observations_set, panorama_with}
+
+-- the creator's new slot has a code
+pub next_code : (same : Type 0) (next : View) (number : UnitNo) → number.0 + 2 < 2 ^ 32 → (same → next ≡ view.Correct number) → ((same → ⊥) → next ≡ view.Faulty) → HasCode next
+next_code same next number lt follows other n e = elim (cases_lt (n.0 + 2) (2 ^ 32)) [
+  | inl less ↦ less
+  | inr above ↦ absurd (
+      let not_same : same → ⊥ = λ s.
+      let one : number ≡ n = (let k : view.Correct number ≡ view.Correct n = sym (follows s) ∙ e in cc) in
+      let low : n.0 + 2 < 2 ^ 32 = subst (λ (m : UnitNo). m.0 + 2 < 2 ^ 32) one lt in
+      omega arith in
+      let clash : view.Faulty ≡ view.Correct n = sym (other not_same) ∙ e in cc
+      )
+]
 
 -- ---- one unit more
 

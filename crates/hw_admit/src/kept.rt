@@ -1,6 +1,6 @@
 //! A fork choice that is kept for its panorama.
 
-ghost use Rattle.std.specs.Prelude.{◌≡◌, ◌≤◌, ◌<◌, length, true, ℕ, List, IfOk, IsTrue, ◌↔◌};
+ghost use Rattle.std.specs.Prelude.{◌≡◌, ◌≤◌, ◌<◌, length, true, ℕ, List, IfOk, IsTrue};
 ghost use Rattle.std.specs.Option.{option_map};
 ghost use Rattle.hw_types.specs.Votes.{fork_of};
 ghost use Rattle.hw_dag.specs.declared.numbers.UnitNo.{UnitNo as Number};
@@ -9,7 +9,7 @@ ghost use Rattle.hw_dag.specs.Admission.{IsFork};
 ghost use Rattle.hw_dag.specs.Lanes.{AreWeights};
 ghost use Rattle.hw_admit.specs.Kept.{IsKept};
 
-use hw_dag::{Dag, Panorama, UnitNo, View};
+use hw_dag::{Dag, Panorama, UnitNo};
 use hw_forks::Forks;
 use hw_types::{OutOfMemory, WeightList};
 use std::alloc::Global;
@@ -68,7 +68,7 @@ impl KeptFork {
         ensures { self.new ≡ record { panorama = panorama.now; fork = fork; is_known = true } }
     {
         for validator in 0..validators {
-            self.panorama.set(validator, panorama.get(validator));
+            self.panorama.put(validator, panorama.slot(validator));
         }
         self.fork = fork;
         self.is_known = true;
@@ -82,17 +82,10 @@ impl KeptFork {
         ensures same { IsTrue result → self.now.panorama ≡ panorama.now }
     {
         for validator in 0..validators {
-            if !is_same(self.panorama.get(validator), panorama.get(validator)) {
+            if !self.panorama.slot(validator).is(panorama.slot(validator)) {
                 return false;
             }
         }
         self.is_known
     }
-}
-
-/// Whether both see the same.
-fn is_same(left: View, right: View) -> bool
-    ensures { IsTrue result ↔ (left ≡ right) }
-{
-    left == right
 }

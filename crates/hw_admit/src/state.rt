@@ -166,8 +166,8 @@ impl State {
     {
         let weights = self.config.weights.as_slice();
         let mut total = 0;
-        for (view, weight) in self.panorama.views().iter().zip(weights) {
-            if *view == View::Faulty {
+        for (slot, weight) in self.panorama.views().iter().zip(weights) {
+            if let View::Faulty = slot.view() {
                 total += *weight;
             }
         }
@@ -265,7 +265,7 @@ impl State {
     /// Makes room for at least `count` more units. The room never shrinks, and of the state nothing else
     /// changes.
     pub fn reserve(&mut self, count: u32) -> Result<(), OutOfMemory>
-        requires { count_of self.old.dag + count < 2 ^ 32 }
+        requires { count_of self.old.dag + count + 1 < 2 ^ 32 }
         ensures room { OnOk result (count ≤ self.new.spare) }
         ensures kept { self.old.spare ≤ self.new.spare }
         ensures unchanged { self.new ≡ record self.old { spare = self.new.spare; dag = record self.old.dag { spare = self.new.dag.spare } } }

@@ -8,7 +8,7 @@ use Rattle.hw_types.specs.declared.answers.Decision.{Decision}
 use Rattle.hw_types.specs.declared.config.Config.{Config}
 use Rattle.hw_types.specs.Below.{Among}
 use Rattle.hw_types.specs.Decisions.{AreDecisions}
-use Rattle.hw_types.specs.Settled.{Received, equivocates, panorama_of, panorama_over, faulty_weight}
+use Rattle.hw_types.specs.Settled.{Received, settled_of, equivocates, panorama_of, panorama_over, faulty_weight}
 use Rattle.hw_types.specs.Journal.{Setting, received_of}
 use Rattle.hw_types.specs.Votes.{weight_of}
 use Rattle.hw_types.specs.Real.{setting_of}
@@ -26,7 +26,7 @@ use Rattle.hw_finality.specs.Laws.{IsMoment, DecidesOn}
 use Rattle.hw_finality.proofs.StayLaws.{detector_stays}
 use Rattle.hw_finality.proofs.NumberLaws.{stays}
 use Rattle.hw_park.specs.Parked.{Parked}
-use Rattle.hw_chain.proofs.DetectorLaws.{nothing_at_first}
+use Rattle.hw_chain.proofs.DetectorLaws.{quiet, nothing_at_first}
 use Rattle.hw_core.specs.Settle.{HasMoreRoom}
 use Rattle.hw_core.specs.Keeps.{IsNode}
 use Rattle.hw_core.proofs.CountLaws.{graph_length}
@@ -197,6 +197,37 @@ module _ (journal : List Vertex) (v : Vertex) (state later : NodeState) (waiting
     told = told;
     are = decides (setting_of later.config) journal v refl (node_moment (journal ++ v ∷ []) after later node observed at long) were;
     room = (let found = room.found in let listed = room.listed in record { found = omega arith; listed = omega arith });
+  }
+
+-- ---- after a delivery of which nothing settled
+
+module _ (journal : List Vertex) (v : Vertex) (park after : Parked PreparedUnit) (state later : NodeState) (d roomy : DecidedState) (node : IsNode journal park state) (is : IsDecided (setting_of state.config) journal state (length park.waiting) d)
+    (more : HasOnlyRoom d roomy) (longer : IsNode (journal ++ v ∷ []) after later) (f : IsGraph state.dag) (g : IsGraph later.dag) (still : HasMoreRoom state later)
+    (room : HasRoomFor roomy (length (graph later.dag) + length after.waiting)) where
+  abbrev s : Setting
+  s = setting_of later.config
+
+  config_still : later.config ≡ state.config
+  config_still = ap (λ (t : NodeState). t.config) still.unchanged
+
+  grows_still : GrowsTo state.dag later.dag
+  grows_still = grows_roomy state later still
+
+  settled_still : settled_of s.config (received_of s (journal ++ v ∷ [])) ≡ settled_of s.config (received_of s journal)
+  settled_still = sym longer.is_of.settled ∙ ap (λ (t : NodeState). graph t.dag) still.unchanged ∙ node.is_of.settled ∙ ap (λ (c : Config). settled_of c (received_of (setting_of c) journal)) (sym config_still)
+
+  panorama_still : panorama_of s.config (received_of s (journal ++ v ∷ [])) ≡ panorama_of s.config (received_of s journal)
+  panorama_still =
+      sym (node_panorama (journal ++ v ∷ []) after later longer) ∙ ap (λ (t : NodeState). observed_in t.config t.marked (graph t.dag)) still.unchanged
+      ∙ node_panorama journal park state node ∙ ap (λ (c : Config). panorama_of c (received_of (setting_of c) journal)) (sym config_still)
+
+  -- the records are the decided blocks of the longer journal as they stand
+  pub decided_quiet : IsDecided s (journal ++ v ∷ []) later (length after.waiting) roomy
+  decided_quiet = record {
+    told = run_told journal v state later (length park.waiting) after d roomy roomy is more longer config_still f g grows_still room;
+    are = quiet s journal v (found_in later.dag roomy.detector.found)
+        (were journal v state later (length park.waiting) after d roomy roomy is more longer config_still f g grows_still room) settled_still panorama_still;
+    room = room;
   }
 
 -- ---- at the start

@@ -21,9 +21,13 @@ use Rattle.hw_core.specs.Followed.{HasFollowed}
 use Rattle.hw_core.specs.Deliver.{IsTaken}
 use Rattle.hw_core.specs.Shown.{ShownState, IsShown}
 use Rattle.hw_core.proofs.UnitTakeLaws.{node_roomy}
-use Rattle.hw_core.proofs.DecidedLaws.{room_less, decided_roomy, decided_still, run_told, decided_after}
+use Rattle.hw_core.proofs.DecidedLaws.{room_less, decided_roomy, decided_still, run_told, decided_after, decided_quiet}
 use Rattle.hw_core.proofs.ShownLaws.{shown_forgot, shown_still}
 use Rattle.hw_core.proofs.KeptLaws.{kept_with}
+
+-- the fork choice stays where at most the room of the state changed
+choice_still : (state later : NodeState) (fork : Option UnitNo) → HasMoreRoom state later → IsChoice state fork → IsChoice later fork
+choice_still state later fork still is = subst (λ (t : NodeState). IsChoice t fork) (sym still.unchanged) (record { choice = is.choice; known = is.known })
 
 module _ (instance : Digest) (journal : List Vertex) (names : List (Digest × ℕ)) (park : Parked PreparedUnit) (rules : List (Digest × Rule)) (room : ℕ) (state : NodeState) (fork : Option UnitNo) (decided : DecidedState) (shown : ShownState)
     (kept : IsKept instance journal names park rules room state fork decided shown) where
@@ -50,6 +54,17 @@ module _ (instance : Digest) (journal : List Vertex) (names : List (Digest × �
         followed.observed followed.decides followed.told followed.spare followed.more)
         (shown_forgot (record { config = state.config; journal = journal }) (record { config = later.config; journal = journal ++ v ∷ [] }) state later shown forgot f g config grows forgets kept.shown_is)))
 
+    -- nothing settled, and the node keeps what it should
+    pub kept_quiet : HasMoreRoom state later → (vs : List Vertex) → vs ≡ journal ++ v ∷ [] → (names' : List (Digest × ℕ)) (rules' : List (Digest × Rule)) (room' : ℕ) → IsTable (setting_of state.config) (journal ++ v ∷ []) names' → AreRules (setting_of state.config) (journal ++ v ∷ []) rules'
+        → length after.waiting ≤ room' → ((w : Vertex) → Among w (journal ++ v ∷ []) → VertexFits w) → HasPairs (setting_of state.config) (journal ++ v ∷ []) → (forgot : ShownState) → forgot ≡ record shown { asked = None }
+        → IsKept instance vs names' after rules' room' later fork roomy forgot
+    kept_quiet still vs is names' rules' room' table are places fit pairs forgot forgets =
+        subst (λ (ws : List Vertex). IsKept instance ws names' after rules' room' later fork roomy forgot) (sym is)
+        (kept_with instance journal names park rules room state fork decided shown kept (journal ++ v ∷ []) names' after rules' room' later fork roomy forgot config table are places fit pairs node
+        (choice_still state later fork still kept.fork_is)
+        (decided_quiet journal v park after state later decided roomy kept.node kept.decided_is more node f g still few)
+        (shown_forgot (record { config = state.config; journal = journal }) (record { config = later.config; journal = journal ++ v ∷ [] }) state later shown forgot f g config grows forgets kept.shown_is))
+
   -- nothing was taken, and there is more room
   module _ (later : NodeState) (roomy : DecidedState) (f : IsGraph state.dag) (g : IsGraph later.dag) (still : HasMoreRoom state later) (more : HasOnlyRoom decided roomy) where
     pub kept_roomy : (vs : List Vertex) → vs ≡ journal → (names' : List (Digest × ℕ)) → names' ≡ names → (after : Parked PreparedUnit) → after ≡ park → (rules' : List (Digest × Rule)) → rules' ≡ rules → (room' : ℕ) → length after.waiting ≤ room'
@@ -63,12 +78,9 @@ module _ (instance : Digest) (journal : List Vertex) (names : List (Digest × �
         config : later.config ≡ state.config
         config = ap (λ (t : NodeState). t.config) still.unchanged
 
-        choice : IsChoice later fork
-        choice = subst (λ (t : NodeState). IsChoice t fork) (sym still.unchanged) (record { choice = kept.fork_is.choice; known = kept.fork_is.known })
-
         whole : length park.waiting ≤ room' → IsKept instance journal names park rules room' later fork roomy shown
         whole fits = kept_with instance journal names park rules room state fork decided shown kept journal names park rules room' later fork roomy shown config kept.table kept.rules_are fits kept.fit kept.pairs
-            (node_roomy journal park state kept.node later still.unchanged still.kept) choice
+            (node_roomy journal park state kept.node later still.unchanged still.kept) (choice_still state later fork still kept.fork_is)
             (decided_still (setting_of later.config) journal state later (length park.waiting) (length park.waiting) roomy f g still refl
             (subst (λ (c : Config). IsDecided (setting_of c) journal state (length park.waiting) roomy) (sym config) (decided_roomy decided roomy more (setting_of state.config) journal state (length park.waiting) kept.decided_is)))
             (subst (λ (c : Config). IsShown (record { config = c; journal = journal }) later shown) (sym config) (shown_still (record { config = state.config; journal = journal }) state later shown f g still kept.shown_is))

@@ -32,6 +32,22 @@ use Rattle.hw_core.proofs.TakeLaws.{node_after, rules_after, newly_is}
 use Rattle.hw_core.proofs.UnitBoundLaws.{accepted_met, accepted_parked, unit_taken}
 use Rattle.hw_core.proofs.UnitEndLaws.{new_taken, can_parked, none_parked, receipt_parked, receipt_dropped, receipt_admitted}
 
+-- ---- a state of which at most the room changed
+
+same_room : (s later : NodeState) → later ≡ s → HasMoreRoom s later
+same_room s later same = subst (λ (t : NodeState). HasMoreRoom s t) (sym same) (record { kept = omega arith; unchanged = refl })
+
+more_then : (s between later : NodeState) → HasMoreRoom s between → HasMoreRoom between later → HasMoreRoom s later
+more_then s between later first second =
+    let a = first.kept in
+    let b = second.kept in
+    record {
+      kept = omega arith;
+      unchanged = second.unchanged ∙ ap (λ (t : NodeState). record t { spare = later.spare; dag = record t.dag { spare = later.dag.spare } }) first.unchanged;
+    }
+
+-- ---- the place of a new unit
+
 module _ (journal : List Vertex) (park : Parked PreparedUnit) (state : NodeState) (node : IsNode journal park state) (p : PreparedUnit) (new : IsNewUnit state.config journal p.signed p.digest) where
   abbrev s : Setting
   s = setting_of state.config
@@ -55,12 +71,13 @@ module _ (journal : List Vertex) (park : Parked PreparedUnit) (state : NodeState
     taken : HasTaken s journal v state start
     taken = new_taken journal park state node p.signed p.digest new p refl refl [] state refl
 
-    placed : (r : Receipt) → receipt_of s journal v ≡ r → IsPlaced state (length park.waiting) journal p.signed later after noted r
-    placed r e = record {
+    placed : (r : Receipt) → receipt_of s journal v ≡ r → (((n : ℕ) → r ≢ receipt.Admitted n) → HasMoreRoom state later) → IsPlaced state (length park.waiting) journal p.signed later after noted r
+    placed r e still = record {
       node = node_after journal park state node v is_taken state start taken later after limit settled can none;
       rules_are = rules_after journal park state node v is_taken state start taken later after limit settled can none rules noted are notes;
       config = settled.same.config;
       grows = settled.same.grows;
+      still = still;
       room = let most = settled_room state start later after.waiting can settled in let long = length-append park.waiting (record { needs = []; item = p } ∷ []) in omega arith;
       taken = is_taken;
       answer = answer_taken s journal v ok ∙ ap Ok e;
@@ -69,10 +86,10 @@ module _ (journal : List Vertex) (park : Parked PreparedUnit) (state : NodeState
     pub placed_settled : state_rule state.config (graph state.dag) (node_prepared p) ≡ None → (n : ℕ) → length (graph state.dag) + n ≡ length (graph later.dag)
         → IsPlaced state (length park.waiting) journal p.signed later after noted (receipt.Admitted n)
     placed_settled kept n count = placed (receipt.Admitted n) (receipt_admitted journal park state node p.signed p.digest new p refl refl [] (sym met) ok refl kept n
-        (newly_is journal park state node v is_taken state start taken later after limit settled can none n count))
+        (newly_is journal park state node v is_taken state start taken later after limit settled can none n count)) (λ other. absurd (other n refl))
 
-    pub placed_dropped : (rule : Rule) → state_rule state.config (graph state.dag) (node_prepared p) ≡ Some rule → IsPlaced state (length park.waiting) journal p.signed later after noted (receipt.Dropped rule)
-    placed_dropped rule broken = placed (receipt.Dropped rule) (receipt_dropped journal park state node p.signed p.digest new p refl refl [] (sym met) ok refl rule broken)
+    pub placed_dropped : (rule : Rule) → state_rule state.config (graph state.dag) (node_prepared p) ≡ Some rule → later ≡ state → IsPlaced state (length park.waiting) journal p.signed later after noted (receipt.Dropped rule)
+    placed_dropped rule broken same = placed (receipt.Dropped rule) (receipt_dropped journal park state node p.signed p.digest new p refl refl [] (sym met) ok refl rule broken) (λ other. same_room state later same)
 
   -- it misses something, and waits
   module _ (needs : List Need) (needs_are : needs ≡ missing_of state.config (known_in state) (graph state.dag) (node_prepared p)) (some : needs ≢ []) (room : length park.waiting < park.limit)
@@ -95,6 +112,7 @@ module _ (journal : List Vertex) (park : Parked PreparedUnit) (state : NodeState
           rules_are = rules_after journal park state node v is_taken state waits taken state after refl (settled_none state waits) can none rules rules are (noted_none state waits rules);
           config = refl;
           grows = grows_itself state.dag;
+          still = λ other. same_room state state refl;
           room = let long = length-append park.waiting (record { needs = needs; item = p } ∷ []) in omega arith;
           taken = is_taken;
           answer = answer_taken s journal v accepted ∙ ap Ok (receipt_parked journal park state node p.signed p.digest new p refl refl needs needs_are accepted some);
@@ -112,6 +130,7 @@ placed_roomy state roomy more waiting journal unit later after rules r is =
       rules_are = subst (λ (g : Config). AreRules (setting_of g) (journal ++ vertex.Unit unit ∷ []) rules) same is.rules_are;
       config = is.config ∙ same;
       grows = grows_then state.dag roomy.dag later.dag (grows_roomy state roomy more) is.grows;
+      still = λ other. more_then state roomy later more (is.still other);
       room = omega arith;
       taken = subst (λ (g : Config). IsTaken g journal (vertex.Unit unit)) same is.taken;
       answer = subst (λ (g : Config). answer_to g journal (vertex.Unit unit) ≡ Ok r) same is.answer;

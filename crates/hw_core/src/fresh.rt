@@ -78,7 +78,7 @@ fn make_room(
     state: &mut State,
     count: u32,
 ) -> Result<(), OutOfMemory>
-    requires { count_of state.old.dag + count < 2 ^ 32 }
+    requires { count_of state.old.dag + count + 1 < 2 ^ 32 }
     ensures names { names.new.entries ≡ names.old.entries }
     ensures items { journal.new.items ≡ journal.old.items }
     ensures dropped { dropped.new.entries ≡ dropped.old.entries }

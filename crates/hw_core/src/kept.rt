@@ -270,12 +270,17 @@ impl Kept {
         let _graph = self.state.dag();
         match added {
             Ok(receipt) => {
-                self.fork = follow(
-                    self.journal.as_slice(),
-                    &mut self.state,
-                    &mut self.decided,
-                    &mut self.shown,
-                );
+                if let Receipt::Admitted { .. } = receipt {
+                    self.fork = follow(
+                        self.journal.as_slice(),
+                        &mut self.state,
+                        &mut self.decided,
+                        &mut self.shown,
+                    );
+                } else {
+                    // Nothing settled, so that the fork choice and the decided blocks stay as they are.
+                    self.shown.forget();
+                }
                 Ok(receipt)
             }
             Err(refused) => Err(refused),

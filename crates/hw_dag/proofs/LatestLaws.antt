@@ -1,8 +1,9 @@
 -- Lanes by the latest unit of each validator.
-use Rattle.std.proofs.Common.{◌≡◌, ℕ, ◌<◌, ◌≤◌, ◌==◌, ◌⊎◌, inl, inr, true, false, List, [], ◌∷◌, ◌++◌, ◌-◌, length, Option, Some, slice_set, refl, sym, ap, subst, ◌∙◌, arith, eqb, eqb-true, eq-eqb, length-append, get_or-set_same, get_or-set_other}
+use Rattle.std.proofs.Common.{◌≡◌, ℕ, ◌<◌, ◌≤◌, ◌==◌, ◌⊎◌, inl, inr, true, false, List, [], ◌∷◌, ◌++◌, ◌+◌, ◌-◌, length, Option, Some, slice_set, refl, sym, ap, subst, ◌∙◌, arith, eqb, eqb-true, eq-eqb, length-append, get_or-set_same, get_or-set_other}
+use Rattle.std.specs.Prelude.{◌≢◌, ◌^◌, nat_le}
 use Rattle.std.proofs.Math.ListN.{length-set}
 use Rattle.std.proofs.lemmas.List.{get_or_push}
-use Rattle.std.proofs.lemmas.Bool.{cases_lt}
+use Rattle.std.proofs.lemmas.Bool.{cases_lt, leb-true, le-leb}
 use Rattle.hw_types.proofs.LaneLaws as lanes
 use Rattle.hw_types.proofs.StableLaws.{both_ways}
 use Rattle.hw_types.proofs.WordsLaws.{never_both, either}
@@ -11,9 +12,10 @@ use Rattle.hw_dag.specs.declared.numbers.View.{View}
 use Rattle.hw_dag.specs.declared.numbers.View.TheVariants as view
 use Rattle.hw_dag.specs.Dag.{SettledUnit, UnitGraph, stand_in, unit_at, count_of, node_at, graph, creator_of, view_at, GrowsTo}
 use Rattle.hw_dag.specs.Admission.{IsGraph, with_unit}
-use Rattle.hw_dag.specs.Lanes.{is_lane_below}
+use Rattle.hw_dag.specs.Lanes.{is_lane_below, AreOnOneLane}
 use Rattle.hw_dag.specs.Skips.{back_from}
-use Rattle.hw_dag.specs.Tables.{predecessor_of, lanes_of, LeadsUpTo, AreLatest, IsLatestAfter}
+use Rattle.hw_dag.specs.Slots.{HasCode}
+use Rattle.hw_dag.specs.Tables.{predecessor_of, lanes_of, LeadsUpTo, AreLatest, IsLatestAfter, NoneFaulty}
 use Rattle.hw_dag.proofs.NodeLaws.{node_among}
 use Rattle.hw_dag.proofs.LaneLaws.{even_weights, all_faulty, lawful, on_lane_among, among_on_lane, on_own_lane, lane_is_seen}
 use Rattle.hw_dag.proofs.MarkLaws.{seen_earlier}
@@ -66,6 +68,21 @@ module _ (dag : UnitGraph) (g : IsGraph dag) where
       let way : back_from (lanes_of dag.units) 1 n ≡ Some p.0 = back_from-step (lanes_of dag.units) 0 n p (lane_at_is dag g n lt ∙ e) ∙ back_from-none (lanes_of dag.units) p.0 in
       let some = seq_next dag g n p lt (number_some (view_at (unit_at dag n).panorama (creator_of (unit_at dag n))) p e) in
       (lane_found dag g 1 n p.0 lt way (omega arith)).on_lane
+
+  -- where no slot is Faulty, each validator's units are on one lane
+  pub one_lane : (latest : List View) → AreLatest dag latest → NoneFaulty latest → AreOnOneLane dag
+  one_lane latest are none low high lo hi same = both_ways (is_lane_below dag low high) (nat_le low high) (λ t. le-leb low high (lane_earlier low high lo hi t)) (λ t. on (leb-true low high t))
+    where
+      led : low < high → (w : View) → view_at latest (creator_of (unit_at dag high)) ≡ w → is_lane_below dag low high ≡ true
+      led less view.Absent e = absurd (subst (λ (w : View). LeadsUpTo dag high w) e (are.each high hi))
+      led less view.Faulty e = absurd (none (creator_of (unit_at dag high)) e)
+      led less (view.Correct last) e = sym (lane_by_latest latest are (creator_of (unit_at dag high)) last e low high lo hi same refl less)
+
+      on : low ≤ high → is_lane_below dag low high ≡ true
+      on le = elim (cases_lt low high) [
+        | inl less ↦ led less (view_at latest (creator_of (unit_at dag high))) refl
+        | inr above ↦ subst (λ (n : ℕ). is_lane_below dag low n ≡ true) (let one : low ≡ high = omega arith in one) (lane_itself low lo)
+      ]
 
 -- with one unit more
 module _ (dag : UnitGraph) (g : IsGraph dag) (u : SettledUnit) (more : IsGraph (with_unit dag u)) (latest : List View) (are : AreLatest dag latest) (number : UnitNo) (is : number.0 ≡ count_of dag) (next : View)
@@ -179,6 +196,24 @@ last_creator dag u more latest are creator e =
     let some : creator_of (unit_at (with_unit dag u) (count_of dag)) < dag.validators = (more.settled (count_of dag) (omega arith)).creator_is in
     let same : creator_of (unit_at (with_unit dag u) (count_of dag)) ≡ creator_of u = ap (λ (x : SettledUnit). creator_of x) (get_or_push dag.units u stand_in (count_of dag) refl) in
     let len = are.length_is in omega arith
+
+-- its new slot has a code,
+pub latest_code : (dag : UnitGraph) (u : SettledUnit) → IsGraph (with_unit dag u) → (slot : View) (before : Option UnitNo) (number : UnitNo) (next : View) → number.0 ≡ count_of dag → IsLatestAfter slot before number next → HasCode next
+latest_code dag u more slot before number next is after = λ n e. elim after [
+  | inl f ↦ absurd (let clash : view.Faulty ≡ view.Correct n = sym f ∙ e in cc)
+  | inr c ↦
+      let same : number ≡ n = (let s : view.Correct number ≡ view.Correct n = sym c.0 ∙ e in cc) in
+      let longer = length-append dag.units (u ∷ []) in
+      let small = more.bounded in
+      subst (λ (m : UnitNo). m.0 + 2 < 2 ^ 32) same (omega arith)
+]
+
+-- and no slot is Faulty unless that one is
+pub none_more : (latest new : List View) (creator : ℕ) (next : View) → creator < length latest → new ≡ slice_set latest creator next → next ≢ view.Faulty → NoneFaulty latest → NoneFaulty new
+none_more latest new creator next lt is other none v f = elim (either (v == creator)) [
+  | inl t ↦ other (sym (get_or-set_same latest creator next view.Absent lt) ∙ ap (λ (ws : List View). view_at ws creator) (sym is) ∙ ap (λ (n : ℕ). view_at new n) (sym (eqb-true v creator t)) ∙ f)
+  | inr d ↦ none v (sym (get_or-set_other latest creator v next view.Absent (λ s. never_both (v == creator) (eq-eqb v creator s) d)) ∙ ap (λ (ws : List View). view_at ws v) (sym is) ∙ f)
+]
 
 -- the table as it is written
 pub latest_kept : (dag : UnitGraph) (g : IsGraph dag) (u : SettledUnit) (more : IsGraph (with_unit dag u)) (latest : List View) (are : AreLatest dag latest)

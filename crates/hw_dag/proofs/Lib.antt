@@ -1,6 +1,7 @@
 pub mod PlaceLaws
 pub mod NodeLaws
 pub mod SlotLaws
+pub mod CodeLaws
 pub mod LawfulLaws
 pub mod ChainLaws
 pub mod GrowthLaws
@@ -17,3 +18,4 @@ pub mod SoloLaws
 pub mod VoteLaws
 pub mod RuleLaws
 pub mod LatestLaws
+pub mod ListLaws

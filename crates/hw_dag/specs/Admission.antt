@@ -122,8 +122,8 @@ pub record IsSettled (dag : UnitGraph) (n : ℕ) (u : SettledUnit) : Type 0 wher
   pub no_parent : is_block (node_of u) ≡ false → u.parent ≡ None
   pub height_is : u.height ≡ (if is_block (node_of u) then Some (height_above dag u.parent) else None)
 
--- names tell the units apart, and each unit is settled over those before it
+-- there are fewer numbers than slots have codes, names tell the units apart, and each unit is settled over those before it
 pub record IsGraph (dag : UnitGraph) : Type 0 where
-  pub bounded : count_of dag + dag.spare < 2 ^ 32
+  pub bounded : count_of dag + dag.spare + 1 < 2 ^ 32
   pub distinct : (m n : ℕ) → m < count_of dag → n < count_of dag → (unit_at dag m).digest ≡ (unit_at dag n).digest → m ≡ n
   pub settled : (n : ℕ) → n < count_of dag → IsSettled dag n (unit_at dag n)

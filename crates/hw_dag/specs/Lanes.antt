@@ -1,17 +1,22 @@
 -- Look-ups along lanes and parents.
-use Rattle.std.specs.Prelude.{◌≡◌, ℕ, ◌≤◌, ◌<◌, ◌^◌, Bool, true, List, length, Some, All, sum}
+use Rattle.std.specs.Prelude.{◌≡◌, ℕ, ◌≤◌, ◌<◌, ◌^◌, Bool, true, List, length, Some, All, sum, nat_le}
 use Rattle.hw_types.specs.Graph.{is_on_lane, is_below}
 use Rattle.hw_types.specs.Votes.{is_block, unit_fork}
 use Rattle.std.specs.Option.{option_map}
 use Rattle.hw_dag.specs.declared.numbers.UnitNo.{UnitNo}
 use Rattle.hw_dag.specs.declared.numbers.View.{View}
 use Rattle.hw_dag.specs.declared.numbers.View.TheVariants as view
-use Rattle.hw_dag.specs.Dag.{UnitGraph, unit_at, count_of, node_at, graph, seq_of, view_at}
+use Rattle.hw_dag.specs.Dag.{UnitGraph, unit_at, count_of, node_at, graph, creator_of, seq_of, view_at}
 use Rattle.hw_dag.specs.Admission.{fork_given}
 
 -- the one unit is on the lane of the other
 abbrev pub is_lane_below : UnitGraph → ℕ → ℕ → Bool
 is_lane_below dag low high = is_on_lane (graph dag) (node_at dag low) (node_at dag high)
+
+-- each validator's units are on one lane, in the order of their numbers
+abbrev pub AreOnOneLane : UnitGraph → Type 0
+AreOnOneLane dag = (low high : ℕ) → low < count_of dag → high < count_of dag → creator_of (unit_at dag low) ≡ creator_of (unit_at dag high)
+    → is_lane_below dag low high ≡ nat_le low high
 
 -- the one unit is the other or below it
 abbrev pub is_seen : UnitGraph → ℕ → ℕ → Bool

@@ -3,5 +3,8 @@ pub mod Admission
 pub mod Lanes
 pub mod Laws
 pub mod Skips
+pub mod SlotCodes
+pub mod Slots
 pub mod Tables
 pub mod Walks
+pub mod Lists

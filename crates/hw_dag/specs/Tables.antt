@@ -1,5 +1,5 @@
 -- What is kept beside the units of a graph to find them.
-use Rattle.std.specs.Prelude.{◌≡◌, ℕ, ◌^◌, ◌<◌, ◌≤◌, ◌⊎◌, true, List, length, map, Option, Some, None}
+use Rattle.std.specs.Prelude.{◌≡◌, ◌≢◌, ℕ, ◌^◌, ◌<◌, ◌≤◌, ◌⊎◌, true, List, length, map, Option, Some, None}
 use Rattle.hw_types.specs.declared.unit.Digest.{Digest}
 use Rattle.hw_types.specs.declared.unit.SignedUnit.{SignedUnit}
 use Rattle.hw_dag.specs.declared.numbers.UnitNo.{UnitNo}
@@ -51,6 +51,10 @@ pub record AreLatest (dag : UnitGraph) (latest : List View) : Type 0 where
   pub length_is : length latest ≡ dag.validators
   pub known : (v : ℕ) (last : UnitNo) → view_at latest v ≡ view.Correct last → last.0 < count_of dag
   pub each : (n : ℕ) → n < count_of dag → LeadsUpTo dag n (view_at latest (creator_of (unit_at dag n)))
+
+-- no validator's units may be on two lanes
+abbrev pub NoneFaulty : List View → Type 0
+NoneFaulty latest = (v : ℕ) → view_at latest v ≢ view.Faulty
 
 -- the new unit is the latest where it is the first of its creator or follows the latest one
 abbrev pub IsLatestAfter : View → Option UnitNo → UnitNo → View → Type 0

@@ -1,15 +1,17 @@
 //! The graph and what comes into it.
 
-ghost use Rattle.std.specs.Prelude.{◌≡◌, ℕ, ◌+◌, ◌-◌, ◌^◌, ◌<◌, ◌≤◌, ◌↔◌, [], ◌∷◌, ◌++◌, false, length, Some, IsTrue, IsNone, IfSome, IfNone, IfOk, IfErr, OnOk, OnErr};
+ghost use Rattle.std.specs.Prelude.{◌≡◌, ◌≢◌, ℕ, ◌+◌, ◌-◌, ◌^◌, ◌<◌, ◌≤◌, ◌↔◌, [], ◌∷◌, ◌++◌, false, length, Some, IsTrue, IsNone, IfSome, IfNone, IfOk, IfErr, OnOk, OnErr};
 ghost use Rattle.std.specs.List.{list_any};
 ghost use Rattle.indexmap.specs.IndexSet.{spare as room_of};
 ghost use Rattle.hw_types.specs.Graph.{digest_eq};
 ghost use Rattle.hw_types.specs.declared.unit.Obs.TheVariants as Obs;
+ghost use Rattle.hw_dag.specs.declared.numbers.View.TheVariants as View;
 ghost use Rattle.hw_dag.specs.Dag.{unit_at, count_of, graph, observations};
 ghost use Rattle.hw_dag.specs.Admission.{IsFor, IsNew, IsResolved, IsFork, IsGraph, KeepsRules, AllKnown, node_prepared, height_above, settled_from, with_unit};
+ghost use Rattle.hw_dag.specs.Lanes.{AreOnOneLane};
 ghost use Rattle.hw_dag.specs.Tables.{StandsFor, IsUnknown, IsKnown, IsLatestAfter};
 
-use crate::numbers::{Panorama, UnitNo, View};
+use crate::numbers::{Panorama, Slot, UnitNo, View};
 use crate::preparing::{NoRoom, Prepared};
 use crate::settled::Unit;
 use crate::skips::SkipTable;
@@ -18,6 +20,7 @@ use indexmap::IndexSet;
 use std::alloc::Global;
 use std::marker::Model;
 
+mod lists;
 mod lookups;
 
 /// The settled units by number. It only grows, and no unit in it ever changes.
@@ -31,10 +34,12 @@ pub struct Dag {
     chains: SkipTable,
     /// Of each validator the unit that all its units lead up to, Faulty where they may be on two lanes.
     latest: Panorama,
+    /// Whether one of those may be Faulty.
+    forked: bool,
 }
 
 impl Model for Dag {
-    ghost use Rattle.std.specs.Prelude.{◌-◌, vec_len, vec_capacity};
+    ghost use Rattle.std.specs.Prelude.{◌≡◌, ◌-◌, false, vec_len, vec_capacity};
     ghost use Rattle.indexmap.specs.IndexSet.{spare as room_of};
     ghost use Rattle.hw_dag.specs.Dag.{UnitGraph};
 
@@ -46,11 +51,12 @@ impl Model for Dag {
       units = d.units.items;
     } };
 
-    ghost use Rattle.hw_dag.specs.Tables.{IsKept, HasSpare, AreLatest};
+    ghost use Rattle.hw_dag.specs.Tables.{IsKept, HasSpare, AreLatest, NoneFaulty};
 
     ghost invariant = { λ d. IsKept (record { validators = d.validators; spare = d.spare; units = d.units.items }) d.names.keys d.lanes.backs d.chains.backs
         × HasSpare d.spare (vec_capacity d.units - vec_len d.units) (room_of d.names) d.lanes.spare d.chains.spare
-        × AreLatest (record { validators = d.validators; spare = d.spare; units = d.units.items }) d.latest };
+        × AreLatest (record { validators = d.validators; spare = d.spare; units = d.units.items }) d.latest
+        × (d.forked ≡ false → NoneFaulty d.latest) };
 }
 
 impl Dag {
@@ -67,6 +73,7 @@ impl Dag {
             lanes: SkipTable::new(alloc),
             chains: SkipTable::new(alloc),
             latest: Panorama::new(alloc, validators)?,
+            forked: false,
         })
     }
 
@@ -83,7 +90,7 @@ impl Dag {
     /// Makes room for at least `count` more units, with their names and pointers. What is in the graph stays, and the room
     /// never shrinks.
     pub fn reserve(&mut self, count: u32) -> Result<(), OutOfMemory>
-        requires { count_of self.old + count < 2 ^ 32 }
+        requires { count_of self.old + count + 1 < 2 ^ 32 }
         ensures room { OnOk result (count ≤ self.new.spare) }
         ensures kept { self.old.spare ≤ self.new.spare }
         ensures units { self.new.units ≡ self.old.units }
@@ -152,6 +159,14 @@ impl Dag {
         self.validators
     }
 
+    /// Whether some validator's units may be on two lanes. Where they can't, a unit is on the lane of another one of
+    /// its creator exactly where its number is no greater.
+    pub fn is_forked(&self) -> bool
+        ensures { result ≡ false → AreOnOneLane self.now }
+    {
+        self.forked
+    }
+
     /// The number of the unit of this name, or None where there is no such unit.
     pub fn find(&self, digest: &Digest) -> Option<UnitNo>
         ensures found { IfSome result (λ no. (no.0 < count_of self.now) × ((unit_at self.now no.0).digest ≡ digest.now)) }
@@ -170,7 +185,7 @@ impl Dag {
     }
 
     /// What an observation is in numbers, where its unit is there. `seen` is what another unit observes.
-    fn view_of(&self, seen: &[View], slot: usize, obs: &Obs) -> Option<View>
+    fn view_of(&self, seen: &[Slot], slot: usize, obs: &Obs) -> Option<View>
         ensures known { IfSome result (StandsFor self.now obs.now) }
         ensures unknown { IfNone result (IsUnknown self.now obs.now) }
     {
@@ -183,7 +198,7 @@ impl Dag {
 
     /// The unit of this name as a slot. Most units observe what the one before them does, or the latest
     /// unit of a validator or the one before that. Only a name that is none of these is looked up.
-    fn find_near(&self, seen: &[View], slot: usize, name: &Digest) -> Option<View>
+    fn find_near(&self, seen: &[Slot], slot: usize, name: &Digest) -> Option<View>
         ensures known { IfSome result (StandsFor self.now (Obs.Correct name.now)) }
         ensures unknown { IfNone result (IsNew self.now name.now) }
     {
@@ -225,7 +240,7 @@ impl Dag {
     }
 
     /// What the newest unit observes.
-    fn newest_views(&self) -> &[View] {
+    fn newest_views(&self) -> &[Slot] {
         match self.units.last() {
             Some(unit) => unit.panorama().views(),
             None => &[],
@@ -275,6 +290,7 @@ impl Dag {
         let no = UnitNo(self.units.len() as u32);
         let next = latest_after(self.latest.get(creator), before, no);
         self.latest.set(creator, next);
+        self.forked |= is_faulty(next);
         self.spare -= 1;
         self.lanes.push(before, unit.signed().unit.seq);
         self.chains.push(unit.parent(), unit.height().unwrap_or(0));
@@ -286,9 +302,9 @@ impl Dag {
 }
 
 // A slot that is compared before it is taken, so that any will do.
-fn hint_at(views: &[View], slot: usize) -> View {
-    match views.get(slot) {
-        Some(view) => *view,
+fn hint_at(slots: &[Slot], slot: usize) -> View {
+    match slots.get(slot) {
+        Some(slot) => slot.view(),
         None => View::Absent,
     }
 }
@@ -302,6 +318,13 @@ fn latest_after(latest: View, before: Option<UnitNo>, no: UnitNo) -> View
         (View::Correct(last), Some(before)) if last == before => View::Correct(no),
         _ => View::Faulty,
     }
+}
+
+// Whether the view is that of an equivocation.
+fn is_faulty(view: View) -> bool
+    ensures { result ≡ false → view ≢ View.Faulty }
+{
+    matches!(view, View::Faulty)
 }
 
 // Puts a new name last.

@@ -25,7 +25,7 @@ pub use graph::Dag;
 pub use laws::{
     apart_is_fork, graph_is_lawful, rules_are_kept, seen_by_entry, seen_is_on_lane, votes_stay,
 };
-pub use numbers::{Panorama, UnitNo, View};
+pub use numbers::{Panorama, Slot, UnitNo, View};
 pub use preparing::{NoRoom, Prepared};
 pub use scratch::Marks;
 pub use settled::Unit;

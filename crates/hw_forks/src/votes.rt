@@ -46,8 +46,8 @@ pub fn gather(votes: &mut [Vote], dag: &Dag, weights: &[u64], panorama: &Panoram
     // For the prover: recalls what is said of each graph.
     dag.recall_graph();
     let mut count = 0;
-    for (view, weight) in panorama.views().iter().zip(weights) {
-        if let View::Correct(no) = *view {
+    for (slot, weight) in panorama.views().iter().zip(weights) {
+        if let View::Correct(no) = slot.view() {
             votes[count] = vote_of(dag, no, *weight);
             count += 1;
         }

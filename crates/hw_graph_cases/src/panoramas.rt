@@ -3,6 +3,7 @@
 ghost use Rattle.std.specs.Prelude.{◌≡◌, ◌<◌, ◌≤◌, length, true, IsTrue, IfSome};
 ghost use Rattle.hw_types.specs.Graph.{is_consistent};
 ghost use Rattle.hw_dag.specs.Dag.{graph, observations, count_of, IsPanorama};
+ghost use Rattle.hw_dag.specs.Slots.{HasCode};
 ghost use Rattle.hw_graph_cases.specs.Slots.{IsBy};
 
 use crate::units::observed;
@@ -43,7 +44,10 @@ fn fill(dag: &Dag, panorama: &mut Panorama, words: &[&str])
 }
 
 /// What a word says of one validator, in numbers.
-fn view_of(dag: &Dag, word: &str) -> View {
+fn view_of(dag: &Dag, word: &str) -> View
+    ensures { HasCode result }
+{
+    dag.recall_graph();
     match observed(word) {
         Obs::Absent => View::Absent,
         Obs::Faulty => View::Faulty,

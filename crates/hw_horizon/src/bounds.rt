@@ -332,9 +332,9 @@ fn put_tips(tips: &mut [Option<UnitNo>], dag: &Dag, panorama: &Panorama)
     ensures tips { (v : ℕ) → v < length panorama.now → slice_index_or tips.new v None ≡ tip_in (view_at panorama.now v) }
     ensures length { length tips.new ≡ length tips.old }
 {
-    for (slot, view) in panorama.views().iter().enumerate() {
-        tips[slot] = match view {
-            View::Correct(no) => Some(*no),
+    for (slot, seen) in panorama.views().iter().enumerate() {
+        tips[slot] = match seen.view() {
+            View::Correct(no) => Some(no),
             View::Absent | View::Faulty => None,
         };
     }

@@ -121,8 +121,8 @@ fn mark_observed(dag: &Dag, no: UnitNo, marked: &mut [bool])
     ensures only { (m : ℕ) → is_marked marked.new m ≡ true → (is_marked marked.old m ≡ true) ⊎ Cites dag.now no.0 m }
 {
     dag.recall_graph();
-    for view in dag.unit(no).panorama().views() {
-        mark(marked, *view);
+    for slot in dag.unit(no).panorama().views() {
+        mark(marked, slot.view());
     }
 }
 

@@ -25,8 +25,8 @@ impl Sight<'_> {
         requires { IsSight self.now.dag.now self.now.panorama.now self.now.validators }
         ensures { IsTrue result → IsPlain self.now.panorama.now self.now.endorsed.now }
     {
-        for view in self.panorama.views() {
-            if let View::Faulty = view {
+        for slot in self.panorama.views() {
+            if let View::Faulty = slot.view() {
                 return false;
             }
         }

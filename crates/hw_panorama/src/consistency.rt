@@ -7,7 +7,7 @@ ghost use Rattle.hw_dag.specs.Admission.{IsGraph};
 ghost use Rattle.hw_panorama.specs.Views.{IsKnownView, IsViewOf, HasSeen, HaveSeenNoMore, IsColumnMet, AreSharedMet, AreOthersMet};
 
 use crate::order::{at_most, meets};
-use hw_dag::{Dag, Panorama, UnitNo, View};
+use hw_dag::{Dag, Panorama, Slot, UnitNo, View};
 
 /// Whether the panorama of each unit in it is at most the panorama.
 pub fn consistent(dag: &Dag, panorama: &Panorama) -> bool
@@ -33,6 +33,9 @@ fn are_shared_met(dag: &Dag, known: &Panorama, panorama: &Panorama) -> bool
     ensures unmet { result ≡ false → is_consistent (graph dag.now) (observations dag.now panorama.now) ≡ false }
 {
     for validator in 0..dag.validators() {
+        if known.slot(validator).is(panorama.slot(validator)) {
+            continue;
+        }
         let low = known.get(validator);
         let high = panorama.get(validator);
         if !meets(dag, validator, low, high) && !is_column_met(dag, known, panorama, validator) {
@@ -56,11 +59,11 @@ fn is_column_met(dag: &Dag, known: &Panorama, panorama: &Panorama, of: u32) -> b
     let high = panorama.get(of);
     let first = first_behind(dag, of, known.get(of), high);
     for validator in 0..count {
-        let view = panorama.get(validator);
-        if view != known.get(validator) {
+        let slot = panorama.slot(validator);
+        if !slot.is(known.slot(validator)) {
             continue;
         }
-        if let View::Correct(no) = view {
+        if let View::Correct(no) = slot.view() {
             if no.0 >= first && !meets(dag, of, dag.unit(no).panorama().get(of), high) {
                 return false;
             }
@@ -102,10 +105,11 @@ fn are_others_met(dag: &Dag, known: &Panorama, panorama: &Panorama) -> bool
 {
     let mut last = View::Absent;
     for validator in 0..dag.validators() {
-        let view = panorama.get(validator);
-        if view == known.get(validator) || has_seen(dag, last, validator, view) {
+        let slot = panorama.slot(validator);
+        if slot.is(known.slot(validator)) || has_seen(dag, last, validator, slot) {
             continue;
         }
+        let view = slot.view();
         if let View::Correct(no) = view {
             if !at_most(dag, dag.unit(no).panorama(), panorama) {
                 return false;
@@ -117,14 +121,14 @@ fn are_others_met(dag: &Dag, known: &Panorama, panorama: &Panorama) -> bool
 }
 
 /// Whether there is a unit in the slot, and it observes the same of the validator.
-fn has_seen(dag: &Dag, slot: View, validator: u32, view: View) -> bool
+fn has_seen(dag: &Dag, slot: View, validator: u32, seen: Slot) -> bool
     requires graph { IsGraph dag.now }
     requires slot { IsKnownView dag.now slot }
     requires validator { validator < dag.now.validators }
-    ensures { IsTrue result → HasSeen dag.now slot validator view }
+    ensures { IsTrue result → HasSeen dag.now slot validator seen }
 {
     match slot {
-        View::Correct(no) => dag.unit(no).panorama().get(validator) == view,
+        View::Correct(no) => dag.unit(no).panorama().slot(validator).is(seen),
         View::Absent | View::Faulty => false,
     }
 }

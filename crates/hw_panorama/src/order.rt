@@ -14,6 +14,17 @@ pub fn at_most(dag: &Dag, left: &Panorama, right: &Panorama) -> bool
     requires right { IsPanorama dag.now right.now }
     ensures { result ≡ is_at_most (graph dag.now) (observations dag.now left.now) (observations dag.now right.now) }
 {
+    dag.recall_graph();
+    // A lane goes up in numbers. Where no validator's units are on two lanes, numbers tell all.
+    left.is_within(right) && (!dag.is_forked() || are_met(dag, left, right))
+}
+
+/// `at_most` slot by slot, along lanes.
+fn are_met(dag: &Dag, left: &Panorama, right: &Panorama) -> bool
+    requires left { IsPanorama dag.now left.now }
+    requires right { IsPanorama dag.now right.now }
+    ensures { result ≡ is_at_most (graph dag.now) (observations dag.now left.now) (observations dag.now right.now) }
+{
     for validator in 0..dag.validators() {
         if !meets(dag, validator, left.get(validator), right.get(validator)) {
             return false;

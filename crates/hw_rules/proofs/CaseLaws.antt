@@ -1,6 +1,7 @@
 -- The units below a unit on its way in, by number.
 use Rattle.std.proofs.Common.{◌≡◌, ℕ, zero, suc, ◌<◌, inl, inr, Bool, true, false, not, List, [], ◌∷◌, length, Option, Some, None, refl, sym, ap, subst, ◌∙◌, arith, eqb-true}
-use Rattle.std.specs.Prelude.{◌&&◌, ◌==◌}
+use Rattle.std.specs.Prelude.{◌&&◌, ◌==◌, ◌↔◌, IsTrue}
+use Rattle.std.specs.List.{list_all}
 use Rattle.std.specs.Option.{option_map}
 use Rattle.hw_types.specs.declared.unit.Digest.{Digest}
 use Rattle.hw_types.specs.declared.unit.Obs.{Obs}
@@ -9,15 +10,16 @@ use Rattle.hw_types.specs.Below.{Among}
 use Rattle.hw_types.specs.Rules.{some_cited}
 use Rattle.hw_types.proofs.ClosureLaws.{Within}
 use Rattle.hw_types.proofs.PastLaws.{any_of, some_of, reach_first, reach_further, reach_within}
-use Rattle.hw_types.proofs.StableLaws.{OneName, and_whole}
-use Rattle.hw_types.proofs.WordsLaws.{any_none, none_any, either, found_node, slots_in, not_false}
+use Rattle.hw_types.proofs.StableLaws.{OneName, and_whole, both_ways}
+use Rattle.hw_types.proofs.WordsLaws.{any_none, none_any, all_of, each_all, found_node, slots_in, not_false}
 use Rattle.hw_types.proofs.SettledLaws.{digest_same, digest_self}
 use Rattle.hw_dag.specs.declared.numbers.UnitNo.{UnitNo}
 use Rattle.hw_dag.specs.declared.numbers.View.{View}
 use Rattle.hw_dag.specs.declared.numbers.View.TheVariants as view
 use Rattle.hw_dag.specs.Dag.{UnitGraph, unit_at, count_of, node_at, graph, creator_of, view_at, obs_of, IsPanorama}
-use Rattle.hw_dag.specs.Admission.{PreparedUnit, IsNew, node_prepared}
+use Rattle.hw_dag.specs.Admission.{PreparedUnit, node_prepared}
 use Rattle.hw_dag.specs.Lanes.{is_seen}
+use Rattle.hw_dag.specs.Lists.{AllNameBelow}
 use Rattle.hw_dag.specs.Tables.{number_of, predecessor_of}
 use Rattle.hw_dag.proofs.NodeLaws.{among_node, node_among, graph_one_name}
 use Rattle.hw_dag.proofs.SlotLaws.{slot_of, slot_at, length-observations, number_cites, cited_number}
@@ -172,13 +174,12 @@ module _ (dag : UnitGraph) (p : PreparedUnit) (case : IsCase dag p) where
       let n = among_node dag x.0 (within x.0 x.1) in
       (n.0, n.1, ap (λ (y : Node). y.digest) n.2 ∙ digest_same x.0.digest d x.2, subst (λ (y : Node). Among y below) (sym n.2) x.1)
 
-  pub here_named : (n : ℕ) (d : Digest) → n < count_of dag → (unit_at dag n).digest ≡ d → has_named below d ≡ true → Among (node_at dag n) below
-  here_named n d lt e t =
-      let k = named_number d t in
-      subst (λ (i : ℕ). Among (node_at dag i) below) (case.graph_is.distinct k.0 n k.1 lt (k.2 ∙ sym e)) k.3
-
-  pub new_unnamed : (d : Digest) → IsNew dag d → has_named below d ≡ false
-  new_unnamed d new = elim (either (has_named below d)) [
-    | inl t ↦ absurd (let k = named_number d t in new k.0 k.1 k.2)
-    | inr f ↦ f
-  ]
+  -- each name of a list is
+  pub all_named : (names : List Digest) (b : Bool) → IsTrue b ↔ AllNameBelow dag p.panorama names → b ≡ list_all (has_named below) names
+  all_named names b told = both_ways b (list_all (has_named below) names)
+      (λ t. each_all (has_named below) names (λ d m.
+      let k = told.0 t d m in
+      named_here k.number d k.named (seen_below k.number k.below.slot k.below.cited k.known k.below.observed k.below.seen)))
+      (λ t. told.1 (λ d m.
+      let k = named_number d (all_of (has_named below) names t d m) in
+      record { number = k.0; known = k.1; named = k.2; below = below_seen k.0 k.1 k.3 }))

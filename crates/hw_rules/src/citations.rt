@@ -11,7 +11,7 @@ ghost use Rattle.hw_rules.specs.Judged.{IsCase, EachNamed, below_of, citation_te
 ghost use Rattle.hw_rules.specs.Verdict.{verdict_of};
 
 use crate::lookups::{cited_beside, newest, previous, wire_unit};
-use hw_dag::{Dag, Prepared, View};
+use hw_dag::{Dag, Prepared, Slot};
 use hw_panorama::consistent;
 use hw_types::Rule;
 
@@ -52,7 +52,7 @@ fn has_foreign_slot(dag: &Dag, prepared: &Prepared) -> bool
 }
 
 /// Slots that name units of their validators only: what the newest unit observes.
-fn own_slots(dag: &Dag) -> &[View]
+fn own_slots(dag: &Dag) -> &[Slot]
     requires { IsGraph dag.now }
     ensures { EachNamed result.now (λ validator no. creator_of (unit_at dag.now no.0) ≡ validator) }
 {
@@ -108,7 +108,7 @@ fn goes_back(dag: &Dag, prepared: &Prepared) -> bool
 
 /// Slots that name no unit later than this time: what the newest unit observes, where that one isn't later,
 /// since it observes no unit later than itself.
-fn timely_slots(dag: &Dag, time: u64) -> &[View]
+fn timely_slots(dag: &Dag, time: u64) -> &[Slot]
     requires { IsGraph dag.now }
     ensures { EachNamed result.now (λ validator no. nat_lt time (unit_at dag.now no.0).signed.unit.time ≡ false) }
 {

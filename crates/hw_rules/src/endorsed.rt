@@ -1,19 +1,18 @@
 //! The rules of a unit's endorsed list.
 
-ghost use Rattle.std.specs.Prelude.{◌≡◌, ◌<◌, ◌≤◌, ◌↔◌, IsTrue, true, false};
+ghost use Rattle.std.specs.Prelude.{◌≡◌, ◌≤◌, true, false};
 ghost use Rattle.std.specs.List.{list_all};
-ghost use Rattle.hw_types.specs.Below.{Among};
 ghost use Rattle.hw_types.specs.Rules.{has_digest, has_naive_fork};
 ghost use Rattle.hw_types.specs.Tests.{first_broken};
-ghost use Rattle.hw_dag.specs.Dag.{count_of, unit_at, node_at};
+ghost use Rattle.hw_dag.specs.Dag.{count_of, unit_at};
 ghost use Rattle.hw_dag.specs.Admission.{IsGraph, node_prepared};
 ghost use Rattle.hw_naivety.specs.Naivety.{IsNoted};
-ghost use Rattle.hw_rules.specs.Judged.{IsCase, EachNamed, AllKeepEndorsed, below_of, endorsed_tests, has_foreign_slot, drops_endorsed, endorses_unseen, has_named};
+ghost use Rattle.hw_rules.specs.Judged.{IsCase, EachNamed, AllKeepEndorsed, below_of, endorsed_tests, has_foreign_slot, drops_endorsed, endorses_unseen};
 ghost use Rattle.hw_rules.specs.Verdict.{verdict_of};
 
 use crate::lists::has_all;
-use crate::lookups::{cited, cited_beside, newest, wire_unit};
-use hw_dag::{Dag, Marks, Prepared, UnitNo, View};
+use crate::lookups::{cited_beside, newest, wire_unit};
+use hw_dag::{Dag, Marks, Prepared, Slot};
 use hw_naivety::Naivety;
 use hw_types::{Digest, Rule};
 
@@ -64,7 +63,7 @@ fn drops_endorsed(dag: &Dag, prepared: &Prepared) -> bool
 
 /// Slots that name only units whose lists are parts of the own one: what the newest unit observes, where its
 /// list is a part of the own one, since its list has those of the units that it observes.
-fn listed_slots<'a>(dag: &'a Dag, own: &[Digest]) -> &'a [View]
+fn listed_slots<'a>(dag: &'a Dag, own: &[Digest]) -> &'a [Slot]
     requires graph { IsGraph dag.now }
     requires kept { AllKeepEndorsed dag.now }
     ensures { EachNamed result.now (λ validator no. list_all (has_digest own.now) (unit_at dag.now no.0).signed.unit.endorsed ≡ true) }
@@ -84,49 +83,8 @@ fn endorses_unseen(dag: &Dag, prepared: &Prepared, marks: &mut Marks) -> bool
     ensures unseen { result ≡ endorses_unseen (below_of dag.now prepared.now) (node_prepared prepared.now) }
     ensures room { marks.new ≡ marks.old }
 {
-    for digest in prepared.signed().unit.endorsed.as_slice() {
-        if !has_named(dag, prepared, digest, marks) {
-            return true;
-        }
-    }
-    false
-}
-
-/// Whether it has a unit of this name below it.
-fn has_named(dag: &Dag, prepared: &Prepared, name: &Digest, marks: &mut Marks) -> bool
-    requires case { IsCase dag.now prepared.now }
-    requires room { count_of dag.now ≤ marks.old }
-    ensures named { result ≡ has_named (below_of dag.now prepared.now) name.now }
-    ensures room { marks.new ≡ marks.old }
-{
-    match dag.find(name) {
-        Some(no) => has_below(dag, prepared, no, marks),
-        None => false,
-    }
-}
-
-/// Whether it has the unit below it.
-fn has_below(dag: &Dag, prepared: &Prepared, no: UnitNo, marks: &mut Marks) -> bool
-    requires case { IsCase dag.now prepared.now }
-    requires known { no.0 < count_of dag.now }
-    requires room { count_of dag.now ≤ marks.old }
-    ensures below { IsTrue result ↔ Among (node_at dag.now no.0) (below_of dag.now prepared.now) }
-    ensures room { marks.new ≡ marks.old }
-{
-    is_on_cited_lane(dag, prepared, no) || dag.is_below_any(prepared.panorama(), no, marks)
-}
-
-/// Whether the unit is on the lane of the one that it cites of the same creator, as units below mostly
-/// are.
-fn is_on_cited_lane(dag: &Dag, prepared: &Prepared, no: UnitNo) -> bool
-    requires case { IsCase dag.now prepared.now }
-    requires known { no.0 < count_of dag.now }
-    ensures { IsTrue result → Among (node_at dag.now no.0) (below_of dag.now prepared.now) }
-{
-    match cited(prepared, wire_unit(dag, no).creator) {
-        Some(high) => dag.on_lane(no, high),
-        None => false,
-    }
+    let list = prepared.signed().unit.endorsed.as_slice();
+    !dag.has_all_below(prepared.panorama(), list, marks)
 }
 
 /// Whether two units of one creator that are naive for it aren't comparable.

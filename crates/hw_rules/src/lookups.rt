@@ -2,13 +2,13 @@
 
 ghost use Rattle.std.specs.Prelude.{◌≡◌, ◌<◌, ◌-◌, length, IfSome, IfNone};
 ghost use Rattle.hw_dag.specs.declared.numbers.UnitNo.{UnitNo as Number};
-ghost use Rattle.hw_dag.specs.declared.numbers.View.TheVariants as Slot;
+ghost use Rattle.hw_dag.specs.declared.numbers.View.TheVariants as view;
 ghost use Rattle.hw_dag.specs.Dag.{count_of, unit_at, view_at};
 ghost use Rattle.hw_dag.specs.Admission.{IsGraph};
 ghost use Rattle.hw_dag.specs.Tables.{number_of, predecessor_of};
 ghost use Rattle.hw_rules.specs.Judged.{before_of};
 
-use hw_dag::{Dag, Panorama, Prepared, Unit, UnitNo, View};
+use hw_dag::{Dag, Panorama, Prepared, Slot, Unit, UnitNo, View};
 use hw_types::WireUnit;
 
 /// The unit that a slot names.
@@ -30,7 +30,7 @@ fn named(view: View) -> Option<UnitNo>
 }
 
 /// The unit that it cites of a validator.
-pub fn cited(prepared: &Prepared, validator: u32) -> Option<UnitNo>
+fn cited(prepared: &Prepared, validator: u32) -> Option<UnitNo>
     requires { validator < length prepared.now.panorama }
     ensures { result ≡ number_of (view_at prepared.now.panorama validator) }
 {
@@ -38,17 +38,17 @@ pub fn cited(prepared: &Prepared, validator: u32) -> Option<UnitNo>
 }
 
 /// The unit that it cites of a validator, unless the known slots name it too.
-pub fn cited_beside(known: &[View], prepared: &Prepared, validator: u32) -> Option<UnitNo>
+pub fn cited_beside(known: &[Slot], prepared: &Prepared, validator: u32) -> Option<UnitNo>
     requires { validator < length prepared.now.panorama }
-    ensures cited { IfSome result (λ no. view_at prepared.now.panorama validator ≡ Slot.Correct no) }
-    ensures known { IfNone result ((no : Number) → view_at prepared.now.panorama validator ≡ Slot.Correct no → view_at known.now validator ≡ Slot.Correct no) }
+    ensures cited { IfSome result (λ no. view_at prepared.now.panorama validator ≡ view.Correct no) }
+    ensures known { IfNone result ((no : Number) → view_at prepared.now.panorama validator ≡ view.Correct no → view_at known.now validator ≡ view.Correct no) }
 {
-    let view = prepared.panorama().get(validator);
-    let slot = validator as usize;
-    if slot < known.len() && known[slot] == view {
+    let slot = prepared.panorama().slot(validator);
+    let place = validator as usize;
+    if place < known.len() && known[place].is(slot) {
         return None;
     }
-    named(view)
+    named(slot.view())
 }
 
 /// The unit that it cites of its own creator.

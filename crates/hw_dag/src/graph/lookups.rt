@@ -10,7 +10,7 @@ ghost use Rattle.hw_dag.specs.Tables.{IsKnown};
 ghost use Rattle.hw_dag.specs.Walks.{is_marked, Cites, HasRoom, IsInNoSlot, IsCitedBySome, IsBelowMarked};
 
 use crate::graph::Dag;
-use crate::numbers::{Panorama, UnitNo, View};
+use crate::numbers::{Panorama, Slot, UnitNo, View};
 use crate::scratch::Marks;
 use hw_skip::Steps;
 use std::marker::Brand;
@@ -139,9 +139,14 @@ impl Dag {
         ensures seen { result ≡ is_seen self.now low.0 high.0 }
         ensures room { marks.new ≡ marks.old }
     {
+        self.recall_graph();
         match self.told(high, low) {
             Some(told) => told,
-            None => self.reaches(&[View::Correct(high)], low, marks.marked.as_mut_slice()),
+            None => self.reaches(
+                &[Slot::of(View::Correct(high))],
+                low,
+                marks.marked.as_mut_slice(),
+            ),
         }
     }
 
@@ -162,7 +167,7 @@ impl Dag {
     }
 
     /// Whether `low` is the unit of a slot or below one, where no walk is needed to tell.
-    fn told_by(&self, slots: &[View], low: UnitNo) -> Option<bool>
+    pub(super) fn told_by(&self, slots: &[Slot], low: UnitNo) -> Option<bool>
         requires known { IsKnown self.now slots.now }
         requires low_known { low.0 < count_of self.now }
         ensures told { IfSome result (λ told. IsTrue told ↔ IsBelow self.now slots.now low.0) }
@@ -170,8 +175,8 @@ impl Dag {
     {
         self.recall_graph();
         let mut open = false;
-        for view in slots {
-            if let View::Correct(high) = *view {
+        for slot in slots {
+            if let View::Correct(high) = slot.view() {
                 match self.told(high, low) {
                     Some(true) => return Some(true),
                     Some(false) => {}
@@ -210,8 +215,8 @@ impl Dag {
         ensures { IsTrue result → is_seen self.now low.0 high.0 ≡ true }
     {
         let first = self.first_marking(high, creator);
-        for view in self.units[first.0 as usize].panorama().views() {
-            if self.shows(*view, low, creator) {
+        for slot in self.units[first.0 as usize].panorama().views() {
+            if self.shows(slot.view(), low, creator) {
                 return true;
             }
         }
@@ -245,7 +250,10 @@ impl Dag {
         requires { no.0 < count_of self.now }
     {
         let views = self.units[no.0 as usize].panorama().views();
-        matches!(views.get(validator as usize), Some(View::Faulty))
+        match views.get(validator as usize) {
+            Some(slot) => matches!(slot.view(), View::Faulty),
+            None => false,
+        }
     }
 
     /// Whether the unit in a slot is `low`, or its lane of the creator shows `low`.
@@ -265,7 +273,7 @@ impl Dag {
     }
 
     /// Whether `low` is below the unit of a slot, by one walk from all of them at once.
-    fn reaches(&self, slots: &[View], low: UnitNo, marked: &mut [bool]) -> bool
+    fn reaches(&self, slots: &[Slot], low: UnitNo, marked: &mut [bool]) -> bool
         requires known { IsKnown self.now slots.now }
         requires low_known { low.0 < count_of self.now }
         requires apart { IsInNoSlot slots.now low.0 }
@@ -305,21 +313,21 @@ impl Dag {
     }
 
     /// Marks the units that those of the slots observe, from `low` on.
-    fn mark_observed_by(&self, slots: &[View], low: UnitNo, marked: &mut [bool])
+    pub(super) fn mark_observed_by(&self, slots: &[Slot], low: UnitNo, marked: &mut [bool])
         requires known { IsKnown self.now slots.now }
         requires room { HasRoom slots.now (length marked.old) }
         ensures all { (m : ℕ) → IsCitedBySome self.now slots.now m → low.0 ≤ m → is_marked marked.new m ≡ true }
         ensures only { (m : ℕ) → is_marked marked.new m ≡ true → (is_marked marked.old m ≡ true) ⊎ IsCitedBySome self.now slots.now m }
     {
-        for view in slots {
-            if let View::Correct(no) = *view {
+        for slot in slots {
+            if let View::Correct(no) = slot.view() {
                 self.mark_observed(no, low, marked);
             }
         }
     }
 
     /// Marks the units that a unit observes, from `low` on.
-    fn mark_observed(&self, no: UnitNo, low: UnitNo, marked: &mut [bool])
+    pub(super) fn mark_observed(&self, no: UnitNo, low: UnitNo, marked: &mut [bool])
         requires known { no.0 < count_of self.now }
         requires room { no.0 ≤ length marked.old }
         ensures kept { (m : ℕ) → is_marked marked.old m ≡ true → is_marked marked.new m ≡ true }
@@ -327,8 +335,8 @@ impl Dag {
         ensures only { (m : ℕ) → is_marked marked.new m ≡ true → (is_marked marked.old m ≡ true) ⊎ Cites self.now no.0 m }
         ensures earlier { (m : ℕ) → Cites self.now no.0 m → m < no.0 }
     {
-        for view in self.units[no.0 as usize].panorama().views() {
-            mark(marked, *view, low);
+        for slot in self.units[no.0 as usize].panorama().views() {
+            mark(marked, slot.view(), low);
         }
     }
 }
@@ -348,7 +356,7 @@ fn mark(marked: &mut [bool], view: View, low: UnitNo)
 }
 
 // Takes the marks away from `from` up to `to`.
-fn clear(marked: &mut [bool], from: usize, to: usize)
+pub(super) fn clear(marked: &mut [bool], from: usize, to: usize)
     requires { to ≤ length marked.old }
     ensures { (m : ℕ) → from ≤ m → m < to → is_marked marked.new m ≡ false }
 {
@@ -358,13 +366,13 @@ fn clear(marked: &mut [bool], from: usize, to: usize)
 }
 
 // The greatest number in the slots, or 0 where there is none.
-fn greatest(slots: &[View]) -> u32
+pub(super) fn greatest(slots: &[Slot]) -> u32
     ensures all { (slot : ℕ) (number : Number) → view_at slots.now slot ≡ View.Correct number → number.0 ≤ result }
     ensures one { 0 < result → (slot : ℕ) × (number : Number) × (view_at slots.now slot ≡ View.Correct number) × (number.0 ≡ result) }
 {
     let mut top = 0;
-    for view in slots {
-        if let View::Correct(no) = *view {
+    for slot in slots {
+        if let View::Correct(no) = slot.view() {
             top = top.max(no.0);
         }
     }

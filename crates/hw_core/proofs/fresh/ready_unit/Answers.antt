@@ -2,9 +2,8 @@ use Rattle.std.proofs.Common.{ℕ, length, sym, subst, arith}
 use Rattle.hw_dag.specs.Admission.{IsFor}
 use Rattle.hw_admit.specs.State.{NodeState}
 use Rattle.hw_core.specs.Decided.{HasRoomFor}
-use Rattle.hw_core.proofs.CountLaws.{graph_length}
 use Rattle.hw_core.proofs.PlaceLaws.{always_ok}
-use Rattle.hw_core.proofs.UnitBoundLaws.{waits_few, journal_few}
+use Rattle.hw_core.proofs.UnitBoundLaws.{waits_few, settled_few, journal_few}
 use Rattle.hw_core.proofs.fresh.ready_unit.Goals as goal
 
 pub overflow_add-waiting : goal.overflow_add-waiting
@@ -17,8 +16,9 @@ overflow_add-waiting c =
 pub make_room-requires : goal.make_room-requires
 make_room-requires c =
     let count = c.count-waiting.ensures in
-    let units = c.units_at_most-units.ensures.count in
-    let long = graph_length c.args.state.now.dag c.units_at_most-units.ensures.graph in
+    let settled = settled_few c.args.journal.now.items c.args.park.now c.args.state.now c.requires.node c.units_at_most-units.ensures.graph in
+    let few = waits_few c.args.journal.now.items c.args.park.now c.args.state.now c.requires.node in
+    let most = journal_few c.args.journal.now.items c.args.park.now c.args.state.now c.requires.node c.config-config.ensures.lawful in
     omega arith
 
 pub prepare_copy-requires : goal.prepare_copy-requires

@@ -23,4 +23,4 @@ pub returns-in-Err-clause-placed : goal.returns-in-Err-clause-placed
 returns-in-Err-clause-placed c =
     let e = c.settle_new.ensures in
     placed_dropped c.args.journal.now c.args.park.now c.args.state.now c.requires.node c.args.prepared c.requires.new c.requires.met c.settle_new.new.state c.settle_new.new.park e.limit e.settled e.can e.none_ready
-    c.args.dropped.now.entries c.settle_new.new.dropped.entries c.requires.rules e.noted c.in-Err.rule c.in-Err.ensures.broken
+    c.args.dropped.now.entries c.settle_new.new.dropped.entries c.requires.rules e.noted c.in-Err.rule c.in-Err.ensures.broken c.in-Err.ensures.unchanged

@@ -7,31 +7,31 @@ use Rattle.hw_forks.specs.Votes.{votes_of, vote_of, AreVotes}
 use Rattle.hw_forks.proofs.GatherLaws.{votes_none, votes_with, votes_without, count_room, put_last, votes_are}
 use Rattle.hw_forks.proofs.votes.gather.Goals as goal
 
-pub loop-view-init : goal.loop-view-init
-loop-view-init c = (omega arith, sym (votes_none c.args.dag.now c.args.weights.now c.args.panorama.now))
+pub loop-slot-init : goal.loop-slot-init
+loop-slot-init c = (omega arith, sym (votes_none c.args.dag.now c.args.weights.now c.args.panorama.now))
 
 pub bounds-votes-count : goal.bounds-votes-count
 bounds-votes-count c =
-    let i = c.loop-view.invariant in
+    let i = c.loop-slot.invariant in
     let large = c.requires.room in
-    let kept = c.loop-view.auto.votes in
-    let turn = zip_turn c.args.panorama.now c.args.weights.now c.loop-view.yielded c.into_iter-view-iterator.result c.loop-view.view-iterator c.next.new.self c.next.result
-    (search rules) (search rules) c.loop-view.yielded_by (c.in-Some.view, c.in-Some.weight) c.in-Some.is c.next.ensures.steps in
-    count_room c.args.dag.now c.args.weights.now c.args.panorama.now c.requires.panorama c.loop-view.votes c.loop-view.count (length c.loop-view.yielded) c.in-Correct.no i.0 i.1 (omega arith)
-    (sym (turn.2 view.Absent) ∙ c.in-Correct.is)
+    let kept = c.loop-slot.auto.votes in
+    let turn = zip_turn c.args.panorama.now c.args.weights.now c.loop-slot.yielded c.into_iter-slot-iterator.result c.loop-slot.slot-iterator c.next.new.self c.next.result
+    (search rules) (search rules) c.loop-slot.yielded_by (c.in-Some.slot, c.in-Some.weight) c.in-Some.is c.next.ensures.steps in
+    count_room c.args.dag.now c.args.weights.now c.args.panorama.now c.requires.panorama c.loop-slot.votes c.loop-slot.count (length c.loop-slot.yielded) c.in-Correct.no i.0 i.1 (omega arith)
+    (sym (turn.2 view.Absent) ∙ sym c.view.ensures ∙ c.in-Correct.is)
 
-pub loop-view-preserved-in-Correct : goal.loop-view-preserved-in-Correct
-loop-view-preserved-in-Correct c =
-    let i = c.loop-view.invariant in
+pub loop-slot-preserved-in-Correct : goal.loop-slot-preserved-in-Correct
+loop-slot-preserved-in-Correct c =
+    let i = c.loop-slot.invariant in
     let large = c.requires.room in
-    let kept = c.loop-view.auto.votes in
-    let n = length c.loop-view.yielded in
-    let long : length (c.loop-view.yielded ++ (c.in-Some.view, c.in-Some.weight) ∷ []) ≡ n + 1 = length_push c.loop-view.yielded (c.in-Some.view, c.in-Some.weight) in
-    let turn = zip_turn c.args.panorama.now c.args.weights.now c.loop-view.yielded c.into_iter-view-iterator.result c.loop-view.view-iterator c.next.new.self c.next.result
-    (search rules) (search rules) c.loop-view.yielded_by (c.in-Some.view, c.in-Some.weight) c.in-Some.is c.next.ensures.steps in
-    let here = sym (turn.2 view.Absent) ∙ c.in-Correct.is in
-    let less = count_room c.args.dag.now c.args.weights.now c.args.panorama.now c.requires.panorama c.loop-view.votes c.loop-view.count n c.in-Correct.no i.0 i.1 (omega arith) here in
-    let put = put_last c.loop-view.votes _ (votes_of c.args.dag.now c.args.weights.now c.args.panorama.now n) c.loop-view.count _ c.vote_of.result less i.1 refl refl in (
+    let kept = c.loop-slot.auto.votes in
+    let n = length c.loop-slot.yielded in
+    let long : length (c.loop-slot.yielded ++ (c.in-Some.slot, c.in-Some.weight) ∷ []) ≡ n + 1 = length_push c.loop-slot.yielded (c.in-Some.slot, c.in-Some.weight) in
+    let turn = zip_turn c.args.panorama.now c.args.weights.now c.loop-slot.yielded c.into_iter-slot-iterator.result c.loop-slot.slot-iterator c.next.new.self c.next.result
+    (search rules) (search rules) c.loop-slot.yielded_by (c.in-Some.slot, c.in-Some.weight) c.in-Some.is c.next.ensures.steps in
+    let here = sym (turn.2 view.Absent) ∙ sym c.view.ensures ∙ c.in-Correct.is in
+    let less = count_room c.args.dag.now c.args.weights.now c.args.panorama.now c.requires.panorama c.loop-slot.votes c.loop-slot.count n c.in-Correct.no i.0 i.1 (omega arith) here in
+    let put = put_last c.loop-slot.votes _ (votes_of c.args.dag.now c.args.weights.now c.args.panorama.now n) c.loop-slot.count _ c.vote_of.result less i.1 refl refl in (
       put.0,
       put.1 ∙ ap (λ (vote : Vote). votes_of c.args.dag.now c.args.weights.now c.args.panorama.now n ++ vote ∷ [])
           (c.vote_of.ensures ∙ ap (vote_of c.args.dag.now c.in-Correct.no) (turn.3 0))
@@ -39,32 +39,32 @@ loop-view-preserved-in-Correct c =
           ∙ ap (votes_of c.args.dag.now c.args.weights.now c.args.panorama.now) (sym long),
     )
 
-pub loop-view-preserved : goal.loop-view-preserved
-loop-view-preserved c =
-    let n = length c.loop-view.yielded in
-    let long : length (c.loop-view.yielded ++ (c.in-Some.view, c.in-Some.weight) ∷ []) ≡ n + 1 = length_push c.loop-view.yielded (c.in-Some.view, c.in-Some.weight) in
-    let turn = zip_turn c.args.panorama.now c.args.weights.now c.loop-view.yielded c.into_iter-view-iterator.result c.loop-view.view-iterator c.next.new.self c.next.result
-    (search rules) (search rules) c.loop-view.yielded_by (c.in-Some.view, c.in-Some.weight) c.in-Some.is c.next.ensures.steps in
-    let i = c.loop-view.invariant in (
+pub loop-slot-preserved : goal.loop-slot-preserved
+loop-slot-preserved c =
+    let n = length c.loop-slot.yielded in
+    let long : length (c.loop-slot.yielded ++ (c.in-Some.slot, c.in-Some.weight) ∷ []) ≡ n + 1 = length_push c.loop-slot.yielded (c.in-Some.slot, c.in-Some.weight) in
+    let turn = zip_turn c.args.panorama.now c.args.weights.now c.loop-slot.yielded c.into_iter-slot-iterator.result c.loop-slot.slot-iterator c.next.new.self c.next.result
+    (search rules) (search rules) c.loop-slot.yielded_by (c.in-Some.slot, c.in-Some.weight) c.in-Some.is c.next.ensures.steps in
+    let i = c.loop-slot.invariant in (
       i.0,
-      i.1 ∙ sym (votes_without c.args.dag.now c.args.weights.now c.args.panorama.now n (λ number e. c.in_default.not-Correct number (turn.2 view.Absent ∙ e)))
+      i.1 ∙ sym (votes_without c.args.dag.now c.args.weights.now c.args.panorama.now n (λ number e. c.in_default.not-Correct number (c.view.ensures ∙ turn.2 view.Absent ∙ e)))
           ∙ ap (votes_of c.args.dag.now c.args.weights.now c.args.panorama.now) (sym long),
     )
 
 pub returns-clause-votes : goal.returns-clause-votes
 returns-clause-votes c =
-    let turns = zip_end c.args.panorama.now c.args.weights.now c.loop-view.yielded c.into_iter-view-iterator.result c.loop-view.view-iterator c.next.new.self c.next.result
-    (search rules) (search rules) c.loop-view.yielded_by c.in-None.is c.next.ensures.steps in
+    let turns = zip_end c.args.panorama.now c.args.weights.now c.loop-slot.yielded c.into_iter-slot-iterator.result c.loop-slot.slot-iterator c.next.new.self c.next.result
+    (search rules) (search rules) c.loop-slot.yielded_by c.in-None.is c.next.ensures.steps in
     let slots = c.requires.panorama.length_is in
     let weights = c.requires.weights.length_is in
-    c.loop-view.invariant.1 ∙ ap (votes_of c.args.dag.now c.args.weights.now c.args.panorama.now) (omega arith)
+    c.loop-slot.invariant.1 ∙ ap (votes_of c.args.dag.now c.args.weights.now c.args.panorama.now) (omega arith)
 
 pub returns-clause-are : goal.returns-clause-are
 returns-clause-are c =
-    let turns = zip_end c.args.panorama.now c.args.weights.now c.loop-view.yielded c.into_iter-view-iterator.result c.loop-view.view-iterator c.next.new.self c.next.result
-    (search rules) (search rules) c.loop-view.yielded_by c.in-None.is c.next.ensures.steps in
+    let turns = zip_end c.args.panorama.now c.args.weights.now c.loop-slot.yielded c.into_iter-slot-iterator.result c.loop-slot.slot-iterator c.next.new.self c.next.result
+    (search rules) (search rules) c.loop-slot.yielded_by c.in-None.is c.next.ensures.steps in
     let slots = c.requires.panorama.length_is in
     let weights = c.requires.weights.length_is in
-    let all : length c.loop-view.yielded ≡ c.args.dag.now.validators = omega arith in
-    subst (AreVotes c.args.dag.now) (sym (c.loop-view.invariant.1 ∙ ap (votes_of c.args.dag.now c.args.weights.now c.args.panorama.now) all))
+    let all : length c.loop-slot.yielded ≡ c.args.dag.now.validators = omega arith in
+    subst (AreVotes c.args.dag.now) (sym (c.loop-slot.invariant.1 ∙ ap (votes_of c.args.dag.now c.args.weights.now c.args.panorama.now) all))
     (votes_are c.args.dag.now c.args.weights.now c.args.panorama.now c.requires.panorama c.recall_graph.ensures c.requires.weights)

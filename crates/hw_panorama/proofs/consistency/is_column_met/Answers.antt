@@ -16,7 +16,7 @@ returns-then-not-meets-clause-unmet c = λ e.
     let row = c.panorama.ensures ∙ ap (λ (u : SettledUnit). u.panorama) c.unit.ensures in
     let low = c.get-then-no-first.ensures ∙ ap (λ (p : List View). view_at p c.args.of) row in
     one_unmet c.args.dag.now c.validators-count.ensures.graph c.args.known.now c.args.panorama.now c.requires.known c.requires.panorama
-    c.loop-validator.validator c.in-Correct.no (sym c.get-view.ensures ∙ c.in-Correct.is) c.args.of c.requires.of
+    c.loop-validator.validator c.in-Correct.no (sym c.slot-slot.ensures ∙ sym c.view.ensures ∙ c.in-Correct.is) c.args.of c.requires.of
     (sym (met_step c.args.dag.now (unit_at c.args.dag.now c.in-Correct.no.0).panorama c.args.panorama.now c.args.of c.get-then-no-first.result c.get-high.result c.meets.result low c.get-high.ensures c.meets.ensures) ∙ c.if-not-meets.true)
 
 pub loop-validator-preserved : goal.loop-validator-preserved
@@ -26,7 +26,7 @@ loop-validator-preserved c =
     c.loop-validator.validator c.loop-validator.invariant
     (λ number s. elim c.match-view.branch [
       | in-Correct+else-no-first w ↦ (
-          let same : w.in-Correct.no ≡ number = (let e : view.Correct w.in-Correct.no ≡ view.Correct number = sym w.in-Correct.is ∙ c.get-view.ensures ∙ s.here in cc) in
+          let same : w.in-Correct.no ≡ number = (let e : view.Correct w.in-Correct.no ≡ view.Correct number = sym w.in-Correct.is ∙ c.view.ensures ∙ c.slot-slot.ensures ∙ s.here in cc) in
           let seen = λ (k : UnitNo). view_at (unit_at c.args.dag.now k.0).panorama c.args.of in
           elim w.else-no-first.branch [
             | else-no-first-via-then-no-first+else-not-meets x ↦ (
@@ -42,5 +42,5 @@ loop-validator-preserved c =
                 )
           ]
           )
-      | in_default w ↦ absurd (w.in_default.not-Correct number (c.get-view.ensures ∙ s.here))
+      | in_default w ↦ absurd (w.in_default.not-Correct number (c.view.ensures ∙ c.slot-slot.ensures ∙ s.here))
     ])

@@ -1,14 +1,12 @@
--- A panorama is at most another where each slot is met.
-use Rattle.std.proofs.Common.{◌≡◌, ◌<◌, length, false, sym, arith, rules}
-use Rattle.hw_panorama.proofs.OrderLaws.{all_met, unmet_step}
+-- Numbers alone tell where no validator has two lanes, and where they tell that a slot isn't met.
+use Rattle.std.proofs.Common.{not, sym, ap, ◌∙◌}
+use Rattle.hw_panorama.proofs.WithinLaws.{within_is_below, not_within_not_below}
 use Rattle.hw_panorama.proofs.order.at_most.Goals as goal
 
-pub returns-then-not-meets : goal.returns-then-not-meets
-returns-then-not-meets c =
-    let lt : c.loop-validator.validator < length c.args.left.now = (let many = c.requires.left.length_is in omega arith) in
-    let unmet : c.meets.result ≡ false = search rules in
-    unmet_step c.args.dag.now c.args.left.now c.args.right.now c.loop-validator.validator c.get.result c.get-in-loop-validator.result c.meets.result
-    lt c.get.ensures c.get-in-loop-validator.ensures c.meets.ensures unmet
+pub returns-then-not-is_forked : goal.returns-then-not-is_forked
+returns-then-not-is_forked c =
+    ap not c.if-not-is_forked.true ∙ sym (within_is_below c.args.dag.now c.recall_graph.ensures c.args.left.now c.args.right.now c.requires.left c.requires.right (c.is_forked.ensures c.if-not-is_forked.true) (c.is_within.ensures.0 c.if-is_within.true))
 
-pub returns : goal.returns
-returns c = sym (all_met c.args.dag.now c.args.left.now c.args.right.now (λ v lt. c.loop-validator.invariant v (let many = c.requires.left.length_is in omega arith)))
+pub returns-else-is_within : goal.returns-else-is_within
+returns-else-is_within c =
+    c.if-is_within.false ∙ not_within_not_below c.args.dag.now c.recall_graph.ensures c.args.left.now c.args.right.now c.requires.left c.requires.right c.is_within.result c.is_within.ensures c.if-is_within.false

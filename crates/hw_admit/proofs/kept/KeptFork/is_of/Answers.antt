@@ -8,7 +8,7 @@ loop-validator-init c = λ v lt. absurd (omega arith)
 pub loop-validator-preserved : goal.loop-validator-preserved
 loop-validator-preserved c =
     same_more c.loop-validator.validator c.args.self.now.panorama c.args.panorama.now c.loop-validator.invariant
-    (sym c.get.ensures ∙ c.is_same.ensures.0 c.if-not-is_same.false ∙ c.get-in-loop-validator.ensures)
+    (sym c.slot.ensures ∙ c.is.ensures.0 c.if-not-is.false ∙ c.slot-in-loop-validator.ensures)
 
 pub returns-clause-same : goal.returns-clause-same
 returns-clause-same c = λ known.

@@ -6,16 +6,16 @@ use Rattle.hw_admit.proofs.kept.KeptFork.keep.Goals as goal
 pub loop-validator-init : goal.loop-validator-init
 loop-validator-init c = (c.requires.own, λ v lt. absurd (omega arith))
 
-pub set-requires : goal.set-requires
-set-requires c = let long = c.loop-validator.invariant.0 in let below = c.loop-validator-test.true in omega arith
+pub put-requires : goal.put-requires
+put-requires c = let long = c.loop-validator.invariant.0 in let below = c.loop-validator-test.true in omega arith
 
 pub loop-validator-preserved : goal.loop-validator-preserved
 loop-validator-preserved c =
     let long = c.loop-validator.invariant.0 in
     let below = c.loop-validator-test.true in (
-      ap length c.set.ensures ∙ length-set c.loop-validator.self.panorama c.loop-validator.validator c.get.result ∙ long,
-      subst (λ (ws : List View). AreSame (c.loop-validator.validator + 1) ws c.args.panorama.now) (sym c.set.ensures)
-          (same_set c.loop-validator.validator c.loop-validator.self.panorama c.args.panorama.now (omega arith) c.loop-validator.invariant.1 c.get.result c.get.ensures),
+      ap length c.put.ensures ∙ length-set c.loop-validator.self.panorama c.loop-validator.validator c.slot.result ∙ long,
+      subst (λ (ws : List View). AreSame (c.loop-validator.validator + 1) ws c.args.panorama.now) (sym c.put.ensures)
+          (same_set c.loop-validator.validator c.loop-validator.self.panorama c.args.panorama.now (omega arith) c.loop-validator.invariant.1 c.slot.result c.slot.ensures),
     )
 
 pub returns : goal.returns

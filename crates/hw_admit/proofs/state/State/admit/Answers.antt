@@ -14,7 +14,7 @@ use Rattle.hw_admit.specs.Kept.{IsKept}
 use Rattle.hw_admit.proofs.KeptLaws.{kept_stays}
 use Rattle.hw_admit.specs.State.{NodeState, MarksAreMet, is_faulty_in, observed_in}
 use Rattle.hw_admit.proofs.RuleLaws.{fits, keeps, sound, is_ready, noted_later, endorses_later, forkless_later}
-use Rattle.hw_admit.proofs.AdmitLaws.{is_state_later, seen_later}
+use Rattle.hw_admit.proofs.AdmitLaws.{is_state_later, seen_later, next_code}
 use Rattle.hw_admit.proofs.state.State.admit.Goals as goal
 
 pub get-seen-requires : goal.get-seen-requires
@@ -138,8 +138,29 @@ get-requires c =
     let long = c.self.invariant.0.panorama_is.length_is in
     omega arith
 
-pub set-requires : goal.set-requires
-set-requires c =
+pub set-requires-clause-code : goal.set-requires-clause-code
+set-requires-clause-code c =
+    let p = c.args.prepared in
+    let config = c.self.inside.config in
+    let dag = c.self.inside.dag in
+    let g = c.recall_graph.ensures in
+    let many = c.self.invariant.0.weights_are.length_is in
+    let alone = subst (λ (s : NodeState). KeepsLocalRules s.config c.args.prepared.signed.unit) (sym c.self.view_is) c.requires.alone in
+    let resolved = subst (λ (s : NodeState). IsResolved s.dag c.args.prepared) (sym c.self.view_is) c.requires.resolved in
+    let rules = subst (λ (s : NodeState). state_rule s.config (graph s.dag) (node_prepared c.args.prepared) ≡ None) (sym c.self.view_is) c.requires.rules in
+    let fresh = subst (λ (s : NodeState). IsNew s.dag c.args.prepared.digest) (sym c.self.view_is) c.requires.fresh in
+    let room = subst (λ (s : NodeState). 1 ≤ s.spare) (sym c.self.view_is) c.requires.room in
+    let serves = c.self.invariant.1.dag_serves in
+    let fork = c.fork_choice-fork.result in
+    let ready = is_ready config dag g many p alone resolved rules (omega arith) fresh fork
+    (subst (λ (ws : List View). IsFork c.self.inside.dag (observations c.self.inside.dag ws) c.fork_choice-fork.result) c.panorama-2.ensures c.fork_choice-fork.ensures.is_fork) in
+    let count = ap (λ (d : UnitGraph). count_of d) c.admit-no.ensures.admitted ∙ count_later dag g p fork ready in
+    let last = c.admit-no.ensures.last in
+    let small = c.admit-no.ensures.graph.bounded in
+    next_code (c.get-seen.result ≡ c.get.result) c.next_view-view.result c.admit-no.result (omega arith) c.next_view-view.ensures.same c.next_view-view.ensures.other
+
+pub set-requires-clause-within : goal.set-requires-clause-within
+set-requires-clause-within c =
     let p = c.args.prepared in
     let config = c.self.inside.config in
     let dag = c.self.inside.dag in

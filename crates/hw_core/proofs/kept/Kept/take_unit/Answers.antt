@@ -9,7 +9,7 @@ use Rattle.hw_core.specs.Followed.{HasFollowed}
 use Rattle.hw_core.specs.Units.{IsNewUnit}
 use Rattle.hw_core.proofs.DecidedLaws.{mapped_length, room_less}
 use Rattle.hw_core.proofs.KeptLaws.{fit_more, pairs_more}
-use Rattle.hw_core.proofs.FollowLaws.{follow_told, follow_room, kept_followed, kept_roomy}
+use Rattle.hw_core.proofs.FollowLaws.{follow_told, follow_room, kept_followed, kept_quiet, kept_roomy}
 use Rattle.hw_core.proofs.kept.Kept.take_unit.Goals as goal
 
 pub add_unit-added-requires-clause-listed : goal.add_unit-added-requires-clause-listed
@@ -55,6 +55,22 @@ invariant_of-self c =
     (pairs_more core.instance core.journal.items core.names.entries core.park core.dropped.entries (room_of core.dropped) core.state core.fork core.decided core.shown c.self.invariant (vertex.Unit u) (λ e is. absurd cc))
     run.new.decided run.result followed run.new.shown run.ensures.shown run.new.state run.ensures.state
 
+pub invariant_of-self-in_default : goal.invariant_of-self-in_default
+invariant_of-self-in_default c =
+    let core = c.self.inside in
+    let done = c.add_unit-added.new in
+    let u = c.args.unit in
+    let e = c.in-Ok.ensures in
+    let placed = e.placed in
+    let few = room_less done.decided (length (graph done.state.dag) + length done.park.waiting) (length (graph core.state.dag) + (length core.park.waiting + 1)) placed.room e.blocks in
+    kept_quiet core.instance core.journal.items core.names.entries core.park core.dropped.entries (room_of core.dropped) core.state core.fork core.decided core.shown c.self.invariant
+    (vertex.Unit u) done.state done.park done.decided placed.node placed.config placed.grows c.add_unit-added.ensures.graph c.dag-graph.ensures.graph c.add_unit-added.ensures.decided few
+    (placed.still c.in_default.not-Admitted)
+    done.journal.items e.journal done.names.entries done.dropped.entries (room_of done.dropped) e.table placed.rules_are c.add_unit-added.ensures.places
+    (fit_more core.instance core.journal.items core.names.entries core.park core.dropped.entries (room_of core.dropped) core.state core.fork core.decided core.shown c.self.invariant (vertex.Unit u) c.requires.fits)
+    (pairs_more core.instance core.journal.items core.names.entries core.park core.dropped.entries (room_of core.dropped) core.state core.fork core.decided core.shown c.self.invariant (vertex.Unit u) (λ e is. absurd cc))
+    c.forget.new.self c.forget.ensures
+
 pub invariant_of-self-in-Err : goal.invariant_of-self-in-Err
 invariant_of-self-in-Err c =
     let core = c.self.inside in
@@ -64,5 +80,5 @@ invariant_of-self-in-Err c =
     done.state done.decided c.add_unit-added.ensures.graph c.dag-graph.ensures.graph e.still c.add_unit-added.ensures.decided
     done.journal.items e.unlisted done.names.entries e.unnamed done.park e.unparked done.dropped.entries e.undropped (room_of done.dropped) c.add_unit-added.ensures.places
 
-pub returns-in-Ok-clause-accepted : goal.returns-in-Ok-clause-accepted
-returns-in-Ok-clause-accepted c = subst (λ (k : CoreState). answer_in k (vertex.Unit c.args.unit) true ≡ Ok c.in-Ok.receipt) c.self.view_is c.in-Ok.ensures.placed.answer
+pub returns-after-receipt-clause-accepted : goal.returns-after-receipt-clause-accepted
+returns-after-receipt-clause-accepted c = subst (λ (k : CoreState). answer_in k (vertex.Unit c.args.unit) true ≡ Ok c.in-Ok.receipt) c.self.view_is c.in-Ok.ensures.placed.answer

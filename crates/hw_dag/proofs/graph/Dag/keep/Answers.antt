@@ -1,5 +1,6 @@
 use Rattle.std.proofs.Common.{rules, ◌-◌, ◌^◌, ◌<◌, ◌≤◌, ℕ, [], ◌∷◌, ◌++◌, Option, sym, ap, subst, ◌∙◌, arith}
 use Rattle.std.specs.Prelude.{unwrap_or}
+use Rattle.hw_types.proofs.WordsLaws.{or_none}
 use Rattle.hw_types.specs.declared.unit.SignedUnit.{SignedUnit}
 use Rattle.hw_types.specs.declared.unit.Digest.{Digest}
 use Rattle.hw_dag.specs.declared.numbers.UnitNo.{UnitNo}
@@ -9,7 +10,7 @@ use Rattle.hw_dag.specs.Skips.{IsDepth}
 use Rattle.hw_dag.specs.Tables.{IsKept, AreLatest}
 use Rattle.hw_dag.proofs.KeepLaws.{lane_known, lane_first, lane_next, lane_small, chain_known, chain_first, chain_next, chain_small, kept_more, kept_as, name_fresh}
 use Rattle.hw_dag.proofs.SkipLaws.{pushed}
-use Rattle.hw_dag.proofs.LatestLaws.{last_creator, latest_kept}
+use Rattle.hw_dag.proofs.LatestLaws.{last_creator, latest_kept, latest_code, none_more}
 use Rattle.hw_dag.proofs.graph.Dag.keep.Goals as goal
 
 pub get-requires : goal.get-requires
@@ -17,10 +18,15 @@ get-requires c =
     let latest = subst (λ (d : UnitGraph). AreLatest d c.self.inside.latest) c.self.view_is c.self.invariant.2 in
     last_creator c.args.self.now c.args.unit c.requires.graph c.self.inside.latest latest c.signed.result.now.unit.creator (ap (λ (s : SignedUnit). s.unit.creator) c.signed.ensures)
 
-pub set-requires : goal.set-requires
-set-requires c =
+pub set-requires-clause-within : goal.set-requires-clause-within
+set-requires-clause-within c =
     let latest = subst (λ (d : UnitGraph). AreLatest d c.self.inside.latest) c.self.view_is c.self.invariant.2 in
     last_creator c.args.self.now c.args.unit c.requires.graph c.self.inside.latest latest c.signed.result.now.unit.creator (ap (λ (s : SignedUnit). s.unit.creator) c.signed.ensures)
+
+pub set-requires-clause-code : goal.set-requires-clause-code
+set-requires-clause-code c =
+    let graph = subst (λ (d : UnitGraph). IsGraph (with_unit d c.args.unit)) (sym c.self.view_is) c.requires.graph in
+    latest_code _ c.args.unit graph c.get.result c.predecessor-before.result _ c.latest_after-next.result (search rules) c.latest_after-next.ensures
 
 pub push-requires-clause-small : goal.push-requires-clause-small
 push-requires-clause-small c =
@@ -86,4 +92,9 @@ invariant_of-self c =
       latest_kept _ c.self.invariant.0.graph_is c.args.unit graph c.self.inside.latest c.self.invariant.2
           c.signed.result.now.unit.creator c.get.result c.predecessor-before.result _ c.latest_after-next.result c.set.new.self c.push-3.new.self.items
           (ap (λ (s : SignedUnit). s.unit.creator) c.signed.ensures) c.get.ensures c.predecessor-before.ensures (search rules) c.latest_after-next.ensures c.set.ensures units,
+      (λ e.
+          let no = or_none c.self.inside.forked c.is_faulty.result e in
+          none_more c.self.inside.latest c.set.new.self c.signed.result.now.unit.creator c.latest_after-next.result
+          (last_creator _ c.args.unit graph c.self.inside.latest c.self.invariant.2 c.signed.result.now.unit.creator (ap (λ (s : SignedUnit). s.unit.creator) c.signed.ensures))
+          c.set.ensures (c.is_faulty.ensures no.1) (c.self.invariant.3 no.0)),
     )

@@ -6,8 +6,8 @@ use Rattle.hw_dag.specs.Walks.{is_marked, Cites}
 use Rattle.hw_dag.proofs.graph.Dag.mark_observed.Given as goal
 
 -- the slots so far are marked, and nothing else
-abbrev pub invariant-loop-view : goal.invariant-loop-view
-invariant-loop-view l =
+abbrev pub invariant-loop-slot : goal.invariant-loop-slot
+invariant-loop-slot l =
     ((m : ℕ) → is_marked l.initial.marked m ≡ true → is_marked l.marked m ≡ true)
-    × ((v : ℕ) (number : UnitNo) → v < l.view-index → view_at (unit_at l.self l.fn.no.0).panorama v ≡ view.Correct number → l.fn.low.0 ≤ number.0 → is_marked l.marked number.0 ≡ true)
+    × ((v : ℕ) (number : UnitNo) → v < l.slot-index → view_at (unit_at l.self l.fn.no.0).panorama v ≡ view.Correct number → l.fn.low.0 ≤ number.0 → is_marked l.marked number.0 ≡ true)
     × ((m : ℕ) → is_marked l.marked m ≡ true → (is_marked l.initial.marked m ≡ true) ⊎ Cites l.self l.fn.no.0 m)

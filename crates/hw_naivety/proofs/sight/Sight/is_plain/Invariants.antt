@@ -4,5 +4,5 @@ use Rattle.hw_dag.specs.Dag.{view_at}
 use Rattle.hw_naivety.proofs.sight.Sight.is_plain.Given as goal
 
 -- no slot so far is marked
-abbrev pub invariant-loop-view : goal.invariant-loop-view
-invariant-loop-view l = (v : ℕ) → v < l.view-index → view_at l.self.panorama.now v ≡ view.Faulty → ⊥
+abbrev pub invariant-loop-slot : goal.invariant-loop-slot
+invariant-loop-slot l = (v : ℕ) → v < l.slot-index → view_at l.self.panorama.now v ≡ view.Faulty → ⊥
