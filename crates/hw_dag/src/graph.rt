@@ -295,9 +295,7 @@ impl Dag {
         self.lanes.push(before, unit.signed().unit.seq);
         self.chains.push(unit.parent(), unit.height().unwrap_or(0));
         add_name(&mut self.names, *unit.digest());
-        if self.units.push(unit).is_err() {
-            unreachable!()
-        }
+        self.units.push_reserved(unit);
     }
 }
 

@@ -17,11 +17,12 @@ pub struct NoRoom {
     pub unit: SignedUnit,
 }
 
-/// A unit with its name, and room for what it observes in numbers.
+/// A unit with its name, and room for what it observes in numbers. The unit stands in a box: it is large, and moved from
+/// call to call.
 #[derive(Drop)]
 pub struct Prepared {
     digest: Digest,
-    signed: SignedUnit,
+    signed: Box<SignedUnit>,
     panorama: Panorama,
 }
 
@@ -33,11 +34,11 @@ impl Model for Prepared {
 
     ghost view = { λ p. record {
       digest = p.digest;
-      signed = p.signed;
+      signed = p.signed.value;
       panorama = p.panorama;
     } };
 
-    ghost invariant = { λ p. HasSlots p.signed p.panorama };
+    ghost invariant = { λ p. HasSlots p.signed.value p.panorama };
 }
 
 impl Prepared {
@@ -54,11 +55,16 @@ impl Prepared {
         ensures returned { IfErr result (λ no_room. no_room.unit ≡ unit) }
     {
         match Panorama::new(alloc, validators) {
-            Ok(panorama) => Ok(Prepared {
-                digest,
-                signed: unit,
-                panorama,
-            }),
+            Ok(panorama) => match Box::new(alloc, unit) {
+                Ok(signed) => Ok(Prepared {
+                    digest,
+                    signed,
+                    panorama,
+                }),
+                Err(refused) => Err(NoRoom {
+                    unit: refused.value,
+                }),
+            },
             Err(OutOfMemory) => Err(NoRoom { unit }),
         }
     }
@@ -70,7 +76,10 @@ impl Prepared {
         ensures signed { self.new.signed ≡ self.old.signed }
         ensures digest { self.new.digest ≡ self.old.digest }
     {
-        dag.resolve_views(self.signed.unit.panorama.as_slice(), &mut self.panorama)
+        dag.resolve_views(
+            self.signed.as_ref().unit.panorama.as_slice(),
+            &mut self.panorama,
+        )
     }
 
     /// The settled unit of this number.
@@ -82,7 +91,7 @@ impl Prepared {
             signed,
             panorama,
         } = self;
-        Unit::settle(digest, signed, panorama, no, fork, height)
+        Unit::settle(digest, Box::into_inner(signed), panorama, no, fork, height)
     }
 
     /// Its name.
@@ -96,7 +105,7 @@ impl Prepared {
     pub fn signed(&self) -> &SignedUnit
         ensures { result.now ≡ self.now.signed }
     {
-        &self.signed
+        self.signed.as_ref()
     }
 
     /// Gives the unit back as its creator signed it, and its room up.
@@ -104,7 +113,7 @@ impl Prepared {
         ensures { result ≡ self.signed }
     {
         let Prepared { signed, .. } = self;
-        signed
+        Box::into_inner(signed)
     }
 
     /// What it observes, in numbers. It means something once the unit is resolved.

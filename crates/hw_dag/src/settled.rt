@@ -48,24 +48,19 @@ impl Unit {
     ) -> Unit
         ensures { result ≡ settled_as (record { digest = digest; signed = signed; panorama = panorama }) no fork height }
     {
-        if signed.unit.value.is_some() {
-            Unit {
-                digest,
-                signed,
-                panorama,
-                vote: no,
-                parent: fork,
-                height: Some(height),
-            }
+        let is_block = signed.unit.value.is_some();
+        let (vote, parent, height) = if is_block {
+            (no, fork, Some(height))
         } else {
-            Unit {
-                digest,
-                signed,
-                panorama,
-                vote: fork.unwrap_or(no),
-                parent: None,
-                height: None,
-            }
+            (fork.unwrap_or(no), None, None)
+        };
+        Unit {
+            digest,
+            signed,
+            panorama,
+            vote,
+            parent,
+            height,
         }
     }
 

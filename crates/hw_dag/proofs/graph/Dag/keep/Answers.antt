@@ -9,7 +9,6 @@ use Rattle.hw_dag.specs.Admission.{IsNew, IsGraph, with_unit}
 use Rattle.hw_dag.specs.Skips.{IsDepth}
 use Rattle.hw_dag.specs.Tables.{IsKept, AreLatest}
 use Rattle.hw_dag.proofs.KeepLaws.{lane_known, lane_first, lane_next, lane_small, chain_known, chain_first, chain_next, chain_small, kept_more, kept_as, name_fresh}
-use Rattle.hw_dag.proofs.SkipLaws.{pushed}
 use Rattle.hw_dag.proofs.LatestLaws.{last_creator, latest_kept, latest_code, none_more}
 use Rattle.hw_dag.proofs.graph.Dag.keep.Goals as goal
 
@@ -79,18 +78,18 @@ pub invariant_of-self : goal.invariant_of-self
 invariant_of-self c =
     let graph = subst (λ (d : UnitGraph). IsGraph (with_unit d c.args.unit)) (sym c.self.view_is) c.requires.graph in
     let more = kept_more _ c.args.unit _ _ _ c.self.invariant.0 graph in
-    let units = pushed _ c.self.inside.units.items c.push-3.new.self.items c.args.unit c.push-3.ensures.items c.if-is_err.ensures.negation in
+    let units = c.push_reserved.ensures.items in
     let names = c.add_name.ensures.keys ∙ ap (λ (d : Digest). c.self.inside.names.keys ++ d ∷ []) c.digest.ensures in
     let lanes = c.push.ensures.backs ∙ ap (λ (o : Option UnitNo). c.self.inside.lanes.backs ++ o ∷ []) c.predecessor-before.ensures in
     let chains = c.push-2.ensures.backs ∙ ap (λ (o : Option UnitNo). c.self.inside.chains.backs ++ o ∷ []) c.parent.ensures in
     let i = c.self.invariant.1 in
     let in_units = i.in_units in let in_names = i.in_names in let in_lanes = i.in_lanes in let in_chains = i.in_chains in
-    let capacity = c.push-3.ensures.capacity in let len = c.push-3.ensures.upper_bound in
+    let capacity = c.push_reserved.ensures.capacity in let len = c.push_reserved.ensures.len in
     let a = c.add_name.ensures.room in let b = c.push.ensures.spare in let d = c.push-2.ensures.spare in (
       kept_as c.self.inside.validators (c.self.inside.spare - 1) _ _ _ _ _ _ _ _ more units names lanes chains,
       record { in_units = omega arith; in_names = omega arith; in_lanes = omega arith; in_chains = omega arith },
       latest_kept _ c.self.invariant.0.graph_is c.args.unit graph c.self.inside.latest c.self.invariant.2
-          c.signed.result.now.unit.creator c.get.result c.predecessor-before.result _ c.latest_after-next.result c.set.new.self c.push-3.new.self.items
+          c.signed.result.now.unit.creator c.get.result c.predecessor-before.result _ c.latest_after-next.result c.set.new.self c.push_reserved.new.self.items
           (ap (λ (s : SignedUnit). s.unit.creator) c.signed.ensures) c.get.ensures c.predecessor-before.ensures (search rules) c.latest_after-next.ensures c.set.ensures units,
       (λ e.
           let no = or_none c.self.inside.forked c.is_faulty.result e in
