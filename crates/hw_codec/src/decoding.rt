@@ -63,9 +63,19 @@ fn whole_vertex(alloc: Global, bytes: &[u8]) -> Result<Vertex, CodecError>
     ensures { Gives (λ vertex. vertex) result (vertex_of bytes.now) }
 {
     let mut reader = Reader::new(bytes);
-    let vertex = read_vertex(alloc, &mut reader)?;
-    reader.end()?;
-    Ok(vertex)
+    let read = read_vertex(alloc, &mut reader);
+    match reader.end() {
+        Err(error) if read.is_ok() => Err(let_go(read, error)),
+        Err(_) | Ok(()) => read,
+    }
+}
+
+/// Lets a vertex go that an error follows. It stands apart, since a function clears the room of all that it may let go.
+fn let_go(read: Result<Vertex, CodecError>, error: CodecError) -> CodecError
+    ensures { result ≡ error }
+{
+    drop(read);
+    error
 }
 
 /// The configuration that the bytes spell, all of them. Errors are those of [`decode_unit`].

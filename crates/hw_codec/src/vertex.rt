@@ -1,7 +1,7 @@
 //! Vertices as bytes.
 
 ghost use Rattle.std.specs.Prelude.{◌≡◌, ◌++◌, OnOk};
-ghost use Rattle.hw_types.specs.Reading.{Gives, signed_at, vertex_at};
+ghost use Rattle.hw_types.specs.Reading.{Gives, signed_at, vertex_at, vertex_behind};
 ghost use Rattle.hw_types.specs.Spelling.{signed_bytes, vertex_bytes, Fits, VertexFits};
 
 use crate::field::Field;
@@ -16,24 +16,38 @@ pub(crate) fn read_vertex(alloc: Global, reader: &mut Reader<'_>) -> Result<Vert
 {
     let place = reader.place();
     match reader.u8()? {
-        1 => Ok(Vertex::Unit(read_signed(alloc, reader)?)),
-        2 => {
-            let left = read_signed(alloc, reader)?;
-            let right = read_signed(alloc, reader)?;
-            Ok(Vertex::Evidence(Evidence { left, right }))
-        }
-        3 => {
-            let unit = reader.digest()?;
-            let endorser = reader.u32()?;
-            let signature = Signature(reader.array()?);
-            Ok(Vertex::Endorsement(Endorsement {
-                unit,
-                endorser,
-                signature,
-            }))
-        }
+        1 => match read_signed(alloc, reader) {
+            Ok(unit) => Ok(Vertex::Unit(unit)),
+            Err(error) => Err(error),
+        },
+        2 => read_evidence(alloc, reader),
+        3 => read_endorsement(reader),
         _ => Err(CodecError::BadTag(place)),
     }
+}
+
+/// What stands behind the kind of an evidence. It stands apart, since a function clears the room of all that it may hold,
+/// and mostly a vertex is a unit.
+fn read_evidence(alloc: Global, reader: &mut Reader<'_>) -> Result<Vertex, CodecError>
+    ensures { Gives (λ vertex. (vertex, reader.new)) result (vertex_behind 0 2 reader.old) }
+{
+    let left = read_signed(alloc, reader)?;
+    let right = read_signed(alloc, reader)?;
+    Ok(Vertex::Evidence(Evidence { left, right }))
+}
+
+/// What stands behind the kind of an endorsement.
+fn read_endorsement(reader: &mut Reader<'_>) -> Result<Vertex, CodecError>
+    ensures { Gives (λ vertex. (vertex, reader.new)) result (vertex_behind 0 3 reader.old) }
+{
+    let unit = reader.digest()?;
+    let endorser = reader.u32()?;
+    let signature = Signature(reader.array()?);
+    Ok(Vertex::Endorsement(Endorsement {
+        unit,
+        endorser,
+        signature,
+    }))
 }
 
 #[tactic(auto, unfolding(hw_types::specs::Reading::signed_at))]

@@ -1,15 +1,16 @@
 //! The last unit of each validator, as a log goes on.
 
 ghost use Rattle.std.specs.Prelude.{◌≡◌, Some, None, Ok, set, replicate, IfOk, IfErr, IfSome};
-ghost use Rattle.hw_types.specs.Spelling.{VertexFits};
+ghost use Rattle.hw_types.specs.Spelling.{Fits, VertexFits};
 ghost use Rattle.hw_codec.specs.Decoded.{IsErrorOf};
+ghost use Rattle.hw_codec.specs.Last.{last_of};
 ghost use Rattle.hw_log.specs.Named.{IsNameOf};
 ghost use Rattle.hw_log.specs.Lasts.{IsVersion, no_lasts, noted_in, with_noted, vertex_bytes_in, vertex_in};
 
 use crate::head::FULL;
 use crate::name::name_in;
 use hw_codec::{Last, decode_vertex, decode_vertex_after, encode_vertex, encode_vertex_after};
-use hw_types::{Bytes, CodecError, Digest, OutOfMemory, Vertex};
+use hw_types::{Bytes, CodecError, Digest, OutOfMemory, Vertex, WireUnit};
 use std::alloc::Global;
 use std::marker::Model;
 
@@ -98,11 +99,7 @@ impl Lasts {
                 if signed.unit.creator as usize >= self.units.len() {
                     return Ok(Noted { kept: None });
                 }
-                let last = Last::of(self.alloc, &signed.unit)?;
-                let creator = signed.unit.creator;
-                Ok(Noted {
-                    kept: Some(KeptUnit { creator, last }),
-                })
+                noted_of(self.alloc, &signed.unit)
             }
             Vertex::Evidence(_) | Vertex::Endorsement(_) => Ok(Noted { kept: None }),
         }
@@ -155,6 +152,19 @@ impl Lasts {
             None
         }
     }
+}
+
+/// That this unit becomes its creator's last one. It stands apart, since a function clears the room of all that it may hold,
+/// and in version 1 none is kept.
+fn noted_of(alloc: Global, unit: &WireUnit) -> Result<Noted, OutOfMemory>
+    requires { Fits unit.now }
+    ensures { IfOk result (λ noted. noted ≡ Some (record { creator = unit.now.creator; last = last_of unit.now })) }
+{
+    let last = Last::of(alloc, unit)?;
+    let creator = unit.creator;
+    Ok(Noted {
+        kept: Some(KeptUnit { creator, last }),
+    })
 }
 
 /// The unit in this place is from now on this one, if there is such a place.

@@ -19,7 +19,7 @@ use crate::lasts::Lasts;
 use hw_codec::decode_config;
 use hw_io::{Files, ReadBuffer};
 use hw_types::{CodecError, Config, Digest, Vertex};
-use std::alloc::Global;
+use std::alloc::{AllocFailed, Global};
 use std::marker::Model;
 
 /// Reads a log from its first byte to its end, one entry at a time.
@@ -425,6 +425,15 @@ fn decoded_config(alloc: Global, bytes: &[u8]) -> Result<Config, LogError>
     }
 }
 
+/// Lets a vertex go for which there was no memory. It stands apart, since a function clears the room of all that it may let
+/// go.
+fn let_go(refused: AllocFailed<Vertex>) -> LogError
+    ensures { result ≡ OutOfMemory }
+{
+    drop(refused);
+    LogError::OutOfMemory
+}
+
 /// The vertex that these bytes spell, in the entry at this place, behind these last units, with its unit's name if it
 /// is wanted.
 fn decoded_vertex(lasts: &Lasts, at: u64, bytes: &[u8], named: bool) -> Result<ReadVertex, LogError>
@@ -442,7 +451,7 @@ fn decoded_vertex(lasts: &Lasts, at: u64, bytes: &[u8], named: bool) -> Result<R
             };
             match Box::new(lasts.allocator(), vertex) {
                 Ok(vertex) => Ok(ReadVertex { vertex, name }),
-                Err(_) => Err(LogError::OutOfMemory),
+                Err(refused) => Err(let_go(refused)),
             }
         }
         Err(CodecError::OutOfMemory) => Err(LogError::OutOfMemory),
