@@ -33,6 +33,9 @@ use hw_types::{Config, Digest, OutOfMemory, Rule};
 use std::alloc::Global;
 use std::marker::Model;
 
+/// Room is made for so many units at once.
+const UNITS_AHEAD: u32 = 64;
+
 /// The state of one node.
 ///
 /// Its `drop` is written out: a derived one is proved again, with those of all parts, in each crate that lets a state go.
@@ -271,15 +274,28 @@ impl State {
         ensures unchanged { self.new ≡ record self.old { spare = self.new.spare; dag = record self.old.dag { spare = self.new.dag.spare } } }
     {
         if self.spare < count {
-            let total = self.dag.count() + count;
-            self.marks.reserve(total)?;
-            self.forks.reserve(total)?;
-            self.naivety.reserve(count)?;
-            let reserved = self.dag.reserve(count);
-            self.dag.recall_graph();
-            reserved?;
-            self.spare = count;
+            let ahead = with_more(self.dag.count(), count);
+            return self.grow(ahead);
         }
+        Ok(())
+    }
+
+    /// Makes room for so many more units, for which there was less or as much.
+    fn grow(&mut self, count: u32) -> Result<(), OutOfMemory>
+        requires more { self.old.spare ≤ count }
+        requires few { count_of self.old.dag + count + 1 < 2 ^ 32 }
+        ensures room { OnOk result (count ≤ self.new.spare) }
+        ensures kept { self.old.spare ≤ self.new.spare }
+        ensures unchanged { self.new ≡ record self.old { spare = self.new.spare; dag = record self.old.dag { spare = self.new.dag.spare } } }
+    {
+        let total = self.dag.count() + count;
+        self.marks.reserve(total)?;
+        self.forks.reserve(total)?;
+        self.naivety.reserve(count)?;
+        let reserved = self.dag.reserve(count);
+        self.dag.recall_graph();
+        reserved?;
+        self.spare = count;
         Ok(())
     }
 
@@ -455,6 +471,16 @@ fn unmarked(alloc: Global, validators: u32) -> Result<Vec<bool>, OutOfMemory>
     let mut marked = Vec::new(alloc);
     marked.resize(validators as usize, false)?;
     Ok(marked)
+}
+
+/// So many units more as are wanted, or some more at once, so that not each unit asks for its room.
+fn with_more(count: u32, wanted: u32) -> u32
+    requires { count + wanted + 1 < 2 ^ 32 }
+    ensures least { wanted ≤ result }
+    ensures most { count + result + 1 < 2 ^ 32 }
+{
+    let most = u32::MAX - 1 - count;
+    wanted.max(UNITS_AHEAD.min(most))
 }
 
 /// What is observed of a creator after a unit of it that has seen this of itself.

@@ -1,6 +1,6 @@
 use Rattle.std.proofs.Common.{length, refl, ap, arith}
 use Rattle.hw_admit.proofs.SpareLaws.{is_state_respaced, noted_respaced, kept_respaced}
-use Rattle.hw_admit.proofs.state.State.reserve.Goals as goal
+use Rattle.hw_admit.proofs.state.State.grow.Goals as goal
 
 pub invariant_of-self-in_err-reserved : goal.invariant_of-self-in_err-reserved
 invariant_of-self-in_err-reserved c =
@@ -11,10 +11,10 @@ invariant_of-self-in_err-reserved c =
     let beside = c.self.invariant.1 in
     let count = ap length units in
     let dag_kept = c.reserve-reserved.ensures.kept in
-    let naivety_kept = c.reserve-then-self-count-2.ensures.kept in
-    let forks_kept = c.reserve-then-self-count.ensures.kept in
+    let naivety_kept = c.reserve-3.ensures.kept in
+    let forks_kept = c.reserve-2.ensures.kept in
     let marks_kept = c.reserve.ensures.kept in
-    let noted_count = c.reserve-then-self-count-2.ensures.count in
+    let noted_count = c.reserve-3.ensures.count in
     let all = beside.all in
     let dag_serves = beside.dag_serves in
     let naivety_serves = beside.naivety_serves in
@@ -24,7 +24,7 @@ invariant_of-self-in_err-reserved c =
       record {
         leaders_are = beside.leaders_are;
         weights_are = beside.weights_are;
-        noted = noted_respaced dag later c.count.ensures.graph c.recall_graph.ensures units validators c.reserve-then-self-count-2.new.self (c.reserve-then-self-count-2.ensures.noted dag beside.noted);
+        noted = noted_respaced dag later c.count.ensures.graph c.recall_graph.ensures units validators c.reserve-3.new.self (c.reserve-3.ensures.noted dag beside.noted);
         all = omega arith;
         dag_serves = omega arith;
         naivety_serves = omega arith;
@@ -35,8 +35,8 @@ invariant_of-self-in_err-reserved c =
       },
     )
 
-pub invariant_of-self-then-self-count : goal.invariant_of-self-then-self-count
-invariant_of-self-then-self-count c =
+pub invariant_of-self-2 : goal.invariant_of-self-2
+invariant_of-self-2 c =
     let dag = c.self.inside.dag in
     let later = c.reserve-reserved.new.self in
     let units = c.reserve-reserved.ensures.units in
@@ -48,13 +48,13 @@ invariant_of-self-then-self-count c =
     let naivety_room = c.in_ok-reserve-3.ensures.room in
     let forks_room = c.in_ok-reserve-2.ensures.room in
     let marks_room = c.in_ok-reserve.ensures.room in
-    let noted_count = c.reserve-then-self-count-2.ensures.count in
+    let noted_count = c.reserve-3.ensures.count in
     let all = beside.all in (
       is_state_respaced dag later c.count.ensures.graph c.recall_graph.ensures units validators _ c.self.invariant.0 refl c.args.count,
       record {
         leaders_are = beside.leaders_are;
         weights_are = beside.weights_are;
-        noted = noted_respaced dag later c.count.ensures.graph c.recall_graph.ensures units validators c.reserve-then-self-count-2.new.self (c.reserve-then-self-count-2.ensures.noted dag beside.noted);
+        noted = noted_respaced dag later c.count.ensures.graph c.recall_graph.ensures units validators c.reserve-3.new.self (c.reserve-3.ensures.noted dag beside.noted);
         all = omega arith;
         dag_serves = dag_room;
         naivety_serves = naivety_room;
