@@ -13,6 +13,9 @@ use hw_types::{Need, OutOfMemory};
 use std::alloc::Global;
 use std::collections::BTreeMap;
 
+/// How many numbers a list has room for at first.
+const FIRST_ROOM: usize = 12;
+
 /// For each need the numbers of those that wait for it.
 pub type Waits = BTreeMap<NeedKey, Vec<u64>>;
 
@@ -22,13 +25,25 @@ fn note(waits: &mut Waits, alloc: Global, need: &Need, number: u64) -> Result<()
     ensures err { OnErr result (SameNumbers waits.old.entries waits.new.entries) }
 {
     let numbers = waits.entry(key_of(need))?.or_insert(Vec::new(alloc));
-    match numbers.push(number) {
+    match put_last(numbers, number) {
         Ok(()) => Ok(()),
-        Err(_) => {
+        Err(OutOfMemory) => {
             drop_empty(waits, need);
             Err(OutOfMemory)
         }
     }
+}
+
+/// Puts a number last. Mostly some more follow it, so the first one gets room for them too.
+fn put_last(numbers: &mut Vec<u64>, number: u64) -> Result<(), OutOfMemory>
+    ensures put { OnOk result (numbers.new.items ≡ numbers.old.items ++ number ∷ []) }
+    ensures same { OnErr result (numbers.new.items ≡ numbers.old.items) }
+{
+    if numbers.is_empty() {
+        numbers.reserve(FIRST_ROOM)?;
+    }
+    numbers.push(number)?;
+    Ok(())
 }
 
 // Takes a need out for which no number waits.
