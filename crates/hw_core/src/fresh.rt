@@ -23,7 +23,7 @@ use crate::settle::settle_new;
 use crate::units::units_at_most;
 use crate::unmet::is_whole;
 use hw_admit::State;
-use hw_dag::Prepared;
+use hw_dag::{NoRoom, Prepared};
 use hw_park::Park;
 use hw_types::{Cause, Digest, OutOfMemory, Receipt, Rule, SignedUnit, Vertex};
 use indexmap::IndexMap;
@@ -104,8 +104,14 @@ fn prepare_copy(state: &State, unit: &SignedUnit, name: Digest) -> Result<Prepar
     let copy = unit.copy()?;
     match state.dag().prepare(copy, name) {
         Ok(prepared) => Ok(prepared),
-        Err(_) => Err(OutOfMemory),
+        Err(no_room) => Err(let_go(no_room)),
     }
+}
+
+/// Lets a copy go for which there was no room. It stands apart, since a function clears the room of all that it may let go.
+fn let_go(no_room: NoRoom) -> OutOfMemory {
+    drop(no_room);
+    OutOfMemory
 }
 
 /// Finds a new unit its place. One that misses nothing is judged, and settles with those that it frees, or

@@ -21,7 +21,7 @@ use crate::follow::follow;
 use crate::journal::Journal;
 use crate::shown::Shown;
 use crate::start::begin;
-use crate::units::{UnitRefused, add_unit, test_local, test_named};
+use crate::units::{UnitRefused, add_unit, list_unit, test_local, test_named, unit_back};
 use hw_admit::{State, StateStart};
 use hw_codec::digest_of;
 use hw_dag::{Prepared, UnitNo};
@@ -183,7 +183,7 @@ impl Kept {
     {
         match self.test_local(&unit) {
             Ok(()) => self.deliver_lawful(unit, name),
-            Err(cause) => Err(UnitRefused { cause, unit }),
+            Err(cause) => Err(unit_back(cause, unit)),
         }
     }
 
@@ -201,7 +201,7 @@ impl Kept {
         match self.test_named(&unit, &name) {
             Ok(true) => self.take_unit(unit, name),
             Ok(false) => Ok(Receipt::Repeat),
-            Err(cause) => Err(UnitRefused { cause, unit }),
+            Err(cause) => Err(unit_back(cause, unit)),
         }
     }
 
@@ -263,13 +263,14 @@ impl Kept {
             &mut self.dropped,
             &mut self.state,
             &mut self.decided,
-            unit,
+            &unit,
             name,
         );
         // For the prover: recalls what is said of each graph.
         let _graph = self.state.dag();
         match added {
             Ok(receipt) => {
+                list_unit(&mut self.names, &mut self.journal, unit, name);
                 if let Receipt::Admitted { .. } = receipt {
                     self.fork = follow(
                         self.journal.as_slice(),
@@ -283,7 +284,7 @@ impl Kept {
                 }
                 Ok(receipt)
             }
-            Err(refused) => Err(refused),
+            Err(cause) => Err(unit_back(cause, unit)),
         }
     }
 

@@ -18,7 +18,7 @@ ghost use Rattle.hw_replay.specs.Ends.{lasts_of_file, lasts_ahead, LeadsLasts, I
 
 use crate::fault::{StartFault, fault_of};
 use hw_codec::{encode_config, encode_unit};
-use hw_core::{Core, Refused};
+use hw_core::{Core, Refused, UnitRefused};
 use hw_io::Files;
 use hw_log::{Lasts, LogReader, NamedEntry};
 use hw_types::{Bytes, Cause, Config, Digest, OutOfMemory, Receipt, SignedUnit, Vertex};
@@ -186,11 +186,7 @@ impl Replay {
                 self.count(receipt);
                 Ok(())
             }
-            Err(refused) => {
-                let cause = refused.cause;
-                let vertex = Vertex::Unit(refused.unit);
-                self.refuse(at, Refused { cause, vertex })
-            }
+            Err(refused) => self.refuse_unit(at, refused),
         }
     }
 
@@ -224,6 +220,21 @@ impl Replay {
         if receipt == Receipt::Repeat {
             self.repeats += 1;
         }
+    }
+
+    /// Counts a refused unit, unless it stops the replay. The entry is at that byte. It stands apart, since a function clears
+    /// the room of all that it may hold, and mostly nothing is refused.
+    fn refuse_unit(&mut self, at: u64, refused: UnitRefused) -> Result<(), StartFault>
+        requires fits { VertexFits (Vertices.Unit refused.unit) }
+        requires room { self.old.refused < 2 ^ 62 }
+        ensures counted { OnOk result (self.new ≡ record self.old { refused = self.old.refused + 1 }) }
+        ensures goes_on { OnOk result ((stop_of self.old.core at (Vertices.Unit refused.unit) refused.cause ≡ None) × (refused.cause ≢ Causes.OutOfMemory)) }
+        ensures stops { IfErr result (λ e. (e ≡ Faults.OutOfMemory) ⊎ (stop_of self.old.core at (Vertices.Unit refused.unit) refused.cause ≡ Some e)) }
+        ensures unchanged { OnErr result (self.new ≡ self.old) }
+    {
+        let UnitRefused { cause, unit } = refused;
+        let vertex = Vertex::Unit(unit);
+        self.refuse(at, Refused { cause, vertex })
     }
 
     /// Counts a refused entry, unless it stops the replay. The entry is at that byte.

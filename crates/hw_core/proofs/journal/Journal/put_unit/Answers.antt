@@ -7,5 +7,5 @@ use Rattle.hw_core.proofs.journal.Journal.put_unit.Goals as goal
 
 pub invariant_of-self : goal.invariant_of-self
 invariant_of-self c =
-    subst (λ (vs : List Vertex). AreTold vs c.self.inside.told.entries) (sym c.put_last.ensures)
+    subst (λ (vs : List Vertex). AreTold vs c.self.inside.told.entries) (sym c.push_reserved.ensures.items)
     (told_unit c.self.inside.vertices.items (vertex.Unit c.args.unit) c.self.inside.told.entries refl c.self.invariant)

@@ -1,15 +1,19 @@
-use Rattle.std.proofs.Common.{◌≡◌, ◌+◌, List, true, Ok, length, sym, ap, subst, ◌∙◌}
-use Rattle.indexmap.specs.IndexMap.{spare as room_of}
+use Rattle.std.proofs.Common.{◌≡◌, ◌+◌, ℕ, List, [], ◌∷◌, ◌++◌, true, Ok, length, sym, ap, subst, ◌∙◌}
+use Rattle.indexmap.specs.IndexMap.{insert_entry, spare as room_of}
+use Rattle.hw_types.specs.declared.unit.Digest.{Digest}
 use Rattle.hw_types.specs.declared.unit.Vertex.{Vertex}
 use Rattle.hw_types.specs.declared.unit.Vertex.TheVariants as vertex
 use Rattle.hw_types.specs.declared.answers.Decision.{Decision}
-use Rattle.hw_types.specs.Real.{CoreState, answer_in}
+use Rattle.hw_types.specs.Real.{CoreState, answer_in, setting_of}
+use Rattle.hw_types.specs.Graph.{digest_eq}
 use Rattle.hw_dag.specs.Dag.{graph}
 use Rattle.hw_core.specs.Followed.{HasFollowed}
+use Rattle.hw_core.specs.Keeps.{IsTable}
 use Rattle.hw_core.specs.Units.{IsNewUnit}
 use Rattle.hw_core.proofs.DecidedLaws.{mapped_length, room_less}
 use Rattle.hw_core.proofs.KeptLaws.{fit_more, pairs_more}
 use Rattle.hw_core.proofs.FollowLaws.{follow_told, follow_room, kept_followed, kept_quiet, kept_roomy}
+use Rattle.hw_core.proofs.TableLaws.{table_unit}
 use Rattle.hw_core.proofs.kept.Kept.take_unit.Goals as goal
 
 pub add_unit-added-requires-clause-listed : goal.add_unit-added-requires-clause-listed
@@ -45,12 +49,21 @@ invariant_of-self c =
     let u = c.args.unit in
     let e = c.in-Ok.ensures in
     let placed = e.placed in
+    let listed = c.list_unit.new in
+    let setting = setting_of core.state.config in
+    let before = c.add_unit-added.ensures.items in
+    let journal = c.list_unit.ensures.journal ∙ ap (λ (vs : List Vertex). vs ++ vertex.Unit u ∷ []) before in
+    let entries = c.list_unit.ensures.names ∙ ap (λ (es : List (Digest × ℕ)). insert_entry digest_eq es c.args.name (length done.journal.items)) c.add_unit-added.ensures.names
+    ∙ ap (λ (vs : List Vertex). insert_entry digest_eq core.names.entries c.args.name (length vs)) before in
+    let new = subst (λ (k : CoreState). IsNewUnit k.config k.journal u c.args.name) (sym c.self.view_is) c.requires.new in
+    let table = subst (λ (es : List (Digest × ℕ)). IsTable setting (core.journal.items ++ vertex.Unit u ∷ []) es) (sym entries)
+    (table_unit setting core.journal.items core.names.entries u c.args.name new.name_is new.local new.fresh c.self.invariant.table) in
     let run = c.follow-self-inside in
     let few = room_less done.decided (length (graph done.state.dag) + length done.park.waiting) (length (graph core.state.dag) + (length core.park.waiting + 1)) placed.room e.blocks in
     let followed = subst (λ (vs : List Vertex). HasFollowed done.state (length vs) done.decided run.new.decided run.result) c.as_slice.ensures.value run.ensures.followed in
     kept_followed core.instance core.journal.items core.names.entries core.park core.dropped.entries (room_of core.dropped) core.state core.fork core.decided core.shown c.self.invariant
     (vertex.Unit u) done.state done.park done.decided placed.node placed.config placed.grows c.add_unit-added.ensures.graph c.dag-graph.ensures.graph c.add_unit-added.ensures.decided few
-    done.journal.items e.journal done.names.entries done.dropped.entries (room_of done.dropped) e.table placed.rules_are c.add_unit-added.ensures.places
+    listed.journal.items journal listed.names.entries done.dropped.entries (room_of done.dropped) table placed.rules_are c.add_unit-added.ensures.places
     (fit_more core.instance core.journal.items core.names.entries core.park core.dropped.entries (room_of core.dropped) core.state core.fork core.decided core.shown c.self.invariant (vertex.Unit u) c.requires.fits)
     (pairs_more core.instance core.journal.items core.names.entries core.park core.dropped.entries (room_of core.dropped) core.state core.fork core.decided core.shown c.self.invariant (vertex.Unit u) (λ e is. absurd cc))
     run.new.decided run.result followed run.new.shown run.ensures.shown run.new.state run.ensures.state
@@ -62,11 +75,20 @@ invariant_of-self-in_default c =
     let u = c.args.unit in
     let e = c.in-Ok.ensures in
     let placed = e.placed in
+    let listed = c.list_unit.new in
+    let setting = setting_of core.state.config in
+    let before = c.add_unit-added.ensures.items in
+    let journal = c.list_unit.ensures.journal ∙ ap (λ (vs : List Vertex). vs ++ vertex.Unit u ∷ []) before in
+    let entries = c.list_unit.ensures.names ∙ ap (λ (es : List (Digest × ℕ)). insert_entry digest_eq es c.args.name (length done.journal.items)) c.add_unit-added.ensures.names
+    ∙ ap (λ (vs : List Vertex). insert_entry digest_eq core.names.entries c.args.name (length vs)) before in
+    let new = subst (λ (k : CoreState). IsNewUnit k.config k.journal u c.args.name) (sym c.self.view_is) c.requires.new in
+    let table = subst (λ (es : List (Digest × ℕ)). IsTable setting (core.journal.items ++ vertex.Unit u ∷ []) es) (sym entries)
+    (table_unit setting core.journal.items core.names.entries u c.args.name new.name_is new.local new.fresh c.self.invariant.table) in
     let few = room_less done.decided (length (graph done.state.dag) + length done.park.waiting) (length (graph core.state.dag) + (length core.park.waiting + 1)) placed.room e.blocks in
     kept_quiet core.instance core.journal.items core.names.entries core.park core.dropped.entries (room_of core.dropped) core.state core.fork core.decided core.shown c.self.invariant
     (vertex.Unit u) done.state done.park done.decided placed.node placed.config placed.grows c.add_unit-added.ensures.graph c.dag-graph.ensures.graph c.add_unit-added.ensures.decided few
     (placed.still c.in_default.not-Admitted)
-    done.journal.items e.journal done.names.entries done.dropped.entries (room_of done.dropped) e.table placed.rules_are c.add_unit-added.ensures.places
+    listed.journal.items journal listed.names.entries done.dropped.entries (room_of done.dropped) table placed.rules_are c.add_unit-added.ensures.places
     (fit_more core.instance core.journal.items core.names.entries core.park core.dropped.entries (room_of core.dropped) core.state core.fork core.decided core.shown c.self.invariant (vertex.Unit u) c.requires.fits)
     (pairs_more core.instance core.journal.items core.names.entries core.park core.dropped.entries (room_of core.dropped) core.state core.fork core.decided core.shown c.self.invariant (vertex.Unit u) (λ e is. absurd cc))
     c.forget.new.self c.forget.ensures
@@ -78,7 +100,7 @@ invariant_of-self-in-Err c =
     let e = c.in-Err.ensures in
     kept_roomy core.instance core.journal.items core.names.entries core.park core.dropped.entries (room_of core.dropped) core.state core.fork core.decided core.shown c.self.invariant
     done.state done.decided c.add_unit-added.ensures.graph c.dag-graph.ensures.graph e.still c.add_unit-added.ensures.decided
-    done.journal.items e.unlisted done.names.entries e.unnamed done.park e.unparked done.dropped.entries e.undropped (room_of done.dropped) c.add_unit-added.ensures.places
+    done.journal.items c.add_unit-added.ensures.items done.names.entries c.add_unit-added.ensures.names done.park e.unparked done.dropped.entries e.undropped (room_of done.dropped) c.add_unit-added.ensures.places
 
 pub returns-after-receipt-clause-accepted : goal.returns-after-receipt-clause-accepted
 returns-after-receipt-clause-accepted c = subst (λ (k : CoreState). answer_in k (vertex.Unit c.args.unit) true ≡ Ok c.in-Ok.receipt) c.self.view_is c.in-Ok.ensures.placed.answer

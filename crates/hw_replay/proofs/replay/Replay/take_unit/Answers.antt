@@ -16,15 +16,15 @@ returns-in-Err-clause-taken c =
     let old = c.args.self.now in
     let entry : LogEntry = record { at = c.args.at; verdict = true; vertex = vertex.Unit c.args.unit } in
     let after : Replay = record { alloc = old.alloc; reader = old.reader; core = c.deliver_named.new.self; refused = old.refused; repeats = old.repeats } in
-    took_refused c.refuse.result after c.refuse.new.self (taken_in old) entry c.in-Err.refused.cause (vertex.Unit c.in-Err.refused.unit)
+    took_refused c.refuse_unit.result after c.refuse_unit.new.self (taken_in old) entry c.in-Err.refused.cause (vertex.Unit c.in-Err.refused.unit)
     (ap (λ core. record { core = core; refused = old.refused; repeats = old.repeats }) c.in-Err.ensures.unchanged) (ap vertex.Unit c.in-Err.ensures.returned) c.in-Err.ensures.refused
-    c.refuse.ensures.counted c.refuse.ensures.goes_on
+    c.refuse_unit.ensures.counted c.refuse_unit.ensures.goes_on
 
 pub returns-in-Err-clause-stopped : goal.returns-in-Err-clause-stopped
 returns-in-Err-clause-stopped c =
     let old = c.args.self.now in
     let entry : LogEntry = record { at = c.args.at; verdict = true; vertex = vertex.Unit c.args.unit } in
     let after : Replay = record { alloc = old.alloc; reader = old.reader; core = c.deliver_named.new.self; refused = old.refused; repeats = old.repeats } in
-    stopped_by c.refuse.result after (taken_in old) entry c.in-Err.refused.cause (vertex.Unit c.in-Err.refused.unit)
+    stopped_by c.refuse_unit.result after (taken_in old) entry c.in-Err.refused.cause (vertex.Unit c.in-Err.refused.unit)
     (ap (λ core. record { core = core; refused = old.refused; repeats = old.repeats }) c.in-Err.ensures.unchanged) (ap vertex.Unit c.in-Err.ensures.returned) c.in-Err.ensures.refused
-    c.refuse.ensures.stops
+    c.refuse_unit.ensures.stops
