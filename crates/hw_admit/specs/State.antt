@@ -66,7 +66,7 @@ pub record IsState (s : NodeState) : Type 0 where
   -- the panorama is that of the definitions
   pub observed : observations s.dag s.panorama ≡ observed_in s.config s.marked (graph s.dag)
 
--- what is kept beside the state is of the same configuration and graph, and serves for as many units as there is room for
+-- what is kept beside the state is of the same configuration and graph, and serves for its validators and for as many units as there is room for
 pub record IsBeside (s : NodeState) (leaders : Config) (told : Told) (naivety : NaiveTips) (forks marks : ℕ) (own judged : KeptFork) : Type 0 where
   pub leaders_are : leaders ≡ s.config
   pub weights_are : told.weights ≡ s.config.weights
@@ -74,7 +74,7 @@ pub record IsBeside (s : NodeState) (leaders : Config) (told : Told) (naivety : 
   pub all : naivety.count ≡ count_of s.dag
   pub dag_serves : s.spare ≤ s.dag.spare
   pub naivety_serves : s.spare ≤ naivety.spare
-  pub forks_serve : count_of s.dag + s.spare ≤ forks
+  pub forks_serve : s.dag.validators ≤ forks
   pub marks_serve : count_of s.dag + s.spare ≤ marks
   pub own_kept : IsKept s.config.weights s.dag own
   pub judged_kept : IsKept s.config.weights s.dag judged

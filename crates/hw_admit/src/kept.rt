@@ -4,7 +4,7 @@ ghost use Rattle.std.specs.Prelude.{◌≡◌, ◌≤◌, ◌<◌, length, true,
 ghost use Rattle.std.specs.Option.{option_map};
 ghost use Rattle.hw_types.specs.Votes.{fork_of};
 ghost use Rattle.hw_dag.specs.declared.numbers.UnitNo.{UnitNo as Number};
-ghost use Rattle.hw_dag.specs.Dag.{UnitGraph, graph, observations, count_of, node_at, IsPanorama};
+ghost use Rattle.hw_dag.specs.Dag.{UnitGraph, graph, observations, node_at, IsPanorama};
 ghost use Rattle.hw_dag.specs.Admission.{IsFork};
 ghost use Rattle.hw_dag.specs.Lanes.{AreWeights};
 ghost use Rattle.hw_admit.specs.Kept.{IsKept};
@@ -45,7 +45,7 @@ impl KeptFork {
         weights: &WeightList,
         panorama: &Panorama,
     ) -> Option<UnitNo>
-        requires room { count_of dag.now ≤ forks.old }
+        requires room { dag.now.validators ≤ forks.old }
         requires panorama { IsPanorama dag.now panorama.now }
         requires weights { AreWeights weights.now dag.now }
         requires kept { IsKept weights.now dag.now self.old }

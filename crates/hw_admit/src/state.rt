@@ -290,7 +290,6 @@ impl State {
     {
         let total = self.dag.count() + count;
         self.marks.reserve(total)?;
-        self.forks.reserve(total)?;
         self.naivety.reserve(count)?;
         let reserved = self.dag.reserve(count);
         self.dag.recall_graph();
@@ -398,12 +397,13 @@ fn begin(alloc: Global, config: Config) -> Result<State, OutOfMemory>
     let (dag, panorama, marked) = nothing_seen(alloc, validators)?;
     let (leaders, naivety, endorsements) = nothing_told(alloc, &config, validators)?;
     let (own_fork, judged_fork) = nothing_kept(alloc, validators)?;
+    let forks = room_for_forks(alloc, validators)?;
     Ok(State {
         leaders,
         spare: 0,
         dag,
         naivety,
-        forks: Forks::new(alloc),
+        forks,
         marks: Marks::new(alloc),
         marked,
         endorsements,
@@ -451,6 +451,15 @@ fn nothing_kept(alloc: Global, validators: u32) -> Result<(KeptFork, KeptFork), 
 {
     let own = KeptFork::new(alloc, validators)?;
     Ok((own, KeptFork::new(alloc, validators)?))
+}
+
+/// Scratch for the fork choices of so many validators. It never grows.
+fn room_for_forks(alloc: Global, validators: u32) -> Result<Forks, OutOfMemory>
+    ensures { IfOk result (λ forks. validators ≤ forks) }
+{
+    let mut forks = Forks::new(alloc);
+    forks.reserve(validators)?;
+    Ok(forks)
 }
 
 /// A graph without units.

@@ -43,7 +43,7 @@ impl Judge<'_> {
         requires all { self.now.naivety.now.count ≡ count_of self.now.dag.now }
         requires alone { KeepsLocalRules self.now.config.now prepared.now.signed.unit }
         requires resolved { IsResolved self.now.dag.now prepared.now }
-        requires forks { count_of self.now.dag.now ≤ forks.old }
+        requires forks { self.now.dag.now.validators ≤ forks.old }
         requires marks { count_of self.now.dag.now ≤ marks.old }
         // An answer tells exactly what the rules tell.
         ensures kept { IfOk result (λ fork. state_rule self.now.config.now (graph self.now.dag.now) (node_prepared prepared.now) ≡ None) }

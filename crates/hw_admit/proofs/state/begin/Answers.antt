@@ -22,7 +22,7 @@ invariant_of-result c =
         all = omega arith;
         dag_serves = omega arith;
         naivety_serves = omega arith;
-        forks_serve = omega arith;
+        forks_serve = let room = c.in_ok-forks.ensures in let many = c.in_ok-dag.ensures.validators in omega arith;
         marks_serve = omega arith;
         own_kept = c.in_ok-own_fork.ensures.own c.args.config.weights c.in_ok-dag.dag c.in_ok-dag.ensures.validators;
         judged_kept = c.in_ok-own_fork.ensures.judged c.args.config.weights c.in_ok-dag.dag c.in_ok-dag.ensures.validators;

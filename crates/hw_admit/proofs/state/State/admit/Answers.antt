@@ -199,6 +199,7 @@ invariant_of-self c =
     let moved : c.set.new.self ≡ set c.self.inside.panorama c.args.prepared.signed.unit.creator c.next_view-view.result = c.set.ensures ∙ ap (λ (u : SignedUnit). set c.self.inside.panorama u.unit.creator c.next_view-view.result) c.signed.ensures in
     let count = ap (λ (d : UnitGraph). count_of d) c.admit-no.ensures.admitted ∙ count_later dag g p fork ready in
     let spare = ap (λ (d : UnitGraph). d.spare) c.admit-no.ensures.admitted in
+    let validators = ap (λ (d : UnitGraph). d.validators) c.admit-no.ensures.admitted in
     let noted_count = c.note.ensures.count in
     let noted_spare = c.note.ensures.spare in
     let forks_room = c.fork_choice-fork.ensures.room in
