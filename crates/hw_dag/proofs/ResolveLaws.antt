@@ -1,7 +1,9 @@
 -- Observations in numbers.
-use Rattle.std.proofs.Common.{◌≡◌, ℕ, ◌<◌, inl, inr, List, length, get_or, sym, ap, subst, ◌∙◌, arith}
+use Rattle.std.proofs.Common.{◌≡◌, ℕ, ◌<◌, inl, inr, false, List, length, get_or, Option, Some, None, refl, sym, ap, subst, ◌∙◌, arith}
+use Rattle.std.specs.Prelude.{◌↔◌, is_some, IfSome, IfNone}
 use Rattle.std.proofs.lemmas.List.{ext_get_or, length-map, get_or_past}
 use Rattle.std.proofs.lemmas.Bool.{cases_lt}
+use Rattle.hw_types.specs.declared.unit.Digest.{Digest}
 use Rattle.hw_types.specs.declared.unit.Obs.{Obs}
 use Rattle.hw_types.specs.declared.unit.Obs.TheVariants.{Absent, Correct}
 use Rattle.hw_types.specs.Graph.{Node, slot}
@@ -10,7 +12,7 @@ use Rattle.hw_types.proofs.WordsLaws.{among_slot}
 use Rattle.hw_dag.specs.declared.numbers.View.{View}
 use Rattle.hw_dag.specs.declared.numbers.View.TheVariants as view
 use Rattle.hw_dag.specs.Dag.{UnitGraph, node_at, graph, view_at, observations}
-use Rattle.hw_dag.specs.Admission.{IsGraph, AllKnown}
+use Rattle.hw_dag.specs.Admission.{IsGraph, IsNew, AllKnown}
 use Rattle.hw_dag.specs.Tables.{StandsFor, IsUnknown, IsKnown}
 use Rattle.hw_dag.proofs.PlaceLaws.{place_is_among}
 use Rattle.hw_dag.proofs.NodeLaws.{among_node, node_among}
@@ -45,3 +47,9 @@ never_known dag observed v d lt u known =
     let x = known u.digest (subst (λ (p : Obs). Among p observed) u.names there) in
     let n = among_node dag x.0 x.1 in
     u.fresh n.0 n.1 (ap (λ (y : Node). y.digest) n.2 ∙ x.2)
+
+-- a unit was looked for by its name: none is there exactly where the name is new
+pub near_new : (dag : UnitGraph) (d : Digest) (r : Option View) → IfSome r (StandsFor dag (Correct d)) → IfNone r (IsNew dag d) → (is_some r ≡ false) ↔ IsNew dag d
+near_new dag d (Some w) known unknown =
+    ((λ f. absurd cc), (λ new. let k = obs_number dag w d known.same in absurd (new k.0.0 (known.known k.0 k.1) k.2)))
+near_new dag d None known unknown = ((λ f. unknown), (λ new. refl))

@@ -176,6 +176,14 @@ impl Dag {
         Some(UnitNo(place as u32))
     }
 
+    /// Whether there is a unit of this name, which a slot of a panorama names. Mostly it is the latest unit of that
+    /// validator, or the one before it; only another name is looked up.
+    pub fn has_near(&self, slot: usize, name: &Digest) -> bool
+        ensures { (result ≡ false) ↔ IsNew self.now name.now }
+    {
+        self.find_near(&[], slot, name).is_some()
+    }
+
     /// The unit of a number.
     pub fn unit(&self, no: UnitNo) -> &Unit
         requires { no.0 < count_of self.now }
