@@ -1,21 +1,15 @@
 -- The votes of a panorama.
-use Rattle.std.proofs.Common.{◌≡◌, ℕ, zero, suc, ◌+◌, ◌<◌, ◌≤◌, inl, inr, Bool, true, false, List, [], ◌∷◌, ◌++◌, length, get_or, take, refl, sym, ap, subst, ◌∙◌, arith, length-append, eqb-true}
-use Rattle.std.specs.Prelude.{sum_by, slice_index, slice_set, ◌==◌}
-use Rattle.std.specs.List.{IsDistinct}
+use Rattle.std.proofs.Common.{◌≡◌, ℕ, zero, suc, ◌+◌, ◌<◌, ◌≤◌, inl, inr, List, [], ◌∷◌, ◌++◌, length, get_or, take, refl, sym, ap, subst, ◌∙◌, arith, length-append}
+use Rattle.std.specs.Prelude.{sum_by, slice_index, slice_set}
 use Rattle.std.proofs.lemmas.List.{take_more_set, length-take-le, length-set, append-nil}
 use Rattle.std.proofs.lemmas.List.Elements.{All-get_or}
 use Rattle.std.proofs.lemmas.List.Sums.{sum_by_push, sum_by_more, sum_by-take-le}
-use Rattle.std.proofs.lemmas.Map.Keys.{IsDistinct-push}
-use Rattle.std.proofs.lemmas.Map.Steps.{length-le_from_distinct_below}
-use Rattle.std.proofs.lemmas.Cmp.{nat_eq_equiv}
 use Rattle.hw_types.specs.Below.{Among}
-use Rattle.hw_types.proofs.PastLaws.{some_of}
 use Rattle.hw_types.proofs.EntryLaws.{append_cases}
-use Rattle.hw_types.proofs.WordsLaws.{none_any}
 use Rattle.hw_dag.specs.declared.numbers.UnitNo.{UnitNo}
 use Rattle.hw_dag.specs.declared.numbers.View.{View}
 use Rattle.hw_dag.specs.declared.numbers.View.TheVariants as view
-use Rattle.hw_dag.specs.Dag.{UnitGraph, unit_at, count_of, creator_of, view_at, IsPanorama}
+use Rattle.hw_dag.specs.Dag.{UnitGraph, view_at, IsPanorama}
 use Rattle.hw_dag.specs.Admission.{IsGraph}
 use Rattle.hw_dag.specs.Lanes.{AreWeights}
 use Rattle.hw_forks.specs.declared.votes.Vote.{Vote}
@@ -44,83 +38,29 @@ module _ (dag : UnitGraph) (weights : List ℕ) (panorama : List View) where
       go view.Faulty e = append-nil (votes_of dag weights panorama n)
       go (view.Correct number) e = absurd (never number e)
 
-  -- ---- there are no more votes than units
+  -- ---- there are no more votes than slots
 
-  numbers_in : View → List ℕ
-  numbers_in view.Absent = []
-  numbers_in view.Faulty = []
-  numbers_in (view.Correct number) = number.0 ∷ []
+  in_fit : (w : View) (weight : ℕ) → length (vote_in dag w weight) ≤ 1
+  in_fit view.Absent weight = omega arith
+  in_fit view.Faulty weight = omega arith
+  in_fit (view.Correct number) weight = omega arith
 
-  numbers : ℕ → List ℕ
-  numbers zero = []
-  numbers (suc n) = numbers n ++ numbers_in (view_at panorama n)
+  votes_fit : (n : ℕ) → length (votes_of dag weights panorama n) ≤ n
+  unfolding votes_of
+  votes_fit zero = omega arith
+  votes_fit (suc n) =
+      let before = votes_fit n in
+      let last = in_fit (view_at panorama n) (slice_index weights n) in
+      simp length-append (omega arith)
 
-  as_many : (n : ℕ) → length (votes_of dag weights panorama n) ≡ length (numbers n)
-  unfolding votes_of numbers numbers_in
-  as_many zero = refl
-  as_many (suc n) = go (view_at panorama n) (as_many n)
-    where
-      go : (w : View) → length (votes_of dag weights panorama n) ≡ length (numbers n) → length (votes_of dag weights panorama n ++ vote_in dag w (slice_index weights n)) ≡ length (numbers n ++ numbers_in w)
-      go view.Absent e = simp length-append (ap (λ k. k + 0) e)
-      go view.Faulty e = simp length-append (ap (λ k. k + 0) e)
-      go (view.Correct number) e = simp length-append (ap (λ k. k + 1) e)
+  -- so each slot has room for its vote
+  pub count_room : (votes : List Vote) (count n : ℕ) → count ≤ length votes → take count votes ≡ votes_of dag weights panorama n → n < length votes → count < length votes
+  count_room votes count n le front room =
+      let few = votes_fit n in
+      let many : count ≡ length (votes_of dag weights panorama n) = sym (length-take-le count votes le) ∙ ap length front in
+      omega arith
 
   module _ (ip : IsPanorama dag panorama) where
-    number_is : (n q : ℕ) → Among q (numbers n) → (q < count_of dag) × (creator_of (unit_at dag q) < n)
-    unfolding numbers numbers_in
-    number_is zero q m = absurd m
-    number_is (suc n) q m = elim (append_cases q (numbers n) (numbers_in (view_at panorama n)) m) [
-      | inl before ↦ (let r = number_is n q before in (r.0, (let lt = r.1 in omega arith)))
-      | inr last ↦ go (view_at panorama n) refl last
-    ]
-      where
-        go : (w : View) → view_at panorama n ≡ w → Among q (numbers_in w) → (q < count_of dag) × (creator_of (unit_at dag q) < suc n)
-        go view.Absent e h = absurd h
-        go view.Faulty e h = absurd h
-        go (view.Correct number) e (inr h) = absurd h
-        go (view.Correct number) e (inl h) =
-            let known = ip.known n number e in
-            let creator = ip.creator_is n number e in
-            let same = ap (λ (k : ℕ). creator_of (unit_at dag k)) h in
-            (omega arith, omega arith)
-
-    are_distinct : (n : ℕ) → IsDistinct (λ x y. x == y) (numbers n)
-    unfolding numbers numbers_in IsDistinct
-    are_distinct zero = tt
-    are_distinct (suc n) = go (view_at panorama n) refl (are_distinct n)
-      where
-        go : (w : View) → view_at panorama n ≡ w → IsDistinct (λ x y. x == y) (numbers n) → IsDistinct (λ x y. x == y) (numbers n ++ numbers_in w)
-        go view.Absent e h = subst (λ (xs : List ℕ). IsDistinct (λ x y. x == y) xs) (sym (append-nil (numbers n))) h
-        go view.Faulty e h = subst (λ (xs : List ℕ). IsDistinct (λ x y. x == y) xs) (sym (append-nil (numbers n))) h
-        go (view.Correct number) e h = IsDistinct-push nat_eq_equiv (numbers n) number.0 h (none_any (λ q. number.0 == q) (numbers n) (λ q m. differ q m (number.0 == q) refl))
-          where
-            differ : (q : ℕ) → Among q (numbers n) → (b : Bool) → (number.0 == q) ≡ b → (number.0 == q) ≡ false
-            differ q m false t = t
-            differ q m true t = absurd (
-                let lt = (number_is n q m).1 in
-                let same = ap (λ (k : ℕ). creator_of (unit_at dag k)) (eqb-true number.0 q t) in
-                let creator = ip.creator_is n number e in
-                omega arith)
-
-    pub votes_fit : (n : ℕ) → length (votes_of dag weights panorama n) ≤ count_of dag
-    votes_fit n =
-        let few = length-le_from_distinct_below (numbers n) (count_of dag) (are_distinct n) (λ q t. let x = some_of (λ y. q == y) (numbers n) t in subst (λ (k : ℕ). k < count_of dag) (sym (eqb-true q x.0 x.2)) (number_is n x.0 x.1).0) in
-        let same = as_many n in
-        omega arith
-
-    -- so a slot that names a unit has room for its vote
-    pub votes_room : (n : ℕ) (number : UnitNo) → view_at panorama n ≡ view.Correct number → length (votes_of dag weights panorama n) < count_of dag
-    votes_room n number e =
-        let fit = votes_fit (n + 1) in
-        let more : length (votes_of dag weights panorama (n + 1)) ≡ length (votes_of dag weights panorama n) + 1 = ap length (votes_with n number e) ∙ (simp length-append) in
-        omega arith
-
-    pub count_room : (votes : List Vote) (count n : ℕ) (number : UnitNo) → count ≤ length votes → take count votes ≡ votes_of dag weights panorama n → count_of dag ≤ length votes → view_at panorama n ≡ view.Correct number → count < length votes
-    count_room votes count n number le front room e =
-        let less = votes_room n number e in
-        let many : count ≡ length (votes_of dag weights panorama n) = sym (length-take-le count votes le) ∙ ap length front in
-        omega arith
-
     -- ---- what holds of the votes
 
     module _ (g : IsGraph dag) (aw : AreWeights weights dag) where

@@ -5,6 +5,7 @@ pub mod BestLaws
 pub mod DefinedLaws
 pub mod TallyLaws
 pub mod LoopLaws
+pub mod ShareLaws
 pub mod MajorityLaws
 pub mod BranchLaws
 pub mod GatherLaws

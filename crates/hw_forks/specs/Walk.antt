@@ -1,12 +1,14 @@
 -- The walk of the fork choice, by number.
-use Rattle.std.specs.Prelude.{◌≡◌, ℕ, zero, suc, ◌≢◌, ◌+◌, ◌-◌, ◌<◌, ◌≤◌, ◌⊎◌, Bool, true, ◌||◌, ◌==◌, List, Option, Some, None, sum_by, filter, slice_index, if◌then◌else◌}
+use Rattle.std.specs.Prelude.{◌≡◌, ℕ, zero, suc, ◌≢◌, ◌+◌, ◌-◌, ◌<◌, ◌≤◌, ◌^◌, ◌⊎◌, Bool, true, ◌||◌, ◌==◌, List, Option, Some, None, sum_by, filter, if◌then◌else◌}
 use Rattle.hw_types.specs.Graph.{is_some_and, digest_lt}
 use Rattle.hw_types.specs.Below.{Among}
 use Rattle.hw_types.specs.Votes.{is_block}
 use Rattle.hw_dag.specs.declared.numbers.UnitNo.{UnitNo}
 use Rattle.hw_dag.specs.Dag.{UnitGraph, unit_at, count_of, node_at}
+use Rattle.hw_dag.specs.Admission.{IsGraph}
 use Rattle.hw_dag.specs.Lanes.{IsAncestor}
 use Rattle.hw_forks.specs.declared.votes.Vote.{Vote}
+use Rattle.hw_forks.specs.declared.tallies.Share.{Share}
 use Rattle.hw_forks.specs.declared.majority.Leader.{Leader}
 
 -- the one block is the other, or n or fewer parents lead from the other to it
@@ -88,16 +90,37 @@ IsAhead before block weight after = ((block ≡ before.block) × (after ≡ reco
 
 -- ---- tallies
 
--- the tally of each child that is voted for is its score
-abbrev pub HoldsTallies : UnitGraph → List Vote → Option UnitNo → List ℕ → Type 0
-HoldsTallies dag votes place tallies = (c : ℕ) → IsChild dag place c → 0 < score_in dag votes c → slice_index tallies c ≡ score_in dag votes c
+-- the tally of a child: the weight of its shares
+unfoldable pub tally_in : List Share → ℕ → ℕ
+tally_in shares c = sum_by (λ (share : Share). if share.child.0 == c then share.weight else 0) shares
 
--- the one comes before the other: it has the lesser tally, or the same tally and the lesser name
-abbrev pub ComesBefore : UnitGraph → List ℕ → ℕ → ℕ → Type 0
-ComesBefore dag tallies d c = (slice_index tallies d < slice_index tallies c)
-    ⊎ ((slice_index tallies d ≡ slice_index tallies c) × (digest_lt (unit_at dag d).digest (unit_at dag c).digest ≡ true))
+-- shares of units of a graph that weigh together what a validator set may
+pub record AreShares (dag : UnitGraph) (shares : List Share) : Type 0 where
+  pub graph : IsGraph dag
+  pub each : (share : Share) → Among share shares → (share.child.0 < count_of dag) × (0 < share.weight)
+  pub bounded : sum_by (λ (share : Share). share.weight) shares < 2 ^ 62
 
--- the child is next, where there is no best one or that comes before it. Else the best one stays
-abbrev pub IsHeavier : UnitGraph → List ℕ → Option UnitNo → UnitNo → UnitNo → Type 0
-IsHeavier dag tallies None child next = next ≡ child
-IsHeavier dag tallies (Some best) child next = ((next ≡ child) × ComesBefore dag tallies best.0 child.0) ⊎ ((next ≡ best) × ((child.0 ≡ best.0) ⊎ ComesBefore dag tallies child.0 best.0))
+-- What the votes give to the children of the place is all shared out: each child's tally is its score.
+pub record HoldsShares (dag : UnitGraph) (votes : List Vote) (place : Option UnitNo) (shares : List Share) : Type 0 where
+  pub each : (share : Share) → Among share shares → IsChild dag place share.child.0 × (0 < share.weight)
+  pub tally_is : (c : ℕ) → IsChild dag place c → tally_in shares c ≡ score_in dag votes c
+  pub light : sum_by (λ (share : Share). share.weight) shares ≤ sum_by (λ (vote : Vote). vote.weight) votes
+
+-- the one tally comes before the other: it has the lesser weight, or the same weight and the lesser name
+abbrev pub ComesBefore : UnitGraph → Share → Share → Type 0
+ComesBefore dag d c = (d.weight < c.weight)
+    ⊎ ((d.weight ≡ c.weight) × (digest_lt (unit_at dag d.child.0).digest (unit_at dag c.child.0).digest ≡ true))
+
+-- the tally is next, where there is no best one or that comes before it. Else the best one stays
+abbrev pub IsHeavier : UnitGraph → Option Share → Share → Share → Type 0
+IsHeavier dag None tally next = next ≡ tally
+IsHeavier dag (Some best) tally next = ((next ≡ tally) × ComesBefore dag best tally) ⊎ ((next ≡ best) × ((tally ≡ best) ⊎ ComesBefore dag tally best))
+
+-- the tally of the child as the shares have it
+abbrev pub whole_tally : List Share → ℕ → Share
+whole_tally shares c = record { child = record { 0 = c }; weight = tally_in shares c }
+
+-- the child that the tallies of all others come before
+pub record IsHeaviest (dag : UnitGraph) (shares : List Share) (c : ℕ) : Type 0 where
+  pub some : 0 < tally_in shares c
+  pub others : (d : ℕ) → 0 < tally_in shares d → (d ≡ c) ⊎ ComesBefore dag (whole_tally shares d) (whole_tally shares c)

@@ -1,50 +1,80 @@
 //! The best child of a place, by tallies.
 
-ghost use Rattle.std.specs.Prelude.{◌≡◌, ℕ, ◌<◌, ◌≤◌, length, slice_index, IsTrue, IfSome, IfNone};
-ghost use Rattle.hw_types.specs.Below.{Among};
-ghost use Rattle.hw_forks.specs.declared.votes.Vote.{Vote as Voted};
+ghost use Rattle.std.specs.Prelude.{◌≡◌, ℕ, ◌+◌, ◌<◌, ◌≤◌, ◌^◌, ◌==◌, length, take, IfSome, IfNone, if◌then◌else◌};
+ghost use Rattle.std.specs.List.Sorted.{IsNonDecreasingBy};
 ghost use Rattle.hw_types.specs.Graph.{digest_lt};
 ghost use Rattle.hw_dag.specs.Dag.{unit_at, count_of};
 ghost use Rattle.hw_dag.specs.Admission.{IsGraph, height_above};
 ghost use Rattle.hw_dag.specs.Lanes.{IsAncestor};
+ghost use Rattle.hw_forks.specs.declared.tallies.Share.{Share as Given};
 ghost use Rattle.hw_forks.specs.Votes.{AreVotes, IsVote};
-ghost use Rattle.hw_forks.specs.Walk.{score_in, IsBest, HasNoSupport, IsChild, HoldsTallies, IsHeavier};
+ghost use Rattle.hw_forks.specs.Walk.{IsBest, HasNoSupport, IsChild, tally_in, AreShares, HoldsShares, IsHeavier, IsHeaviest};
 
 use crate::votes::Vote;
 use hw_dag::{Dag, UnitNo};
 
+/// What a vote gives to a child. A tally is the same for all votes: a child, and what they give to it.
+#[derive(Clone, Copy, Debug, PartialEq, Eq)]
+pub struct Share {
+    /// The child.
+    pub child: UnitNo,
+    /// The weight that is given to it.
+    pub weight: u64,
+}
+
+/// What stands where no share was put.
+pub const NO_SHARE: Share = Share {
+    child: UnitNo(0),
+    weight: 0,
+};
+
 /// The child of the greatest score, where some child is voted for. `height` is that of the children.
+/// `shares` is scratch.
 pub fn best_child(
     votes: &[Vote],
-    tallies: &mut [u64],
+    shares: &mut [Share],
     dag: &Dag,
     place: Option<UnitNo>,
     height: u64,
 ) -> Option<UnitNo>
-    requires room { count_of dag.now ≤ length tallies.old }
+    requires room { length votes.now ≤ length shares.old }
     requires votes { AreVotes dag.now votes.now }
     requires height { height ≡ height_above dag.now place }
     ensures best { IfSome result (λ no. IsBest dag.now votes.now place no.0) }
     ensures none { IfNone result (HasNoSupport dag.now votes.now place) }
 {
-    if are_all_lower(votes, height) {
-        return None;
-    }
-    clear(votes, tallies, dag, place, height);
-    add_up(votes, tallies, dag, place, height);
-    heaviest(votes, tallies, dag, place, height)
+    let count = share_out(votes, shares, dag, place, height);
+    let shares = &mut shares[..count];
+    shares.sort_unstable_by_key(|share| share.child.0);
+    heaviest(shares, dag)
 }
 
-// Whether no vote is for a block of this height or above it.
-fn are_all_lower(votes: &[Vote], height: u64) -> bool
-    ensures { IsTrue result → (vote : Voted) → Among vote votes.now → vote.height < height }
+// Puts the share of each vote that has a child of the place on its way first in the list, and says how
+// many there are.
+fn share_out(
+    votes: &[Vote],
+    shares: &mut [Share],
+    dag: &Dag,
+    place: Option<UnitNo>,
+    height: u64,
+) -> usize
+    requires room { length votes.now ≤ length shares.old }
+    requires votes { AreVotes dag.now votes.now }
+    requires height { height ≡ height_above dag.now place }
+    ensures count { result ≤ length shares.new }
+    ensures shares { HoldsShares dag.now votes.now place (take result shares.new) }
 {
+    let mut count = 0;
     for vote in votes {
-        if height <= vote.height {
-            return false;
+        if let Some(child) = child_towards(dag, vote, place, height) {
+            shares[count] = Share {
+                child,
+                weight: vote.weight,
+            };
+            count += 1;
         }
     }
-    true
+    count
 }
 
 // The child of the place that the vote is for or descends from.
@@ -66,74 +96,54 @@ fn child_towards(dag: &Dag, vote: &Vote, place: Option<UnitNo>, height: u64) -> 
     }
 }
 
-// Begins the tallies of the children anew.
-fn clear(votes: &[Vote], tallies: &mut [u64], dag: &Dag, place: Option<UnitNo>, height: u64)
-    requires room { count_of dag.now ≤ length tallies.old }
-    requires votes { AreVotes dag.now votes.now }
-    requires height { height ≡ height_above dag.now place }
-    ensures { (c : ℕ) → IsChild dag.now place c → 0 < score_in dag.now votes.now c → slice_index tallies.new c ≡ 0 }
+// The child of the greatest tally, of those of one tally the one of the greatest name. The shares of one
+// child stand together, so each tally is added up in turn. It counts while it grows: it is greatest when
+// it is whole.
+fn heaviest(shares: &[Share], dag: &Dag) -> Option<UnitNo>
+    requires shares { AreShares dag.now shares.now }
+    requires sorted { IsNonDecreasingBy (λ (share : Given). share.child.0) shares.now }
+    ensures best { IfSome result (λ no. IsHeaviest dag.now shares.now no.0) }
+    ensures none { IfNone result ((c : ℕ) → tally_in shares.now c ≡ 0) }
 {
-    for vote in votes {
-        if let Some(child) = child_towards(dag, vote, place, height) {
-            tallies[child.0 as usize] = 0;
-        }
-    }
-}
-
-// Adds the weight of each vote to the tally of its child.
-fn add_up(votes: &[Vote], tallies: &mut [u64], dag: &Dag, place: Option<UnitNo>, height: u64)
-    requires room { count_of dag.now ≤ length tallies.old }
-    requires votes { AreVotes dag.now votes.now }
-    requires height { height ≡ height_above dag.now place }
-    requires cleared { (c : ℕ) → IsChild dag.now place c → 0 < score_in dag.now votes.now c → slice_index tallies.old c ≡ 0 }
-    ensures { HoldsTallies dag.now votes.now place tallies.new }
-{
-    for vote in votes {
-        if let Some(child) = child_towards(dag, vote, place, height) {
-            tallies[child.0 as usize] += vote.weight;
-        }
-    }
-}
-
-// The child of the greatest tally, of those of one tally the one of the greatest name.
-fn heaviest(
-    votes: &[Vote],
-    tallies: &[u64],
-    dag: &Dag,
-    place: Option<UnitNo>,
-    height: u64,
-) -> Option<UnitNo>
-    requires room { count_of dag.now ≤ length tallies.now }
-    requires votes { AreVotes dag.now votes.now }
-    requires height { height ≡ height_above dag.now place }
-    requires tallies { HoldsTallies dag.now votes.now place tallies.now }
-    ensures best { IfSome result (λ no. IsBest dag.now votes.now place no.0) }
-    ensures none { IfNone result (HasNoSupport dag.now votes.now place) }
-{
+    let mut tally = NO_SHARE;
     let mut best = None;
-    for vote in votes {
-        if let Some(child) = child_towards(dag, vote, place, height) {
-            best = Some(heavier(tallies, dag, best, child));
-        }
+    for share in shares {
+        tally = add(tally, *share);
+        best = Some(heavier(dag, best, tally));
     }
-    best
+    best.map(|best| best.child)
 }
 
-// The one of two children that is next: of the greater tally, or of one tally and the greater name.
-fn heavier(tallies: &[u64], dag: &Dag, best: Option<UnitNo>, child: UnitNo) -> UnitNo
+// The tally of the share's child, where `tally` is that of the share before it.
+fn add(tally: Share, share: Share) -> Share
+    requires bounded { tally.weight + share.weight < 2 ^ 64 }
+    ensures child { result.child ≡ share.child }
+    ensures weight { result.weight ≡ (if tally.child.0 == share.child.0 then tally.weight + share.weight else share.weight) }
+{
+    if tally.child == share.child {
+        Share {
+            child: share.child,
+            weight: tally.weight + share.weight,
+        }
+    } else {
+        share
+    }
+}
+
+// The one of two tallies that is next: the greater one, or of one weight that of the greater name.
+fn heavier(dag: &Dag, best: Option<Share>, tally: Share) -> Share
     requires graph { IsGraph dag.now }
-    requires room { count_of dag.now ≤ length tallies.now }
-    requires best_known { IfSome best (λ no. no.0 < count_of dag.now) }
-    requires child_known { child.0 < count_of dag.now }
-    ensures { IsHeavier dag.now tallies.now best child result }
+    requires best_known { IfSome best (λ held. held.child.0 < count_of dag.now) }
+    requires tally_known { tally.child.0 < count_of dag.now }
+    ensures { IsHeavier dag.now best tally result }
 {
     let Some(best) = best else {
-        return child;
+        return tally;
     };
-    let held = tallies[best.0 as usize];
-    let tally = tallies[child.0 as usize];
-    if held < tally || held == tally && comes_before(dag, best, child) {
-        child
+    if best.weight < tally.weight
+        || best.weight == tally.weight && comes_before(dag, best.child, tally.child)
+    {
+        tally
     } else {
         best
     }

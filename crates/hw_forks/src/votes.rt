@@ -36,7 +36,7 @@ fn vote_of(dag: &Dag, no: UnitNo, weight: u64) -> Vote
 
 /// Puts the vote of each Correct slot first in the list, and says how many there are.
 pub fn gather(votes: &mut [Vote], dag: &Dag, weights: &[u64], panorama: &Panorama) -> usize
-    requires room { count_of dag.now ≤ length votes.old }
+    requires room { dag.now.validators ≤ length votes.old }
     requires panorama { IsPanorama dag.now panorama.now }
     requires weights { AreWeights weights.now dag.now }
     ensures count { result ≤ length votes.new }

@@ -1,21 +1,22 @@
-use Rattle.std.proofs.Common.{inl, inr, arith}
-use Rattle.std.proofs.lemmas.Bool.{cases_lt}
-use Rattle.hw_forks.specs.Walk.{score_in}
-use Rattle.hw_forks.proofs.ScoreLaws.{score_some}
-use Rattle.hw_forks.proofs.AncestorLaws.{anc_height, child_height}
+use Rattle.std.proofs.Common.{rules, take}
+use Rattle.std.proofs.lemmas.List.Sorted.{IsNonDecreasingBy-from_sort_by_key}
+use Rattle.hw_forks.specs.declared.tallies.Share.{Share}
+use Rattle.hw_forks.proofs.ShareLaws.{holds_moved, holds_are, if_heaviest_best, if_none_supports}
 use Rattle.hw_forks.proofs.tallies.best_child.Goals as goal
 
-pub returns-then-are_all_lower-clause-none : goal.returns-then-are_all_lower-clause-none
-returns-then-are_all_lower-clause-none c = λ child k. elim (cases_lt 0 (score_in c.args.dag.now c.args.votes.now child)) [
-  | inl voted ↦ absurd (
-      let are = c.requires.votes in
-      let v = score_some c.args.dag.now are.graph c.args.votes.now child voted in
-      let vote = are.each v.0 v.1 in
-      let le = anc_height c.args.dag.now are.graph child v.0.block.0 vote.known v.2 in
-      let own = child_height c.args.dag.now are.graph c.args.place child k in
-      let height = vote.height_is in
-      let less = c.are_all_lower.ensures c.if-are_all_lower.true v.0 v.1 in
-      let same = c.requires.height in
-      omega arith)
-  | inr none ↦ omega arith
-]
+pub heaviest-requires-clause-shares : goal.heaviest-requires-clause-shares
+heaviest-requires-clause-shares c = holds_are c.args.dag.now c.args.place c.args.votes.now c.sort_unstable_by_key.new.self c.requires.votes
+    (holds_moved c.args.dag.now c.args.place c.args.votes.now (take c.share_out-count.result c.share_out-count.new.shares) c.sort_unstable_by_key.new.self c.sort_unstable_by_key.ensures.permutation c.share_out-count.ensures.shares)
+
+pub heaviest-requires-clause-sorted : goal.heaviest-requires-clause-sorted
+heaviest-requires-clause-sorted c = IsNonDecreasingBy-from_sort_by_key (λ (share : Share). share.child.0) _ c.sort_unstable_by_key.ensures.sorted (λ a r q k. search rules)
+
+pub returns-clause-best : goal.returns-clause-best
+returns-clause-best c = if_heaviest_best c.args.dag.now c.args.place c.args.votes.now c.sort_unstable_by_key.new.self
+    (holds_moved c.args.dag.now c.args.place c.args.votes.now (take c.share_out-count.result c.share_out-count.new.shares) c.sort_unstable_by_key.new.self c.sort_unstable_by_key.ensures.permutation c.share_out-count.ensures.shares)
+    c.heaviest.result c.heaviest.ensures.best
+
+pub returns-clause-none : goal.returns-clause-none
+returns-clause-none c = if_none_supports c.args.dag.now c.args.place c.args.votes.now c.sort_unstable_by_key.new.self
+    (holds_moved c.args.dag.now c.args.place c.args.votes.now (take c.share_out-count.result c.share_out-count.new.shares) c.sort_unstable_by_key.new.self c.sort_unstable_by_key.ensures.permutation c.share_out-count.ensures.shares)
+    c.heaviest.result c.heaviest.ensures.none

@@ -1,6 +1,5 @@
-use Rattle.std.proofs.Common.{take}
-use Rattle.hw_forks.proofs.LoopLaws.{BestSoFar}
+use Rattle.hw_forks.proofs.ShareLaws.{IsTallied}
 use Rattle.hw_forks.proofs.tallies.heaviest.Given as goal
 
-abbrev pub invariant-loop-vote : goal.invariant-loop-vote
-invariant-loop-vote l = BestSoFar l.dag l.votes (take l.vote-index l.votes) l.place l.best
+abbrev pub invariant-loop-share : goal.invariant-loop-share
+invariant-loop-share l = IsTallied l.dag l.shares l.share-index l.tally l.best
