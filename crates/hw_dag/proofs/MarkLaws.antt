@@ -242,7 +242,7 @@ module _ (dag : UnitGraph) (g : IsGraph dag) where
       seen_through low last.0 high lo hi (lane_is_seen dag g low last.0 lo known on) (record { slot = creator_of (unit_at dag low); number = last; seen = e; is = refl })
 
   -- what is below a unit is one that it observes or below it
-  first_step : (low high : ℕ) → low < count_of dag → high < count_of dag → Among (node_at dag low) (history dag g high) → (m : ℕ) × Cites dag high m × (is_seen dag low m ≡ true)
+  pub first_step : (low high : ℕ) → low < count_of dag → high < count_of dag → Among (node_at dag low) (history dag g high) → (m : ℕ) × Cites dag high m × (is_seen dag low m ≡ true)
   first_step low high lo hi h =
       let all = (reach_keeps unit_cites (cites (unit_at dag high).signed.unit.panorama) (graph dag)
       (λ (x : Node). (n : ℕ) × (n < count_of dag) × (node_at dag n ≡ x) × (m : ℕ) × Cites dag high m × (is_seen dag n m ≡ true))

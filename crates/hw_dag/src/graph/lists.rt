@@ -1,11 +1,11 @@
-//! Lists of names, and whether all their units are below a panorama.
+//! Lists of names, whether all their units are below a panorama, and what is below some of their units.
 
-ghost use Rattle.std.specs.Prelude.{◌≡◌, ℕ, ◌<◌, ◌≤◌, ◌↔◌, false, length, IsTrue, IfSome, IfNone};
-ghost use Rattle.hw_dag.specs.Dag.{count_of, view_at};
-ghost use Rattle.hw_dag.specs.Lanes.{IsBelow};
+ghost use Rattle.std.specs.Prelude.{◌≡◌, ℕ, ◌<◌, ◌≤◌, ◌⊎◌, ◌↔◌, true, false, length, IsTrue, IfSome, IfNone};
+ghost use Rattle.hw_dag.specs.Dag.{count_of, unit_at, view_at};
+ghost use Rattle.hw_dag.specs.Lanes.{is_seen, IsBelow};
 ghost use Rattle.hw_dag.specs.Tables.{IsKnown};
-ghost use Rattle.hw_dag.specs.Walks.{is_marked, HasRoom, IsInNoSlot, IsBelowMarked};
-ghost use Rattle.hw_dag.specs.Lists.{NamesBelow, AllNameBelow, NamesBefore, AllNameBefore, TellsBelow};
+ghost use Rattle.hw_dag.specs.Walks.{is_marked, Cites, HasRoom, IsInNoSlot, IsBelowMarked};
+ghost use Rattle.hw_dag.specs.Lists.{NamesBelow, AllNameBelow, NamesBefore, AllNameBefore, TellsBelow, HasNameAmong, IsBelowSomeNamed, HasRoomForNamed, IsTopOf, IsTopOfNamed};
 
 use crate::graph::Dag;
 use crate::graph::lookups::{clear, greatest};
@@ -158,6 +158,99 @@ impl Dag {
             if marked[next as usize] {
                 self.mark_observed(UnitNo(next), low, marked);
             }
+        }
+    }
+
+    /// Whether the unit is one with one of these names or below one, whoever made them. Where look-ups don't
+    /// tell, one walk from all of them at once does.
+    pub fn is_below_named(&self, names: &[Digest], low: UnitNo, marks: &mut Marks) -> bool
+        requires known { low.0 < count_of self.now }
+        requires room { HasRoomForNamed self.now names.now marks.old }
+        ensures below { IsTrue result ↔ IsBelowSomeNamed self.now names.now low.0 }
+        ensures room { marks.new ≡ marks.old }
+    {
+        let Some(top) = self.open_top(names, low) else {
+            return true;
+        };
+        if top <= low.0 {
+            return false;
+        }
+        self.reaches_named(names, low, top, marks.marked.as_mut_slice())
+    }
+
+    /// The greatest number of the units with these names of which look-ups leave open whether `low` is below
+    /// them, or 0 where they leave none open. None where they tell that it is below one.
+    fn open_top(&self, names: &[Digest], low: UnitNo) -> Option<u32>
+        requires known { low.0 < count_of self.now }
+        ensures open { IfSome result (IsTopOfNamed self.now names.now low.0) }
+        ensures told { IfNone result (IsBelowSomeNamed self.now names.now low.0) }
+    {
+        let mut top = 0;
+        for name in names {
+            top = top.max(self.open_above(name, low)?);
+        }
+        Some(top)
+    }
+
+    /// `open_top` for one name.
+    fn open_above(&self, name: &Digest, low: UnitNo) -> Option<u32>
+        requires known { low.0 < count_of self.now }
+        ensures open { IfSome result (IsTopOf self.now name.now low.0) }
+        ensures told { IfNone result ((n : ℕ) × (n < count_of self.now) × ((unit_at self.now n).digest ≡ name.now) × (is_seen self.now low.0 n ≡ true)) }
+    {
+        self.recall_graph();
+        let Some(no) = self.find(name) else {
+            return Some(0);
+        };
+        match self.told(no, low) {
+            Some(true) => None,
+            Some(false) => Some(0),
+            None => Some(no.0),
+        }
+    }
+
+    /// Whether `low` is below a unit with one of these names, by one walk from all of them at once. They come
+    /// after it and not after the top.
+    fn reaches_named(&self, names: &[Digest], low: UnitNo, top: u32, marked: &mut [bool]) -> bool
+        requires known { low.0 < count_of self.now }
+        requires below { low.0 < top }
+        requires top { IsTopOfNamed self.now names.now low.0 top }
+        requires room { HasRoomForNamed self.now names.now (length marked.old) }
+        ensures { IsTrue result ↔ IsBelowSomeNamed self.now names.now low.0 }
+    {
+        self.recall_graph();
+        clear(marked, low.0 as usize, top as usize);
+        self.mark_observed_by_named(names, low, marked);
+        self.walk(top, low, marked)
+    }
+
+    /// Marks the units that those with these names observe, from `low` on. It may pass over one that look-ups
+    /// tell not to have `low` below it.
+    fn mark_observed_by_named(&self, names: &[Digest], low: UnitNo, marked: &mut [bool])
+        requires known { low.0 < count_of self.now }
+        requires room { HasRoomForNamed self.now names.now (length marked.old) }
+        ensures all { (n m : ℕ) → HasNameAmong self.now names.now n → is_seen self.now low.0 n ≡ true → Cites self.now n m → low.0 ≤ m → is_marked marked.new m ≡ true }
+        ensures only { (m : ℕ) → is_marked marked.new m ≡ true → (is_marked marked.old m ≡ true) ⊎ ((n : ℕ) × HasNameAmong self.now names.now n × Cites self.now n m) }
+    {
+        self.recall_graph();
+        for name in names {
+            if let Some(no) = self.named_above(name, low) {
+                self.mark_observed(no, low, marked);
+            }
+        }
+    }
+
+    /// The unit of this name, unless look-ups tell that it hasn't `low` below it.
+    fn named_above(&self, name: &Digest, low: UnitNo) -> Option<UnitNo>
+        requires known { low.0 < count_of self.now }
+        ensures found { IfSome result (λ no. (no.0 < count_of self.now) × ((unit_at self.now no.0).digest ≡ name.now)) }
+        ensures none { IfNone result ((n : ℕ) → n < count_of self.now → (unit_at self.now n).digest ≡ name.now → is_seen self.now low.0 n ≡ true → ⊥) }
+    {
+        self.recall_graph();
+        let no = self.find(name)?;
+        match self.told(no, low) {
+            Some(false) => None,
+            _ => Some(no),
         }
     }
 }

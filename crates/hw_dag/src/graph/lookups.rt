@@ -188,7 +188,7 @@ impl Dag {
     }
 
     /// Whether `low` is `high` or below it, where no walk is needed to tell.
-    fn told(&self, high: UnitNo, low: UnitNo) -> Option<bool>
+    pub(super) fn told(&self, high: UnitNo, low: UnitNo) -> Option<bool>
         requires high_known { high.0 < count_of self.now }
         requires low_known { low.0 < count_of self.now }
         ensures told { IfSome result (λ told. told ≡ is_seen self.now low.0 high.0) }
@@ -292,7 +292,7 @@ impl Dag {
 
     /// Whether `low` is a marked unit or below one, among those before `top`: from each unit that was come
     /// to, on to those that it observes. It looks at each unit at most once.
-    fn walk(&self, top: u32, low: UnitNo, marked: &mut [bool]) -> bool
+    pub(super) fn walk(&self, top: u32, low: UnitNo, marked: &mut [bool]) -> bool
         requires known { top ≤ count_of self.now }
         requires below { low.0 < top }
         requires room { top ≤ length marked.old }
