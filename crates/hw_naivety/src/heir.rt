@@ -4,11 +4,10 @@ ghost use Rattle.std.specs.Prelude.{◌≡◌, ◌<◌, ◌≤◌, IsTrue, IfSom
 ghost use Rattle.hw_dag.specs.Dag.{count_of, unit_at, view_at};
 ghost use Rattle.hw_naivety.specs.Tips.{IsSight, HasRoom};
 ghost use Rattle.hw_dag.specs.declared.numbers.View.TheVariants as view;
-ghost use Rattle.hw_naivety.specs.Heirs.{HasNamed, HasListBelow, IsBequeathed, IsListed};
+ghost use Rattle.hw_naivety.specs.Heirs.{HasListBelow, IsBequeathed, IsListed};
 
 use crate::sight::Sight;
 use hw_dag::{Marks, UnitNo, View};
-use hw_types::Digest;
 
 /// What is known of an endorsed list before the slots of its unit are gone through.
 #[derive(Clone, Copy, Debug, PartialEq, Eq)]
@@ -44,32 +43,15 @@ impl Sight<'_> {
         self.dag.unit(other).panorama().get(creator) == View::Correct(last)
     }
 
-    /// Whether the unit of this name is below, or isn't there at all.
-    fn has_named(&self, name: &Digest, marks: &mut Marks) -> bool
-        requires sight { IsSight self.now.dag.now self.now.panorama.now self.now.validators }
-        requires room { HasRoom self.now.panorama.now marks.old }
-        ensures below { IsTrue result → HasNamed self.now.dag.now self.now.panorama.now name.now }
-        ensures room { marks.new ≡ marks.old }
-    {
-        match self.dag.find(name) {
-            Some(named) => self.has_below(named, marks),
-            None => true,
-        }
-    }
-
-    /// Whether each unit of the endorsed list that is there is below.
+    /// Whether each name of the endorsed list is that of a unit below. Names that look-ups don't tell of are told
+    /// by one walk together.
     fn has_list(&self, marks: &mut Marks) -> bool
         requires sight { IsSight self.now.dag.now self.now.panorama.now self.now.validators }
         requires room { HasRoom self.now.panorama.now marks.old }
         ensures below { IsTrue result → HasListBelow self.now.dag.now self.now.panorama.now self.now.endorsed.now }
         ensures room { marks.new ≡ marks.old }
     {
-        for name in self.endorsed {
-            if !self.has_named(name, marks) {
-                return false;
-            }
-        }
-        true
+        self.dag.has_all_below(self.panorama, self.endorsed, marks)
     }
 
     /// The creator's previous unit, where it has the same endorsed list and all of it below. Then the tip of
