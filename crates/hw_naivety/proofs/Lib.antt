@@ -5,3 +5,4 @@ pub mod RowLaws
 pub mod NotedLaws
 pub mod GrowLaws
 pub mod JudgedLaws
+pub mod HeirLaws

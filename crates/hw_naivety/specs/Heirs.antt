@@ -1,5 +1,5 @@
 -- What is taken over from the creator's previous unit.
-use Rattle.std.specs.Prelude.{◌≡◌, ℕ, ◌<◌, List, Some}
+use Rattle.std.specs.Prelude.{◌≡◌, ℕ, ◌<◌, true, List, Some}
 use Rattle.hw_types.specs.declared.unit.Digest.{Digest}
 use Rattle.hw_types.specs.Below.{Among}
 use Rattle.hw_dag.specs.declared.numbers.UnitNo.{UnitNo}
@@ -28,3 +28,4 @@ pub record IsBequeathed (dag : UnitGraph) (panorama : List View) (endorsed : Lis
 pub record IsListed (dag : UnitGraph) (panorama : List View) (endorsed : List Digest) (listed : Listed) : Type 0 where
   pub end : IsEndOfList dag endorsed listed.end
   pub heir : (before : UnitNo) → listed.heir ≡ Some before → IsBequeathed dag panorama endorsed before
+  pub below : listed.is_below ≡ true → HasListBelow dag panorama endorsed

@@ -16,6 +16,8 @@ pub struct Listed {
     pub end: u32,
     /// The creator's previous unit, where it has the same list and all of it below.
     pub heir: Option<UnitNo>,
+    /// Whether all of the list is known to be below.
+    pub is_below: bool,
 }
 
 impl Sight<'_> {
@@ -27,9 +29,34 @@ impl Sight<'_> {
         ensures listed { IsListed self.now.dag.now self.now.panorama.now self.now.endorsed.now result }
         ensures room { marks.new ≡ marks.old }
     {
+        let heir = self.heir(creator, marks);
         Listed {
             end: self.end_of_list(),
-            heir: self.heir(creator, marks),
+            heir,
+            is_below: heir.is_some() || self.has_list(marks),
+        }
+    }
+
+    /// What is known of a list where nothing is taken over. Nobody asks unless some validator's units may be on two
+    /// lanes, so else the list isn't gone through.
+    pub fn listed_alone(&self, marks: &mut Marks) -> Listed
+        requires sight { IsSight self.now.dag.now self.now.panorama.now self.now.validators }
+        requires room { HasRoom self.now.panorama.now marks.old }
+        ensures listed { IsListed self.now.dag.now self.now.panorama.now self.now.endorsed.now result }
+        ensures room { marks.new ≡ marks.old }
+    {
+        if self.dag.is_forked() {
+            Listed {
+                end: self.end_of_list(),
+                heir: None,
+                is_below: self.has_list(marks),
+            }
+        } else {
+            Listed {
+                end: self.dag.count(),
+                heir: None,
+                is_below: false,
+            }
         }
     }
 

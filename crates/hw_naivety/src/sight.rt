@@ -4,8 +4,10 @@ ghost use Rattle.std.specs.Prelude.{◌≡◌, ◌<◌, ◌≤◌, ◌↔◌, So
 ghost use Rattle.hw_dag.specs.Dag.{unit_at, count_of, creator_of};
 ghost use Rattle.hw_naivety.specs.Tips.{IsBelow, IsBelowNamed, IsBelowEndorsed, IsNaiveTip, IsSight, IsEndOfList, IsPlain, HasRoom, IsRaised};
 ghost use Rattle.hw_naivety.specs.Forks.{IsNaiveFork};
+ghost use Rattle.hw_naivety.specs.Heirs.{IsListed};
 
 use crate::fork::NaiveFork;
+use crate::heir::Listed;
 use hw_dag::{Dag, Marks, Panorama, UnitNo, View};
 use hw_types::Digest;
 
@@ -72,8 +74,25 @@ impl Sight<'_> {
         self.has_below(named, marks) && self.dag.sees(named, no, marks)
     }
 
-    /// Whether another one is below a unit of the endorsed list.
-    pub fn is_below_endorsed(&self, no: UnitNo, marks: &mut Marks) -> bool
+    /// Whether another one is below a unit of the endorsed list. Where all of the list is known to be below, one
+    /// walk at most tells of all names together.
+    pub fn is_below_endorsed(&self, no: UnitNo, listed: &Listed, marks: &mut Marks) -> bool
+        requires sight { IsSight self.now.dag.now self.now.panorama.now self.now.validators }
+        requires known { no.0 < count_of self.now.dag.now }
+        requires room { HasRoom self.now.panorama.now marks.old }
+        requires listed { IsListed self.now.dag.now self.now.panorama.now self.now.endorsed.now listed.now }
+        ensures below { IsTrue result ↔ IsBelowEndorsed self.now.dag.now self.now.panorama.now self.now.endorsed.now no.0 }
+        ensures room { marks.new ≡ marks.old }
+    {
+        if listed.is_below {
+            self.dag.is_below_named(self.endorsed, no, marks)
+        } else {
+            self.is_below_one_by_one(no, marks)
+        }
+    }
+
+    /// `is_below_endorsed`, name by name.
+    fn is_below_one_by_one(&self, no: UnitNo, marks: &mut Marks) -> bool
         requires sight { IsSight self.now.dag.now self.now.panorama.now self.now.validators }
         requires known { no.0 < count_of self.now.dag.now }
         requires room { HasRoom self.now.panorama.now marks.old }
@@ -102,16 +121,16 @@ impl Sight<'_> {
         end
     }
 
-    /// `is_below_endorsed`, where that end is known. A unit from there on is below none of the list.
-    pub fn is_covered(&self, no: UnitNo, end: u32, marks: &mut Marks) -> bool
+    /// `is_below_endorsed`, by the end of the list first. A unit from there on is below none of it.
+    pub fn is_covered(&self, no: UnitNo, listed: &Listed, marks: &mut Marks) -> bool
         requires sight { IsSight self.now.dag.now self.now.panorama.now self.now.validators }
         requires known { no.0 < count_of self.now.dag.now }
         requires room { HasRoom self.now.panorama.now marks.old }
-        requires end { IsEndOfList self.now.dag.now self.now.endorsed.now end }
+        requires listed { IsListed self.now.dag.now self.now.panorama.now self.now.endorsed.now listed.now }
         ensures below { IsTrue result ↔ IsBelowEndorsed self.now.dag.now self.now.panorama.now self.now.endorsed.now no.0 }
         ensures room { marks.new ≡ marks.old }
     {
-        no.0 < end && self.is_below_endorsed(no, marks)
+        no.0 < listed.end && self.is_below_endorsed(no, listed, marks)
     }
 
     /// The tip that stands for the candidate's lane too, or the fork that the two are.
@@ -120,10 +139,12 @@ impl Sight<'_> {
         creator: u32,
         tip: Option<UnitNo>,
         candidate: UnitNo,
+        listed: &Listed,
         marks: &mut Marks,
     ) -> Result<Option<UnitNo>, NaiveFork>
         requires sight { IsSight self.now.dag.now self.now.panorama.now self.now.validators }
         requires room { HasRoom self.now.panorama.now marks.old }
+        requires listed { IsListed self.now.dag.now self.now.panorama.now self.now.endorsed.now listed.now }
         requires tip { IsNaiveTip self.now.dag.now self.now.panorama.now self.now.endorsed.now creator tip }
         requires known { candidate.0 < count_of self.now.dag.now }
         requires creator { creator_of (unit_at self.now.dag.now candidate.0) ≡ creator }
@@ -133,13 +154,13 @@ impl Sight<'_> {
         ensures room { marks.new ≡ marks.old }
     {
         let Some(low) = tip else {
-            return if self.is_below_endorsed(candidate, marks) {
+            return if self.is_covered(candidate, listed, marks) {
                 Ok(None)
             } else {
                 Ok(Some(candidate))
             };
         };
-        if self.dag.on_lane(candidate, low) || self.is_below_endorsed(candidate, marks) {
+        if self.dag.on_lane(candidate, low) || self.is_covered(candidate, listed, marks) {
             return Ok(tip);
         }
         if self.dag.on_lane(low, candidate) {

@@ -149,6 +149,7 @@ impl Tips {
         creator: u32,
         slot: u32,
         tip: Option<UnitNo>,
+        listed: &Listed,
         marks: &mut Marks,
     ) -> Result<Option<UnitNo>, NaiveFork>
         requires sight { IsSight sight.now.dag.now sight.now.panorama.now sight.now.validators }
@@ -158,6 +159,7 @@ impl Tips {
         requires rows { AreRows sight.now.validators self.now }
         requires tips { HasTips sight.now.dag.now sight.now.panorama.now self.now }
         requires lists { HasLists sight.now.dag.now sight.now.panorama.now sight.now.endorsed.now }
+        requires listed { IsListed sight.now.dag.now sight.now.panorama.now sight.now.endorsed.now listed.now }
         requires tip { IsNaiveTip sight.now.dag.now sight.now.panorama.now sight.now.endorsed.now creator tip }
         ensures raised { IfOk result (IsRaisedOver sight.now.dag.now sight.now.panorama.now sight.now.endorsed.now creator slot tip) }
         ensures fork { IfErr result (IsNaiveFork sight.now.dag.now sight.now.panorama.now sight.now.endorsed.now creator) }
@@ -167,7 +169,7 @@ impl Tips {
             return Ok(tip);
         };
         match self.candidate(sight, creator, slot, cited) {
-            Some(candidate) => sight.raise(creator, tip, candidate, marks),
+            Some(candidate) => sight.raise(creator, tip, candidate, listed, marks),
             None => Ok(tip),
         }
     }
@@ -177,6 +179,7 @@ impl Tips {
         &self,
         sight: &Sight<'_>,
         creator: u32,
+        listed: &Listed,
         marks: &mut Marks,
     ) -> Result<Option<UnitNo>, NaiveFork>
         requires sight { IsSight sight.now.dag.now sight.now.panorama.now sight.now.validators }
@@ -185,13 +188,14 @@ impl Tips {
         requires rows { AreRows sight.now.validators self.now }
         requires tips { HasTips sight.now.dag.now sight.now.panorama.now self.now }
         requires lists { HasLists sight.now.dag.now sight.now.panorama.now sight.now.endorsed.now }
+        requires listed { IsListed sight.now.dag.now sight.now.panorama.now sight.now.endorsed.now listed.now }
         ensures tip { IfOk result (IsTip sight.now.dag.now sight.now.panorama.now sight.now.endorsed.now creator) }
         ensures fork { IfErr result (IsNaiveFork sight.now.dag.now sight.now.panorama.now sight.now.endorsed.now creator) }
         ensures room { marks.new ≡ marks.old }
     {
         let mut tip = None;
         for slot in 0..sight.validators {
-            tip = self.raise_over(sight, creator, slot, tip, marks)?;
+            tip = self.raise_over(sight, creator, slot, tip, listed, marks)?;
         }
         Ok(tip)
     }
@@ -224,7 +228,7 @@ impl Tips {
             Some(before) if sight.is_seen_by(last, creator, before) => self.at(
                 sight, before, creator,
             ),
-            _ if sight.is_covered(last, listed.end, marks) => None,
+            _ if sight.is_covered(last, listed, marks) => None,
             _ => Some(last),
         }
     }
@@ -253,7 +257,7 @@ impl Tips {
         match sight.panorama.get(creator) {
             View::Absent => None,
             View::Correct(last) => self.tip_on(sight, no, creator, last, listed, marks),
-            View::Faulty => match self.tip_over(sight, creator, marks) {
+            View::Faulty => match self.tip_over(sight, creator, listed, marks) {
                 Ok(tip) => tip,
                 Err(_) => unreachable!(),
             },

@@ -119,9 +119,10 @@ impl Naivety {
             endorsed,
             validators: self.validators,
         };
+        let listed = sight.listed_alone(marks);
         for creator in 0..self.validators {
             if let View::Faulty = self.lanes.get(creator) {
-                if let Err(fork) = self.tips.tip_over(&sight, creator, marks) {
+                if let Err(fork) = self.tips.tip_over(&sight, creator, &listed, marks) {
                     return Some(fork);
                 }
             }

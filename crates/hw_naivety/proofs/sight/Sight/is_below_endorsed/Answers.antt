@@ -1,25 +1,15 @@
-use Rattle.std.proofs.Common.{[], get_or, refl, sym, subst, arith}
-use Rattle.hw_types.specs.declared.unit.Digest.{Digest}
-use Rattle.hw_dag.proofs.PlaceLaws.{among_place, place_is_among}
-use Rattle.hw_naivety.specs.Tips.{IsBelowNamed}
+use Rattle.hw_naivety.proofs.HeirLaws.{list_room, named_listed, listed_named}
 use Rattle.hw_naivety.proofs.sight.Sight.is_below_endorsed.Goals as goal
 
-pub returns-then-is_below_named-clause-below : goal.returns-then-is_below_named-clause-below
-returns-then-is_below_named-clause-below c = (
-  λ t. record {
-    name = get_or c.args.self.now.endorsed.now c.loop-name.name-index (record { 0 = [] });
-    among = place_is_among (record { 0 = [] }) c.args.self.now.endorsed.now c.loop-name.name-index c.loop-name-test.true;
-    below = c.is_below_named.ensures.below.0 c.if-is_below_named.true;
-  },
-  λ b. refl,
-)
+pub is_below_named-requires-clause-room : goal.is_below_named-requires-clause-room
+is_below_named-requires-clause-room c =
+    let s = c.requires.sight in
+    list_room c.args.self.now.dag.now s.graph_is c.args.self.now.panorama.now s.panorama_is.known c.args.self.now.endorsed.now c.args.marks.now (c.requires.listed.below c.if-listed.true) c.requires.room
 
-pub returns-clause-below : goal.returns-clause-below
-returns-clause-below c = (
-  λ t. absurd cc,
-  λ b. absurd (
-      let k = among_place (record { 0 = [] }) b.name c.args.self.now.endorsed.now b.among in
-      c.loop-name.invariant.0 k.0 (let lt = k.1 in let over = c.loop-name-test.false in omega arith)
-      (subst (λ (d : Digest). IsBelowNamed c.args.self.now.dag.now c.args.self.now.panorama.now d c.args.no.0) (sym k.2) b.below)
-      ),
-)
+pub returns-then-listed-clause-below : goal.returns-then-listed-clause-below
+returns-then-listed-clause-below c =
+    let s = c.requires.sight in
+    let list = c.requires.listed.below c.if-listed.true in (
+      λ t. named_listed c.args.self.now.dag.now s.graph_is c.args.self.now.panorama.now s.panorama_is.known c.args.self.now.endorsed.now c.args.no.0 list (c.is_below_named.ensures.below.0 t),
+      λ b. c.is_below_named.ensures.below.1 (listed_named c.args.self.now.dag.now s.graph_is c.args.self.now.panorama.now s.panorama_is.known c.args.self.now.endorsed.now c.args.no.0 b),
+    )

@@ -4,17 +4,17 @@ use Rattle.hw_types.proofs.WordsLaws.{never_both}
 use Rattle.hw_naivety.specs.Tips.{IsNaive, IsUnder}
 use Rattle.hw_naivety.proofs.BelowLaws.{lane_trans}
 use Rattle.hw_naivety.proofs.TipLaws.{none_under}
-use Rattle.hw_naivety.proofs.sight.Sight.raise.Goals.{then-on_lane-via-then-on_lane, then-on_lane-via-else-on_lane+then-is_below_endorsed-2}
+use Rattle.hw_naivety.proofs.sight.Sight.raise.Goals.{then-on_lane-via-then-on_lane, then-on_lane-via-else-on_lane+then-is_covered-2}
 use Rattle.hw_naivety.proofs.sight.Sight.raise.Goals as goal
 
-pub returns-then-is_below_endorsed-clause-raised : goal.returns-then-is_below_endorsed-clause-raised
-returns-then-is_below_endorsed-clause-raised c =
+pub returns-then-is_covered-clause-raised : goal.returns-then-is_covered-clause-raised
+returns-then-is_covered-clause-raised c =
     let s = c.requires.sight in
     record {
       naive = λ t e. absurd cc;
       kept = λ n lt u. subst (λ (o : Option UnitNo). IsUnder c.args.self.now.dag.now n o) c.in_default.is u;
       more = λ n h u. absurd (none_under c.args.self.now.dag.now s.graph_is c.args.self.now.panorama.now s.panorama_is c.args.self.now.endorsed.now c.args.creator c.args.candidate.0 n c.requires.known
-          (c.is_below_endorsed.ensures.below.0 c.if-is_below_endorsed.true) h u);
+          (c.is_covered.ensures.below.0 c.if-is_covered.true) h u);
     }
 
 pub on_lane-requires-clause-high_known : goal.on_lane-requires-clause-high_known
@@ -29,8 +29,8 @@ returns-then-on_lane-clause-raised c =
       kept = λ n lt u. subst (λ (o : Option UnitNo). IsUnder c.args.self.now.dag.now n o) c.in-Some.is u;
       more = λ n h u. elim c.then-on_lane.branch [
         | then-on_lane-via-then-on_lane w ↦ lane_trans c.args.self.now.dag.now s.graph_is n c.args.candidate.0 c.in-Some.low.0 h.known c.requires.known low.known u (sym c.on_lane.ensures ∙ w.if-on_lane.true)
-        | then-on_lane-via-else-on_lane+then-is_below_endorsed-2 w ↦ absurd (none_under c.args.self.now.dag.now s.graph_is c.args.self.now.panorama.now s.panorama_is c.args.self.now.endorsed.now c.args.creator c.args.candidate.0 n
-            c.requires.known (w.is_below_endorsed-else-on_lane.ensures.below.0 w.if-is_below_endorsed-2.true) h u)
+        | then-on_lane-via-else-on_lane+then-is_covered-2 w ↦ absurd (none_under c.args.self.now.dag.now s.graph_is c.args.self.now.panorama.now s.panorama_is c.args.self.now.endorsed.now c.args.creator c.args.candidate.0 n
+            c.requires.known (w.is_covered-else-on_lane.ensures.below.0 w.if-is_covered-2.true) h u)
       ];
     }
 
@@ -43,7 +43,7 @@ returns-then-on_lane-2-clause-raised c =
       naive = λ t e.
           let same : c.args.candidate ≡ t = cc in
           subst (λ (k : UnitNo). IsNaive c.args.self.now.dag.now c.args.self.now.panorama.now c.args.self.now.endorsed.now c.args.creator k.0) same
-          (record { known = c.requires.known; creator_is = c.requires.creator; below = c.requires.below; free = λ b. never_both _ (c.is_below_endorsed-else-on_lane.ensures.below.1 b) c.if-is_below_endorsed-2.false });
+          (record { known = c.requires.known; creator_is = c.requires.creator; below = c.requires.below; free = λ b. never_both _ (c.is_covered-else-on_lane.ensures.below.1 b) c.if-is_covered-2.false });
       kept = λ n lt u. lane_trans c.args.self.now.dag.now s.graph_is n c.in-Some.low.0 c.args.candidate.0 lt low.known c.requires.known (subst (λ (o : Option UnitNo). IsUnder c.args.self.now.dag.now n o) c.in-Some.is u)
           (sym c.on_lane-2.ensures ∙ c.if-on_lane-2.true);
       more = λ n h u. u;

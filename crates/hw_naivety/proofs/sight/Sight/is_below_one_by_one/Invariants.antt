@@ -1,6 +1,6 @@
 use Rattle.std.proofs.Common.{◌≡◌, ◌<◌, ℕ, [], get_or}
 use Rattle.hw_naivety.specs.Tips.{IsBelowNamed}
-use Rattle.hw_naivety.proofs.sight.Sight.is_below_endorsed.Given as goal
+use Rattle.hw_naivety.proofs.sight.Sight.is_below_one_by_one.Given as goal
 
 -- it is below none of the units named so far
 abbrev pub invariant-loop-name : goal.invariant-loop-name
