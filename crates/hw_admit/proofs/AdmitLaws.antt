@@ -21,12 +21,15 @@ use Rattle.hw_dag.specs.declared.numbers.View.TheVariants as view
 use Rattle.hw_dag.specs.Dag.{SettledUnit, UnitGraph, unit_at, count_of, node_at, node_of, graph, view_at, obs_of, creator_of, observations, IsPanorama}
 use Rattle.hw_dag.specs.Admission.{PreparedUnit, IsGraph, IsReady, node_prepared, settled_from, with_unit}
 use Rattle.hw_dag.specs.Lanes.{AreWeights}
+use Rattle.hw_dag.specs.Lists.{AllNameBelow}
 use Rattle.hw_dag.specs.Slots.{HasCode}
 use Rattle.hw_dag.proofs.AdmitLaws.{grows, last_at, count_later, later_apart, graph_more, panorama_stays}
 use Rattle.hw_dag.proofs.GrowthLaws.{observations_stay, graph_part, node_stays}
 use Rattle.hw_dag.proofs.NodeLaws.{among_node, node_among}
 use Rattle.hw_dag.proofs.SlotLaws.{slot_of}
 use Rattle.hw_dag.proofs.VoteLaws.{votes_more}
+use Rattle.hw_rules.specs.Judged.{AllEndorseSeen}
+use Rattle.hw_rules.proofs.SeenLaws.{names_stay, list_stays}
 use Rattle.hw_admit.specs.State.{NodeState, IsState, MarksAreMet, is_faulty_in, observed_in}
 use Rattle.hw_admit.proofs.FaultyLaws.{evidence_in, faulty_same, more_faulty, lawful_in, over_faulty, observations_set, panorama_with}
 
@@ -74,6 +77,18 @@ module _ (dag : UnitGraph) (g : IsGraph dag) (p : PreparedUnit) (fork : Option U
     was_not = λ m. let n = among_node dag x m in ready.fresh n.0 n.1 (ap (λ (y : Node). y.digest) n.2);
     no_other = old_or_last;
   }
+
+  -- ---- endorsed lists
+
+  pub seen_with : AllEndorseSeen dag → AllNameBelow dag p.panorama p.signed.unit.endorsed → AllEndorseSeen later
+  seen_with seen own n lt = elim (cases_lt n (count_of dag)) [
+    | inl less ↦ list_stays dag later (grows dag g p fork ready) g (later_apart dag g p fork ready) n less (seen n less)
+    | inr above ↦
+        let longer = count_later dag g p fork ready in
+        let same : n ≡ count_of dag = omega arith in
+        subst (λ (u : SettledUnit). AllNameBelow later u.panorama u.signed.unit.endorsed) (sym (ap (λ (k : ℕ). unit_at later k) same ∙ last_at dag g p fork ready))
+        (names_stay dag later (grows dag g p fork ready) g (later_apart dag g p fork ready) p.panorama p.signed.unit.endorsed ready.resolved.known own)
+  ]
 
   -- ---- marks
 
@@ -215,17 +230,18 @@ weights_later dag g p fork ready weights are choice = record {
 
 -- The state with the unit, where the slot of its creator is moved by what the unit has seen of it.
 pub is_state_later : (s : NodeState) (is : IsState s) (g : IsGraph s.dag) (p : PreparedUnit) (fork : Option UnitNo) (ready : IsReady s.dag p fork) (met : MarksAreMet s.marked (graph s.dag) p.signed.unit.panorama)
-    (choice : option_map (λ (number : UnitNo). node_at s.dag number.0) fork ≡ fork_of s.config.weights (graph s.dag) p.signed.unit.panorama)
+    (seen : AllNameBelow s.dag p.panorama p.signed.unit.endorsed) (choice : option_map (λ (number : UnitNo). node_at s.dag number.0) fork ≡ fork_of s.config.weights (graph s.dag) p.signed.unit.panorama)
     (w : View) (number : UnitNo) → number.0 ≡ count_of s.dag → (view_at p.panorama p.signed.unit.creator ≡ view_at s.panorama p.signed.unit.creator → w ≡ view.Correct number)
     → ((view_at p.panorama p.signed.unit.creator ≡ view_at s.panorama p.signed.unit.creator → ⊥) → w ≡ view.Faulty)
     → (dag : UnitGraph) → dag ≡ with_unit s.dag (settled_from s.dag p fork) → (panorama : List View) → panorama ≡ set s.panorama p.signed.unit.creator w → (spare : ℕ)
     → IsState (record s { spare = spare; dag = dag; panorama = panorama })
-is_state_later s is g p fork ready met choice w number is_last on_same on_other dag ed panorama ep spare =
+is_state_later s is g p fork ready met seen choice w number is_last on_same on_other dag ed panorama ep spare =
     subst₂ (λ (d : UnitGraph) (ws : List View). IsState (record s { spare = spare; dag = d; panorama = ws })) (sym ed) (sym ep) record {
       lawful = is.lawful;
       weights_are = weights_later s.dag g p fork ready s.config.weights is.weights_are choice;
       marked_length = is.marked_length;
       met = met_later s.dag g p fork ready s.marked is.met met;
+      seen = seen_with s.dag g p fork ready is.seen seen;
       panorama_is = panorama_later s.dag g p fork ready s.marked is.met met s.config is.weights_are.length_is s.panorama is.panorama_is is.observed w number is_last on_same on_other;
       observed = observed_later s.dag g p fork ready s.marked is.met met s.config is.weights_are.length_is s.panorama is.panorama_is is.observed w number is_last on_same on_other;
     }

@@ -7,6 +7,7 @@ use Rattle.hw_types.proofs.WordsLaws.{AllFalse, none_broken}
 use Rattle.hw_dag.specs.declared.numbers.UnitNo.{UnitNo}
 use Rattle.hw_dag.specs.Dag.{UnitGraph, count_of, node_at, graph, observations, IsPanorama}
 use Rattle.hw_dag.specs.Admission.{PreparedUnit, IsFor, IsFork, IsNew, IsResolved, KeepsRules, IsGraph, IsReady, node_prepared, settled_from, with_unit}
+use Rattle.hw_dag.specs.Lists.{AllNameBelow}
 use Rattle.hw_dag.proofs.AdmitLaws.{grows}
 use Rattle.hw_dag.proofs.RuleLaws.{rules_are_kept}
 use Rattle.hw_naivety.specs.Naivety.{NaiveTips, KeepsEndorsed, HasNoNaiveFork, IsNoted}
@@ -15,6 +16,7 @@ use Rattle.hw_naivety.proofs.JudgedLaws.{judged_stays}
 use Rattle.hw_rules.specs.Judged.{IsCase, KeepsLocalRules, below_of}
 use Rattle.hw_rules.proofs.CaseLaws.{panorama_is}
 use Rattle.hw_rules.proofs.LocalLaws.{is_case}
+use Rattle.hw_rules.proofs.SeenLaws.{endorsed_is_seen}
 use Rattle.hw_rules.proofs.StateLaws.{keeps_endorsed}
 
 module _ (config : Config) (dag : UnitGraph) (g : IsGraph dag) (many : length config.weights ≡ dag.validators) (p : PreparedUnit) (alone : KeepsLocalRules config p.signed.unit)
@@ -38,6 +40,9 @@ module _ (config : Config) (dag : UnitGraph) (g : IsGraph dag) (many : length co
   pub endorses : KeepsEndorsed (graph dag) (node_prepared p)
   unfolding state_tests
   endorses = keeps_endorsed (graph dag) (node_prepared p) kept.1.1.1.1.1.1.1.0
+
+  pub listed : AllNameBelow dag p.panorama p.signed.unit.endorsed
+  listed = endorsed_is_seen config dag g p resolved rules
 
   pub forkless : HasNoNaiveFork (graph dag) (node_prepared p)
   unfolding state_tests

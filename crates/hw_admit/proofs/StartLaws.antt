@@ -98,6 +98,7 @@ module _ (config : Config) (lawful : config_fault config ≡ None) (dag : UnitGr
       weights_are = weights_start;
       marked_length = length-replicate n false ∙ many;
       met = met_start (replicate n false);
+      seen = λ k lt. absurd (let e = ap length none in omega arith);
       panorama_is = record {
         length_is = length-replicate n view.Absent ∙ many ∙ sym validators;
         known = λ v number e. absurd (let no : view.Absent ≡ view.Correct number = sym (absent v) ∙ e in cc);

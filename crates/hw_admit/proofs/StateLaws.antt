@@ -100,6 +100,7 @@ module _ (s : NodeState) (is : IsState s) where
       weights_are = is.weights_are;
       marked_length = length-set s.marked k true ∙ is.marked_length;
       met = λ u m v t. faulty_still v (is.met u m v t);
+      seen = is.seen;
       panorama_is = panorama_with s.dag s.panorama k view.Faulty is.panorama_is (let long = is.weights_are.length_is in omega arith) (λ number e. absurd cc);
       observed = observed_marked;
     }

@@ -15,7 +15,7 @@ use Rattle.hw_dag.specs.Admission.{PreparedUnit, settled_from, with_unit}
 use Rattle.hw_dag.specs.Lanes.{AreWeights}
 use Rattle.hw_endorse.specs.Told.{Told}
 use Rattle.hw_naivety.specs.Naivety.{NaiveTips, IsNoted}
-use Rattle.hw_rules.specs.Judged.{IsForkOf}
+use Rattle.hw_rules.specs.Judged.{IsForkOf, AllEndorseSeen}
 use Rattle.hw_admit.specs.declared.kept.KeptFork.{KeptFork}
 use Rattle.hw_admit.specs.Kept.{IsKept}
 use Rattle.hw_admit.specs.declared.start.StateStart.{StateStart}
@@ -62,6 +62,8 @@ pub record IsState (s : NodeState) : Type 0 where
   pub marked_length : length s.marked ≡ length s.config.weights
   -- no unit marks a validator that isn't faulty
   pub met : (u : Node) → Among u (graph s.dag) → MarksAreMet s.marked (graph s.dag) u.unit.panorama
+  -- each unit's endorsed list has names of units below it alone
+  pub seen : AllEndorseSeen s.dag
   pub panorama_is : IsPanorama s.dag s.panorama
   -- the panorama is that of the definitions
   pub observed : observations s.dag s.panorama ≡ observed_in s.config s.marked (graph s.dag)

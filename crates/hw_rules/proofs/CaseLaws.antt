@@ -1,5 +1,5 @@
 -- The units below a unit on its way in, by number.
-use Rattle.std.proofs.Common.{◌≡◌, ℕ, zero, suc, ◌<◌, inl, inr, Bool, true, false, not, List, [], ◌∷◌, length, Option, Some, None, refl, sym, ap, subst, ◌∙◌, arith, eqb-true}
+use Rattle.std.proofs.Common.{◌≡◌, ℕ, zero, suc, ◌<◌, Bool, true, false, not, List, [], ◌∷◌, length, Option, Some, None, refl, sym, ap, subst, ◌∙◌, arith, eqb-true}
 use Rattle.std.specs.Prelude.{◌&&◌, ◌==◌, ◌↔◌, IsTrue}
 use Rattle.std.specs.List.{list_all}
 use Rattle.std.specs.Option.{option_map}
@@ -9,10 +9,10 @@ use Rattle.hw_types.specs.Graph.{Node, digest_eq, is_some_and, slot, slots, cite
 use Rattle.hw_types.specs.Below.{Among}
 use Rattle.hw_types.specs.Rules.{some_cited}
 use Rattle.hw_types.proofs.ClosureLaws.{Within}
-use Rattle.hw_types.proofs.PastLaws.{any_of, some_of, reach_first, reach_further, reach_within}
+use Rattle.hw_types.proofs.PastLaws.{any_of, reach_first, reach_further, reach_within}
 use Rattle.hw_types.proofs.StableLaws.{OneName, and_whole, both_ways}
 use Rattle.hw_types.proofs.WordsLaws.{any_none, none_any, all_of, each_all, found_node, slots_in, not_false}
-use Rattle.hw_types.proofs.SettledLaws.{digest_same, digest_self}
+use Rattle.hw_types.proofs.SettledLaws.{digest_self}
 use Rattle.hw_dag.specs.declared.numbers.UnitNo.{UnitNo}
 use Rattle.hw_dag.specs.declared.numbers.View.{View}
 use Rattle.hw_dag.specs.declared.numbers.View.TheVariants as view
@@ -23,9 +23,9 @@ use Rattle.hw_dag.specs.Lists.{AllNameBelow}
 use Rattle.hw_dag.specs.Tables.{number_of, predecessor_of}
 use Rattle.hw_dag.proofs.NodeLaws.{among_node, node_among, graph_one_name}
 use Rattle.hw_dag.proofs.SlotLaws.{slot_of, slot_at, length-observations, number_cites, cited_number}
-use Rattle.hw_naivety.specs.Tips.{IsBelow}
-use Rattle.hw_naivety.proofs.BelowLaws.{below_under, under_below}
+use Rattle.hw_naivety.proofs.BelowLaws.{below_under}
 use Rattle.hw_rules.specs.Judged.{IsCase, below_of, before_of, has_foreign_slot, has_named}
+use Rattle.hw_rules.proofs.SeenLaws.{named_below}
 use Rattle.hw_rules.proofs.ShrinkLaws.{consistent_same}
 
 -- a number as the definitions see it
@@ -161,18 +161,9 @@ module _ (dag : UnitGraph) (p : PreparedUnit) (case : IsCase dag p) where
   seen_below n v number lt e s = subst (λ (os : List Obs). Among (node_at dag n) (past (graph dag) os)) case.resolved.observes
       (below_under dag case.graph_is p.panorama known n lt (record { slot = v; cited = number; observed = e; seen = s }))
 
-  pub below_seen : (n : ℕ) → n < count_of dag → Among (node_at dag n) below → IsBelow dag p.panorama n
-  below_seen n lt m = under_below dag case.graph_is p.panorama known n lt (subst (λ (os : List Obs). Among (node_at dag n) (past (graph dag) os)) (sym case.resolved.observes) m)
-
   -- a unit of the name is below where the one of that name is
   pub named_here : (n : ℕ) (d : Digest) → (unit_at dag n).digest ≡ d → Among (node_at dag n) below → has_named below d ≡ true
   named_here n d e m = any_of (λ x. digest_eq x.digest d) (node_at dag n) below m (subst (λ (c : Digest). digest_eq (unit_at dag n).digest c ≡ true) e (digest_self (unit_at dag n).digest))
-
-  named_number : (d : Digest) → has_named below d ≡ true → (n : ℕ) × (n < count_of dag) × ((unit_at dag n).digest ≡ d) × Among (node_at dag n) below
-  named_number d t =
-      let x = some_of (λ x. digest_eq x.digest d) below t in
-      let n = among_node dag x.0 (within x.0 x.1) in
-      (n.0, n.1, ap (λ (y : Node). y.digest) n.2 ∙ digest_same x.0.digest d x.2, subst (λ (y : Node). Among y below) (sym n.2) x.1)
 
   -- each name of a list is
   pub all_named : (names : List Digest) (b : Bool) → IsTrue b ↔ AllNameBelow dag p.panorama names → b ≡ list_all (has_named below) names
@@ -180,6 +171,4 @@ module _ (dag : UnitGraph) (p : PreparedUnit) (case : IsCase dag p) where
       (λ t. each_all (has_named below) names (λ d m.
       let k = told.0 t d m in
       named_here k.number d k.named (seen_below k.number k.below.slot k.below.cited k.known k.below.observed k.below.seen)))
-      (λ t. told.1 (λ d m.
-      let k = named_number d (all_of (has_named below) names t d m) in
-      record { number = k.0; known = k.1; named = k.2; below = below_seen k.0 k.1 k.3 }))
+      (λ t. told.1 (λ d m. named_below dag case.graph_is p case.resolved d (all_of (has_named below) names t d m)))

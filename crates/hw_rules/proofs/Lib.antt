@@ -6,3 +6,4 @@ pub mod StateLaws
 pub mod LocalLaws
 pub mod ListLaws
 pub mod NewestLaws
+pub mod SeenLaws

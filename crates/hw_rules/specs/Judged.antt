@@ -15,7 +15,8 @@ use Rattle.hw_types.specs.Rules.{local_rule, some_cited, has_digest, same_round,
 use Rattle.hw_dag.specs.declared.numbers.UnitNo.{UnitNo}
 use Rattle.hw_dag.specs.declared.numbers.View.{View}
 use Rattle.hw_dag.specs.declared.numbers.View.TheVariants as view
-use Rattle.hw_dag.specs.Dag.{UnitGraph, count_of, node_at, graph, view_at}
+use Rattle.hw_dag.specs.Dag.{UnitGraph, count_of, unit_at, node_at, graph, view_at}
+use Rattle.hw_dag.specs.Lists.{AllNameBelow}
 use Rattle.hw_dag.specs.Tables.{number_of}
 use Rattle.hw_dag.specs.Admission.{PreparedUnit, IsFor, IsResolved, IsGraph}
 use Rattle.hw_naivety.specs.Naivety.{KeepsEndorsed}
@@ -45,6 +46,10 @@ EachNamed slots fact = (v : ℕ) (no : UnitNo) → view_at slots v ≡ view.Corr
 -- each unit's endorsed list has those of the units that it cites
 abbrev pub AllKeepEndorsed : UnitGraph → Type 0
 AllKeepEndorsed dag = (n : ℕ) → n < count_of dag → KeepsEndorsed (graph dag) (node_at dag n)
+
+-- each unit's endorsed list has names of units below it alone
+abbrev pub AllEndorseSeen : UnitGraph → Type 0
+AllEndorseSeen dag = (n : ℕ) → n < count_of dag → AllNameBelow dag (unit_at dag n).panorama (unit_at dag n).signed.unit.endorsed
 
 -- ---- each rule, true where it is broken
 

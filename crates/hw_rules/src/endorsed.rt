@@ -1,17 +1,18 @@
 //! The rules of a unit's endorsed list.
 
-ghost use Rattle.std.specs.Prelude.{◌≡◌, ◌≤◌, true, false};
+ghost use Rattle.std.specs.Prelude.{◌≡◌, ◌≤◌, true, false, IsTrue};
 ghost use Rattle.std.specs.List.{list_all};
 ghost use Rattle.hw_types.specs.Rules.{has_digest, has_naive_fork};
 ghost use Rattle.hw_types.specs.Tests.{first_broken};
 ghost use Rattle.hw_dag.specs.Dag.{count_of, unit_at};
 ghost use Rattle.hw_dag.specs.Admission.{IsGraph, node_prepared};
+ghost use Rattle.hw_dag.specs.Lists.{AllNameBelow};
 ghost use Rattle.hw_naivety.specs.Naivety.{IsNoted};
-ghost use Rattle.hw_rules.specs.Judged.{IsCase, EachNamed, AllKeepEndorsed, below_of, endorsed_tests, has_foreign_slot, drops_endorsed, endorses_unseen};
+ghost use Rattle.hw_rules.specs.Judged.{IsCase, EachNamed, AllKeepEndorsed, AllEndorseSeen, below_of, endorsed_tests, has_foreign_slot, drops_endorsed, endorses_unseen};
 ghost use Rattle.hw_rules.specs.Verdict.{verdict_of};
 
-use crate::lists::has_all;
-use crate::lookups::{cited_beside, newest, wire_unit};
+use crate::lists::{has_all, is_same};
+use crate::lookups::{cited_beside, newest, previous, wire_unit};
 use hw_dag::{Dag, Marks, Prepared, Slot};
 use hw_naivety::Naivety;
 use hw_types::{Digest, Rule};
@@ -25,6 +26,7 @@ pub fn endorsements(
 ) -> Result<(), Rule>
     requires case { IsCase dag.now prepared.now }
     requires slots { has_foreign_slot (below_of dag.now prepared.now) (node_prepared prepared.now) ≡ false }
+    requires seen { AllEndorseSeen dag.now }
     requires noted { IsNoted naivety.now dag.now }
     requires all { naivety.now.count ≡ count_of dag.now }
     requires room { count_of dag.now ≤ marks.old }
@@ -79,12 +81,30 @@ fn listed_slots<'a>(dag: &'a Dag, own: &[Digest]) -> &'a [Slot]
 /// Whether its list has a digest of no unit below it.
 fn endorses_unseen(dag: &Dag, prepared: &Prepared, marks: &mut Marks) -> bool
     requires case { IsCase dag.now prepared.now }
+    requires seen { AllEndorseSeen dag.now }
     requires room { count_of dag.now ≤ marks.old }
     ensures unseen { result ≡ endorses_unseen (below_of dag.now prepared.now) (node_prepared prepared.now) }
     ensures room { marks.new ≡ marks.old }
 {
+    if inherits_list(dag, prepared) {
+        return false;
+    }
     let list = prepared.signed().unit.endorsed.as_slice();
     !dag.has_all_below(prepared.panorama(), list, marks)
+}
+
+/// Whether its list is that of the unit that it cites of its own creator, whose digests are those of units
+/// below that one, or is empty where it cites none.
+fn inherits_list(dag: &Dag, prepared: &Prepared) -> bool
+    requires case { IsCase dag.now prepared.now }
+    requires seen { AllEndorseSeen dag.now }
+    ensures { IsTrue result → AllNameBelow dag.now prepared.now.panorama prepared.now.signed.unit.endorsed }
+{
+    let list = prepared.signed().unit.endorsed.as_slice();
+    match previous(prepared) {
+        Some(no) => is_same(list, wire_unit(dag, no).endorsed.as_slice()),
+        None => list.is_empty(),
+    }
 }
 
 /// Whether two units of one creator that are naive for it aren't comparable.

@@ -7,7 +7,7 @@ ghost use Rattle.hw_dag.specs.Dag.{graph, count_of};
 ghost use Rattle.hw_dag.specs.Admission.{IsResolved, IsFork, IsGraph, node_prepared};
 ghost use Rattle.hw_dag.specs.Lanes.{AreWeights};
 ghost use Rattle.hw_naivety.specs.Naivety.{IsNoted};
-ghost use Rattle.hw_rules.specs.Judged.{IsCase, KeepsLocalRules, IsForkOf, below_of, stands_at};
+ghost use Rattle.hw_rules.specs.Judged.{IsCase, KeepsLocalRules, IsForkOf, AllEndorseSeen, below_of, stands_at};
 
 use crate::citations::citations;
 use crate::endorsed::endorsements;
@@ -39,6 +39,7 @@ impl Judge<'_> {
         requires lawful { config_fault self.now.config.now ≡ None }
         requires leaders { self.now.leaders.now ≡ self.now.config.now }
         requires weights { AreWeights self.now.config.now.weights self.now.dag.now }
+        requires seen { AllEndorseSeen self.now.dag.now }
         requires noted { IsNoted self.now.naivety.now self.now.dag.now }
         requires all { self.now.naivety.now.count ≡ count_of self.now.dag.now }
         requires alone { KeepsLocalRules self.now.config.now prepared.now.signed.unit }

@@ -7,7 +7,8 @@
 //! number: units in slots, steps back along a lane, a walk over what is cited. Nothing here takes memory.
 //!
 //! A settled unit keeps the rules. So where a unit cites what the newest unit of the graph cites, as most
-//! do in nearly all slots, the one that it cites there isn't looked at again.
+//! do in nearly all slots, the one that it cites there isn't looked at again. And where a unit has the
+//! endorsed list of the one before it on its lane, as most do, its digests aren't looked for again.
 #![tactic(auto)]
 
 mod alone;
@@ -21,6 +22,6 @@ mod rounds;
 
 pub use alone::local;
 pub use judge::Judge;
-pub use laws::endorsed_is_kept;
+pub use laws::{endorsed_is_kept, endorsed_is_seen};
 pub use lookups::{previous_of, wire_unit};
 pub use rounds::may_follow;

@@ -39,7 +39,7 @@ pub fn has_all(own: &[Digest], others: &[Digest]) -> bool
 
 /// Whether the lists are equal.
 #[tactic(auto, using(hw_types::proofs::Equal::digest_list_exact))]
-fn is_same(left: &[Digest], right: &[Digest]) -> bool
+pub fn is_same(left: &[Digest], right: &[Digest]) -> bool
     ensures { IsTrue result ↔ (left.now ≡ right.now) }
 {
     left == right

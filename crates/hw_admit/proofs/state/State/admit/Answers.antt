@@ -13,7 +13,7 @@ use Rattle.hw_rules.specs.Judged.{KeepsLocalRules}
 use Rattle.hw_admit.specs.Kept.{IsKept}
 use Rattle.hw_admit.proofs.KeptLaws.{kept_stays}
 use Rattle.hw_admit.specs.State.{NodeState, MarksAreMet, is_faulty_in, observed_in}
-use Rattle.hw_admit.proofs.RuleLaws.{fits, keeps, sound, is_ready, noted_later, endorses_later, forkless_later}
+use Rattle.hw_admit.proofs.RuleLaws.{fits, keeps, sound, listed, is_ready, noted_later, endorses_later, forkless_later}
 use Rattle.hw_admit.proofs.AdmitLaws.{is_state_later, seen_later, next_code}
 use Rattle.hw_admit.proofs.state.State.admit.Goals as goal
 
@@ -208,7 +208,7 @@ invariant_of-self c =
     let naivety_serves = beside.naivety_serves in
     let forks_serve = beside.forks_serve in
     let marks_serve = beside.marks_serve in (
-      is_state_later _ c.self.invariant.0 g p fork ready met choice c.next_view-view.result c.admit-no.result c.admit-no.ensures.last
+      is_state_later _ c.self.invariant.0 g p fork ready met (listed config dag g many p alone resolved rules) choice c.next_view-view.result c.admit-no.result c.admit-no.ensures.last
           (λ e. c.next_view-view.ensures.same (seen ∙ e ∙ sym known)) (λ ne. c.next_view-view.ensures.other (λ e. ne (sym seen ∙ e ∙ known)))
           c.admit-no.new.self c.admit-no.ensures.admitted c.set.new.self moved _,
       record {
@@ -250,7 +250,7 @@ returns-clause-panorama c =
     c.get-seen.ensures ∙ ap (λ (ws : List View). view_at ws c.signed.result.now.unit.creator) c.panorama.ensures ∙ ap (λ (u : SignedUnit). view_at c.args.prepared.panorama u.unit.creator) c.signed.ensures in
     let known : c.get.result ≡ view_at c.self.inside.panorama c.args.prepared.signed.unit.creator = c.get.ensures ∙ ap (λ (u : SignedUnit). view_at c.self.inside.panorama u.unit.creator) c.signed.ensures in
     let moved : c.set.new.self ≡ set c.self.inside.panorama c.args.prepared.signed.unit.creator c.next_view-view.result = c.set.ensures ∙ ap (λ (u : SignedUnit). set c.self.inside.panorama u.unit.creator c.next_view-view.result) c.signed.ensures in
-    (is_state_later _ c.self.invariant.0 g p fork ready met choice c.next_view-view.result c.admit-no.result c.admit-no.ensures.last
+    (is_state_later _ c.self.invariant.0 g p fork ready met (listed config dag g many p alone resolved rules) choice c.next_view-view.result c.admit-no.result c.admit-no.ensures.last
     (λ e. c.next_view-view.ensures.same (seen ∙ e ∙ sym known)) (λ ne. c.next_view-view.ensures.other (λ e. ne (sym seen ∙ e ∙ known)))
     c.admit-no.new.self c.admit-no.ensures.admitted c.set.new.self moved c.self.inside.spare).panorama_is
 
@@ -278,7 +278,7 @@ returns-clause-observed c =
     let known : c.get.result ≡ view_at c.self.inside.panorama c.args.prepared.signed.unit.creator = c.get.ensures ∙ ap (λ (u : SignedUnit). view_at c.self.inside.panorama u.unit.creator) c.signed.ensures in
     let moved : c.set.new.self ≡ set c.self.inside.panorama c.args.prepared.signed.unit.creator c.next_view-view.result = c.set.ensures ∙ ap (λ (u : SignedUnit). set c.self.inside.panorama u.unit.creator c.next_view-view.result) c.signed.ensures in
     subst (λ (s : NodeState). observations c.admit-no.new.self c.set.new.self ≡ observed_in s.config s.marked (graph c.admit-no.new.self)) c.self.view_is
-    (is_state_later _ c.self.invariant.0 g p fork ready met choice c.next_view-view.result c.admit-no.result c.admit-no.ensures.last
+    (is_state_later _ c.self.invariant.0 g p fork ready met (listed config dag g many p alone resolved rules) choice c.next_view-view.result c.admit-no.result c.admit-no.ensures.last
     (λ e. c.next_view-view.ensures.same (seen ∙ e ∙ sym known)) (λ ne. c.next_view-view.ensures.other (λ e. ne (sym seen ∙ e ∙ known)))
     c.admit-no.new.self c.admit-no.ensures.admitted c.set.new.self moved c.self.inside.spare).observed
 
