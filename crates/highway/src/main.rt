@@ -2,7 +2,8 @@
 #![tactic(auto)]
 
 use hw_consumers::{BlockCount, ValueFile};
-use hw_io::{Consumer, HostClock, HostDoor, HostFiles, HostSink};
+use hw_host::{HostClock, HostDoor, HostFiles, HostSink};
+use hw_io::Consumer;
 use hw_program::{OUT_OF_MEMORY, Words, highway, listening_address};
 use hw_types::OutOfMemory;
 use std::env;

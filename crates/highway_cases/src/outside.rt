@@ -1,7 +1,8 @@
 //! The outside of one run.
 
 use crate::planned::Planned;
-use hw_io::{Consumer, Files, HostFiles, IoFault, MemFiles, MemSink, SetClock, Sink, SureDoor};
+use hw_host::HostFiles;
+use hw_io::{Consumer, Files, IoFault, MemFiles, MemSink, SetClock, Sink, SureDoor};
 use hw_program::{Words, highway};
 use hw_types::OutOfMemory;
 use std::alloc::Global;

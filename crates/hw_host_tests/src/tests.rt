@@ -1,8 +1,6 @@
 use hw_consumers::{BLOCKS_FILE, BlockCount, ValueFile};
-use hw_io::{
-    Clock, Consumer, Door, DoorNumbers, Files, HostClock, HostDoor, HostFiles, HostSink, IoFault,
-    MemSink, write_all,
-};
+use hw_host::{HostClock, HostDoor, HostFiles, HostSink};
+use hw_io::{Clock, Consumer, Door, DoorNumbers, Files, IoFault, MemSink, write_all};
 use std::test::Fail;
 use std::{fs, rt};
 

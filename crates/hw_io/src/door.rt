@@ -26,7 +26,7 @@ pub struct DoorNumbers {
 }
 
 impl DoorNumbers {
-    pub(crate) fn new() -> DoorNumbers
+    pub fn new() -> DoorNumbers
         ensures { result ≡ record { accepts = 0; dials = 0; ends = 0; faults = 0 } }
     {
         DoorNumbers {
@@ -37,20 +37,20 @@ impl DoorNumbers {
         }
     }
 
-    pub(crate) fn count_accept(&mut self)
+    pub fn count_accept(&mut self)
         ensures { self.new ≡ record self.old { accepts = raised self.old.accepts } }
     {
         self.accepts = self.accepts.saturating_add(1);
     }
 
-    pub(crate) fn count_dial(&mut self)
+    pub fn count_dial(&mut self)
         ensures { self.new ≡ record self.old { dials = raised self.old.dials } }
     {
         self.dials = self.dials.saturating_add(1);
     }
 
     /// Counts a failure, if the call failed.
-    pub(crate) fn count_failure<T>(&mut self, outcome: &Result<T, IoFault>)
+    pub fn count_failure<T>(&mut self, outcome: &Result<T, IoFault>)
         ensures cause { HasCause self.old.faults self.new.faults outcome.now }
         ensures rest { self.new ≡ record self.old { faults = self.new.faults } }
     {
@@ -61,7 +61,7 @@ impl DoorNumbers {
     }
 
     /// Counts an end, if the read gave nothing for a buffer with room.
-    pub(crate) fn count_end(&mut self, outcome: &Result<usize, IoFault>, buf: &[u8])
+    pub fn count_end(&mut self, outcome: &Result<usize, IoFault>, buf: &[u8])
         ensures { self.new ≡ record self.old { ends = ends_after self.old.ends outcome.now buf.now } }
     {
         match outcome {

@@ -6,14 +6,10 @@
 //! `OutOfMemory`; a sink counts it apart.
 #![tactic(auto)]
 
-mod appended;
 mod book;
 mod buffer;
 mod consumer;
 mod door;
-mod host;
-mod host_clock;
-mod host_door;
 mod memory;
 mod moments;
 mod outside;
@@ -25,12 +21,9 @@ mod sure;
 pub use buffer::{MOST_AT_ONCE, ReadBuffer};
 pub use consumer::{ListConsumer, TakenBlock};
 pub use door::{DoorNumbers, MemDoor, SureDoor};
-pub use host::{HostFiles, HostSink};
-pub use host_clock::HostClock;
-pub use host_door::HostDoor;
 pub use memory::{MemFiles, MemSink, Planned};
 pub use moments::SetClock;
-pub use outside::{Clock, Consumer, Door, Files, IoFault, Sink};
+pub use outside::{Clock, Consumer, Door, Files, IoFault, READ_LIMIT, Sink};
 pub use pieces::write_all;
 pub use session::MemSession;
 pub use sure::{SureFiles, SureSink};

@@ -13,7 +13,7 @@ ghost use Rattle.hw_io.specs.Consumers.{Consumed, after_take, after_finish};
 use std::alloc::AllocError;
 
 /// How many bytes an implementation of `Files` gives of a file that was begun: 2^62.
-pub(crate) const READ_LIMIT: usize = 4_611_686_018_427_387_904;
+pub const READ_LIMIT: usize = 4_611_686_018_427_387_904;
 
 /// Why a call of the outside failed.
 #[derive(Clone, Copy, Debug, PartialEq, Eq)]

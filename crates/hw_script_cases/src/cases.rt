@@ -1,6 +1,7 @@
 //! The lines.
 
-use hw_io::{Files, HostFiles, IoFault};
+use hw_host::HostFiles;
+use hw_io::{Files, IoFault};
 use hw_script::{ScriptError, run_script};
 use hw_types::{Bytes, OutOfMemory};
 use std::alloc::Global;

@@ -6,13 +6,13 @@ use crate::items::OutOfMemory;
 use crate::unit::Obs;
 use std::alloc::Global;
 use std::marker::Model;
-use std::rc::Rc;
+use std::sync::Arc;
 
 /// Whose the items are. Those that several owners have never change.
 #[derive(Drop)]
 enum Held<T> {
     Alone(Vec<T>),
-    Together(Rc<Vec<T>, Global>),
+    Together(Arc<Vec<T>, Global>),
 }
 
 /// A list of items, which contracts see as a list. Once it is shared, a copy is one owner more.
@@ -83,7 +83,7 @@ impl<T: Drop> Shared<T> {
             Held::Alone(items) => {
                 let alloc = *items.allocator();
                 Ok(Shared {
-                    held: Held::Together(Rc::new(alloc, items)?),
+                    held: Held::Together(Arc::new(alloc, items)?),
                 })
             }
             Held::Together(items) => Ok(Shared {

@@ -1,7 +1,7 @@
 //! The clock of the machine, which tells no moments that it gave.
 ghost use Rattle.std.specs.Prelude.{◌^◌, ◌<◌, None};
 
-use crate::outside::Clock;
+use hw_io::Clock;
 use std::time;
 use std::time::{SystemTime, UNIX_EPOCH};
 

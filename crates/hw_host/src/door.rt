@@ -3,8 +3,7 @@ ghost use Rattle.std.specs.Prelude.{◌≡◌, ◌<◌, None, false, IfErr, IsEr
 ghost use Rattle.std.specs.Io.{ReadsAtMost};
 ghost use Rattle.hw_io.specs.Sinks.{TakesSome};
 
-use crate::door::DoorNumbers;
-use crate::outside::{Door, IoFault};
+use hw_io::{Door, DoorNumbers, IoFault};
 use std::io;
 use std::io::{Read, Write};
 use std::net::{Net, OpenListener, OpenStream, Shutdown, TcpListener, TcpStream, ToSocketAddrs};

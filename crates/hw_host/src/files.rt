@@ -4,7 +4,7 @@ ghost use Rattle.std.specs.Option.{option_map};
 ghost use Rattle.hw_io.specs.Faults.{raised};
 
 use crate::appended::{Appended, append_to};
-use crate::outside::{Files, IoFault, READ_LIMIT, Sink};
+use hw_io::{Files, IoFault, READ_LIMIT, Sink};
 use std::io::{Read, Write};
 use std::{fs, rt};
 
