@@ -24,10 +24,10 @@ use Rattle.hw_types.proofs.StableLaws.{and_parts, and_whole, both_ways}
 use Rattle.hw_types.proofs.SettledLaws.{digest_same}
 use Rattle.hw_types.proofs.WordsLaws.{never_both, not_true}
 use Rattle.hw_types.proofs.OrderedLaws.{among_all, all_among}
-use Rattle.hw_verdicts.specs.declared.verdict.Verdict.{Verdict}
-use Rattle.hw_verdicts.specs.declared.verdict.Verdict.TheVariants as verdict
-use Rattle.hw_verdicts.specs.Verdicts.{held_in, journals_clash, IsClash, chain_of, culprit_weight}
-use Rattle.hw_verdicts.proofs.WeightLaws.{weigh}
+use Rattle.hw_safety.specs.declared.verdict.Verdict.{Verdict}
+use Rattle.hw_safety.specs.declared.verdict.Verdict.TheVariants as verdict
+use Rattle.hw_safety.specs.Verdicts.{held_in, journals_clash, IsClash, chain_of, culprit_weight}
+use Rattle.hw_safety.proofs.VerdictWeightLaws.{weigh}
 use Rattle.hw_audit.specs.declared.culprits.Blamed.{Blamed}
 use Rattle.hw_audit.specs.declared.chains.Parting.{Parting}
 use Rattle.hw_audit.specs.Held.{HeldUnit, node_held}
@@ -241,8 +241,8 @@ module _ (config : Config) (left right : List Vertex) (dl dr : List Decision) (w
   agree_verdict e f common is =
       let chains : parting_of (chain_of dl) (chain_of dr) ≡ None = ap (λ (ds : List Digest). parting_of ds (chain_of dr)) (sym read.left_is) ∙ ap (λ (ds : List Digest). parting_of left_chain ds) (sym read.right_is) ∙ sym f in
       let agree = no_part dl dr chains in
-      let long = Rattle.hw_verdicts.proofs.VerdictLaws.chain_length dl in
-      let other = Rattle.hw_verdicts.proofs.VerdictLaws.chain_length dr in
+      let long = Rattle.hw_safety.proofs.VerdictLaws.chain_length dl in
+      let other = Rattle.hw_safety.proofs.VerdictLaws.chain_length dr in
       let left_long = ap (λ (ds : List Digest). length ds) read.left_is in
       let right_long = ap (λ (ds : List Digest). length ds) read.right_is in
       let shorter : common ≡ min (length dl) (length dr) = is ∙ ap (λ (n : ℕ). min n (length right_chain)) (left_long ∙ long) ∙ ap (λ (n : ℕ). min (length dl) n) (right_long ∙ other) in

@@ -8,8 +8,8 @@ use Rattle.hw_types.specs.declared.answers.Decision.{Decision}
 use Rattle.hw_types.specs.Graph.{digest_eq}
 use Rattle.hw_types.proofs.SettledLaws.{digest_same, digest_self}
 use Rattle.hw_types.proofs.WordsLaws.{never_both}
-use Rattle.hw_verdicts.specs.Verdicts.{chain_of, AreInAgreement, DifferAt}
-use Rattle.hw_verdicts.proofs.VerdictLaws.{agreement, chain_length}
+use Rattle.hw_safety.specs.Verdicts.{chain_of, AreInAgreement, DifferAt}
+use Rattle.hw_safety.proofs.VerdictLaws.{agreement, chain_length}
 use Rattle.std.specs.Option.{option_and_then}
 use Rattle.hw_audit.specs.declared.chains.Parting.{Parting}
 use Rattle.hw_audit.specs.Chains.{first_apart, parting_at, parting_of}

@@ -9,8 +9,8 @@ use Rattle.hw_types.proofs.UnionLaws.{from_left, from_right}
 use Rattle.hw_types.proofs.OrderLaws.{unit_same}
 use Rattle.hw_audit.specs.Held.{HeldUnit, node_held}
 use Rattle.hw_audit.specs.Forks.{Precedes, AreOne, Differ, IsLesser, ForkUnits, IsSecond, IsFork}
-use Rattle.hw_audit.proofs.UnitLaws.{unit_turned}
-use Rattle.hw_audit.proofs.OrderLaws.{comes_trans}
+use Rattle.hw_safety.proofs.CulpritPairLaws.{unit_turned}
+use Rattle.hw_safety.proofs.UnitOrderLaws.{comes_trans}
 
 -- ---- one more
 

@@ -11,7 +11,8 @@ use Rattle.hw_audit.specs.Held.{HeldUnit}
 use Rattle.std.specs.Map.{lookup}
 use Rattle.hw_types.proofs.SettledLaws.{digest_same}
 use Rattle.hw_audit.specs.Clashes.{KnownUnits, UnitPair, AreKnown, clash_with, known_with, known_after, unlike, other_of_name, first_clash}
-use Rattle.hw_audit.proofs.UnitLaws.{unit_turned, unit_as}
+use Rattle.hw_audit.proofs.UnitLaws.{unit_as}
+use Rattle.hw_safety.proofs.CulpritPairLaws.{unit_turned}
 
 -- one unit more
 pub known_last : (d : Digest) (known : Option KnownUnits) (hs : List HeldUnit) (h : HeldUnit)

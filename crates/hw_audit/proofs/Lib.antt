@@ -1,6 +1,5 @@
 pub mod UnitLaws
 pub mod KnownLaws
-pub mod OrderLaws
 pub mod ForkLaws
 pub mod NotedLaws
 pub mod PairLaws

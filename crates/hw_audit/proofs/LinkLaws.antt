@@ -24,8 +24,8 @@ use Rattle.hw_types.proofs.EntryLaws.{append_cases, mapped_among}
 use Rattle.hw_types.proofs.UnionLaws.{from_left, from_right}
 use Rattle.hw_types.proofs.OrderLaws.{unit_same, unit_vertex, received_in, unit_self}
 use Rattle.hw_safety.proofs.AccountLaws.{in_journal}
-use Rattle.hw_verdicts.specs.Verdicts.{held_in}
-use Rattle.hw_verdicts.proofs.ClashLaws.{among_held, held_among}
+use Rattle.hw_safety.specs.Verdicts.{held_in}
+use Rattle.hw_safety.proofs.ClashLaws.{among_held, held_among}
 use Rattle.hw_audit.specs.Held.{HeldUnit, node_held, is_settled, held_as, held_by, held_units}
 use Rattle.hw_audit.specs.Forks.{AreShown}
 use Rattle.hw_audit.specs.Read.{units_of}
@@ -182,13 +182,6 @@ module _ (config : Config) (left right : List Vertex) where
 
 -- ---- the journal, place by place
 
-front_one : {A : Type 0} (xs : List A) (n : ℕ) (x : A) → Some x ≡ slice_get xs n → take (suc n) xs ≡ take n xs ++ x ∷ []
-front_one [] n x e = absurd cc
-front_one (y ∷ ys) zero x e = let is : x ≡ y = cc in ap (λ z. z ∷ []) (sym is)
-front_one (y ∷ ys) (suc n) x e = ap (λ zs. y ∷ zs) (front_one ys n x e)
-
-pub front_more : {A : Type 0} (xs : List A) (n : ℕ) (x : A) → Some x ≡ slice_get xs n → take (n + 1) xs ≡ take n xs ++ x ∷ []
-front_more xs n x e = let next : n + 1 ≡ suc n = omega arith in ap (λ k. take k xs) next ∙ front_one xs n x e
 
 -- one vertex more
 pub held_more : (settled : List Node) (journal : List Vertex) (n : ℕ) (v : Vertex) → Some v ≡ slice_get journal n → held_units settled (take (n + 1) journal) ≡ held_units settled (take n journal) ++ held_by settled v

@@ -16,7 +16,8 @@ use Rattle.hw_types.proofs.WordsLaws.{never_both}
 use Rattle.hw_types.proofs.OrderLaws.{unit_self}
 use Rattle.hw_audit.specs.declared.forks.Place.{Place}
 use Rattle.hw_audit.specs.Held.{HeldUnit}
-use Rattle.hw_audit.specs.Forks.{place_of, place_eq, stands_at, shown_at, ForkUnits, IsSecond, IsFork, IsForkAt, AreForks, HasFork, IsLeast, AreLeast, lower_of, IsLowered, AreNoted}
+use Rattle.hw_audit.specs.Forks.{place_of, place_eq, stands_at, shown_at, ForkUnits, IsSecond, IsFork, IsForkAt, AreForks, HasFork, IsLeast, AreLeast, IsLowered, AreNoted}
+use Rattle.hw_safety.specs.Pairs.{lower_of}
 
 -- ---- places
 

@@ -26,11 +26,11 @@ use Rattle.hw_types.proofs.EntryLaws.{append_cases}
 use Rattle.hw_types.proofs.OrderedLaws.{all_among}
 use Rattle.hw_text.specs.Text.{number_text, digest_text}
 use Rattle.hw_text.specs.Lines.{line_feed}
-use Rattle.hw_chain.specs.Chain.{Begins}
-use Rattle.hw_verdicts.specs.Verdicts.{held_in, journals_clash, chain_of, AreInAgreement, DifferAt, AreInConflict, culprit_weight}
-use Rattle.hw_verdicts.specs.declared.verdict.Verdict.TheVariants as verdict
-use Rattle.hw_verdicts.proofs.VerdictLaws.{never_apart, one}
-use Rattle.hw_verdicts.proofs.ShownLaws.{paired}
+use Rattle.hw_safety.specs.Chain.{Begins}
+use Rattle.hw_safety.specs.Verdicts.{held_in, journals_clash, chain_of, AreInAgreement, DifferAt, AreInConflict, culprit_weight}
+use Rattle.hw_safety.specs.declared.verdict.Verdict.TheVariants as verdict
+use Rattle.hw_safety.proofs.VerdictLaws.{never_apart, one}
+use Rattle.hw_safety.proofs.ShownLaws.{paired}
 use Rattle.hw_audit.specs.declared.chains.Parting.{Parting}
 use Rattle.hw_audit.specs.Held.{HeldUnit, node_held}
 use Rattle.hw_audit.specs.Read.{units_of}

@@ -8,12 +8,12 @@ use Rattle.hw_types.specs.Journal.{Setting}
 use Rattle.hw_types.specs.Decisions.{AreDecisions}
 use Rattle.hw_types.specs.Real.{CoreState, setting_of}
 use Rattle.hw_safety.specs.Safety.{HasPairs}
-use Rattle.hw_summit.proofs.DecidedLaws.{decisions_are}
-use Rattle.hw_summit.proofs.HeightLaws.{one_block_each}
-use Rattle.hw_verdicts.specs.declared.verdict.Verdict.{Verdict}
-use Rattle.hw_verdicts.specs.declared.verdict.Verdict.TheVariants as verdict
-use Rattle.hw_verdicts.specs.Verdicts.{chain_of, IsVerdict}
-use Rattle.hw_verdicts.proofs.ApartLaws.{difference}
+use Rattle.hw_safety.proofs.DecidedLaws.{decisions_are}
+use Rattle.hw_safety.proofs.HeightLaws.{one_block_each}
+use Rattle.hw_safety.specs.declared.verdict.Verdict.{Verdict}
+use Rattle.hw_safety.specs.declared.verdict.Verdict.TheVariants as verdict
+use Rattle.hw_safety.specs.Verdicts.{chain_of, IsVerdict}
+use Rattle.hw_safety.proofs.ApartLaws.{difference}
 use Rattle.hw_audit.specs.Held.{HeldUnit}
 use Rattle.hw_audit.specs.Read.{units_of, IsRead}
 use Rattle.hw_core.specs.Decided.{decided_in}

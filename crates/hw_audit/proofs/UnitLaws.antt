@@ -20,13 +20,6 @@ use Rattle.hw_audit.specs.Held.{is_settled}
 pub unit_test : (u v : WireUnit) (b : Bool) → (b ≡ true → u ≡ v) → (u ≡ v → b ≡ true) → b ≡ unit_eq u v
 unit_test u v b there back = both_ways b (unit_eq u v) (λ h. subst (λ (w : WireUnit). unit_eq u w ≡ true) (there h) (unit_self u)) (λ h. back (unit_same u v h))
 
--- the test is the same both ways
-pub unit_turned : (u v : WireUnit) → unit_eq u v ≡ unit_eq v u
-unit_turned u v = both_ways (unit_eq u v) (unit_eq v u) (λ h. back u v (unit_same u v h)) (λ h. back v u (unit_same v u h))
-  where
-    back : (u v : WireUnit) → u ≡ v → unit_eq v u ≡ true
-    back u v e = subst (λ (w : WireUnit). unit_eq w u ≡ true) e (unit_self u)
-
 -- what is equal to one unit is equal to another exactly where that one is
 pub unit_as : (u v w : WireUnit) → unit_eq u v ≡ true → unit_eq u w ≡ unit_eq v w
 unit_as u v w h = ap (λ (x : WireUnit). unit_eq x w) (unit_same u v h)

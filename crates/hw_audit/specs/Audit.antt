@@ -2,9 +2,9 @@
 use Rattle.std.specs.Prelude.{ℕ, ◌<◌}
 use Rattle.hw_types.specs.Real.{CoreState, setting_of}
 use Rattle.hw_core.specs.Decided.{decided_in}
-use Rattle.hw_verdicts.specs.declared.verdict.Verdict.{Verdict}
-use Rattle.hw_verdicts.specs.declared.verdict.Verdict.TheVariants as verdict
-use Rattle.hw_verdicts.specs.Verdicts.{IsVerdict}
+use Rattle.hw_safety.specs.declared.verdict.Verdict.{Verdict}
+use Rattle.hw_safety.specs.declared.verdict.Verdict.TheVariants as verdict
+use Rattle.hw_safety.specs.Verdicts.{IsVerdict}
 
 -- the verdict on what two nodes of one configuration accepted and decided
 abbrev pub IsVerdictOn : CoreState → CoreState → Verdict → Type 0

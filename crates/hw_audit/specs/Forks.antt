@@ -80,11 +80,6 @@ IsLeast hs v (Some n) = HasFork hs (record { creator = v; seq = n }) × ((m : �
 abbrev pub AreLeast : List (Option ℕ) → List HeldUnit → Type 0
 AreLeast least hs = (v : ℕ) → v < length least → IsLeast hs v (slice_index_or least v None)
 
--- the lesser number, or the one that there is
-abbrev pub lower_of : Option ℕ → ℕ → ℕ
-lower_of None n = n
-lower_of (Some m) n = min m n
-
 -- the validator's number is lowered to this one, and the others stay
 pub record IsLowered (old new : List (Option ℕ)) (creator seq : ℕ) : Type 0 where
   pub length_is : length new ≡ length old
@@ -112,10 +107,6 @@ pair_in (Some f) = option_map (λ b. record { first = f.first; second = b }) f.s
 pub record AreShown (hs : List HeldUnit) (xs : List Node) : Type 0 where
   pub each : (h : HeldUnit) → Among h hs → h.is_shown ≡ true → Among (node_held h) xs
   pub back : (x : Node) → Among x xs → (h : HeldUnit) × Among h hs × (h.is_shown ≡ true) × (node_held h ≡ x)
-
--- the validator has two different units of one number
-abbrev pub is_culprit : List Node → ℕ → Bool
-is_culprit xs v = list_any (λ x. true) (equivocations_of xs v)
 
 -- the pair that shows the validator, which is among these units, or it is no culprit
 abbrev pub IsPairOf : List HeldUnit → List Node → ℕ → Option PairUnits → Type 0

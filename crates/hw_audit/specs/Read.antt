@@ -8,9 +8,9 @@ use Rattle.hw_types.specs.Graph.{Node}
 use Rattle.hw_types.specs.Settled.{settled_of}
 use Rattle.hw_types.specs.Journal.{received_of}
 use Rattle.hw_types.specs.Real.{setting_of}
-use Rattle.hw_verdicts.specs.declared.verdict.Verdict.{Verdict}
-use Rattle.hw_verdicts.specs.declared.verdict.Verdict.TheVariants as verdict
-use Rattle.hw_verdicts.specs.Verdicts.{chain_of, IsVerdict}
+use Rattle.hw_safety.specs.declared.verdict.Verdict.{Verdict}
+use Rattle.hw_safety.specs.declared.verdict.Verdict.TheVariants as verdict
+use Rattle.hw_safety.specs.Verdicts.{chain_of, IsVerdict}
 use Rattle.hw_audit.specs.declared.culprits.Blamed.{Blamed}
 use Rattle.hw_audit.specs.Held.{HeldUnit, held_units}
 use Rattle.hw_audit.specs.Shown.{ShowsFirst}

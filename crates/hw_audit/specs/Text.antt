@@ -7,8 +7,8 @@ use Rattle.hw_types.specs.declared.unit.Digest.{Digest}
 use Rattle.hw_types.specs.declared.answers.Culprit.{Culprit}
 use Rattle.hw_text.specs.Text.{number_text, digest_text}
 use Rattle.hw_text.specs.Lines.{line_feed}
-use Rattle.hw_verdicts.specs.declared.verdict.Verdict.{Verdict}
-use Rattle.hw_verdicts.specs.declared.verdict.Verdict.TheVariants as verdict
+use Rattle.hw_safety.specs.declared.verdict.Verdict.{Verdict}
+use Rattle.hw_safety.specs.declared.verdict.Verdict.TheVariants as verdict
 
 -- the name of the unit that the bytes spell with its signature: the digest of all but the last 32 bytes
 abbrev pub name_in : List ℕ → Digest

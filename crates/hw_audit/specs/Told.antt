@@ -7,7 +7,7 @@ use Rattle.hw_types.specs.Journal.{Setting}
 use Rattle.hw_types.specs.Culprits.{shown_in_either, pair_of, culprits_of}
 use Rattle.hw_text.specs.Text.{number_text, digest_text}
 use Rattle.hw_text.specs.Lines.{line_feed}
-use Rattle.hw_verdicts.specs.Verdicts.{culprit_weight}
+use Rattle.hw_safety.specs.Verdicts.{culprit_weight}
 use Rattle.hw_audit.specs.declared.chains.Parting.{Parting}
 use Rattle.hw_audit.specs.Text.{conflict_line, weight_line}
 

@@ -5,14 +5,14 @@ ghost use Rattle.std.specs.Option.{option_map};
 ghost use Rattle.std.specs.Map.{lookup};
 ghost use Rattle.hw_types.specs.Graph.{digest_eq};
 ghost use Rattle.hw_types.specs.Spelling.{unit_bytes};
-ghost use Rattle.hw_verdicts.specs.declared.verdict.Verdict.TheVariants as Verdict;
+ghost use Rattle.hw_safety.specs.declared.verdict.Verdict.TheVariants as Verdict;
 ghost use Rattle.hw_audit.specs.Clashes.{AreKnown, known_with, unlike, clash_with, first_clash};
 ghost use Rattle.hw_audit.specs.Held.{HeldUnit};
 
 use crate::held::{Held, are_one};
 use hw_codec::encode_unit;
+use hw_safety::Verdict;
 use hw_types::{Digest, OutOfMemory};
-use hw_verdicts::Verdict;
 use indexmap::IndexMap;
 use std::alloc::Global;
 use std::marker::Model;

@@ -6,7 +6,8 @@ ghost use Rattle.std.specs.Map.{lookup};
 ghost use Rattle.hw_types.specs.Graph.{Node};
 ghost use Rattle.hw_types.specs.Culprits.{stands_before};
 ghost use Rattle.hw_audit.specs.Held.{HeldUnit, node_held};
-ghost use Rattle.hw_audit.specs.Forks.{place_of, place_eq, Precedes, AreOne, IsLesser, IsFork, IsForkAt, AreForks, HasFork, IsLowered, lower_of, AreNoted, AreShown, pair_in, IsPairOf};
+ghost use Rattle.hw_audit.specs.Forks.{place_of, place_eq, Precedes, AreOne, IsLesser, IsFork, IsForkAt, AreForks, HasFork, IsLowered, AreNoted, AreShown, pair_in, IsPairOf};
+ghost use Rattle.hw_safety.specs.Pairs.{lower_of};
 
 use crate::held::{Held, are_one};
 use hw_codec::{encode_unit, unit_is_in_range};

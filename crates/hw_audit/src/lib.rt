@@ -19,7 +19,7 @@ mod same;
 mod text;
 mod verdict;
 
+pub use hw_safety::Verdict;
 pub use hw_types::Culprit;
-pub use hw_verdicts::Verdict;
 pub use nodes::{AuditError, audit};
 pub use text::audit_text;

@@ -3,7 +3,7 @@
 ghost use Rattle.std.specs.Prelude.{◌≡◌, ◌≢◌, ◌↔◌, ◌++◌, List, Err, IfOk, OnOk};
 ghost use Rattle.hw_types.specs.declared.answers.Decision.{Decision};
 ghost use Rattle.hw_types.specs.Real.{setting_of};
-ghost use Rattle.hw_verdicts.specs.Verdicts.{chain_of};
+ghost use Rattle.hw_safety.specs.Verdicts.{chain_of};
 ghost use Rattle.hw_audit.specs.Read.{units_of, IsAnswer};
 ghost use Rattle.hw_audit.specs.First.{ShowsFirstClash};
 ghost use Rattle.hw_core.specs.Decided.{decided_in};
@@ -14,8 +14,8 @@ use crate::held::{Held, put_units};
 use crate::same::is_same_config;
 use crate::verdict::verdict;
 use hw_core::Core;
+use hw_safety::Verdict;
 use hw_types::{Digest, OutOfMemory};
-use hw_verdicts::Verdict;
 use std::alloc::Global;
 
 /// Why there is no verdict on two nodes.

@@ -6,9 +6,9 @@ ghost use Rattle.hex.specs.Hex.{encode_lower};
 ghost use Rattle.hw_text.specs.Text.{digest_text};
 ghost use Rattle.hw_audit.specs.Text.{name_in, culprit_line, agree_line, height_words, block_words, conflict_line, weight_line, clash_lines, audit_text};
 
+use hw_safety::Verdict;
 use hw_text::{end_line, put_digest, put_numbered, put_word};
 use hw_types::{Bytes, Config, Culprit, Digest, OutOfMemory};
-use hw_verdicts::Verdict;
 use sha2::{Digest as _, Sha256};
 use std::alloc::Global;
 

@@ -13,8 +13,8 @@ use crate::clash::first_clash;
 use crate::culprits::culprits;
 use crate::forks::Equivocations;
 use crate::held::Held;
+use hw_safety::Verdict;
 use hw_types::{Digest, OutOfMemory};
-use hw_verdicts::Verdict;
 use std::alloc::Global;
 
 /// The verdict over the units of both journals, those of the left one first, and over both chains of

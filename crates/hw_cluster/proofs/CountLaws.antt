@@ -21,11 +21,11 @@ use Rattle.hw_types.specs.Real.{CoreState, setting_of}
 use Rattle.hw_types.specs.Decisions.{AreDecisions}
 use Rattle.hw_types.proofs.DecisionLaws.{decisions_one}
 use Rattle.hw_types.proofs.OrderLaws.{unit_same, unit_self}
-use Rattle.hw_summit.specs.Decided.{decisions_of}
-use Rattle.hw_summit.proofs.DecidedLaws.{decisions_are}
-use Rattle.hw_summit.proofs.HeightLaws.{one_block_each}
+use Rattle.hw_safety.specs.Decided.{decisions_of}
+use Rattle.hw_safety.proofs.DecidedLaws.{decisions_are}
+use Rattle.hw_safety.proofs.HeightLaws.{one_block_each}
 use Rattle.hw_core.specs.Decided.{decided_in}
-use Rattle.hw_verdicts.specs.Verdicts.{held_in}
+use Rattle.hw_safety.specs.Verdicts.{held_in}
 use Rattle.hw_honest.specs.Cluster.{journal_at}
 use Rattle.hw_honest.specs.Simulated.{culprits_in, sent_units, IsMostDecisions}
 use Rattle.hw_cluster.specs.Counts.{has_other, equivocates_in}

@@ -16,8 +16,8 @@ use Rattle.hw_types.specs.Real.{CoreState, setting_of}
 use Rattle.hw_types.specs.Rounds.{leader_of}
 use Rattle.hw_types.specs.Settled.{validators}
 use Rattle.rand_chacha.specs.ChaCha.{key_of}
-use Rattle.hw_summit.specs.Decided.{decisions_of}
-use Rattle.hw_plans.specs.Plans.{settled_in}
+use Rattle.hw_safety.specs.Decided.{decisions_of}
+use Rattle.hw_honest.specs.Plans.{settled_in}
 use Rattle.hw_honest.specs.Generated.{last_by, shuffled, units_of_round, units_of_rounds, deliveries_of, journal_of_rounds, gen_config, gen_key, gen_journal, Totals, AreTotals, last_of}
 use Rattle.hw_honest.specs.Restart.{trusted}
 use Rattle.hw_cluster.specs.declared.lanes.LastUnit.{LastUnit}

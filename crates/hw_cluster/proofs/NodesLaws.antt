@@ -22,8 +22,8 @@ use Rattle.hw_admit.specs.declared.start.StateStart.TheVariants as start
 use Rattle.hw_admit.specs.State.{IsStartFault}
 use Rattle.hw_core.specs.Deliver.{IsRefusal}
 use Rattle.hw_core.specs.Promises.{begun as begun_core}
-use Rattle.hw_plans.specs.Plans.{IsPlanned}
-use Rattle.hw_plans.proofs.NewLaws.{plan_fits}
+use Rattle.hw_honest.specs.Plans.{IsPlanned}
+use Rattle.hw_honest.proofs.NewLaws.{plan_fits}
 use Rattle.hw_honest.specs.declared.cluster.Action.{Action}
 use Rattle.hw_honest.specs.declared.cluster.Action.TheVariants.{Step, Deliver, Forge}
 use Rattle.hw_honest.specs.Cluster.{Cluster, begun, journal_at, with_sent, answer_at, after_delivery, value_at, plan_at, signed, is_admitted, after_own, is_foreign, after}

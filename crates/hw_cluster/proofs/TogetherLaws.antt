@@ -8,15 +8,15 @@ use Rattle.hw_types.specs.Settled.{is_faulty}
 use Rattle.hw_types.specs.Decisions.{AreDecisions}
 use Rattle.hw_types.specs.Journal.{Setting, journal_of}
 use Rattle.hw_types.specs.Real.{setting_of, received_in, settled_in}
-use Rattle.hw_summit.specs.Decided.{decisions_of}
-use Rattle.hw_summit.proofs.DecidedLaws.{decisions_are}
-use Rattle.hw_summit.proofs.HeightLaws.{one_block_each}
-use Rattle.hw_chain.specs.Chain.{Begins}
-use Rattle.hw_verdicts.specs.declared.verdict.Verdict.{Verdict}
-use Rattle.hw_verdicts.specs.declared.verdict.Verdict.TheVariants as verdict
-use Rattle.hw_verdicts.specs.Verdicts.{IsVerdict}
-use Rattle.hw_verdicts.proofs.ClashLaws.{clash_is_a_test}
-use Rattle.hw_verdicts.proofs.VerdictLaws.{found}
+use Rattle.hw_safety.specs.Decided.{decisions_of}
+use Rattle.hw_safety.proofs.DecidedLaws.{decisions_are}
+use Rattle.hw_safety.proofs.HeightLaws.{one_block_each}
+use Rattle.hw_safety.specs.Chain.{Begins}
+use Rattle.hw_safety.specs.declared.verdict.Verdict.{Verdict}
+use Rattle.hw_safety.specs.declared.verdict.Verdict.TheVariants as verdict
+use Rattle.hw_safety.specs.Verdicts.{IsVerdict}
+use Rattle.hw_safety.proofs.ClashLaws.{clash_is_a_test}
+use Rattle.hw_safety.proofs.VerdictLaws.{found}
 use Rattle.hw_honest.specs.Cluster.{Cluster, journal_at, cluster_of}
 use Rattle.hw_honest.specs.Laws.{HasUnit, IsMadeOf}
 use Rattle.hw_honest.proofs.ClusterLaws.{sound_run, all_delivered}

@@ -8,9 +8,9 @@ use Rattle.hw_types.specs.Journal.{Setting}
 use Rattle.hw_types.specs.Real.{setting_of}
 use Rattle.hw_types.specs.Decisions.{AreDecisions}
 use Rattle.hw_types.proofs.DecisionLaws.{decisions_one}
-use Rattle.hw_summit.specs.Decided.{decisions_of}
-use Rattle.hw_summit.proofs.DecidedLaws.{decisions_are}
-use Rattle.hw_summit.proofs.HeightLaws.{one_block_each}
+use Rattle.hw_safety.specs.Decided.{decisions_of}
+use Rattle.hw_safety.proofs.DecidedLaws.{decisions_are}
+use Rattle.hw_safety.proofs.HeightLaws.{one_block_each}
 use Rattle.hw_honest.specs.Cluster.{Cluster, journal_at, cluster_of}
 use Rattle.hw_honest.specs.Simulated.{Numbers, AreNumbers, IsMostDecisions, sim_setting, sim_actions}
 use Rattle.hw_honest.specs.Generated.{Totals, AreTotals, gen_config, gen_key, gen_journal}

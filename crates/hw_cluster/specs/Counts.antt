@@ -6,7 +6,7 @@ use Rattle.hw_types.specs.declared.unit.WireUnit.{WireUnit}
 use Rattle.hw_types.specs.declared.unit.SignedUnit.{SignedUnit}
 use Rattle.hw_types.specs.declared.unit.Vertex.{Vertex}
 use Rattle.hw_types.specs.Same.{unit_eq}
-use Rattle.hw_verdicts.specs.Verdicts.{held_in}
+use Rattle.hw_safety.specs.Verdicts.{held_in}
 
 -- a unit by the validator with the number of this one, and not this one
 abbrev pub is_other : ℕ → WireUnit → SignedUnit → Bool

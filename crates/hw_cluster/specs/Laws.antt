@@ -6,8 +6,8 @@ use Rattle.hw_types.specs.declared.unit.Digest.{Digest}
 use Rattle.hw_types.specs.Real.{setting_of, received_in, settled_in}
 use Rattle.hw_types.specs.Settled.{is_faulty}
 use Rattle.hw_core.specs.Decided.{decided_in}
-use Rattle.hw_chain.specs.Chain.{Begins}
-use Rattle.hw_verdicts.specs.Verdicts.{chain_of, journals_clash}
+use Rattle.hw_safety.specs.Chain.{Begins}
+use Rattle.hw_safety.specs.Verdicts.{chain_of, journals_clash}
 use Rattle.hw_honest.specs.Cluster.{journal_at}
 use Rattle.hw_honest.specs.Laws.{HasUnit, weight_of_others}
 use Rattle.hw_cluster.specs.Nodes.{ClusterState, IsReached, nodes_in, node_in}

@@ -5,8 +5,8 @@ use Rattle.std.specs.Option.{option_map}
 use Rattle.hw_types.specs.declared.unit.Vertex.{Vertex}
 use Rattle.hw_types.specs.Journal.{Setting}
 use Rattle.hw_types.specs.Real.{setting_of}
-use Rattle.hw_summit.specs.Decided.{decisions_of}
-use Rattle.hw_plans.specs.Plans.{settled_in}
+use Rattle.hw_safety.specs.Decided.{decisions_of}
+use Rattle.hw_honest.specs.Plans.{settled_in}
 use Rattle.hw_honest.specs.declared.cluster.Action.{Action}
 use Rattle.hw_honest.specs.Cluster.{Cluster, begun, journal_at, cluster_of, answers_in}
 use Rattle.hw_honest.specs.Simulated.{Numbers, AreNumbers, is_refused, culprits_in, sim_setting, sim_actions}

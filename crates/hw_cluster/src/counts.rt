@@ -8,7 +8,7 @@ ghost use Rattle.hw_types.specs.Culprits.{signed_in};
 ghost use Rattle.hw_types.specs.Real.{setting_of};
 ghost use Rattle.hw_types.specs.Same.{unit_eq};
 ghost use Rattle.hw_honest.specs.Simulated.{culprits_in, IsMostDecisions};
-ghost use Rattle.hw_verdicts.specs.Verdicts.{held_in};
+ghost use Rattle.hw_safety.specs.Verdicts.{held_in};
 ghost use Rattle.hw_cluster.specs.Counts.{is_other, has_other, equivocates_in};
 ghost use Rattle.hw_cluster.specs.Nodes.{nodes_of, HaveConfig};
 

@@ -20,7 +20,7 @@ use crate::simulated::ones;
 use crate::words::{Words, key_for};
 use hw_codec::instance_of;
 use hw_core::Core;
-use hw_leaders::LeaderTable;
+use hw_rounds::LeaderTable;
 use hw_types::{Config, Leaders, OutOfMemory};
 use std::alloc::Global;
 

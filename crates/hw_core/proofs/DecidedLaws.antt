@@ -13,9 +13,9 @@ use Rattle.hw_types.specs.Journal.{Setting, received_of}
 use Rattle.hw_types.specs.Votes.{weight_of}
 use Rattle.hw_types.specs.Real.{setting_of}
 use Rattle.hw_types.proofs.DecisionLaws.{decisions_one}
-use Rattle.hw_summit.specs.Decided.{decisions_of}
-use Rattle.hw_summit.proofs.HeightLaws.{one_block_each}
-use Rattle.hw_summit.proofs.DecidedLaws.{decisions_are}
+use Rattle.hw_safety.specs.Decided.{decisions_of}
+use Rattle.hw_safety.proofs.HeightLaws.{one_block_each}
+use Rattle.hw_safety.proofs.DecidedLaws.{decisions_are}
 use Rattle.hw_dag.specs.declared.numbers.View.{View}
 use Rattle.hw_dag.specs.Dag.{SettledUnit, UnitGraph, GrowsTo, graph, observations}
 use Rattle.hw_dag.specs.Admission.{PreparedUnit, IsGraph}
@@ -26,7 +26,7 @@ use Rattle.hw_finality.specs.Laws.{IsMoment, DecidesOn}
 use Rattle.hw_finality.proofs.StayLaws.{detector_stays}
 use Rattle.hw_finality.proofs.NumberLaws.{stays}
 use Rattle.hw_park.specs.Parked.{Parked}
-use Rattle.hw_chain.proofs.DetectorLaws.{quiet, nothing_at_first}
+use Rattle.hw_safety.proofs.DetectorLaws.{quiet, nothing_at_first}
 use Rattle.hw_core.specs.Settle.{HasMoreRoom}
 use Rattle.hw_core.specs.Keeps.{IsNode}
 use Rattle.hw_core.proofs.CountLaws.{graph_length}

@@ -31,7 +31,7 @@ use Rattle.hw_types.proofs.EntryLaws.{append_cases}
 use Rattle.hw_types.proofs.WordsLaws.{either, never_both, range_in}
 use Rattle.hw_types.proofs.OrderLaws.{unit_same}
 use Rattle.hw_types.proofs.VertexLaws.{evidence_but}
-use Rattle.hw_evidence.proofs.UnitLaws.{same_unit}
+use Rattle.hw_rounds.proofs.UnitLaws.{same_unit}
 use Rattle.hw_dag.specs.declared.numbers.View.{View}
 use Rattle.hw_dag.specs.Dag.{graph}
 use Rattle.hw_dag.specs.Admission.{PreparedUnit}

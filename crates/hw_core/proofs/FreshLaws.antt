@@ -12,7 +12,7 @@ use Rattle.hw_types.proofs.SettledLaws.{digest_same}
 use Rattle.hw_types.proofs.EntryLaws.{mapped_among}
 use Rattle.hw_types.proofs.WordsLaws.{either}
 use Rattle.hw_types.proofs.OrderLaws.{unit_vertex, received_in}
-use Rattle.hw_evidence.proofs.UnitLaws.{other_unit}
+use Rattle.hw_rounds.proofs.UnitLaws.{other_unit}
 
 module _ (s : Setting) (journal : List Vertex) (u : WireUnit) (fresh : (x : Node) → Among x (units_in s journal) → x.digest ≢ s.name u) where
   -- it clashes with none

@@ -30,7 +30,7 @@ use Rattle.hw_types.proofs.GrowsLaws.{received_grows}
 use Rattle.hw_types.proofs.ReceiptLaws.{tells_where}
 use Rattle.hw_types.proofs.BoundLaws.{journal_bounded}
 use Rattle.hw_types.proofs.OrderLaws.{Accepted, received_same, journal_apart}
-use Rattle.hw_verdicts.proofs.PairLaws.{delivered_pairs}
+use Rattle.hw_safety.proofs.PairLaws.{delivered_pairs}
 use Rattle.hw_core.specs.Promises.{begun, delivered, answers_to, DeliveriesAreTheJournal, IsSound, NodesAreSound, TellsTheSame, OrderOfDeliveriesDoesNotCount, IsFreshUnit, WholeUnitIsAdmitted, LackingUnitIsParked, NewEndorsementIsAdmitted, NewEvidenceIsAdmitted, OnlyMemoryRefuses}
 use Rattle.hw_core.proofs.AnswerLaws.{answer_taken}
 use Rattle.hw_core.proofs.FreshLaws.{fresh_clash, fresh_unit}

@@ -22,7 +22,7 @@ use Rattle.hw_park.specs.Parked.{Parked}
 use Rattle.hw_horizon.specs.Kept.{AreKept}
 use Rattle.hw_horizon.specs.Search.{Search, table_of, start_of, committees_of}
 use Rattle.hw_horizon.specs.Tables.{entry}
-use Rattle.hw_summit.specs.Pruned.{or_zero}
+use Rattle.hw_safety.specs.Pruned.{or_zero}
 use Rattle.hw_horizon.proofs.WalkLaws.{walks_stay}
 use Rattle.hw_finality.specs.declared.found.Found.{Found}
 use Rattle.hw_finality.specs.Detected.{decision_of, decisions_of as found_in}

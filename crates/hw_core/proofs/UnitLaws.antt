@@ -27,7 +27,7 @@ use Rattle.hw_types.proofs.StableLaws.{and_whole}
 use Rattle.hw_types.proofs.SettledLaws.{digest_same, digest_self}
 use Rattle.hw_types.proofs.WordsLaws.{either, none_any}
 use Rattle.hw_types.proofs.OrderLaws.{in_known, received_in}
-use Rattle.hw_evidence.proofs.UnitLaws.{same_unit, other_unit}
+use Rattle.hw_rounds.proofs.UnitLaws.{same_unit, other_unit}
 use Rattle.hw_dag.specs.Admission.{PreparedUnit}
 use Rattle.hw_rules.specs.Verdict.{verdict_of}
 use Rattle.hw_admit.specs.State.{NodeState}

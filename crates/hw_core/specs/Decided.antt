@@ -5,7 +5,7 @@ use Rattle.hw_types.specs.declared.answers.Decision.{Decision}
 use Rattle.hw_types.specs.Journal.{Setting}
 use Rattle.hw_types.specs.Decisions.{AreDecisions}
 use Rattle.hw_types.specs.Real.{CoreState, setting_of}
-use Rattle.hw_summit.specs.Decided.{decisions_of}
+use Rattle.hw_safety.specs.Decided.{decisions_of}
 use Rattle.hw_dag.specs.Dag.{graph}
 use Rattle.hw_admit.specs.State.{NodeState}
 use Rattle.hw_finality.specs.Detected.{DetectorState, IsTrueOf, decisions_of as found_in}

@@ -2,7 +2,7 @@
 use Rattle.std.proofs.Common.{◌≡◌, ℕ, zero, suc, ◌+◌, ◌-◌, ◌*◌, ◌^◌, ◌<◌, ◌≤◌, List, [], ◌∷◌, ◌++◌, length, get_or, take, drop, Option, Some, None, refl, sym, ap, subst, ◌∙◌, arith, length-append, length-drop, append_assoc, append-nil}
 use Rattle.std.proofs.lemmas.List.{take-append-le, drop-append-le, get_or-take, get_or-drop, get_or_append_left}
 use Rattle.std.proofs.Math.Seq.{drop-append_seam}
-use Rattle.hw_skip.specs.Skip.{pointer_count_of}
+use Rattle.hw_dag.specs.Jumps.{pointer_count_of}
 use Rattle.hw_dag.specs.declared.numbers.UnitNo.{UnitNo}
 use Rattle.hw_dag.specs.Skips.{back_from, backs_of, pointers_at, lists_of, IsDepth, IsSkipTable, AreStarts, IsArena, IsAddedBehind}
 use Rattle.hw_dag.proofs.SkipLaws.{length-table, found_known, pointer_count, way_depth, jump_read, next_count, next_read, pointers_more, IsBehind, none_count, backs_more, table_more}

@@ -19,3 +19,5 @@ pub mod VoteLaws
 pub mod RuleLaws
 pub mod LatestLaws
 pub mod ListLaws
+pub mod LogLaws
+pub mod JumpLaws

@@ -2,14 +2,14 @@
 use Rattle.std.proofs.Common.{◌≡◌, ℕ, zero, suc, ◌+◌, ◌-◌, ◌*◌, ◌^◌, ◌<◌, ◌≤◌, inl, inr, List, [], ◌∷◌, ◌++◌, length, get_or, Option, Some, None, refl, sym, ap, subst, ◌∙◌, arith, length-append}
 use Rattle.std.specs.Prelude.{Bool, true, false, slice_get, if◌then◌else◌}
 use Rattle.std.proofs.lemmas.Nat.{pow_pos}
-use Rattle.hw_skip.proofs.JumpLaws.{pointers_lead}
-use Rattle.hw_skip.proofs.LogLaws.{double}
+use Rattle.hw_dag.proofs.JumpLaws.{pointers_lead}
+use Rattle.hw_dag.proofs.LogLaws.{double}
 use Rattle.std.specs.Option.{option_and_then}
 use Rattle.std.proofs.lemmas.List.{get_or_append_left, get_or_push, get_or_read, length-map, map-append}
 use Rattle.std.proofs.lemmas.Bool.Decides.{nat_tests}
 use Rattle.std.proofs.lemmas.Bool.{cases_lt}
 use Rattle.hw_dag.specs.declared.numbers.UnitNo.{UnitNo}
-use Rattle.hw_skip.specs.Skip.{pointer_count_of}
+use Rattle.hw_dag.specs.Jumps.{pointer_count_of}
 use Rattle.hw_dag.specs.Skips.{back_at, back_from, IsDepth, LeadsDown, IsSkips, IsSkipTable, backs_of, pointers_at, pointer_at}
 
 pub back_from-none : (backs : List (Option UnitNo)) (n : ℕ) → back_from backs 0 n ≡ Some n

@@ -8,3 +8,5 @@ pub mod Slots
 pub mod Tables
 pub mod Walks
 pub mod Lists
+pub mod Jumps
+pub mod JumpLaws

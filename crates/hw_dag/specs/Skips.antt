@@ -1,7 +1,7 @@
 -- Chains that lead back one by one, and the pointers that jump along them.
 use Rattle.std.specs.Prelude.{◌≡◌, ℕ, zero, suc, ◌-◌, ◌*◌, ◌^◌, ◌<◌, ◌≤◌, List, [], ◌∷◌, ◌++◌, length, map, take, drop, Option, Some, None, slice_get, slice_index_or}
 use Rattle.std.specs.Option.{option_and_then}
-use Rattle.hw_skip.specs.Skip.{pointer_count_of}
+use Rattle.hw_dag.specs.Jumps.{pointer_count_of}
 use Rattle.hw_dag.specs.declared.numbers.UnitNo.{UnitNo}
 
 -- what comes before each unit on its chain, and the room for more

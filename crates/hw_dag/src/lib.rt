@@ -13,7 +13,10 @@
 //! pointers that they use nothing is seen from outside.
 #![tactic(auto)]
 
+mod counter;
 mod graph;
+mod jump_laws;
+mod jumps;
 mod laws;
 mod numbers;
 mod preparing;
@@ -21,7 +24,13 @@ mod scratch;
 mod settled;
 mod skips;
 
+pub use counter::Steps;
 pub use graph::Dag;
+pub use jump_laws::{
+    jumps_are_few, jumps_are_one_more, jumps_keep_to_pointers, logarithm_is_rounded_down,
+    pointers_lead_to_pointers,
+};
+pub use jumps::{jump, pointer_count};
 pub use laws::{
     apart_is_fork, graph_is_lawful, rules_are_kept, seen_by_entry, seen_is_on_lane, votes_stay,
 };

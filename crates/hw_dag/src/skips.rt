@@ -1,12 +1,12 @@
 //! Chains of units, and the pointers by which they are walked back in jumps.
 
 ghost use Rattle.std.specs.Prelude.{◌≡◌, ℕ, ◌+◌, ◌-◌, ◌^◌, ◌<◌, ◌≤◌, [], ◌∷◌, ◌++◌, length, Some, None, OnOk, IfOk, vec_len, vec_capacity};
-ghost use Rattle.hw_skip.specs.Skip.{jump_count, pointer_count_of};
+ghost use Rattle.hw_dag.specs.Jumps.{jump_count, pointer_count_of};
 ghost use Rattle.hw_dag.specs.declared.numbers.UnitNo.{UnitNo as Number};
 ghost use Rattle.hw_dag.specs.Skips.{back_from, backs_of, lists_of, IsDepth, IsSkipTable, IsAddedBehind};
 
 use crate::numbers::UnitNo;
-use hw_skip::{Steps, jump, pointer_count};
+use crate::{Steps, jump, pointer_count};
 use hw_types::OutOfMemory;
 use std::alloc::Global;
 use std::marker::Model;

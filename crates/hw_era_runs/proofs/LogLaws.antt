@@ -19,7 +19,7 @@ use Rattle.hw_types.proofs.EntryLaws.{append_cases}
 use Rattle.hw_codec.specs.Ranges.{ConfigInRange}
 use Rattle.hw_codec.proofs.KindLaws.{config_kind, each_spells_one}
 use Rattle.hw_core.specs.Promises.{begun}
-use Rattle.hw_verdicts.proofs.ClashLaws.{held_among}
+use Rattle.hw_safety.proofs.ClashLaws.{held_among}
 use Rattle.hw_audit.proofs.ToldLaws.{AreSigned}
 use Rattle.hw_eras.specs.Nodes.{IsMadeAgain, next_of}
 use Rattle.hw_eras.proofs.NodeLaws.{made_begun, made_after}

@@ -8,10 +8,10 @@ use Rattle.hw_types.specs.declared.answers.Decision.{Decision}
 use Rattle.hw_types.specs.Spelling.{unit_bytes}
 use Rattle.hw_types.specs.Journal.{Setting}
 use Rattle.hw_types.specs.Real.{CoreState, setting_of}
-use Rattle.hw_summit.specs.Decided.{decisions_of}
-use Rattle.hw_verdicts.specs.declared.verdict.Verdict.{Verdict}
-use Rattle.hw_verdicts.specs.declared.verdict.Verdict.TheVariants as verdict
-use Rattle.hw_verdicts.specs.Verdicts.{journals_clash, chain_of, IsVerdict}
+use Rattle.hw_safety.specs.Decided.{decisions_of}
+use Rattle.hw_safety.specs.declared.verdict.Verdict.{Verdict}
+use Rattle.hw_safety.specs.declared.verdict.Verdict.TheVariants as verdict
+use Rattle.hw_safety.specs.Verdicts.{journals_clash, chain_of, IsVerdict}
 use Rattle.hw_audit.specs.declared.chains.Parting.{Parting}
 use Rattle.hw_audit.specs.Audit.{IsVerdictOn}
 use Rattle.hw_audit.specs.Clashes.{UnitPair}
@@ -23,7 +23,7 @@ use Rattle.hw_eras.specs.declared.verdict.EraVerdict.{EraVerdict}
 use Rattle.hw_eras.specs.declared.verdict.EraVerdict.TheVariants as eras
 use Rattle.hw_eras.specs.Eras.{IsNoAgreement}
 use Rattle.hw_eras.specs.Nodes.{AreNodeEras}
-use Rattle.hw_era_audit.specs.EraAudit.{IsVerdictOnEras, AreAgreed, IsVerdictByEras, IsAccounted}
+use Rattle.hw_eras.specs.EraAudit.{IsVerdictOnEras, AreAgreed, IsVerdictByEras, IsAccounted}
 use Rattle.hw_era_runs.specs.declared.audits.EraAudit.{EraAudit}
 use Rattle.hw_era_runs.specs.Audits.{agreed, chains_said, clash_or, era_said, in_era, told_or, eras_audited, status_of, TellsVerdict, IsAudit}
 use Rattle.hw_era_runs.proofs.LogLaws.{IsSignedNode, AreSignedNodes, both_signed}

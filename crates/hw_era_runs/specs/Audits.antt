@@ -5,10 +5,10 @@ use Rattle.hw_types.specs.declared.unit.Vertex.{Vertex}
 use Rattle.hw_types.specs.Spelling.{unit_bytes}
 use Rattle.hw_types.specs.Journal.{Setting}
 use Rattle.hw_types.specs.Real.{CoreState, setting_of}
-use Rattle.hw_summit.specs.Decided.{decisions_of}
-use Rattle.hw_verdicts.specs.declared.verdict.Verdict.{Verdict}
-use Rattle.hw_verdicts.specs.declared.verdict.Verdict.TheVariants as verdict
-use Rattle.hw_verdicts.specs.Verdicts.{chain_of}
+use Rattle.hw_safety.specs.Decided.{decisions_of}
+use Rattle.hw_safety.specs.declared.verdict.Verdict.{Verdict}
+use Rattle.hw_safety.specs.declared.verdict.Verdict.TheVariants as verdict
+use Rattle.hw_safety.specs.Verdicts.{chain_of}
 use Rattle.hw_audit.specs.declared.chains.Parting.{Parting}
 use Rattle.hw_audit.specs.Clashes.{UnitPair}
 use Rattle.hw_audit.specs.First.{first_of}
@@ -18,7 +18,7 @@ use Rattle.hw_audit.specs.Told.{conflict_text}
 use Rattle.hw_eras.specs.declared.verdict.EraVerdict.{EraVerdict}
 use Rattle.hw_eras.specs.declared.verdict.EraVerdict.TheVariants as eras
 use Rattle.hw_eras.specs.Nodes.{first_config, AreNodeEras}
-use Rattle.hw_era_audit.specs.EraAudit.{IsVerdictOnEras, IsVerdictByEras, IsAccounted}
+use Rattle.hw_eras.specs.EraAudit.{IsVerdictOnEras, IsVerdictByEras, IsAccounted}
 use Rattle.hw_replay.specs.Taken.{Taken}
 use Rattle.hw_era_runs.specs.Logs.{Held, Stop, ◌>>=◌, eras_of, nodes_of}
 use Rattle.hw_era_runs.specs.Reports.{era_line}

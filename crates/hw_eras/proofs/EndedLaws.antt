@@ -16,9 +16,9 @@ use Rattle.hw_types.specs.Journal.{Setting, received_of}
 use Rattle.hw_types.specs.Decisions.{AreDecisions, received_at}
 use Rattle.hw_types.specs.Real.{CoreState, setting_of}
 use Rattle.hw_types.proofs.WordsLaws.{found_node, find_node_is}
-use Rattle.hw_chain.proofs.ListLaws.{number_below}
-use Rattle.hw_chain.proofs.StoodLaws.{settled_in, graph_in, settled_later, record_in}
-use Rattle.hw_chain.proofs.DecidedLaws.{heights}
+use Rattle.hw_safety.proofs.ListLaws.{number_below}
+use Rattle.hw_safety.proofs.StoodLaws.{settled_in, graph_in, settled_later, record_in}
+use Rattle.hw_safety.proofs.DecidedChainLaws.{heights}
 use Rattle.hw_dag.specs.Dag.{UnitGraph, graph, unit_at, node_at, count_of}
 use Rattle.hw_dag.specs.Admission.{IsGraph, IsNew}
 use Rattle.hw_dag.proofs.NodeLaws.{among_node, node_found, graph_one_name}

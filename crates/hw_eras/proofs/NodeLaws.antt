@@ -18,12 +18,12 @@ use Rattle.hw_types.specs.Journal.{Setting, answer, is_accepted, journal_after}
 use Rattle.hw_types.specs.Decisions.{AreDecisions}
 use Rattle.hw_types.specs.Real.{CoreState, setting_of, answer_in, after_in}
 use Rattle.hw_types.proofs.WordsLaws.{found_node, find_node_is}
-use Rattle.hw_summit.specs.Decided.{decisions_of}
-use Rattle.hw_summit.proofs.DecidedLaws.{decisions_are}
-use Rattle.hw_summit.proofs.HeightLaws.{one_block_each}
-use Rattle.hw_chain.specs.Chain.{Begins}
-use Rattle.hw_chain.proofs.StoodLaws.{settled_in, graph_in, stays}
-use Rattle.hw_chain.proofs.DetectorLaws.{only_grow}
+use Rattle.hw_safety.specs.Decided.{decisions_of}
+use Rattle.hw_safety.proofs.DecidedLaws.{decisions_are}
+use Rattle.hw_safety.proofs.HeightLaws.{one_block_each}
+use Rattle.hw_safety.specs.Chain.{Begins}
+use Rattle.hw_safety.proofs.StoodLaws.{settled_in, graph_in, stays}
+use Rattle.hw_safety.proofs.DetectorLaws.{only_grow}
 use Rattle.hw_eras.specs.Eras.{next_config, Era, journal_in, last_block, value_of, AreEras}
 use Rattle.hw_core.specs.Deliver.{IsRefusal}
 use Rattle.hw_core.specs.Promises.{begun as begun_core}

@@ -4,9 +4,8 @@ use crate::nodes::tell_of;
 use crate::runs::put_text;
 use hw_audit::audit_text;
 use hw_case_words::Answer;
-use hw_era_audit::{AuditError, EraVerdict, audit_eras};
-use hw_eras::Eras;
-use hw_verdicts::Verdict;
+use hw_eras::{AuditError, EraVerdict, Eras, audit_eras};
+use hw_safety::Verdict;
 
 /// The audit of the two nodes that the words tell. They stand in the place of those that began.
 pub fn audited(answer: &mut Answer, nodes: &mut Vec<Eras>, words: &[&str]) {

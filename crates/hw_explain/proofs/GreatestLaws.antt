@@ -20,10 +20,10 @@ use Rattle.hw_types.proofs.WordsLaws.{find_node_is}
 use Rattle.hw_dag.specs.Dag.{UnitGraph, graph, count_of, unit_at, node_at}
 use Rattle.hw_dag.specs.Admission.{IsGraph, IsNew}
 use Rattle.hw_dag.proofs.NodeLaws.{among_node, node_found}
-use Rattle.hw_summit.specs.Pruned.{Starts, start_in, or_zero, members, choose, left_after, settle, vote_start, quorum_start, pruned, pruned_committees}
-use Rattle.hw_summit.proofs.PrunedLaws.{summit_is_left, pruned_is_greatest, range_among}
-use Rattle.hw_summit.proofs.DecidedLaws.{decisions_are}
-use Rattle.hw_summit.proofs.HeightLaws.{one_block_each}
+use Rattle.hw_safety.specs.Pruned.{Starts, start_in, or_zero, members, choose, left_after, settle, vote_start, quorum_start, pruned, pruned_committees}
+use Rattle.hw_safety.proofs.PrunedLaws.{summit_is_left, pruned_is_greatest, range_among}
+use Rattle.hw_safety.proofs.DecidedLaws.{decisions_are}
+use Rattle.hw_safety.proofs.HeightLaws.{one_block_each}
 use Rattle.hw_horizon.specs.Search.{Search, start_of, committees_of}
 use Rattle.hw_core.proofs.EndLaws.{all_at}
 use Rattle.hw_explain.specs.Explain.{starts_of, member_text, committee_words, committee_of}

@@ -11,10 +11,10 @@ use Rattle.hw_types.specs.Votes.{height_of}
 use Rattle.hw_types.specs.Journal.{Setting, received_of}
 use Rattle.hw_types.specs.Decisions.{received_at, IsRecord}
 use Rattle.hw_types.proofs.EntryLaws.{append_cases}
-use Rattle.hw_summit.specs.Decided.{Moment, moment_of, moment, least_level, stood_at, fresh_at, decision_of, decision_at, decided_in, decisions_of}
-use Rattle.hw_summit.proofs.DecidedLaws.{decisions_are}
-use Rattle.hw_summit.proofs.HeightLaws.{one_block_each}
-use Rattle.hw_chain.proofs.DetectorLaws.{nothing_at_first}
+use Rattle.hw_safety.specs.Decided.{Moment, moment_of, moment, least_level, stood_at, fresh_at, decision_of, decision_at, decided_in, decisions_of}
+use Rattle.hw_safety.proofs.DecidedLaws.{decisions_are}
+use Rattle.hw_safety.proofs.HeightLaws.{one_block_each}
+use Rattle.hw_safety.proofs.DetectorLaws.{nothing_at_first}
 use Rattle.hw_core.proofs.EndLaws.{all_at}
 
 -- ---- lists over a range

@@ -10,8 +10,8 @@ use Rattle.hw_types.specs.Settled.{Received, settled_of, panorama_of}
 use Rattle.hw_types.specs.Journal.{Setting, received_of}
 use Rattle.hw_types.specs.Decisions.{received_at}
 use Rattle.hw_types.specs.Real.{CoreState, setting_of, received_in}
-use Rattle.hw_summit.specs.Pruned.{Starts, start_in, or_zero, members, pruned}
-use Rattle.hw_summit.specs.Decided.{decisions_of}
+use Rattle.hw_safety.specs.Pruned.{Starts, start_in, or_zero, members, pruned}
+use Rattle.hw_safety.specs.Decided.{decisions_of}
 use Rattle.hw_text.specs.Text.{number_text}
 use Rattle.hw_text.specs.Lines.{line_of}
 use Rattle.hw_core.specs.Decided.{decided_in}

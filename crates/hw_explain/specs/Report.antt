@@ -8,7 +8,7 @@ use Rattle.hw_types.specs.declared.config.Config.{Config}
 use Rattle.hw_types.specs.declared.answers.Decision.{Decision}
 use Rattle.hw_types.specs.Settled.{Received, validators, is_faulty, settled_of, parked_of, dropped_of, faulty_weight, fork_choice}
 use Rattle.hw_types.specs.Journal.{Setting, received_of}
-use Rattle.hw_summit.specs.Decided.{decisions_of}
+use Rattle.hw_safety.specs.Decided.{decisions_of}
 use Rattle.hw_text.specs.Text.{number_text, digest_text}
 use Rattle.hw_text.specs.Lines.{line_of, or_dash}
 use Rattle.hw_explain.specs.declared.lines.Counts.{Counts}

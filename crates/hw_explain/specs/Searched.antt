@@ -7,7 +7,7 @@ use Rattle.hw_types.specs.Graph.{Node, find_node}
 use Rattle.hw_types.specs.Below.{Among}
 use Rattle.hw_types.specs.Summit.{IsGreatest}
 use Rattle.hw_types.specs.Real.{CoreState, settled_in, panorama_in}
-use Rattle.hw_summit.specs.Pruned.{or_zero}
+use Rattle.hw_safety.specs.Pruned.{or_zero}
 use Rattle.hw_text.specs.Lines.{spaced}
 use Rattle.hw_dag.specs.Dag.{UnitGraph}
 use Rattle.hw_horizon.specs.Search.{Search, start_of, committees_of}

@@ -7,7 +7,7 @@ use Rattle.std.proofs.lemmas.Option.{slice_get-map}
 use Rattle.hw_types.specs.declared.answers.Decision.{Decision}
 use Rattle.hw_types.specs.Graph.{Node, find_node}
 use Rattle.hw_types.specs.Real.{CoreState, setting_of, settled_in}
-use Rattle.hw_summit.specs.Decided.{decisions_of}
+use Rattle.hw_safety.specs.Decided.{decisions_of}
 use Rattle.hw_fanout.specs.Chain.{told_chain, value_in}
 
 -- a decided block as it is told

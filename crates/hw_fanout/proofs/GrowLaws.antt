@@ -10,13 +10,13 @@ use Rattle.hw_types.specs.Real.{CoreState, setting_of, settled_in}
 use Rattle.hw_types.proofs.JournalLaws.{received_rising}
 use Rattle.hw_types.proofs.LawfulLaws.{settled_one_name}
 use Rattle.hw_types.proofs.WordsLaws.{found_node, find_node_is}
-use Rattle.hw_summit.specs.Decided.{decisions_of}
-use Rattle.hw_summit.proofs.DecidedLaws.{decisions_are}
-use Rattle.hw_summit.proofs.HeightLaws.{one_block_each}
-use Rattle.hw_chain.specs.Chain.{Begins, FollowFrom}
-use Rattle.hw_chain.proofs.DecidedLaws.{chain}
-use Rattle.hw_chain.proofs.DetectorLaws.{only_grow}
-use Rattle.hw_chain.proofs.StoodLaws.{stays}
+use Rattle.hw_safety.specs.Decided.{decisions_of}
+use Rattle.hw_safety.proofs.DecidedLaws.{decisions_are}
+use Rattle.hw_safety.proofs.HeightLaws.{one_block_each}
+use Rattle.hw_safety.specs.Chain.{Begins, FollowFrom}
+use Rattle.hw_safety.proofs.DecidedChainLaws.{chain}
+use Rattle.hw_safety.proofs.DetectorLaws.{only_grow}
+use Rattle.hw_safety.proofs.StoodLaws.{stays}
 use Rattle.hw_io.specs.Consumers.{Consumed}
 use Rattle.hw_fanout.specs.Chain.{told_chain, value_in}
 use Rattle.hw_fanout.specs.Told.{HasTaken}

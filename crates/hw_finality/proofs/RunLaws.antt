@@ -11,11 +11,11 @@ use Rattle.hw_types.specs.Graph.{Node}
 use Rattle.hw_types.specs.Settled.{settled_of, panorama_of, faulty_weight}
 use Rattle.hw_types.specs.Journal.{Setting, received_of}
 use Rattle.hw_types.specs.Decisions.{AreDecisions}
-use Rattle.hw_chain.specs.Chain.{AreOnFork}
-use Rattle.hw_chain.specs.Records.{AreNewRecords}
-use Rattle.hw_chain.specs.Laws.{AddsDecisions}
+use Rattle.hw_safety.specs.Chain.{AreOnFork}
+use Rattle.hw_safety.specs.Records.{AreNewRecords}
+use Rattle.hw_safety.specs.ChainLaws.{AddsDecisions}
 use Rattle.hw_types.proofs.OrderedLaws.{any_is}
-use Rattle.hw_chain.proofs.DetectorLaws.{decides, fork, over_of, of_over, last_stood}
+use Rattle.hw_safety.proofs.DetectorLaws.{decides, fork, over_of, of_over, last_stood}
 use Rattle.hw_dag.specs.declared.numbers.UnitNo.{UnitNo}
 use Rattle.hw_dag.specs.declared.numbers.View.{View}
 use Rattle.hw_dag.specs.Dag.{UnitGraph, graph, observations}

@@ -6,7 +6,7 @@ use Rattle.std.proofs.lemmas.List.{append-nil}
 use Rattle.hw_types.specs.declared.config.Config.{Config}
 use Rattle.hw_types.specs.Below.{Among}
 use Rattle.hw_types.proofs.EntryLaws.{append_cases}
-use Rattle.hw_chain.proofs.SearchLaws.{numbered_in, numbered_at, numbered_more}
+use Rattle.hw_safety.proofs.SearchLaws.{numbered_in, numbered_at, numbered_more}
 use Rattle.hw_dag.specs.declared.numbers.UnitNo.{UnitNo}
 use Rattle.hw_dag.specs.declared.numbers.View.{View}
 use Rattle.hw_dag.specs.Dag.{UnitGraph, unit_at, count_of}

@@ -12,8 +12,8 @@ use Rattle.hw_types.specs.Settled.{settled_of, panorama_of, faulty_weight}
 use Rattle.hw_types.specs.Summit.{Stands}
 use Rattle.hw_types.specs.Journal.{Setting, received_of}
 use Rattle.hw_types.specs.Decisions.{AreDecisions}
-use Rattle.hw_chain.specs.Chain.{IsOnFork, AreOnFork}
-use Rattle.hw_chain.specs.Records.{IsRecordAt, AreNewRecords}
+use Rattle.hw_safety.specs.Chain.{IsOnFork, AreOnFork}
+use Rattle.hw_safety.specs.Records.{IsRecordAt, AreNewRecords}
 use Rattle.hw_dag.specs.declared.numbers.UnitNo.{UnitNo}
 use Rattle.hw_dag.specs.declared.numbers.View.{View}
 use Rattle.hw_dag.specs.Dag.{UnitGraph, unit_at, count_of, node_at, graph, observations, GrowsTo}

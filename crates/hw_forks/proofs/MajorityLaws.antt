@@ -3,8 +3,8 @@ use Rattle.std.proofs.Common.{◌≡◌, ◌≢◌, ℕ, zero, suc, ◌+◌, ◌
 use Rattle.std.specs.Prelude.{unwrap_or, ◌==◌, IfSome, if◌then◌else◌}
 use Rattle.std.proofs.lemmas.Bool.{cases_lt, eqb-true}
 use Rattle.std.proofs.lemmas.List.Sums.{sum_by-cons, sum_by_more, sum_by-take-le}
-use Rattle.hw_skip.specs.Skip.{floor_log2}
-use Rattle.hw_skip.proofs.LogLaws.{double, log2_rounded, log2_at_least}
+use Rattle.hw_dag.specs.Jumps.{floor_log2}
+use Rattle.hw_dag.proofs.LogLaws.{double, log2_rounded, log2_at_least}
 use Rattle.hw_types.specs.Below.{Among}
 use Rattle.hw_types.specs.Votes.{is_block}
 use Rattle.hw_dag.specs.declared.numbers.UnitNo.{UnitNo}

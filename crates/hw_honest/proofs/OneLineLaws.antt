@@ -45,7 +45,7 @@ use Rattle.hw_honest.specs.OneLine.{OneLine, BringsNoNew, units_by}
 use Rattle.hw_honest.proofs.LineLaws.{one_on_lane}
 use Rattle.hw_types.proofs.DistinctLaws.{distinct_length, rising_distinct, map_distinct, range_distinct}
 use Rattle.hw_types.proofs.ReceiptLaws.{local_none}
-use Rattle.hw_plans.specs.Plans.{settled_in}
+use Rattle.hw_honest.specs.Plans.{settled_in}
 
 -- ---- small facts
 

@@ -25,12 +25,12 @@ use Rattle.hw_types.proofs.JournalLaws.{received_rising}
 use Rattle.hw_types.proofs.OrderLaws.{Accepted, accepted, unit_same}
 use Rattle.hw_types.proofs.StepLaws.{is_split}
 use Rattle.hw_types.proofs.ReceiptLaws.{tells_where}
-use Rattle.hw_plans.proofs.PlanLaws.{plan_keeps_rules}
+use Rattle.hw_honest.proofs.PlanRuleLaws.{plan_keeps_rules}
 use Rattle.hw_honest.specs.Cluster.{is_admitted}
 use Rattle.hw_honest.specs.OneLine.{OneLine, units_by}
 use Rattle.hw_honest.proofs.PlanLaws.{plan_is}
 use Rattle.hw_honest.proofs.OneLineLaws.{by_has, is_by, below_next, line_unfaulty, next_is_count, one_more, answer_is, line_after, Settles, settles_later}
-use Rattle.hw_plans.specs.Plans.{settled_in}
+use Rattle.hw_honest.specs.Plans.{settled_in}
 
 -- a unit that is answered Repeat is there
 repeat_is : (s : Setting) (journal : List Vertex) (u : SignedUnit) (verdict : Bool) → answer s journal (vertex.Unit u) verdict ≡ Ok receipt.Repeat → is_repeat s journal (vertex.Unit u) ≡ true

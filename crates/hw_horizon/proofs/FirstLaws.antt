@@ -19,7 +19,7 @@ use Rattle.hw_dag.proofs.NodeLaws.{node_among, node_found, same_node}
 use Rattle.hw_dag.proofs.SlotLaws.{slot_of, slot_at, number_cites}
 use Rattle.hw_dag.proofs.LaneLaws.{even_weights, all_faulty, lawful, on_lane_among, lane_is_seen}
 use Rattle.hw_dag.proofs.MarkLaws.{seen_earlier}
-use Rattle.hw_summit.specs.Pruned.{or_zero}
+use Rattle.hw_safety.specs.Pruned.{or_zero}
 use Rattle.hw_horizon.specs.Tables.{Starts, entry, start_over}
 use Rattle.hw_horizon.specs.Starts.{IsSlotStart, is_from, sees, sees_quorum, IsSuffix, HasSlots}
 use Rattle.hw_horizon.specs.Firsts.{is_after, sees_after, has_quorum, IsLaneFrom, IsFirst, AreFirsts}

@@ -8,8 +8,8 @@ use Rattle.hw_types.specs.Graph.{Node}
 use Rattle.hw_types.specs.Summit.{Committees, IsSummit, HasSummit, IsGreatest, sees_from, seen_weight}
 use Rattle.hw_types.proofs.StableLaws.{both_ways, and_parts, and_whole}
 use Rattle.hw_types.proofs.SummitLaws.{weight_le}
-use Rattle.hw_summit.specs.Pruned.{or_zero, start_in, pruned, pruned_committees}
-use Rattle.hw_summit.proofs.PrunedLaws.{pruned_is_summit, pruned_least, pruned_is_greatest, summit_is_left}
+use Rattle.hw_safety.specs.Pruned.{or_zero, start_in, pruned, pruned_committees}
+use Rattle.hw_safety.proofs.PrunedLaws.{pruned_is_summit, pruned_least, pruned_is_greatest, summit_is_left}
 use Rattle.hw_horizon.specs.Tables.{Starts, entry, SameMembers, table_after, pruned_table}
 use Rattle.hw_horizon.specs.Search.{Search, table_of, start_of, committees_of}
 use Rattle.hw_horizon.proofs.TableLaws.{rounds_enough, table_shows}

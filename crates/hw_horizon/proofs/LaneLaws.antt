@@ -18,8 +18,8 @@ use Rattle.hw_dag.proofs.SkipLaws.{depth_root}
 use Rattle.hw_dag.proofs.DepthLaws.{number_some, lane_at_is, lane_depth, seq_next, follows_own}
 use Rattle.hw_dag.proofs.LaneLaws.{even_weights, all_faulty, lawful, lane, lane_in, on_lane_among, among_on_lane, on_own_lane}
 use Rattle.hw_dag.proofs.ChainLaws as chain
-use Rattle.hw_summit.specs.Pruned.{least_from, begun}
-use Rattle.hw_summit.proofs.PrunedLaws.{from_passes, from_least}
+use Rattle.hw_safety.specs.Pruned.{least_from, begun}
+use Rattle.hw_safety.proofs.PrunedLaws.{from_passes, from_least}
 use Rattle.hw_horizon.specs.Starts.{IsStart, IsSlotStart}
 
 -- ---- what a start of pruning is

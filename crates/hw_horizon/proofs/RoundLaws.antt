@@ -12,7 +12,7 @@ use Rattle.hw_types.specs.Graph.{Node, past, latest}
 use Rattle.hw_types.specs.Votes.{weight_of}
 use Rattle.hw_types.proofs.StableLaws.{both_ways}
 use Rattle.hw_types.proofs.WordsLaws.{not_false}
-use Rattle.hw_summit.specs.Pruned.{begun, or_zero, vote_start}
+use Rattle.hw_safety.specs.Pruned.{begun, or_zero, vote_start}
 use Rattle.hw_dag.specs.declared.numbers.View.{View}
 use Rattle.hw_horizon.specs.Tables.{Starts, entry, SameMembers, start_over, next_table, table_after, pruned_table}
 use Rattle.hw_horizon.specs.Starts.{HasSlots}

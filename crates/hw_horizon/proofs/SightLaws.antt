@@ -24,8 +24,8 @@ use Rattle.hw_dag.proofs.NodeLaws.{among_node, node_among, graph_one_name}
 use Rattle.hw_dag.proofs.SlotLaws.{slot_of, slot_at, latest_of, number_cites}
 use Rattle.hw_dag.proofs.LaneLaws.{even_weights, all_faulty, lawful, history, on_lane_among, seen_entry}
 use Rattle.hw_dag.proofs.ChainLaws as chain
-use Rattle.hw_summit.specs.Pruned.{begun, or_zero, vote_start}
-use Rattle.hw_summit.proofs.SuffixLaws.{lane_past}
+use Rattle.hw_safety.specs.Pruned.{begun, or_zero, vote_start}
+use Rattle.hw_safety.proofs.SuffixLaws.{lane_past}
 use Rattle.hw_horizon.specs.Tables.{Starts, entry, is_member, is_seen, start_over}
 use Rattle.hw_horizon.specs.Starts.{IsSlotStart, votes_over, is_from, sees, sees_quorum, IsSuffix, HasSlots}
 use Rattle.hw_horizon.proofs.LaneLaws.{lane_most, slot_start_is_begun, tip_begins}

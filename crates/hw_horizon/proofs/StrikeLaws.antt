@@ -8,8 +8,8 @@ use Rattle.hw_types.specs.Graph.{Node, past, latest}
 use Rattle.hw_types.specs.Votes.{weight_of}
 use Rattle.hw_types.proofs.StableLaws.{both_ways, and_parts, and_whole}
 use Rattle.hw_types.proofs.SummitLaws.{weight_le}
-use Rattle.hw_summit.specs.Pruned.{begun, or_zero}
-use Rattle.hw_summit.proofs.PrunedLaws.{begun_is, has_begun}
+use Rattle.hw_safety.specs.Pruned.{begun, or_zero}
+use Rattle.hw_safety.proofs.PrunedLaws.{begun_is, has_begun}
 use Rattle.hw_dag.specs.declared.numbers.View.{View}
 use Rattle.hw_dag.specs.Dag.{UnitGraph, view_at}
 use Rattle.hw_dag.specs.Admission.{IsGraph}

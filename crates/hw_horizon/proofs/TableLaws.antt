@@ -11,8 +11,8 @@ use Rattle.hw_types.specs.Votes.{weight_of}
 use Rattle.hw_types.proofs.ClosureLaws.{Among-filter, filter-Among, length-filter}
 use Rattle.hw_types.proofs.PastLaws.{some_of, any_of}
 use Rattle.hw_types.proofs.StableLaws.{both_ways}
-use Rattle.hw_summit.specs.Pruned.{begun, Starts as Pairs, start_in, or_zero, members, choose, left_after, settle, is_in, seen_in, vote_start, quorum_start, pruned}
-use Rattle.hw_summit.proofs.PrunedLaws.{choose_in, choose_has, among_range, range_among, left_within, is_in_among, among_is_in, filter_all, stays}
+use Rattle.hw_safety.specs.Pruned.{begun, Starts as Pairs, start_in, or_zero, members, choose, left_after, settle, is_in, seen_in, vote_start, quorum_start, pruned}
+use Rattle.hw_safety.proofs.PrunedLaws.{choose_in, choose_has, among_range, range_among, left_within, is_in_among, among_is_in, filter_all, stays}
 use Rattle.hw_horizon.specs.Tables.{Starts, entry, is_seen, start_over, next_table, table_after, pruned_table}
 
 -- ---- a table shows starts

@@ -6,7 +6,7 @@ use Rattle.hw_dag.specs.declared.numbers.View.{View}
 use Rattle.hw_dag.specs.declared.numbers.View.TheVariants as view
 use Rattle.hw_dag.specs.Dag.{UnitGraph, unit_at, count_of, seq_of, view_at}
 use Rattle.hw_dag.specs.Lanes.{is_lane_below}
-use Rattle.hw_summit.specs.Pruned.{or_zero}
+use Rattle.hw_safety.specs.Pruned.{or_zero}
 use Rattle.hw_horizon.specs.Tables.{Starts, entry}
 
 -- the slot names the unit of that number or one of a greater number

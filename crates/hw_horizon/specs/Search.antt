@@ -2,7 +2,7 @@
 use Rattle.std.specs.Prelude.{◌≡◌, ℕ, ◌+◌, ◌<◌, ◌≤◌, nat_le, List, [], length, Option, Some, None, is_some, slice_index_or, if◌then◌else◌}
 use Rattle.hw_horizon.specs.declared.horizons.Scratch.{Scratch}
 use Rattle.hw_types.specs.Summit.{Committees}
-use Rattle.hw_summit.specs.Pruned.{or_zero}
+use Rattle.hw_safety.specs.Pruned.{or_zero}
 use Rattle.hw_horizon.specs.Tables.{Starts, entry}
 use Rattle.hw_horizon.specs.Kept.{KeptWalks}
 

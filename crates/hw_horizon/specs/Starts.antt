@@ -8,7 +8,7 @@ use Rattle.hw_dag.specs.Dag.{UnitGraph, unit_at, count_of, seq_of, view_at}
 use Rattle.hw_dag.specs.Tables.{predecessor_of}
 use Rattle.hw_dag.specs.Lanes.{is_lane_below}
 use Rattle.hw_forks.specs.Walk.{is_over}
-use Rattle.hw_summit.specs.Pruned.{or_zero}
+use Rattle.hw_safety.specs.Pruned.{or_zero}
 use Rattle.hw_horizon.specs.Tables.{Starts, entry}
 
 -- From this number on each unit of the lane passes, and it is the least such number that isn't below the floor.

@@ -4,7 +4,7 @@ use Rattle.std.specs.List.{list_any, range_with_len}
 use Rattle.hw_types.specs.declared.unit.Obs.{Obs}
 use Rattle.hw_types.specs.Graph.{Node, latest, past}
 use Rattle.hw_types.specs.Votes.{weight_of}
-use Rattle.hw_summit.specs.Pruned.{begun, or_zero, vote_start}
+use Rattle.hw_safety.specs.Pruned.{begun, or_zero, vote_start}
 
 -- for each validator its start, where it is in the committee
 abbrev pub Starts : Type 0

@@ -4,8 +4,7 @@ ghost use Rattle.std.specs.Prelude.{◌≡◌, ◌<◌, ◌≤◌};
 ghost use Rattle.hw_dag.specs.Dag.{unit_at, count_of, seq_of};
 ghost use Rattle.hw_dag.specs.Lanes.{IsLaneAt};
 
-use hw_dag::{Dag, UnitNo};
-use hw_skip::Steps;
+use hw_dag::{Dag, Steps, UnitNo};
 use std::marker::Brand;
 use std::sync::ledger::{Blank, Ledger};
 

@@ -4,7 +4,7 @@ ghost use Rattle.std.specs.Prelude.{◌≡◌, None};
 ghost use Rattle.hw_types.specs.Limits.{config_fault};
 
 use hw_case_words::{Answer, byte, number, small};
-use hw_leaders::LeaderTable;
+use hw_rounds::LeaderTable;
 use hw_types::{Config, IndexList, Items, Leaders, OutOfMemory, WeightList};
 
 /// The numbers of words `COUNTxNUMBER` joined by `+`.

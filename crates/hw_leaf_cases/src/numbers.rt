@@ -1,9 +1,8 @@
 //! Quorums, rounds, jumps and pairs.
 
 use hw_case_words::{Answer, byte, number, small};
-use hw_evidence::check_pair;
-use hw_rounds::{changes_lawfully, round_id, witness_time};
-use hw_skip::{jump, pointer_count};
+use hw_dag::{jump, pointer_count};
+use hw_rounds::{changes_lawfully, check_pair, round_id, witness_time};
 use hw_types::{
     Digest, DigestList, Evidence, MAX_TOTAL, ObsList, Signature, SignedUnit, WireUnit, quorum,
 };

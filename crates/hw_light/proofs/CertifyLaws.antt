@@ -15,10 +15,10 @@ use Rattle.hw_types.specs.Limits.{config_fault}
 use Rattle.hw_types.specs.Decisions.{IsRecord}
 use Rattle.hw_types.specs.Journal.{Setting, answer, journal_after, answers_from, journal_of}
 use Rattle.hw_types.specs.Real.{CoreState, setting_of, weight_in}
-use Rattle.hw_summit.proofs.DecidedLaws.{decisions_are}
-use Rattle.hw_summit.proofs.HeightLaws.{one_block_each}
-use Rattle.hw_certificates.specs.Certificates.{delivered, journal_from, IsExtract, Certifies}
-use Rattle.hw_certificates.proofs.ExtractLaws.{certifies}
+use Rattle.hw_safety.proofs.DecidedLaws.{decisions_are}
+use Rattle.hw_safety.proofs.HeightLaws.{one_block_each}
+use Rattle.hw_agree.specs.Certificates.{delivered, journal_from, IsExtract, Certifies}
+use Rattle.hw_agree.proofs.ExtractLaws.{certifies}
 use Rattle.hw_core.specs.Decided.{decided_in}
 use Rattle.hw_core.specs.Readers.{exceeded_in}
 use Rattle.hw_light.specs.declared.certificate.Certificate.{Certificate}

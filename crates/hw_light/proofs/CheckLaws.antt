@@ -16,7 +16,7 @@ use Rattle.hw_types.specs.Journal.{Setting, answer, journal_after, journal_of, a
 use Rattle.hw_types.specs.Real.{CoreState, setting_of, weight_in, answer_in, after_in}
 use Rattle.hw_core.specs.Deliver.{IsRefusal}
 use Rattle.hw_core.specs.Readers.{exceeded_in}
-use Rattle.hw_certificates.specs.Certificates.{delivered, journal_from}
+use Rattle.hw_agree.specs.Certificates.{delivered, journal_from}
 use Rattle.hw_light.specs.declared.certificate.Certificate.{Certificate}
 use Rattle.hw_light.specs.declared.answers.Checked.{Checked}
 use Rattle.hw_light.specs.declared.answers.Checked.TheVariants.{Yes, No}

@@ -31,7 +31,7 @@ use Rattle.hw_types.proofs.SettledLaws.{digest_self, digest_same}
 use Rattle.hw_types.proofs.StableLaws.{and_parts, and_whole}
 use Rattle.hw_types.proofs.WordsLaws.{not_false, not_true, either, none_broken}
 use Rattle.hw_safety.proofs.AccountLaws.{in_journal}
-use Rattle.hw_verdicts.proofs.ShownLaws.{paired}
+use Rattle.hw_safety.proofs.ShownLaws.{paired}
 use Rattle.hw_core.specs.Readers.{signed_evidence, unit_in, evidence_of}
 use Rattle.hw_needs.specs.Needs.{evidence_between, settled_evidence, evidence_against}
 use Rattle.hw_light.proofs.DeliveredLaws.{taken, apart, found, found_is, signed_there}

@@ -13,3 +13,9 @@ pub mod MadeLaws
 pub mod CertifyLaws
 pub mod SummitLaws
 pub mod PutLaws
+pub mod FindLaws
+pub mod AskedLaws
+pub mod CheckedLaws
+pub mod ToldLaws
+pub mod AnswerLaws
+pub mod KeyLaws

@@ -33,8 +33,8 @@ use Rattle.hw_types.proofs.StableLaws.{and_parts, and_whole}
 use Rattle.hw_types.proofs.UnionLaws.{from_left, from_right}
 use Rattle.hw_types.proofs.WordsLaws.{among_is, named_among, passes_some, slot_in, slots_in, find_node_is, range_in, range_below}
 use Rattle.hw_safety.proofs.AccountLaws.{lawful_journal}
-use Rattle.hw_chain.proofs.StoodLaws.{graph_in}
-use Rattle.hw_certificates.specs.Certificates.{HasItsNeeds, ComesNext, ComeInTurn, IsExtract}
+use Rattle.hw_safety.proofs.StoodLaws.{graph_in}
+use Rattle.hw_agree.specs.Certificates.{HasItsNeeds, ComesNext, ComeInTurn, IsExtract}
 use Rattle.hw_core.specs.Readers.{unit_in}
 use Rattle.hw_needs.specs.Needs.{evidence_against, unit_vertices, evidence_vertices}
 use Rattle.hw_light.specs.Extract.{is_under, ComeAfterCited, IsSettlingOrder, is_marked_by, is_listed_by, is_endorsement_of, evidence_part, endorsement_part, unit_part, vertices_for}

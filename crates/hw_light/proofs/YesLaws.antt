@@ -6,11 +6,11 @@ use Rattle.hw_types.specs.Decisions.{AreDecisions}
 use Rattle.hw_types.specs.Journal.{journal_of}
 use Rattle.hw_types.specs.Real.{CoreState, setting_of}
 use Rattle.hw_core.specs.Decided.{decided_in}
-use Rattle.hw_summit.proofs.DecidedLaws.{decisions_are}
-use Rattle.hw_summit.proofs.HeightLaws.{one_block_each}
-use Rattle.hw_certificates.specs.Certificates.{journal_from}
-use Rattle.hw_certificates.proofs.CertificateLaws.{decided as certified_is_decided, accountable as certified_is_accountable}
-use Rattle.hw_verdicts.specs.Verdicts.{IsVerdict}
+use Rattle.hw_safety.proofs.DecidedLaws.{decisions_are}
+use Rattle.hw_safety.proofs.HeightLaws.{one_block_each}
+use Rattle.hw_agree.specs.Certificates.{journal_from}
+use Rattle.hw_agree.proofs.CertificateLaws.{decided as certified_is_decided, accountable as certified_is_accountable}
+use Rattle.hw_safety.specs.Verdicts.{IsVerdict}
 use Rattle.hw_light.specs.Laws.{YesIsDecided, YesIsAccountable}
 
 -- the decided blocks of a node with this configuration and journal

@@ -12,7 +12,7 @@ use Rattle.hw_types.specs.Limits.{config_fault}
 use Rattle.hw_types.specs.Journal.{Setting, answer, journal_after}
 use Rattle.hw_types.specs.Real.{CoreState, setting_of}
 use Rattle.hw_core.specs.Readers.{exceeded_in}
-use Rattle.hw_certificates.specs.Certificates.{journal_from, Certifies}
+use Rattle.hw_agree.specs.Certificates.{journal_from, Certifies}
 use Rattle.hw_light.specs.declared.certificate.Certificate.{Certificate}
 use Rattle.hw_light.specs.declared.answers.Checked.{Checked}
 use Rattle.hw_light.specs.declared.answers.Checked.TheVariants.{Yes, No}

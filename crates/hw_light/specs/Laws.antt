@@ -7,8 +7,8 @@ use Rattle.hw_types.specs.Below.{Among}
 use Rattle.hw_types.specs.Journal.{journal_of}
 use Rattle.hw_types.specs.Real.{CoreState, setting_of}
 use Rattle.hw_core.specs.Decided.{decided_in}
-use Rattle.hw_verdicts.specs.declared.verdict.Verdict.{Verdict}
-use Rattle.hw_verdicts.specs.Verdicts.{IsVerdict, IsAccountable}
+use Rattle.hw_safety.specs.declared.verdict.Verdict.{Verdict}
+use Rattle.hw_safety.specs.Verdicts.{IsVerdict, IsAccountable}
 use Rattle.hw_light.specs.declared.certificate.Certificate.{Certificate}
 use Rattle.hw_light.specs.Checked.{IsCertified}
 

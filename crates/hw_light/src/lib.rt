@@ -15,14 +15,19 @@
 #![tactic(auto)]
 
 mod answers;
+mod asked;
 mod certificate;
 mod certifying;
+mod checked;
 mod checking;
 mod decoding;
 mod encoding;
 mod error;
+mod errors;
 mod extract;
+mod keys;
 mod laws;
+mod lines;
 mod needed;
 mod ranges;
 mod reader;
@@ -31,11 +36,16 @@ mod summit;
 mod under;
 
 pub use answers::{Certified, CheckFault, Checked};
+pub use asked::{Asked, certify_block, decision_of};
 pub use certificate::{Certificate, VertexList};
 pub use certifying::certify;
+pub use checked::{check_by_keys, checked_text};
 pub use checking::check;
 pub use decoding::decode_certificate;
 pub use encoding::encode_certificate;
 pub use error::CertError;
+pub use errors::{put_codec, put_error, put_limit};
+pub use keys::read_keys;
 pub use laws::a_yes_is_accountable;
+pub use lines::{put_asked, put_fault};
 pub use ranges::certificate_is_in_range;

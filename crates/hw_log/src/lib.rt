@@ -10,6 +10,7 @@
 
 mod entry;
 mod error;
+mod file;
 mod head;
 mod lasts;
 mod laws;
@@ -20,6 +21,7 @@ mod writer;
 
 pub use entry::{LogEntry, NamedEntry};
 pub use error::LogError;
+pub use file::read_file;
 pub use lasts::{Lasts, Noted};
 pub use laws::{
     a_header_is_an_empty_log, a_log_is_what_it_says_as_written, a_log_written_anew_says_the_same,

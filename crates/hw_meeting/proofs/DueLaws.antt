@@ -6,9 +6,9 @@ use Rattle.std.proofs.lemmas.List.Elements.{filter-append, filter_map-append, Al
 use Rattle.std.proofs.lemmas.Option.{slice_get_within}
 use Rattle.hw_types.specs.declared.unit.Vertex.{Vertex}
 use Rattle.hw_core.proofs.UnmetLaws.{take_one}
-use Rattle.hw_converge.specs.declared.summary.LaneSummary.{LaneSummary}
-use Rattle.hw_converge.specs.declared.summary.LaneSummary.TheVariants.{Nothing, Line, Tangled}
-use Rattle.hw_converge.specs.Converge.{is_ahead}
+use Rattle.hw_agree.specs.declared.summary.LaneSummary.{LaneSummary}
+use Rattle.hw_agree.specs.declared.summary.LaneSummary.TheVariants.{Nothing, Line, Tangled}
+use Rattle.hw_agree.specs.Converge.{is_ahead}
 use Rattle.hw_meeting.specs.declared.due.Owed.{Owed}
 use Rattle.hw_meeting.specs.declared.due.Owed.TheVariants as owed
 use Rattle.hw_meeting.specs.Due.{owed_by, is_owed, owed_at, AreOwed}

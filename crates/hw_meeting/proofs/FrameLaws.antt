@@ -7,7 +7,7 @@ use Rattle.std.proofs.lemmas.List.Elements.{All-tail, All-weaker}
 use Rattle.hw_types.specs.declared.answers.CodecError.{CodecError}
 use Rattle.hw_types.specs.declared.answers.CodecError.TheVariants as error
 use Rattle.hw_types.specs.Reading.{◌>>=◌, Fails, vertex_of, whole, digest_at}
-use Rattle.hw_converge.specs.declared.summary.LaneSummary.{LaneSummary}
+use Rattle.hw_agree.specs.declared.summary.LaneSummary.{LaneSummary}
 use Rattle.hw_codec.specs.Ranges.{AreBytes}
 use Rattle.hw_codec.proofs.Readings.{bind_ok, ok_is, done, test_ok}
 use Rattle.hw_codec.proofs.Fields.{digest_reading}

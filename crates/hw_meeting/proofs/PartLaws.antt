@@ -7,8 +7,8 @@ use Rattle.hw_types.specs.declared.answers.CodecError.TheVariants as error
 use Rattle.hw_types.specs.declared.unit.Digest.{Digest}
 use Rattle.hw_types.specs.Spelling.{counted, u32_bytes, u64_bytes}
 use Rattle.hw_types.proofs.StableLaws.{and_parts}
-use Rattle.hw_converge.specs.declared.summary.LaneSummary.{LaneSummary}
-use Rattle.hw_converge.specs.declared.summary.LaneSummary.TheVariants.{Nothing, Line, Tangled}
+use Rattle.hw_agree.specs.declared.summary.LaneSummary.{LaneSummary}
+use Rattle.hw_agree.specs.declared.summary.LaneSummary.TheVariants.{Nothing, Line, Tangled}
 use Rattle.hw_codec.specs.Ranges.{DigestInRange}
 use Rattle.hw_codec.proofs.Readings.{IsReading, Any, seq, said, nothing, inside, constant, tested, unrefused}
 use Rattle.hw_codec.proofs.Fields.{byte_alone, digest_reading, u32_reading, u64_reading, byte_reading, counted_reading, AreCounted}

@@ -23,10 +23,10 @@ use Rattle.hw_dag.specs.Dag.{UnitGraph, unit_at, count_of, seq_of, node_at, grap
 use Rattle.hw_dag.specs.Admission.{IsGraph}
 use Rattle.hw_dag.specs.Lanes.{is_lane_below}
 use Rattle.hw_dag.proofs.NodeLaws.{among_node, node_among}
-use Rattle.hw_converge.specs.declared.summary.LaneSummary.{LaneSummary}
-use Rattle.hw_converge.specs.declared.summary.LaneSummary.TheVariants.{Nothing, Line, Tangled}
-use Rattle.hw_converge.specs.Converge.{units_by, is_settled_below, is_line_of, summary_of, summaries}
-use Rattle.hw_converge.proofs.LineLaws.{IsLine, settled, count_is, no_higher}
+use Rattle.hw_agree.specs.declared.summary.LaneSummary.{LaneSummary}
+use Rattle.hw_agree.specs.declared.summary.LaneSummary.TheVariants.{Nothing, Line, Tangled}
+use Rattle.hw_agree.specs.Converge.{units_by, is_settled_below, is_line_of, summary_of, summaries}
+use Rattle.hw_agree.proofs.LineLaws.{IsLine, settled, count_is, no_higher}
 use Rattle.hw_meeting.specs.declared.mark.Mark.{Mark}
 use Rattle.hw_meeting.specs.declared.mark.Mark.TheVariants as mark
 use Rattle.hw_meeting.specs.Lanes.{IsHighest, IsOnTip, HasOther, IsMark, told_by, AreHighest, AreMarks, tip_at, mark_at}

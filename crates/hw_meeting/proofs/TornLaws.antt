@@ -14,7 +14,7 @@ use Rattle.hw_dag.specs.Admission.{IsGraph, IsNew}
 use Rattle.hw_dag.specs.Lanes.{is_lane_below}
 use Rattle.hw_dag.proofs.NodeLaws.{among_node, node_found}
 use Rattle.hw_dag.proofs.LaneLaws.{lane_in}
-use Rattle.hw_converge.specs.Converge.{is_below_tip}
+use Rattle.hw_agree.specs.Converge.{is_below_tip}
 use Rattle.hw_meeting.specs.Frames.{rise_from, are_validators}
 
 -- ---- a unit of the one name on the lane of the other's

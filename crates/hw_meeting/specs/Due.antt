@@ -2,9 +2,9 @@
 -- Source: ours.
 use Rattle.std.specs.Prelude.{◌≡◌, ℕ, Bool, true, false, nat_lt, nat_le, ◌==◌, List, Some, slice_get, if◌then◌else◌}
 use Rattle.std.specs.List.{list_any}
-use Rattle.hw_converge.specs.declared.summary.LaneSummary.{LaneSummary}
-use Rattle.hw_converge.specs.declared.summary.LaneSummary.TheVariants.{Nothing, Line, Tangled}
-use Rattle.hw_converge.specs.Converge.{part}
+use Rattle.hw_agree.specs.declared.summary.LaneSummary.{LaneSummary}
+use Rattle.hw_agree.specs.declared.summary.LaneSummary.TheVariants.{Nothing, Line, Tangled}
+use Rattle.hw_agree.specs.Converge.{part}
 use Rattle.hw_meeting.specs.declared.due.Owed.{Owed}
 use Rattle.hw_meeting.specs.declared.due.Owed.TheVariants as owed
 

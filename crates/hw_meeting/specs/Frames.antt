@@ -8,8 +8,8 @@ use Rattle.hw_types.specs.declared.answers.CodecError.TheVariants as error
 use Rattle.hw_types.specs.Spelling.{u32_bytes, u64_bytes, counted, vertex_bytes, VertexFits, IsSpelling}
 use Rattle.hw_types.specs.Reading.{Rest, Read, ◌>>=◌, number_at, digest_at, counted_at, vertex_of, whole}
 use Rattle.hw_codec.specs.Ranges.{DigestInRange, VertexInRange}
-use Rattle.hw_converge.specs.declared.summary.LaneSummary.{LaneSummary}
-use Rattle.hw_converge.specs.declared.summary.LaneSummary.TheVariants.{Nothing, Line, Tangled}
+use Rattle.hw_agree.specs.declared.summary.LaneSummary.{LaneSummary}
+use Rattle.hw_agree.specs.declared.summary.LaneSummary.TheVariants.{Nothing, Line, Tangled}
 use Rattle.hw_meeting.specs.declared.frame.MeetingFrame.{MeetingFrame}
 use Rattle.hw_meeting.specs.declared.frame.MeetingFrame.TheVariants.{Hello, Vertex, Summary, Torn, Done}
 use Rattle.hw_meeting.specs.declared.frame.FrameFault.{FrameFault}

@@ -2,11 +2,11 @@
 
 ghost use Rattle.std.specs.Prelude.{◌≡◌, ◌<◌, ◌≤◌, ◌==◌, ◌||◌, length, take, map, filter_map, slice_get, All, IfOk};
 ghost use Rattle.std.specs.List.{list_any, range_with_len};
-ghost use Rattle.hw_converge.specs.Converge.{is_due, due_of};
+ghost use Rattle.hw_agree.specs.Converge.{is_due, due_of};
 ghost use Rattle.hw_meeting.specs.Due.{owed_by, is_owed, owed_at, AreOwed};
 
 use crate::torn::{part, put_if};
-use hw_converge::LaneSummary;
+use hw_agree::LaneSummary;
 use hw_core::Core;
 use hw_types::{Items, OutOfMemory, Vertex};
 use std::alloc::Global;

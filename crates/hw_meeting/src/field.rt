@@ -9,7 +9,7 @@ ghost use Rattle.hw_meeting.specs.Frames.{part_bytes, unit_count_at, part_behind
 ghost use Rattle.std.proofs.Common.{lit<};
 
 use crate::reader::Reader;
-use hw_converge::LaneSummary;
+use hw_agree::LaneSummary;
 use hw_types::{CodecError, Items, OutOfMemory};
 use std::alloc::Global;
 

@@ -3,7 +3,7 @@
 ghost use Rattle.std.specs.Prelude.{◌≡◌};
 ghost use Rattle.hw_meeting.specs.declared.frame.FrameFault.TheVariants as Faults;
 
-use hw_converge::LaneSummary;
+use hw_agree::LaneSummary;
 use hw_types::{Digest, IndexList, Items, OutOfMemory, Vertex};
 
 /// What a node tells of each validator, in their order.

@@ -22,7 +22,7 @@ pub use decoding::decode_meeting;
 pub use due::{PlaceList, due_places};
 pub use encoding::encode_meeting;
 pub use frame::{FrameFault, MeetingFrame, SummaryList};
-pub use hw_converge::LaneSummary;
+pub use hw_agree::LaneSummary;
 pub use samples::small_meetings_are_told;
 pub use summary::summary_of;
 pub use torn::torn_for;

@@ -7,14 +7,14 @@ ghost use Rattle.std.specs.Prelude.{◌≡◌, ◌<◌, length, map, IfOk, IfSom
 ghost use Rattle.std.specs.List.{range_with_len};
 ghost use Rattle.hw_types.specs.Real.{setting_of};
 ghost use Rattle.hw_dag.specs.Dag.{count_of};
-ghost use Rattle.hw_converge.specs.Converge.{summaries};
+ghost use Rattle.hw_agree.specs.Converge.{summaries};
 ghost use Rattle.hw_meeting.specs.Lanes.{AreHighest, tip_at, told_by, mark_at, AreMarks};
 
 use crate::frame::SummaryList;
 use crate::highest::highest;
 use crate::mark::Mark;
 use crate::marks::marks;
-use hw_converge::LaneSummary;
+use hw_agree::LaneSummary;
 use hw_core::Core;
 use hw_dag::{Dag, UnitNo};
 use hw_types::OutOfMemory;

@@ -3,10 +3,10 @@
 ghost use Rattle.std.specs.Prelude.{◌≡◌, ◌++◌, ◌∷◌, [], true, length, if◌then◌else◌, IfOk, OnOk};
 ghost use Rattle.hw_types.specs.Real.{setting_of};
 ghost use Rattle.hw_dag.specs.Dag.{graph};
-ghost use Rattle.hw_converge.specs.Converge.{summaries, part, is_below_tip, is_torn, torn_for};
+ghost use Rattle.hw_agree.specs.Converge.{summaries, part, is_below_tip, is_torn, torn_for};
 ghost use Rattle.hw_meeting.specs.Frames.{are_validators};
 
-use hw_converge::LaneSummary;
+use hw_agree::LaneSummary;
 use hw_core::Core;
 use hw_dag::Dag;
 use hw_types::{Digest, IndexList, Items, OutOfMemory};

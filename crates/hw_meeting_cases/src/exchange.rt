@@ -7,7 +7,7 @@ use crate::frames::kind_of;
 use hw_case_words::Answer;
 use hw_io::{Door, MemDoor};
 use hw_link::{BYTE_LIMIT, SessionEnd};
-use hw_meeting_link::{HeardMeeting, read_meeting, send_meeting};
+use hw_meeting_node::{HeardMeeting, read_meeting, send_meeting};
 use std::alloc::Global;
 
 /// The most validators that there are.

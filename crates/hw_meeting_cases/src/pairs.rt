@@ -2,7 +2,7 @@
 
 ghost use Rattle.std.specs.Prelude.{◌≡◌};
 ghost use Rattle.hw_types.specs.Real.{setting_of};
-ghost use Rattle.hw_converge.specs.Converge.{summaries};
+ghost use Rattle.hw_agree.specs.Converge.{summaries};
 
 use crate::nodes::{begin, deliver_all};
 use crate::texts::{put_numbers, put_parts};

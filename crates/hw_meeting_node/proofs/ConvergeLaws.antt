@@ -12,10 +12,10 @@ use Rattle.hw_types.specs.Spelling.{instance_of}
 use Rattle.hw_types.specs.Real.{CoreState, setting_of}
 use Rattle.hw_types.specs.laws.StateLaws.{SaysTheSame, HasSameState}
 use Rattle.hw_io.specs.Faults.{raised}
-use Rattle.hw_chain.specs.Taken.{taken, NoneRefused}
-use Rattle.hw_converge.specs.declared.summary.LaneSummary.{LaneSummary}
-use Rattle.hw_converge.specs.Converge.{due_to, UnitsClash}
-use Rattle.hw_converge.proofs.ConvergeLaws as laws
+use Rattle.hw_safety.specs.Taken.{taken, NoneRefused}
+use Rattle.hw_agree.specs.declared.summary.LaneSummary.{LaneSummary}
+use Rattle.hw_agree.specs.Converge.{due_to, UnitsClash}
+use Rattle.hw_agree.proofs.ConvergeLaws as laws
 use Rattle.hw_meeting.specs.declared.frame.MeetingFrame.{MeetingFrame}
 use Rattle.hw_meeting.specs.declared.frame.MeetingFrame.TheVariants as frame
 use Rattle.hw_link.specs.declared.end.SessionEnd.{SessionEnd}

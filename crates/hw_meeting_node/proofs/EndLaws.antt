@@ -19,7 +19,7 @@ use Rattle.hw_link.specs.Frames.{◌>>=◌, rest_at, byte_limit, cut_end, front_
 use Rattle.hw_meeting.specs.declared.frame.MeetingFrame.{MeetingFrame}
 use Rattle.hw_meeting.specs.declared.frame.MeetingFrame.TheVariants as frame
 use Rattle.hw_meeting.specs.Frames.{meeting_of}
-use Rattle.hw_meeting_link.specs.Frames.{Placed, decoded, frame_here, EndsIn}
+use Rattle.hw_meeting_node.specs.Frames.{Placed, decoded, frame_here, EndsIn}
 use Rattle.hw_meeting_node.specs.declared.meeter.Side.{Side}
 use Rattle.hw_meeting_node.specs.declared.meeter.Stage.{Stage}
 use Rattle.hw_meeting_node.specs.declared.meeter.Stage.TheVariants as stage

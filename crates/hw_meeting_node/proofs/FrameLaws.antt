@@ -7,7 +7,7 @@ use Rattle.hw_link.specs.Frames.{◌>>=◌, cut_end, front_of, length_of}
 use Rattle.hw_link.proofs.FrameLaws.{bind_ok}
 use Rattle.hw_meeting.specs.declared.frame.MeetingFrame.{MeetingFrame}
 use Rattle.hw_meeting.specs.Frames.{meeting_of}
-use Rattle.hw_meeting_link.specs.Frames.{Placed, decoded, frame_here}
+use Rattle.hw_meeting_node.specs.Frames.{Placed, decoded, frame_here}
 use Rattle.hw_meeting_node.specs.Talk.{Frames, with_next, frames_in, frames_from}
 
 pub chosen : {A : Type 0} (b : Bool) (d : SessionEnd) (x : Result A SessionEnd) (y : A) → cond b (Err d) x ≡ Ok y → (b ≡ false) × (x ≡ Ok y)

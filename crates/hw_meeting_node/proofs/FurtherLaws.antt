@@ -10,7 +10,7 @@ use Rattle.hw_link.specs.Frames.{◌>>=◌, rest_at, cut_end, front_of, length_o
 use Rattle.hw_link.proofs.FrameLaws.{bind_ok}
 use Rattle.hw_meeting.specs.declared.frame.MeetingFrame.{MeetingFrame}
 use Rattle.hw_meeting.specs.Frames.{meeting_of}
-use Rattle.hw_meeting_link.specs.Frames.{Placed, decoded, frame_here, HasFrame, EndsIn}
+use Rattle.hw_meeting_node.specs.Frames.{Placed, decoded, frame_here, HasFrame, EndsIn}
 use Rattle.hw_meeting_node.specs.declared.end.MeetEnd.{MeetEnd}
 use Rattle.hw_meeting_node.specs.declared.end.MeetEnd.TheVariants as end
 use Rattle.hw_meeting_node.specs.Sessions.{IsCutEnd, IsReadNoFurther, StopsReading}

@@ -13,3 +13,6 @@ pub mod VertexLaws
 pub mod SameLaws
 pub mod NextLaws
 pub mod ReadLaws
+pub mod FrameReadLaws
+pub mod HearsLaws
+pub mod LengthLaws

@@ -20,9 +20,9 @@ use Rattle.hw_link.specs.Links.{gone_on, after_part, is_link_fault, end_of_fault
 use Rattle.hw_link.specs.Sent.{Sends}
 use Rattle.hw_link.proofs.LinkLaws.{after_parts}
 use Rattle.hw_meeting.specs.declared.frame.MeetingFrame.{MeetingFrame}
-use Rattle.hw_meeting_link.specs.declared.read.HeardMeeting.{HeardMeeting}
-use Rattle.hw_meeting_link.specs.Frames.{Placed, framed, sent_bytes, HasFrame, EndsIn, IsRefused}
-use Rattle.hw_meeting_link.specs.Heard.{Says, IsEndCounted, Hears, IsHeard}
+use Rattle.hw_meeting_node.specs.declared.read.HeardMeeting.{HeardMeeting}
+use Rattle.hw_meeting_node.specs.Frames.{Placed, framed, sent_bytes, HasFrame, EndsIn, IsRefused}
+use Rattle.hw_meeting_node.specs.Heard.{Says, IsEndCounted, Hears, IsHeard}
 use Rattle.hw_meeting_node.specs.declared.end.MeetEnd.{MeetEnd}
 use Rattle.hw_meeting_node.specs.declared.end.MeetEnd.TheVariants as end
 use Rattle.hw_meeting_node.specs.declared.meeter.Side.{Side}

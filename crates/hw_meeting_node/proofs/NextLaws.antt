@@ -6,9 +6,9 @@ use Rattle.hw_io.specs.Doors.{Session}
 use Rattle.hw_link.specs.declared.end.SessionEnd.{SessionEnd}
 use Rattle.hw_link.specs.declared.end.SessionEnd.TheVariants as end
 use Rattle.hw_link.specs.Links.{after_part}
-use Rattle.hw_meeting_link.specs.declared.read.HeardMeeting.{HeardMeeting}
-use Rattle.hw_meeting_link.specs.Frames.{Placed}
-use Rattle.hw_meeting_link.specs.Heard.{Hears, IsHeard}
+use Rattle.hw_meeting_node.specs.declared.read.HeardMeeting.{HeardMeeting}
+use Rattle.hw_meeting_node.specs.Frames.{Placed}
+use Rattle.hw_meeting_node.specs.Heard.{Hears, IsHeard}
 use Rattle.hw_meeting_node.specs.declared.meeter.Side.{Side}
 use Rattle.hw_meeting_node.specs.Talk.{Reaction}
 use Rattle.hw_meeting_node.specs.Meeting.{Meeting, at_stage, meet_step}

@@ -11,11 +11,11 @@ use Rattle.hw_link.specs.declared.end.SessionEnd.TheVariants as end
 use Rattle.hw_link.specs.Links.{after_part}
 use Rattle.hw_link.specs.Sent.{Sends}
 use Rattle.hw_link.proofs.LinkLaws.{after_nothing}
-use Rattle.hw_meeting_link.specs.Frames.{sent_bytes}
+use Rattle.hw_meeting_node.specs.Frames.{sent_bytes}
 use Rattle.hw_meeting_node.specs.declared.meeter.Side.{Side}
 use Rattle.hw_meeting_node.specs.declared.meeter.Stage.TheVariants.{Telling}
 use Rattle.hw_meeting_node.specs.Talk.{Reaction, goes_on, ends}
-use Rattle.hw_converge.specs.declared.summary.LaneSummary.{LaneSummary}
+use Rattle.hw_agree.specs.declared.summary.LaneSummary.{LaneSummary}
 use Rattle.hw_meeting.specs.declared.frame.MeetingFrame.{MeetingFrame}
 use Rattle.hw_meeting.specs.declared.frame.MeetingFrame.TheVariants as frame
 use Rattle.hw_meeting_node.specs.Meeting.{Meeting, to_hello, greeted, not_due, at_greeting, at_telling, at_tearing, at_taking}

@@ -21,17 +21,17 @@ use Rattle.hw_codec.specs.Ranges.{VertexInRange}
 use Rattle.hw_log.proofs.LengthLaws.{vertex_short}
 use Rattle.hw_link.specs.Frames.{rest_at, byte_limit}
 use Rattle.hw_link.specs.Heard.{IsLength}
-use Rattle.hw_converge.specs.declared.summary.LaneSummary.{LaneSummary}
-use Rattle.hw_converge.specs.declared.summary.LaneSummary.TheVariants.{Nothing, Line, Tangled}
-use Rattle.hw_converge.specs.Converge.{summaries, part, is_torn, is_due}
+use Rattle.hw_agree.specs.declared.summary.LaneSummary.{LaneSummary}
+use Rattle.hw_agree.specs.declared.summary.LaneSummary.TheVariants.{Nothing, Line, Tangled}
+use Rattle.hw_agree.specs.Converge.{summaries, part, is_torn, is_due}
 use Rattle.hw_meeting.specs.declared.frame.MeetingFrame.{MeetingFrame}
 use Rattle.hw_meeting.specs.declared.frame.MeetingFrame.TheVariants as frame
 use Rattle.hw_meeting.specs.Frames.{part_bytes, meeting_bytes, IsSaid, are_validators, PartInRange, MeetingInRange}
 use Rattle.hw_meeting.proofs.FrameLaws.{meeting_again}
 use Rattle.hw_meeting.proofs.PartLaws.{few_validators}
 use Rattle.hw_meeting.proofs.TornLaws.{passing_are_validators}
-use Rattle.hw_meeting_link.specs.Frames.{framed, sent_bytes, HasFrame}
-use Rattle.hw_meeting_link.proofs.FrameReadLaws.{frame_is_read}
+use Rattle.hw_meeting_node.specs.Frames.{framed, sent_bytes, HasFrame}
+use Rattle.hw_meeting_node.proofs.FrameReadLaws.{frame_is_read}
 use Rattle.hw_meeting_node.specs.Talk.{Frames, with_next, frames_in, frames_from}
 use Rattle.hw_meeting_node.specs.Meeting.{told_of, torn_by, owed_by}
 use Rattle.hw_meeting_node.specs.Laws.{heard_in, all_words}

@@ -16,13 +16,13 @@ use Rattle.hw_link.specs.declared.end.SessionEnd.{SessionEnd}
 use Rattle.hw_link.specs.Sent.{Sends}
 use Rattle.hw_link.proofs.LinkLaws.{after_nothing}
 use Rattle.hw_link.proofs.SentLaws.{sends_then, sends_stop}
-use Rattle.hw_converge.specs.declared.summary.LaneSummary.{LaneSummary}
-use Rattle.hw_converge.specs.declared.summary.LaneSummary.TheVariants.{Nothing, Line, Tangled}
-use Rattle.hw_converge.specs.Converge.{units_by, is_line_of, summary_of, summaries}
+use Rattle.hw_agree.specs.declared.summary.LaneSummary.{LaneSummary}
+use Rattle.hw_agree.specs.declared.summary.LaneSummary.TheVariants.{Nothing, Line, Tangled}
+use Rattle.hw_agree.specs.Converge.{units_by, is_line_of, summary_of, summaries}
 use Rattle.hw_meeting.specs.declared.frame.MeetingFrame.{MeetingFrame}
 use Rattle.hw_meeting.specs.declared.frame.MeetingFrame.TheVariants as frame
 use Rattle.hw_meeting.specs.Frames.{HasUnits}
-use Rattle.hw_meeting_link.specs.Frames.{framed, sent_bytes}
+use Rattle.hw_meeting_node.specs.Frames.{framed, sent_bytes}
 
 -- ---- a summary may be said
 

@@ -15,7 +15,7 @@ use Rattle.hw_link.specs.declared.end.SessionEnd.{SessionEnd}
 use Rattle.hw_link.specs.declared.end.SessionEnd.TheVariants as by
 use Rattle.hw_meeting.specs.declared.frame.MeetingFrame.{MeetingFrame}
 use Rattle.hw_meeting.specs.declared.frame.MeetingFrame.TheVariants as frame
-use Rattle.hw_meeting_link.specs.Frames.{Placed}
+use Rattle.hw_meeting_node.specs.Frames.{Placed}
 use Rattle.hw_meeting_node.specs.declared.meeter.Side.{Side}
 use Rattle.hw_meeting_node.specs.declared.meeter.Stage.{Stage}
 use Rattle.hw_meeting_node.specs.declared.meeter.Stage.TheVariants as stage

@@ -5,7 +5,7 @@ use Rattle.hw_types.specs.Reading.{Rest}
 use Rattle.hw_link.specs.declared.end.SessionEnd.{SessionEnd}
 use Rattle.hw_link.specs.Frames.{rest_at, byte_limit, cut_end}
 use Rattle.hw_meeting.specs.declared.frame.MeetingFrame.{MeetingFrame}
-use Rattle.hw_meeting_link.specs.Frames.{Placed, frame_here, HasFrame, EndsIn}
+use Rattle.hw_meeting_node.specs.Frames.{Placed, frame_here, HasFrame, EndsIn}
 use Rattle.hw_meeting_node.specs.Talk.{with_next, frames_in, frames_from, Reaction, Talk, with_reaction, talk, talk_with, behind_said, talk_from, talk_over, HasHeard, placed_behind}
 use Rattle.hw_meeting_node.proofs.FrameLaws.{frames_next}
 

@@ -13,7 +13,7 @@ use Rattle.hw_io.specs.Doors.{Session}
 use Rattle.hw_link.specs.declared.end.SessionEnd.{SessionEnd}
 use Rattle.hw_link.specs.declared.end.SessionEnd.TheVariants as end
 use Rattle.hw_link.specs.Links.{after_part}
-use Rattle.hw_meeting_link.specs.Frames.{sent_bytes}
+use Rattle.hw_meeting_node.specs.Frames.{sent_bytes}
 use Rattle.hw_meeting_node.specs.declared.taker.TakeFault.{TakeFault}
 use Rattle.hw_meeting_node.specs.declared.taker.TakeFault.TheVariants as fault
 use Rattle.hw_meeting_node.specs.declared.meeter.Meeter.{Meeter}

@@ -9,11 +9,11 @@ use Rattle.hw_link.specs.declared.end.SessionEnd.TheVariants as end
 use Rattle.hw_link.specs.Frames.{byte_limit}
 use Rattle.hw_link.specs.Talk.{IsPrefixOf}
 use Rattle.hw_link.specs.Links.{after_part}
-use Rattle.hw_converge.specs.declared.summary.LaneSummary.{LaneSummary}
+use Rattle.hw_agree.specs.declared.summary.LaneSummary.{LaneSummary}
 use Rattle.hw_meeting.specs.declared.frame.MeetingFrame.{MeetingFrame}
-use Rattle.hw_meeting_link.specs.declared.read.HeardMeeting.{HeardMeeting}
-use Rattle.hw_meeting_link.specs.Frames.{Placed, sent_bytes, HasFrame}
-use Rattle.hw_meeting_link.specs.Heard.{Hears, IsHeard}
+use Rattle.hw_meeting_node.specs.declared.read.HeardMeeting.{HeardMeeting}
+use Rattle.hw_meeting_node.specs.Frames.{Placed, sent_bytes, HasFrame}
+use Rattle.hw_meeting_node.specs.Heard.{Hears, IsHeard}
 use Rattle.hw_meeting_node.specs.declared.meeter.Meeter.{Meeter}
 use Rattle.hw_meeting_node.specs.declared.meeter.Stage.{Stage}
 use Rattle.hw_meeting_node.specs.declared.meeter.Stage.TheVariants.{Greeting, Telling, Tearing, Taking}

@@ -15,8 +15,8 @@ use Rattle.hw_types.specs.laws.StateLaws.{SaysTheSame, HasSameState}
 use Rattle.hw_io.specs.Faults.{Rose, raised}
 use Rattle.hw_link.specs.declared.end.SessionEnd.TheVariants as by
 use Rattle.hw_link.specs.Frames.{byte_limit}
-use Rattle.hw_converge.specs.declared.summary.LaneSummary.{LaneSummary}
-use Rattle.hw_converge.specs.Converge.{UnitsClash}
+use Rattle.hw_agree.specs.declared.summary.LaneSummary.{LaneSummary}
+use Rattle.hw_agree.specs.Converge.{UnitsClash}
 use Rattle.hw_meeting.specs.declared.frame.MeetingFrame.{MeetingFrame}
 use Rattle.hw_meeting.specs.declared.frame.MeetingFrame.TheVariants as frame
 use Rattle.hw_meeting.specs.Frames.{MeetingInRange}

@@ -6,3 +6,6 @@ pub mod Sessions
 pub mod Taking
 pub mod Handling
 pub mod Laws
+pub mod Frames
+pub mod Heard
+pub mod Samples

@@ -10,12 +10,12 @@ use Rattle.hw_types.specs.Graph.{digest_eq}
 use Rattle.hw_types.specs.Spelling.{instance_of}
 use Rattle.hw_types.specs.Real.{CoreState, setting_of, answer_in, after_in}
 use Rattle.hw_io.specs.Faults.{raised}
-use Rattle.hw_converge.specs.declared.summary.LaneSummary.{LaneSummary}
-use Rattle.hw_converge.specs.Converge.{summaries, torn_for, due_of}
+use Rattle.hw_agree.specs.declared.summary.LaneSummary.{LaneSummary}
+use Rattle.hw_agree.specs.Converge.{summaries, torn_for, due_of}
 use Rattle.hw_link.specs.declared.end.SessionEnd.TheVariants as end
 use Rattle.hw_meeting.specs.declared.frame.MeetingFrame.{MeetingFrame}
 use Rattle.hw_meeting.specs.declared.frame.MeetingFrame.TheVariants as frame
-use Rattle.hw_meeting_link.specs.Frames.{Placed}
+use Rattle.hw_meeting_node.specs.Frames.{Placed}
 use Rattle.hw_meeting_node.specs.declared.meeter.Side.{Side}
 use Rattle.hw_meeting_node.specs.declared.meeter.Side.TheVariants.{Caller, Host}
 use Rattle.hw_meeting_node.specs.declared.meeter.Stage.{Stage}

@@ -12,7 +12,7 @@ use Rattle.hw_link.specs.Frames.{byte_limit}
 use Rattle.hw_link.specs.Talk.{IsPrefixOf}
 use Rattle.hw_link.specs.Links.{after_part}
 use Rattle.hw_meeting.specs.declared.frame.MeetingFrame.{MeetingFrame}
-use Rattle.hw_meeting_link.specs.Frames.{sent_bytes}
+use Rattle.hw_meeting_node.specs.Frames.{sent_bytes}
 use Rattle.hw_meeting_node.specs.declared.end.MeetEnd.{MeetEnd}
 use Rattle.hw_meeting_node.specs.declared.end.MeetEnd.TheVariants as end
 use Rattle.hw_meeting_node.specs.declared.meeter.Side.{Side}

@@ -5,7 +5,7 @@ use Rattle.hw_types.specs.Reading.{Rest}
 use Rattle.hw_link.specs.declared.end.SessionEnd.{SessionEnd}
 use Rattle.hw_link.specs.Frames.{rest_at, byte_limit, cut_end}
 use Rattle.hw_meeting.specs.declared.frame.MeetingFrame.{MeetingFrame}
-use Rattle.hw_meeting_link.specs.Frames.{Placed, frame_here}
+use Rattle.hw_meeting_node.specs.Frames.{Placed, frame_here}
 
 -- ---- the frames in a peer's bytes, where there are so many validators
 

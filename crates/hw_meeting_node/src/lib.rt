@@ -9,13 +9,19 @@
 #![tactic(auto)]
 
 mod end;
+mod fill;
+mod frame_end;
 mod frames;
 mod laws;
 mod meet;
 mod meeter;
 mod memory;
+mod ranges;
+mod read;
 mod same;
+mod samples;
 mod say;
+mod send;
 mod taker;
 
 pub use end::MeetEnd;
@@ -23,4 +29,7 @@ pub use laws::{meetings_are_done, meetings_converge, meetings_take};
 pub use meet::{host_one, meet_one};
 pub use meeter::Side;
 pub use memory::{MemTaker, VertexList};
+pub use read::{HeardMeeting, read_meeting};
+pub use samples::small_frames_are_heard;
+pub use send::send_meeting;
 pub use taker::{TakeFault, Taker};

@@ -6,16 +6,16 @@ ghost use Rattle.hw_link.specs.Links.{IsLinkCounted};
 ghost use Rattle.hw_link.specs.Sent.{Sends};
 ghost use Rattle.hw_meeting.specs.declared.frame.MeetingFrame.TheVariants as frame;
 ghost use Rattle.hw_meeting.specs.Frames.{IsSaid};
-ghost use Rattle.hw_meeting_link.specs.Frames.{sent_bytes};
+ghost use Rattle.hw_meeting_node.specs.Frames.{sent_bytes};
 ghost use Rattle.hw_meeting_node.specs.Meeting.{told_of, hello, summary, torn, all_due};
 
 use crate::meeter::validators;
+use crate::send_meeting;
 use hw_codec::instance_of;
 use hw_core::Core;
 use hw_io::Door;
 use hw_link::SessionEnd;
 use hw_meeting::{LaneSummary, MeetingFrame, SummaryList, torn_for};
-use hw_meeting_link::send_meeting;
 use hw_types::{Digest, OutOfMemory, Vertex};
 use std::alloc::Global;
 

@@ -14,7 +14,7 @@ use Rattle.hw_types.proofs.StableLaws.{OneName, and_parts, and_whole, both_ways}
 use Rattle.hw_types.proofs.SettledLaws.{digest_self}
 use Rattle.hw_types.proofs.OrderLaws.{unit_same, unit_self}
 use Rattle.hw_types.proofs.WordsLaws.{never_both, not_true}
-use Rattle.hw_verdicts.proofs.ShownLaws.{paired}
+use Rattle.hw_safety.proofs.ShownLaws.{paired}
 use Rattle.hw_needs.specs.Forks.{AreNamed}
 
 -- the validator has two different units of one number

@@ -16,8 +16,8 @@ use Rattle.hw_dag.specs.Dag.{UnitGraph, unit_at, node_at, count_of, graph}
 use Rattle.hw_dag.specs.Admission.{IsGraph}
 use Rattle.hw_dag.proofs.NodeLaws.{among_node, node_among}
 use Rattle.hw_forks.proofs.BestLaws.{digest_lt_never}
-use Rattle.hw_audit.proofs.OrderLaws.{Comes}
-use Rattle.hw_audit.proofs.PairLaws.{no_culprit, pair_is}
+use Rattle.hw_safety.proofs.UnitOrderLaws.{Comes}
+use Rattle.hw_safety.proofs.CulpritPairLaws.{no_culprit, pair_is}
 use Rattle.hw_needs.specs.Forks.{StandsAt, HasTwo, IsLeastWithTwo, AreLeastTwo, AreNamed, nodes_at}
 
 module _ (dag : UnitGraph) (g : IsGraph dag) (named : AreNamed (graph dag)) (creator : ℕ) where

@@ -12,7 +12,7 @@ use Rattle.hw_types.specs.Spelling.{VertexFits}
 use Rattle.hw_types.proofs.EntryLaws.{map_among}
 use Rattle.hw_types.proofs.OrderedLaws.{among_all}
 use Rattle.hw_core.proofs.DecidedLaws.{take_all}
-use Rattle.hw_audit.proofs.LinkLaws.{front_more}
+use Rattle.hw_safety.proofs.FrontLaws.{front_more}
 
 -- nothing stands behind the end
 whole : {A : Type 0} (xs : List A) (n : ℕ) → None ≡ slice_get xs n → take n xs ≡ xs

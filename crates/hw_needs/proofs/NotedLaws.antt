@@ -7,7 +7,7 @@ use Rattle.std.proofs.lemmas.Bool.{cases_lt}
 use Rattle.std.proofs.lemmas.Bool.Decides.{nat_tests}
 use Rattle.hw_types.proofs.WordsLaws.{never_both}
 use Rattle.hw_dag.specs.Dag.{SettledUnit, UnitGraph, unit_at, creator_of, seq_of}
-use Rattle.hw_audit.specs.Forks.{lower_of}
+use Rattle.hw_safety.specs.Pairs.{lower_of}
 use Rattle.hw_needs.specs.Forks.{StandsAt, HasTwo, IsLeastWithTwo, AreNoted}
 
 -- a set of numbers has this one where one of its keys compares equal

@@ -3,9 +3,8 @@
 use crate::passes::pass_along;
 use crate::planned::consumer_of;
 use hw_fanout::Fanout;
-use hw_feed::{put_drops, replay_fed};
 use hw_io::{Consumer, IoFault, MemFiles};
-use hw_replay::Replay;
+use hw_replay::{Replay, put_drops, replay_fed};
 use hw_types::{Bytes, OutOfMemory};
 use std::alloc::Global;
 

@@ -6,8 +6,9 @@ ghost use Rattle.hw_types.specs.Spelling.{VertexFits};
 use hw_case_words::Answer;
 use hw_core::Core;
 use hw_keys::Keys;
-use hw_light::{CertError, Certificate};
-use hw_light_texts::{certify_block, check_by_keys, checked_text, put_asked, put_error};
+use hw_light::{
+    CertError, Certificate, certify_block, check_by_keys, checked_text, put_asked, put_error,
+};
 use hw_types::{Bytes, Digest, OutOfMemory};
 use std::alloc::Global;
 

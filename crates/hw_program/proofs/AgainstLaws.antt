@@ -18,16 +18,16 @@ use Rattle.hw_types.specs.Journal.{Setting, named, clashes, journal_of}
 use Rattle.hw_types.specs.Real.{CoreState, setting_of}
 use Rattle.hw_types.proofs.EntryLaws.{append_cases, map_among}
 use Rattle.hw_types.proofs.PastLaws.{some_of}
-use Rattle.hw_summit.specs.Decided.{decisions_of}
-use Rattle.hw_summit.proofs.DecidedLaws.{decisions_are}
-use Rattle.hw_summit.proofs.HeightLaws.{one_block_each}
-use Rattle.hw_verdicts.specs.declared.verdict.Verdict.TheVariants as verdict
-use Rattle.hw_verdicts.specs.Verdicts.{held_in, journals_clash, chain_of, culprit_weight, AreInConflict}
-use Rattle.hw_verdicts.proofs.ApartLaws.{conflict as conflict_accountable}
-use Rattle.hw_verdicts.proofs.ClashLaws.{held_among}
-use Rattle.hw_verdicts.proofs.PairLaws.{delivered_signed}
-use Rattle.hw_verdicts.proofs.ShownLaws.{found as culprits_found}
-use Rattle.hw_certificates.specs.Certificates.{delivered as delivered_true}
+use Rattle.hw_safety.specs.Decided.{decisions_of}
+use Rattle.hw_safety.proofs.DecidedLaws.{decisions_are}
+use Rattle.hw_safety.proofs.HeightLaws.{one_block_each}
+use Rattle.hw_safety.specs.declared.verdict.Verdict.TheVariants as verdict
+use Rattle.hw_safety.specs.Verdicts.{held_in, journals_clash, chain_of, culprit_weight, AreInConflict}
+use Rattle.hw_safety.proofs.ApartLaws.{conflict as conflict_accountable}
+use Rattle.hw_safety.proofs.ClashLaws.{held_among}
+use Rattle.hw_safety.proofs.PairLaws.{delivered_signed}
+use Rattle.hw_safety.proofs.ShownLaws.{found as culprits_found}
+use Rattle.hw_agree.specs.Certificates.{delivered as delivered_true}
 use Rattle.hw_core.proofs.EndLaws.{all_at}
 use Rattle.hw_audit.specs.declared.chains.Parting.{Parting}
 use Rattle.hw_audit.specs.Clashes.{UnitPair, clash_with}
@@ -49,7 +49,7 @@ use Rattle.hw_light.proofs.DeliveredLaws.{found}
 use Rattle.hw_light.specs.Spelling.{CertificateInRange}
 use Rattle.hw_codec.specs.Ranges.{SignedInRange, VertexInRange}
 use Rattle.hw_types.specs.declared.unit.Vertex.TheVariants as vertex
-use Rattle.hw_verdicts.specs.Verdicts.{IsVerdict}
+use Rattle.hw_safety.specs.Verdicts.{IsVerdict}
 use Rattle.hw_replay.specs.declared.fault.StartFault.{StartFault}
 use Rattle.hw_replay.specs.declared.fault.StartFault.TheVariants as start
 use Rattle.hw_replay.specs.declared.replay.Replay.{Replay}

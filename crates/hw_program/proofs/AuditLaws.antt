@@ -4,10 +4,10 @@ use Rattle.hw_types.specs.declared.unit.Digest.{Digest}
 use Rattle.hw_types.specs.declared.config.Config.{Config}
 use Rattle.hw_types.specs.declared.answers.Culprit.{Culprit}
 use Rattle.hw_types.specs.Real.{CoreState, setting_of}
-use Rattle.hw_summit.specs.Decided.{decisions_of}
-use Rattle.hw_verdicts.specs.declared.verdict.Verdict.{Verdict}
-use Rattle.hw_verdicts.specs.declared.verdict.Verdict.TheVariants as verdict
-use Rattle.hw_verdicts.specs.Verdicts.{IsVerdict}
+use Rattle.hw_safety.specs.Decided.{decisions_of}
+use Rattle.hw_safety.specs.declared.verdict.Verdict.{Verdict}
+use Rattle.hw_safety.specs.declared.verdict.Verdict.TheVariants as verdict
+use Rattle.hw_safety.specs.Verdicts.{IsVerdict}
 use Rattle.hw_audit.specs.Audit.{IsVerdictOn, IsWeighty}
 use Rattle.hw_replay.specs.declared.fault.StartFault.{StartFault}
 use Rattle.hw_replay.specs.declared.replay.Replay.{Replay}

@@ -13,9 +13,9 @@ use Rattle.hw_light.specs.declared.certificate.Certificate.{Certificate}
 use Rattle.hw_light.specs.declared.answers.Certified.TheVariants.{Made, NotNow, TooLong}
 use Rattle.hw_types.specs.Real.{CoreState}
 use Rattle.hw_light.specs.Spelling.{CertificateFits, SpellsCertificate, certificate_bytes}
-use Rattle.hw_light_texts.specs.declared.asked.Asked.{Asked}
-use Rattle.hw_light_texts.specs.declared.asked.Asked.TheVariants as asked
-use Rattle.hw_light_texts.specs.Asked.{IsAskedOf, IfAnswered, Told, NoDecision, NoStanding, NoLength, HasCertificate, told_in, told_of}
+use Rattle.hw_light.specs.declared.asked.Asked.{Asked}
+use Rattle.hw_light.specs.declared.asked.Asked.TheVariants as asked
+use Rattle.hw_light.specs.Asked.{IsAskedOf, IfAnswered, Told, NoDecision, NoStanding, NoLength, HasCertificate, told_in, told_of}
 use Rattle.hw_program.specs.declared.ended.Ended.{Ended}
 use Rattle.hw_program.specs.declared.ended.RunFault.{RunFault}
 use Rattle.hw_program.specs.declared.ended.RunFault.TheVariants.{Read, Append, OutOfMemory}

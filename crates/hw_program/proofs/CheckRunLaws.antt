@@ -6,7 +6,7 @@ use Rattle.hw_light.specs.declared.certificate.Certificate.{Certificate}
 use Rattle.hw_light.specs.declared.error.CertError.{CertError}
 use Rattle.hw_light.specs.declared.error.CertError.TheVariants as cert
 use Rattle.hw_light.specs.Reading.{certificate_of, IsErrorOf}
-use Rattle.hw_light_texts.specs.Texts.{error_text}
+use Rattle.hw_light.specs.Texts.{error_text}
 use Rattle.hw_program.specs.declared.ended.Ended.{Ended}
 use Rattle.hw_program.specs.declared.ended.RunFault.{RunFault}
 use Rattle.hw_program.specs.Commands.{Word}

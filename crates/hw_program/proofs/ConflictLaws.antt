@@ -3,13 +3,13 @@ use Rattle.std.proofs.Common.{◌≡◌, inl, inr, List, Option, Some, None, Ok,
 use Rattle.hw_types.specs.declared.unit.Vertex.{Vertex}
 use Rattle.hw_types.specs.declared.config.Config.{Config}
 use Rattle.hw_types.specs.Real.{setting_of}
-use Rattle.hw_summit.specs.Decided.{decisions_of}
-use Rattle.hw_verdicts.specs.Verdicts.{chain_of}
+use Rattle.hw_safety.specs.Decided.{decisions_of}
+use Rattle.hw_safety.specs.Verdicts.{chain_of}
 use Rattle.hw_audit.specs.declared.chains.Parting.{Parting}
 use Rattle.hw_audit.specs.Clashes.{UnitPair}
 use Rattle.hw_audit.specs.Chains.{parting_of}
 use Rattle.hw_audit.proofs.ChainLaws.{no_part}
-use Rattle.hw_chain.specs.Chain.{Begins}
+use Rattle.hw_safety.specs.Chain.{Begins}
 use Rattle.hw_audit.proofs.ToldLaws.{none_first}
 use Rattle.hw_replay.specs.Taken.{Taken}
 use Rattle.hw_program.specs.Commands.{Request}

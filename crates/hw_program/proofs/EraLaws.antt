@@ -3,11 +3,11 @@ use Rattle.std.proofs.Common.{◌≡◌, ℕ, ◌++◌, inl, inr, List, Option, 
 use Rattle.std.specs.Prelude.{◌⊎◌, slice_get}
 use Rattle.std.specs.Option.{option_map}
 use Rattle.hw_types.specs.Real.{CoreState}
-use Rattle.hw_verdicts.specs.declared.verdict.Verdict.TheVariants as verdict
+use Rattle.hw_safety.specs.declared.verdict.Verdict.TheVariants as verdict
 use Rattle.hw_audit.specs.Text.{audit_text}
 use Rattle.hw_eras.specs.declared.verdict.EraVerdict.{EraVerdict}
 use Rattle.hw_eras.specs.declared.verdict.EraVerdict.TheVariants as eras
-use Rattle.hw_era_audit.specs.EraAudit.{IsVerdictByEras, IsAccounted}
+use Rattle.hw_eras.specs.EraAudit.{IsVerdictByEras, IsAccounted}
 use Rattle.hw_era_runs.specs.declared.audits.EraAudit.{EraAudit}
 use Rattle.hw_era_runs.specs.declared.stop.EraStop.{EraStop}
 use Rattle.hw_era_runs.specs.declared.stop.EraStop.TheVariants as stop

@@ -6,7 +6,7 @@ use Rattle.std.proofs.Math.Seq.{take-length, drop-append_seam}
 use Rattle.std.proofs.lemmas.List.Elements.{All-nil, All-cons, All-head, All-tail}
 use Rattle.hw_types.specs.declared.config.Config.{Config}
 use Rattle.hw_types.specs.Real.{CoreState}
-use Rattle.hw_chain.specs.Chain.{Begins}
+use Rattle.hw_safety.specs.Chain.{Begins}
 use Rattle.hw_io.specs.Consumers.{Consumed, after_finish}
 use Rattle.hw_replay.specs.declared.fault.StartFault.{StartFault}
 use Rattle.hw_replay.specs.Taken.{Taken}
@@ -17,8 +17,8 @@ use Rattle.hw_fanout.specs.Fates.{Sight, Fate, is_left, answer_of, AreServed}
 use Rattle.hw_fanout.specs.Told.{blocks_between, with_more, StopsAt, IsTold, IsFinished}
 use Rattle.hw_fanout.specs.Laws.{node_with}
 use Rattle.hw_fanout.proofs.GrowLaws.{only_grows}
-use Rattle.hw_feed.specs.Feed.{Moment, moment, first_moment, IsPassed, ArePassed, AreFed, AreFedSome}
-use Rattle.hw_feed.proofs.FeedLaws.{none_told}
+use Rattle.hw_replay.specs.Feed.{Moment, moment, first_moment, IsPassed, ArePassed, AreFed, AreFedSome}
+use Rattle.hw_replay.proofs.FeedLaws.{none_told}
 use Rattle.hw_program.specs.Fed.{first_kept, HasGot, HaveGot, AreToldAll, AreCutOff}
 
 -- ---- those that are left

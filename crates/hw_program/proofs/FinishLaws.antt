@@ -9,7 +9,7 @@ use Rattle.hw_session.specs.declared.fault.MakeFault.TheVariants as make
 use Rattle.hw_fanout.specs.Chain.{told_chain}
 use Rattle.hw_fanout.specs.Fates.{Sight, Fate, answer_of}
 use Rattle.hw_fanout.specs.Told.{blocks_between, with_more, IsTold, IsFinished}
-use Rattle.hw_feed.specs.Feed.{Moment, IsPassed, ArePassed}
+use Rattle.hw_replay.specs.Feed.{Moment, IsPassed, ArePassed}
 use Rattle.hw_service.specs.declared.fault.ServiceFault.{ServiceFault}
 use Rattle.hw_service.specs.declared.ended.Served.{Served}
 use Rattle.hw_service.specs.Scene.{Outside, Scene, moment_of}

@@ -30,7 +30,7 @@ use Rattle.hw_service.specs.Serve.{serves_session}
 use Rattle.hw_meeting_node.specs.declared.end.MeetEnd.{MeetEnd}
 use Rattle.hw_meeting_node.specs.declared.end.MeetEnd.TheVariants as meet
 use Rattle.hw_meeting_node.specs.declared.meeter.Side.{Side}
-use Rattle.hw_node_taker.specs.Meets.{Leaves as LeavesMet, NodeMeets, NodeMeetsNone}
+use Rattle.hw_reunion.specs.Meets.{Leaves as LeavesMet, NodeMeets, NodeMeetsNone}
 use Rattle.hw_reunion.specs.Runs.{hosts_session, calls_peer}
 use Rattle.hw_service.specs.Turns.{turning, MakesUnit, DrivesOne, DrivesSession, Turns, TakesTurn}
 use Rattle.hw_program.specs.Program.{Held}

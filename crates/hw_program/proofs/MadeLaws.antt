@@ -4,7 +4,7 @@ use Rattle.hw_types.specs.declared.config.Config.{Config}
 use Rattle.hw_types.specs.Real.{CoreState}
 use Rattle.hw_types.proofs.EntryLaws.{append_cases}
 use Rattle.hw_core.proofs.PromiseLaws.{deliveries_are}
-use Rattle.hw_verdicts.proofs.ClashLaws.{held_among}
+use Rattle.hw_safety.proofs.ClashLaws.{held_among}
 use Rattle.hw_audit.proofs.ToldLaws.{AreSigned}
 use Rattle.hw_replay.specs.Taken.{Taken}
 use Rattle.hw_replay.specs.Replay.{same_config}

@@ -8,7 +8,7 @@ use Rattle.hw_types.specs.Limits.{config_fault}
 use Rattle.hw_types.specs.Journal.{journal_of}
 use Rattle.hw_types.specs.Real.{CoreState, setting_of}
 use Rattle.hw_text.specs.Text.{number_text}
-use Rattle.hw_certificates.specs.Certificates.{delivered as delivered_true}
+use Rattle.hw_agree.specs.Certificates.{delivered as delivered_true}
 use Rattle.hw_core.proofs.PromiseLaws.{deliveries_are}
 use Rattle.hw_replay.specs.declared.fault.StartFault.{StartFault}
 use Rattle.hw_replay.specs.declared.fault.StartFault.TheVariants as start
@@ -22,10 +22,10 @@ use Rattle.hw_light.specs.declared.error.CertError.{CertError}
 use Rattle.hw_light.specs.declared.answers.Checked.{Checked}
 use Rattle.hw_light.specs.declared.answers.Checked.TheVariants.{Yes, No}
 use Rattle.hw_light.specs.Reading.{certificate_of}
-use Rattle.hw_light_texts.specs.Texts.{error_text}
-use Rattle.hw_light_texts.specs.Checked.{verdicts_by, checked_of}
-use Rattle.hw_light_texts.specs.Keys.{keys_of}
-use Rattle.hw_light_texts.proofs.CheckedLaws.{yes_shows}
+use Rattle.hw_light.specs.Texts.{error_text}
+use Rattle.hw_light.specs.CheckedTexts.{verdicts_by, checked_of}
+use Rattle.hw_light.specs.Keys.{keys_of}
+use Rattle.hw_light.proofs.CheckedLaws.{yes_shows}
 use Rattle.hw_program.specs.declared.ended.Ended.{Ended}
 use Rattle.hw_program.specs.declared.ended.RunFault.{RunFault}
 use Rattle.hw_program.specs.Conflict.{ReportsConflict, ReportsEraConflict}
@@ -34,17 +34,17 @@ use Rattle.hw_program.specs.Texts.{input_ended, limit_ended, clash_ended, read_f
 use Rattle.hw_program.specs.Audited.{chains_ended, clash_or, audit_ended}
 use Rattle.hw_program.specs.Told.{told_ended}
 use Rattle.hw_program.specs.Laws.{LogIsAnswered, CheckIsAnswered}
-use Rattle.hw_light_texts.specs.Asked.{Told, NoDecision, NoStanding, NoLength, HasCertificate, told_of}
+use Rattle.hw_light.specs.Asked.{Told, NoDecision, NoStanding, NoLength, HasCertificate, told_of}
 use Rattle.hw_audit.specs.declared.chains.Parting.{Parting}
 use Rattle.hw_audit.specs.Clashes.{UnitPair}
 use Rattle.hw_audit.specs.First.{first_of}
 use Rattle.hw_audit.specs.Chains.{parting_of}
-use Rattle.hw_verdicts.specs.Verdicts.{chain_of}
+use Rattle.hw_safety.specs.Verdicts.{chain_of}
 use Rattle.hw_types.specs.Journal.{Setting}
 use Rattle.hw_types.specs.Spelling.{unit_bytes}
 use Rattle.hw_program.specs.Program.{◌>>=◌, Held, Part, ended, log_replayed, or_misread, or_no_keys, or_parted, yes_said, answer_said, checked_said, check_said, request_said, run_of}
-use Rattle.hw_summit.specs.Decided.{decisions_of}
-use Rattle.hw_verdicts.specs.Verdicts.{AreInConflict}
+use Rattle.hw_safety.specs.Decided.{decisions_of}
+use Rattle.hw_safety.specs.Verdicts.{AreInConflict}
 use Rattle.hw_audit.proofs.ToldLaws.{AreSigned}
 use Rattle.hw_program.specs.Shown.{IsShown, IsShownBy, ShowsCertificate, IfChecks, IsAlikeIn, CanBeChecked, CanBeReplayed, ContradictsCertificate}
 use Rattle.hw_program.proofs.FaultLaws.{input_status}

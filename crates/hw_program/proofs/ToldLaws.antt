@@ -9,8 +9,8 @@ use Rattle.hw_replay.specs.Taken.{Taken}
 use Rattle.hw_replay.specs.Replay.{taken_in, IsOutside, Replays}
 use Rattle.hw_fanout.specs.declared.ending.Dropped.{Dropped}
 use Rattle.hw_fanout.specs.Fates.{Sight}
-use Rattle.hw_feed.specs.Feed.{file_replayed}
-use Rattle.hw_feed.specs.Lines.{drop_lines}
+use Rattle.hw_replay.specs.Feed.{file_replayed}
+use Rattle.hw_replay.specs.Lines.{drop_lines}
 use Rattle.hw_program.specs.declared.ended.Ended.{Ended}
 use Rattle.hw_program.specs.declared.ended.RunFault.{RunFault}
 use Rattle.hw_program.specs.declared.ended.RunFault.TheVariants.{Read, Append, OutOfMemory}

@@ -8,10 +8,10 @@ use Rattle.hw_types.specs.Spelling.{unit_bytes}
 use Rattle.hw_types.specs.Journal.{Setting}
 use Rattle.hw_types.specs.Real.{setting_of}
 use Rattle.hw_text.specs.Lines.{line_of, line_feed}
-use Rattle.hw_summit.specs.Decided.{decisions_of}
-use Rattle.hw_verdicts.specs.declared.verdict.Verdict.{Verdict}
-use Rattle.hw_verdicts.specs.declared.verdict.Verdict.TheVariants as verdict
-use Rattle.hw_verdicts.specs.Verdicts.{journals_clash, chain_of, IsVerdict}
+use Rattle.hw_safety.specs.Decided.{decisions_of}
+use Rattle.hw_safety.specs.declared.verdict.Verdict.{Verdict}
+use Rattle.hw_safety.specs.declared.verdict.Verdict.TheVariants as verdict
+use Rattle.hw_safety.specs.Verdicts.{journals_clash, chain_of, IsVerdict}
 use Rattle.hw_audit.specs.declared.chains.Parting.{Parting}
 use Rattle.hw_audit.specs.Clashes.{UnitPair}
 use Rattle.hw_audit.specs.First.{ShowsFirstClash}

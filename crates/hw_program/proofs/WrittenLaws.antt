@@ -6,7 +6,7 @@ use Rattle.hw_replay.specs.declared.fault.StartFault.{StartFault}
 use Rattle.hw_replay.specs.Taken.{Taken}
 use Rattle.std.specs.Prelude.{Result}
 use Rattle.hw_fanout.specs.Fates.{Sight}
-use Rattle.hw_feed.specs.Feed.{file_replayed}
+use Rattle.hw_replay.specs.Feed.{file_replayed}
 use Rattle.hw_program.specs.declared.ended.Ended.{Ended}
 use Rattle.hw_program.specs.Commands.{Request, Replay, Explain, Audit, Script, Mend, Migrate, Certify, Check, Gen, Sim, Eras, EraAudit}
 use Rattle.hw_program.specs.Program.{Held}

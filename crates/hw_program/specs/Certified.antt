@@ -9,9 +9,9 @@ use Rattle.hw_light.specs.declared.certificate.Certificate.{Certificate}
 use Rattle.hw_light.specs.declared.answers.Certified.TheVariants.{Made}
 use Rattle.hw_light.specs.Spelling.{CertificateFits, certificate_bytes}
 use Rattle.hw_light.specs.Certify.{IsMade}
-use Rattle.hw_light_texts.specs.declared.asked.Asked.{Asked}
-use Rattle.hw_light_texts.specs.declared.asked.Asked.TheVariants as asked
-use Rattle.hw_light_texts.specs.Asked.{IsDecisionOf}
+use Rattle.hw_light.specs.declared.asked.Asked.{Asked}
+use Rattle.hw_light.specs.declared.asked.Asked.TheVariants as asked
+use Rattle.hw_light.specs.Asked.{IsDecisionOf}
 use Rattle.hw_program.specs.declared.ended.RunFault.{RunFault}
 use Rattle.hw_program.specs.Commands.{Word}
 use Rattle.hw_program.specs.Program.{Held, log_replayed}

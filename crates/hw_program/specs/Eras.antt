@@ -5,13 +5,13 @@ use Rattle.hw_types.specs.declared.unit.Digest.{Digest}
 use Rattle.hw_types.specs.declared.answers.Culprit.{Culprit}
 use Rattle.hw_types.specs.Real.{CoreState, setting_of}
 use Rattle.hw_core.specs.Decided.{decided_in}
-use Rattle.hw_verdicts.specs.declared.verdict.Verdict.TheVariants as verdict
-use Rattle.hw_verdicts.specs.Verdicts.{journals_clash, AreInConflict}
+use Rattle.hw_safety.specs.declared.verdict.Verdict.TheVariants as verdict
+use Rattle.hw_safety.specs.Verdicts.{journals_clash, AreInConflict}
 use Rattle.hw_audit.specs.Text.{audit_text}
 use Rattle.hw_replay.specs.Taken.{Taken}
 use Rattle.hw_replay.specs.Replay.{IsOutside}
 use Rattle.hw_eras.specs.Nodes.{first_config}
-use Rattle.hw_era_audit.specs.EraAudit.{AreAgreed}
+use Rattle.hw_eras.specs.EraAudit.{AreAgreed}
 use Rattle.hw_era_runs.specs.declared.audits.EraAudit.{EraAudit}
 use Rattle.hw_era_runs.specs.declared.stop.EraStop.{EraStop}
 use Rattle.hw_era_runs.specs.declared.stop.EraStop.TheVariants as stop

@@ -11,8 +11,8 @@ use Rattle.hw_fanout.specs.State.{FanoutState}
 use Rattle.hw_fanout.specs.Chain.{told_chain}
 use Rattle.hw_fanout.specs.Fates.{Sight, AreServed}
 use Rattle.hw_fanout.specs.Told.{IsFinished}
-use Rattle.hw_feed.specs.Feed.{moment, first_moment, AreFed, AreFedUntil, file_replayed}
-use Rattle.hw_feed.specs.Lines.{drop_lines}
+use Rattle.hw_replay.specs.Feed.{moment, first_moment, AreFed, AreFedUntil, file_replayed}
+use Rattle.hw_replay.specs.Lines.{drop_lines}
 use Rattle.hw_program.specs.declared.ended.Ended.{Ended}
 use Rattle.hw_program.specs.Commands.{Word, Request, Replay, request_of}
 use Rattle.hw_program.specs.Program.{Held, run_of}

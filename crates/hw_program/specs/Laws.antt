@@ -1,9 +1,9 @@
 -- What follows of a run: the statements.
 use Rattle.std.specs.Prelude.{◌≡◌, ◌⊎◌, ◌↔◌, ℕ, false, List, Option, Some, None, Ok}
 use Rattle.hw_types.specs.Real.{setting_of}
-use Rattle.hw_chain.specs.Chain.{Begins}
-use Rattle.hw_summit.specs.Decided.{decisions_of}
-use Rattle.hw_verdicts.specs.Verdicts.{journals_clash, chain_of}
+use Rattle.hw_safety.specs.Chain.{Begins}
+use Rattle.hw_safety.specs.Decided.{decisions_of}
+use Rattle.hw_safety.specs.Verdicts.{journals_clash, chain_of}
 use Rattle.hw_replay.specs.Taken.{Taken}
 use Rattle.hw_types.specs.declared.unit.Digest.{Digest}
 use Rattle.hw_light.specs.declared.certificate.Certificate.{Certificate}

@@ -23,10 +23,10 @@ use Rattle.hw_light.specs.declared.answers.Checked.{Checked}
 use Rattle.hw_light.specs.declared.answers.Checked.TheVariants.{Yes, No}
 use Rattle.hw_light.specs.declared.answers.CheckFault.TheVariants.{Config as BadLimit}
 use Rattle.hw_light.specs.Reading.{certificate_of}
-use Rattle.hw_light_texts.specs.Asked.{told_of}
-use Rattle.hw_light_texts.specs.Texts.{error_text}
-use Rattle.hw_light_texts.specs.Checked.{verdicts_by, checked_of, checked_line}
-use Rattle.hw_light_texts.specs.Keys.{keys_of}
+use Rattle.hw_light.specs.Asked.{told_of}
+use Rattle.hw_light.specs.Texts.{error_text}
+use Rattle.hw_light.specs.CheckedTexts.{verdicts_by, checked_of, checked_line}
+use Rattle.hw_light.specs.Keys.{keys_of}
 use Rattle.hw_program.specs.declared.ended.Ended.{Ended}
 use Rattle.hw_program.specs.Texts.{usage_line, log_text, input_ended, read_fault_ended, stopped_ended}
 use Rattle.hw_script.specs.Output.{output_of}

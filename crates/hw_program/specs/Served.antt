@@ -9,7 +9,7 @@ use Rattle.hw_settings.specs.declared.fault.SettingsFault.TheVariants as setting
 use Rattle.hw_replay.specs.Taken.{Taken}
 use Rattle.hw_replay.specs.Replay.{replay_of}
 use Rattle.hw_text.specs.Text.{number_text}
-use Rattle.hw_light_texts.specs.Texts.{limit_text}
+use Rattle.hw_light.specs.Texts.{limit_text}
 use Rattle.hw_fanout.specs.Fates.{Sight}
 use Rattle.hw_session.specs.declared.stage.PeerMark.{PeerMark}
 use Rattle.hw_service.specs.declared.fault.ServiceFault.{ServiceFault}

@@ -7,15 +7,15 @@ use Rattle.hw_types.specs.declared.answers.Culprit.{Culprit}
 use Rattle.hw_types.specs.Real.{CoreState, setting_of}
 use Rattle.hw_core.specs.Decided.{decided_in}
 use Rattle.hw_keys.specs.Signed.{verdict_of}
-use Rattle.hw_verdicts.specs.declared.verdict.Verdict.TheVariants as verdict
-use Rattle.hw_verdicts.specs.Verdicts.{journals_clash, AreInConflict}
+use Rattle.hw_safety.specs.declared.verdict.Verdict.TheVariants as verdict
+use Rattle.hw_safety.specs.Verdicts.{journals_clash, AreInConflict}
 use Rattle.hw_audit.specs.Text.{audit_text}
 use Rattle.hw_replay.specs.Taken.{Taken}
 use Rattle.hw_replay.specs.Replay.{replay_of}
 use Rattle.hw_light.specs.declared.certificate.Certificate.{Certificate}
 use Rattle.hw_light.specs.Reading.{certificate_of}
 use Rattle.hw_light.specs.Checked.{IsCertified}
-use Rattle.hw_light_texts.specs.Keys.{keys_of}
+use Rattle.hw_light.specs.Keys.{keys_of}
 use Rattle.hw_program.specs.Commands.{Word, Request, Check, request_of}
 use Rattle.hw_program.specs.Program.{Held}
 

@@ -1,8 +1,8 @@
 -- How a run ends that is about a certificate.
 -- Source: ours.
 use Rattle.hw_light.specs.declared.answers.CheckFault.{CheckFault}
-use Rattle.hw_light_texts.specs.Asked.{Told, HasCertificate}
-use Rattle.hw_light_texts.specs.Texts.{told_line, fault_line}
+use Rattle.hw_light.specs.Asked.{Told, HasCertificate}
+use Rattle.hw_light.specs.Texts.{told_line, fault_line}
 use Rattle.hw_program.specs.declared.ended.Ended.{Ended}
 
 -- 0 where a certificate is made, and else 10, with the line that tells it

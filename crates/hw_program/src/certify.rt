@@ -4,7 +4,7 @@ ghost use Rattle.std.specs.Prelude.{◌≡◌, ◌≢◌, ◌⊎◌, ◌↔◌, 
 ghost use Rattle.hw_io.specs.Faults.{Rose};
 ghost use Rattle.hw_io.specs.Files.{SameFiles};
 ghost use Rattle.hw_light.specs.Spelling.{CertificateFits};
-ghost use Rattle.hw_light_texts.specs.Asked.{IfAnswered, told_in, told_of};
+ghost use Rattle.hw_light.specs.Asked.{IfAnswered, told_in, told_of};
 ghost use Rattle.hw_program.specs.Faults.{HasReadFault, HasRunFault, IsCertifyEnd};
 ghost use Rattle.hw_program.specs.Files.{status_of};
 ghost use Rattle.hw_program.specs.Told.{told_ended};
@@ -18,8 +18,7 @@ use crate::faults::stopped;
 use crate::rewrite::there;
 use hw_core::Core;
 use hw_io::{Files, IoFault};
-use hw_light::{Certificate, Certified, encode_certificate};
-use hw_light_texts::{Asked, certify_block, put_asked};
+use hw_light::{Asked, Certificate, Certified, certify_block, encode_certificate, put_asked};
 use hw_replay::replay_log;
 use hw_types::{Bytes, Digest, OutOfMemory};
 use std::alloc::Global;

@@ -11,9 +11,9 @@ ghost use Rattle.hw_text.specs.Text.{number_text};
 ghost use Rattle.hw_light.specs.Checked.{IsCertified, IfYes};
 ghost use Rattle.hw_light.specs.declared.error.CertError.TheVariants as CertErrors;
 ghost use Rattle.hw_light.specs.Reading.{certificate_of};
-ghost use Rattle.hw_light_texts.specs.Texts.{error_text};
-ghost use Rattle.hw_light_texts.specs.Checked.{verdicts_by, checked_of, checked_line};
-ghost use Rattle.hw_light_texts.specs.Keys.{keys_of};
+ghost use Rattle.hw_light.specs.Texts.{error_text};
+ghost use Rattle.hw_light.specs.CheckedTexts.{verdicts_by, checked_of, checked_line};
+ghost use Rattle.hw_light.specs.Keys.{keys_of};
 ghost use Rattle.hw_program.specs.Faults.{HasReadFault, IsReadOf, FailsOn, IsCheckEnd};
 ghost use Rattle.hw_program.specs.Texts.{input_ended};
 ghost use Rattle.hw_program.specs.Told.{no_ended};
@@ -25,11 +25,13 @@ use crate::audit::audit_certified;
 use crate::ended::{DONE, Ended, INPUT, NO, RunFault};
 use crate::faults::input;
 use hw_core::Core;
-use hw_file::read_file;
 use hw_io::{Files, IoFault};
 use hw_keys::{Keys, KeysFault};
-use hw_light::{CertError, Certificate, CheckFault, Checked, decode_certificate};
-use hw_light_texts::{check_by_keys, checked_text, put_error, put_fault, read_keys};
+use hw_light::{
+    CertError, Certificate, CheckFault, Checked, check_by_keys, checked_text, decode_certificate,
+    put_error, put_fault, read_keys,
+};
+use hw_log::read_file;
 use hw_text::{end_line, put_numbered};
 use hw_types::{Bytes, OutOfMemory};
 use std::alloc::Global;

@@ -13,8 +13,8 @@ ghost use Rattle.hw_program.specs.declared.ended.RunFault.TheVariants as RunFaul
 
 use crate::ended::{DONE, Ended, INPUT, RunFault};
 use crate::faults::input;
-use hw_file::read_file;
 use hw_io::{Files, IoFault};
+use hw_log::read_file;
 use hw_script::{ScriptError, run_script};
 use hw_text::{end_line, put_numbered};
 use hw_types::OutOfMemory;

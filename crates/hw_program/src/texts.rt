@@ -4,7 +4,7 @@ ghost use Rattle.std.specs.Prelude.{◌≡◌, ◌++◌, OnOk};
 ghost use Rattle.hw_program.specs.Texts.{log_text};
 ghost use Rattle.hw_program.specs.Served.{settings_text};
 
-use hw_light_texts::{put_codec, put_limit};
+use hw_light::{put_codec, put_limit};
 use hw_log::LogError;
 use hw_settings::SettingsFault;
 use hw_text::{put_numbered, put_word};

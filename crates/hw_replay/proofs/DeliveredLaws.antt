@@ -9,7 +9,7 @@ use Rattle.hw_types.specs.declared.answers.Cause.{Cause}
 use Rattle.hw_types.specs.Below.{Among}
 use Rattle.hw_types.specs.Journal.{journal_of}
 use Rattle.hw_types.specs.Real.{CoreState, setting_of, answer_in, after_in}
-use Rattle.hw_verdicts.proofs.PairLaws.{delivered_signed}
+use Rattle.hw_safety.proofs.PairLaws.{delivered_signed}
 use Rattle.hw_core.specs.Promises.{delivered}
 use Rattle.hw_core.proofs.PromiseLaws.{deliveries_are}
 use Rattle.hw_log.specs.declared.entry.LogEntry.{LogEntry}

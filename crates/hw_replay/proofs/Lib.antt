@@ -6,3 +6,5 @@ pub mod SignedLaws
 pub mod EntryLaws
 pub mod DeliveredLaws
 pub mod EndLaws
+pub mod FeedLaws
+pub mod LineLaws

@@ -5,3 +5,5 @@ pub mod Faults
 pub mod Steps
 pub mod Ends
 pub mod Laws
+pub mod Feed
+pub mod Lines

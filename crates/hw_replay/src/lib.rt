@@ -5,9 +5,13 @@
 #![tactic(auto)]
 
 mod fault;
+mod feed;
 mod laws;
+mod lines;
 mod replay;
 
 pub use fault::StartFault;
+pub use feed::replay_fed;
 pub use laws::a_replay_delivers;
+pub use lines::put_drops;
 pub use replay::{Replay, Replayed, replay_log};

@@ -1,3 +1,5 @@
 pub mod Ends
 pub mod Told
 pub mod Runs
+pub mod Taker
+pub mod Meets

@@ -3,9 +3,9 @@
 use Rattle.std.specs.Prelude.{◌≡◌, ◌⊎◌, ℕ, Bool, List, codes, Result}
 use Rattle.hw_io.specs.Faults.{raised}
 use Rattle.hw_fanout.specs.Fates.{Sight}
-use Rattle.hw_feed.specs.Feed.{IsPassed}
+use Rattle.hw_replay.specs.Feed.{IsPassed}
 use Rattle.hw_meeting_node.specs.declared.end.MeetEnd.{MeetEnd}
-use Rattle.hw_node_taker.specs.Meets.{NodeCalls, NodeHosts, NodeMeetsNone}
+use Rattle.hw_reunion.specs.Meets.{NodeCalls, NodeHosts, NodeMeetsNone}
 use Rattle.hw_service.specs.declared.fault.ServiceFault.{ServiceFault}
 use Rattle.hw_service.specs.Scene.{Scene, moment_of}
 use Rattle.hw_service.specs.Told.{TellsEnd}

@@ -16,8 +16,8 @@ ghost use Rattle.hw_reunion.specs.Runs.{hosts_session, Hosts};
 
 use crate::begin::begin_node;
 use crate::end::session_end;
+use crate::host_node;
 use hw_io::{Consumer, Door, Files, Sink};
-use hw_node_taker::host_node;
 use hw_service::{Host, Served, ServiceFault, Sources, close_host, tell_end};
 use std::alloc::Global;
 

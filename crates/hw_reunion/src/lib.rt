@@ -8,7 +8,11 @@ mod begin;
 mod end;
 mod hosting;
 mod meeting;
+mod node_meet;
+mod taker;
 
 pub use hosting::host;
 pub use hw_service::{Served, ServiceFault, Sources};
 pub use meeting::meet;
+pub use node_meet::{host_node, meet_node};
+pub use taker::NodeTaker;

@@ -10,9 +10,8 @@ use crate::fault::RewriteFault;
 use crate::measure::measure;
 use crate::target::{absent, put};
 use crate::whole::Rewritten;
-use hw_file::read_file;
 use hw_io::{Files, IoFault};
-use hw_log::LogError;
+use hw_log::{LogError, read_file};
 use hw_types::Bytes;
 use std::alloc::Global;
 

@@ -14,8 +14,8 @@ use crate::endorsed::endorsements;
 use crate::rounds::rounds;
 use hw_dag::{Dag, Marks, Prepared, UnitNo};
 use hw_forks::Forks;
-use hw_leaders::LeaderTable;
 use hw_naivety::Naivety;
+use hw_rounds::LeaderTable;
 use hw_types::{Config, Rule};
 
 /// What a unit is judged over.

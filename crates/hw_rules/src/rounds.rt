@@ -9,8 +9,7 @@ ghost use Rattle.hw_rules.specs.Verdict.{verdict_of};
 
 use crate::lookups::{previous, previous_of, wire_unit};
 use hw_dag::{Dag, Prepared};
-use hw_leaders::LeaderTable;
-use hw_rounds::{changes_lawfully, round_id};
+use hw_rounds::{LeaderTable, changes_lawfully, round_id};
 use hw_types::{MAX_EXPONENT, Rule};
 
 /// The first rule of its round that a unit breaks.

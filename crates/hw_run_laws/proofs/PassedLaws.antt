@@ -8,7 +8,7 @@ use Rattle.hw_fanout.specs.Fates.{Sight}
 use Rattle.hw_fanout.specs.Chain.{told_chain}
 use Rattle.hw_fanout.specs.Told.{HasTaken}
 use Rattle.hw_fanout.proofs.TellingLaws.{all_whole}
-use Rattle.hw_feed.specs.Feed.{Moment, moment, first_moment, IsPassed, ArePassed, AreFed}
+use Rattle.hw_replay.specs.Feed.{Moment, moment, first_moment, IsPassed, ArePassed, AreFed}
 use Rattle.hw_service.specs.Scene.{none_told}
 use Rattle.hw_service.proofs.GrowLaws.{HasGrown, still_told, still_taken}
 use Rattle.hw_run_laws.specs.Prefixes.{HaveNothing, StoppedReplays}

@@ -3,7 +3,7 @@ use Rattle.std.proofs.Common.{◌≡◌, ◌⊎◌, ℕ, ◌+◌, Bool, List, []
 use Rattle.hw_types.specs.declared.answers.Plan.{Plan}
 use Rattle.hw_fanout.specs.Fates.{Sight}
 use Rattle.hw_fanout.specs.Chain.{told_chain}
-use Rattle.hw_feed.specs.Feed.{moment}
+use Rattle.hw_replay.specs.Feed.{moment}
 use Rattle.hw_session.specs.declared.fault.MakeFault.{MakeFault}
 use Rattle.hw_session.specs.declared.fault.MakeFault.TheVariants as make
 use Rattle.hw_service.specs.declared.fault.ServiceFault.{ServiceFault}

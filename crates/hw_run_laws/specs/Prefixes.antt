@@ -7,7 +7,7 @@ use Rattle.hw_fanout.specs.Fates.{Sight}
 use Rattle.hw_fanout.specs.Told.{HasTaken}
 use Rattle.hw_replay.specs.declared.fault.StartFault.{StartFault}
 use Rattle.hw_replay.specs.Taken.{Taken}
-use Rattle.hw_feed.specs.Feed.{first_moment, AreFedUntil, AreFedSome}
+use Rattle.hw_replay.specs.Feed.{first_moment, AreFedUntil, AreFedSome}
 use Rattle.hw_service.specs.declared.fault.ServiceFault.{ServiceFault}
 use Rattle.hw_service.specs.Scene.{Outside, Scene, none_told}
 use Rattle.hw_service.specs.Begin.{Names}

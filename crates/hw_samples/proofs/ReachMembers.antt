@@ -19,13 +19,13 @@ use Rattle.hw_types.specs.laws.StateLaws.{units_in, NamesApart, SaysTheSame}
 use Rattle.hw_types.proofs.SettledLaws.{digest_self}
 use Rattle.hw_types.proofs.WordsLaws.{all_of, never_both}
 use Rattle.hw_types.proofs.OrderLaws.{journal_apart, unit_self}
-use Rattle.hw_summit.specs.Decided.{decisions_of}
-use Rattle.hw_summit.proofs.DecidedLaws.{decisions_are}
-use Rattle.hw_summit.proofs.HeightLaws.{one_block_each}
-use Rattle.hw_verdicts.specs.Verdicts.{journals_clash, culprit_weight}
-use Rattle.hw_certificates.specs.Certificates.{HasItsNeeds, IsExtract, IsEnough, delivered, journal_from}
-use Rattle.hw_certificates.proofs.ExtractLaws.{begun, all_taken, closed_part, names}
-use Rattle.hw_summit.specs.Pruned.{pruned_committees}
+use Rattle.hw_safety.specs.Decided.{decisions_of}
+use Rattle.hw_safety.proofs.DecidedLaws.{decisions_are}
+use Rattle.hw_safety.proofs.HeightLaws.{one_block_each}
+use Rattle.hw_safety.specs.Verdicts.{journals_clash, culprit_weight}
+use Rattle.hw_agree.specs.Certificates.{HasItsNeeds, IsExtract, IsEnough, delivered, journal_from}
+use Rattle.hw_agree.proofs.ExtractLaws.{begun, all_taken, closed_part, names}
+use Rattle.hw_safety.specs.Pruned.{pruned_committees}
 use Rattle.hw_types.specs.declared.unit.Obs.{Obs}
 use Rattle.hw_types.proofs.StableLaws.{and_parts}
 use Rattle.hw_types.proofs.WordsLaws.{not_true, find_node_is}
@@ -33,13 +33,13 @@ use Rattle.hw_types.proofs.OrderLaws.{in_known, received_in}
 use Rattle.hw_safety.proofs.AccountLaws.{in_journal}
 use Rattle.hw_safety.proofs.LaneLaws.{latest_is}
 use Rattle.hw_eras.specs.Eras.{next_config, setting_in, config_after, AreEras}
-use Rattle.hw_chain.specs.Taken.{taken, NoneRefused}
-use Rattle.hw_converge.specs.Converge.{summary_of, summaries, torn_for, due_to}
-use Rattle.hw_converge.specs.declared.summary.LaneSummary.TheVariants.{Nothing, Line}
+use Rattle.hw_safety.specs.Taken.{taken, NoneRefused}
+use Rattle.hw_agree.specs.Converge.{summary_of, summaries, torn_for, due_to}
+use Rattle.hw_agree.specs.declared.summary.LaneSummary.TheVariants.{Nothing, Line}
 use Rattle.hw_types.specs.declared.config.Leaders.TheVariants.{Drawn}
-use Rattle.hw_chain.proofs.DetectorLaws.{nothing_at_first}
-use Rattle.hw_converge.proofs.ConvergeLaws.{together}
-use Rattle.hw_chain.proofs.TakenLaws.{taken_says, says_trans, says_back}
+use Rattle.hw_safety.proofs.DetectorLaws.{nothing_at_first}
+use Rattle.hw_agree.proofs.ConvergeLaws.{together}
+use Rattle.hw_safety.proofs.TakenLaws.{taken_says, says_trans, says_back}
 use Rattle.hw_samples.specs.Words.{equal_three, three, panorama_in, short_name, unsigned_as, sent, deliver, settled_in, decided, unfold_answers, unfold_decisions, unfold_reading}
 use Rattle.hw_samples.specs.FourUnits.{a0, b0, a1, b1, in_order}
 use Rattle.hw_samples.specs.Forks.{c0, e0, other_side}

@@ -5,7 +5,7 @@ use Rattle.hw_safety.proofs.SafetyLaws.{graph_safety}
 use Rattle.hw_safety.proofs.AccountLaws.{accountable_safety, later_safety, stands_safety, lawful_journal, lawful_either, left_part, left_faulty}
 use Rattle.hw_safety.proofs.ConflictLaws.{kept_while_few, one_chain, conflict_safety}
 use Rattle.hw_safety.proofs.CulpritLaws.{culprits_safety}
-use Rattle.hw_summit.proofs.StandLaws.{stands_is_test}
+use Rattle.hw_safety.proofs.StandLaws.{stands_is_test}
 use Rattle.hw_samples.proofs.Members.{no_clash, are_same_where_named}
 use Rattle.hw_samples.proofs.SummitMembers.{four_stands}
 use Rattle.hw_samples.proofs.JournalMembers.{against_apart}
@@ -18,7 +18,7 @@ use Rattle.hw_types.specs.Summit.{Stands}
 use Rattle.hw_types.specs.Journal.{named, received_of, evidence_fault}
 use Rattle.hw_types.specs.Lawful.{joint_panorama, keeps, NoClash}
 use Rattle.hw_safety.specs.Safety.{HasPairs, OnOneChain}
-use Rattle.hw_summit.specs.Decided.{stands}
+use Rattle.hw_safety.specs.Decided.{stands}
 use Rattle.hw_samples.specs.Words.{equal_three, three, sent, both, settled_in, is_faulty_in, panorama_in, weight_in, unfold_answers, unfold_decisions}
 use Rattle.hw_samples.specs.FourUnits.{a0, b0, in_order}
 use Rattle.hw_samples.specs.Forks.{fork, c0, other_side}

@@ -1,16 +1,16 @@
 -- The laws of summits say something: their premises are met.
 use Rattle.std.proofs.Common.{◌≡◌, ◌≤◌, inl, inr, true, [], ◌∷◌, refl, arith}
-use Rattle.hw_summit.proofs.SuffixLaws.{settled_suffix}
-use Rattle.hw_summit.proofs.AncestorLaws.{ancestor_stands}
-use Rattle.hw_summit.proofs.HeightLaws.{stood_is_kept, one_block_each}
-use Rattle.hw_summit.proofs.DecidedLaws.{decisions_are}
+use Rattle.hw_safety.proofs.SuffixLaws.{settled_suffix}
+use Rattle.hw_safety.proofs.AncestorLaws.{ancestor_stands}
+use Rattle.hw_safety.proofs.HeightLaws.{stood_is_kept, one_block_each}
+use Rattle.hw_safety.proofs.DecidedLaws.{decisions_are}
 use Rattle.hw_samples.proofs.SummitMembers.{four_stood}
 use Rattle.hw_samples.proofs.SafetyCases.{second_stands, s2_in}
 use Rattle.hw_types.specs.Graph.{past, lane_of}
 use Rattle.hw_types.specs.Below.{Among}
 use Rattle.hw_types.specs.Votes.{unit_fork, is_ancestor_within}
 use Rattle.hw_types.specs.Journal.{named}
-use Rattle.hw_summit.specs.Pruned.{seen_in}
+use Rattle.hw_safety.specs.Pruned.{seen_in}
 use Rattle.hw_samples.specs.Words.{equal_four, three, settled_in, unfold_answers, unfold_decisions}
 use Rattle.hw_samples.specs.FourUnits.{a0, in_order}
 use Rattle.hw_samples.specs.Chains.{p0, single, s0, s2, two_decided, at_two_levels, p1, p2, nine_units}

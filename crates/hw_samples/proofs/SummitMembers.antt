@@ -2,18 +2,18 @@
 use Rattle.std.proofs.Common.{◌≡◌, ◌≤◌, inl, inr, true, false, List, [], ◌∷◌, refl, subst, arith}
 use Rattle.hw_types.proofs.WordsLaws.{never_both}
 use Rattle.hw_types.proofs.DecisionLaws.{decisions_one}
-use Rattle.hw_summit.proofs.StandLaws.{stands_is_test}
-use Rattle.hw_summit.proofs.PrunedLaws.{summit_is_left, pruned_is_greatest}
-use Rattle.hw_summit.proofs.DecidedLaws.{decisions_are}
-use Rattle.hw_summit.proofs.HeightLaws.{one_block_each}
+use Rattle.hw_safety.proofs.StandLaws.{stands_is_test}
+use Rattle.hw_safety.proofs.PrunedLaws.{summit_is_left, pruned_is_greatest}
+use Rattle.hw_safety.proofs.DecidedLaws.{decisions_are}
+use Rattle.hw_safety.proofs.HeightLaws.{one_block_each}
 use Rattle.hw_types.specs.declared.unit.Vertex.{Vertex}
 use Rattle.hw_types.specs.declared.answers.Decision.{Decision}
 use Rattle.hw_types.specs.Settled.{faulty_weight}
 use Rattle.hw_types.specs.Summit.{Stands}
 use Rattle.hw_types.specs.Journal.{Setting, named, received_of}
 use Rattle.hw_types.specs.Decisions.{StoodAt, AreDecisions}
-use Rattle.hw_summit.specs.Pruned.{has_summit}
-use Rattle.hw_summit.specs.Decided.{stands, decisions_of}
+use Rattle.hw_safety.specs.Pruned.{has_summit}
+use Rattle.hw_safety.specs.Decided.{stands, decisions_of}
 use Rattle.hw_samples.specs.Words.{equal_three, three, settled_in, panorama_in, decided, unfold_decisions, unfold_names}
 use Rattle.hw_samples.specs.FourUnits.{a0, in_order, without_last}
 use Rattle.hw_samples.specs.Chains.{p0, single, s0, s2, two_decided, all_at_once, at_two_levels, nine_units}

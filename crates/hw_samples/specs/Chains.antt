@@ -7,7 +7,7 @@ use Rattle.hw_types.specs.declared.unit.Vertex.{Vertex}
 use Rattle.hw_types.specs.declared.config.Leaders.TheVariants.{Table}
 use Rattle.hw_types.specs.declared.answers.Receipt.TheVariants.{Admitted, Dropped}
 use Rattle.hw_types.specs.Journal.{Setting}
-use Rattle.hw_summit.specs.Decided.{decisions_of}
+use Rattle.hw_safety.specs.Decided.{decisions_of}
 use Rattle.hw_samples.specs.Words.{equal_three, alone, equal_four, short_name, in_short, unit, at, sent, answers_to, fork_in, committee_in, decisions_after, decided}
 use Rattle.hw_samples.specs.FourUnits.{nothing, a0}
 use Rattle.hw_types.specs.declared.answers.Rule.TheVariants as rule

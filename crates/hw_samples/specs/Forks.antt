@@ -9,7 +9,7 @@ use Rattle.hw_types.specs.declared.answers.Receipt.TheVariants.{Admitted, Parked
 use Rattle.hw_types.specs.Votes.{weight_of}
 use Rattle.hw_types.specs.Journal.{named}
 use Rattle.hw_types.specs.Culprits.{culprits_of, pair_of, shown_in_either}
-use Rattle.hw_summit.specs.Decided.{decisions_of}
+use Rattle.hw_safety.specs.Decided.{decisions_of}
 use Rattle.hw_samples.specs.Words.{digest, equal_three, short_name, three, four, unit, at, sent, both, endorses, answers_to, panorama_in, faulty_in, weight_in, fork_in, decisions_after, decided}
 use Rattle.hw_samples.specs.FourUnits.{nothing, a0, b0, b1, in_order}
 use Rattle.hw_types.specs.declared.answers.Cause.TheVariants as cause

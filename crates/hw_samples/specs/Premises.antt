@@ -18,8 +18,8 @@ use Rattle.hw_types.specs.Lawful.{settled_in_either, faulty_in_either, joint_pan
 use Rattle.hw_types.specs.laws.GraphLaws.{IsAcyclic, IsExtension, CitesOld}
 use Rattle.hw_types.specs.laws.StateLaws.{units_in, SaysTheSame, NamesApart, HasSameState, Admits, candidates, HasOneMore}
 use Rattle.hw_safety.specs.Safety.{HasPairs, OnOneChain}
-use Rattle.hw_summit.specs.Pruned.{Starts, seen_in}
-use Rattle.hw_summit.specs.Decided.{decisions_of, OneBlockEach}
+use Rattle.hw_safety.specs.Pruned.{Starts, seen_in}
+use Rattle.hw_safety.specs.Decided.{decisions_of, OneBlockEach}
 use Rattle.hw_samples.specs.Words.{equal_three, equal_four, three, sent, both, after, settled_in, panorama_in, weight_in}
 use Rattle.hw_samples.specs.FourUnits.{a0, b0, b1, in_order, last_first}
 use Rattle.hw_samples.specs.Forks.{fork, with_fork, c0, other_side}

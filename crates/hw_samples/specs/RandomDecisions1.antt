@@ -9,7 +9,7 @@ use Rattle.hw_types.specs.declared.config.Leaders.TheVariants.{Table}
 use Rattle.hw_types.specs.declared.answers.Receipt.TheVariants.{Admitted, Parked, Dropped, Repeat}
 use Rattle.hw_types.specs.Settled.{parked_of, dropped_of}
 use Rattle.hw_types.specs.Journal.{Setting, received_of, journal_of, answers_from}
-use Rattle.hw_summit.specs.Decided.{decisions_of}
+use Rattle.hw_safety.specs.Decided.{decisions_of}
 use Rattle.hw_samples.specs.Words.{names_of, settled_names, panorama_in, faulty_in, fork_in, sent, both}
 use Rattle.hw_samples.specs.JournalWords.{backs, mixed, named_by, dg}
 use Rattle.hw_types.specs.declared.answers.Cause.TheVariants as cause

@@ -4,15 +4,15 @@ use Rattle.hw_types.specs.declared.unit.WireUnit.{WireUnit}
 use Rattle.hw_types.specs.declared.config.Config.{Config}
 use Rattle.hw_types.specs.declared.config.Leaders.TheVariants.{Drawn}
 use Rattle.hw_types.specs.laws.StateLaws.{SaysTheSame}
-use Rattle.hw_verdicts.specs.declared.verdict.Verdict.TheVariants as verdict
-use Rattle.hw_certificates.specs.Certificates.{IsEnough, IsExtract, Certifies}
-use Rattle.hw_summit.specs.Pruned.{pruned_committees}
+use Rattle.hw_safety.specs.declared.verdict.Verdict.TheVariants as verdict
+use Rattle.hw_agree.specs.Certificates.{IsEnough, IsExtract, Certifies}
+use Rattle.hw_safety.specs.Pruned.{pruned_committees}
 use Rattle.hw_types.specs.Journal.{named, received_of}
 use Rattle.hw_eras.specs.Eras.{next_config, Naming, Era, AreEras, IsEraVerdict, AreOneChain}
 use Rattle.hw_eras.specs.declared.verdict.EraVerdict.TheVariants as eras
-use Rattle.hw_converge.specs.declared.summary.LaneSummary.TheVariants.{Nothing, Line}
-use Rattle.hw_chain.specs.Taken.{taken, NoneRefused}
-use Rattle.hw_converge.specs.Converge.{summaries, torn_for, due_to, UnitsClash}
+use Rattle.hw_agree.specs.declared.summary.LaneSummary.TheVariants.{Nothing, Line}
+use Rattle.hw_safety.specs.Taken.{taken, NoneRefused}
+use Rattle.hw_agree.specs.Converge.{summaries, torn_for, due_to, UnitsClash}
 use Rattle.hw_samples.specs.Words.{digest, equal_three, three, short_name, unit, sent, deliver, settled_in, panorama_in, decided}
 use Rattle.hw_samples.specs.FourUnits.{nothing, a0, a1, b1, in_order}
 use Rattle.hw_samples.specs.Forks.{c0, other_side}

@@ -9,7 +9,7 @@ use Rattle.hw_types.specs.Spelling.{vertex_bytes, digest_of, instance_of}
 use Rattle.hw_types.specs.Journal.{Setting}
 use Rattle.hw_types.specs.Culprits.{culprits_of, pair_of, shown_in_either}
 use Rattle.hw_types.specs.Real.{setting_of}
-use Rattle.hw_summit.specs.Decided.{decisions_of}
+use Rattle.hw_safety.specs.Decided.{decisions_of}
 use Rattle.hw_samples.specs.Words.{digest, equal_three, unit, answers_to, panorama_in, fork_in}
 use Rattle.hw_samples.specs.FourUnits.{nothing}
 use Rattle.hw_types.specs.declared.unit.Vertex.TheVariants as vertex

@@ -20,8 +20,8 @@ use Rattle.hw_types.specs.Culprits.{SignedAs, IsShown, AreCulprits}
 use Rattle.hw_types.specs.Lawful.{NoClash, IsLawful}
 use Rattle.hw_types.specs.laws.GraphLaws.{IsAcyclic, IsExtension, CitesOld}
 use Rattle.hw_types.specs.laws.StateLaws.{units_in, HasSame, SaysTheSame, NamesApart, HasSameState, Grows, IsLawfulUnion, Admits, LeadsToSettled, candidates, IsSplit, IsStep, IsTip, OneTip, OtherSlots, HasOneMore, MovesOwnSlot, IsLawfulRun, IsSeenStep, IsOverAll, IsOneChange, TellsWhere}
-use Rattle.hw_summit.specs.Pruned.{pruned_committees}
-use Rattle.hw_summit.specs.Decided.{OneBlockEach}
+use Rattle.hw_safety.specs.Pruned.{pruned_committees}
+use Rattle.hw_safety.specs.Decided.{OneBlockEach}
 use Rattle.hw_samples.specs.Words.{equal_three, three, unsigned_as, sent, both, endorses, settled_in, is_faulty_in, panorama_in, decided}
 use Rattle.hw_samples.specs.FourUnits.{a0, b0, a1, b1, in_order, last_first, without_last, second, third}
 use Rattle.hw_samples.specs.Forks.{fork, with_fork, c0}

@@ -16,8 +16,8 @@ use Rattle.hw_types.specs.declared.answers.Decision.{Decision}
 use Rattle.hw_types.specs.Graph.{Node}
 use Rattle.hw_types.specs.Settled.{validators, is_faulty, settled_of, panorama_of, faulty_weight, fork_choice}
 use Rattle.hw_types.specs.Journal.{Setting, named, received_of, journal_of, answers_from}
-use Rattle.hw_summit.specs.Pruned.{Starts, pruned}
-use Rattle.hw_summit.specs.Decided.{decisions_of}
+use Rattle.hw_safety.specs.Pruned.{Starts, pruned}
+use Rattle.hw_safety.specs.Decided.{decisions_of}
 
 abbrev pub digest : List ℕ → Digest
 digest bytes = record { 0 = bytes }
@@ -143,7 +143,7 @@ unfolding unfold_answers Rattle.hw_types.specs.Step.step Rattle.hw_types.specs.S
 unfold_steps = Unit {0}
 
 unfoldable pub unfold_decisions : Type 0
-unfolding unfold_answers Rattle.hw_summit.specs.Pruned.least_from Rattle.hw_summit.specs.Pruned.begun Rattle.hw_summit.specs.Pruned.start_in Rattle.hw_summit.specs.Pruned.choose Rattle.hw_summit.specs.Pruned.left_after Rattle.hw_summit.specs.Pruned.settle Rattle.hw_summit.specs.Pruned.seen_in Rattle.hw_summit.specs.Pruned.pruned Rattle.hw_summit.specs.Decided.decisions_of Rattle.hw_summit.specs.Decided.decided_in Rattle.hw_summit.specs.Decided.fresh_at Rattle.hw_summit.specs.Decided.decided_at Rattle.hw_summit.specs.Decided.least_level Rattle.hw_summit.specs.Decided.moment_of
+unfolding unfold_answers Rattle.hw_safety.specs.Pruned.least_from Rattle.hw_safety.specs.Pruned.begun Rattle.hw_safety.specs.Pruned.start_in Rattle.hw_safety.specs.Pruned.choose Rattle.hw_safety.specs.Pruned.left_after Rattle.hw_safety.specs.Pruned.settle Rattle.hw_safety.specs.Pruned.seen_in Rattle.hw_safety.specs.Pruned.pruned Rattle.hw_safety.specs.Decided.decisions_of Rattle.hw_safety.specs.Decided.decided_in Rattle.hw_safety.specs.Decided.fresh_at Rattle.hw_safety.specs.Decided.decided_at Rattle.hw_safety.specs.Decided.least_level Rattle.hw_safety.specs.Decided.moment_of
 unfold_decisions = Unit {0}
 
 unfoldable pub unfold_reading : Type 0

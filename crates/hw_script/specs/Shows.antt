@@ -11,7 +11,7 @@ use Rattle.hw_types.specs.declared.answers.Decision.{Decision}
 use Rattle.hw_types.specs.Settled.{Received}
 use Rattle.hw_types.specs.Journal.{Setting, received_of}
 use Rattle.hw_types.specs.Decisions.{received_at}
-use Rattle.hw_summit.specs.Decided.{decisions_of}
+use Rattle.hw_safety.specs.Decided.{decisions_of}
 use Rattle.hw_text.specs.Text.{number_text}
 use Rattle.hw_text.specs.Lines.{line_feed, line_of, spaced}
 use Rattle.hw_explain.specs.Report.{exceeded_line, exceeded_in}

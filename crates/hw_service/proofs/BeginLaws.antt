@@ -17,8 +17,8 @@ use Rattle.hw_fanout.specs.State.{FanoutState}
 use Rattle.hw_fanout.specs.Fates.{Sight}
 use Rattle.hw_fanout.specs.Chain.{told_chain}
 use Rattle.hw_fanout.specs.Told.{HasTaken}
-use Rattle.hw_feed.specs.Feed.{Moment, moment, first_moment, ArePassed, AreFed, AreFedSome, file_replayed}
-use Rattle.hw_feed.proofs.FeedLaws.{fed_none, none_told as nothing_told}
+use Rattle.hw_replay.specs.Feed.{Moment, moment, first_moment, ArePassed, AreFed, AreFedSome, file_replayed}
+use Rattle.hw_replay.proofs.FeedLaws.{fed_none, none_told as nothing_told}
 use Rattle.hw_session.specs.Node.{NodeState, new_node}
 use Rattle.hw_session.specs.Start.{Starts, StartsLog, IsStartCounted, IsReadOfLog}
 use Rattle.hw_service.specs.declared.fault.ServiceFault.{ServiceFault}

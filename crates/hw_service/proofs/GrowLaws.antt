@@ -14,12 +14,12 @@ use Rattle.hw_types.specs.Spelling.{instance_of}
 use Rattle.hw_types.specs.Real.{CoreState}
 use Rattle.hw_io.specs.Consumers.{Consumed}
 use Rattle.hw_io.specs.Doors.{Session}
-use Rattle.hw_chain.specs.Chain.{Begins}
+use Rattle.hw_safety.specs.Chain.{Begins}
 use Rattle.hw_fanout.specs.Chain.{told_chain}
 use Rattle.hw_fanout.specs.State.{FanoutState}
 use Rattle.hw_fanout.specs.Fates.{Sight, AreServed}
 use Rattle.hw_fanout.specs.Told.{HasTaken, IsTold}
-use Rattle.hw_feed.specs.Feed.{moment, IsPassed}
+use Rattle.hw_replay.specs.Feed.{moment, IsPassed}
 use Rattle.hw_fanout.specs.Laws.{node_with}
 use Rattle.hw_fanout.proofs.GrowLaws.{only_grows, stays_taken}
 use Rattle.hw_link.specs.declared.end.SessionEnd.{SessionEnd}

@@ -12,7 +12,7 @@ use Rattle.hw_replay.specs.declared.fault.StartFault.{StartFault}
 use Rattle.hw_replay.specs.declared.fault.StartFault.TheVariants as start
 use Rattle.hw_fanout.specs.State.{FanoutState}
 use Rattle.hw_fanout.specs.Fates.{Sight}
-use Rattle.hw_feed.specs.Feed.{moment, AreFed, AreFedSome, file_replayed}
+use Rattle.hw_replay.specs.Feed.{moment, AreFed, AreFedSome, file_replayed}
 use Rattle.hw_session.specs.Start.{Starts, StartsLog}
 use Rattle.hw_service.specs.declared.begin.Sources.{Sources}
 use Rattle.hw_service.specs.declared.fault.ServiceFault.{ServiceFault}

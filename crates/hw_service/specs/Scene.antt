@@ -3,7 +3,7 @@ use Rattle.std.specs.Prelude.{ℕ, List, [], length, Option}
 use Rattle.std.specs.List.{range_with_len}
 use Rattle.hw_io.specs.Doors.{Session}
 use Rattle.hw_fanout.specs.State.{FanoutState}
-use Rattle.hw_feed.specs.Feed.{Moment, moment}
+use Rattle.hw_replay.specs.Feed.{Moment, moment}
 use Rattle.hw_session.specs.Node.{NodeState}
 
 -- what a door tells: its sessions, how often it was asked to accept and to dial a peer, and how often a peer's bytes ended

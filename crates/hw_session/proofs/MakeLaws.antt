@@ -14,9 +14,9 @@ use Rattle.hw_io.specs.Files.{Appended}
 use Rattle.hw_log.specs.declared.error.LogError.{LogError}
 use Rattle.hw_log.specs.declared.error.LogError.TheVariants as log
 use Rattle.hw_log.specs.Causes.{HasAppendCause}
-use Rattle.hw_plans.specs.Plans.{IsPlanned, IsAnswered}
-use Rattle.hw_plans.proofs.NewLaws.{plan_is_answered}
-use Rattle.hw_plans.proofs.CountLaws.{plan_follows_own}
+use Rattle.hw_honest.specs.Plans.{IsPlanned, IsAnswered}
+use Rattle.hw_honest.proofs.NewLaws.{plan_is_answered}
+use Rattle.hw_honest.proofs.CountLaws.{plan_follows_own}
 use Rattle.hw_core.specs.Deliver.{IsRefusal}
 use Rattle.hw_core.proofs.PromiseLaws.{deliveries_are}
 use Rattle.hw_honest.proofs.ReplayLaws.{after_accepted}

@@ -12,8 +12,8 @@ use Rattle.hw_types.specs.Step.{step, step_in, chosen_panorama, is_fit, list_of}
 use Rattle.hw_dag.specs.Dag.{graph, observations}
 use Rattle.hw_admit.specs.State.{NodeState}
 use Rattle.hw_types.specs.Spelling.{Fits}
-use Rattle.hw_plans.specs.Plans.{IsPlanned}
-use Rattle.hw_plans.proofs.NewLaws.{plan_fits}
+use Rattle.hw_honest.specs.Plans.{IsPlanned}
+use Rattle.hw_honest.proofs.NewLaws.{plan_fits}
 use Rattle.hw_validator.specs.Step.{known_to, step_of}
 use Rattle.hw_session.specs.Node.{NodeState as Session, IsKept}
 use Rattle.hw_session.specs.Make.{planned_by}

@@ -17,7 +17,7 @@ use Rattle.hw_log.specs.Lasts.{LastUnits, lasts_after, with_noted}
 use Rattle.hw_log.specs.Log.{entry_bytes}
 use Rattle.hw_log.specs.declared.error.LogError.{LogError}
 use Rattle.hw_log.specs.declared.error.LogError.TheVariants as log
-use Rattle.hw_plans.specs.Plans.{IsPlanned, HasNamesake}
+use Rattle.hw_honest.specs.Plans.{IsPlanned, HasNamesake}
 use Rattle.hw_session.specs.declared.entry.NewEntry.{NewEntry}
 use Rattle.hw_session.specs.declared.fault.MakeFault.{MakeFault}
 use Rattle.hw_session.specs.declared.fault.MakeFault.TheVariants as fault

@@ -2,17 +2,17 @@
 
 ghost use Rattle.std.specs.Prelude.{◌≡◌, ℕ, ◌+◌, ◌<◌, ◌≤◌, ◌⊎◌, ◌↔◌, true, false, length, Some, unwrap_or, IsTrue, IfSome, IfNone};
 ghost use Rattle.hw_types.specs.Votes.{is_block};
-ghost use Rattle.hw_skip.specs.Skip.{jump_count};
+ghost use Rattle.hw_dag.specs.Jumps.{jump_count};
 ghost use Rattle.hw_dag.specs.Dag.{unit_at, node_at, count_of, creator_of, seq_of, view_at};
 ghost use Rattle.hw_dag.specs.Lanes.{is_lane_below, is_seen, IsLaneAt, IsAncestorAt, IsBelow};
 ghost use Rattle.hw_dag.specs.declared.numbers.UnitNo.{UnitNo as Number};
 ghost use Rattle.hw_dag.specs.Tables.{IsKnown};
 ghost use Rattle.hw_dag.specs.Walks.{is_marked, Cites, HasRoom, IsInNoSlot, IsCitedBySome, IsBelowMarked};
 
+use crate::Steps;
 use crate::graph::Dag;
 use crate::numbers::{Panorama, Slot, UnitNo, View};
 use crate::scratch::Marks;
-use hw_skip::Steps;
 use std::marker::Brand;
 use std::sync::ledger::{Blank, Ledger};
 

@@ -2,9 +2,9 @@ use Rattle.std.proofs.Common.{List, [], ◌∷◌, ◌++◌, take, ap, sym, ◌�
 use Rattle.std.proofs.lemmas.List.{map-append}
 use Rattle.hw_types.specs.declared.unit.Digest.{Digest}
 use Rattle.hw_types.specs.declared.answers.Decision.{Decision}
-use Rattle.hw_verdicts.specs.Verdicts.{chain_of}
+use Rattle.hw_safety.specs.Verdicts.{chain_of}
 use Rattle.hw_core.specs.Decided.{decided_in}
-use Rattle.hw_audit.proofs.LinkLaws.{front_more}
+use Rattle.hw_safety.proofs.FrontLaws.{front_more}
 use Rattle.hw_audit.proofs.nodes.blocks.Goals as goal
 
 pub loop-index-preserved : goal.loop-index-preserved

@@ -1,5 +1,5 @@
 use Rattle.std.proofs.Common.{◌≡◌, take}
-use Rattle.hw_verdicts.specs.Verdicts.{chain_of}
+use Rattle.hw_safety.specs.Verdicts.{chain_of}
 use Rattle.hw_core.specs.Decided.{decided_in}
 use Rattle.hw_audit.proofs.nodes.blocks.Given as goal
 

@@ -1,5 +1,5 @@
 use Rattle.std.proofs.Common.{sym, ◌∙◌}
-use Rattle.hw_verdicts.specs.Verdicts.{held_in}
+use Rattle.hw_safety.specs.Verdicts.{held_in}
 use Rattle.hw_cluster.specs.Counts.{has_other}
 use Rattle.hw_cluster.proofs.CountLaws.{next_vertex, that_vertex, no_vertex}
 use Rattle.hw_cluster.proofs.counts.equivocates_in.Goals as goal

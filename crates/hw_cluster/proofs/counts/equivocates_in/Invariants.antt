@@ -1,6 +1,6 @@
 use Rattle.std.proofs.Common.{◌≡◌, drop}
 use Rattle.std.specs.List.{list_any}
-use Rattle.hw_verdicts.specs.Verdicts.{held_in}
+use Rattle.hw_safety.specs.Verdicts.{held_in}
 use Rattle.hw_cluster.specs.Counts.{has_other}
 use Rattle.hw_cluster.proofs.counts.equivocates_in.Given as goal
 

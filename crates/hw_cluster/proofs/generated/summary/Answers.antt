@@ -1,7 +1,7 @@
 use Rattle.std.proofs.Common.{◌≡◌, ◌-◌, length, List, ◌∙◌, arith}
 use Rattle.hw_types.specs.declared.answers.Decision.{Decision}
 use Rattle.hw_types.specs.Real.{setting_of}
-use Rattle.hw_summit.specs.Decided.{decisions_of}
+use Rattle.hw_safety.specs.Decided.{decisions_of}
 use Rattle.hw_cluster.proofs.GeneratedLaws.{totals_are_those, no_last, the_last}
 use Rattle.hw_cluster.proofs.generated.summary.Goals as goal
 use Rattle.hw_cluster.proofs.generated.summary.Goals.{then-finals-gt0, else-finals-gt0}

@@ -1,7 +1,7 @@
 use Rattle.std.proofs.Common.{◌≡◌, ℕ, ◌+◌, ◌-◌, ◌^◌, ◌<◌, length, List, get_or, Some, refl, sym, ap, ◌∙◌, subst, arith}
 use Rattle.std.specs.Prelude.{slice_index_or}
 use Rattle.hw_dag.specs.declared.numbers.UnitNo.{UnitNo}
-use Rattle.hw_skip.specs.Skip.{pointer_count_of}
+use Rattle.hw_dag.specs.Jumps.{pointer_count_of}
 use Rattle.hw_dag.specs.Skips.{back_from, backs_of, lists_of}
 use Rattle.hw_dag.proofs.SkipLaws.{back_from-none}
 use Rattle.hw_dag.proofs.ArenaLaws.{start_known, many_starts, next_known, next_leads, none_added, added_more}

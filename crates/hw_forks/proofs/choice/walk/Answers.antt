@@ -3,7 +3,7 @@ use Rattle.std.proofs.lemmas.List.{take-append-le, length-take-le}
 use Rattle.hw_dag.specs.Dag.{UnitGraph}
 use Rattle.hw_forks.specs.declared.votes.Vote.{Vote}
 use Rattle.hw_forks.specs.Votes.{AreVotes}
-use Rattle.hw_skip.specs.Skip.{floor_log2}
+use Rattle.hw_dag.specs.Jumps.{floor_log2}
 use Rattle.hw_forks.specs.Walk.{weight_in, votes_towards, stops, IsCommon}
 use Rattle.hw_forks.proofs.StartLaws.{passed_known}
 use Rattle.hw_forks.proofs.MajorityLaws.{log2_half, weigh_bounded}

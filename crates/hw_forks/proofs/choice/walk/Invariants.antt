@@ -1,5 +1,5 @@
 use Rattle.std.proofs.Common.{◌<◌, ◌≤◌, length, take}
-use Rattle.hw_skip.specs.Skip.{floor_log2}
+use Rattle.hw_dag.specs.Jumps.{floor_log2}
 use Rattle.hw_forks.specs.Walk.{weight_in}
 use Rattle.hw_forks.proofs.BranchLaws.{IsUnderWay}
 use Rattle.hw_forks.proofs.choice.walk.Given as goal

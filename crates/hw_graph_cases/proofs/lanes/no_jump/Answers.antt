@@ -1,6 +1,6 @@
 use Rattle.std.proofs.Common.{◌≡◌, sym, ap, ◌∙◌, arith}
 use Rattle.hw_types.specs.declared.unit.SignedUnit.{SignedUnit}
-use Rattle.hw_skip.proofs.JumpLaws.{jump_count-arrived}
+use Rattle.hw_dag.proofs.JumpLaws.{jump_count-arrived}
 use Rattle.hw_dag.specs.Dag.{SettledUnit, seq_of, unit_at}
 use Rattle.hw_graph_cases.proofs.lanes.no_jump.Goals as goal
 

@@ -1,5 +1,5 @@
 use Rattle.std.proofs.Common.{◌≡◌, ◌+◌, ℕ, refl, ap, ◌∙◌}
-use Rattle.hw_skip.specs.Skip.{jump_count, jump_count_within}
+use Rattle.hw_dag.specs.Jumps.{jump_count, jump_count_within}
 use lib.Count.{count_leading_zeros, count_trailing_zeros}
 use Rattle.hw_graph_cases.proofs.lanes.one_jump.Goals as goal
 

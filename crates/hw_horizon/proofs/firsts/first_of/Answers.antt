@@ -1,6 +1,6 @@
 use Rattle.std.proofs.Common.{◌≡◌, ℕ, true, false, Option, Some, None, refl, sym, ap, ◌∙◌}
 use Rattle.std.specs.Prelude.{is_some, not, unwrap_or}
-use Rattle.hw_summit.specs.Pruned.{or_zero}
+use Rattle.hw_safety.specs.Pruned.{or_zero}
 use Rattle.hw_horizon.specs.Tables.{entry}
 use Rattle.hw_horizon.proofs.FirstLaws.{member_first}
 use Rattle.hw_horizon.proofs.firsts.first_of.Goals as goal

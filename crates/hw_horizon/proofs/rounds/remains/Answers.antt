@@ -1,7 +1,7 @@
 use Rattle.std.proofs.Common.{◌≡◌, ℕ, Bool, true, cond, Option, Some, None, get_or, refl, sym, ap, ◌∙◌}
 use Rattle.std.specs.Prelude.{is_some, not, nat_le, ◌&&◌, unwrap_or}
 use Rattle.std.proofs.lemmas.Option.{IfSome_then}
-use Rattle.hw_summit.specs.Pruned.{or_zero}
+use Rattle.hw_safety.specs.Pruned.{or_zero}
 use Rattle.hw_dag.specs.declared.numbers.View.TheVariants as view
 use Rattle.hw_dag.specs.Dag.{graph, observations, view_at, unit_at, seq_of}
 use Rattle.hw_horizon.specs.Tables.{entry, start_over}

@@ -1,6 +1,6 @@
 use Rattle.std.proofs.Common.{◌≡◌, ℕ, Bool, true, cond, Option, Some, None, refl, sym, ap, subst, ◌∙◌}
 use Rattle.std.specs.Prelude.{is_some, not, unwrap_or}
-use Rattle.hw_summit.specs.Pruned.{or_zero}
+use Rattle.hw_safety.specs.Pruned.{or_zero}
 use Rattle.hw_dag.specs.declared.numbers.View.{View}
 use Rattle.hw_dag.specs.declared.numbers.View.TheVariants as view
 use Rattle.hw_dag.specs.Dag.{graph, observations, view_at}

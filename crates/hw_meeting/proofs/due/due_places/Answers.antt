@@ -1,5 +1,5 @@
 use Rattle.std.proofs.Common.{length, ◌∙◌}
-use Rattle.hw_converge.specs.Converge.{is_due}
+use Rattle.hw_agree.specs.Converge.{is_due}
 use Rattle.hw_meeting.proofs.DueLaws.{table_is, one_place, one_within}
 use Rattle.hw_meeting.proofs.due.due_places.Goals as goal
 

@@ -1,6 +1,6 @@
 use Rattle.std.proofs.Common.{◌≡◌, ◌<◌, take}
 use Rattle.std.specs.Prelude.{filter, filter_map, slice_get, All}
-use Rattle.hw_converge.specs.Converge.{is_due}
+use Rattle.hw_agree.specs.Converge.{is_due}
 use Rattle.hw_meeting.proofs.due.due_places.Given as goal
 
 abbrev pub invariant-loop-place : goal.invariant-loop-place

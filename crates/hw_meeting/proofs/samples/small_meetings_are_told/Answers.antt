@@ -5,8 +5,8 @@ use Rattle.hw_types.specs.Closure.{closure, closure_after}
 use Rattle.hw_types.specs.Graph.{Node, reach}
 use Rattle.hw_types.specs.Reading.{many_at, counted_at, whole}
 use Rattle.hw_dag.specs.Dag.{unit_at, seq_of, node_at, by_name_of}
-use Rattle.hw_converge.specs.declared.summary.LaneSummary.{LaneSummary}
-use Rattle.hw_converge.specs.declared.summary.LaneSummary.TheVariants.{Nothing, Line, Tangled}
+use Rattle.hw_agree.specs.declared.summary.LaneSummary.{LaneSummary}
+use Rattle.hw_agree.specs.declared.summary.LaneSummary.TheVariants.{Nothing, Line, Tangled}
 use Rattle.hw_meeting.specs.declared.mark.Mark.TheVariants as mark
 use Rattle.hw_meeting.specs.declared.due.Owed.TheVariants as owed
 use Rattle.hw_meeting.specs.Frames.{HasUnits, rise_from, part_at, summary_at, torn_at, meeting_of}

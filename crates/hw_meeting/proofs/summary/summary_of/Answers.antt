@@ -8,7 +8,7 @@ use Rattle.hw_types.specs.laws.StateLaws.{units_in}
 use Rattle.hw_dag.specs.declared.numbers.UnitNo.{UnitNo}
 use Rattle.hw_dag.specs.Dag.{UnitGraph, count_of, graph}
 use Rattle.hw_dag.specs.Admission.{IsGraph}
-use Rattle.hw_converge.proofs.LineLaws.{settled}
+use Rattle.hw_agree.proofs.LineLaws.{settled}
 use Rattle.hw_meeting.specs.Lanes.{AreHighest, AreMarks, tip_at, mark_at, told_by}
 use Rattle.hw_meeting.proofs.SummaryLaws.{summaries_are}
 use Rattle.hw_meeting.proofs.summary.summary_of.Goals as goal

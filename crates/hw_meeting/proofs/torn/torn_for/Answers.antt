@@ -1,8 +1,8 @@
 use Rattle.std.proofs.Common.{◌≡◌, ℕ, true, List, length, sym, ap, subst, ◌∙◌, arith}
 use Rattle.hw_types.specs.declared.config.Config.{Config}
 use Rattle.hw_dag.specs.Dag.{UnitGraph, graph}
-use Rattle.hw_converge.specs.declared.summary.LaneSummary.{LaneSummary}
-use Rattle.hw_converge.specs.Converge.{part, is_torn}
+use Rattle.hw_agree.specs.declared.summary.LaneSummary.{LaneSummary}
+use Rattle.hw_agree.specs.Converge.{part, is_torn}
 use Rattle.hw_meeting.specs.Frames.{are_validators}
 use Rattle.hw_meeting.proofs.TornLaws.{one_number, passing_are_validators}
 use Rattle.hw_meeting.proofs.torn.torn_for.Goals as goal

@@ -2,7 +2,7 @@ use Rattle.std.proofs.Common.{◌≡◌}
 use Rattle.std.specs.Prelude.{filter}
 use Rattle.std.specs.List.{range_with_len}
 use Rattle.hw_dag.specs.Dag.{graph}
-use Rattle.hw_converge.specs.Converge.{part, is_torn}
+use Rattle.hw_agree.specs.Converge.{part, is_torn}
 use Rattle.hw_meeting.proofs.torn.torn_for.Given as goal
 
 abbrev pub invariant-loop-validator : goal.invariant-loop-validator

@@ -1,6 +1,6 @@
 use Rattle.std.proofs.Common.{Ok, sym, subst}
 use Rattle.hw_link.specs.Sent.{Sends}
-use Rattle.hw_meeting_link.specs.Frames.{sent_bytes}
+use Rattle.hw_meeting_node.specs.Frames.{sent_bytes}
 use Rattle.hw_meeting_node.specs.declared.meeter.Side.{Side}
 use Rattle.hw_meeting_node.specs.Meeting.{first_word}
 use Rattle.hw_meeting_node.proofs.SayLaws.{sends_nothing}

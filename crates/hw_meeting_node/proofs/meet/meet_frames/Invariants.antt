@@ -1,7 +1,7 @@
 use Rattle.std.proofs.Common.{◌≡◌, ◌≤◌, ◌-◌, true, false, List, [], Option}
 use Rattle.hw_io.specs.Doors.{Session}
 use Rattle.hw_link.specs.Links.{after_part}
-use Rattle.hw_meeting_link.specs.Frames.{sent_bytes}
+use Rattle.hw_meeting_node.specs.Frames.{sent_bytes}
 use Rattle.hw_meeting_node.specs.Meeting.{first_word}
 use Rattle.hw_meeting_node.specs.Handling.{meeting_of, IsKept}
 use Rattle.hw_meeting_node.proofs.MeetingLaws.{IsMeeting}

@@ -1,7 +1,7 @@
 use Rattle.std.proofs.Common.{◌≡◌, List, length, sym, subst, ◌∙◌}
 use Rattle.std.specs.List.{All}
 use Rattle.hw_types.specs.Real.{setting_of}
-use Rattle.hw_converge.specs.declared.summary.LaneSummary.{LaneSummary}
+use Rattle.hw_agree.specs.declared.summary.LaneSummary.{LaneSummary}
 use Rattle.hw_meeting.specs.Frames.{HasUnits}
 use Rattle.hw_meeting_node.specs.Meeting.{told_of, summary}
 use Rattle.hw_meeting_node.proofs.SayLaws.{summary_said, unsaid}

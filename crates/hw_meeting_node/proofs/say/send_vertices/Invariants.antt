@@ -1,6 +1,6 @@
 use Rattle.std.proofs.Common.{◌≡◌, true, take, Ok}
 use Rattle.hw_link.specs.Sent.{Sends}
-use Rattle.hw_meeting_link.specs.Frames.{sent_bytes}
+use Rattle.hw_meeting_node.specs.Frames.{sent_bytes}
 use Rattle.hw_meeting_node.proofs.SayLaws.{sent_at}
 use Rattle.hw_meeting_node.proofs.say.send_vertices.Given as goal
 

@@ -1,5 +1,5 @@
 use Rattle.std.proofs.Common.{◌≡◌}
-use Rattle.hw_light_texts.specs.Asked.{told_in}
+use Rattle.hw_light.specs.Asked.{told_in}
 use Rattle.hw_program.specs.Told.{told_ended}
 use Rattle.hw_program.proofs.AuditLaws.{handed_on}
 use Rattle.hw_program.proofs.CertifyLaws.{written}

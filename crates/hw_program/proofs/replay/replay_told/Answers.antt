@@ -3,7 +3,7 @@ use Rattle.std.proofs.lemmas.List.FromFn.{length-range_with_len}
 use Rattle.hw_replay.specs.Replay.{taken_in}
 use Rattle.hw_fanout.specs.State.{FanoutState}
 use Rattle.hw_fanout.specs.Fates.{seen}
-use Rattle.hw_feed.specs.Feed.{file_replayed}
+use Rattle.hw_replay.specs.Feed.{file_replayed}
 use Rattle.hw_program.proofs.FedLaws.{told_all, told_some}
 use Rattle.hw_program.proofs.ToldLaws.{of_replay, reported_text, reported_told, stopped_text, stopped_told}
 use Rattle.hw_program.proofs.replay.replay_told.Goals as goal

@@ -1,7 +1,8 @@
 use Rattle.std.proofs.Common.{◌≡◌, ℕ, Some, None, refl, ap, sym, ◌∙◌}
 use Rattle.std.specs.Map.{lookup}
 use Rattle.hw_audit.specs.Forks.{place_eq, pair_in}
-use Rattle.hw_audit.proofs.PairLaws.{pair_noted, read_as}
+use Rattle.hw_audit.proofs.PairLaws.{pair_noted}
+use Rattle.hw_safety.proofs.CulpritPairLaws.{read_as}
 use Rattle.hw_audit.proofs.forks.Equivocations.pair_of.Goals as goal
 
 pub returns-in-Some : goal.returns-in-Some

@@ -1,6 +1,6 @@
 use Rattle.std.proofs.Common.{◌≡◌, ℕ, ◌+◌, ◌-◌, length, List, [], ◌∷◌, ◌++◌, Option, refl, sym, ap, ◌∙◌, subst, arith}
 use Rattle.std.specs.Prelude.{vec_len, vec_capacity}
-use Rattle.hw_skip.specs.Skip.{pointer_count_of}
+use Rattle.hw_dag.specs.Jumps.{pointer_count_of}
 use Rattle.hw_dag.specs.declared.numbers.UnitNo.{UnitNo}
 use Rattle.hw_dag.specs.Skips.{BackLinks, IsDepth, IsSkipTable, IsAddedBehind, backs_of, lists_of}
 use Rattle.hw_dag.proofs.SkipLaws.{few_pointers}

@@ -1,7 +1,7 @@
 use Rattle.std.proofs.Common.{◌≡◌, ℕ, ◌-◌, length, refl, ap, ◌∙◌, arith}
 use Rattle.std.proofs.lemmas.Nat.{one_shl}
 use Rattle.std.proofs.lemmas.List.{get_or_read_under}
-use Rattle.hw_skip.proofs.JumpLaws.{jump_count-arrived}
+use Rattle.hw_dag.proofs.JumpLaws.{jump_count-arrived}
 use Rattle.hw_dag.specs.Skips.{BackLinks, back_from}
 use Rattle.hw_dag.proofs.SkipLaws.{back_from-none}
 use Rattle.hw_dag.proofs.ArenaLaws.{start_known, jump_known, jump_leads}

@@ -1,5 +1,5 @@
 use Rattle.std.proofs.Common.{◌≡◌, ◌+◌, ◌-◌, ◌≤◌, Some}
-use Rattle.hw_skip.specs.Skip.{jump_count}
+use Rattle.hw_dag.specs.Jumps.{jump_count}
 use Rattle.hw_dag.specs.Skips.{back_from}
 use Rattle.hw_dag.proofs.skips.SkipTable.walk.Given as goal
 

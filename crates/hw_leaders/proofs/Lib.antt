@@ -1,2 +1,0 @@
-pub mod DrawingLaws
-pub mod TableLaws

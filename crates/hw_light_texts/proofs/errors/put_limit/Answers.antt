@@ -1,6 +1,0 @@
-use Rattle.hw_light_texts.specs.Texts.{limit_text}
-use Rattle.hw_light_texts.proofs.errors.put_limit.Goals as goal
-
-pub returns-in-ZeroWeight : goal.returns-in-ZeroWeight
-unfolding limit_text
-returns-in-ZeroWeight c = rw c.in-ZeroWeight.is (rw c.from.ensures at c.put_numbered.ensures.ok)

@@ -1,4 +1,0 @@
-pub mod Asked
-pub mod Texts
-pub mod Checked
-pub mod Keys

@@ -1,3 +1,0 @@
-pub mod FrameReadLaws
-pub mod HearsLaws
-pub mod LengthLaws

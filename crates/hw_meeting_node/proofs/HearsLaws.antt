@@ -1,0 +1,106 @@
+-- What a read of a node that is met says.
+use Rattle.std.proofs.Common.{◌≡◌, ℕ, ◌+◌, ◌<◌, ◌≤◌, Bool, true, false, cond, inl, inr, List, [], ◌++◌, length, Option, Result, Ok, Err, refl, sym, ap, subst, ◌∙◌, arith, length-append}
+use Rattle.std.specs.Prelude.{nat_le, ◌==◌}
+use Rattle.std.specs.Int.{w32, from_be_bytes}
+use Rattle.std.proofs.lemmas.Bool.{leb-false}
+use Rattle.hw_io.specs.declared.outside.IoFault.{IoFault}
+use Rattle.hw_io.specs.declared.outside.IoFault.TheVariants.{Failed, OutOfMemory as NoMemory}
+use Rattle.hw_io.specs.Doors.{Session}
+use Rattle.hw_io.specs.Faults.{raised}
+use Rattle.hw_link.specs.declared.end.SessionEnd.{SessionEnd}
+use Rattle.hw_link.specs.declared.end.SessionEnd.TheVariants as end
+use Rattle.hw_link.specs.Frames.{rest_at, byte_limit, cut_end}
+use Rattle.hw_link.specs.Links.{after_part, end_of_fault, has_failed, is_link_fault}
+use Rattle.hw_link.specs.Heard.{IsLength, IsFrontOf, IsFront}
+use Rattle.hw_link.proofs.LinkLaws.{after_parts}
+use Rattle.hw_meeting_node.specs.declared.read.HeardMeeting.{HeardMeeting}
+use Rattle.hw_meeting_node.specs.Frames.{EndsIn, IsRefused}
+use Rattle.hw_meeting_node.specs.Heard.{IsEndCounted, Hears, IsHeard, IsDecoded}
+use Rattle.hw_meeting_node.proofs.FrameReadLaws.{frame_is_read, bad_body, bad_length, refused_ends}
+
+-- ---- ends by a cut
+
+module _ {T : Type 0} (validators : ℕ) (Whole : ℕ → List ℕ → T → Type 0) (place : ℕ) (before part : List ℕ) (old new : Option (List Session)) (ends_old ends_new : ℕ) (within : place + length (before ++ part) ≤ byte_limit) where
+  abbrev bytes : List ℕ
+  bytes = before ++ part
+
+  abbrev HearsBy : SessionEnd → Type 0
+  HearsBy e = Hears validators Whole place before old new ends_old ends_new (Err e)
+
+  pub hears_cut : new ≡ after_part part [] false old → EndsIn validators place bytes (cut_end (rest_at place bytes)) → ((place + length bytes < byte_limit) → ends_new ≡ raised ends_old) → HearsBy (cut_end (rest_at place bytes))
+  hears_cut heard ends rose = go (nat_le byte_limit (place + length bytes)) refl (length bytes == 0) ends
+    where
+      rose_if : nat_le byte_limit (place + length bytes) ≡ false → ends_new ≡ raised ends_old
+      rose_if below = rose (leb-false byte_limit (place + length bytes) below)
+
+      go : (b : Bool) → nat_le byte_limit (place + length bytes) ≡ b → (c : Bool) → EndsIn validators place bytes (cond b end.ByteLimit (cond c end.EndOfInput (end.BadFrame place))) → HearsBy (cond b end.ByteLimit (cond c end.EndOfInput (end.BadFrame place)))
+      go true is c e = record { part = part; within = within; heard = heard; says = e; ended = tt }
+      go false is true e = record { part = part; within = within; heard = heard; says = e; ended = rose_if is }
+      go false is false e = record { part = part; within = within; heard = heard; says = e; ended = inl (rose_if is) }
+
+  pub hears_fault : (fault : IoFault) → new ≡ after_part part [] (has_failed {T = Unit {0}} (Err fault)) old → EndsIn validators place bytes (cut_end (rest_at place bytes)) → HearsBy (end_of_fault fault)
+  hears_fault Failed heard ends = record { part = part; within = within; heard = heard; says = ends; ended = tt }
+  hears_fault NoMemory heard ends = record { part = part; within = within; heard = heard; says = tt; ended = tt }
+
+  pub hears_refused : new ≡ after_part part [] false old → IsRefused validators place bytes (end.BadFrame place) → HearsBy (end.BadFrame place)
+  hears_refused heard refused = record { part = part; within = within; heard = heard; says = refused_ends validators place bytes (end.BadFrame place) refused; ended = inr refused }
+
+  pub hears_nothing : new ≡ after_part part [] false old → HearsBy end.OutOfMemory
+  hears_nothing heard = record { part = part; within = within; heard = heard; says = tt; ended = tt }
+
+  pub hears_whole : (x : T) → new ≡ after_part part [] false old → Whole place bytes x → ends_new ≡ ends_old → Hears validators Whole place before old new ends_old ends_new (Ok x)
+  hears_whole x heard whole same = record { part = part; within = within; heard = heard; says = whole; ended = same }
+
+-- ---- a length
+
+pub hears_front : (validators place : ℕ) (front : List ℕ) (old new : Option (List Session)) (ends_old ends_new : ℕ) (r : Result (List ℕ) SessionEnd) → IsFront place front r → length front ≡ 4 → place + 4 ≤ byte_limit
+    → new ≡ after_part front [] false old → ends_new ≡ ends_old → Hears validators IsFrontOf place [] old new ends_old ends_new r
+hears_front validators place front old new ends_old ends_new (Ok x) is four within heard same =
+    hears_whole validators IsFrontOf place [] front old new ends_old ends_new (omega arith) x heard (sym is.0, subst IsLength (sym is.0) is.1) same
+hears_front validators place front old new ends_old ends_new (Err e) is four within heard same =
+    subst (λ (d : SessionEnd). Hears validators IsFrontOf place [] old new ends_old ends_new (Err d)) (sym is.0)
+    (hears_refused validators IsFrontOf place [] front old new ends_old ends_new (omega arith) heard (bad_length validators place front four is.1))
+
+-- ---- what is behind it
+
+pub hears_decoded : (validators place : ℕ) (front body : List ℕ) (old new : Option (List Session)) (ends_old ends_new : ℕ) (r : Result HeardMeeting SessionEnd) → IsDecoded validators place body r → IsLength front → length body ≡ from_be_bytes w32 front
+    → place + (4 + length body) ≤ byte_limit → new ≡ after_part body [] false old → ends_new ≡ ends_old → Hears validators (IsHeard validators) place front old new ends_old ends_new r
+hears_decoded validators place front body old new ends_old ends_new (Ok h) is front_is size within heard same =
+    let all : length (front ++ body) ≡ 4 + length body = length-append front body ∙ ap (λ n. n + length body) front_is.four in
+    hears_whole validators (IsHeard validators) place front body old new ends_old ends_new (omega arith) h heard (frame_is_read validators place front body h.frame front_is size is.0, is.1 ∙ ap (λ n. place + n) (sym all)) same
+hears_decoded validators place front body old new ends_old ends_new (Err e) (inl want) front_is size within heard same =
+    let all : length (front ++ body) ≡ 4 + length body = length-append front body ∙ ap (λ n. n + length body) front_is.four in
+    subst (λ (d : SessionEnd). Hears validators (IsHeard validators) place front old new ends_old ends_new (Err d)) (sym want)
+    (hears_nothing validators (IsHeard validators) place front body old new ends_old ends_new (omega arith) heard)
+hears_decoded validators place front body old new ends_old ends_new (Err e) (inr bad) front_is size within heard same =
+    let all : length (front ++ body) ≡ 4 + length body = length-append front body ∙ ap (λ n. n + length body) front_is.four in
+    subst (λ (d : SessionEnd). Hears validators (IsHeard validators) place front old new ends_old ends_new (Err d)) (sym bad.0)
+    (hears_refused validators (IsHeard validators) place front body old new ends_old ends_new (omega arith) heard (bad_body validators place front body bad.1 front_is size bad.2))
+
+-- ---- both
+
+pub hears_then : (validators place : ℕ) (front : List ℕ) (old then new : Option (List Session)) (ends_old ends_then ends_new : ℕ) (r : Result HeardMeeting SessionEnd)
+    → Hears validators IsFrontOf place [] old then ends_old ends_then (Ok front) → Hears validators (IsHeard validators) place front then new ends_then ends_new r → Hears validators (IsHeard validators) place [] old new ends_old ends_new r
+hears_then validators place front old then new ends_old ends_then ends_new r first second = record {
+  part = front ++ second.part;
+  within = second.within;
+  heard =
+      second.heard
+      ∙ ap (after_part second.part [] (is_link_fault r)) (first.heard ∙ ap (λ p. after_part p [] false old) first.says.0)
+      ∙ after_parts front second.part [] [] (is_link_fault r) old;
+  says = second.says;
+  ended = subst (λ (n : ℕ). IsEndCounted validators n ends_new place (front ++ second.part) r) first.ended second.ended;
+}
+
+-- an end is the same whatever was to be read
+pub hears_end : (A B : Type 0) (First : ℕ → List ℕ → A → Type 0) (Other : ℕ → List ℕ → B → Type 0) (validators place : ℕ) (before : List ℕ) (old new : Option (List Session)) (ends_old ends_new : ℕ) (e : SessionEnd)
+    → Hears validators First place before old new ends_old ends_new (Err e) → Hears validators Other place before old new ends_old ends_new (Err e)
+hears_end A B First Other validators place before old new ends_old ends_new end.Done h = record { part = h.part; within = h.within; heard = h.heard; says = h.says; ended = h.ended }
+hears_end A B First Other validators place before old new ends_old ends_new end.EndOfInput h = record { part = h.part; within = h.within; heard = h.heard; says = h.says; ended = h.ended }
+hears_end A B First Other validators place before old new ends_old ends_new end.WrongInstance h = record { part = h.part; within = h.within; heard = h.heard; says = h.says; ended = h.ended }
+hears_end A B First Other validators place before old new ends_old ends_new (end.BadFrame at) h = record { part = h.part; within = h.within; heard = h.heard; says = h.says; ended = h.ended }
+hears_end A B First Other validators place before old new ends_old ends_new end.LinkFault h = record { part = h.part; within = h.within; heard = h.heard; says = h.says; ended = h.ended }
+hears_end A B First Other validators place before old new ends_old ends_new end.AppendFault h = record { part = h.part; within = h.within; heard = h.heard; says = h.says; ended = h.ended }
+hears_end A B First Other validators place before old new ends_old ends_new end.ByteLimit h = record { part = h.part; within = h.within; heard = h.heard; says = h.says; ended = h.ended }
+hears_end A B First Other validators place before old new ends_old ends_new end.Clash h = record { part = h.part; within = h.within; heard = h.heard; says = h.says; ended = h.ended }
+hears_end A B First Other validators place before old new ends_old ends_new end.OutOfMemory h = record { part = h.part; within = h.within; heard = h.heard; says = h.says; ended = h.ended }

@@ -1,2 +1,0 @@
-pub mod Taker
-pub mod Meets

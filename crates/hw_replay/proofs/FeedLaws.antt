@@ -1,0 +1,120 @@
+-- Consumers of a replay, as its node goes on.
+use Rattle.std.proofs.Common.{◌≡◌, ◌≤◌, ℕ, Bool, true, false, List, [], ◌∷◌, ◌++◌, length, Option, Some, None, Result, Ok, refl, sym, ap, subst, ◌∙◌, inl, inr, arith, append-nil, length-append}
+use Rattle.std.specs.Prelude.{All, IsTrue}
+use Rattle.hw_types.specs.declared.config.Config.{Config}
+use Rattle.hw_types.specs.Real.{CoreState}
+use Rattle.hw_types.specs.Settled.{settled_of}
+use Rattle.hw_types.specs.Closure.{closure, closure_after}
+use Rattle.hw_types.specs.Journal.{received_of}
+use Rattle.hw_types.specs.ByName.{by_name}
+use Rattle.hw_safety.specs.Decided.{decisions_of, decided_in, fresh_at, moment_of}
+use Rattle.hw_safety.specs.Chain.{Begins}
+use Rattle.hw_io.specs.Consumers.{Consumed}
+use Rattle.hw_replay.specs.Taken.{Taken, nothing_taken}
+use Rattle.hw_log.specs.Lasts.{LastUnits}
+use Rattle.hw_replay.specs.declared.fault.StartFault.{StartFault}
+use Rattle.hw_replay.specs.declared.replay.Replay.{Replay}
+use Rattle.hw_replay.specs.Replay as of_replay
+use Rattle.hw_replay.specs.Replay.{GrowsByOne, Leads, taken_in, ahead_in}
+use Rattle.hw_replay.specs.Ends.{LeadsLasts}
+use Rattle.hw_fanout.specs.State.{FanoutState}
+use Rattle.hw_fanout.specs.Chain.{told_chain}
+use Rattle.hw_fanout.specs.Told.{HasTaken}
+use Rattle.hw_fanout.specs.Laws.{node_with}
+use Rattle.hw_fanout.proofs.GrowLaws.{only_grows, stays_taken}
+use Rattle.hw_fanout.specs.Fates.{Sight}
+use Rattle.hw_replay.specs.Feed.{Moment, moment, first_moment, IsPassed, ArePassed, AreFed, AreFedUntil, file_replayed}
+
+not_true : false ≡ true → ⊥
+not_true e = cc
+
+-- ---- moments
+
+pub fed_none : {B K : Type 0} (sight : Sight B K) (m : Moment B) → AreFed sight m m
+unfolding ArePassed
+fed_none sight m = record { moments = []; passed = refl }
+
+passed_more : {B K : Type 0} (sight : Sight B K) (first : Moment B) (ms : List (Moment B)) (m z : Moment B) → ArePassed sight first ms m → IsPassed sight m z → ArePassed sight first (ms ++ z ∷ []) z
+unfolding ArePassed
+passed_more {B} sight first [] m z is next = (subst (λ (x : Moment B). IsPassed sight x z) is next, refl)
+passed_more sight first (x ∷ xs) m z are next = (are.0, passed_more sight x xs m z are.1 next)
+
+pub fed_more : {B K : Type 0} (sight : Sight B K) (first m z : Moment B) → AreFed sight first m → IsPassed sight m z → AreFed sight first z
+fed_more sight first m z fed next = record { moments = fed.moments ++ z ∷ []; passed = passed_more sight first fed.moments m z fed.passed next }
+
+-- ---- the node
+
+pub grown_journal : (c d : CoreState) → GrowsByOne c d → Begins c.journal d.journal
+grown_journal c d (inl same) = ([], ap (λ (x : CoreState). x.journal) same ∙ sym (append-nil c.journal))
+grown_journal c d (inr (v, is)) = (v ∷ [], ap (λ (x : CoreState). x.journal) is)
+
+pub grown_config : (c d : CoreState) → GrowsByOne c d → d.config ≡ c.config
+grown_config c d (inl same) = ap (λ (x : CoreState). x.config) same
+grown_config c d (inr (v, is)) = ap (λ (x : CoreState). x.config) is
+
+-- as many blocks are told
+pub still_told : (c d : CoreState) (n : ℕ) → GrowsByOne c d → n ≤ length (told_chain c) → n ≤ length (told_chain d)
+still_told c d n (inl same) le = let P : CoreState → Type 0 = λ x. n ≤ length (told_chain x) in subst P (sym same) le
+still_told c d n (inr (v, is)) le =
+    let P : CoreState → Type 0 = λ x. n ≤ length (told_chain x) in
+    let g = only_grows c.config c.journal (v ∷ []) in
+    subst P (sym is) (omega (arith, le, ap length g.1, length-append (told_chain (node_with c.config c.journal)) g.0))
+
+-- what was taken is still the beginning
+still_taken : (c d : CoreState) (n : ℕ) (o : Option Consumed) → GrowsByOne c d → n ≤ length (told_chain c) → HasTaken (told_chain c) n o → HasTaken (told_chain d) n o
+still_taken c d n o (inl same) le h = let P : CoreState → Type 0 = λ x. HasTaken (told_chain x) n o in subst P (sym same) h
+still_taken c d n o (inr (v, is)) le h = let P : CoreState → Type 0 = λ x. HasTaken (told_chain x) n o in subst P (sym is) (stays_taken c.config c.journal (v ∷ []) n o le h)
+
+pub all_still : {B : Type 0} (f : B → Option Consumed) (c d : CoreState) (n : ℕ) (xs : List B) → GrowsByOne c d → n ≤ length (told_chain c) → All (λ b. HasTaken (told_chain c) n (f b)) xs → All (λ b. HasTaken (told_chain d) n (f b)) xs
+all_still f c d n xs grows le h = λ k b lt. still_taken c d n _ grows le (h k b lt)
+
+-- ---- an entry more
+
+pub leads_on : (before after : Result Taken StartFault) (taken : Taken) (more : Bool) → more ≡ true → Leads before after taken (Ok more) → after ≡ before
+leads_on before after taken true e h = h
+leads_on before after taken false e h = absurd (not_true e)
+
+pub lasts_on : (before after lasts : LastUnits) (more : Bool) → more ≡ true → LeadsLasts before after lasts (Ok more) → after ≡ before
+lasts_on before after lasts true e h = h
+lasts_on before after lasts false e h = absurd (not_true e)
+
+-- ---- a node that has received nothing
+
+-- it has decided nothing
+pub none_told : (config : Config) → told_chain (nothing_taken config).core ≡ []
+unfolding told_chain decisions_of decided_in fresh_at moment_of settled_of closure closure_after received_of by_name
+none_told config = refl
+
+-- ---- a whole replay
+
+-- the configuration stays
+config_kept : {B K : Type 0} (sight : Sight B K) (first : Moment B) (ms : List (Moment B)) (last : Moment B) → ArePassed sight first ms last → last.core.config ≡ first.core.config
+unfolding ArePassed
+config_kept {B} sight first [] last is = ap (λ (m : Moment B). m.core.config) is
+config_kept sight first (x ∷ xs) last are = config_kept sight x xs last are.1 ∙ are.0.config
+
+pub fed_config : {B K : Type 0} (sight : Sight B K) (first last : Moment B) → AreFed sight first last → last.core.config ≡ first.core.config
+fed_config sight first last fed = config_kept sight first fed.moments last fed.passed
+
+-- from a node that had received nothing
+pub fed_first : {B K : Type 0} (sight : Sight B K) (core : CoreState) (old : List B) (before : FanoutState) (last : Moment B) → core ≡ (nothing_taken core.config).core → AreFed sight (moment core old before) last → AreFed sight (first_moment last.core.config old before) last
+fed_first sight core old before last empty fed =
+    let P : Config → Type 0 = λ config. AreFed sight (first_moment config old before) last in
+    let Q : CoreState → Type 0 = λ c. AreFed sight (moment c old before) last in
+    subst P (sym (fed_config sight (moment core old before) last fed)) (subst Q empty fed)
+
+-- what a file's bytes leave of a node is ahead of the replay that has begun
+file_ahead : (wanted : Option Config) (file : Option (List ℕ)) (unread : List ℕ) (r : Replay) → of_replay.Begins wanted file unread (Ok r) → file_replayed wanted file ≡ ahead_in r unread
+file_ahead wanted (Some bytes) unread r begins = begins
+file_ahead wanted None unread r begins = absurd begins
+
+pub fed_until : {B K : Type 0} (sight : Sight B K) (tells : Bool) (wanted : Option Config) (file : Option (List ℕ)) (unread : List ℕ) (r : Replay) (old new : List B) (before after : FanoutState)
+    → (IsTrue tells → of_replay.Begins wanted file unread (Ok r)) → taken_in r ≡ nothing_taken r.core.config
+    → AreFedUntil sight tells (ahead_in r unread) (λ (core : CoreState). moment r.core old before) new after
+    → AreFedUntil sight tells (file_replayed wanted file) (λ (core : CoreState). first_moment core.config old before) new after
+fed_until sight tells wanted file unread r old new before after begins empty u = record {
+  taken = u.taken;
+  rest = u.rest;
+  leads = λ t. file_ahead wanted file unread r (begins t) ∙ u.leads t;
+  fed = fed_first sight r.core old before (moment u.taken.core new after) (ap (λ (t : Taken). t.core) empty) u.fed;
+}

@@ -1,2 +1,0 @@
-pub mod LogLaws
-pub mod JumpLaws

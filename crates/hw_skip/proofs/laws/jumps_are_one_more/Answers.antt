@@ -1,5 +1,0 @@
-use Rattle.hw_skip.proofs.JumpLaws.{jump_count-arrived, jump_count-step}
-use Rattle.hw_skip.proofs.laws.jumps_are_one_more.Goals as goal
-
-pub returns : goal.returns
-returns c = λ s r fits. ((jump_count-arrived s r), (λ less. jump_count-step s r less fits))

@@ -1,5 +1,0 @@
-use Rattle.hw_skip.proofs.JumpLaws.{pointers_lead}
-use Rattle.hw_skip.proofs.laws.pointers_lead_to_pointers.Goals as goal
-
-pub returns : goal.returns
-returns c = pointers_lead

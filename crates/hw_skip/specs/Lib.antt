@@ -1,2 +1,0 @@
-pub mod Skip
-pub mod Laws

@@ -1,3 +1,0 @@
-pub mod Pruned
-pub mod Decided
-pub mod Laws
