@@ -25,6 +25,9 @@ QUOTED = re.compile(r"`([^`]+)`")
 CRATE = re.compile(r"\bhw_[a-z0-9_]*[a-z0-9]\b")
 NAME = re.compile(r"[A-Za-z_][A-Za-z0-9_]*(?:::[A-Za-z_][A-Za-z0-9_]*)*")
 COLUMN = "Stands on"
+# Names of others, and the shortest name that is no variable of a formula.
+OTHERS = {"highway_core"}
+SHORTEST = 3
 
 
 def pages_of(root):
@@ -86,7 +89,7 @@ def lacking_names(line, crates, words):
     for text in QUOTED.findall(line):
         if NAME.fullmatch(text):
             for word in text.split("::"):
-                if word not in words and word not in crates:
+                if len(word) >= SHORTEST and word not in words and word not in crates and word not in OTHERS:
                     yield f"names `{text}`, and {word} stands nowhere in the sources"
 
 
