@@ -4,9 +4,9 @@
   tools/gate_cost.py            runs `rt ci` at the top of the repository, as it stands
   tools/gate_cost.py --anew     has it prove and try all, whatever earlier runs on this machine passed
 
-The table has a row for each crate: its proof, its tests, its must-fail edits, the builds of its program, and the runs of
-it. What `rt ci` passed earlier on this machine costs it nothing, so only --anew gives whole figures. They hold for the
-machine and its load: run it alone, and compare rows of one run with each other.
+The table has a row for each crate: its proof, its tests, its must-fail edits, the builds of its program, and its
+runs. What `rt ci` passed earlier on this machine costs it nothing, so only --anew gives whole figures. They hold for
+the machine and its load: run it alone, and compare rows of one run with each other.
 
 How it measures: twice a second it reads from /proc the time of each process that rt started, with that of the processes
 which it waited for. What a process took behind the last look at it is found in the time that rt itself waited for."""
@@ -161,7 +161,7 @@ def gate(words, every):
 
 def main(words):
     parser = argparse.ArgumentParser(description=__doc__, formatter_class=argparse.RawDescriptionHelpFormatter)
-    parser.add_argument("names", nargs="*", metavar="NAME", help="only these crates and those below, as rt ci takes them")
+    parser.add_argument("names", nargs="*", metavar="NAME", help="only these crates and those below them")
     parser.add_argument("--anew", action="store_true", help="prove and try all, whatever was passed earlier")
     parser.add_argument("--every", type=float, default=0.5, metavar="SECONDS", help="the time between two looks")
     given = parser.parse_args(words)
@@ -171,7 +171,8 @@ def main(words):
         print("gate cost: there is no rt on the path", file=sys.stderr)
         return 2
     print("\n".join(["", "processor seconds:", *table(costs)]))
-    print(f"{sum(costs.values()) / 60:.0f} processor minutes, {clock / 60:.0f} by the clock, {os.cpu_count()} processors")
+    minutes = f"{sum(costs.values()) / 60:.0f} processor minutes, {clock / 60:.0f} by the clock"
+    print(f"{minutes}, {os.cpu_count()} processors")
     return status
 
 

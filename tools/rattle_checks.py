@@ -3,6 +3,8 @@
 The command is the toolchain's own, `rattle check`, with the words that its help gives. It runs over what earlier checks
 of the crate kept, and over the built libraries below it, as `rt lib` leaves them in each crate's out/rlib."""
 
+import contextlib
+import fcntl
 import os
 import re
 import shutil
@@ -20,7 +22,7 @@ LIMIT = re.compile(
 LINE = re.compile(r"fn (\S+): (not proved|no proof|could not tell|proved)(.*)")
 # Where the lines about a function name a goal that is open.
 OPEN = re.compile(r"note: src/.* it is not proved .*\(`([\w-]+)`\)")
-UNMET = re.compile(r"(?:\./)?proofs/(\S+)/(?:Answers|Proof|Invariants)\.antt:\d+:\d+: error: `([^`\s]+)`: (?!.*has no `)")
+UNMET = re.compile(r"(?:\./)?proofs/(\S+)/\w+\.antt:\d+:\d+: error: `([^`\s]+)`: (?!.*has no `)")
 UNREADABLE = re.compile(r"is not in scope|has no field|is no name|operand is missing|expected the end|cannot continue")
 
 
@@ -30,10 +32,14 @@ class CheckError(Exception):
 
 @dataclass
 class Answer:
-    """What a check said: whether all is proved, and else the functions that are refused for themselves, with a goal each."""
+    """What a check said.
+
+    Where not all is proved: the functions that are refused for themselves, with an open goal each, those that only rest
+    on others, those on which it could not tell, and where the front end stopped if it came to no verdict."""
 
     is_proved: bool = False
     is_verdict: bool = False
+    is_uncompiled: bool = False
     refused: dict = field(default_factory=dict)
     resting: set = field(default_factory=set)
     undecided: set = field(default_factory=set)
@@ -50,6 +56,8 @@ def answer_of(status, lines, changed=()):
     rows = [row for row in lines if row.strip()]
     answer.is_verdict = status == 0 or (status == 1 and bool(rows) and rows[-1].startswith("logic=not-proved"))
     answer.is_at_limit = status == 3 and any(LIMIT.search(row) for row in rows)
+    is_cut = status == 1 and not answer.is_verdict
+    answer.is_uncompiled = is_cut and any(re.search(r"\berror\[[\w-]+\]", row) for row in rows)
     about, unmet = [], {}
     for row in rows:
         said, goal = LINE.match(row), UNMET.match(row)
@@ -132,7 +140,7 @@ class Toolchain:
         return [*words, "--jobs", str(jobs), "--incremental", kept]
 
     def renew(self, crate):
-        """Has `rt lib` build the libraries below that are older than their sources; it leaves the others as they are."""
+        """Has `rt lib` build the libraries below that are older than their sources; it leaves others as they are."""
         older = [it for it in crate.below() if is_older(it)]
         for it in older:
             made = subprocess.run([self.rt, "lib"], cwd=it.folder, capture_output=True, text=True)
@@ -172,14 +180,30 @@ def linked(folder, to):
     shutil.copytree(folder, to, copy_function=copy)
 
 
+@contextlib.contextmanager
+def alone_in(folder):
+    """Waits until no rt works in a crate's folder, and keeps others out meanwhile, by the lock that rt takes too."""
+    held = os.open(folder, os.O_RDONLY)
+    try:
+        with contextlib.suppress(OSError):
+            fcntl.flock(held, fcntl.LOCK_EX)
+        yield
+    finally:
+        os.close(held)
+
+
 class Bench:
-    """Where the pages of one crate are tried: a room of its own in the crate's out/, with the work that its checks keep."""
+    """Where the pages of one crate are tried: a room in the crate's out/, with the work that its checks keep."""
 
     def __init__(self, crate, toolchain, jobs=1):
         self.crate, self.toolchain, self.jobs, self.checks, self.seconds = crate, toolchain, jobs, 0, 0.0
 
     def __enter__(self):
         os.makedirs(f"{self.crate.folder}/out", exist_ok=True)
+        with alone_in(self.crate.folder):
+            return self.begin()
+
+    def begin(self):
         self.room = tempfile.mkdtemp(prefix="wrong-bodies-", dir=f"{self.crate.folder}/out")
         self.kept, self.before = f"{self.room}/kept", f"{self.crate.folder}/out/incremental"
         self.has_begun = os.path.isdir(self.before)
@@ -190,10 +214,11 @@ class Bench:
         return self
 
     def __exit__(self, *_):
-        # (where no check of the crate itself kept anything yet, its next one can begin with this)
-        if not self.has_begun and not os.path.lexists(self.before) and os.listdir(self.kept):
-            os.rename(self.kept, self.before)
-        shutil.rmtree(self.room, ignore_errors=True)
+        with alone_in(self.crate.folder):
+            # (where no check of the crate itself kept anything yet, its next one can begin with this)
+            if not self.has_begun and not os.path.lexists(self.before) and os.listdir(self.kept):
+                os.rename(self.kept, self.before)
+            shutil.rmtree(self.room, ignore_errors=True)
 
     def check(self, texts):
         """Checks the crate with these texts in place of its own, and returns the answer."""

@@ -1,9 +1,9 @@
 """Pages of wrong bodies: what mistake each is, what it changes, and where that stands.
 
-A page is a file of crates/NAME/must-fail/. Its first line says what mistake it is. Then a line `file: src/x.rt` and pairs
-of lines `old: TEXT` and `new: TEXT` say what it changes, one line each; each old text stands in that file exactly once,
-once the pairs above it are applied. A page whose body turned out to be right says so in a line `right: WHY`. No other
-line is read. `rt ci` tries those whose name ends in .edit, by the same rules."""
+A page is a file of crates/NAME/must-fail/. Its first line says what mistake it is. Then a line `file: src/x.rt` and
+pairs of lines `old: TEXT` and `new: TEXT` say what it changes, one line each. Each old text stands in that file exactly
+once, where the pairs above it are applied. A page whose body turned out to be right says so in a line `right: WHY`. No
+other line is read. `rt ci` tries those whose name ends in .edit, by the same rules."""
 
 import os
 import re
@@ -32,7 +32,7 @@ class Page:
 
 @dataclass
 class Place:
-    """Where a page stands: the functions whose bodies it changes, its lines, and whether it changes more than bodies."""
+    """Where a page stands: the functions whose bodies it changes, its lines, and whether it changes more."""
 
     functions: set = field(default_factory=set)
     lines: set = field(default_factory=set)
@@ -91,7 +91,7 @@ def pages_of(crate):
 
 
 def applied(folder, pages):
-    """Returns the texts that the pages make of the crate's files, by path, or the first page that doesn't apply and why."""
+    """Returns the texts that the pages make of a crate's files, by path, or the first that doesn't apply, and why."""
     texts = {}
     for page in pages:
         for file, old, new in page.changes:
@@ -107,7 +107,7 @@ def applied(folder, pages):
 
 
 def place_of(page, folder):
-    """Returns where a page that applies stands. An old and a new text are one line each, so lines keep their numbers."""
+    """Returns where a page that applies stands. Old and new texts are one line each, so lines keep their numbers."""
     place, texts, known = Place(), {}, {}
     for file, old, new in page.changes:
         text = texts.get(file) or text_of(f"{folder}/{file}")
@@ -123,7 +123,7 @@ def place_of(page, folder):
 
 
 def key_of(file, function):
-    """Returns what tells a function from others: functions of one cycle of calls have one proof, so they count as one."""
+    """Returns what tells a function from others. Those of a cycle of calls have one proof, so they count as one."""
     return (file, f"+{function.cycle}" if function.cycle else function.name)
 
 

@@ -165,7 +165,7 @@ def word_of(text, parameters):
 
 
 def body_of(rows, at, indent):
-    """Returns the first and last line of the body of the function whose head is at that line, or None if it has none here."""
+    """Returns the first and the last line of the body of the function whose head is at that line, or None."""
     for start in range(at, len(rows)):
         row = rows[start].rstrip()
         depth = len(row) - len(row.lstrip())
@@ -213,7 +213,7 @@ def without_comments(text, mark):
 
 
 def has_long_string(text):
-    """Returns whether a string of the .rt text may go over several lines, so that a line in it could look like a comment."""
+    """Returns whether a string may go over several lines, so that a line of it could look like a comment."""
     for row in text.split("\n"):
         if row.lstrip().startswith("//"):
             continue
@@ -224,7 +224,7 @@ def has_long_string(text):
 
 
 def heard(path, text):
-    """Returns the text less its lines of comment, which no check hears, or the whole text where a comment can't be told."""
+    """Returns a text less its lines of comment, which no check hears, or all of it where they can't be told."""
     if path.endswith(".antt"):
         return "\n".join(without_comments(text, "--"))
     return text if has_long_string(text) or "/*" in text else "\n".join(without_comments(text, "//"))
@@ -291,7 +291,7 @@ def interface_sum(library, with_code=False):
 
 
 def below_sum(crate, known):
-    """Returns a checksum of what the verdict on a page reads of the libraries below; `known` keeps theirs for the next."""
+    """Returns a checksum of what a check reads of the libraries below a crate; `known` keeps theirs for the next."""
     with_code = crate.is_program()
     sums = []
     for library in crate.below():

@@ -17,7 +17,7 @@ class Labels(unittest.TestCase):
         self.assertEqual(label(PROOF, "/top/crates/low"), ("low", "proof"))
         self.assertEqual(label([*PROOF, "--test"], "/top/crates/low"), ("low", "tests"))
         self.assertEqual(label([*PROOF, "--crate-checked", "c"], "/top/crates/low"), ("low", "builds"))
-        self.assertEqual(label(["/kit/bin/rattle", "check", "--crate-name", "low"], "/x/rt-edit-7-ab"), ("low", "edits"))
+        self.assertEqual(label(["/kit/bin/rattle", "check", *PROOF[2:4]], "/x/rt-edit-7-ab"), ("low", "edits"))
         self.assertEqual(label(["/kit/bin/rattle-link", "-o", "out/app"], "/top/crates/app"), ("app", "builds"))
         self.assertEqual(label(["sh", "-c", "x", "", "/x/rt-run-7-ab/bin/app", "go"], "/"), ("app", "runs"))
         self.assertEqual(label(["rattle-test", "/x/rt-run-7-ab/bin/low_tests"], "/"), ("low", "runs"))

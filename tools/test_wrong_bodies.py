@@ -92,11 +92,18 @@ fn odd(n: u64) -> bool {
 }
 """
 
+
+
+def page_text(mistake, old, new):
+    return f"# {mistake}\nfile: src/lib.rt\nold: {old}\nnew: {new}\n"
+
+
+STEP = "        self.count = more(self.count)"
 PAGES = {
-    "no_step.md": "# A step stays where it is.\nfile: src/lib.rt\nold:         self.count = more(self.count);\nnew:         self.count = more(self.count) - 1;\n",
-    "far_one_later.edit": "# It is far only one step later.\nfile: src/lib.rt\nold: self.count >= FAR\nnew: self.count > FAR\n",
-    "farther.md": "# The limit is one more.\nfile: src/lib.rt\nold: const FAR: u64 = 7;\nnew: const FAR: u64 = 8;\n",
-    "step_by_two.md": "# Each step counts twice.\nfile: src/lib.rt\nold: more(self.count)\nnew: more(more(self.count))\n",
+    "no_step.md": page_text("A step stays where it is.", f"{STEP};", f"{STEP} - 1;"),
+    "far_one_later.edit": page_text("It is far only one step later.", "self.count >= FAR", "self.count > FAR"),
+    "farther.md": page_text("The limit is one more.", "const FAR: u64 = 7;", "const FAR: u64 = 8;"),
+    "step_by_two.md": page_text("Each step counts twice.", "more(self.count)", "more(more(self.count))"),
 }
 
 
@@ -188,7 +195,8 @@ class Sources(InRepository):
         self.assertEqual(text.count("ensures { self.new ≡ self.old }"), 2)
 
     def test_an_impl_head_over_two_lines_hides_nothing(self):
-        text = "impl<A>\n    Door for Gate\n{\n    fn open(&mut self)\n        ensures { fact }\n    {\n        body();\n    }\n}\n"
+        rows = ["impl<A>", "    Door for Gate", "{", "    fn open(&mut self)", "        ensures { fact }", "    {"]
+        text = "\n".join([*rows, "        body();", "    }", "}", ""])
         self.assertIn("ensures { fact }", interface_of(text))
         self.assertNotIn("body", interface_of(text))
 
@@ -303,7 +311,8 @@ class Answers(unittest.TestCase):
             "logic=not-proved",
         ]
         found = rattle_checks.answer_of(1, lines)
-        self.assertEqual(found.refused, {"a::k::g": "returns", "a::h": "returns-clause-added", "a::l": "loop-b-preserved"})
+        goals = {"a::k::g": "returns", "a::h": "returns-clause-added", "a::l": "loop-b-preserved"}
+        self.assertEqual(found.refused, goals)
         self.assertEqual((found.resting, found.undecided), ({"a::i"}, {"a::j"}))
         self.assertTrue(found.is_verdict)
 
@@ -423,7 +432,7 @@ class Records(InRepository):
         self.assertEqual(self.current()[0], 0)
         self.change("crates/low/src/lib.rt", "    helped(count)", "    1 + count")
         self.assertEqual(self.current()[0], 0)
-        self.change("crates/low/src/lib.rt", "requires { count < 9 }\n    ensures", "requires { count < 8 }\n    ensures")
+        self.change("crates/low/src/lib.rt", "{ count < 9 }\n    ensures", "{ count < 8 }\n    ensures")
         status, said = self.current()
         self.assertEqual(status, 1)
         self.assertIn("an interface below changed", said)

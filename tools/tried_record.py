@@ -1,9 +1,9 @@
 """The record of tried pages, crates/NAME/must-fail/TRIED.md: what was refused, by which function, and over what.
 
-A page's checksum is over all that its verdict hangs on: its changes, the crate's own files and its line of crates.txt, and
-the interfaces of the libraries below (rattle_sources.py says what that is, and why it is enough). The toolchain's line
-stands in the head, apart from the checksums: another toolchain makes no record false that was made, but whoever has
-one may want all tried again."""
+A page's checksum is over all that its verdict hangs on: its changes, the crate's own files and its line of crates.txt,
+and the interfaces of the libraries below (rattle_sources.py says what that is, and why it is enough). The toolchain's
+line stands in the head, apart from the checksums: another toolchain makes no record false that was made, but whoever
+has one may want all tried again."""
 
 import os
 import re
@@ -91,5 +91,5 @@ def why_stale(record, base):
     """Returns in words what changed since the record was made."""
     if not record.pages:
         return "nothing of it was tried"
-    changed = [text for text, one, other in (("its own files", record.own, base.own), ("an interface below", record.below, base.below)) if one != other]
+    changed = ["its own files"] * (record.own != base.own) + ["an interface below"] * (record.below != base.below)
     return f"{' and '.join(changed)} changed" if changed else "pages were added or changed"

@@ -38,7 +38,7 @@ def arguments(words):
     parser.add_argument("names", nargs="*", metavar="NAME", help="a crate of crates.txt")
     parser.add_argument("--current", action="store_true", help="say whether pages apply and records are current")
     parser.add_argument("--anew", action="store_true", help="try all pages, whatever is recorded")
-    parser.add_argument("--jobs", type=int, default=1, metavar="N", help="processors to use: so many checks side by side")
+    parser.add_argument("--jobs", type=int, default=1, metavar="N", help="processors: so many checks side by side")
     parser.add_argument("--root", default=ROOT, help=argparse.SUPPRESS)
     given = parser.parse_args(words)
     if given.jobs < 1:
@@ -83,7 +83,7 @@ def look(crate, known):
 
 
 def tell_of_kits(crates):
-    """Says which records were made with another toolchain than the one here. They stay current: their sources are the same."""
+    """Says which records were made with another toolchain than the one here. They stay current: sources are the same."""
     try:
         kit = Toolchain().line()
     except CheckError:
@@ -136,6 +136,8 @@ class Run:
             with bench:
                 trial.run()
         self.keep(crate, base, record, trial, pages)
+        if not old:
+            return [f"{crate.name}: {len(pages)} pages, all current"]
         clock = time.monotonic() - began
         spent = f"{bench.checks} checks, {bench.seconds:.0f} processor seconds, {clock:.0f} by the clock"
         return [f"{crate.name}: {len(old)} of {len(pages)} pages tried: {spent}", *lines, *self.tell(crate, trial)]
@@ -144,13 +146,15 @@ class Run:
         """Sees that the libraries below a crate are built, and as new as their sources."""
         missing = missing_below(crate)
         if missing:
-            raise CheckError(f"not built below {crate.name}: {' '.join(missing)}. Run rt check in crates/{crate.name} first, or rt lib in theirs")
+            how = f"run rt check in crates/{crate.name} first, or rt lib in their folders"
+            raise CheckError(f"libraries that are not built: {' '.join(missing)}: {how}")
         self.toolchain.renew(crate)
 
     def keep(self, crate, base, record, trial, pages):
         """Writes the record: what was well now, and what stays current of what was recorded."""
         if tried_record.base_of(crate, {}) != base:
-            self.errors.append(f"{crate.name}: its files changed while it was tried, so nothing is recorded: run this again")
+            why = "files changed while it was tried, so nothing is recorded: run this again"
+            self.errors.append(f"{crate.name}: {why}")
             return
         tried = {it.page.name for it in trial.cases}
         verdicts = {}

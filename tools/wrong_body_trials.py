@@ -1,10 +1,10 @@
 """How many pages of a crate are tried in few checks.
 
-A function's proof cites what the others state, and not their bodies. So pages that change the bodies of different functions
-can share a check: a page is refused only if a function that it changes is refused for itself. A function whose callee is
-refused may not have been tried, so its page goes into the next check. Pages that meet in a function go into different
-checks. A page that changes more than bodies, or on which the company gave no clear answer, goes into a check of its own,
-and there the whole check's answer counts."""
+A function's proof cites what the others state, and not their bodies. So pages that change the bodies of different
+functions can share a check: a page is refused only if a function that it changes is refused for itself. A function
+whose callee is refused may not have been tried, so its page goes into the next check. Pages that meet in a function go
+into different checks. A page that changes more than bodies, or on which a shared check gave no clear answer, goes into
+a check of its own, and there the whole check's answer counts."""
 
 from dataclasses import dataclass, field
 
@@ -63,7 +63,8 @@ class Trial:
             self.judge(batch, answer)
             settled = sum(bool(it.kind) for it in batch)
             functions = len(set().union(*[it.place.functions for it in batch]))
-            self.say(f"  a check of {len(batch)} pages over {functions} functions: {settled} settled, {answer.seconds:.0f} processor seconds")
+            told = f"{len(batch)}, functions {functions}, settled {settled}; {answer.seconds:.0f} processor seconds"
+            self.say(f"  pages in a check: {told}")
             if not settled and not any(it.is_alone for it in batch):
                 for it in batch:
                     it.is_alone = True
@@ -138,7 +139,7 @@ def judge_alone(case, answer):
         case.settle(REFUSED, "a lemma of proofs/")
     elif answer.is_at_limit:
         case.settle(REFUSED, f"`{sorted(answer.undecided or ['the prover'])[0]}`, by a limit of the prover alone")
-    elif answer.error_lines and "killed" not in answer.complaint:
+    elif answer.is_uncompiled:
         case.settle(FAULTY, f"it doesn't compile: {answer.complaint}")
     else:
         case.settle(UNTRIED, answer.complaint)
