@@ -7,7 +7,8 @@
                                      current, and fails with the names of the crates that have to be tried again
 
 A trial begins with what `rt check` of the crate kept in its out/, and needs the libraries below it built: it says which
-are missing. A page that is proved, doesn't apply or doesn't compile is an error with its name.
+are missing. A page that is proved, doesn't apply or doesn't compile is an error with its name. What another toolchain
+tried is tried again; --current only tells of it.
 
 Examples:
   tools/wrong_bodies.py hw_endorse hw_forks
@@ -83,7 +84,7 @@ def look(crate, known):
 
 
 def tell_of_kits(crates):
-    """Says which records were made with another toolchain than the one here. They stay current: sources are the same."""
+    """Says which records were made with another toolchain. They stay current, since their sources are the same."""
     try:
         kit = Toolchain().line()
     except CheckError:
