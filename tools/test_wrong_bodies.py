@@ -3,6 +3,7 @@
 import contextlib
 import io
 import os
+import re
 import shutil
 import sys
 import tempfile
@@ -498,6 +499,34 @@ class Libraries(InRepository):
         words = rattle_checks.Toolchain().words(self.top, "/kept", 2)
         self.assertIn(f"low={self.root}/crates/low/out/rlib/low.rlib", words)
         self.assertEqual(words[-4:], ["--jobs", "2", "--incremental", "/kept"])
+
+
+def built_interfaces():
+    """Returns the libraries of this repository that are built as they stand, with the toolchain's own interface."""
+    found = []
+    for crate in crates_of(wrong_bodies.ROOT).values():
+        folder = f"{rattle_checks.rlib_of(crate)}/interface/lang/src"
+        if os.path.isdir(folder) and not rattle_checks.is_older(crate):
+            found.append((crate, folder))
+    return found
+
+
+class AgainstTheToolchain(unittest.TestCase):
+    """What the toolchain gives the crates above of a built library is in the interface that the records hang on."""
+
+    HEADS = re.compile(r"\b(?:fn|struct|enum|trait|const|type|static) (\w+)")
+
+    def heads(self, folder, parts, read):
+        texts = [read(rattle_sources.text_of(f"{folder}/{it}")) for it in rattle_sources.files_of(folder, parts)]
+        return {name for text in texts for name in self.HEADS.findall(text)}
+
+    @unittest.skipUnless(built_interfaces(), "no library is built here")
+    def test_no_head_is_lost(self):
+        for crate, folder in built_interfaces():
+            theirs = self.heads(folder, ["."], str)
+            ours = self.heads(crate.folder, ["src"], interface_of)
+            self.assertTrue(theirs, crate.name)
+            self.assertEqual(theirs - ours, set(), crate.name)
 
 
 if __name__ == "__main__":
