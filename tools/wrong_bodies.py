@@ -121,14 +121,14 @@ class Run:
 
     def try_crate(self, crate, jobs):
         """Tries what isn't current of a crate's pages, writes its record, and returns the lines to print."""
-        lines, began = [], time.monotonic()
+        began = time.monotonic()
         pages, faults = pages_of(crate)
         self.errors += faults
         base, record = tried_record.base_of(crate, self.known), tried_record.read(crate)
         is_whole = self.anew or record.kit != self.kit
         old = {it.name for it in pages} if is_whole else {*tried_record.stale(pages, record, base)}
         bench = Bench(crate, self.toolchain, jobs)
-        trial = Trial(crate, bench.check, lines.append)
+        trial = Trial(crate, bench.check, lambda said: print(f"{crate.name}: {said}", flush=True))
         for page in pages:
             if page.name in old:
                 trial.add(page)
@@ -141,7 +141,7 @@ class Run:
             return [f"{crate.name}: {len(pages)} pages, all current"]
         clock = time.monotonic() - began
         spent = f"{bench.checks} checks, {bench.seconds:.0f} processor seconds, {clock:.0f} by the clock"
-        return [f"{crate.name}: {len(old)} of {len(pages)} pages tried: {spent}", *lines, *self.tell(crate, trial)]
+        return [f"{crate.name}: {len(old)} of {len(pages)} pages tried: {spent}", *self.tell(crate, trial)]
 
     def make_ready(self, crate):
         """Sees that the libraries below a crate are built, and as new as their sources."""

@@ -64,7 +64,7 @@ class Trial:
             settled = sum(bool(it.kind) for it in batch)
             functions = len(set().union(*[it.place.functions for it in batch]))
             told = f"{len(batch)}, functions {functions}, settled {settled}; {answer.seconds:.0f} processor seconds"
-            self.say(f"  pages in a check: {told}")
+            self.say(f"pages in a check: {told}")
             if not settled and not any(it.is_alone for it in batch):
                 for it in batch:
                     it.is_alone = True
