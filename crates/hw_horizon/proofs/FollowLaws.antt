@@ -12,12 +12,11 @@ use Rattle.hw_dag.specs.declared.numbers.View.TheVariants as view
 use Rattle.hw_dag.specs.Dag.{UnitGraph, unit_at, count_of, seq_of, view_at}
 use Rattle.hw_dag.specs.Admission.{IsGraph}
 use Rattle.hw_dag.specs.Lanes.{is_lane_below}
-use Rattle.hw_dag.specs.Tables.{predecessor_of}
 use Rattle.hw_horizon.specs.Starts.{votes_over}
 use Rattle.hw_horizon.specs.Firsts.{is_after, sees_after, weight_after, has_quorum}
-use Rattle.hw_horizon.specs.Bounds.{LevelBound, KeptBounds, AreBounds, tip_in, bound_of, first_of, support_of, counts_at, counts_over, IsFirstOf, IsBounded, AreLowered, AreSameBelow, IsOutside}
+use Rattle.hw_horizon.specs.Bounds.{LevelBound, KeptBounds, AreBounds, tip_in, bound_of, first_of, support_of, counts_at, counts_over, IsFirstOf, IsBounded, AreLowered, AreSameBelow, IsOutside, IsGap}
 use Rattle.hw_horizon.specs.declared.follow.Span.{Span}
-use Rattle.hw_horizon.proofs.LaneLaws.{lane_self, lane_same, lane_lower, lane_above, before_is, first_is}
+use Rattle.hw_horizon.proofs.LaneLaws.{lane_self, lane_same, lane_lower, lane_above}
 use Rattle.hw_horizon.proofs.BoundLaws.{lane_earlier, lane_order}
 
 -- ---- the walk down a lane
@@ -37,55 +36,42 @@ module _ (dag : UnitGraph) (g : IsGraph dag) (tip : ℕ) (lt : tip < count_of da
   pub come_first : HasCome dag tip (2 ^ 32 - 1) tip
   come_first = record { known = lt; on_lane = lane_self dag g tip lt; less = last_less; after = λ n ln on less. lane_earlier dag g n tip ln lt on }
 
-  -- a unit of the lane before the one that the walk has come to is no later than the one before that
-  earlier_than : (at : ℕ) (before : UnitNo) → at < count_of dag → is_lane_below dag at tip ≡ true → predecessor_of (unit_at dag at) ≡ Some before → (n : ℕ) → n < count_of dag → is_lane_below dag n tip ≡ true → n < at → n ≤ before.0
-  earlier_than at before ln on e n lo there less =
-      let b = before_is dag g tip at before ln on e in
-      let next = b.next in
-      let order = lane_order dag g tip n at lt lo ln there on (omega arith) in
-      elim (cases_lt (seq_of (unit_at dag n)) (seq_of (unit_at dag at))) [
-        | inl down ↦ lane_earlier dag g n before.0 lo b.known (lane_lower dag g tip n before.0 lt lo b.known there b.on_lane (omega arith))
-        | inr le ↦ (let same = lane_same dag g tip n at lt lo ln there on (omega arith) in absurd (omega arith))
-      ]
-
-  before_less : (at : ℕ) (before : UnitNo) → at < count_of dag → is_lane_below dag at tip ≡ true → predecessor_of (unit_at dag at) ≡ Some before → before.0 < at
-  before_less at before ln on e =
-      let b = before_is dag g tip at before ln on e in
-      let next = b.next in
-      let low = lane_earlier dag g before.0 at b.known ln (lane_lower dag g tip before.0 at lt b.known ln b.on_lane on (omega arith)) in
-      elim (cases_lt before.0 at) [
-        | inl less ↦ less
-        | inr le ↦ (let same : before.0 ≡ at = omega arith in let seqs = ap (λ (k : ℕ). seq_of (unit_at dag k)) same in absurd (omega arith))
-      ]
-
-  pub come_further : (first at : ℕ) (before : UnitNo) → HasCome dag tip first at → predecessor_of (unit_at dag at) ≡ Some before → HasCome dag tip at before.0
-  come_further first at before h e =
-      let b = before_is dag g tip at before h.known h.on_lane e in record {
-        known = b.known;
-        on_lane = b.on_lane;
-        less = before_less at before h.known h.on_lane e;
-        after = λ n ln on less. earlier_than at before h.known h.on_lane e n ln on less;
-      }
-
   -- it ends at a unit that doesn't count
   pub come_stop : (counts : ℕ → Bool) (first at : ℕ) → HasCome dag tip first at → counts at ≡ false → IsFirstOf dag tip counts first
   come_stop counts first at h f = λ n ln on less. (at, h.known, h.on_lane, h.after n ln on less, h.less, f)
 
   -- or at the first unit of the lane
-  pub come_root : (counts : ℕ → Bool) (first at : ℕ) → HasCome dag tip first at → predecessor_of (unit_at dag at) ≡ None → IsFirstOf dag tip counts at
-  come_root counts first at h e = λ n ln on less.
-      let root = first_is dag g at h.known e in
-      let order = lane_order dag g tip n at lt ln h.known on h.on_lane (omega arith) in
-      let same = lane_same dag g tip n at lt ln h.known on h.on_lane (omega arith) in
+  pub root_first : (counts : ℕ → Bool) (at : ℕ) → at < count_of dag → is_lane_below dag at tip ≡ true → seq_of (unit_at dag at) ≤ 0 → IsFirstOf dag tip counts at
+  root_first counts at la on root = λ n ln there less.
+      let order = lane_order dag g tip n at lt ln la there on (omega arith) in
+      let same = lane_same dag g tip n at lt ln la there on (omega arith) in
       absurd (omega arith)
 
   -- or at a unit from which the first one is known
-  pub come_known : (counts : ℕ → Bool) (first at known : ℕ) (before : UnitNo) → HasCome dag tip first at → predecessor_of (unit_at dag at) ≡ Some before → known ≤ before.0 → IsFirstOf dag before.0 counts known → IsFirstOf dag tip counts known
-  come_known counts first at known before h e le is = λ n ln on less.
-      let b = before_is dag g tip at before h.known h.on_lane e in
-      let order = lane_order dag g tip n before.0 lt ln b.known on b.on_lane (omega arith) in
-      let m = is n ln (lane_lower dag g tip n before.0 lt ln b.known on b.on_lane order) less in
-      (m.0, m.1, lane_above dag g tip m.0 before.0 m.1 b.known m.2 b.on_lane, m.3, m.4, m.5)
+  pub known_first : (counts : ℕ → Bool) (at known : ℕ) → at < count_of dag → is_lane_below dag at tip ≡ true → known ≤ at → IsFirstOf dag at counts known → IsFirstOf dag tip counts known
+  known_first counts at known la on le is = λ n ln there less.
+      let order = lane_order dag g tip n at lt ln la there on (omega arith) in
+      let m = is n ln (lane_lower dag g tip n at lt ln la there on order) less in
+      (m.0, m.1, lane_above dag g tip m.0 at m.1 la m.2 on, m.3, m.4, m.5)
+
+  -- or behind a unit that doesn't count
+  pub gap_first : (counts : ℕ → Bool) (last first : ℕ) → IsGap dag tip counts last first → seq_of (unit_at dag first) ≤ seq_of (unit_at dag last) + 1 → IsFirstOf dag tip counts first
+  gap_first counts last first gap near = λ n ln there less.
+      let lk = gap.last_known in
+      let fk = gap.first_known in
+      let up = gap.order in
+      let order = lane_order dag g tip n first lt ln fk there gap.first_on_lane (omega arith) in
+      let below : seq_of (unit_at dag n) ≤ seq_of (unit_at dag last) = elim (cases_lt (seq_of (unit_at dag n)) (seq_of (unit_at dag first))) [
+        | inl down ↦ omega arith
+        | inr le ↦ absurd (let same = lane_same dag g tip n first lt ln fk there gap.first_on_lane (omega arith) in omega arith)
+      ] in
+      let earlier = lane_earlier dag g n last ln lk (lane_lower dag g tip n last lt ln lk there gap.last_on_lane below) in
+      let before = lane_earlier dag g last first lk fk (lane_lower dag g tip last first lt lk fk gap.last_on_lane gap.first_on_lane (omega arith)) in
+      let less_than : last < first = elim (cases_lt last first) [
+        | inl is ↦ is
+        | inr ge ↦ absurd (let one : last ≡ first = omega arith in let seqs = ap (λ (k : ℕ). seq_of (unit_at dag k)) one in omega arith)
+      ] in
+      (last, lk, gap.last_on_lane, earlier, less_than, gap.fails)
 
   -- where the last unit doesn't count, none does
   pub none_first : (counts : ℕ → Bool) → counts tip ≡ false → IsFirstOf dag tip counts (2 ^ 32 - 1)

@@ -9,6 +9,7 @@ pub mod StrikeLaws
 pub mod SearchLaws
 pub mod WeightLaws
 pub mod WalkLaws
+pub mod FenceLaws
 pub mod LesserLaws
 pub mod BoundLaws
 pub mod FollowLaws

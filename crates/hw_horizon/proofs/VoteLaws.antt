@@ -10,7 +10,7 @@ use Rattle.hw_dag.specs.Admission.{IsGraph}
 use Rattle.hw_dag.specs.Lanes.{AreWeights, is_lane_below}
 use Rattle.hw_forks.specs.Walk.{is_over}
 use Rattle.hw_forks.proofs.AncestorLaws.{over_anc, anc_over}
-use Rattle.hw_horizon.specs.Starts.{IsStart, IsLeastStart, IsEarlierVote, votes_over}
+use Rattle.hw_horizon.specs.Starts.{IsStart, IsLeastStart, IsWalked, IsEarlierVote, votes_over}
 use Rattle.hw_horizon.proofs.LaneLaws.{lane_self, lane_same, lane_most, lane_lower, lane_above, before_is, first_is}
 use Rattle.hw_forks.proofs.DefinedLaws.{vote_at, defined_anc, anc_defined}
 use Rattle.hw_types.proofs.HeightLaws.{past_short}
@@ -41,13 +41,6 @@ vote_known dag g n lt = go (is_block (node_at dag n)) refl
     go false f = (g.settled n lt).fork.known (unit_at dag n).vote (ap (λ (b : Bool). cond b (unit_at dag n).parent (Some (unit_at dag n).vote)) f)
 
 -- ---- the walk down a lane
-
--- each unit of the lane from this one on passes
-pub record IsWalked (dag : UnitGraph) (tip : ℕ) (passes : ℕ → Bool) (first : ℕ) : Type 0 where
-  pub known : first < count_of dag
-  pub on_lane : is_lane_below dag first tip ≡ true
-  pub up_to : seq_of (unit_at dag first) ≤ seq_of (unit_at dag tip)
-  pub each : (n : ℕ) → n < count_of dag → is_lane_below dag n tip ≡ true → seq_of (unit_at dag first) ≤ seq_of (unit_at dag n) → passes n ≡ true
 
 module _ (dag : UnitGraph) (g : IsGraph dag) (tip : ℕ) (lt : tip < count_of dag) (block : ℕ) where
   abbrev passes : ℕ → Bool

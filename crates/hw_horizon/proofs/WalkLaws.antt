@@ -3,6 +3,7 @@ use Rattle.std.proofs.Common.{◌≡◌, ℕ, ◌<◌, inl, inr, true, List, len
 use Rattle.std.proofs.lemmas.Bool.{cases_eq}
 use Rattle.hw_types.specs.Graph.{Node, lane_of}
 use Rattle.hw_types.specs.Below.{Among}
+use Rattle.hw_types.specs.Votes.{is_block}
 use Rattle.hw_types.proofs.StableLaws.{both_ways}
 use Rattle.hw_dag.specs.declared.numbers.UnitNo.{UnitNo}
 use Rattle.hw_dag.specs.Dag.{SettledUnit, UnitGraph, unit_at, count_of, node_at, graph, seq_of, GrowsTo}
@@ -15,8 +16,9 @@ use Rattle.hw_dag.proofs.GrowthLaws.{count_grows, unit_stays, node_stays, lane_s
 use Rattle.hw_forks.specs.Walk.{is_over}
 use Rattle.hw_forks.proofs.AncestorLaws.{over_anc, anc_over}
 use Rattle.hw_horizon.specs.declared.kept.Walk.{Walk}
-use Rattle.hw_horizon.specs.Starts.{IsStart, votes_over}
-use Rattle.hw_horizon.specs.Kept.{KeptWalks, walk_of, walk_from, IsWalk, AreWalks}
+use Rattle.hw_horizon.specs.declared.fences.Fence.{Fence}
+use Rattle.hw_horizon.specs.Starts.{IsStart, IsWalked, votes_over}
+use Rattle.hw_horizon.specs.Kept.{KeptWalks, walk_of, walk_from, IsWalk, AreWalks, IsFence}
 use Rattle.hw_horizon.specs.Laws.{WalksStay}
 use Rattle.hw_horizon.proofs.VoteLaws.{vote_known}
 
@@ -101,5 +103,37 @@ module _ (dag later : UnitGraph) (g : IsGraph dag) (h : IsGraph later) (grows : 
         };
       }
 
+  walked_stays : (tip block first : ℕ) → tip < count_of dag → IsWalked dag tip (votes_over dag block) first → IsWalked later tip (votes_over later block) first
+  walked_stays tip block first lt w =
+      let more = count_grows dag later grows in
+      let known = w.known in
+      let up = w.up_to in
+      let low = seq_stays first known in
+      let last = seq_stays tip lt in
+      record {
+        known = omega arith;
+        on_lane = is_lane_below_stays dag later grows g h.distinct first tip known lt ∙ w.on_lane;
+        up_to = omega arith;
+        each = λ n ln t le.
+            let was = lane_was tip n lt ln t in
+            let same = seq_stays n was in
+            votes_stay block n was ∙ w.each n was (sym (is_lane_below_stays dag later grows g h.distinct n tip was lt) ∙ t) (omega arith);
+      }
+
+  fence_stays : (fence : Fence) → IsFence dag fence → IsFence later fence
+  fence_stays fence k =
+      let more = count_grows dag later grows in
+      let known = k.known in
+      let block = k.block_known in
+      record {
+        known = omega arith;
+        block_known = omega arith;
+        block = ap (λ (z : Node). is_block z) (node_stays dag later grows fence.block.0 block) ∙ k.block;
+        walked = walked_stays fence.tip.0 fence.block.0 fence.first.0 known k.walked;
+      }
+
 pub walks_stay : WalksStay
-walks_stay dag later g h grows kept are block e v walk w = walk_stays dag later g h grows block.0 walk (are block e v walk w)
+walks_stay dag later g h grows kept are = record {
+  walks = λ block e v walk w. walk_stays dag later g h grows block.0 walk (are.walks block e v walk w);
+  fences = λ k fence e. fence_stays dag later g h grows fence (are.fences k fence e);
+}

@@ -1,11 +1,11 @@
 -- What is kept to say early that a block has no summit: for each level, before which unit of its lane nobody is in a committee, and what
 -- each latest unit sees of those who may be.
-use Rattle.std.specs.Prelude.{◌≡◌, ℕ, zero, suc, ◌<◌, ◌≤◌, ◌⊎◌, Bool, false, true, nat_le, List, [], length, Option, Some, None, slice_index_or, if◌then◌else◌}
+use Rattle.std.specs.Prelude.{◌≡◌, ℕ, zero, suc, ◌+◌, ◌<◌, ◌≤◌, ◌⊎◌, Bool, false, true, nat_le, List, [], length, Option, Some, None, slice_index_or, if◌then◌else◌}
 use Rattle.hw_types.specs.Votes.{weight_of}
 use Rattle.hw_dag.specs.declared.numbers.UnitNo.{UnitNo}
 use Rattle.hw_dag.specs.declared.numbers.View.{View}
 use Rattle.hw_dag.specs.declared.numbers.View.TheVariants as view
-use Rattle.hw_dag.specs.Dag.{UnitGraph, count_of, view_at}
+use Rattle.hw_dag.specs.Dag.{UnitGraph, count_of, unit_at, seq_of, view_at}
 use Rattle.hw_dag.specs.Lanes.{is_lane_below}
 use Rattle.hw_horizon.specs.Firsts.{weight_after, has_quorum}
 use Rattle.hw_horizon.specs.Starts.{votes_over}
@@ -105,6 +105,22 @@ AreLowered old new low = (v : ℕ) → (first_of old v ≤ first_of new v) ⊎ (
 -- each first unit is the one before, or neither of the two is less than this number
 abbrev pub AreSameBelow : LevelBound → LevelBound → ℕ → Type 0
 AreSameBelow old new low = (v : ℕ) → (first_of old v ≡ first_of new v) ⊎ ((low ≤ first_of old v) × (low ≤ first_of new v))
+
+-- two units of a lane, of which the earlier one doesn't count
+pub record IsGap (dag : UnitGraph) (tip : ℕ) (counts : ℕ → Bool) (last first : ℕ) : Type 0 where
+  pub last_known : last < count_of dag
+  pub last_on_lane : is_lane_below dag last tip ≡ true
+  pub first_known : first < count_of dag
+  pub first_on_lane : is_lane_below dag first tip ≡ true
+  pub order : seq_of (unit_at dag last) < seq_of (unit_at dag first)
+  pub fails : counts last ≡ false
+
+-- a unit before the other on its lane, by no more than that many units, where that is one at least
+pub record IsBack (dag : UnitGraph) (n step found : ℕ) : Type 0 where
+  pub known : found < count_of dag
+  pub on_lane : is_lane_below dag found n ≡ true
+  pub before : seq_of (unit_at dag found) < seq_of (unit_at dag n)
+  pub near : 1 ≤ step → seq_of (unit_at dag n) ≤ seq_of (unit_at dag found) + step
 
 -- the validator is before or behind the span
 abbrev pub IsOutside : Span → ℕ → Type 0

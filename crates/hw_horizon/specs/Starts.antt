@@ -19,6 +19,13 @@ pub record IsLeastStart (dag : UnitGraph) (tip floor : ℕ) (passes : ℕ → Bo
   -- it is the floor, or the unit before it doesn't pass
   pub least : (start ≡ floor) ⊎ ((n : ℕ) × (n < count_of dag) × (is_lane_below dag n tip ≡ true) × (passes n ≡ false) × (seq_of (unit_at dag n) + 1 ≡ start))
 
+-- each unit of the lane from this one on passes
+pub record IsWalked (dag : UnitGraph) (tip : ℕ) (passes : ℕ → Bool) (first : ℕ) : Type 0 where
+  pub known : first < count_of dag
+  pub on_lane : is_lane_below dag first tip ≡ true
+  pub up_to : seq_of (unit_at dag first) ≤ seq_of (unit_at dag tip)
+  pub each : (n : ℕ) → n < count_of dag → is_lane_below dag n tip ≡ true → seq_of (unit_at dag first) ≤ seq_of (unit_at dag n) → passes n ≡ true
+
 -- the start of a lane, or none: then its last unit comes before the floor or doesn't pass
 abbrev pub IsStart : UnitGraph → ℕ → ℕ → (ℕ → Bool) → Option ℕ → Type 0
 IsStart dag tip floor passes None = (seq_of (unit_at dag tip) < floor) ⊎ (passes tip ≡ false)

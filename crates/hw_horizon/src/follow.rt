@@ -1,16 +1,16 @@
 //! How the bound of a level follows the panorama.
 
 ghost use Rattle.std.specs.Prelude.{◌≡◌, ℕ, ◌<◌, ◌≤◌, ◌+◌, ◌⊎◌, ◌^◌, ◌-◌, length, true, false, Some, None, slice_index_or, IsTrue};
-ghost use Rattle.hw_dag.specs.Dag.{IsPanorama, count_of, view_at, unit_at};
+ghost use Rattle.hw_dag.specs.Dag.{IsPanorama, count_of, view_at, unit_at, seq_of};
 ghost use Rattle.hw_dag.specs.Admission.{IsGraph};
 ghost use Rattle.hw_dag.specs.Lanes.{AreWeights};
-ghost use Rattle.hw_dag.specs.Tables.{predecessor_of};
 ghost use Rattle.hw_dag.specs.declared.numbers.UnitNo.{UnitNo as Number};
 ghost use Rattle.hw_horizon.specs.Firsts.{weight_after};
-ghost use Rattle.hw_horizon.specs.Bounds.{first_of, support_of, tip_in, counts_over, IsFirstOf, AreLowered, AreSameBelow, IsOutside};
+ghost use Rattle.hw_horizon.specs.Bounds.{first_of, support_of, tip_in, counts_over, IsFirstOf, AreLowered, AreSameBelow, IsOutside, IsGap, IsBack};
 
 use crate::bounds::Bound;
 use crate::firsts::NO_UNIT;
+use crate::jumps::lane_at;
 use crate::quorums::{has_quorum, weight_after};
 use crate::votes::votes_for;
 use hw_dag::{Dag, Panorama, UnitNo, View};
@@ -261,7 +261,9 @@ fn next_first(
     )
 }
 
-// The first unit, by a walk down the lane for as long as its units count.
+// The first unit, by a search down the lane: in steps that double for as long as the units count, and then
+// by bisection between the last two. Where the units that count are the last ones of the lane, as those are
+// that see a quorum, it is the first of them.
 fn walk(
     lower: &Bound,
     is_votes: bool,
@@ -283,19 +285,83 @@ fn walk(
     requires kept { (no : Number) → kept ≡ Some no → known_first ≤ low → IsFirstOf dag.now no.0 (counts_over weights.now dag.now block.0 least is_votes lower.now.firsts) known_first }
     ensures { IsFirstOf dag.now tip.0 (counts_over weights.now dag.now block.0 least is_votes lower.now.firsts) result }
 {
-    let mut first = NO_UNIT;
-    let mut no = tip;
-    while counts(lower, is_votes, dag, weights, no, block, least) {
-        first = no.0;
-        let Some(before) = predecessor(dag, no) else {
-            return first;
-        };
-        if is_known_from(kept, before, known_first, low) {
+    if !counts(lower, is_votes, dag, weights, tip, block, least) {
+        return NO_UNIT;
+    }
+    let mut first = tip;
+    let mut step = 1;
+    while 0 < seq_of(dag, first) {
+        let no = back(dag, first, step);
+        if is_known_from(kept, no, known_first, low) {
             return known_first;
         }
-        no = before;
+        if !counts(lower, is_votes, dag, weights, no, block, least) {
+            return bisect(lower, is_votes, dag, weights, tip, no, first, block, least);
+        }
+        first = no;
+        step = step.saturating_mul(2);
     }
-    first
+    first.0
+}
+
+// The number of a unit between the two of the lane, or of the latter, whose predecessor doesn't count.
+fn bisect(
+    lower: &Bound,
+    is_votes: bool,
+    dag: &Dag,
+    weights: &[u64],
+    tip: UnitNo,
+    outside: UnitNo,
+    inside: UnitNo,
+    block: UnitNo,
+    least: u64,
+) -> u32
+    requires graph { IsGraph dag.now }
+    requires weights { AreWeights weights.now dag.now }
+    requires block_known { block.0 < count_of dag.now }
+    requires lower_firsts { length lower.now.firsts ≡ dag.now.validators }
+    requires tip_known { tip.0 < count_of dag.now }
+    requires gap { IsGap dag.now tip.0 (counts_over weights.now dag.now block.0 least is_votes lower.now.firsts) outside.0 inside.0 }
+    ensures { IsFirstOf dag.now tip.0 (counts_over weights.now dag.now block.0 least is_votes lower.now.firsts) result }
+{
+    let mut last = outside;
+    let mut first = inside;
+    while 1 < seq_of(dag, first) - seq_of(dag, last) {
+        let no = back(dag, first, half(seq_of(dag, first) - seq_of(dag, last)));
+        if counts(lower, is_votes, dag, weights, no, block, least) {
+            first = no;
+        } else {
+            last = no;
+        }
+    }
+    first.0
+}
+
+// Half of a number above 1.
+fn half(number: u64) -> u64
+    requires { 1 < number }
+    ensures some { 1 ≤ result }
+    ensures less { result < number }
+{
+    number / 2
+}
+
+// The unit so many units back on the lane, at least one, or the first one.
+fn back(dag: &Dag, no: UnitNo, step: u64) -> UnitNo
+    requires known { no.0 < count_of dag.now }
+    requires later { 0 < seq_of (unit_at dag.now no.0) }
+    ensures { IsBack dag.now no.0 step result.0 }
+{
+    let seq = seq_of(dag, no);
+    lane_at(dag, no, seq.saturating_sub(step).min(seq - 1))
+}
+
+// The number of the unit on its lane.
+fn seq_of(dag: &Dag, no: UnitNo) -> u64
+    requires known { no.0 < count_of dag.now }
+    ensures { result ≡ seq_of (unit_at dag.now no.0) }
+{
+    dag.unit(no).signed().unit.seq
 }
 
 // Whether the unit may count: it votes for the block or a descendant of it, or sees the least quorum.
@@ -319,19 +385,6 @@ fn counts(
         votes_for(dag, no, block)
     } else {
         has_quorum(dag, weights, no, least, lower.firsts())
-    }
-}
-
-// The unit before it on its lane.
-fn predecessor(dag: &Dag, no: UnitNo) -> Option<UnitNo>
-    requires known { no.0 < count_of dag.now }
-    requires graph { IsGraph dag.now }
-    ensures { result ≡ predecessor_of (unit_at dag.now no.0) }
-{
-    let unit = dag.unit(no);
-    match unit.panorama().get(unit.signed().unit.creator) {
-        View::Correct(before) => Some(before),
-        View::Absent | View::Faulty => None,
     }
 }
 

@@ -3,12 +3,14 @@
 //!
 //! A table has the start of each member of a committee. That of level 0 is found by a walk down each
 //! lane for as long as its units vote for the block. What it found is kept, so when the same block is
-//! asked again only new units of a lane are looked at. From there each level is pruned out of the one
-//! below it: members whose latest unit sees no quorum of those still there fall one after the other, until
-//! no more do or those who are left weigh less than one, even amid a round. Then their starts are found by
-//! bisection, since the units of a lane that see a quorum are its last ones. The tables of all levels stay
-//! as they are until the next search. Who only asks whether there is a summit saves the starts of its
-//! level.
+//! asked again only new units of a lane are looked at. Fences are kept for blocks above it, from which the
+//! walk for the next block goes down, so that a climb over many blocks doesn't pass each lane once a block.
+//!
+//! Each level above is pruned out of the one below it: members whose latest unit sees no quorum of those
+//! still there fall one after the other, until no more do or those who are left weigh less than one, even
+//! amid a round. Then their starts are found by bisection, since the units of a lane that see a quorum are
+//! its last ones. The tables of all levels stay as they are until the next search. Who only asks whether
+//! there is a summit saves the starts of its level.
 //!
 //! Mostly there is no summit, and bounds that are kept say so early: for each level before which unit
 //! nobody is in a committee, and what each latest unit sees of the units from there on. They follow the
@@ -17,6 +19,7 @@
 #![tactic(auto)]
 
 mod bounds;
+mod fences;
 mod firsts;
 mod follow;
 mod horizons;

@@ -1,21 +1,51 @@
-use Rattle.std.proofs.Common.{sym, ◌∙◌}
+use Rattle.std.proofs.Common.{sym, ◌∙◌, arith}
 use Rattle.hw_horizon.specs.Bounds.{counts_over}
-use Rattle.hw_horizon.proofs.FollowLaws.{come_first, come_further, come_root, come_known}
+use Rattle.hw_horizon.proofs.LaneLaws.{lane_self, lane_above}
+use Rattle.hw_horizon.proofs.FollowLaws.{none_first, root_first, known_first}
 use Rattle.hw_horizon.proofs.follow.walk.Goals as goal
 
-pub loop-first-init : goal.loop-first-init
-loop-first-init c = come_first c.args.dag.now c.requires.graph c.args.tip.0 c.requires.tip_known
+pub returns-then-not-counts : goal.returns-then-not-counts
+returns-then-not-counts c =
+    none_first c.args.dag.now c.requires.graph c.args.tip.0 c.requires.tip_known (counts_over c.args.weights.now c.args.dag.now c.args.block.0 c.args.least c.args.is_votes c.args.lower.now.firsts)
+    (sym c.counts.ensures ∙ c.if-not-counts.true)
 
-pub returns-in_default : goal.returns-in_default
-returns-in_default c =
-    come_root c.args.dag.now c.requires.graph c.args.tip.0 c.requires.tip_known (counts_over c.args.weights.now c.args.dag.now c.args.block.0 c.args.least c.args.is_votes c.args.lower.now.firsts) c.loop-first.first c.loop-first.no.0 c.loop-first.invariant
-    (sym c.predecessor.ensures ∙ c.in_default.is)
+pub loop-tip-init : goal.loop-tip-init
+loop-tip-init c = record { known = c.requires.tip_known; on_lane = lane_self c.args.dag.now c.requires.graph c.args.tip.0 c.requires.tip_known }
 
 pub returns-then-is_known_from : goal.returns-then-is_known_from
 returns-then-is_known_from c =
-    come_known c.args.dag.now c.requires.graph c.args.tip.0 c.requires.tip_known (counts_over c.args.weights.now c.args.dag.now c.args.block.0 c.args.least c.args.is_votes c.args.lower.now.firsts) c.loop-first.first c.loop-first.no.0 c.args.known_first c.in-Some.before
-    c.loop-first.invariant (sym c.predecessor.ensures ∙ c.in-Some.is) (c.is_known_from.ensures.earlier c.if-is_known_from.true)
-    (c.requires.kept c.in-Some.before (c.is_known_from.ensures.kept c.if-is_known_from.true) (c.is_known_from.ensures.low c.if-is_known_from.true))
+    let i = c.loop-tip.invariant in
+    let back = c.back-no.ensures in
+    known_first c.args.dag.now c.requires.graph c.args.tip.0 c.requires.tip_known (counts_over c.args.weights.now c.args.dag.now c.args.block.0 c.args.least c.args.is_votes c.args.lower.now.firsts) c.back-no.result.0 c.args.known_first back.known
+    (lane_above c.args.dag.now c.requires.graph c.args.tip.0 c.back-no.result.0 c.loop-tip.first.0 back.known i.known back.on_lane i.on_lane)
+    (c.is_known_from.ensures.earlier c.if-is_known_from.true)
+    (c.requires.kept c.back-no.result (c.is_known_from.ensures.kept c.if-is_known_from.true) (c.is_known_from.ensures.low c.if-is_known_from.true))
 
-pub loop-first-preserved : goal.loop-first-preserved
-loop-first-preserved c = come_further c.args.dag.now c.requires.graph c.args.tip.0 c.requires.tip_known c.loop-first.first c.loop-first.no.0 c.in-Some.before c.loop-first.invariant (sym c.predecessor.ensures ∙ c.in-Some.is)
+pub bisect-requires-clause-gap : goal.bisect-requires-clause-gap
+bisect-requires-clause-gap c =
+    let i = c.loop-tip.invariant in
+    let back = c.back-no.ensures in
+    record {
+      last_known = back.known;
+      last_on_lane = lane_above c.args.dag.now c.requires.graph c.args.tip.0 c.back-no.result.0 c.loop-tip.first.0 back.known i.known back.on_lane i.on_lane;
+      first_known = i.known;
+      first_on_lane = i.on_lane;
+      order = back.before;
+      fails = sym c.counts-in-loop-tip.ensures ∙ c.if-not-counts-2.true;
+    }
+
+pub loop-tip-preserved : goal.loop-tip-preserved
+loop-tip-preserved c =
+    let i = c.loop-tip.invariant in
+    let back = c.back-no.ensures in
+    record {
+      known = back.known;
+      on_lane = lane_above c.args.dag.now c.requires.graph c.args.tip.0 c.back-no.result.0 c.loop-tip.first.0 back.known i.known back.on_lane i.on_lane;
+    }
+
+pub returns : goal.returns
+returns c =
+    let i = c.loop-tip.invariant in
+    let seq = c.seq_of.ensures in
+    let none = c.loop-tip-test.false in
+    root_first c.args.dag.now c.requires.graph c.args.tip.0 c.requires.tip_known (counts_over c.args.weights.now c.args.dag.now c.args.block.0 c.args.least c.args.is_votes c.args.lower.now.firsts) c.loop-tip.first.0 i.known i.on_lane (omega arith)

@@ -1,11 +1,14 @@
-use Rattle.std.proofs.Common.{sym, ◌∙◌}
+use Rattle.std.proofs.Common.{List, Option, set, ap, sym, subst, ◌∙◌}
+use Rattle.hw_horizon.specs.declared.fences.Fence.{Fence}
+use Rattle.hw_horizon.specs.Kept.{KeptWalks, AreFences, walk_from}
 use Rattle.hw_horizon.proofs.WalkLaws.{walks_more}
 use Rattle.hw_horizon.proofs.votes.slot_start.Goals as goal
 
-pub vote_start-start-requires-clause-kept : goal.vote_start-start-requires-clause-kept
-vote_start-start-requires-clause-kept c = λ walk e. c.requires.kept c.args.validator walk (sym c.get.ensures ∙ e)
-
 pub returns-in-Correct-clause-kept : goal.returns-in-Correct-clause-kept
 returns-in-Correct-clause-kept c =
-    walks_more c.args.dag.now c.args.block.0 c.args.kept.now c.keep.new.self c.args.validator c.in-Correct.tip c.vote_start-start.result c.requires.within c.requires.kept c.keep.ensures.walks
-    (c.requires.known c.in-Correct.tip c.in-Correct.is) c.vote_start-start.ensures
+    walks_more c.args.dag.now c.args.block.0 c.args.kept.now c.keep.new.self c.args.validator c.in-Correct.tip c.vote_start-start.result c.requires.within c.requires.kept
+    (c.keep.ensures.walks ∙ ap (λ (k : KeptWalks). set k.walks c.args.validator (walk_from c.in-Correct.tip c.vote_start-start.result)) c.vote_start-start.ensures.rest)
+    (c.requires.known c.in-Correct.tip c.in-Correct.is) c.vote_start-start.ensures.start
+
+pub returns-in-Correct-clause-fences : goal.returns-in-Correct-clause-fences
+returns-in-Correct-clause-fences c = subst (λ (fs : List (Option Fence)). AreFences c.args.dag.now fs) (sym c.keep.ensures.fences) c.vote_start-start.ensures.fences

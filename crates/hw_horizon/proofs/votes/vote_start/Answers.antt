@@ -1,32 +1,26 @@
-use Rattle.std.proofs.Common.{◌≡◌, ℕ, None, Option, subst, sym, ap, ◌∙◌}
-use Rattle.hw_types.specs.declared.unit.SignedUnit.{SignedUnit}
+use Rattle.std.proofs.Common.{sym, subst, ◌∙◌}
 use Rattle.hw_dag.specs.declared.numbers.UnitNo.{UnitNo}
-use Rattle.hw_dag.specs.Dag.{SettledUnit, unit_at, seq_of}
-use Rattle.hw_horizon.specs.Starts.{IsLeastStart, IsEarlierVote, votes_over}
-use Rattle.hw_horizon.proofs.VoteLaws.{walked_first, walked_more, walked_down, walked_start, walked_known}
+use Rattle.hw_horizon.specs.Kept.{KeptWalks, AreFences}
+use Rattle.hw_horizon.specs.Starts.{IsWalked, votes_over}
+use Rattle.hw_horizon.proofs.VoteLaws.{walked_first}
 use Rattle.hw_horizon.proofs.votes.vote_start.Goals as goal
+use Rattle.hw_horizon.proofs.votes.vote_start.Goals.{in-Some-walk, in-None}
 
-pub loop-before-init : goal.loop-before-init
-loop-before-init c = walked_first c.args.dag.now c.requires.graph c.args.tip.0 c.requires.known c.args.block.0 (sym c.votes_for.ensures ∙ c.if-not-votes_for.false)
+pub returns-in-Some-clause-start : goal.returns-in-Some-clause-start
+returns-in-Some-clause-start c = (c.requires.kept c.args.validator _ (sym c.get-walk.ensures ∙ c.in-Some.ensures)).start_is
 
-pub loop-before-smaller : goal.loop-before-smaller
-loop-before-smaller c = walked_down c.args.dag.now c.requires.graph c.args.tip.0 c.requires.known c.args.block.0 c.loop-before.first.0 c.in-Some-earlier_vote.before c.loop-before.invariant c.in-Some-earlier_vote.ensures
+pub start_below-requires-clause-near : goal.start_below-requires-clause-near
+start_below-requires-clause-near c = elim c.match-walk.branch [
+  | in-Some-walk w ↦ subst (λ (n : UnitNo). IsWalked c.args.dag.now c.args.tip.0 (votes_over c.args.dag.now c.args.block.0) n.0) (sym w.near-is)
+      (walked_first c.args.dag.now c.requires.graph c.args.tip.0 c.requires.known c.args.block.0 (sym c.votes_for.ensures ∙ c.if-not-votes_for.false))
+  | in-None w ↦ subst (λ (n : UnitNo). IsWalked c.args.dag.now c.args.tip.0 (votes_over c.args.dag.now c.args.block.0) n.0) (sym w.near-is) w.nearest-near.ensures.walked
+]
 
-pub loop-before-preserved : goal.loop-before-preserved
-loop-before-preserved c = walked_more c.args.dag.now c.requires.graph c.args.tip.0 c.requires.known c.args.block.0 c.loop-before.first.0 c.in-Some-earlier_vote.before c.loop-before.invariant c.in-Some-earlier_vote.ensures
+pub start_below-requires-clause-kept : goal.start_below-requires-clause-kept
+start_below-requires-clause-kept c = λ walk e. c.requires.kept c.args.validator walk (sym c.get-walk.ensures ∙ e)
 
-pub returns : goal.returns
-returns c =
-    let last : c.signed.result.now.unit.seq ≡ seq_of (unit_at c.args.dag.now c.loop-before.first.0) = ap (λ (s : SignedUnit). s.unit.seq) (c.signed.ensures ∙ ap (λ (u : SettledUnit). u.signed) c.unit.ensures) in
-    let none : IsEarlierVote c.args.dag.now c.loop-before.first.0 c.args.block.0 None = subst (λ (o : Option UnitNo). IsEarlierVote c.args.dag.now c.loop-before.first.0 c.args.block.0 o) c.in_default-earlier_vote.is c.earlier_vote.ensures in
-    let start : IsLeastStart c.args.dag.now c.args.tip.0 0 (votes_over c.args.dag.now c.args.block.0) (seq_of (unit_at c.args.dag.now c.loop-before.first.0)) =
-    walked_start c.args.dag.now c.requires.graph c.args.tip.0 c.requires.known c.args.block.0 c.loop-before.first.0 c.loop-before.invariant none in
-    subst (λ (n : ℕ). IsLeastStart c.args.dag.now c.args.tip.0 0 (votes_over c.args.dag.now c.args.block.0) n) (sym last) start
-
-pub returns-in-Some-start_at : goal.returns-in-Some-start_at
-returns-in-Some-start_at c =
-    let known = c.requires.kept _ c.in-Some-start_at.ensures in
-    walked_known c.args.dag.now c.requires.graph c.args.tip.0 c.requires.known c.args.block.0 c.loop-before.first.0 c.in-Some-start_at.start c.loop-before.invariant known.start_is
-
-pub returns-in-Some : goal.returns-in-Some
-returns-in-Some c = (c.requires.kept _ c.in-Some.ensures).start_is
+pub returns-clause-fences : goal.returns-clause-fences
+returns-clause-fences c = elim c.match-walk.branch [
+  | in-Some-walk w ↦ subst (λ (k : KeptWalks). AreFences c.args.dag.now k.fences) (sym w.kept-is) c.requires.fences
+  | in-None w ↦ subst (λ (k : KeptWalks). AreFences c.args.dag.now k.fences) (sym w.kept-is) w.nearest-near.ensures.fences
+]
