@@ -4,6 +4,8 @@
 //! |---|---|
 //! | `once` | reads, writes and names a unit, and prints nothing |
 //! | `measure ROUNDS` | goes so many rounds of each, and prints the three rates, by the processor time of its thread |
+//!
+//! No answer is compared: the gate goes one round that prints nothing, and the speed is measured by hand.
 
 mod codec;
 

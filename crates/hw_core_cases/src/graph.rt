@@ -1,5 +1,5 @@
-//! What the layers of the graph answer for the lines of the input, and what a validator may make by the state of its node, one
-//! answer a line.
+//! What the layers of the graph answer for the lines of the input, and what a validator may make by the state of its
+//! node, one answer a line.
 //!
 //! | Line | What it does, and what it answers |
 //! |---|---|
@@ -23,6 +23,17 @@
 //! | `random UNITS PANORAMAS SEED` | of so many random panoramas of a random graph, how many have the fork choice that sums of scores give |
 //!
 //! C is `-`, `!` or the name of a unit. The digest of a unit is its name, and all units are of one instance.
+//!
+//! Covered, by the running example of the definitions and by examples that were worked by hand:
+//!
+//! - each of the nineteen rules, broken once and kept; equivocations and evidence that move the panorama and the fork
+//!   choice; endorsements up to the majority and over it;
+//! - a lane of 5,000 units, worked jumps, and a fork of two lanes, joined and compared;
+//! - worked naive forks of one validator and of two, with endorsed lists and without;
+//! - a worked fork choice, and a chain of 2,000 blocks with votes at its end, along it and beside it;
+//! - three times 400 random panoramas, against a plain walk that sums the score of each child anew;
+//! - the worked summits with their starts, one that isn't there, and one that a later unit makes;
+//! - 144 lines of steps of a validator, from one unit alone to naive forks with endorsements.
 
 mod begin;
 mod lanes;

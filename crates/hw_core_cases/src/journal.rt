@@ -23,6 +23,25 @@
 //! C is `-`, `!` or the name of a unit. A list of endorsed units is put in rising order. A delivery that is refused for
 //! want of memory is tried once more, and its line has `memory` before the answer. `changed` behind a refusal says that
 //! another vertex came back than was delivered, `lost` behind a place that the node keeps another unit of that digest.
+//!
+//! Covered, with the answers of two independent implementations, one of them by the letter of the definitions; those
+//! of the worked examples were written down by hand before:
+//!
+//! - each receipt, and each refusal but a clash and want of memory, in the order in which the tests come;
+//! - each of the nineteen rules, the first eight refused and the others dropped; each fault of a pair;
+//! - the places of units and what each misses, need by need, while needs are met one after the other;
+//! - units that settle by a unit, by evidence, by an equivocation among the settled units and by the last
+//!   endorsement; a dropped unit as a need that is never met;
+//! - decisions at the edge of a quorum, at two levels and at three, several by one delivery, and with an equivocation
+//!   above the threshold before a decision and after it;
+//! - one set of vertices in two orders, a chain of 10,000 units delivered in reverse order, and four made-up
+//!   networks;
+//! - first needs of parked units in two orders of parking, with lists of one, two and eight places and none, and
+//!   where the place of a released unit is taken again;
+//! - evidence and the second evidence against one validator; endorsements with other vertices between them, repeated
+//!   and refused;
+//! - the summits of decided blocks: asked for, kept by a repeat, forgotten when a vertex comes and lost by an
+//!   equivocation, with the starts at each level; and the line of a decided block.
 
 mod chains;
 mod deliveries;

@@ -24,6 +24,16 @@
 //! | `settings TEXT`, `settings hex HEX` | the configuration that the settings of this text, or of these bytes, are, member by member; or what is wrong |
 //!
 //! HEX and VERTEX are bytes as hexadecimal digits.
+//!
+//! Covered:
+//!
+//! - quorums that were worked by hand, and the edges of every limit of a configuration;
+//! - worked leaders, jumps, rounds, pairs and endorsements, and the printed names;
+//! - parks and meets worked by hand, a full park, and 20,000 items whose needs a peer may have chosen;
+//! - the codec: bytes and names from two other implementations, every prefix of two vertices and a configuration,
+//!   every error;
+//! - texts of keys and their faults, signatures and verdicts, worked out with another implementation of SHA-256;
+//! - 833 settings, whole, spoiled and random, against an independent reading of JSON and of settings.
 
 mod configs;
 mod endorsing;

@@ -1,11 +1,13 @@
-//! What the log reader and writer, the rewriting of logs and the outside in memory answer for the lines of its input, one line for each.
+//! What the log reader and writer, the rewriting of logs and the outside in memory answer for the lines of its input,
+//! one line for each.
 //!
-//! PARTS are letters, one for each part of a log: `H` a header of three validators of weight 1, `A` their first
-//! block, `B` a unit that cites it, `C` and `D` two units that cite both, `E` an evidence of `A`'s unit and another, `0` a byte 0; `h` the header in version 2, and
-//! `c` and `d` the last two units as version 2 tells them. ONE and TWO are one log in both versions, as hexadecimal digits. PIECE is how many bytes a
-//! read gives at most. CALL is the number of the call of the files that fails, counted from 0, or `-`; a failing append takes LEFT bytes.
-//! COMMAND is `mend` or `migrate`. LOG, NEW and what is held then are the bytes of files as hexadecimal digits, or `-` for a file that
-//! isn't there.
+//! PARTS are letters, one for each part of a log: `H` a header of three validators of weight 1, `A` their first block,
+//! `B` a unit that cites it, `C` and `D` two units that cite both, `E` an evidence of `A`'s unit and another, `0` a
+//! byte 0; `h` the header in version 2, and `c` and `d` the last two units as version 2 tells them. ONE and TWO are one
+//! log in both versions, as hexadecimal digits. PIECE is how many bytes a read gives at most. CALL is the number of the
+//! call of the files that fails, counted from 0, or `-`; a failing append takes LEFT bytes. COMMAND is `mend` or
+//! `migrate`. LOG, NEW and what is held then are the bytes of files as hexadecimal digits, or `-` for a file that isn't
+//! there.
 //!
 //! | Line | Answer |
 //! |---|---|
@@ -25,9 +27,20 @@
 //! | `sure PEERS STEPS` | the same of a sure door |
 //! | `consumer CALLS STEPS` | what a consumer answers to the steps, and what it took; the calls of these numbers fail |
 //!
-//! CALLS and PEERS are lists with commas between, or `-`. A step of a door is `accept`, `dial:ADDRESS`, `read:COUNT`, `write:TEXT` or
-//! `end`; one of a consumer is `HEIGHT:VALUE` or `finish`. A session is told as `ADDRESS/HEARD/WRITTEN`, with `!` behind it where a call
-//! failed in it, and `-` for no address.
+//! CALLS and PEERS are lists with commas between, or `-`. A step of a door is `accept`, `dial:ADDRESS`, `read:COUNT`,
+//! `write:TEXT` or `end`; one of a consumer is `HEIGHT:VALUE` or `finish`. A session is told as
+//! `ADDRESS/HEARD/WRITTEN`, with `!` behind it where a call failed in it, and `-` for no address.
+//!
+//! Covered:
+//!
+//! - logs of another implementation in both versions, ten of them random: read entry by entry, and written again byte
+//!   for byte in their own version and in the other one;
+//! - each error of the compact form at its place, each cut of a log of either version, a failure at each call, and
+//!   pieces of 1, 2 and 3 bytes;
+//! - logs that are written anew, with the bytes of an independent implementation: of both versions, whole, torn at
+//!   each kind of place and with other errors, with a new file that is there, and with calls that fail;
+//! - exchanges with each implementation in memory of files, output, clock, door and consumers; the answers of doors
+//!   and consumers come from a model that was written apart.
 
 mod consumers;
 mod counts;

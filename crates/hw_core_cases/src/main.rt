@@ -1,7 +1,8 @@
 //! What the layers up to one node and its journal answer for the lines of the input.
 //!
-//! A line `section NAME` begins a section: from there on the group of that name answers each line, until another section begins.
-//! A section begins with nothing that an earlier one left. Each group's own page says which lines it has, and what they answer.
+//! A line `section NAME` begins a section: from there on the group of that name answers each line, until another
+//! section begins. A section begins with nothing that an earlier one left. Each group's own page says which lines it
+//! has, and what they answer.
 //!
 //! | Section | What answers |
 //! |---|---|

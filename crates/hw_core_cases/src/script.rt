@@ -6,6 +6,12 @@
 //! | `text LINES` | these lines, a `|` between them |
 //!
 //! Before the output stands the line again; for a text outside the grammar the output is `line N`.
+//!
+//! Covered, with the answers of an independent implementation:
+//!
+//! - thirteen worked scripts in `data/`, which are the picture book of the definitions;
+//! - 22 scripts that show one thing each;
+//! - 88 small texts, most of them with a line outside the grammar.
 
 mod cases;
 

@@ -15,11 +15,19 @@
 //!
 //! `changed` behind a refusal says that another vertex came back than was delivered.
 //!
-//! A NODE is a list of words: the bytes of its first configuration, and then in turn a vertex as bytes for the era that is
-//! meant, `to ERA`, which says which one is, or `open`, which opens the next era and means it. Era 0 is meant first.
+//! A NODE is a list of words: the bytes of its first configuration, and then in turn a vertex as bytes for the era that
+//! is meant, `to ERA`, which says which one is, or `open`, which opens the next era and means it. Era 0 is meant first.
 //!
 //! A LOG is the bytes of a log as hexadecimal digits, or `-` where there is no file. Its name is its place, from 0 on.
 //! The answer is the exit status of a program and its text, with `bad log` for a log that can't be read on.
+//!
+//! Covered, with the answers of an independent implementation:
+//!
+//! - next configurations of 23 values;
+//! - eras that are delivered to and opened, up to 64 of them;
+//! - pairs of nodes over one or more eras that agree, differ and begin apart;
+//! - runs and audits of one to 64 logs: refused and repeated entries, limits, missing and damaged logs, eras that
+//!   aren't there, and other configurations.
 
 mod acts;
 mod audits;

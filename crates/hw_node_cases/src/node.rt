@@ -1,5 +1,5 @@
-//! What is asked of a node and of what is made of its journal, for the lines of the input: needs, certificates, consumers, and
-//! clusters of nodes. There is one line for each, or more where it says so.
+//! What is asked of a node and of what is made of its journal, for the lines of the input: needs, certificates,
+//! consumers, and clusters of nodes. There is one line for each, or more where it says so.
 //!
 //! | Line | What it does, and what it answers |
 //! |---|---|
@@ -20,14 +20,27 @@
 //! | `sim NUMBER NODES STEPS` | how many vertices are sent, the most blocks that a node decides, how many actions are refused, and how many validators equivocate |
 //! | `nodes COUNT RECORDS ACTIONS` | what each action is answered, and how many vertices are sent then |
 //!
-//! LOG is the bytes of a log as hexadecimal digits. A PLAN is the calls that a consumer takes, in order and with commas between:
-//! `HEIGHT:VALUE`, with VALUE in hexadecimal digits, and `finish`; `-` is none. Each other call fails; behind a `memory` in the plan it
-//! finds no memory.
+//! LOG is the bytes of a log as hexadecimal digits. A PLAN is the calls that a consumer takes, in order and with commas
+//! between: `HEIGHT:VALUE`, with VALUE in hexadecimal digits, and `finish`; `-` is none. Each other call fails; behind
+//! a `memory` in the plan it finds no memory.
 //!
-//! The nodes of a cluster are the first COUNT of three validators of weight 1, and each keeps RECORDS records at most. Rounds last
-//! 16 milliseconds, and the validators 0, 0 and 2 lead in turn. An action is `step:NODE:NOW`; `give:NODE:SENT`;
-//! `block:CREATOR:TIME`, by which somebody sends a first block of that creator; `pair:CREATOR:TIME`, two such blocks as
-//! evidence; or `word:CREATOR:TIME`, an endorsement by that validator.
+//! The nodes of a cluster are the first COUNT of three validators of weight 1, and each keeps RECORDS records at most.
+//! Rounds last 16 milliseconds, and the validators 0, 0 and 2 lead in turn. An action is `step:NODE:NOW`;
+//! `give:NODE:SENT`; `block:CREATOR:TIME`, by which somebody sends a first block of that creator; `pair:CREATOR:TIME`,
+//! two such blocks as evidence; or `word:CREATOR:TIME`, an endorsement by that validator.
+//!
+//! Covered, with the answers of an independent implementation:
+//!
+//! - needs: units, evidence and endorsements by many orders of delivery, and forks at several sequence numbers with
+//!   up to five units each;
+//! - certificates of made-up networks, cut, changed and with wrong keys; each line and each text that tells of them;
+//! - certificates that nodes make: in the order of settling, with evidence that came and evidence made of settled
+//!   units, with endorsements, of as many vertices as a journal may have and one more, with no summit now, and with
+//!   too many faulty;
+//! - logs that are replayed with consumers in memory, of which some fail at a block or at the end; the lines of the
+//!   dropped ones;
+//! - runs and generated journals that a number chooses; actions of clusters with forged blocks, evidence and
+//!   endorsements, own units that a full journal refuses, and configurations beyond their limits.
 
 mod actions;
 mod certificates;

@@ -1,5 +1,5 @@
-//! What comes of nodes with a log, for the lines of its input, one line for each: of nodes that act, and of nodes that serve,
-//! validators that take turns and nodes that meet others, over an outside in memory.
+//! What comes of nodes with a log, for the lines of its input, one line for each: of nodes that act, and of nodes that
+//! serve, validators that take turns and nodes that meet others, over an outside in memory.
 //!
 //! A line `session ..` has these words, and any number of acts behind them:
 //!
@@ -24,11 +24,27 @@
 //! | command | `serve:SESSIONS`; or `run:ME:PEERS:MOMENT:MOMENT..`, with a turn for each moment |
 //! | session | what the peer of a session says, as hexadecimal digits |
 //!
-//! A line `reunion ..` has the same words, but for its command: `host:SESSIONS` of a node that is dialled, or `meet` of one that
-//! dials.
+//! A line `reunion ..` has the same words, but for its command: `host:SESSIONS` of a node that is dialled, or `meet` of
+//! one that dials.
 //!
-//! The answer to both is the status, what was written, in which a `/` stands for a line feed, the log then, and what the node wrote
-//! in each session.
+//! The answer to both is the status, what was written, in which a `/` stands for a line feed, the log then, and what
+//! the node wrote in each session.
+//!
+//! Covered, with the answers of an independent implementation; logs and what was written are compared byte for byte:
+//!
+//! - nodes that start, make units, stop and start again, with logs of both versions, torn and wrong logs, limits, and
+//!   calls that fail;
+//! - vertices of peers: accepted, parked, dropped, repeated and refused by each cause but a clash, in order and out
+//!   of order, with limits, between own units and across restarts, and with an append that fails;
+//! - sessions that a node serves and drives: whole, in pieces and byte by byte, with each kind of frame, other
+//!   instances, bad and cut frames, limits, parked and refused vertices, more than 256 vertices and needs, appends
+//!   and each call of the link failing, and random ones;
+//! - services over honest and hostile streams, with and without a log, with wrong settings, keys and logs, with
+//!   consumers that fail at a block or at the end, and with calls of files, output and door that fail;
+//! - 298 reunions: worked pairs of nodes as host and as the one that dials, met once and again, with one journal in
+//!   both or forks between them; peers cut at many bytes, out of order and out of form, of another instance; false
+//!   signatures; several sessions; each call of the door, of the files and of the output failing in turn; and random
+//!   pairs of journals.
 
 mod lines;
 mod nodes;
