@@ -17,6 +17,37 @@
 //! consumer takes, with commas between, `HEIGHT:VALUE` and `finish`, or `-` for none; each other call fails. FAILURES are
 //! the calls that fail, counted from 0, with commas between: `files:CALL`, `out:CALL` and `door:CALL`; or `-`. MOMENTS are the moments of the clock, with
 //! commas between. SESSIONS are what the peer of each session says, as hexadecimal digits with commas between, or `-`. WORDS are the command line.
+//!
+//! Covered:
+//!
+//! - whole runs of `replay`, `explain` and `audit` on worked logs and on logs with a fault in each part; `audit` on
+//!   30 pairs of logs;
+//! - `script` on worked scripts, a bad line, a missing file and other words; `gen` and `sim` on five runs each, and
+//!   on words outside their ranges; the words of the command line;
+//! - a failure at each of the first sixty calls of the files and of the output of `replay`, `explain` and `audit`,
+//!   and at each of the first twelve reads and sixty writes of `script`; each of the first writes finding no memory,
+//!   which ends with status 7;
+//! - `mend` and `migrate` on logs of both versions: whole, torn at each kind of place and with other errors, above
+//!   their own limits, with a new file that is there, the log's own name for the new one, other words, a failing
+//!   append that takes none, some or all of the bytes, and a failure at each call of the files and each write;
+//!   `replay`, `explain` and `audit` of a migrated log;
+//! - `replay` with consumers that take the calls of a plan: all of them, none, a failing second block, a failing end,
+//!   two that fail at different blocks, a log that is torn behind a decided block, a missing file;
+//! - `certify` on ten logs, of each first three decided blocks, of other digests, with other words, a new file that
+//!   is there, the log's own name for it, and failing reads, appends and writes; `check` of a certificate cut at each
+//!   kind of place and with a byte changed in each field, of each limit of its configuration, by wrong, short and
+//!   missing keys, and against thirteen logs;
+//! - `eras` and `era-audit` of one to 64 logs, logs whose era isn't there, missing, torn and full logs, other
+//!   configurations, words outside the grammar, and failing reads and writes;
+//! - `serve` and `run` over a door and a clock in memory: an accept and a dial that fail, sessions that end in each
+//!   way, a limit before a link that failed, settings, keys and logs with a fault, a failing read, append and write,
+//!   turns with peers that are nodes, on a new log and on one that is there, a validator that is none, words outside
+//!   the grammar at each bound, and a failure at each of the first sixty calls of the files, of the output and of the
+//!   door;
+//! - `host` and `meet` in the same way, and, where two nodes that were apart bring each other a unit, a failure at
+//!   each of the first sixteen calls of the door and, of the one that is dialled, of the first twelve of the files.
+//!
+//! Not covered: status 9, since nobody has two units of one digest.
 #![tactic(auto)]
 
 mod cases;

@@ -1,64 +1,97 @@
-//! What a node answers for the lines of the input.
+//! What the layers up to one node and its journal answer for the lines of the input.
 //!
-//! | Line | What it does, and what it answers |
+//! A line `section NAME` begins a section: from there on the group of that name answers each line, until another
+//! section begins. A section begins with nothing that an earlier one left. Each group's own page says which lines it
+//! has, and what they answer.
+//!
+//! | Section | What answers |
 //! |---|---|
-//! | `# TEXT` | repeats the line |
-//! | `weights N ..` | begins a node with these weights; `ftt`, `levels`, `leaders`, `records`, `parked` and `end` may follow, each with its numbers |
-//! | `unit NAME by V at T cites C ..` | defines a unit, and answers nothing; `exp`, `number`, `foreign`, `block` and `endorsed` may follow, each with its words |
-//! | `evidence NAME of NAME NAME` | defines an evidence of two units, and answers nothing |
-//! | `deliver NAME ..`, `forge NAME ..` | delivers vertices, the second with the verdict that their signatures are wrong: what became of each |
-//! | `endorse NAME by V ..` | delivers an endorsement of the unit by each of these: what became of each |
-//! | `place NAME ..` | where each unit stands, a settled one with its number |
-//! | `missing NAME ..` | what each unit misses, asked for place by place |
-//! | `unmet N` | the first N needs that parked units miss, in the order of parking; N is at most 8 |
-//! | `against V ..` | the evidence that the journal has against each validator |
-//! | `endorsers NAME ..` | who endorsed each unit, in the order of the journal |
-//! | `summit N ..` | whether the decided block of each of these places, counted from 0, has a summit now |
-//! | `starts LEVEL` | where each validator starts in the committee of that level of the summit that was asked for last |
-//! | `starts LEVEL of N` | where each validator starts in the committee of that level of the greatest summit that the decided block of place N has now |
-//! | `show fork`, `show panorama`, `show faulty`, `show final` | the fork choice; what the node observes; who is faulty; the decided blocks, and the faulty weight where it exceeds the threshold |
-//! | `show counts`, `show journal` | how many units are settled, parked and dropped, and the faulty weight; the journal in order |
-//! | `chain N forward`, `chain N reverse` | delivers a chain of N units of validator 0 in that order: the sums of what became of them |
+//! | `script` | scripts |
+//! | `leaf` | the small layers, the codec, keys and settings |
+//! | `log` | logs, logs that are written anew, and the outside in memory |
+//! | `graph` | the layers of the graph, and the validator's step |
+//! | `journal` | a node and its journal |
+//! | `bench` | the speed of the codec |
 //!
-//! C is `-`, `!` or the name of a unit. A list of endorsed units is put in rising order. A delivery that is refused for
-//! want of memory is tried once more, and its line has `memory` before the answer. `changed` behind a refusal says that
-//! another vertex came back than was delivered, `lost` behind a place that the node keeps another unit of that digest.
+//! The speed is measured by hand, with the lines `section bench` and `measure 20000` as the input.
 #![tactic(auto)]
 
-mod chains;
-mod deliveries;
-mod lines;
-mod names;
-mod outcome;
-mod places;
-mod shown;
-mod summits;
-mod units;
-mod wanted;
+mod bench;
+mod graph;
+mod journal;
+mod leaf;
+mod log;
+mod script;
 
-use crate::names::Node;
+use crate::journal::Node;
+use hw_admit::State;
 use hw_case_words::Answer;
 use std::io;
 
-fn main(rt: HostRuntime) -> io::Result<()> {
-    let mut nodes = Vec::new(rt.alloc());
-    answer_all(rt, &mut nodes)
+/// A section of the input, with what its lines left so far.
+#[derive(Drop)]
+enum Section {
+    /// Before the first line that names one.
+    Unnamed,
+    Script,
+    Leaf,
+    Log,
+    Graph(Option<State>),
+    Journal(Vec<Node>),
+    Bench,
 }
 
-/// Answers each line, of the node that began last.
-fn answer_all(rt: HostRuntime, nodes: &mut Vec<Node>) -> io::Result<()> {
+fn main(rt: HostRuntime) -> io::Result<()> {
+    let mut section = Section::Unnamed;
+    answer_all(rt, &mut section)
+}
+
+/// Answers each line.
+fn answer_all(rt: HostRuntime, section: &mut Section) -> io::Result<()> {
     for line in rt.lines(rt.alloc()) {
-        answer(rt, nodes, line?.as_str())?;
+        answer(rt, section, line?.as_str())?;
     }
     Ok(())
 }
 
-/// Answers a line, of the node that began last.
-fn answer(rt: HostRuntime, nodes: &mut Vec<Node>, line: &str) -> io::Result<()> {
+/// Answers a line.
+fn answer(rt: HostRuntime, section: &mut Section, line: &str) -> io::Result<()> {
     let mut answer = Answer::new(rt.alloc());
-    lines::tell(&mut answer, nodes, line);
+    match line.strip_prefix("section ") {
+        Some(name) => begin(&mut answer, section, name),
+        None => tell(rt, &mut answer, section, line),
+    }
     match answer.finish() {
         Some(text) => print!(rt; "{text}"),
         None => Err(io::ErrorKind::InvalidInput.into()),
+    }
+}
+
+/// Begins the section of this name.
+fn begin(answer: &mut Answer, section: &mut Section, name: &str) {
+    *section = match name {
+        "script" => Section::Script,
+        "leaf" => Section::Leaf,
+        "log" => Section::Log,
+        "graph" => Section::Graph(None),
+        "journal" => Section::Journal(Vec::new(answer.alloc())),
+        "bench" => Section::Bench,
+        _ => {
+            answer.refuse();
+            Section::Unnamed
+        }
+    };
+}
+
+/// The answer of the section.
+fn tell(rt: HostRuntime, answer: &mut Answer, section: &mut Section, line: &str) {
+    match section {
+        Section::Script => script::tell(rt, answer, line),
+        Section::Leaf => leaf::tell(answer, line),
+        Section::Log => log::tell(answer, line),
+        Section::Graph(held) => graph::tell(answer, held, line),
+        Section::Journal(nodes) => journal::tell(answer, nodes, line),
+        Section::Bench => bench::tell(rt, answer, line),
+        Section::Unnamed => answer.refuse(),
     }
 }

@@ -1,71 +1,86 @@
-//! What is asked of a node and of what is made of its journal, for the lines of the input: needs, certificates, consumers, and
-//! clusters of nodes. There is one line for each, or more where it says so.
+//! What is made of nodes and their journals answers for the lines of the input.
 //!
-//! | Line | What it does, and what it answers |
+//! A line `section NAME` begins a section: from there on the group of that name answers each line, until another
+//! section begins. A section begins with nothing that an earlier one left. Each group's own page says which lines it
+//! has, and what they answer.
+//!
+//! | Section | What answers |
 //! |---|---|
-//! | `# TEXT` | repeats the line |
-//! | `begin HEX` | begins a node of the configuration that these bytes spell: `begun`, or the limit that it breaks |
-//! | `deliver HEX` | delivers the vertex that these bytes spell: what became of it |
-//! | `unit HEX`, `faulty V`, `endorsed HEX` | the vertices that the node has for the need, each as bytes, a dash where there is none: the unit of this digest, evidence against the validator, endorsements of the unit |
-//! | `against V` | the two units of the evidence against the validator, each as its signature begins, a dash where there is none |
-//! | `read HEX` | how many vertices the certificate has that these bytes spell, and whether it is spelled so again; or the error |
-//! | `certify HEX` | the certificate of that certificate's block, asked of a node that took its vertices: how many vertices it has, and its bytes; or why there is none. That node stands in the place of those that began |
-//! | `ask HEX` | the line that tells of the same |
-//! | `print HEX TEXT` | the line that tells of the check of that certificate with the verdicts by the keys of the text, or the text of what is wrong with its bytes |
-//! | `check HEX TEXT` | the answer to that certificate with the verdicts by the keys of the text, in which a `/` stands for a line feed |
-//! | `verdicts HEX DIGITS` | the same with these verdicts, a digit 0 or 1 for each vertex |
-//! | `each LOG PLAN ..`, `once LOG PLAN ..` | consumers with these plans are passed the blocks that the log decides, after each entry, or once behind the last, and are told then that no block follows: how many are left, and of each that was dropped, in order, `consumer PLACE dropped at HEIGHT`, with `out of memory` in place of `dropped` where it found none, and `finish` in place of the height behind the last block |
-//! | `feed LOG PLAN ..` | the replay itself passes the blocks on after each entry: how many are left, then the lines of those that were dropped, then an empty line |
-//! | `gen NUMBER ROUNDS` | how many units of a generated journal are settled, how many blocks are decided, and how high the last one is |
-//! | `sim NUMBER NODES STEPS` | how many vertices are sent, the most blocks that a node decides, how many actions are refused, and how many validators equivocate |
-//! | `nodes COUNT RECORDS ACTIONS` | what each action is answered, and how many vertices are sent then |
-//!
-//! LOG is the bytes of a log as hexadecimal digits. A PLAN is the calls that a consumer takes, in order and with commas between:
-//! `HEIGHT:VALUE`, with VALUE in hexadecimal digits, and `finish`; `-` is none. Each other call fails; behind a `memory` in the plan it
-//! finds no memory.
-//!
-//! The nodes of a cluster are the first COUNT of three validators of weight 1, and each keeps RECORDS records at most. Rounds last
-//! 16 milliseconds, and the validators 0, 0 and 2 lead in turn. An action is `step:NODE:NOW`; `give:NODE:SENT`;
-//! `block:CREATOR:TIME`, by which somebody sends a first block of that creator; `pair:CREATOR:TIME`, two such blocks as
-//! evidence; or `word:CREATOR:TIME`, an endorsement by that validator.
+//! | `node` | needs, certificates, consumers, and clusters of nodes |
+//! | `eras` | eras of nodes, their audits, and runs over their logs |
+//! | `meeting` | nodes that meet, and their frames |
+//! | `session` | nodes with a log, that serve, take turns and meet others |
 #![tactic(auto)]
 
-mod actions;
-mod certificates;
-mod checks;
-mod clusters;
-mod feeds;
-mod lines;
-mod making;
-mod nodes;
-mod passes;
-mod planned;
-mod printed;
-mod wanted;
+mod eras;
+mod meeting;
+mod node;
+mod session;
 
 use hw_case_words::Answer;
 use hw_core::Core;
+use hw_eras::Eras;
+use hw_session::Node;
 use std::io;
 
-fn main(rt: HostRuntime) -> io::Result<()> {
-    let mut nodes = Vec::new(rt.alloc());
-    answer_all(rt, &mut nodes)
+/// A section of the input, with what its lines left so far.
+#[derive(Drop)]
+enum Section {
+    /// Before the first line that names one.
+    Unnamed,
+    Node(Vec<Core>),
+    Eras(Vec<Eras>),
+    Meeting(Vec<Core>),
+    Session(Vec<Node>),
 }
 
-/// Answers each line, of the node that began last.
-fn answer_all(rt: HostRuntime, nodes: &mut Vec<Core>) -> io::Result<()> {
+fn main(rt: HostRuntime) -> io::Result<()> {
+    let mut section = Section::Unnamed;
+    answer_all(rt, &mut section)
+}
+
+/// Answers each line.
+fn answer_all(rt: HostRuntime, section: &mut Section) -> io::Result<()> {
     for line in rt.lines(rt.alloc()) {
-        answer(rt, nodes, line?.as_str())?;
+        answer(rt, section, line?.as_str())?;
     }
     Ok(())
 }
 
-/// Answers a line, of the node that began last.
-fn answer(rt: HostRuntime, nodes: &mut Vec<Core>, line: &str) -> io::Result<()> {
+/// Answers a line.
+fn answer(rt: HostRuntime, section: &mut Section, line: &str) -> io::Result<()> {
     let mut answer = Answer::new(rt.alloc());
-    lines::tell(&mut answer, nodes, line);
+    match line.strip_prefix("section ") {
+        Some(name) => begin(&mut answer, section, name),
+        None => tell(&mut answer, section, line),
+    }
     match answer.finish() {
-        Some(text) => println!(rt; "{text}"),
+        Some(text) => print!(rt; "{text}"),
         None => Err(io::ErrorKind::InvalidInput.into()),
+    }
+}
+
+/// Begins the section of this name.
+fn begin(answer: &mut Answer, section: &mut Section, name: &str) {
+    *section = match name {
+        "node" => Section::Node(Vec::new(answer.alloc())),
+        "eras" => Section::Eras(Vec::new(answer.alloc())),
+        "meeting" => Section::Meeting(Vec::new(answer.alloc())),
+        "session" => Section::Session(Vec::new(answer.alloc())),
+        _ => {
+            answer.refuse();
+            Section::Unnamed
+        }
+    };
+}
+
+/// The answer of the section.
+fn tell(answer: &mut Answer, section: &mut Section, line: &str) {
+    match section {
+        Section::Node(nodes) => node::tell(answer, nodes, line),
+        Section::Eras(nodes) => eras::tell(answer, nodes, line),
+        Section::Meeting(nodes) => meeting::tell(answer, nodes, line),
+        Section::Session(nodes) => session::tell(answer, nodes, line),
+        Section::Unnamed => answer.refuse(),
     }
 }

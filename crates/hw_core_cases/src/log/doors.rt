@@ -1,0 +1,90 @@
+//! Doors in memory.
+
+use crate::log::counts::{Count, done, put_count};
+use hw_case_words::{Answer, number};
+use hw_io::{Door, DoorNumbers, MemDoor, MemSession, SureDoor};
+
+/// What a door answers to the steps, and what it tells then.
+pub fn door_text(answer: &mut Answer, piece: &str, calls: &str, peers: &str, steps: &str) {
+    let mut door = MemDoor::in_pieces(answer.alloc(), number(piece) as usize);
+    for call in calls.split(',') {
+        if let Ok(call) = call.parse() {
+            let planned = door.fail_at(call);
+            answer.keep(planned);
+        }
+    }
+    for peer in peers.split(',') {
+        if peer != "-" {
+            let expected = door.expect(peer.as_bytes());
+            answer.keep(expected);
+        }
+    }
+    walk(answer, &mut door, steps);
+    put_sessions(answer, door.sessions());
+    put_numbers(answer, door.numbers());
+}
+
+/// The same of a sure door.
+pub fn sure_text(answer: &mut Answer, peers: &str, steps: &str) {
+    let mut door = SureDoor::new(answer.alloc());
+    for peer in peers.split(',') {
+        if peer != "-" {
+            let expected = door.expect(peer.as_bytes());
+            answer.keep(expected);
+        }
+    }
+    walk(answer, &mut door, steps);
+    put_sessions(answer, door.sessions());
+    put_numbers(answer, door.numbers());
+}
+
+/// Takes the steps, and puts down what is answered to each.
+fn walk<D: Door>(answer: &mut Answer, door: &mut D, steps: &str) {
+    for step in steps.split(',') {
+        put_count(answer, take_step(door, step));
+    }
+}
+
+fn take_step<D: Door>(door: &mut D, step: &str) -> Count {
+    match step.split_once(':') {
+        Some(("dial", address)) => done(door.dial(address)),
+        Some(("read", count)) => read(door, number(count) as usize),
+        Some((_, piece)) => door.write(piece.as_bytes()),
+        None if step == "accept" => done(door.accept()),
+        None => {
+            door.hang_up();
+            Ok(0)
+        }
+    }
+}
+
+/// Reads at most so many bytes, or sixteen.
+fn read<D: Door>(door: &mut D, count: usize) -> Count {
+    let mut buf = [0u8; 16];
+    door.read(&mut buf[..count.min(16)])
+}
+
+fn put_sessions(answer: &mut Answer, sessions: &[MemSession]) {
+    for session in sessions {
+        answer.put(session.address().unwrap_or("-"));
+        answer.put("/");
+        answer.characters(session.heard());
+        answer.put("/");
+        answer.characters(session.written());
+        answer.put(if session.has_failed() { "! " } else { " " });
+    }
+}
+
+fn put_numbers(answer: &mut Answer, numbers: DoorNumbers) {
+    let DoorNumbers {
+        accepts,
+        dials,
+        ends,
+        faults,
+    } = numbers;
+    let put = write!(
+        answer.text,
+        "accepts {accepts} dials {dials} ends {ends} faults {faults}"
+    );
+    answer.keep(put);
+}

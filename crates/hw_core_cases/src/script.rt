@@ -1,0 +1,35 @@
+//! What scripts print, one script for each line.
+//!
+//! | Line | Script |
+//! |---|---|
+//! | `file NAME` | the file of that name in `data/` |
+//! | `text LINES` | these lines, a `|` between them |
+//!
+//! Before the output stands the line again; for a text outside the grammar the output is `line N`.
+//!
+//! Covered, with the answers of an independent implementation:
+//!
+//! - thirteen worked scripts in `data/`, which are the picture book of the definitions;
+//! - 22 scripts that show one thing each;
+//! - 88 small texts, most of them with a line outside the grammar.
+
+mod cases;
+
+use hw_case_words::Answer;
+
+/// Answers a line.
+pub fn tell(rt: HostRuntime, answer: &mut Answer, line: &str) {
+    match cases::answer(&rt, line) {
+        Ok(text) => put(answer, line, text.as_str()),
+        Err(_) => answer.refuse(),
+    }
+}
+
+/// Puts the line again, and what its script prints.
+fn put(answer: &mut Answer, line: &str, text: &str) {
+    answer.put("> ");
+    answer.put(line);
+    answer.put("\n");
+    answer.put(text);
+    answer.put("\n");
+}

@@ -1,0 +1,89 @@
+//! Meetings in memory.
+
+use crate::meeting::ends::{put_core, put_end, put_sent};
+use crate::meeting::nodes::{begin, deliver_all};
+use hw_case_words::{Answer, number};
+use hw_codec::decode_vertex;
+use hw_core::Core;
+use hw_io::MemDoor;
+use hw_meeting_node::{MemTaker, Taker, VertexList, host_one, meet_one};
+use hw_types::CodecError;
+
+/// How a node of this configuration meets a peer, what it has then, and what it sent. The words are what it has
+/// before, what it gives a false verdict, the pieces and the failing call of the door, and what the peer says.
+pub fn session_text(
+    answer: &mut Answer,
+    nodes: &mut Vec<Core>,
+    side: &str,
+    config: &str,
+    words: &[&str],
+) {
+    let [has, refused, piece, fault, says] = words else {
+        return answer.refuse();
+    };
+    nodes.clear();
+    begin(answer, nodes, config);
+    match nodes.pop() {
+        Some(core) => {
+            let mut taker = taker_of(answer, core, has, refused);
+            let mut door = door_of(answer, piece, fault, says);
+            meet(answer, side, &mut taker, &mut door);
+            put_core(answer, taker.core());
+            answer.put(" ");
+            put_sent(answer, &door);
+        }
+        None => answer.put("no node"),
+    }
+}
+
+/// What takes a peer's vertices into this node behind those that it has, and gives those of the last words a false verdict.
+fn taker_of(answer: &mut Answer, mut core: Core, has: &str, refused: &str) -> MemTaker {
+    deliver_all(answer, &mut core, has);
+    MemTaker::new(core, vertices(answer, refused))
+}
+
+/// The vertices of these words.
+fn vertices(answer: &mut Answer, words: &str) -> VertexList {
+    let mut list = VertexList::new(answer.alloc());
+    for word in words.split(',') {
+        put_vertex(answer, &mut list, word);
+    }
+    list
+}
+
+/// Puts the vertex last that the digits spell, if they spell one.
+fn put_vertex(answer: &mut Answer, list: &mut VertexList, digits: &str) {
+    let bytes = answer.bytes(digits);
+    match decode_vertex(answer.alloc(), bytes.as_slice()) {
+        Ok(vertex) => {
+            if list.push(vertex).is_err() {
+                answer.refuse();
+            }
+        }
+        Err(CodecError::OutOfMemory) => answer.refuse(),
+        Err(_) => {}
+    }
+}
+
+/// A door with a peer that says what these digits spell, which gives and takes pieces, and of which a call may fail.
+fn door_of(answer: &mut Answer, piece: &str, fault: &str, says: &str) -> MemDoor {
+    let said = answer.bytes(says);
+    let mut door = MemDoor::in_pieces(answer.alloc(), number(piece) as usize);
+    let expected = door.expect(said.as_slice());
+    answer.keep(expected);
+    if let Ok(call) = fault.parse() {
+        let planned = door.fail_at(call);
+        answer.keep(planned);
+    }
+    door
+}
+
+/// The node dials the peer, or is dialled.
+fn meet(answer: &mut Answer, side: &str, taker: &mut MemTaker, door: &mut MemDoor) {
+    let end = if side == "meet" {
+        meet_one(answer.alloc(), taker, "peer", door)
+    } else {
+        host_one(answer.alloc(), taker, door)
+    };
+    put_end(answer, end);
+}

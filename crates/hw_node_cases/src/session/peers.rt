@@ -1,0 +1,100 @@
+//! What peers do to a node.
+
+use crate::session::outside::expect;
+use hw_case_words::{Answer, number};
+use hw_codec::decode_vertex;
+use hw_io::{MemDoor, MemFiles};
+use hw_session::{AcceptFault, Node, PeerMark, SessionEnd};
+use hw_types::Receipt;
+
+/// Gives the node a peer's vertex, and tells what became of it.
+pub fn accept(answer: &mut Answer, files: &mut MemFiles, node: &mut Node, vertex: &str) {
+    let bytes = answer.bytes(vertex);
+    match decode_vertex(answer.alloc(), bytes.as_slice()) {
+        Ok(vertex) => put_accepted(answer, node.accept(files, vertex)),
+        Err(_) => answer.put("no vertex"),
+    }
+}
+
+/// Tells what became of a vertex.
+fn put_accepted(answer: &mut Answer, accepted: Result<Receipt, AcceptFault>) {
+    match accepted {
+        Ok(receipt) => put_receipt(answer, receipt),
+        Err(AcceptFault::OutOfMemory) => answer.refuse(),
+        Err(fault) => answer.debug(&fault),
+    }
+}
+
+fn put_receipt(answer: &mut Answer, receipt: Receipt) {
+    match receipt {
+        Receipt::Admitted { settled } => put_count(answer, "Admitted(", settled),
+        Receipt::Parked { missing } => put_count(answer, "Parked(", missing),
+        Receipt::Dropped(rule) => {
+            answer.put("Dropped(");
+            answer.debug(&rule);
+            answer.put(")");
+        }
+        Receipt::Repeat => answer.put("Repeat"),
+    }
+}
+
+fn put_count(answer: &mut Answer, word: &str, count: u32) {
+    answer.put(word);
+    answer.number(u64::from(count));
+    answer.put(")");
+}
+
+/// Lets the node serve a peer, and tells how the session ended, how often the peer's bytes ended, and what
+/// was written.
+pub fn serve(answer: &mut Answer, files: &mut MemFiles, node: &mut Node, peer: &str) {
+    let words = answer.words(peer, ':');
+    let [said, piece, call] = words.as_slice() else {
+        return answer.put("-");
+    };
+    let mut door = door_of(answer, said, piece, call);
+    let end = node.serve_one(&mut door, files);
+    put_session(answer, &door, end);
+}
+
+/// Lets the node drive a session with a peer, and tells the same and the marks then.
+pub fn drive(answer: &mut Answer, files: &mut MemFiles, node: &mut Node, peer: &str) {
+    let words = answer.words(peer, ':');
+    let [said, piece, call, pushed, pulled] = words.as_slice() else {
+        return answer.put("-");
+    };
+    let mut door = door_of(answer, said, piece, call);
+    let mut mark = PeerMark {
+        pushed: number(pushed),
+        pulled: number(pulled),
+    };
+    let end = node.drive_one(&mut mark, "peer", &mut door, files);
+    put_session(answer, &door, end);
+    let PeerMark { pushed, pulled } = mark;
+    let put = write!(answer.text, " {pushed}:{pulled}");
+    answer.keep(put);
+}
+
+/// A door with a peer that says these bytes.
+fn door_of(answer: &mut Answer, said: &str, piece: &str, call: &str) -> MemDoor {
+    let mut door = MemDoor::in_pieces(answer.alloc(), piece.parse().unwrap_or(usize::MAX));
+    expect(answer, &mut door, said);
+    if let Ok(call) = call.parse() {
+        let planned = door.fail_at(call);
+        answer.keep(planned);
+    }
+    door
+}
+
+/// Tells what came of a session.
+fn put_session(answer: &mut Answer, door: &MemDoor, end: SessionEnd) {
+    match (end, door.sessions()) {
+        (SessionEnd::OutOfMemory, _) => answer.refuse(),
+        (_, [.., session]) => {
+            let ends = door.numbers().ends;
+            let put = write!(answer.text, "{end:?}:{ends}:");
+            answer.keep(put);
+            answer.hex(session.written());
+        }
+        (_, []) => answer.put("no session"),
+    }
+}
