@@ -47,13 +47,13 @@ LOGS = {
 }
 
 GROWTH = {
-    "even": ("rounds --validators 10 --rounds {}", (500, 2000, 8000)),
-    "wide": ("rounds --validators 100 --rounds {}", (20, 80, 320)),
-    "late": ("rounds --validators 100 --late 0.1 --rounds {}", (20, 80, 320)),
-    "stall": ("rounds --validators 100 --silent 40 --rounds {}", (20, 80, 320)),
+    "even": ("rounds --validators 10 --rounds {}", (400, 1600, 6400)),
+    "wide": ("rounds --validators 100 --rounds {}", (5, 20, 80)),
+    "late": ("rounds --validators 100 --late 0.1 --rounds {}", (5, 20, 80)),
+    "stall": ("rounds --validators 100 --silent 40 --rounds {}", (5, 20, 80)),
     "heal": ("rounds --validators 10 --silent 4 --rounds {0} --heal {0}", (400, 1600, 6400)),
-    "marked": ("rounds --validators 100 --equivocators 20 --rounds {}", (10, 40, 160)),
-    "lanes": ("rounds --validators 50 --second-lanes 50 --rounds {}", (20, 80, 320)),
+    "marked": ("rounds --validators 100 --equivocators 20 --rounds {}", (5, 20, 80)),
+    "lanes": ("rounds --validators 50 --second-lanes 50 --rounds {}", (10, 40, 160)),
     "reversed": ("rounds --validators 10 --order reversed --rounds {}", (50, 200, 800)),
     "shuffled": ("rounds --validators 10 --order shuffled --rounds {}", (50, 200, 800)),
     "lane": ("lane --validators 10 --order reversed --units {}", (1000, 4000, 16000)),
@@ -207,7 +207,7 @@ def parser_of_words():
 def options_of(words):
     """What the words ask for. Words that aren't understood end the program with status 2."""
     parser = parser_of_words()
-    options = parser.parse_args(words)
+    options = parser.parse_intermixed_args(words)
     if options.list:
         return options
     if options.program is None:

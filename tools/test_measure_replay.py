@@ -53,7 +53,7 @@ class Measured(unittest.TestCase):
 
     def test_two_programs(self):
         good = self.program("good", "exit 0")
-        status, out, _ = said_by(self.words(good, "small", "--beside", good))
+        status, out, _ = said_by([*self.words(good, "--beside", good), "small"])
         self.assertEqual(status, 0)
         self.assertIn("| log | MB | s | other, s | ratio |", out)
 
