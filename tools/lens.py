@@ -1,0 +1,128 @@
+#!/usr/bin/env python3
+"""To look at a log of `highway`: entries, units, evidence, signatures, conflicts, pictures, a node that runs.
+
+    python3 tools/lens.py COMMAND ...           python3 tools/lens.py COMMAND --help
+
+It proves nothing. It reads the documented formats itself, so it is a second pair of eyes on them. Each judgement (what is
+final, who is faulty, who is a culprit) comes from the proved program, which it calls: `--program PATH`, else the
+environment variable HIGHWAY, else crates/highway/out/highway of this repository. What it works out itself, so that there
+is something to show, is compared with what the program's `replay` says.
+
+Status 0: it showed what was asked. 1: `verify` found a verdict that isn't what the keys say, or the own reading isn't the
+program's. 2: bad words, a bad file, no program; one line on standard error says which, with its place.
+"""
+import argparse
+import importlib
+import os
+import pathlib
+import sys
+
+sys.path.insert(0, str(pathlib.Path(__file__).resolve().parent))
+
+from lens_log import InputError  # noqa: E402
+from lens_program import ProgramError  # noqa: E402
+
+
+def span(text):
+    """Two numbers `A..B`, each of which may be left out, as a pair with None for an open end."""
+    low, dots, high = text.partition("..")
+    if not dots or not all(part == "" or part.isdecimal() for part in (low, high)):
+        raise argparse.ArgumentTypeError(f"{text!r} isn't of the form A..B")
+    return (int(low) if low else None, int(high) if high else None)
+
+
+def positive(text):
+    """A number above 0, perhaps with a fraction."""
+    try:
+        number = float(text)
+    except ValueError:
+        number = 0.0
+    if not 0 < number < float("inf"):
+        raise argparse.ArgumentTypeError(f"{text!r} isn't a number above 0")
+    return number
+
+
+def whole(text):
+    """A whole number from 0 on."""
+    if not text.isdecimal():
+        raise argparse.ArgumentTypeError(f"{text!r} isn't a whole number")
+    return int(text)
+
+
+def command(commands, name, what):
+    """A command's parser, with the option that all have."""
+    parser = commands.add_parser(name, help=what, description=what)
+    parser.add_argument("--program", metavar="PATH", help="the built program (else HIGHWAY, else crates/highway/out/highway)")
+    parser.add_argument("--no-progress", action="store_true", help="no progress line on standard error")
+    return parser
+
+
+def add_questions(commands):
+    parser = command(commands, "entries", "each entry of a log, and what became of it")
+    parser.add_argument("log", metavar="LOG")
+    parser.add_argument("--entries", type=span, metavar="A..B", default=(None, None), help="the entries of these places alone")
+    parser = command(commands, "unit", "one unit in full")
+    parser.add_argument("log", metavar="LOG")
+    parser.add_argument("hash", metavar="HASH", help="the digest, or a prefix that one unit alone has")
+    parser = command(commands, "evidence", "for each faulty validator the pair of units that shows it")
+    parser.add_argument("log", metavar="LOG")
+    parser.add_argument("--keys", metavar="KEYS", help="the validators' keys, with which each signature is checked")
+    parser = command(commands, "verify", "checks each signature; status 1 where a verdict byte isn't what the keys say")
+    parser.add_argument("log", metavar="LOG")
+    parser.add_argument("keys", metavar="KEYS")
+    parser = command(commands, "why", "the conflict of two logs as a story")
+    parser.add_argument("left", metavar="LEFT")
+    parser.add_argument("right", metavar="RIGHT")
+
+
+def add_pictures(commands):
+    parser = command(commands, "draw", "a log as a picture")
+    parser.add_argument("log", metavar="LOG")
+    parser.add_argument("out", metavar="OUT.svg")
+    parser.add_argument("--rounds", type=span, metavar="A..B", default=(None, None), help="these rounds alone, counted from the first")
+    parser.add_argument("--force", action="store_true", help="write over a file that is there")
+    parser = command(commands, "page", "a log, or the conflict of two, as a page for a browser")
+    parser.add_argument("logs", metavar="LOG", nargs="+", help="one log, or two in conflict")
+    parser.add_argument("out", metavar="OUT.html")
+    parser.add_argument("--rounds", type=span, metavar="A..B", default=(None, None), help="these rounds alone, counted from the first")
+    parser.add_argument("--force", action="store_true", help="write over a file that is there")
+
+
+def add_watch(commands):
+    parser = command(commands, "watch", "follows the log of a node that runs")
+    parser.add_argument("log", metavar="LOG")
+    parser.add_argument("--json", action="store_true", help="a line a refresh, for a monitor")
+    parser.add_argument("--every", type=positive, metavar="SECONDS", default=1.0, help="how long from one refresh to the next (1)")
+    parser.add_argument("--count", type=whole, metavar="N", default=0, help="end after so many refreshes (0: never)")
+    parser.add_argument("--now", type=whole, metavar="MS", help="take this for the present, in milliseconds, and not the clock")
+
+
+def make_parser():
+    parser = argparse.ArgumentParser(prog="lens.py", description=__doc__, formatter_class=argparse.RawDescriptionHelpFormatter)
+    commands = parser.add_subparsers(dest="command", metavar="COMMAND", required=True)
+    add_questions(commands)
+    add_pictures(commands)
+    add_watch(commands)
+    return parser
+
+
+def main(words=None):
+    """Runs a command, and answers its status. An error is one line on standard error."""
+    arguments = make_parser().parse_args(words)
+    try:
+        status = importlib.import_module(f"lens_{arguments.command}").run(arguments)
+        sys.stdout.flush()
+        return status
+    except (InputError, ProgramError) as error:
+        sys.stdout.flush()
+        print(f"lens: {error}", file=sys.stderr)
+        return 2
+    except KeyboardInterrupt:
+        return 0 if arguments.command == "watch" else 130
+    except BrokenPipeError:
+        os.dup2(os.open(os.devnull, os.O_WRONLY), sys.stdout.fileno())
+        return 0
+
+
+if __name__ == "__main__":
+    sys.exit(main())
