@@ -4,7 +4,7 @@ It is written from docs/FORMATS.md alone, so it is a second pair of eyes on that
 
 The model, in short:
 
-    Log(config, version, entries, torn)             torn: the first byte of an entry that the file cuts, or None
+    Log(config, version, entries, size, torn)       torn: the first byte of an entry that the file cuts, or None
     Entry(place, offset, length, kind, verdict, vertex)
     vertex: SignedUnit(unit, signature) | Evidence(left, right) | Endorsement(unit, endorser, signature)
     Unit(instance, creator, number, time, exponent, panorama, value, endorsed, digest)
@@ -129,11 +129,14 @@ class Entry:
 
 @dataclass(slots=True)
 class Log:
+    """A log up to its last whole entry, which ends at the byte `size`. `fault` is what stops the reading there, if anything does."""
+
     config: Config
     version: int
     entries: list
+    size: int
     torn: int | None = None
-    head: bytes = b""
+    fault: InputError | None = None
 
     def units(self):
         """Each unit of an entry of its own, by its digest, at its first entry."""
@@ -467,16 +470,17 @@ class LogReader:
         """Raises the error of a file that ends before its configuration is whole."""
         if self.config is None:
             size = len(self.buffer)
-            self.fail("bad magic", 0) if size < 4 else None
+            if size < 4:
+                self.fail("bad magic", 0)
             at = 4 if size < 5 else 5 if size < 9 else 9
             self.fail(f"torn at {at}", at)
 
 
-def read_file(path):
-    """The bytes of a file, or an InputError that says why there are none."""
+def read_file(path, size=-1):
+    """The bytes of a file, or so many of the first ones; or an InputError that says why there are none."""
     try:
         with open(path, "rb") as file:
-            return file.read()
+            return file.read(size)
     except OSError as error:
         raise InputError(path, (error.strerror or str(error)).lower()) from error
 
@@ -493,11 +497,34 @@ def each_entry(path, reader=None, progress=None):
     reader.check_head()
 
 
+def read_head(path):
+    """The configuration of a log, of which nothing else is read."""
+    reader = LogReader(path)
+    reader.feed(read_file(path, 9 + MOST_FRAME))
+    if not reader.read_head():
+        reader.check_head()
+    return reader.config
+
+
+def read_as_far(path, progress=None):
+    """A log up to its first fault, which the answer holds. Without a whole head there is none, and the fault is raised."""
+    reader, entries, fault = LogReader(path), [], None
+    try:
+        entries.extend(each_entry(path, reader, progress))
+    except InputError as error:
+        fault = error
+    if reader.config is None:
+        raise fault
+    torn = reader.at if reader.pending and fault is None else None
+    return Log(reader.config, reader.version, entries, reader.at, torn, fault)
+
+
 def read_log(path, progress=None):
     """A log whole. A cut last entry isn't an error: `torn` names its first byte. Any other fault is an InputError."""
-    reader = LogReader(path)
-    entries = list(each_entry(path, reader, progress))
-    return Log(reader.config, reader.version, entries, reader.at if reader.pending else None, reader.head)
+    log = read_as_far(path, progress)
+    if log.fault is not None:
+        raise log.fault
+    return log
 
 
 def spelled_log(config, pairs, version=1):

@@ -15,7 +15,11 @@ BUILT = pathlib.Path(__file__).resolve().parent.parent / "crates" / "highway" / 
 
 
 class ProgramError(Exception):
-    """The program isn't there, or said something that it shouldn't have."""
+    """The program isn't there, or ended otherwise than it should have. `text` is the line that it ended with, if it had one."""
+
+    def __init__(self, message, text=None):
+        super().__init__(message)
+        self.text = text
 
 
 @dataclass(frozen=True, slots=True)
@@ -56,20 +60,24 @@ class Verdict:
     threshold: int = 0
 
 
-def find_program(given=None):
-    """The path of the program, or None where there is none."""
+def named_program(given=None):
+    """The path at which the program has to be, and whether somebody named it."""
     named = given or os.environ.get("HIGHWAY")
-    path = pathlib.Path(named) if named else BUILT
-    return path.resolve() if path.is_file() and os.access(path, os.X_OK) else None
+    return (pathlib.Path(named), True) if named else (BUILT, False)
+
+
+def has_program(given=None):
+    """Whether a program was named, or the built one is there."""
+    path, named = named_program(given)
+    return named or path.is_file()
 
 
 def need_program(given=None):
     """The program, or the error that says where it was looked for."""
-    path = find_program(given)
-    if path is None:
-        named = given or os.environ.get("HIGHWAY") or BUILT
-        raise ProgramError(f"no program at {named}: build crates/highway, or name it with --program or HIGHWAY")
-    return Program(path)
+    path, _ = named_program(given)
+    if not path.is_file() or not os.access(path, os.X_OK):
+        raise ProgramError(f"no program at {path}: build crates/highway, or name it with --program or HIGHWAY")
+    return Program(path.resolve())
 
 
 class Program:
@@ -96,59 +104,52 @@ class Program:
         for word, name in names.items():
             if last[0].startswith(f"input {word}: "):
                 raise InputError(name, last[0][len(f"input {word}: "):])
-        raise ProgramError(f"{self.path.name} {words[0]} ended with status {status}: {last[0]}")
+        raise ProgramError(f"{self.path.name} {words[0]} ended with status {status}: {last[0]}", last[0])
 
     def replay(self, log):
         """The report on a log's node."""
-        with Whole(log) as path:
+        with log as path:
             return read_report(self.said({path: log.name}, "replay", path))
 
     def explain(self, log):
         """Each final block of a log's node, in order, with its committee."""
-        with Whole(log) as path:
+        with log as path:
             text = self.said({path: log.name}, "explain", path)
         return [read_final(line) for line in text.splitlines() if line.startswith("final ") and line != "final -"]
 
     def audit(self, left, right):
         """Whether two logs agree, or their conflict."""
-        with Whole(left) as one, Whole(right) as other:
+        with left as one, right as other:
             return read_verdict(self.said({one: left.name, other: right.name}, "audit", one, other, good=(0, 3)))
 
 
 class LogFile:
-    """A log that the program is asked about: the file, and how many of its bytes, or all of them."""
+    """So many of the first bytes of a log: without its torn end, what a node appends meanwhile, or its later entries."""
 
     def __init__(self, path, size=None):
-        self.path, self.size, self.name = pathlib.Path(path).resolve(), size, str(path)
-
-
-class Whole:
-    """A file that holds just the bytes asked about: the log itself, or a copy without its torn end or its later entries."""
-
-    def __init__(self, log):
-        self.log, self.copy = log, None
+        self.path, self.size, self.name, self.copy = pathlib.Path(path), size, str(path), None
 
     def __enter__(self):
-        log = self.log
-        if log.size is None:
-            return str(log.path)
-        with open(log.path, "rb") as file:
-            data = file.read(log.size)
+        """The path of a copy of these bytes."""
+        try:
+            with open(self.path, "rb") as file:
+                data = file.read(-1 if self.size is None else self.size)
+        except OSError as error:
+            raise InputError(self.name, (error.strerror or str(error)).lower()) from error
         with tempfile.NamedTemporaryFile(prefix="lens-", suffix=".hwlg", delete=False) as copy:
             copy.write(data)
         self.copy = copy.name
         return self.copy
 
     def __exit__(self, *_):
-        if self.copy:
-            os.unlink(self.copy)
+        os.unlink(self.copy)
 
 
 def log_file(path, log, place=None):
-    """The file of a log that was read: without its torn end, or up to the entry of that place."""
+    """The file of a log that was read: its whole entries, or those up to this place."""
     if place is not None and place < len(log.entries):
         return LogFile(path, log.entries[place].offset)
-    return LogFile(path, log.torn)
+    return LogFile(path, log.size)
 
 
 def read_final(line):
