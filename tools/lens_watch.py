@@ -103,10 +103,14 @@ def final_state(report, reading, now):
 
 def validator_states(reading, faulty, now):
     """Each validator: its units, and for how long it has said nothing."""
-    counts = collections.Counter(node.unit.creator for node in reading.order)
+    counts, latest = collections.Counter(), {}
+    for node in reading.order:
+        who, at = node.unit.creator, node.unit.time
+        counts[who] += 1
+        latest[who] = max(at, latest.get(who, at))
     for who, weight in enumerate(reading.config.weights):
-        tip = reading.tips[who]
-        yield {"validator": who, "weight": weight, "units": counts[who], "silent_ms": now - tip.unit.time if tip else None, "faulty": who in faulty}
+        silent = now - latest[who] if who in latest else None
+        yield {"validator": who, "weight": weight, "units": counts[who], "silent_ms": silent, "faulty": who in faulty}
 
 
 def wait_states(reading):
