@@ -424,13 +424,13 @@ class LogReader:
         if len(held) < 9 + length:
             return False
         try:
-            self.config = read_config(bytes(held[9:9 + length]))
+            config = read_config(bytes(held[9:9 + length]))
         except CodecError as error:
             self.fail(f"config {error}", 9 + error.place)
-        fault = config_fault(self.config)
+        fault = config_fault(config)
         if fault:
             self.fail(f"config {fault}", 9)
-        self.version = held[4]
+        self.config, self.version = config, held[4]
         self.head = self.drop(9 + length)
         self.lasts = Lasts(self.version, len(self.config.weights))
         return True

@@ -30,6 +30,12 @@ class Files(unittest.TestCase):
             read_log(self.file(data))
         return caught.exception.text, caught.exception.place
 
+    def refused_head(self, data):
+        """The same of bytes without a whole head, of which nothing can be shown."""
+        with self.assertRaises(InputError):
+            read_as_far(self.file(data))
+        return self.refused(data)
+
 
 class Shipped(Files):
     def test_each_shipped_log_is_its_own_spelling(self):
@@ -125,16 +131,16 @@ class Faults(Files):
 
     def test_heads(self):
         said = self.said[1]
-        self.assertEqual(self.refused(b""), ("bad magic", 0))
-        self.assertEqual(self.refused(b"HWL"), ("bad magic", 0))
-        self.assertEqual(self.refused(b"HWCT" + said[4:]), ("bad magic", 0))
-        self.assertEqual(self.refused(b"HWLG"), ("torn at 4", 4))
-        self.assertEqual(self.refused(said[:8]), ("torn at 5", 5))
-        self.assertEqual(self.refused(said[:self.head - 1]), ("torn at 9", 9))
-        self.assertEqual(self.refused(self.patched(4, b"\x03")), ("version 3", 4))
-        self.assertEqual(self.refused(self.patched(5, b"\xff")), ("too long at 5", 5))
-        self.assertEqual(self.refused(self.patched(9, b"\x07")), ("config bad tag at 0", 9))
-        self.assertEqual(self.refused(self.patched(14, bytes(8))), ("config zero weight 0", 9))
+        self.assertEqual(self.refused_head(b""), ("bad magic", 0))
+        self.assertEqual(self.refused_head(b"HWL"), ("bad magic", 0))
+        self.assertEqual(self.refused_head(b"HWCT" + said[4:]), ("bad magic", 0))
+        self.assertEqual(self.refused_head(b"HWLG"), ("torn at 4", 4))
+        self.assertEqual(self.refused_head(said[:8]), ("torn at 5", 5))
+        self.assertEqual(self.refused_head(said[:self.head - 1]), ("torn at 9", 9))
+        self.assertEqual(self.refused_head(self.patched(4, b"\x03")), ("version 3", 4))
+        self.assertEqual(self.refused_head(self.patched(5, b"\xff")), ("too long at 5", 5))
+        self.assertEqual(self.refused_head(self.patched(9, b"\x07")), ("config bad tag at 0", 9))
+        self.assertEqual(self.refused_head(self.patched(14, bytes(8))), ("config zero weight 0", 9))
 
     def test_entries(self):
         at = self.head

@@ -3,18 +3,27 @@
 HIGHWAY_ORACLE names the folder of that program (it has gen_logs.py and hwref/); without it this is skipped.
 HIGHWAY_ORACLE_LOGS is how many random logs are made, 20 without it, each in both versions.
 """
+import collections
 import os
 import pathlib
+import random
 import sys
 import tempfile
 import unittest
 
 from lens_graph import RULES, Reading
-from lens_log import ABSENT, FAULTY, Evidence, SignedUnit, read_log, spelled_log
+from lens_log import ABSENT, FAULTY, Evidence, InputError, SignedUnit, read_as_far, read_log, spelled_log
 
 ORACLE = os.environ.get("HIGHWAY_ORACLE")
 COUNT = int(os.environ.get("HIGHWAY_ORACLE_LOGS", "20"))
 SEED = os.environ.get("HIGHWAY_ORACLE_SEED", "lens")
+DAMAGES = 3
+
+
+def damage(data, chance):
+    """The bytes with one of them changed, or without their end."""
+    at = chance.randrange(len(data))
+    return data[:at] if chance.random() < 0.2 else data[:at] + bytes([chance.randrange(256)]) + data[at + 1:]
 
 
 def unit_of(signed):
@@ -67,12 +76,39 @@ class Oracle(unittest.TestCase):
 
     def test_random_logs(self):
         from gen_logs import log_bytes
-        entries = 0
+        logs, entries, faults = 0, 0, collections.Counter()
         for number in range(COUNT):
+            chance = random.Random(number)
             for version in (1, 2):
+                said = log_bytes(f"{SEED}/{number}", version)
                 with self.subTest(seed=f"{SEED}/{number}", version=version):
-                    entries += self.compare(log_bytes(f"{SEED}/{number}", version))
-        print(f"{COUNT} logs in both versions, {entries} entries: all the same", file=sys.stderr)
+                    for damaged in [said] + [damage(said, chance) for _ in range(DAMAGES)]:
+                        faults[self.compare_faults(damaged).partition(" at ")[0]] += 1
+                    if not self.compare_faults(said):
+                        logs, entries = logs + 1, entries + self.compare(said)
+        print(f"{logs} logs, {entries} entries, all the same; how they and damaged ones ended: {dict(faults)}", file=sys.stderr)
+
+    def compare_faults(self, data):
+        """Compares how the reading of these bytes ends, and the entries up to there; answers with what it ends, or with nothing."""
+        from hwref.log import LogError, LogReader
+        self.path.write_bytes(data)
+        entries, fault, place = [], "", 0
+        try:
+            log = read_as_far(self.path)
+            entries = log.entries
+            fault = log.fault.text if log.fault else f"torn at {log.torn}" if log.torn is not None else ""
+        except InputError as error:
+            fault = error.text
+        try:
+            theirs = LogReader(data)
+            while (other := theirs.next()) is not None:
+                self.assertEqual((other.at, vertex_of(entries[place].vertex)), (entries[place].offset, oracles_vertex(other.vertex)))
+                place += 1
+            said = ""
+        except LogError as error:
+            said = error.text
+        self.assertEqual((len(entries), fault), (place, said))
+        return fault
 
     def compare(self, data):
         """Compares each entry, what became of it, the fork choice and the faulty after it; answers how many there were."""
