@@ -189,7 +189,7 @@ def unit_lines(look, digest, keys=None, finals=()):
     rows += [("final", final_text(final, config)) for final in finals if final.digest == digest]
     for entry, signed in standing:
         inside = "" if isinstance(entry.vertex, SignedUnit) else " inside evidence"
-        rows.append(("stands in", f"entry {entry.place}{inside} at byte {entry.offset}, {entry.length} bytes, verdict {int(entry.verdict)}"))
+        rows.append(("found in", f"entry {entry.place}{inside} at byte {entry.offset}, {entry.length} bytes, verdict {int(entry.verdict)}"))
         rows.append(("signature", f"{signed.signature.hex()}  {signed_text(signed, entry, keys)}"))
     lines = [f"unit {digest.hex()}"] + [f"  {name:<10} {text}" for name, text in rows]
     lines.append("  panorama")
