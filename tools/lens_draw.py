@@ -6,7 +6,7 @@ import tempfile
 from lens_layout import block_labels, lay_out
 from lens_log import InputError
 from lens_program import need_program
-from lens_seen import look, progress_line
+from lens_seen import look
 from lens_svg import picture
 
 UNITS_MOST = 20000
@@ -36,7 +36,7 @@ def check_new(path, force):
 def run(arguments):
     """Draws the log, and says where the picture is."""
     check_new(arguments.out, arguments.force)
-    seen = look(arguments.log, need_program(arguments.program), progress_line(arguments, "read"))
+    seen = look(arguments.log, need_program(arguments.program), arguments)
     labels = block_labels(seen.reading)
     scene = lay_out(seen, labels, arguments.rounds, arguments.log)
     if len(scene.spots) > UNITS_MOST:

@@ -29,7 +29,7 @@ ROWS_APART_MOST = 40
 MANY_LANES = 24
 TRACKS_APART = 6
 SPREAD_TO, SPREAD_MOST = 880, 2.2
-HUB_LEAST = 4
+HUB_LEAST, HUB_LINES = 4, 30
 REFUSED = "refused"
 
 
@@ -99,16 +99,19 @@ class Rounds:
 
 @dataclass(slots=True)
 class Tag:
-    """A small mark under a unit. `kind` is start, final, mark or endorsed; `label` is the block's, where it has one."""
+    """A small mark under a unit. `kind` is start, final, mark or endorsed; `since` is the entry from which it holds."""
 
     kind: str
     text: str
+    since: int
     label: Label | None = None
 
 
 @dataclass(slots=True)
 class Spot:
-    """A unit in a lane. `forked` says that another unit of its creator, who is faulty, has its number."""
+    """A unit in a lane. `final` is the entry with which it became final, or 0. `forked` is 0, or, where another unit of
+    its creator, whom the program calls faulty, has its number, the entry since which that is known.
+    """
 
     node: object
     label: Label | None
@@ -116,16 +119,18 @@ class Spot:
     x: float = 0.0
     y: float = 0.0
     track: int = 0
-    final: bool = False
-    forked: bool = False
+    final: int = 0
+    forked: int = 0
     tags: list = field(default_factory=list)
 
 
 @dataclass(slots=True)
 class Lane:
+    """A validator's lane. `faulty` is the entry since which the validator is faulty, or 0."""
+
     validator: int
     weight: int
-    faulty: bool
+    faulty: int
     top: float = 0.0
     height: float = 0.0
     tracks: list = field(default_factory=list)
@@ -318,16 +323,16 @@ def start_tags(scene, seen, labels):
     for final in seen.finals:
         for member, starts in final.committee.items():
             for level, number in enumerate(starts):
-                add_start(scene, seen, (member, number, level), labels[final.digest])
+                add_start(scene, seen, (member, number, level), (labels[final.digest], seen.entry_of(final)))
 
 
-def add_start(scene, seen, start, label):
+def add_start(scene, seen, start, block):
     """Starts are on the lane of the member's unit at that moment; a member of a committee isn't faulty then."""
-    member, number, level = start
+    (member, number, level), (label, since) = start, block
     for node in seen.reading.units_at(member, number)[:1]:
         spot = scene.spots.get(node.unit.digest)
         if spot:
-            spot.tags.append(Tag("start", f"{label.text}·{level}", label))
+            spot.tags.append(Tag("start", f"{label.text}·{level}", since, label))
 
 
 def final_tags(scene, seen, labels):
@@ -335,22 +340,25 @@ def final_tags(scene, seen, labels):
     for final in seen.finals:
         block = scene.spots.get(final.digest)
         if block:
-            block.final = True
+            block.final = seen.entry_of(final)
         vertex = seen.reading.journal[final.at - 1].vertex
         spot = scene.spots.get(vertex.unit.digest) if isinstance(vertex, SignedUnit) else None
         if spot:
-            spot.tags.append(Tag("final", labels[final.digest].text, labels[final.digest]))
+            spot.tags.append(Tag("final", labels[final.digest].text, seen.entry_of(final), labels[final.digest]))
 
 
 def mark_tags(scene, seen):
-    """Marks units that newly mark a validator as faulty, and units that are endorsed."""
+    """Marks units that newly mark a validator as faulty, units that are endorsed, and the two blocks of a conflict."""
     for spot in scene.spots.values():
         before = spot.node.before()
         for who, view in enumerate(spot.node.panorama):
             if view == FAULTY and (before is None or before.panorama[who] != FAULTY):
-                spot.tags.append(Tag("mark", f"!{who}"))
-        if spot.node.unit.digest in seen.reading.endorsed_since:
-            spot.tags.append(Tag("endorsed", "E"))
+                spot.tags.append(Tag("mark", f"!{who}", spot.node.since))
+        since = seen.reading.endorsed_since.get(spot.node.unit.digest)
+        if since:
+            spot.tags.append(Tag("endorsed", "E", since.place))
+        if spot.node.unit.digest in seen.conflict:
+            spot.tags.append(Tag("conflict", "conflict", spot.node.since))
 
 
 def merge(tags):
@@ -365,7 +373,7 @@ def merge(tags):
         elif tag.kind != "final":
             others.append(tag)
     said = "✓" + "–".join(dict.fromkeys([finals[0].text, finals[-1].text])) if finals else ""
-    return [*starts.values(), *([Tag("final", said, finals[0].label)] if finals else []), *others]
+    return [*starts.values(), *([Tag("final", said, finals[0].since, finals[0].label)] if finals else []), *others]
 
 
 # ---- the whole
@@ -373,10 +381,10 @@ def merge(tags):
 def lay_out(seen, labels, asked=(None, None), name="LOG"):
     """The scene of a log that was read and judged: those of its rounds that are asked for."""
     reading = seen.reading
-    rounds = Rounds(reading.config.least, [node.unit.time for node in reading.order])
+    rounds = Rounds(reading.config.least, seen.times())
     window = rounds.window(name, asked)
     nodes = [node for node in reading.order if window[0] <= rounds.number(node.unit.time) <= window[1]]
-    lanes = [Lane(who, weight, who in seen.faulty) for who, weight in enumerate(reading.config.weights)]
+    lanes = [Lane(who, weight, seen.faulty_since(who)) for who, weight in enumerate(reading.config.weights)]
     scene = Scene(lanes, {}, window=window, all_rounds=rounds.count, few=len(lanes) <= MANY_LANES)
     keys = column_keys(nodes)
     place_spots(scene, seen, labels, nodes, keys)
@@ -400,8 +408,7 @@ def place_spots(scene, seen, labels, nodes, keys):
     for node in nodes:
         label = labels.get(node.vote.unit.digest) if node.vote is not None else None
         spot = Spot(node, label, unit_width(label.text if label else ""))
-        same = seen.reading.units_at(node.unit.creator, node.unit.number)
-        spot.forked = node.unit.creator in seen.faulty and len(same) > 1
+        spot.forked = forked_since(seen, node)
         scene.spots[node.unit.digest] = spot
         by_creator.setdefault(node.unit.creator, []).append(node)
     for found in by_creator.values():
@@ -424,6 +431,14 @@ def spread(scene, columns):
         each.x = first + (each.x - first) * by
     columns.places = [first + (x - first) * by for x in columns.places]
     scene.width = first + (scene.width - first) * by
+
+
+def forked_since(seen, node):
+    """The entry since which a unit is known as one of an equivocation: of a validator that the program calls faulty. Else 0."""
+    same = seen.reading.units_at(node.unit.creator, node.unit.number)
+    if node.unit.creator in seen.faulty and len(same) > 1:
+        return max(node.since, seen.faulty_since(node.unit.creator))
+    return node.since if node.unit.digest in seen.culprits else 0
 
 
 def place_lanes(scene):
@@ -472,7 +487,7 @@ def join_lines(scene, drawn):
         ends = [scene.spots[low.unit.digest] for low in lows]
         highs = [scene.spots[node.unit.digest] for node in nodes]
         left, right = max(spot.x for spot in ends), min(spot.x for spot in highs)
-        if len(nodes) >= HUB_LEAST and left + UNIT_HEIGHT < right:
+        if len(nodes) >= HUB_LEAST and len(nodes) * len(lows) >= HUB_LINES and left + UNIT_HEIGHT < right:
             middle = sum(spot.y for spot in ends + highs) / (len(ends) + len(highs))
             scene.hubs.append(Hub((left + right) / 2, middle, ends, highs))
             joined.update(nodes)

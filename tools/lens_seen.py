@@ -1,17 +1,20 @@
 """A log that was read, and what the proved program says of it. Pictures and pages are made of this."""
-import sys
 from dataclasses import dataclass, field
 
 from lens_graph import read_journal
 from lens_log import Log, read_log
 from lens_program import differences, log_file
+from lens_show import Progress
 
 FAULTY_MOST = 16
 
 
 @dataclass(slots=True)
 class Seen:
-    """A log, the own reading of it, and the program's judgements: final blocks with committees, who is faulty, what it reports."""
+    """A log, the own reading of it, and the program's judgements: final blocks with committees, who is faulty, what it reports.
+
+    `culprits` are the units by which an audit with another log shows a culprit; `conflict` are the two blocks of it.
+    """
 
     name: str
     log: Log
@@ -20,17 +23,21 @@ class Seen:
     finals: list
     faulty: list
     notes: list = field(default_factory=list)
+    culprits: dict = field(default_factory=dict)
+    conflict: tuple = ()
 
     def entry_of(self, final):
         """The place of the entry with which a block became final."""
         return self.reading.journal[final.at - 1].place
 
+    def faulty_since(self, who):
+        """The entry since which a validator is faulty whom the program calls so, or 0."""
+        since = self.reading.faulty_since.get(who)
+        return (since.place if since else self.log.entries[-1].place) if who in self.faulty else 0
 
-def progress_line(arguments, what):
-    """A line on standard error that counts on, where that is a terminal and nobody asked for silence; else None."""
-    if arguments.no_progress or not sys.stderr.isatty():
-        return None
-    return lambda done, of: print(f"\r{what}: {done} of {of}", end="\n" if done >= of else "", file=sys.stderr)
+    def times(self):
+        """The times of all settled units."""
+        return [node.unit.time for node in self.reading.order]
 
 
 def limited(log, reading):
@@ -40,8 +47,9 @@ def limited(log, reading):
     return Log(log.config, log.version, kept, at, log.head)
 
 
-def look(path, program, progress=None):
+def look(path, program, arguments):
     """Reads a log, and asks the program about it."""
+    progress = Progress(arguments, f"{path}: read")
     log, notes = read_log(path, progress), []
     if log.torn is not None:
         notes.append(f"the file is torn at byte {log.torn}: what stands before it is shown")
@@ -50,6 +58,7 @@ def look(path, program, progress=None):
         notes.append(f"{reading.limit}: the program stops there, and what stands before it is shown")
         log = limited(log, reading)
         reading = read_journal(log, progress)
+    progress.finish()
     file = log_file(path, log)
     report, finals = program.replay(file), program.explain(file)
     notes += [f"THE TWO READINGS DIFFER. {said}" for said in differences(reading, report)]

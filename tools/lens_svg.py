@@ -1,9 +1,9 @@
 """A laid out scene as SVG, with its legend and its foot. Colours are those of Okabe and Ito, which colour-blind readers
 tell apart; what they say is also written, or told by a shape. The picture follows the reader's light or dark background.
 """
+import re
 from html import escape
 
-from lens_graph import SETTLED
 from lens_layout import LABEL_WIDTH, LETTER, TAG_HEIGHT, UNIT_HEIGHT, apart_text, unit_width
 from lens_log import value_text
 
@@ -40,15 +40,25 @@ def number(value):
     return said[:-2] if said.endswith(".0") else said
 
 
-def text(x, y, said, kind=""):
+def text(x, y, said, kind="", since=""):
     name = f' class="{kind}"' if kind else ""
-    return f'<text x="{number(x)}" y="{number(y)}"{name}>{escape(said)}</text>'
+    return f'<text x="{number(x)}" y="{number(y)}"{name}{since}>{escape(said)}</text>'
 
 
-def rect(x, y, width, height, kind="", round_by=0):
+def rect(x, y, width, height, kind="", round_by=0, since=""):
     rounded = f' rx="{number(round_by)}"' if round_by else ""
     name = f' class="{kind}"' if kind else ""
-    return f'<rect x="{number(x)}" y="{number(y)}" width="{number(width)}" height="{number(height)}"{rounded}{name}/>'
+    return f'<rect x="{number(x)}" y="{number(y)}" width="{number(width)}" height="{number(height)}"{rounded}{name}{since}/>'
+
+
+def from_entry(place, what="from"):
+    """For a page: since which entry something is to be seen (`from`), settled, or known as an equivocation (`accused`)."""
+    return f' data-{what}="{place}"'
+
+
+def without_moments(said):
+    """A picture that stands still needs no marks of the page."""
+    return re.sub(r' data-(?:from|settled|accused|unit)="[0-9a-f]*"', "", said)
 
 
 # ---- colours
@@ -70,11 +80,7 @@ def colour_rules():
 # ---- lanes, rounds, citations
 
 def bands(scene, width):
-    parts = []
-    for place, lane in enumerate(scene.lanes):
-        if place % 2 == 0:
-            parts.append(rect(0, lane.top, width, lane.height, "band"))
-    return "".join(parts)
+    return "".join(rect(0, lane.top, width, lane.height, "band") for lane in scene.lanes[::2])
 
 
 def lane_labels(scene):
@@ -84,10 +90,13 @@ def lane_labels(scene):
         y, name = lane.top + 20, f"validator {lane.validator}"
         if scene.few:
             parts.append(text(10, y, name, "big") + text(10, y + 16, f"weight {lane.weight}", "soft"))
-            parts.append(text(62 + 7 * len(str(lane.weight)), y + 16, "faulty", "red") if lane.faulty else "")
+            parts.append(text(62 + 7 * len(str(lane.weight)), y + 16, "faulty", "red", from_entry(lane.faulty)) if lane.faulty else "")
         else:
             parts.append(text(10, y, f"{lane.validator} · {lane.weight}", "red" if lane.faulty else ""))
-    return "<g id=\"labels\">" + "".join(parts) + "</g>"
+    for kind, y, count in scene.sections:
+        parts.append(f'<path class="rule" d="M0 {number(y)}H{LABEL_WIDTH}"/>')
+        parts.append(text(10, y + 22, kind, "big") + text(84, y + 22, str(count), "soft"))
+    return "".join(parts)
 
 
 def round_lines(scene, axis):
@@ -122,10 +131,10 @@ def citation_lines(scene):
     parts = []
     for spot, others in by_unit.values():
         way = "".join(f"M{number(spot.x)} {number(spot.y)}L{number(other.x)} {number(other.y)}" for other in others)
-        parts.append(f'<path class="cite" data-of="{spot.node.unit.digest.hex()[:16]}" d="{way}"/>')
+        parts.append(f'<path class="cite"{from_entry(spot.node.since)} d="{way}"/>')
     parts += [hub_lines(hub) for hub in scene.hubs]
     for spot, _ in scene.stubs:
-        parts.append(f'<path class="stub" d="M{number(spot.x)} {number(spot.y)}h-26"/>')
+        parts.append(f'<path class="stub"{from_entry(spot.node.since)} d="M{number(spot.x)} {number(spot.y)}h-26"/>')
     return "".join(parts)
 
 
@@ -133,7 +142,8 @@ def hub_lines(hub):
     """Lines that meet in a dot: each unit on the right cites each one on the left."""
     way = "".join(f"M{number(spot.x)} {number(spot.y)}L{number(hub.x)} {number(hub.y)}" for spot in hub.lows + hub.highs)
     said = f"each of the {len(hub.highs)} units on the right cites each of the {len(hub.lows)} on the left"
-    return (f'<path class="cite hub" d="{way}"/><g><title>{said}</title>'
+    since = from_entry(max(spot.node.since for spot in hub.highs))
+    return (f'<path class="cite"{since} d="{way}"/><g{since}><title>{said}</title>'
             f'<circle class="dot" cx="{number(hub.x)}" cy="{number(hub.y)}" r="3.5"/></g>')
 
 
@@ -142,10 +152,11 @@ def lane_lines(scene):
     parts = []
     for spot, other in scene.steps:
         kind = "fork" if spot.forked else "step"
+        since = from_entry(spot.node.since) + (from_entry(spot.forked, "accused") if spot.forked else "")
         bend = spot.y - other.y
         way = f"M{number(other.x)} {number(other.y)}"
         way += f"l{number(min(14, (spot.x - other.x) / 2))} {number(bend)}H{number(spot.x)}" if bend else f"H{number(spot.x)}"
-        parts.append(f'<path class="{kind}" data-of="{spot.node.unit.digest.hex()[:16]}" d="{way}"/>')
+        parts.append(f'<path class="{kind}"{since} d="{way}"/>')
     return "".join(parts)
 
 
@@ -166,15 +177,15 @@ def unit_shape(spot):
     """A block is a box, another unit a pill. A final block has a second frame, a unit of an equivocation a red broken ring."""
     unit, half = spot.node.unit, spot.width / 2
     x, y, width = spot.x - half, spot.y - UNIT_HEIGHT / 2, spot.width
-    kind = fill_of(spot.label) + (" block" if unit.is_block else "")
+    kind = fill_of(spot.label) + (" body block" if unit.is_block else " body")
     parts = [rect(x, y, width, UNIT_HEIGHT, kind, 2 if unit.is_block else UNIT_HEIGHT / 2)]
     if spot.final:
-        parts.append(rect(x - 3.5, y - 3.5, width + 7, UNIT_HEIGHT + 7, "frame", 3))
+        parts.append(rect(x - 3.5, y - 3.5, width + 7, UNIT_HEIGHT + 7, "frame", 3, from_entry(spot.final)))
     if spot.forked:
         out = 6 if spot.final else 3.5
-        parts.append(rect(x - out, y - out, width + 2 * out, UNIT_HEIGHT + 2 * out, "ring", 3 if unit.is_block else 13))
+        parts.append(rect(x - out, y - out, width + 2 * out, UNIT_HEIGHT + 2 * out, "ring", 3 if unit.is_block else 13, from_entry(spot.forked)))
     if spot.label:
-        parts.append(text(spot.x, spot.y + 4, spot.label.text, ink_of(spot.label) + (" bold" if unit.is_block else "")))
+        parts.append(text(spot.x, spot.y + 4, spot.label.text, ink_of(spot.label) + (" bold label" if unit.is_block else " label")))
     return "".join(parts)
 
 
@@ -189,7 +200,7 @@ def tag_shape(spot, tag, place):
     x = spot.x - width / 2
     if tag.kind == "start":
         return rect(x, y, width, TAG_HEIGHT - 1.5, fill_of(tag.label), 2) + text(spot.x, y + 9, tag.text, f"tag {ink_of(tag.label)}")
-    if tag.kind == "mark":
+    if tag.kind in ("mark", "conflict"):
         return text(spot.x, y + 9, tag.text, "tag m")
     return rect(x, y, width, TAG_HEIGHT - 1.5, "none box", 2) + text(spot.x, y + 9, tag.text, "tag bold")
 
@@ -197,23 +208,21 @@ def tag_shape(spot, tag, place):
 def unit_marks(scene):
     parts = []
     for spot in scene.spots.values():
-        tags = "".join(tag_shape(spot, tag, place) for place, tag in enumerate(spot.tags))
-        name = spot.node.unit.digest.hex()[:16]
-        parts.append(f'<g class="u" data-unit="{name}"><title>{escape(unit_title(spot))}</title>{unit_shape(spot)}{tags}</g>')
+        tags = "".join(f"<g{from_entry(tag.since)}>{tag_shape(spot, tag, place)}</g>" for place, tag in enumerate(spot.tags))
+        node = spot.node
+        marks = f' data-unit="{node.unit.digest.hex()[:16]}"' + from_entry(node.entry.place)
+        marks += from_entry(node.since, "settled") if node.since > node.entry.place else ""
+        parts.append(f'<g class="u"{marks}><title>{escape(unit_title(spot))}</title>{unit_shape(spot)}{tags}</g>')
     return "".join(parts)
 
 
 def apart_marks(scene):
     """The units that aren't settled, each kind below a line of its own."""
-    heads = {"parked": "parked", "dropped": "dropped", "refused": "refused"}
-    parts = []
-    for kind, y, count in scene.sections:
-        parts.append(f'<path class="rule" d="M0 {number(y)}H{number(scene.width)}"/>')
-        parts.append(text(10, y + 22, heads[kind], "big") + text(84, y + 22, str(count), "soft"))
+    parts = [f'<path class="rule" d="M{LABEL_WIDTH} {number(y)}H{number(scene.width)}"/>' for _, y, _ in scene.sections]
     for one in scene.apart:
         name, half = one.unit.digest.hex()[:16], UNIT_HEIGHT / 2
         title = f"unit {name} by {one.unit.creator}, number {one.unit.number}, time {one.unit.time}, entry {one.entry.place}: {one.kind}, {one.why}"
-        parts.append(f'<g class="apart" data-unit="{name}"><title>{escape(title)}</title>'
+        parts.append(f'<g class="apart" data-unit="{name}"{from_entry(one.entry.place)}><title>{escape(title)}</title>'
                      + rect(one.x, one.y - half, one.width, UNIT_HEIGHT, one.kind, half)
                      + text(one.x + 7, one.y + 4, apart_text(one)) + "</g>")
     return "".join(parts)
@@ -221,8 +230,8 @@ def apart_marks(scene):
 
 def drawing(scene, axis, width):
     """The picture itself, without head, legend and foot."""
-    return "".join([bands(scene, width), round_lines(scene, axis), f'<g id="lines">{citation_lines(scene)}{lane_lines(scene)}</g>',
-                    f'<g id="units">{unit_marks(scene)}</g>', apart_marks(scene), lane_labels(scene)])
+    return "".join([bands(scene, width), round_lines(scene, axis), f'<g>{citation_lines(scene)}{lane_lines(scene)}</g><g class="overlay"></g>',
+                    f'<g>{unit_marks(scene)}</g>', apart_marks(scene)])
 
 
 # ---- head, table, legend, foot
@@ -278,16 +287,19 @@ def legend_items(scene, seen):
     if any(spot.final for spot in blocks):
         items.append(("final", "a final block", label))
     if "start" in tags:
-        items.append(("start", "h·j: a committee member's start for block h, level j", tags["start"]))
+        items.append(("start", "h·j: a start for block h, level j", tags["start"]))
     if "final" in tags:
         items.append(("tag", "with this unit block h became final", tags["final"]))
     if any(spot.forked for spot in scene.spots.values()):
         items.append(("fork", "an equivocation: two units of one number", None))
     if "mark" in tags:
         items.append(("tag", "marks this validator as faulty", tags["mark"]))
+    if "conflict" in tags:
+        items.append(("tag", "a block of the conflict", tags["conflict"]))
     if "endorsed" in tags:
         items.append(("tag", "endorsed", tags["endorsed"]))
-    return items + [("cite", "cites, to the left", None), ("step", "the unit before on the lane", None)]
+    items += [("cite", "cites, to the left", None), ("step", "the unit before on the lane", None)]
+    return items + ([("hub", "each on the right cites each on the left", None)] if scene.hubs else [])
 
 
 def legend_mark(kind, x, y, what):
@@ -301,14 +313,16 @@ def legend_mark(kind, x, y, what):
         middle = f'<text x="{number(x + wide / 2)}" y="{number(y + 4)}" text-anchor="middle" class="{ink_of(what)}">{escape(said)}</text>'
         return f'{shape}{frame}{middle}', wide + (4 if kind == "final" else 0)
     if kind in ("start", "tag"):
-        spot = LegendSpot(x + tag_width(what) / 2, y - UNIT_HEIGHT / 2 - 10)
+        spot = Place(x + tag_width(what) / 2, y - UNIT_HEIGHT / 2 - 10)
         return f'<g class="u">{tag_shape(spot, what, 0)}</g>', tag_width(what)
     if kind == "fork":
         return f'<path class="fork" d="M{x} {y}h18"/>' + rect(x + 16, top, 20, UNIT_HEIGHT, "ring", 10), 36
+    if kind == "hub":
+        return f'<path class="cite" d="M{x} {y - 7}l13 7M{x} {y + 7}l26 -14M{x + 13} {y}l13 7"/><circle class="dot" cx="{x + 13}" cy="{y}" r="3.5"/>', 26
     return f'<path class="{kind}" d="M{x} {y}h26"/>', 26
 
 
-class LegendSpot:
+class Place:
     """A place for a tag that stands in the legend."""
 
     def __init__(self, x, y):
@@ -336,7 +350,7 @@ def picture(seen, scene, labels):
     width = max(scene.width, WIDTH_LEAST, 24 + 7.0 * longest)
     top = 12 + HEAD_LINE * len(heads) + 40
     parts = [text(12, 22 + HEAD_LINE * place, line, "soft" if place else "title") for place, line in enumerate(heads)]
-    parts.append(f'<g transform="translate(0 {top})">{drawing(scene, -8, width)}</g>')
+    parts.append(f'<g transform="translate(0 {top})">{drawing(scene, -8, width)}{lane_labels(scene)}</g>')
     y = top + scene.height + 12
     parts.append(text(12, y + 12, "Final blocks, as the program explains them", "big"))
     parts += [text(12, y + 12 + TABLE_LINE * (place + 1), line, "mono") for place, line in enumerate(table)]
@@ -344,7 +358,7 @@ def picture(seen, scene, labels):
     shapes, height = legend(legend_items(scene, seen), y + 4, width)
     y += height + 12
     parts += [shapes] + [text(12, y + 10 + 15 * place, line, "soft") for place, line in enumerate(DISCLAIMER)]
-    return framed("".join(parts), width, y + 15 * len(DISCLAIMER) + 8)
+    return framed(without_moments("".join(parts)), width, y + 15 * len(DISCLAIMER) + 8)
 
 
 def framed(inside, width, height):
