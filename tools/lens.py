@@ -3,13 +3,13 @@
 
     python3 tools/lens.py COMMAND ...           python3 tools/lens.py COMMAND --help
 
-It proves nothing. It reads the documented formats itself, so it is a second pair of eyes on them. Each judgement (what is
-final, who is faulty, who is a culprit) comes from the proved program, which it calls: `--program PATH`, else the
-environment variable HIGHWAY, else crates/highway/out/highway of this repository. What it works out itself, so that there
-is something to show, is compared with what the program's `replay` says.
+It proves nothing. It reads the documented formats itself, so it is a second pair of eyes on them. Each judgement (what
+is final, who is faulty, who is a culprit) comes from the proved program, which it calls: `--program PATH`, else the
+environment variable HIGHWAY, else crates/highway/out/highway in this repository. What it works out itself, so that
+there is something to show, is compared with what the program's `replay` says.
 
-Status 0: it showed what was asked. 1: `verify` found a verdict that isn't what the keys say, or the own reading isn't the
-program's. 2: bad words, a bad file, no program; one line on standard error says which, with its place.
+Status 0: it showed what was asked. 1: `verify` found a verdict that isn't what the keys say, or the own reading differs
+from the program. 2: bad words, a bad file, or no program; one line on standard error says which, with its place.
 """
 import argparse
 import importlib
@@ -21,6 +21,8 @@ sys.path.insert(0, str(pathlib.Path(__file__).resolve().parent))
 
 from lens_log import InputError  # noqa: E402
 from lens_program import ProgramError  # noqa: E402
+
+ALL = (None, None)
 
 
 def span(text):
@@ -52,7 +54,7 @@ def whole(text):
 def command(commands, name, what):
     """A command's parser, with the option that all have."""
     parser = commands.add_parser(name, help=what, description=what)
-    parser.add_argument("--program", metavar="PATH", help="the built program (else HIGHWAY, else crates/highway/out/highway)")
+    parser.add_argument("--program", metavar="PATH", help="the built program (else HIGHWAY, else the one built here)")
     parser.add_argument("--no-progress", action="store_true", help="no progress line on standard error")
     return parser
 
@@ -60,7 +62,7 @@ def command(commands, name, what):
 def add_questions(commands):
     parser = command(commands, "entries", "each entry of a log, and what became of it")
     parser.add_argument("log", metavar="LOG")
-    parser.add_argument("--entries", type=span, metavar="A..B", default=(None, None), help="the entries of these places alone")
+    parser.add_argument("--entries", type=span, metavar="A..B", default=ALL, help="only the entries of these places")
     parser = command(commands, "unit", "one unit in full")
     parser.add_argument("log", metavar="LOG")
     parser.add_argument("hash", metavar="HASH", help="the digest, or a prefix that one unit alone has")
@@ -75,30 +77,34 @@ def add_questions(commands):
     parser.add_argument("right", metavar="RIGHT")
 
 
+def picture_options(parser):
+    parser.add_argument("--rounds", type=span, metavar="A..B", default=ALL, help="only these rounds, from the first on")
+    parser.add_argument("--force", action="store_true", help="write over a file that is there")
+
+
 def add_pictures(commands):
     parser = command(commands, "draw", "a log as a picture")
     parser.add_argument("log", metavar="LOG")
     parser.add_argument("out", metavar="OUT.svg")
-    parser.add_argument("--rounds", type=span, metavar="A..B", default=(None, None), help="these rounds alone, counted from the first")
-    parser.add_argument("--force", action="store_true", help="write over a file that is there")
+    picture_options(parser)
     parser = command(commands, "page", "a log, or the conflict of two, as a page for a browser")
     parser.add_argument("logs", metavar="LOG", nargs="+", help="one log, or two in conflict")
     parser.add_argument("out", metavar="OUT.html")
-    parser.add_argument("--rounds", type=span, metavar="A..B", default=(None, None), help="these rounds alone, counted from the first")
-    parser.add_argument("--force", action="store_true", help="write over a file that is there")
+    picture_options(parser)
 
 
 def add_watch(commands):
     parser = command(commands, "watch", "follows the log of a node that runs")
     parser.add_argument("log", metavar="LOG")
     parser.add_argument("--json", action="store_true", help="a line a refresh, for a monitor")
-    parser.add_argument("--every", type=positive, metavar="SECONDS", default=1.0, help="how long from one refresh to the next (1)")
+    parser.add_argument("--every", type=positive, metavar="SECONDS", default=1.0, help="between refreshes (1)")
     parser.add_argument("--count", type=whole, metavar="N", default=0, help="end after so many refreshes (0: never)")
-    parser.add_argument("--now", type=whole, metavar="MS", help="take this for the present, in milliseconds, and not the clock")
+    parser.add_argument("--now", type=whole, metavar="MS", help="the present in milliseconds, in place of the clock")
 
 
 def make_parser():
-    parser = argparse.ArgumentParser(prog="lens.py", description=__doc__, formatter_class=argparse.RawDescriptionHelpFormatter)
+    form = argparse.RawDescriptionHelpFormatter
+    parser = argparse.ArgumentParser(prog="lens.py", description=__doc__, formatter_class=form)
     commands = parser.add_subparsers(dest="command", metavar="COMMAND", required=True)
     add_questions(commands)
     add_pictures(commands)

@@ -1,76 +1,93 @@
 """`lens.py entries LOG`: each entry of a log, and what became of it.
 
-What became of an entry is an own reading, whose totals are compared with the program's `replay`; which block is final
+What became of an entry is an own reading, whose totals are compared with the program's `replay`. Which block is final
 since which entry is the program's word.
 """
-from lens_graph import DROPPED, PARKED, SETTLED, RULES
-from lens_log import Endorsement, Evidence, SignedUnit, short
+from lens_graph import DROPPED, PARKED, SETTLED, rule_text
+from lens_log import Endorsement, Evidence, short
 from lens_show import Look, counted
 
 HEAD = ("place", "byte", "kind", "by", "number", "round", "time", "digest", "verdict", "became")
+LEFT_BOUND = ("kind", "digest", "verdict", "became")
+MOST_NUMBERS = 16
 
 
 def fate(look, entry, outcome):
     """What became of an entry at once, and later where it was parked."""
-    said = str(outcome)
     if outcome.word != PARKED:
-        return said
+        return str(outcome)
     node = look.reading.nodes[entry.vertex.unit.digest]
-    later = {SETTLED: f"settled at {node.since}", DROPPED: f"dropped at {node.since} by {node.rule} {RULES.get(node.rule)}"}
-    return f"{said}, {later.get(node.state, 'and waits')}"
+    if node.state == SETTLED:
+        return f"{outcome}, settled at {node.since}"
+    if node.state == DROPPED:
+        return f"{outcome}, dropped at {node.since} by {rule_text(node.rule)}"
+    return f"{outcome}, and waits"
+
+
+def middle(vertex):
+    """The words of a vertex from its kind to its digest."""
+    if isinstance(vertex, Endorsement):
+        return "endorsement", vertex.endorser, "", "", "", short(vertex.unit)
+    if isinstance(vertex, Evidence):
+        left, right = vertex.left.unit, vertex.right.unit
+        return "evidence", left.creator, left.number, "", "", f"{short(left.digest)} {short(right.digest)}"
+    unit = vertex.unit
+    return "block" if unit.is_block else "unit", unit.creator, unit.number, unit.round, unit.time, short(unit.digest)
 
 
 def row(look, entry, outcome, finals):
     """The words of an entry, one for each column."""
-    vertex = entry.vertex
-    if isinstance(vertex, SignedUnit):
-        unit, kind = vertex.unit, "block" if vertex.unit.is_block else "unit"
-        middle = (unit.creator, unit.number, unit.round, unit.time, short(unit.digest))
-    elif isinstance(vertex, Evidence):
-        unit, kind = vertex.left.unit, "evidence"
-        middle = (unit.creator, unit.number, "", "", f"{short(unit.digest)} {short(vertex.right.unit.digest)}")
-    else:
-        assert isinstance(vertex, Endorsement)
-        kind, middle = "endorsement", (vertex.endorser, "", "", "", short(vertex.unit))
     became = fate(look, entry, outcome) + "".join(f"; final {final.height} {short(final.digest)}" for final in finals)
-    return (entry.place, entry.offset, kind, *middle, "good" if entry.verdict else "bad", became)
+    return entry.place, entry.offset, *middle(entry.vertex), "good" if entry.verdict else "bad", became
 
 
 def table(rows):
     """Rows as lines with columns as wide as they need; numbers to the right."""
     words = [[str(word) for word in each] for each in [HEAD, *rows]]
     widths = [max(map(len, column)) for column in zip(*words)]
-    left = {HEAD.index(name) for name in ("kind", "digest", "verdict", "became")}
     for each in words:
-        yield "  ".join(word.ljust(size) if at in left else word.rjust(size) for at, (word, size) in enumerate(zip(each, widths))).rstrip()
+        cells = [word.ljust(width) if name in LEFT_BOUND else word.rjust(width)
+                 for name, word, width in zip(HEAD, each, widths)]
+        yield "  ".join(cells).rstrip()
+
+
+def numbers(values):
+    """Numbers with spaces between, and two dots where there are many."""
+    return " ".join(map(str, values[:MOST_NUMBERS])) + (" .." if len(values) > MOST_NUMBERS else "")
 
 
 def head_lines(look):
+    """What the log is, and its configuration."""
     log, config = look.log, look.log.config
-    leaders = "drawn" if isinstance(config.leaders, bytes) else " ".join(map(str, config.leaders[:16])) + (" .." if len(config.leaders) > 16 else "")
-    weights = " ".join(map(str, config.weights[:16])) + (" .." if len(config.weights) > 16 else "")
-    yield f"{look.path}: a log of version {log.version}, {counted(len(log.entries), 'entry', 'entries')} in {log.size} bytes"
+    leaders = "drawn" if isinstance(config.leaders, bytes) else numbers(config.leaders)
+    end = "" if config.end is None else f", end {config.end}"
+    entries = counted(len(log.entries), "entry", "entries")
+    yield f"{look.path}: a log of version {log.version}, {entries} in {log.size} bytes"
     yield f"instance {config.instance.hex()}"
-    yield f"{len(config.weights)} validators of weight {weights}, together {look.reading.total}; threshold {config.threshold}, levels {config.levels}"
-    yield f"exponents {config.least} to {config.greatest}, leaders {leaders}" + (f", end {config.end}" if config.end is not None else "")
+    yield (f"{counted(len(config.weights), 'validator')} of weight {numbers(config.weights)}, together "
+           f"{look.reading.total}; threshold {config.threshold}, levels {config.levels}")
+    yield f"exponents {config.least} to {config.greatest}, leaders {leaders}{end}"
+
+
+def rows_of(look, report, span):
+    """The rows of the entries whose places are in the span."""
+    finals, (low, high) = {}, span
+    for final in report.finals if report else ():
+        finals.setdefault(look.entry_of(final).place, []).append(final)
+    for entry, outcome in zip(look.log.entries, look.reading.outcomes):
+        if (low or 0) <= entry.place and (high is None or entry.place <= high):
+            yield row(look, entry, outcome, finals.get(entry.place, ()))
 
 
 def run(arguments):
     """Shows the entries, then the totals; 1 where the program's totals are others."""
     look = Look(arguments.log, arguments)
     report, differing = look.compare()
-    finals = {}
-    for final in report.finals if report else ():
-        finals.setdefault(look.reading.journal[final.at - 1].place, []).append(final)
-    low, high = arguments.entries
-    chosen = [(entry, outcome) for entry, outcome in zip(look.log.entries, look.reading.outcomes)
-              if (low or 0) <= entry.place and (high is None or entry.place <= high)]
-    print("\n".join(head_lines(look)))
-    print("\n".join(table([row(look, entry, outcome, finals.get(entry.place, ())) for entry, outcome in chosen])))
-    print("\n".join(look.reading.totals()))
+    for line in [*head_lines(look), *table(rows_of(look, report, arguments.entries)), *look.reading.totals()]:
+        print(line)
     if look.log.torn is not None:
         print(f"torn at {look.log.torn}: the last entry is cut")
     if differing:
-        print("the own reading differs from the program:\n" + "\n".join(differing))
+        print("the own reading differs from the program:", *differing, sep="\n")
     look.refuse_fault()
     return 1 if differing else 0

@@ -5,9 +5,10 @@ from lens_show import Look, unit_lines
 
 
 def pair_against(look, creator):
-    """The pair that the journal has against a validator, and where it is from.
+    """The digests of the pair that the journal has against a validator, and where it is from.
 
-    It is the evidence of the journal, or else the two settled units of the least number that has two, least digests first.
+    It is the evidence of the journal; without one, the two settled units of the least digests at the least number that
+    has two.
     """
     entry = look.reading.accused.get(creator)
     if entry is not None:
@@ -17,15 +18,16 @@ def pair_against(look, creator):
     if not forks:
         raise ProgramError(f"the program says that {creator} is faulty, and the lens finds no pair in {look.path}")
     number, nodes = next(iter(forks.items()))
-    nodes = sorted(nodes, key=lambda node: node.unit.digest)[:2]
-    return tuple(node.unit.digest for node in nodes), f"two settled units with the number {number}, entries {nodes[0].entry.place} and {nodes[1].entry.place}"
+    one, other = sorted(nodes, key=lambda node: node.unit.digest)[:2]
+    places = f"entries {one.entry.place} and {other.entry.place}"
+    return (one.unit.digest, other.unit.digest), f"two settled units with the number {number}, {places}"
 
 
 def against_lines(look, creator, keys):
     """All that shows a validator faulty, as lines."""
     pair, source = pair_against(look, creator)
-    since = look.reading.faulty_since[creator]
-    yield f"validator {creator} (weight {look.log.config.weights[creator]}) is faulty since entry {since.place}: {source}"
+    weight, since = look.log.config.weights[creator], look.reading.faulty_since[creator]
+    yield f"validator {creator} (weight {weight}) is faulty since entry {since.place}: {source}"
     for digest in pair:
         yield from ("  " + line for line in unit_lines(look, digest, keys))
 
@@ -41,6 +43,6 @@ def run(arguments):
     for creator in report.faulty:
         print("\n".join(against_lines(look, creator, keys)))
     weight = sum(look.log.config.weights[creator] for creator in report.faulty)
-    said = "exceeds" if report.exceeded is not None else "doesn't exceed"
+    said = "doesn't exceed" if report.exceeded is None else "exceeds"
     print(f"faulty weight {weight}, which {said} the threshold {look.log.config.threshold}")
     return 0

@@ -1,7 +1,9 @@
 """Worlds made by hand, as logs: the running example of docs/DEFINITIONS.md, and what tests make of it."""
 from dataclasses import replace
 
-from lens_log import ABSENT, FAULTY, Config, Endorsement, Evidence, SignedUnit, digest_of, endorsement_signature, make_unit, spelled_config, unit_signature
+from lens_log import (
+    Config, Endorsement, Evidence, SignedUnit, Unit, digest_of, endorsement_signature, spelled_config, unit_signature,
+    with_digest)
 
 EXAMPLE = """
 a0 by 0 at 16 cites - - - - block x
@@ -16,18 +18,32 @@ c2 by 2 at 43 cites a0 b1 c1 f0
 c3 by 2 at 48 cites a0 b1 c2 f0 block z
 a1 by 0 at 58 cites a0 b2 c2 ! endorsed b2
 """
+CLAUSES = ("by", "at", "exp", "number", "cites", "block", "endorsed")
 EXAMPLE_ORDER = "a0 b0 c0 d0 f0 b1 c1 b2 c2 c3 b2:1 b2:2 a1"
 
 
-def make_config(weights, threshold, levels=2, exponents=(4, 8), leaders=(0,), records=131072, parked=4096, end=None):
-    """A configuration with its instance."""
-    bare = Config(tuple(weights), threshold, levels, *exponents, leaders if isinstance(leaders, bytes) else tuple(leaders), records, parked, end, b"")
+def make_config(weights, threshold, **others):
+    """A configuration with its instance; fields that aren't named are those of the running example."""
+    common = {"levels": 2, "least": 4, "greatest": 8, "leaders": (0,), "records": 131072, "parked": 4096, "end": None}
+    bare = Config(tuple(weights), threshold, **(common | others))
     return replace(bare, instance=digest_of(spelled_config(bare)))
 
 
 def sample_keys(count):
     """Keys of a test network for so many validators."""
     return [digest_of(b"key %d" % who) for who in range(count)]
+
+
+def clauses(words):
+    """The words behind each word that begins a clause."""
+    parts, key = {}, None
+    for word in words:
+        if word in CLAUSES:
+            key = word
+            parts[key] = []
+        else:
+            parts[key].append(word)
+    return parts
 
 
 class World:
@@ -37,24 +53,18 @@ class World:
         self.config, self.keys, self.units = config, sample_keys(len(config.weights)), {}
 
     def unit(self, line):
-        """`NAME by V at T [exp E] cites C C .. [number N] [block TEXT] [endorsed NAME ..]`; defines the unit, and answers it signed."""
-        words = line.split()
-        name, parts = words[0], {}
-        for word in words[1:]:
-            if word in ("by", "at", "exp", "cites", "number", "block", "endorsed"):
-                key = word
-                parts[key] = []
-            else:
-                parts[key].append(word)
-        panorama = [word if word in (ABSENT, FAULTY) else self.units[word].unit.digest for word in parts["cites"]]
-        creator = int(parts["by"][0])
-        own = parts["cites"][creator] if creator < len(panorama) else ABSENT
-        number = int(parts["number"][0]) if "number" in parts else self.units[own].unit.number + 1 if own in self.units else 0
-        value = parts["block"][0].encode() if "block" in parts else None
-        endorsed = sorted(self.units[word].unit.digest for word in parts.get("endorsed", ()))
+        """Defines a unit by a line as above; `exp E` and `number N` may be there too. Answers it signed."""
+        name, *words = line.split()
+        parts = clauses(words)
+        panorama = tuple(self.units[word].unit.digest if word in self.units else word for word in parts["cites"])
+        creator, time = int(parts["by"][0]), int(parts["at"][0])
+        own = self.units.get(parts["cites"][creator]) if creator < len(panorama) else None
+        number = int(parts["number"][0]) if "number" in parts else own.unit.number + 1 if own else 0
         exponent = int(parts["exp"][0]) if "exp" in parts else self.config.least
-        made = make_unit(self.config.instance, creator, number, int(parts["at"][0]), exponent, panorama, value, endorsed)
-        self.units[name] = self.signed(made)
+        value = parts["block"][0].encode() if "block" in parts else None
+        endorsed = tuple(sorted(self.units[word].unit.digest for word in parts.get("endorsed", ())))
+        unit = Unit(self.config.instance, creator, number, time, exponent, panorama, value, endorsed)
+        self.units[name] = self.signed(with_digest(unit))
         return self.units[name]
 
     def signed(self, unit):

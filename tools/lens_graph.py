@@ -1,12 +1,12 @@
 """An own reading of a journal: what settles, what is parked or dropped, who is faulty, votes, heights.
 
-It is written from docs/DEFINITIONS.md, so that pictures and texts have something to show. It proves nothing and it judges
-nothing: what is final and who is to blame is asked of the proved program (lens_program), and the totals of this reading
-are compared with those of the program's `replay`.
+It is written from docs/DEFINITIONS.md, so that pictures and texts have something to show. It proves nothing and judges
+nothing: what is final and who is to blame is asked of the proved program (lens_program). The totals of this reading are
+compared with those of the program's `replay`.
 
     reading = Reading(log.config)
     for entry in log.entries: outcome = reading.take(entry)
-    reading.nodes[digest]     each unit of the journal: a Node with its state, and once settled its vote, height and lane
+    reading.nodes[digest]     a unit of the journal: a Node with its state, and once settled its vote, height and lane
     reading.journal[j - 1]    the entry that made the journal j vertices long
 """
 import heapq
@@ -24,6 +24,11 @@ RULES = {
 SETTLED, PARKED, DROPPED = "settled", "parked", "dropped"
 
 
+def rule_text(rule):
+    """A rule's number and its name, as the program prints them."""
+    return f"{rule} {RULES[rule]}"
+
+
 class Line:
     """A stretch of a tree without a fork: it leaves the `parent` line above the level `start - 1`."""
 
@@ -34,7 +39,7 @@ class Line:
 
     @staticmethod
     def behind(before, level):
-        """The line of what comes at this level behind something on the line `before`, and goes on from its level - 1."""
+        """The line of what comes at this level, after something at the level before on the line `before`."""
         if before is not None and before.end == level - 1:
             before.end = level
             return before
@@ -82,7 +87,7 @@ class Node:
 
 @dataclass(frozen=True, slots=True)
 class Outcome:
-    """What became of an entry when it was delivered: `admitted N`, `parked N`, `dropped R RULE`, `repeat` or `refused WHY`."""
+    """What a delivery came to: `admitted N`, `parked N`, `dropped R RULE`, `repeat` or `refused WHY`."""
 
     word: str
     detail: str = ""
@@ -176,7 +181,8 @@ def fork_choice(panorama, weights):
 
 def chacha_words(key, stream):
     """The two first words of ChaCha8 with this key and stream."""
-    start = [0x61707865, 0x3320646E, 0x79622D32, 0x6B206574, *struct.unpack("<8I", key), 0, 0, stream & 0xFFFFFFFF, stream >> 32]
+    start = [0x61707865, 0x3320646E, 0x79622D32, 0x6B206574, *struct.unpack("<8I", key)]
+    start += [0, 0, stream & 0xFFFFFFFF, stream >> 32]
     state = list(start)
     columns = [(0, 4, 8, 12), (1, 5, 9, 13), (2, 6, 10, 14), (3, 7, 11, 15)]
     diagonals = [(0, 5, 10, 15), (1, 6, 11, 12), (2, 7, 8, 13), (3, 4, 9, 14)]
@@ -247,7 +253,7 @@ def local_rule(config, unit):
 
 
 def needs_of(unit):
-    """What a unit relies on, each once and in order: ("unit", digest), ("evidence", validator), ("endorsed", digest)."""
+    """What a unit relies on, in order, each once: ("unit", digest), ("evidence", validator), ("endorsed", digest)."""
     needs = [("unit", seen) for seen in unit.panorama if isinstance(seen, bytes)]
     needs += [("evidence", who) for who, seen in enumerate(unit.panorama) if seen == FAULTY]
     needs += [("endorsed", digest) for digest in unit.endorsed]
@@ -304,10 +310,10 @@ class Reading:
         """What `replay` says first, in its words: settled, parked, dropped, refused, repeats, and who is faulty."""
         refused = sum(outcome.word == "refused" for outcome in self.outcomes)
         repeats = sum(outcome.word == "repeat" for outcome in self.outcomes)
-        faulty = " ".join(map(str, self.faulty())) or "-"
         counts = f"units {len(self.order)} parked {len(self.parked)} dropped {len(self.dropped)}"
-        fork = self.fork()
-        return [f"{counts} refused {refused} repeats {repeats}", f"faulty {faulty}", f"fork {fork.unit.digest.hex() if fork else '-'}"]
+        faulty, fork = " ".join(map(str, self.faulty())) or "-", self.fork()
+        counts += f" refused {refused} repeats {repeats}"
+        return [counts, f"faulty {faulty}", f"fork {fork.unit.digest.hex() if fork else '-'}"]
 
     def faulty(self):
         return sorted(self.faulty_since)
@@ -329,7 +335,8 @@ class Reading:
 
     def forks_of(self, creator):
         """The settled units of a creator that share their number with another one, by number."""
-        return {number: nodes for (who, number), nodes in sorted(self.numbers.items()) if who == creator and len(nodes) > 1}
+        found = {number: nodes for (who, number), nodes in self.numbers.items() if who == creator and len(nodes) > 1}
+        return dict(sorted(found.items()))
 
     # what it takes
 
@@ -354,17 +361,17 @@ class Reading:
             rule = 2 if vertex.endorser >= len(self.config.weights) else 0
             known = vertex.endorser in self.endorsers.get(vertex.unit, ())
         if rule:
-            return Outcome("refused", f"local {rule} {RULES[rule]}")
+            return Outcome("refused", f"local {rule_text(rule)}")
         if fault:
             return Outcome("refused", f"pair {fault}")
         return Outcome("repeat") if known else self.no_room(entry)
 
     def no_room(self, entry):
         """The outcome where the journal or the park is full; the program ends there, with the entry's first byte."""
-        full = None
+        full, is_unit = None, isinstance(entry.vertex, SignedUnit)
         if len(self.journal) >= self.config.records:
             full = "records"
-        elif isinstance(entry.vertex, SignedUnit) and len(self.parked) >= self.config.parked and self.unmet(entry.vertex.unit):
+        elif is_unit and len(self.parked) >= self.config.parked and self.unmet(entry.vertex.unit):
             full = "parked"
         if full and self.limit is None:
             self.limit = f"limit {full} at {entry.offset}"
@@ -396,7 +403,7 @@ class Reading:
         self.judge([node], entry)
         settled = tuple(self.order[before:])
         if node.state == DROPPED:
-            return Outcome("dropped", f"{node.rule} {RULES[node.rule]}")
+            return Outcome("dropped", rule_text(node.rule))
         return Outcome("admitted", str(len(settled)), settled)
 
     def endorse(self, vertex, entry):
@@ -442,9 +449,10 @@ class Reading:
             else:
                 self.settle(node)
                 queue += self.met(("unit", node.unit.digest))
-                if len(self.units_at(node.unit.creator, node.unit.number)) > 1 and node.unit.creator not in self.faulty_since:
-                    self.faulty_since[node.unit.creator] = entry
-                    queue += self.met(("evidence", node.unit.creator))
+                creator = node.unit.creator
+                if len(self.units_at(creator, node.unit.number)) > 1 and creator not in self.faulty_since:
+                    self.faulty_since[creator] = entry
+                    queue += self.met(("evidence", creator))
 
     def settle(self, node):
         unit, before = node.unit, node.before()
@@ -461,7 +469,7 @@ class Reading:
             self.tips[unit.creator] = node
 
     def state_rule(self, node):
-        """The first of the rules 9 to 19 that a unit breaks whose needs are met, or 0. Works out its fork choice too."""
+        """The first of the rules 9 to 19 that a unit breaks, or 0. Its needs are met; its fork choice is worked out."""
         if any(seen.unit.creator != who for who, seen in enumerate(node.panorama) if isinstance(seen, Node)):
             return 9
         before, unit = node.before(), node.unit

@@ -12,7 +12,7 @@ The model, in short:
 An observation of a panorama is ABSENT, FAULTY, or the 32 bytes of a digest.
 """
 import hashlib
-from dataclasses import dataclass, field
+from dataclasses import dataclass, field, replace
 
 ABSENT, FAULTY = "-", "!"
 DIGEST = 32
@@ -32,7 +32,7 @@ class CodecError(Exception):
 
 
 class InputError(Exception):
-    """A file's bytes aren't what they should be. `text` says why, in the program's words; `place` is a byte, or None."""
+    """A file's bytes aren't what they should be. `text` says why, in the program's words; `place` is a byte or None."""
 
     def __init__(self, name, text, place=None):
         super().__init__(f"input {name}: {text}")
@@ -53,7 +53,7 @@ class Unit:
     panorama: tuple
     value: bytes | None
     endorsed: tuple
-    digest: bytes = field(compare=False, repr=False)
+    digest: bytes = field(default=b"", compare=False, repr=False)
 
     @property
     def round(self):
@@ -108,7 +108,7 @@ class Config:
     records: int
     parked: int
     end: int | None
-    instance: bytes = field(compare=False, repr=False)
+    instance: bytes = field(default=b"", compare=False, repr=False)
 
 
 @dataclass(frozen=True, slots=True)
@@ -129,7 +129,7 @@ class Entry:
 
 @dataclass(slots=True)
 class Log:
-    """A log up to its last whole entry, which ends at the byte `size`. `fault` is what stops the reading there, if anything does."""
+    """A log up to its last whole entry, which ends at byte `size`. `fault` is what ended the reading there, if any."""
 
     config: Config
     version: int
@@ -169,10 +169,9 @@ def spelled_unit(unit):
     return head + b"".join(map(spelled_observation, unit.panorama)) + spelled_tail(unit.value, unit.endorsed)
 
 
-def make_unit(instance, creator, number, time, exponent, panorama, value=None, endorsed=()):
+def with_digest(unit):
     """A unit with its digest, worked out from its full spelling."""
-    bare = Unit(instance, creator, number, time, exponent, tuple(panorama), value, tuple(endorsed), b"")
-    return Unit(instance, creator, number, time, exponent, bare.panorama, value, bare.endorsed, digest_of(spelled_unit(bare)))
+    return replace(unit, digest=digest_of(spelled_unit(unit)))
 
 
 def spelled_vertex(vertex):
@@ -180,7 +179,7 @@ def spelled_vertex(vertex):
     if isinstance(vertex, SignedUnit):
         return b"\x01" + spelled_unit(vertex.unit) + vertex.signature
     if isinstance(vertex, Evidence):
-        return b"\x02" + b"".join(spelled_unit(side.unit) + side.signature for side in (vertex.left, vertex.right))
+        return b"\x02" + b"".join(spelled_unit(each.unit) + each.signature for each in (vertex.left, vertex.right))
     return b"\x03" + vertex.unit + vertex.endorser.to_bytes(4) + vertex.signature
 
 
@@ -281,7 +280,8 @@ def read_config(data):
     if version not in (1, 2):
         raise CodecError("bad tag", 0)
     weights = tuple(cursor.number(8) for _ in range(cursor.count(MOST_VALIDATORS)))
-    threshold, levels, least, greatest = cursor.number(8), cursor.number(1), cursor.number(1), cursor.number(1)
+    threshold, levels = cursor.number(8), cursor.number(1)
+    least, greatest = cursor.number(1), cursor.number(1)
     if cursor.tag(1):
         leaders = cursor.take(DIGEST)
     else:
@@ -302,7 +302,7 @@ def config_fault(config):
         ("threshold", config.threshold >= sum(config.weights)),
         ("levels", not 1 <= config.levels <= 30),
         ("exponents", not 2 <= config.least <= config.greatest <= 40),
-        ("leader table", isinstance(table, tuple) and not (1 <= len(table) <= MOST_LEADERS and max(table) < count)),
+        ("leader table", not isinstance(table, bytes) and not (1 <= len(table) <= MOST_LEADERS and max(table) < count)),
         ("records", not 1 <= config.records <= (32768 if count > 256 else 131072)),
         ("parked", not 1 <= config.parked <= 16384),
     )
@@ -362,7 +362,8 @@ class Lasts:
         value, endorsed = cursor.tail()
         signature = cursor.take(DIGEST)
         cursor.finish()
-        return SignedUnit(make_unit(last.instance, creator, number, time, exponent, panorama, value, endorsed), signature)
+        unit = Unit(last.instance, creator, number, time, exponent, panorama, value, endorsed)
+        return SignedUnit(with_digest(unit), signature)
 
 
 def read_changes(cursor, creator, last):
@@ -377,7 +378,7 @@ def read_changes(cursor, creator, last):
             raise CodecError("out of range", at)
         panorama[slot], before = seen, slot
     panorama[creator] = last.digest
-    return panorama
+    return tuple(panorama)
 
 
 # ---- a log
@@ -507,7 +508,7 @@ def read_head(path):
 
 
 def read_as_far(path, progress=None):
-    """A log up to its first fault, which the answer holds. Without a whole head there is none, and the fault is raised."""
+    """A log up to its first fault, which the answer holds. The fault of a head is raised."""
     reader, entries, fault = LogReader(path), [], None
     try:
         entries.extend(each_entry(path, reader, progress))
@@ -530,7 +531,8 @@ def read_log(path, progress=None):
 def spelled_log(config, pairs, version=1):
     """The bytes of a log with these pairs of a verdict and a vertex as its entries."""
     said = spelled_config(config)
-    lasts, parts = Lasts(version, len(config.weights)), [MAGIC + bytes([version]) + len(said).to_bytes(4) + said]
+    lasts = Lasts(version, len(config.weights))
+    parts = [MAGIC + bytes([version]) + len(said).to_bytes(4) + said]
     for verdict, vertex in pairs:
         data = lasts.spelled(vertex)
         parts.append(bytes([1, verdict]) + len(data).to_bytes(4) + data)
@@ -543,7 +545,8 @@ def spelled_log(config, pairs, version=1):
 def read_keys(path, count=None):
     """The keys of a file, one a line: 64 lower-case hexadecimal digits and a line feed.
 
-    With `count` there have to be so many. A fault names the first byte that can't stand there, or the length of a short text.
+    With `count` there have to be that many. A fault names the first byte that can't be there, or the length of a text
+    that is too short.
     """
     text = read_file(path)
     for at, byte in enumerate(text):

@@ -1,7 +1,7 @@
 """Runs the proved program, and reads what it says. Every judgement of the lens comes from here.
 
-The program is found by `--program PATH`, then by the environment variable HIGHWAY, then as crates/highway/out/highway of
-this repository. It runs in an empty folder of its own, since `replay` tells its consumers, and one of them writes a file.
+The program is found by `--program PATH`, then by the environment variable HIGHWAY, then as crates/highway/out/highway
+in this repository. It runs in an empty folder of its own, since a consumer of `replay` writes a file.
 """
 import os
 import pathlib
@@ -15,7 +15,7 @@ BUILT = pathlib.Path(__file__).resolve().parent.parent / "crates" / "highway" / 
 
 
 class ProgramError(Exception):
-    """The program isn't there, or ended otherwise than it should have. `text` is the line that it ended with, if it had one."""
+    """There is no program, or it ended with another status than it should. `text` is its last line, if it had one."""
 
     def __init__(self, message, text=None):
         super().__init__(message)
@@ -24,7 +24,7 @@ class ProgramError(Exception):
 
 @dataclass(frozen=True, slots=True)
 class Final:
-    """A final block as the program tells it. `committee` has the starts of each member by level, where `explain` said them."""
+    """A final block by the program. `committee` has each member's starts by level, where `explain` printed them."""
 
     height: int
     digest: bytes
@@ -48,7 +48,7 @@ class Report:
 
 @dataclass(slots=True)
 class Verdict:
-    """What `audit` says: `agree` is the shared length; or there is a conflict, and `culprits` are (validator, digest, digest)."""
+    """What `audit` says. `agree` is the shared length, or None in a conflict; culprits: (validator, digest, digest)."""
 
     text: str
     agree: int | None = None
@@ -124,7 +124,7 @@ class Program:
 
 
 class LogFile:
-    """So many of the first bytes of a log: without its torn end, what a node appends meanwhile, or its later entries."""
+    """The first bytes of a log: without its torn end, what a node appends meanwhile, or its later entries."""
 
     def __init__(self, path, size=None):
         self.path, self.size, self.name, self.copy = pathlib.Path(path), size, str(path), None
@@ -178,11 +178,14 @@ def read_verdict(text):
     if lines[0][0] == "agree":
         return Verdict(text, agree=int(lines[0][1]))
     verdict = Verdict(text, None, int(lines[0][2]), bytes.fromhex(lines[0][4]), bytes.fromhex(lines[0][6]))
-    verdict.culprits = [(int(words[1]), bytes.fromhex(words[2]), bytes.fromhex(words[3])) for words in lines if words[0] == "culprit"]
+    for words in lines:
+        if words[0] == "culprit":
+            verdict.culprits.append((int(words[1]), bytes.fromhex(words[2]), bytes.fromhex(words[3])))
     verdict.weight, verdict.threshold = int(lines[-1][1]), int(lines[-1][3])
     return verdict
 
 
 def differences(reading, report):
-    """The lines in which an own reading says something else than the program's `replay`."""
-    return [f"the program says: {said}\nthe lens reads:   {own}" for own, said in zip(reading.totals(), report.lines) if own != said]
+    """The lines in which an own reading differs from the program's `replay`."""
+    pairs = zip(reading.totals(), report.lines)
+    return [f"the program says: {said}\nthe lens reads:   {own}" for own, said in pairs if own != said]

@@ -1,8 +1,7 @@
 """`lens.py watch LOG`: follows the log of a node that runs, on one screen that refreshes, or a line of JSON a refresh.
 
-What is final and who is faulty is the program's word: its `replay` is asked about the whole entries, again when there are
-new ones, and seldom enough that it takes a tenth of the time at most. Ages are told by this machine's clock against the
-times of units, which are those of the nodes' clocks.
+What is final and who is faulty is the program's word: its `replay` is run again when there are new entries, and for a
+tenth of the time at most. Ages compare this machine's clock with the times of units, which are the nodes' clocks.
 """
 import collections
 import json
@@ -11,13 +10,13 @@ import sys
 import time
 
 from lens_graph import Reading
-from lens_log import InputError, LogReader
-from lens_program import LogFile, differences, need_program
+from lens_log import InputError, LogReader, short
+from lens_program import LogFile, ProgramError, differences, need_program
 from lens_show import counted, listed, need_text
 
-WINDOW = 10.0
-SHARE = 10
-CUT_FOR = 5.0
+WINDOW = 10.0  # seconds over which units a second are counted
+SHARE = 10  # the program may take the time of one run in so many
+CUT_FOR = 5.0  # seconds after which a cut entry is torn and not one that is being written
 SHOWN_WAITS = 8
 
 
@@ -30,19 +29,24 @@ class Follower:
 
     def begin(self, inode):
         """Starts from the first byte, as at first and where the file was replaced by another one."""
-        self.inode, self.reader, self.reading, self.got, self.cut_since = inode, LogReader(self.path), None, 0, None
+        self.inode, self.got, self.cut_since = inode, 0, None
+        self.reader, self.reading = LogReader(self.path), None
 
-    def follow(self, moment):
-        """Reads what the file has gained. `moment` is a monotonic clock's."""
+    def gained(self):
+        """The bytes that the file has gained since the last time."""
         try:
             with open(self.path, "rb") as file:
                 known = os.fstat(file.fileno())
                 if known.st_ino != self.inode or known.st_size < self.got:
                     self.begin(known.st_ino)
                 file.seek(self.got)
-                data = file.read()
+                return file.read()
         except OSError as error:
             raise InputError(self.path, (error.strerror or str(error)).lower()) from error
+
+    def follow(self, moment):
+        """Reads what the file has gained. `moment` is a monotonic clock's."""
+        data = self.gained()
         self.got += len(data)
         self.reader.feed(data)
         for entry in self.reader.entries():
@@ -50,8 +54,10 @@ class Follower:
             self.reading.take(entry)
         if self.reading is None and self.reader.config is not None:
             self.reading = Reading(self.reader.config)
-        grew = bool(data) or self.cut_since is None
-        self.cut_since = None if not self.reader.pending else moment if grew else self.cut_since
+        if not self.reader.pending:
+            self.cut_since = None
+        elif data or self.cut_since is None:
+            self.cut_since = moment
 
     def torn(self, moment):
         """The first byte of an entry that has been cut for a while; a node that writes one just now leaves none."""
@@ -63,9 +69,11 @@ class Judge:
     """The program's report on the log, asked for again when there is more of it and enough time has gone by."""
 
     def __init__(self, program):
-        self.program, self.report, self.entries, self.differing, self.next, self.of = program, None, 0, [], 0.0, None
+        self.program, self.next = program, 0.0
+        self.report, self.of, self.entries, self.differing = None, None, 0, []
 
     def judge(self, follower, moment):
+        """Runs the program, unless it is too soon or nothing is new."""
         reading, reader = follower.reading, follower.reader
         if reading is None or moment < self.next or (reader.place == self.entries and self.of is reading):
             return
@@ -97,8 +105,11 @@ def final_state(report, reading, now):
     if not report.finals:
         return None
     final = report.finals[-1]
-    unit, least = reading.nodes[final.digest].unit, reading.config.least
-    return {"height": final.height, "digest": final.digest.hex(), "age_ms": now - unit.time, "rounds_without": (now >> least) - (unit.time >> least)}
+    node, least = reading.nodes.get(final.digest), reading.config.least
+    if node is None:
+        raise ProgramError(f"the program says that {short(final.digest)} is final, and the lens doesn't know it")
+    rounds, age = (now >> least) - (node.unit.time >> least), now - node.unit.time
+    return {"height": final.height, "digest": final.digest.hex(), "age_ms": age, "rounds_without": rounds}
 
 
 def validator_states(reading, faulty, now):
@@ -114,7 +125,7 @@ def validator_states(reading, faulty, now):
 
 
 def wait_states(reading):
-    """What parked units wait for and what isn't itself parked: the first of it, and how much there is."""
+    """What parked units wait for and the log lacks: how many needs, and the first of them."""
     needs = [need for need in reading.waiting if not (need[0] == "unit" and need[1] in reading.nodes)]
     return {"needs": len(needs), "first": [need_text(need) for need in needs[:SHOWN_WAITS]]}
 
@@ -133,13 +144,15 @@ class Watch:
         self.follower.follow(moment)
         self.judge.judge(self.follower, moment)
         reader, reading, report = self.follower.reader, self.follower.reading, self.judge.report
-        told = {"time_ms": now, "log": str(self.arguments.log), "bytes": self.follower.got, "entries": reader.place, "torn": self.follower.torn(moment)}
+        state = {"time_ms": now, "log": str(self.arguments.log), "bytes": self.follower.got, "entries": reader.place}
+        state["torn"] = self.follower.torn(moment)
         if reading is None or report is None or self.judge.of is not reading:
-            return told
-        told |= report.counts | {"judged_entries": self.judge.entries, "final": final_state(report, reading, now)}
-        told |= {"faulty": report.faulty, "exceeded": report.exceeded, "units_a_second": self.rate.mark(moment, len(reading.order))}
-        told |= {"validators": list(validator_states(reading, report.faulty, now)), "waits": wait_states(reading)}
-        return told | {"agrees": not self.judge.differing}
+            return state
+        state |= report.counts | {"judged_entries": self.judge.entries, "final": final_state(report, reading, now)}
+        state |= {"faulty": report.faulty, "exceeded": report.exceeded, "waits": wait_states(reading)}
+        state["units_a_second"] = self.rate.mark(moment, len(reading.order))
+        state["validators"] = list(validator_states(reading, report.faulty, now))
+        return state | {"agrees": not self.judge.differing}
 
 
 def span_text(milliseconds):
@@ -157,46 +170,66 @@ def span_text(milliseconds):
     return f"{seconds} s"
 
 
-def final_line(told, least):
-    final = told["final"]
+def final_line(state, least):
+    final = state["final"]
     if final is None:
         return "nothing yet"
-    rounds = final["rounds_without"]
-    return f"height {final['height']}  {final['digest'][:8]}  {span_text(final['age_ms'])} old, {counted(rounds, 'round')} of {1 << least} ms since"
+    age, rounds = span_text(final["age_ms"]), counted(final["rounds_without"], "round")
+    return f"height {final['height']}  {final['digest'][:8]}  {age} old, {rounds} of {1 << least} ms since"
 
 
-def screen(told, reading):
+def parked_line(state):
+    waits = state["waits"]
+    if not state["parked"]:
+        return "0"
+    return f"{state['parked']}; they wait for {waits['needs']} that the log lacks: {listed(waits['first'])}"
+
+
+def faulty_line(state):
+    faulty = listed(map(str, state["faulty"]))
+    if state["exceeded"] is None:
+        return faulty
+    return f"{faulty}, of weight {state['exceeded']}, ABOVE the threshold: nothing more becomes final"
+
+
+def warnings(state):
+    """What isn't there on a good day."""
+    if state["torn"] is not None:
+        yield f"torn     at {state['torn']}: the last entry has been cut for a while"
+    if state["judged_entries"] < state["entries"]:
+        yield f"judged   up to entry {state['judged_entries']}"
+    if not state["agrees"]:
+        yield "DIFFERS  the own reading differs from the program"
+
+
+def screen(state, reading):
     """The state as lines of one screen."""
-    clock = time.strftime("%Y-%m-%d %H:%M:%S", time.localtime(told["time_ms"] / 1000))
-    yield f"{told['log']}: {told['entries']} entries, {told['bytes']} bytes   {clock}"
-    if "final" not in told:
+    clock = time.strftime("%Y-%m-%d %H:%M:%S", time.localtime(state["time_ms"] / 1000))
+    yield f"{state['log']}: {state['entries']} entries, {state['bytes']} bytes   {clock}"
+    if "final" not in state:
         yield "waits for the first entries"
         return
-    pace = "-" if told["units_a_second"] is None else told["units_a_second"]
-    yield f"final    {final_line(told, reading.config.least)}"
-    yield f"units    {told['units']} settled, {pace} a second; {told['dropped']} dropped, {told['refused']} refused, {told['repeats']} repeats"
-    yield f"parked   {told['parked']}" + (f", which wait for {told['waits']['needs']}: {listed(told['waits']['first'])}" if told["parked"] else "")
-    over = f", of weight {told['exceeded']}, ABOVE the threshold: nothing more becomes final" if told["exceeded"] is not None else ""
-    yield f"faulty   {listed(map(str, told['faulty']))}{over}"
-    if told["torn"] is not None:
-        yield f"torn     at {told['torn']}: the last entry has been cut for a while"
-    if told["judged_entries"] < told["entries"]:
-        yield f"judged   up to entry {told['judged_entries']}"
-    if not told["agrees"]:
-        yield "DIFFERS  the own reading isn't what the program says"
+    pace = "-" if state["units_a_second"] is None else state["units_a_second"]
+    others = ", ".join(f"{state[name]} {name}" for name in ("dropped", "refused", "repeats"))
+    yield f"final    {final_line(state, reading.config.least)}"
+    yield f"units    {state['units']} settled, {pace} a second; {others}"
+    yield f"parked   {parked_line(state)}"
+    yield f"faulty   {faulty_line(state)}"
+    yield from warnings(state)
     yield "validator  weight  units  silent for"
-    for each in told["validators"]:
-        yield f"{each['validator']:>9}  {each['weight']:>6}  {each['units']:>5}  {span_text(each['silent_ms'])}{'  FAULTY' if each['faulty'] else ''}"
+    for each in state["validators"]:
+        mark = "  FAULTY" if each["faulty"] else ""
+        yield f"{each['validator']:>9}  {each['weight']:>6}  {each['units']:>5}  {span_text(each['silent_ms'])}{mark}"
 
 
 def show(watch, arguments):
     """Shows one refresh."""
-    told = watch.state()
+    state = watch.state()
     if arguments.json:
-        print(json.dumps(told), flush=True)
+        print(json.dumps(state), flush=True)
         return
     clear = "\x1b[H\x1b[2J" if sys.stdout.isatty() else ""
-    print(clear + "\n".join(screen(told, watch.follower.reading)) + ("" if clear else "\n"), flush=True)
+    print(clear + "\n".join(screen(state, watch.follower.reading)) + ("" if clear else "\n"), flush=True)
 
 
 def run(arguments):

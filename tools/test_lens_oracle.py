@@ -30,11 +30,13 @@ def unit_of(signed):
     """A unit of the lens as the oracle would have it."""
     unit = signed.unit
     panorama = tuple(seen if isinstance(seen, bytes) else {ABSENT: 0, FAULTY: 2}[seen] for seen in unit.panorama)
-    return unit.instance, unit.creator, unit.number, unit.time, unit.exponent, panorama, unit.value, unit.endorsed, unit.digest
+    head = (unit.instance, unit.creator, unit.number, unit.time, unit.exponent)
+    return *head, panorama, unit.value, unit.endorsed, unit.digest
 
 
 def oracles_unit(unit):
-    return unit.instance, unit.creator, unit.seq, unit.time, unit.exponent, unit.panorama, unit.value, unit.endorsed, unit.digest
+    head = (unit.instance, unit.creator, unit.seq, unit.time, unit.exponent)
+    return *head, unit.panorama, unit.value, unit.endorsed, unit.digest
 
 
 def vertex_of(vertex):
@@ -86,10 +88,10 @@ class Oracle(unittest.TestCase):
                         faults[self.compare_faults(damaged).partition(" at ")[0]] += 1
                     if not self.compare_faults(said):
                         logs, entries = logs + 1, entries + self.compare(said)
-        print(f"{logs} logs, {entries} entries, all the same; how they and damaged ones ended: {dict(faults)}", file=sys.stderr)
+        print(f"{logs} logs, {entries} entries compared; they and damaged ones ended: {dict(faults)}", file=sys.stderr)
 
     def compare_faults(self, data):
-        """Compares how the reading of these bytes ends, and the entries up to there; answers with what it ends, or with nothing."""
+        """Compares how the reading of these bytes ends, and the entries up to there; answers the fault, or nothing."""
         from hwref.log import LogError, LogReader
         self.path.write_bytes(data)
         entries, fault, place = [], "", 0
@@ -102,7 +104,8 @@ class Oracle(unittest.TestCase):
         try:
             theirs = LogReader(data)
             while (other := theirs.next()) is not None:
-                self.assertEqual((other.at, vertex_of(entries[place].vertex)), (entries[place].offset, oracles_vertex(other.vertex)))
+                self.assertEqual(entries[place].offset, other.at)
+                self.assertEqual(vertex_of(entries[place].vertex), oracles_vertex(other.vertex))
                 place += 1
             said = ""
         except LogError as error:
@@ -111,17 +114,19 @@ class Oracle(unittest.TestCase):
         return fault
 
     def compare(self, data):
-        """Compares each entry, what became of it, the fork choice and the faulty after it; answers how many there were."""
+        """Compares each entry, what became of it, the fork choice and the faulty after it; answers how many."""
         from hwref.incremental import IncrementalCore
         from hwref.log import LogReader
         self.path.write_bytes(data)
         log, theirs = read_log(self.path), LogReader(data)
-        self.assertEqual(spelled_log(log.config, [(entry.verdict, entry.vertex) for entry in log.entries], log.version), data)
+        pairs = [(entry.verdict, entry.vertex) for entry in log.entries]
+        self.assertEqual(spelled_log(log.config, pairs, log.version), data)
         self.assertEqual((log.config.instance, log.version), (theirs.config.instance, theirs.version))
         reading, core = Reading(log.config), IncrementalCore(theirs.config)
         for entry in log.entries:
             other = theirs.next()
-            self.assertEqual((entry.offset, entry.verdict, vertex_of(entry.vertex)), (other.at, other.verdict, oracles_vertex(other.vertex)))
+            self.assertEqual((entry.offset, entry.verdict), (other.at, other.verdict))
+            self.assertEqual(vertex_of(entry.vertex), oracles_vertex(other.vertex))
             self.assertEqual(str(reading.take(entry)), oracles_words(core.deliver(other.vertex, other.verdict)))
             fork = reading.fork()
             self.assertEqual((fork and fork.unit.digest, reading.faulty()), (core.fork(), list(core.faulty())))

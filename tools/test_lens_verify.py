@@ -49,7 +49,8 @@ class Verify(unittest.TestCase):
             status, lines = self.verify(self.said(version))
             self.assertEqual(status, 0)
             self.assertEqual(lines[-1], "verdicts that aren't what the keys say: 0")
-            self.assertTrue(lines[0].startswith("14 entries (11 units, 1 evidence, 2 endorsements): 14 with good signatures"))
+            kinds = "11 units, 1 evidence, 2 endorsements"
+            self.assertEqual(lines[0], f"14 entries ({kinds}): 14 with good signatures, 0 without")
 
     def test_each_flipped_byte_is_found(self):
         for version in (1, 2):

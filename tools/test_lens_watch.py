@@ -16,7 +16,9 @@ from lens_watch import Follower, Rate, Watch, screen, span_text
 
 class Spans(unittest.TestCase):
     def test_words(self):
-        for span, text in ((None, "-"), (0, "0.0 s"), (9_960, "10.0 s"), (75_000, "1 min 15 s"), (3_700_000, "1 h 1 min"), (200_000_000, "2 d 7 h"), (-1_500, "-1.5 s")):
+        for span, text in (
+                (None, "-"), (0, "0.0 s"), (9_960, "10.0 s"), (75_000, "1 min 15 s"), (3_700_000, "1 h 1 min"),
+                (200_000_000, "2 d 7 h"), (-1_500, "-1.5 s")):
             self.assertEqual(span_text(span), text)
 
     def test_rate(self):
@@ -72,7 +74,8 @@ class Growing(unittest.TestCase):
         watch.judge.next = 0.0
         self.path.write_bytes(self.said[:self.ends[7]])
         told = watch.state()
-        self.assertEqual((told["entries"], told["units"], told["final"], told["faulty"], told["agrees"]), (8, 8, None, [3], True))
+        self.assertEqual((told["entries"], told["units"], told["final"]), (8, 8, None))
+        self.assertEqual((told["faulty"], told["exceeded"], told["agrees"]), ([3], None, True))
         self.path.write_bytes(self.said)
         watch.judge.next = 0.0
         told = watch.state()
