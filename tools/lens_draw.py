@@ -3,10 +3,10 @@ import os
 import pathlib
 import tempfile
 
-from lens_layout import block_labels, lay_out
+from lens_layout import Rounds, block_labels, lay_out
 from lens_log import InputError
 from lens_program import need_program
-from lens_seen import look
+from lens_seen import DIFFER, look
 from lens_svg import picture
 
 UNITS_MOST = 20000
@@ -33,16 +33,22 @@ def check_new(path, force):
         raise InputError(path, "exists: --force writes over it")
 
 
+def check_size(seen, scene):
+    """Refuses a picture that no browser would like to open."""
+    if len(scene.spots) > UNITS_MOST:
+        raise InputError(seen.name, f"{len(scene.spots)} units are more than a picture's {UNITS_MOST}: choose with --rounds A..B")
+
+
 def run(arguments):
     """Draws the log, and says where the picture is."""
     check_new(arguments.out, arguments.force)
     seen = look(arguments.log, need_program(arguments.program), arguments)
     labels = block_labels(seen.reading)
-    scene = lay_out(seen, labels, arguments.rounds, arguments.log)
-    if len(scene.spots) > UNITS_MOST:
-        raise InputError(arguments.log, f"{len(scene.spots)} units are too many for a picture of at most {UNITS_MOST}: choose rounds with --rounds A..B")
+    scene = lay_out(seen, labels, Rounds(seen), arguments.rounds)
+    check_size(seen, scene)
     write_new(arguments.out, picture(seen, scene, labels), arguments.force)
     for note in seen.notes:
         print(note)
-    print(f"drawn {len(scene.spots)} units of rounds {scene.window[0]} to {scene.window[1]}, and {len(scene.apart)} apart: {arguments.out}")
-    return 1 if any(note.startswith("THE TWO") for note in seen.notes) else 0
+    first, last = scene.window
+    print(f"drawn {len(scene.spots)} units of rounds {first} to {last}, and {len(scene.apart)} apart: {arguments.out}")
+    return 1 if any(note.startswith(DIFFER) for note in seen.notes) else 0

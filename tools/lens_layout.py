@@ -37,7 +37,7 @@ REFUSED = "refused"
 
 @dataclass(frozen=True, slots=True)
 class Label:
-    """How a block is written: its height, and a letter where several have that height. `colour` counts through the palette."""
+    """How a block is written: its height, and a letter where several have that height. `colour` counts the palette."""
 
     text: str
     colour: int
@@ -70,10 +70,11 @@ def block_labels(*readings):
 # ---- rounds
 
 class Rounds:
-    """The rounds of the least exponent, counted from 1 at the first that a settled unit has."""
+    """The rounds of the least exponent, counted from 1 at the first that a settled unit of these logs has."""
 
-    def __init__(self, exponent, times):
-        self.exponent = exponent
+    def __init__(self, *seens):
+        exponent = self.exponent = seens[0].reading.config.least
+        times = [node.unit.time for seen in seens for node in seen.reading.order]
         self.first = min(times, default=0) >> exponent
         self.last = max(times, default=0) >> exponent
 
@@ -292,8 +293,9 @@ class Columns:
         first = not self.number
         x = LABEL_WIDTH + 34
         if not first:
-            named = self.scene.rounds[-1].x + ROUND_LEAD + max(ROUND_LEAST, 6.2 * len(str(self.rounds.begin(number - 1))) + 30)
-            x = max(self.most + ROUND_STEP, named) + (EMPTY_STEP if empty else 0)
+            last = self.scene.rounds[-1]
+            named = max(ROUND_LEAST, 10 + LETTER * max(len(f"round {last.number}"), len(f"{last.begin} ms")))
+            x = max(self.most + ROUND_STEP, last.x + ROUND_LEAD + named) + (EMPTY_STEP if empty else 0)
         self.scene.rounds.append(Round(x - ROUND_LEAD, number, self.rounds.begin(number), empty))
         self.number = number
         return x
@@ -362,7 +364,7 @@ def mark_tags(scene, seen):
 
 
 def merge(tags):
-    """Starts of one block at one unit become one tag, 0·1 and 0·2 are written 0·1,2; so do blocks that became final, ✓3–5."""
+    """Starts of one block at one unit become one tag, 0·1,2; so do the blocks that became final with it, ✓3–5."""
     starts, finals, others = {}, [tag for tag in tags if tag.kind == "final"], []
     for tag in tags:
         known = starts.get(tag.label.colour) if tag.kind == "start" else None
@@ -378,11 +380,10 @@ def merge(tags):
 
 # ---- the whole
 
-def lay_out(seen, labels, asked=(None, None), name="LOG"):
+def lay_out(seen, labels, rounds, asked=(None, None)):
     """The scene of a log that was read and judged: those of its rounds that are asked for."""
     reading = seen.reading
-    rounds = Rounds(reading.config.least, seen.times())
-    window = rounds.window(name, asked)
+    window = rounds.window(seen.name, asked)
     nodes = [node for node in reading.order if window[0] <= rounds.number(node.unit.time) <= window[1]]
     lanes = [Lane(who, weight, seen.faulty_since(who)) for who, weight in enumerate(reading.config.weights)]
     scene = Scene(lanes, {}, window=window, all_rounds=rounds.count, few=len(lanes) <= MANY_LANES)
@@ -434,7 +435,7 @@ def spread(scene, columns):
 
 
 def forked_since(seen, node):
-    """The entry since which a unit is known as one of an equivocation: of a validator that the program calls faulty. Else 0."""
+    """The entry since which a unit is known as one of two: of a validator that the program calls faulty. Else 0."""
     same = seen.reading.units_at(node.unit.creator, node.unit.number)
     if node.unit.creator in seen.faulty and len(same) > 1:
         return max(node.since, seen.faulty_since(node.unit.creator))
@@ -478,7 +479,7 @@ def connect(scene, drawn):
 
 
 def join_lines(scene, drawn):
-    """Finds units with the same citations, many by many, and joins their lines in hubs. Answers the units that have one."""
+    """Finds units with the same citations, many by many, and joins their lines in hubs. Answers those units."""
     alike, joined = {}, set()
     for node, lows in drawn.items():
         if len(lows) >= HUB_LEAST and all(low.unit.digest in scene.spots for low in lows):
@@ -511,7 +512,8 @@ def units_apart(seen, rounds, window):
             found.append(Apart(unit, entry, f"lacks {len(node.missing)}", PARKED))
         elif node.state == DROPPED:
             found.append(Apart(unit, entry, f"rule {node.rule}", DROPPED))
-    return [one for one in found if window[0] <= rounds.number(one.unit.time) <= window[1] or window == (1, rounds.count)]
+    whole = window == (1, rounds.count)
+    return [one for one in found if whole or window[0] <= rounds.number(one.unit.time) <= window[1]]
 
 
 def apart_text(one):

@@ -9,12 +9,12 @@ import re
 from dataclasses import dataclass, field
 from html import escape
 
-from lens_draw import UNITS_MOST, check_new, write_new
-from lens_graph import Reading
+from lens_draw import check_new, check_size, write_new
+from lens_graph import SETTLED, Reading
 from lens_layout import LABEL_WIDTH, Rounds, block_labels, lay_out
 from lens_log import ABSENT, FAULTY, Endorsement, Evidence, InputError, SignedUnit, value_text
 from lens_program import log_file, need_program
-from lens_seen import look
+from lens_seen import DIFFER, look
 from lens_svg import (DISCLAIMER, STYLE, bands, colour_rules, committee_text, drawing, head_lines, lane_labels, legend, legend_items,
                       number, rect)
 
@@ -31,9 +31,9 @@ class Panel:
     seen: object
     scene: object
     labels: dict
+    rounds: Rounds
     numbers: dict = field(default_factory=dict)
     units: list = field(default_factory=list)
-    rounds: Rounds | None = None
 
     @property
     def name(self):
@@ -73,19 +73,20 @@ def unit_data(panel, unit, entry, outcome):
     became = str(outcome)
     if node is not None and node.since > entry.place:
         became += f", {node.state} with entry {node.since}"
-    value = None if unit.value is None else value_text(unit.value)[:VALUE_LETTERS] or '""'
-    vote = node.vote.unit.digest if node is not None and node.vote is not None and node.state == "settled" else None
-    return {"digest": unit.digest.hex(), "creator": unit.creator, "number": unit.number, "time": str(unit.time),
-            "round": panel.rounds.number(unit.time), "exponent": unit.exponent, "entry": entry.place, "became": became, "value": value,
-            "vote": panel.numbers[vote] if vote else None, "panorama": [observation(panel, seen) for seen in unit.panorama],
+    vote = node.vote.unit.digest if node is not None and node.vote is not None and node.state == SETTLED else None
+    return {"digest": unit.digest.hex(), "creator": unit.creator, "number": str(unit.number), "time": str(unit.time),
+            "round": str(panel.rounds.number(unit.time)), "exponent": unit.exponent, "entry": entry.place,
+            "became": became, "value": None if unit.value is None else value_text(unit.value)[:VALUE_LETTERS],
+            "vote": panel.numbers[vote] if vote else None,
+            "panorama": [observation(panel, seen) for seen in unit.panorama],
             "endorsed": [digest.hex() for digest in unit.endorsed], "judged": judged(panel, unit.digest),
             "x": None if x is None else round(x, 1), "y": None if y is None else round(y, 1)}
 
 
 def judged(panel, digest):
     """What the program says of a unit, in words."""
-    said = [f"final at height {final.height}: level {final.level}, quorum {final.quorum}, since entry {panel.seen.entry_of(final)}"
-            for final in panel.seen.finals if final.digest == digest]
+    said = [f"final at height {final.height}: level {final.level}, quorum {final.quorum}, since entry "
+            f"{panel.seen.entry_of(final)}" for final in panel.seen.finals if final.digest == digest]
     spot = panel.scene.spots.get(digest)
     if spot and spot.forked:
         said.append(f"validator {spot.node.unit.creator} is faulty: another unit of it has this number")
@@ -112,7 +113,8 @@ class Walk:
         self.reading = Reading(self.seen.reading.config)
         self.finals, self.news = 0, {}
         for final in self.seen.finals:
-            said = f"Block {panel.labels[final.digest].text} became final: level {final.level}, quorum {final.quorum}, committee {committee_text(final.committee)}"
+            said = (f"Block {panel.labels[final.digest].text} became final: level {final.level}, quorum {final.quorum}, "
+                    f"committee {committee_text(final.committee)}")
             self.news.setdefault(self.seen.entry_of(final), []).append(said)
 
     def step(self, entry):
@@ -123,7 +125,7 @@ class Walk:
         newly = [who for who, since in reading.faulty_since.items() if since is entry and who in self.seen.faulty]
         fork = reading.fork()
         unit = entry.vertex.unit.digest if isinstance(entry.vertex, SignedUnit) else None
-        return {"what": entry_words(entry), "became": str(outcome), "unit": None if unit is None else self.panel.numbers[unit],
+        return {"what": entry_words(entry), "became": str(outcome), "unit": self.panel.numbers.get(unit),
                 "counts": [len(reading.order), len(reading.parked), len(reading.dropped)], "finals": self.finals,
                 "faulty": reading.faulty(), "fork": self.panel.numbers[fork.unit.digest] if fork else None,
                 "news": news + [f"validator {who} is faulty from here on" for who in newly]}
@@ -132,7 +134,7 @@ class Walk:
         """Compares the walk at a place with what the program says of the log up to there. Answers what differs."""
         said = program.replay(log_file(self.seen.name, self.seen.log, place)).lines
         differ = said != self.reading.totals()
-        return [f"THE TWO READINGS DIFFER. after entry {place} the program says: {'; '.join(said)}"] if differ else []
+        return [f"{DIFFER} after entry {place} the program says: {'; '.join(said)}"] if differ else []
 
 
 def walk_data(panel, program):
@@ -150,19 +152,21 @@ def walk_data(panel, program):
 def panel_data(panel, program):
     """All that the page's script knows of a log."""
     gather_units(panel)
-    panel.rounds = Rounds(panel.seen.reading.config.least, panel.seen.times())
     labels = {panel.numbers[digest]: label.text for digest, label in panel.labels.items() if digest in panel.numbers}
-    finals = [{"label": panel.labels[final.digest].text, "unit": panel.numbers[final.digest], "level": final.level, "quorum": final.quorum,
-               "entry": panel.seen.entry_of(final), "committee": committee_text(final.committee)} for final in panel.seen.finals]
-    settings = {"name": panel.name, "labels": labels, "width": panel.scene.width, "height": panel.scene.height + AXIS + 10, "label": LABEL_WIDTH, "axis": AXIS}
+    finals = [{"label": panel.labels[final.digest].text, "unit": panel.numbers[final.digest], "level": final.level,
+               "quorum": final.quorum, "entry": panel.seen.entry_of(final), "committee": committee_text(final.committee)}
+              for final in panel.seen.finals]
+    settings = {"name": panel.name, "labels": labels, "width": panel.scene.width, "height": panel.scene.height + AXIS + 10,
+                "label": LABEL_WIDTH, "axis": AXIS}
     return {"settings": settings, "entries": walk_data(panel, program), "finals": finals,
             "units": [unit_data(panel, *each) for each in panel.units]}
 
 
 # ---- the page's parts
 
-BUTTONS = (("first", "|◀", "to the beginning"), ("back", "◀", "an entry back"), ("on", "▶", "an entry on"), ("last", "▶|", "to the end"),
-           ("final", "next event", "to the next entry with which a block became final, or a validator faulty"), ("play", "play", "walk on by itself"))
+BUTTONS = (("first", "|◀", "to the beginning"), ("back", "◀", "an entry back"), ("on", "▶", "an entry on"),
+           ("last", "▶|", "to the end"), ("play", "play", "walk on by itself"),
+           ("final", "next event", "to the next entry with which a block became final, or a validator faulty"))
 TOOLS = (("larger", "+", "larger"), ("smaller", "−", "smaller"), ("fit", "fit", "the whole width"))
 
 
@@ -173,14 +177,15 @@ def buttons(which):
 def panel_html(panel):
     """A log's picture, which scrolls below its lanes' names, and its slider."""
     width, height = panel.scene.width, panel.scene.height + AXIS + 10
-    inside = f'<g transform="translate(0 {AXIS})">{drawing(panel.scene, -8, width)}</g>'
-    names = f'{rect(0, 0, LABEL_WIDTH, height, "paper")}<g transform="translate(0 {AXIS})">{bands(panel.scene, LABEL_WIDTH)}{lane_labels(panel.scene)}</g>'
+    below = f'<g transform="translate(0 {AXIS})">'
+    inside = f"{below}{drawing(panel.scene, -8, width)}</g>"
+    names = rect(0, 0, LABEL_WIDTH, height, "paper") + below + bands(panel.scene, LABEL_WIDTH) + lane_labels(panel.scene) + "</g>"
     heads, count = head_lines(panel.seen, panel.scene), len(panel.seen.log.entries)
-    return (f'<section class="panel"><div class="name">{escape(heads[0])} <span>{escape(" · ".join(heads[1:3]))}</span>'
-            f'<span class="tools">{buttons(TOOLS)}</span></div>'
-            f'<div class="view"><div class="sheet">{svg(inside, width, height, "picture")}{svg(names, LABEL_WIDTH, height, "names")}</div></div>'
-            f'<div class="walk">{buttons(BUTTONS)}<input type="range" min="0" max="{count}" value="{count}" aria-label="entry">'
-            f'<div class="said"></div></div></section>')
+    sheet = svg(inside, width, height, "picture") + svg(names, LABEL_WIDTH, height, "names")
+    return (f'<section class="panel"><div class="name">{escape(heads[0])} <span>{escape(" · ".join(heads[1:]))}</span>'
+            f'<span class="tools">{buttons(TOOLS)}</span></div><div class="view"><div class="sheet">{sheet}</div></div>'
+            f'<div class="walk">{buttons(BUTTONS)}'
+            f'<input type="range" min="0" max="{count}" value="{count}" aria-label="entry"><div class="said"></div></div></section>')
 
 
 def svg(inside, width, height, kind):
@@ -197,8 +202,9 @@ def story(verdict, labels, names):
     """What the program's audit says of two logs, as lines of HTML."""
     if verdict.agree is not None:
         return [f"The program's audit: the two agree; the shorter chain has {verdict.agree} final blocks."]
-    left, right = (digest_link(digest, "block " + labels[digest].text if digest in labels else None) for digest in (verdict.left, verdict.right))
-    lines = [f"The program's audit: a conflict at height {verdict.height}. {escape(names[0])} has {left}, {escape(names[1])} has {right}."]
+    left, right = (digest_link(digest, "block " + labels[digest].text) for digest in (verdict.left, verdict.right))
+    lines = [f"The program's audit: a conflict at height {verdict.height}. "
+             f"{escape(names[0])} has {left}, {escape(names[1])} has {right}."]
     for who, one, other in verdict.culprits:
         lines.append(f"Culprit: validator {who}, by its two units {digest_link(one)} and {digest_link(other)} of one number.")
     return lines + [f"The culprits weigh {verdict.weight}, above the threshold of {verdict.threshold}."]
@@ -209,8 +215,9 @@ def header(panels, verdict):
     title = " and ".join(panel.name for panel in panels)
     lines = [f"<h1>{escape(title)}</h1>"]
     if verdict is not None:
-        lines += [f'<p{" class=alarm" if verdict.agree is None and not place else ""}>{line}</p>' for place, line in
-                  enumerate(story(verdict, panels[0].labels, [panel.name for panel in panels]))]
+        told = story(verdict, panels[0].labels, [panel.name for panel in panels])
+        lines += [f'<p class="{"quiet" if verdict.agree is not None else "alarm"}">{told[0]}</p>']
+        lines += [f"<p>{line}</p>" for line in told[1:]]
     lines += [f'<p class="alarm">{escape(panel.name)}: {escape(note)}</p>' for panel in panels for note in panel.seen.notes]
     return "".join(lines)
 
@@ -225,8 +232,9 @@ def legend_html(panels):
 def page(panels, program, verdict):
     """The whole page. Data is written so that it can't end the script that holds it."""
     data = json.dumps([panel_data(panel, program) for panel in panels], separators=(",", ":"), ensure_ascii=True)
-    parts = {"TITLE": escape(" and ".join(panel.name for panel in panels)), "STYLE": STYLE + colour_rules(), "HEADER": header(panels, verdict),
-             "PANELS": "".join(map(panel_html, panels)), "LEGEND": legend_html(panels), "FOOT": escape(" ".join(DISCLAIMER)),
+    parts = {"TITLE": escape(" and ".join(panel.name for panel in panels)), "STYLE": STYLE + colour_rules(),
+             "HEADER": header(panels, verdict), "PANELS": "".join(map(panel_html, panels)),
+             "LEGEND": legend_html(panels), "FOOT": escape(" ".join(DISCLAIMER)),
              "DATA": data.replace("<", "\\u003c"), "SCRIPT": (HERE / "lens_page.js").read_text(encoding="utf-8")}
     return re.sub("@([A-Z]+)@", lambda found: parts[found[1]], (HERE / "lens_page.html").read_text(encoding="utf-8"))
 
@@ -251,9 +259,8 @@ def make_panels(paths, program, arguments):
         for seen in seens:
             seen.culprits = blame(verdict)
             seen.conflict = () if verdict.agree is not None else (verdict.left, verdict.right)
-    labels = block_labels(*(seen.reading for seen in seens))
-    panels = [Panel(seen, lay_out(seen, labels, arguments.rounds, seen.name), labels) for seen in seens]
-    return panels, verdict
+    labels, rounds = block_labels(*(seen.reading for seen in seens)), Rounds(*seens)
+    return [Panel(seen, lay_out(seen, labels, rounds, arguments.rounds), labels, rounds) for seen in seens], verdict
 
 
 def run(arguments):
@@ -264,10 +271,10 @@ def run(arguments):
     program = need_program(arguments.program)
     panels, verdict = make_panels(arguments.logs, program, arguments)
     for panel in panels:
-        if len(panel.scene.spots) > UNITS_MOST:
-            raise InputError(panel.seen.name, f"{len(panel.scene.spots)} units are too many for a page of at most {UNITS_MOST}: choose rounds with --rounds A..B")
+        check_size(panel.seen, panel.scene)
     said = page(panels, program, verdict)
     write_new(arguments.out, said, arguments.force)
     notes = [note for panel in panels for note in panel.seen.notes]
-    print("".join(note + "\n" for note in notes) + f"a page of {sum(len(panel.scene.spots) for panel in panels)} units: {arguments.out}")
-    return 1 if any(note.startswith("THE TWO") for note in notes) else 0
+    shown = sum(len(panel.scene.spots) for panel in panels)
+    print("".join(note + "\n" for note in notes) + f"a page of {shown} units: {arguments.out}")
+    return 1 if any(note.startswith(DIFFER) for note in notes) else 0

@@ -1,17 +1,18 @@
 """A log that was read, and what the proved program says of it. Pictures and pages are made of this."""
-from dataclasses import dataclass, field
+from dataclasses import dataclass, field, replace
 
 from lens_graph import read_journal
 from lens_log import Log, read_log
 from lens_program import differences, log_file
 from lens_show import Progress
 
+DIFFER = "THE TWO READINGS DIFFER."
 FAULTY_MOST = 16
 
 
 @dataclass(slots=True)
 class Seen:
-    """A log, the own reading of it, and the program's judgements: final blocks with committees, who is faulty, what it reports.
+    """A log, the own reading of it, and the program's judgements: its report, final blocks with committees, the faulty.
 
     `culprits` are the units by which an audit with another log shows a culprit; `conflict` are the two blocks of it.
     """
@@ -35,16 +36,11 @@ class Seen:
         since = self.reading.faulty_since.get(who)
         return (since.place if since else self.log.entries[-1].place) if who in self.faulty else 0
 
-    def times(self):
-        """The times of all settled units."""
-        return [node.unit.time for node in self.reading.order]
-
 
 def limited(log, reading):
     """The entries before the one at which the program stops, where the log meets a limit of its configuration."""
     at = int(reading.limit.rsplit(" ", 1)[1])
-    kept = [entry for entry in log.entries if entry.offset < at]
-    return Log(log.config, log.version, kept, at, log.head)
+    return replace(log, entries=[entry for entry in log.entries if entry.offset < at], size=at)
 
 
 def look(path, program, arguments):
@@ -61,7 +57,7 @@ def look(path, program, arguments):
     progress.finish()
     file = log_file(path, log)
     report, finals = program.replay(file), program.explain(file)
-    notes += [f"THE TWO READINGS DIFFER. {said}" for said in differences(reading, report)]
+    notes += [f"{DIFFER} {said}" for said in differences(reading, report)]
     seen = Seen(str(path), log, reading, report, finals, report.faulty, notes)
     seen.notes += check_moments(path, seen, program)
     return seen
@@ -77,5 +73,5 @@ def check_moments(path, seen, program):
         before = program.replay(log_file(path, seen.log, entry.place - 1)).faulty
         after = program.replay(log_file(path, seen.log, entry.place)).faulty
         if who in before or who not in after:
-            notes.append(f"THE TWO READINGS DIFFER. validator {who} isn't faulty from entry {entry.place} on")
+            notes.append(f"{DIFFER} validator {who} isn't faulty from entry {entry.place} on")
     return notes
