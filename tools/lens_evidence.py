@@ -37,7 +37,7 @@ def run(arguments):
     look = Look(arguments.log, arguments)
     look.refuse_fault()
     keys = read_keys(arguments.keys, len(look.log.config.weights)) if arguments.keys else None
-    report = look.program().replay(look.file)
+    report = look.program().replay(look.file_before_limit())
     if not report.faulty:
         print(f"{look.path}: nobody is faulty")
     for creator in report.faulty:

@@ -297,7 +297,8 @@ class Reading:
     def __init__(self, config):
         self.config, self.leaders = config, Leaders(config)
         self.total = sum(config.weights)
-        self.outcomes, self.journal, self.limit = [], [], None
+        self.outcomes, self.journal = [], []
+        self.limit, self.limit_entry = None, None
         self.nodes, self.order, self.numbers = {}, [], {}
         self.tips = [None] * len(config.weights)
         self.faulty_since, self.accused = {}, {}
@@ -374,7 +375,7 @@ class Reading:
         elif is_unit and len(self.parked) >= self.config.parked and self.unmet(entry.vertex.unit):
             full = "parked"
         if full and self.limit is None:
-            self.limit = f"limit {full} at {entry.offset}"
+            self.limit, self.limit_entry = f"limit {full} at {entry.offset}", entry
         return Outcome("refused", f"{full} full") if full else None
 
     def accept(self, entry):

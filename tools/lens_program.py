@@ -145,6 +145,11 @@ class LogFile:
         os.unlink(self.copy)
 
 
+def before_limit(path, reading, size):
+    """So many bytes of a log, or those before the entry at which the program stops since a limit is met."""
+    return LogFile(path, reading.limit_entry.offset if reading.limit_entry else size)
+
+
 def log_file(path, log, place=None):
     """The file of a log that was read: its whole entries, or those up to this place."""
     if place is not None and place < len(log.entries):

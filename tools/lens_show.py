@@ -4,7 +4,7 @@ import time
 
 from lens_graph import DROPPED, PARKED, SETTLED, Reading, rule_text
 from lens_log import ABSENT, FAULTY, Evidence, InputError, SignedUnit, is_signed_unit, read_as_far, short, value_text
-from lens_program import ProgramError, differences, has_program, log_file, need_program
+from lens_program import ProgramError, before_limit, differences, has_program, log_file, need_program
 
 MOST_LISTED = 20
 
@@ -44,7 +44,14 @@ class Look:
 
     @property
     def file(self):
+        """The whole entries of the log, for the program."""
         return log_file(self.path, self.log)
+
+    def file_before_limit(self):
+        """The entries before the one at which the program stops, if a limit is met; standard error says so."""
+        if self.reading.limit:
+            print(f"lens: {self.reading.limit}: the program is asked about the entries before", file=sys.stderr)
+        return before_limit(self.path, self.reading, self.log.size)
 
     @property
     def has_program(self):

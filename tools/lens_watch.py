@@ -11,7 +11,7 @@ import time
 
 from lens_graph import Reading
 from lens_log import InputError, LogReader, short
-from lens_program import LogFile, ProgramError, differences, need_program
+from lens_program import ProgramError, before_limit, differences, need_program
 from lens_show import counted, listed, need_text
 
 WINDOW = 10.0  # seconds over which units a second are counted
@@ -78,8 +78,9 @@ class Judge:
         if reading is None or moment < self.next or (reader.place == self.entries and self.of is reading):
             return
         began = time.monotonic()
-        self.report = self.program.replay(LogFile(follower.path, reader.at))
-        self.entries, self.of, self.differing = reader.place, reading, differences(reading, self.report)
+        self.report = self.program.replay(before_limit(follower.path, reading, reader.at))
+        self.entries, self.of = reader.place, reading
+        self.differing = [] if reading.limit else differences(reading, self.report)
         self.next = moment + SHARE * (time.monotonic() - began)
 
 
@@ -145,7 +146,7 @@ class Watch:
         self.judge.judge(self.follower, moment)
         reader, reading, report = self.follower.reader, self.follower.reading, self.judge.report
         state = {"time_ms": now, "log": str(self.arguments.log), "bytes": self.follower.got, "entries": reader.place}
-        state["torn"] = self.follower.torn(moment)
+        state |= {"torn": self.follower.torn(moment), "limit": reading.limit if reading else None}
         if reading is None or report is None or self.judge.of is not reading:
             return state
         state |= report.counts | {"judged_entries": self.judge.entries, "final": final_state(report, reading, now)}
@@ -196,6 +197,8 @@ def warnings(state):
     """What isn't there on a good day."""
     if state["torn"] is not None:
         yield f"torn     at {state['torn']}: the last entry has been cut for a while"
+    if state["limit"] is not None:
+        yield f"limit    {state['limit'].removeprefix('limit ')}: the program stops there"
     if state["judged_entries"] < state["entries"]:
         yield f"judged   up to entry {state['judged_entries']}"
     if not state["agrees"]:

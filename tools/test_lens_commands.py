@@ -137,6 +137,10 @@ class Shown(Commands):
         self.assertEqual(status, 0)
         self.assertIn("refused records full", said)
         self.assertIn("limit records at", told)
+        for words in (("evidence",), ("unit", world.units["a"].unit.digest.hex()), ("watch", "--count", "1")):
+            status, said, told = self.lens(words[0], self.room / "a.hwlg", *words[1:])
+            self.assertEqual(status, 0)
+            self.assertIn("records at", said + told)
 
     def test_a_unit(self):
         world = running_example()
