@@ -1,4 +1,4 @@
-"""`draw LOG OUT.svg`: a log as a picture. It proves nothing: every judgement in it is the proved program's (lens_seen)."""
+"""`draw LOG OUT.svg`: a log as a picture. It proves nothing: each judgement in it is the proved program's."""
 import os
 import pathlib
 import tempfile
@@ -36,7 +36,8 @@ def check_new(path, force):
 def check_size(seen, scene):
     """Refuses a picture that no browser would like to open."""
     if len(scene.spots) > UNITS_MOST:
-        raise InputError(seen.name, f"{len(scene.spots)} units are more than a picture's {UNITS_MOST}: choose with --rounds A..B")
+        said = f"{len(scene.spots)} units are more than a picture's {UNITS_MOST}: choose rounds with --rounds A..B"
+        raise InputError(seen.name, said)
 
 
 def run(arguments):

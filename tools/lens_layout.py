@@ -212,7 +212,7 @@ class Citations:
         return self.rows[node]
 
     def drawn(self, node):
-        """As `direct_citations`. Along an unforked lane numbers say what is below; for a faulty creator the graph is asked."""
+        """As `direct_citations`. On an unforked lane numbers say what is below; else the graph is asked."""
         cited = node.cited()
         if any(low.unit.creator in self.torn for low in cited):
             return direct_citations(node)
@@ -462,7 +462,7 @@ def place_lanes(scene):
 
 
 def connect(scene, drawn):
-    """Draws each citation as a line between lanes, a step along a lane, or a stub where its end isn't in the picture."""
+    """Draws each citation as a line between lanes, a step along a lane, or a stub where its end isn't drawn."""
     joined = join_lines(scene, drawn)
     for node, lows in drawn.items():
         spot = scene.spots[node.unit.digest]

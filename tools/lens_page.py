@@ -1,5 +1,5 @@
-"""`page LOG OUT.html`: one file for a browser, that needs no network: the picture, each unit in full, and the journal entry
-by entry. `page LEFT RIGHT OUT.html` shows two logs side by side, with the program's audit of them.
+"""`page LOG OUT.html`: one file for a browser, that needs no network: the picture, each unit in full, and the journal
+entry by entry. `page LEFT RIGHT OUT.html` shows two logs side by side, with the program's audit of them.
 
 It proves nothing: every judgement in it is the proved program's (lens_seen).
 """
@@ -15,8 +15,8 @@ from lens_layout import LABEL_WIDTH, Rounds, block_labels, lay_out
 from lens_log import ABSENT, FAULTY, Endorsement, Evidence, InputError, SignedUnit, value_text
 from lens_program import log_file, need_program
 from lens_seen import DIFFER, look
-from lens_svg import (DISCLAIMER, STYLE, bands, colour_rules, committee_text, drawing, head_lines, lane_labels, legend, legend_items,
-                      number, rect)
+from lens_svg import (DISCLAIMER, STYLE, bands, colour_rules, committee_text, drawing, head_lines, lane_labels, legend,
+                      legend_items, number, rect)
 
 HERE = pathlib.Path(__file__).resolve().parent
 AXIS = 44
@@ -26,7 +26,7 @@ VALUE_LETTERS = 400
 
 @dataclass(slots=True)
 class Panel:
-    """One of the page's logs: what was seen of it, its scene, and the numbers by which the page's data names its units."""
+    """One of the page's logs: what was seen of it, its scene, and the numbers by which the data names its units."""
 
     seen: object
     scene: object
@@ -106,15 +106,15 @@ def entry_words(entry):
 
 
 class Walk:
-    """The journal entry by entry: the state by the own reading, and what the program says became final or faulty when."""
+    """The journal entry by entry: the state by the own reading, and what became final when, as the program says."""
 
     def __init__(self, panel):
         self.panel, self.seen = panel, panel.seen
         self.reading = Reading(self.seen.reading.config)
         self.finals, self.news = 0, {}
         for final in self.seen.finals:
-            said = (f"Block {panel.labels[final.digest].text} became final: level {final.level}, quorum {final.quorum}, "
-                    f"committee {committee_text(final.committee)}")
+            said = (f"Block {panel.labels[final.digest].text} became final: level {final.level}, "
+                    f"quorum {final.quorum}, committee {committee_text(final.committee)}")
             self.news.setdefault(self.seen.entry_of(final), []).append(said)
 
     def step(self, entry):
@@ -138,7 +138,7 @@ class Walk:
 
 
 def walk_data(panel, program):
-    """What the page tells of each entry. At some places, and at the end, the program is asked about the log up to there."""
+    """What the page tells of each entry. At some places the program is asked about the log up to there."""
     walk, entries = Walk(panel), panel.seen.log.entries
     every = max(1, -(-len(entries) // CHECKS_MOST))
     told = []
@@ -153,11 +153,11 @@ def panel_data(panel, program):
     """All that the page's script knows of a log."""
     gather_units(panel)
     labels = {panel.numbers[digest]: label.text for digest, label in panel.labels.items() if digest in panel.numbers}
-    finals = [{"label": panel.labels[final.digest].text, "unit": panel.numbers[final.digest], "level": final.level,
-               "quorum": final.quorum, "entry": panel.seen.entry_of(final), "committee": committee_text(final.committee)}
-              for final in panel.seen.finals]
-    settings = {"name": panel.name, "labels": labels, "width": panel.scene.width, "height": panel.scene.height + AXIS + 10,
-                "label": LABEL_WIDTH, "axis": AXIS}
+    finals = [{"label": panel.labels[final.digest].text, "unit": panel.numbers[final.digest],
+               "level": final.level, "quorum": final.quorum, "entry": panel.seen.entry_of(final),
+               "committee": committee_text(final.committee)} for final in panel.seen.finals]
+    settings = {"name": panel.name, "labels": labels, "width": panel.scene.width,
+                "height": panel.scene.height + AXIS + 10, "label": LABEL_WIDTH, "axis": AXIS}
     return {"settings": settings, "entries": walk_data(panel, program), "finals": finals,
             "units": [unit_data(panel, *each) for each in panel.units]}
 
@@ -171,7 +171,8 @@ TOOLS = (("larger", "+", "larger"), ("smaller", "−", "smaller"), ("fit", "fit"
 
 
 def buttons(which):
-    return " ".join(f'<button type="button" data-do="{do}" title="{title}">{said}</button>' for do, said, title in which)
+    made = (f'<button type="button" data-do="{do}" title="{title}">{said}</button>' for do, said, title in which)
+    return " ".join(made)
 
 
 def panel_html(panel):
@@ -179,13 +180,14 @@ def panel_html(panel):
     width, height = panel.scene.width, panel.scene.height + AXIS + 10
     below = f'<g transform="translate(0 {AXIS})">'
     inside = f"{below}{drawing(panel.scene, -8, width)}</g>"
-    names = rect(0, 0, LABEL_WIDTH, height, "paper") + below + bands(panel.scene, LABEL_WIDTH) + lane_labels(panel.scene) + "</g>"
+    labels = f"{below}{bands(panel.scene, LABEL_WIDTH)}{lane_labels(panel.scene)}</g>"
+    names = rect(0, 0, LABEL_WIDTH, height, "paper") + labels
     heads, count = head_lines(panel.seen, panel.scene), len(panel.seen.log.entries)
     sheet = svg(inside, width, height, "picture") + svg(names, LABEL_WIDTH, height, "names")
     return (f'<section class="panel"><div class="name">{escape(heads[0])} <span>{escape(" · ".join(heads[1:]))}</span>'
             f'<span class="tools">{buttons(TOOLS)}</span></div><div class="view"><div class="sheet">{sheet}</div></div>'
-            f'<div class="walk">{buttons(BUTTONS)}'
-            f'<input type="range" min="0" max="{count}" value="{count}" aria-label="entry"><div class="said"></div></div></section>')
+            f'<div class="walk">{buttons(BUTTONS)}<input type="range" min="0" max="{count}" value="{count}" '
+            'aria-label="entry"><div class="said"></div></div></section>')
 
 
 def svg(inside, width, height, kind):
@@ -206,7 +208,8 @@ def story(verdict, labels, names):
     lines = [f"The program's audit: a conflict at height {verdict.height}. "
              f"{escape(names[0])} has {left}, {escape(names[1])} has {right}."]
     for who, one, other in verdict.culprits:
-        lines.append(f"Culprit: validator {who}, by its two units {digest_link(one)} and {digest_link(other)} of one number.")
+        pair = f"{digest_link(one)} and {digest_link(other)}"
+        lines.append(f"Culprit: validator {who}, by its two units {pair} of one number.")
     return lines + [f"The culprits weigh {verdict.weight}, above the threshold of {verdict.threshold}."]
 
 
@@ -218,8 +221,8 @@ def header(panels, verdict):
         told = story(verdict, panels[0].labels, [panel.name for panel in panels])
         lines += [f'<p class="{"quiet" if verdict.agree is not None else "alarm"}">{told[0]}</p>']
         lines += [f"<p>{line}</p>" for line in told[1:]]
-    lines += [f'<p class="alarm">{escape(panel.name)}: {escape(note)}</p>' for panel in panels for note in panel.seen.notes]
-    return "".join(lines)
+    notes = (f"{panel.name}: {note}" for panel in panels for note in panel.seen.notes)
+    return "".join(lines) + "".join(f'<p class="alarm">{escape(note)}</p>' for note in notes)
 
 
 def legend_html(panels):

@@ -1,6 +1,9 @@
-"""A laid out scene as SVG, with its legend and its foot. Colours are those of Okabe and Ito, which colour-blind readers
-tell apart; what they say is also written, or told by a shape. The picture follows the reader's light or dark background.
+"""A laid out scene as SVG, with its legend and its foot.
+
+Colours are those of Okabe and Ito, which colour-blind readers tell apart; what they say is also written, or told by a
+shape. The picture follows the reader's light or dark background. It proves nothing.
 """
+import datetime
 import re
 from html import escape
 
@@ -12,25 +15,32 @@ COLOURS = (("#0072b2", "#ffffff"), ("#e69f00", "#000000"), ("#009e73", "#000000"
 HEAD_LINE, TABLE_LINE, LEGEND_LINE = 18, 17, 26
 FINALS_MOST, TABLE_LETTERS = 8, 140
 WIDTH_LEAST = 760
-DISCLAIMER = ("This picture proves nothing. What is final, when, by which committee, and who is faulty is what the proved program says",
-              "of this log (explain, replay). Lanes, citations, votes and heights are this tool's own reading of the documents.")
+LONG_TIME, YEAR_10000 = 10 ** 7, 253_402_300_800_000
+DISCLAIMER = (
+    "This picture proves nothing. What is final, when, by which committee, and who is faulty is what the proved",
+    "program says of the log (explain, replay). Lanes, citations, votes and heights are this tool's own reading.",
+)
 
 STYLE = """
-.hw{font:12px system-ui,-apple-system,"Segoe UI","DejaVu Sans",sans-serif;--paper:#fff;--ink:#1b1f24;--soft:#57606a;--band:#f3f5f8;
---rule:#c4ccd6;--cite:#8993a0;--red:#c4161c}
-@media (prefers-color-scheme:dark){.hw{--paper:#0d1117;--ink:#e6edf3;--soft:#a3adb8;--band:#161b22;--rule:#3d4652;--cite:#77828f;--red:#ff7b72}}
+.hw{font:12px system-ui,-apple-system,"Segoe UI","DejaVu Sans",sans-serif;
+--paper:#fff;--ink:#1b1f24;--soft:#57606a;--band:#f3f5f8;--rule:#c4ccd6;--cite:#8993a0;--red:#c4161c}
+@media (prefers-color-scheme:dark){.hw{
+--paper:#0d1117;--ink:#e6edf3;--soft:#a3adb8;--band:#161b22;--rule:#3d4652;--cite:#77828f;--red:#ff7b72}}
 .hw text{fill:var(--ink)}.hw .soft{fill:var(--soft)}.hw .paper{fill:var(--paper)}.hw .band{fill:var(--band)}
-.hw .title{font-size:15px;font-weight:600}.hw .big{font-size:14px;font-weight:600}.hw .mono{font-family:ui-monospace,"DejaVu Sans Mono",monospace;font-size:11.5px}
+.hw .title{font-size:15px;font-weight:600}.hw .big{font-size:14px;font-weight:600}
+.hw .mono{font-family:ui-monospace,"DejaVu Sans Mono",monospace;font-size:11.5px}
 .hw .rule{stroke:var(--rule);stroke-width:1}.hw .gap{stroke:var(--rule);stroke-width:1;stroke-dasharray:2 4}
-.hw .cite{fill:none;stroke:var(--cite);stroke-width:1}.hw .stub{fill:none;stroke:var(--cite);stroke-width:1;stroke-dasharray:2 2}
-.hw .dot{fill:var(--cite)}
-.hw .step{fill:none;stroke:var(--cite);stroke-width:2.5}.hw .fork{fill:none;stroke:var(--red);stroke-width:2.5;stroke-dasharray:6 3}
-.hw .u rect,.hw .g{stroke:var(--ink);stroke-width:1}.hw .u text{font-size:11px;text-anchor:middle}.hw .u .block{stroke-width:1.5;font-weight:700}
-.hw .u text.bold{font-weight:700}.hw .none{fill:var(--paper)}.hw rect.frame{fill:none;stroke-width:2}
-.hw .u rect.ring,.hw rect.ring{fill:none;stroke:var(--red);stroke-width:2.5;stroke-dasharray:4 2}
-.hw text.red,.hw text.m{fill:var(--red);font-weight:600}.hw .tag{font-size:10px}.hw .box{fill:none;stroke:var(--ink);stroke-width:1}
-.hw .apart rect{fill:var(--paper);stroke:var(--soft);stroke-width:1.2;stroke-dasharray:3 2}.hw .apart .dropped{stroke-dasharray:1 2}
-.hw .apart .refused{stroke:var(--red)}.hw .apart text{font-size:11px}
+.hw .cite,.hw .stub{fill:none;stroke:var(--cite);stroke-width:1}.hw .stub{stroke-dasharray:2 2}
+.hw .dot{fill:var(--cite)}.hw .step{fill:none;stroke:var(--cite);stroke-width:2.5}
+.hw .fork{fill:none;stroke:var(--red);stroke-width:2.5;stroke-dasharray:6 3}
+.hw .u rect,.hw .g{stroke:var(--ink);stroke-width:1}.hw .u text{font-size:11px;text-anchor:middle}
+.hw .u .block{stroke-width:1.5}.hw .u text.bold{font-weight:700}.hw .none{fill:var(--paper)}
+.hw rect.frame{fill:none;stroke-width:2}.hw .u rect.ring,.hw rect.ring{
+fill:none;stroke:var(--red);stroke-width:2.5;stroke-dasharray:4 2}
+.hw text.red,.hw text.m{fill:var(--red);font-weight:600}.hw .u text.tag{font-size:10px}.hw .tag{font-size:10px}
+.hw .box{fill:none;stroke:var(--ink);stroke-width:1}.hw .apart text{font-size:11px}
+.hw .apart rect{fill:var(--paper);stroke:var(--soft);stroke-width:1.2;stroke-dasharray:3 2}
+.hw .apart .dropped{stroke-dasharray:1 2}.hw .apart .refused{stroke:var(--red)}
 """
 
 
@@ -48,11 +58,12 @@ def text(x, y, said, kind="", since=""):
 def rect(x, y, width, height, kind="", round_by=0, since=""):
     rounded = f' rx="{number(round_by)}"' if round_by else ""
     name = f' class="{kind}"' if kind else ""
-    return f'<rect x="{number(x)}" y="{number(y)}" width="{number(width)}" height="{number(height)}"{rounded}{name}{since}/>'
+    place = f'x="{number(x)}" y="{number(y)}" width="{number(width)}" height="{number(height)}"'
+    return f"<rect {place}{rounded}{name}{since}/>"
 
 
 def from_entry(place, what="from"):
-    """For a page: since which entry something is to be seen (`from`), settled, or known as an equivocation (`accused`)."""
+    """For a page: since which entry something is seen (`from`), `settled`, or known as an equivocation (`accused`)."""
     return f' data-{what}="{place}"'
 
 
@@ -64,7 +75,7 @@ def without_moments(said):
 # ---- colours
 
 def fill_of(label):
-    """The class that fills with a block's colour. Colours come again after six blocks; the label tells which block is meant."""
+    """The class that fills with a block's colour. After six blocks colours come again; the label tells blocks apart."""
     return "none" if label is None else f"c{label.colour % len(COLOURS)}"
 
 
@@ -74,7 +85,8 @@ def ink_of(label):
 
 def colour_rules():
     """The style rules of the palette, and those of the inks on it."""
-    return "".join(f".hw .c{place}{{fill:{fill}}}.hw text.i{place}{{fill:{ink}}}" for place, (fill, ink) in enumerate(COLOURS))
+    each = enumerate(COLOURS)
+    return "".join(f".hw .c{place}{{fill:{fill}}}.hw text.i{place}{{fill:{ink}}}" for place, (fill, ink) in each)
 
 
 # ---- lanes, rounds, citations
@@ -90,7 +102,8 @@ def lane_labels(scene):
         y, name = lane.top + 20, f"validator {lane.validator}"
         if scene.few:
             parts.append(text(10, y, name, "big") + text(10, y + 16, f"weight {lane.weight}", "soft"))
-            parts.append(text(62 + 7 * len(str(lane.weight)), y + 16, "faulty", "red", from_entry(lane.faulty)) if lane.faulty else "")
+            right = 62 + 7 * len(str(lane.weight))
+            parts.append(text(right, y + 16, "faulty", "red", from_entry(lane.faulty)) if lane.faulty else "")
         else:
             parts.append(text(10, y, f"{lane.validator} · {lane.weight}", "red" if lane.faulty else ""))
     for kind, y, count in scene.sections:
@@ -99,10 +112,22 @@ def lane_labels(scene):
     return "".join(parts)
 
 
+def time_base(scene):
+    """From which moment times are counted: the first round's beginning, where that is a long number, else 0."""
+    return scene.rounds[0].begin if scene.rounds and scene.rounds[0].begin >= LONG_TIME else 0
+
+
+def utc(moment):
+    """A moment in milliseconds as a date, where the year has four digits."""
+    if moment >= YEAR_10000:
+        return ""
+    return datetime.datetime.fromtimestamp(moment / 1000, datetime.timezone.utc).strftime(" (%Y-%m-%d %H:%M:%S UTC)")
+
+
 def round_lines(scene, axis):
     """A line where each round begins, and its number above, where there is room for it."""
     parts, free = [], 0.0
-    base = scene.rounds[0].begin if scene.rounds and scene.rounds[0].begin >= 10 ** 7 else 0
+    base = time_base(scene)
     for each in scene.rounds:
         parts.append(f'<path class="rule" d="M{number(each.x)} {number(axis + 4)}V{number(scene.bottom)}"/>')
         if each.empty:
@@ -140,7 +165,8 @@ def citation_lines(scene):
 
 def hub_lines(hub):
     """Lines that meet in a dot: each unit on the right cites each one on the left."""
-    way = "".join(f"M{number(spot.x)} {number(spot.y)}L{number(hub.x)} {number(hub.y)}" for spot in hub.lows + hub.highs)
+    middle = f"L{number(hub.x)} {number(hub.y)}"
+    way = "".join(f"M{number(spot.x)} {number(spot.y)}{middle}" for spot in hub.lows + hub.highs)
     said = f"each of the {len(hub.highs)} units on the right cites each of the {len(hub.lows)} on the left"
     since = from_entry(max(spot.node.since for spot in hub.highs))
     return (f'<path class="cite"{since} d="{way}"/><g{since}><title>{said}</title>'
@@ -155,17 +181,23 @@ def lane_lines(scene):
         since = from_entry(spot.node.since) + (from_entry(spot.forked, "accused") if spot.forked else "")
         bend = spot.y - other.y
         way = f"M{number(other.x)} {number(other.y)}"
-        way += f"l{number(min(14, (spot.x - other.x) / 2))} {number(bend)}H{number(spot.x)}" if bend else f"H{number(spot.x)}"
+        way += f"l{number(min(14, (spot.x - other.x) / 2))} {number(bend)}" if bend else ""
+        way += f"H{number(spot.x)}"
         parts.append(f'<path class="{kind}"{since} d="{way}"/>')
     return "".join(parts)
 
 
 # ---- units
 
+def unit_words(unit, entry):
+    name = unit.digest.hex()[:16]
+    return f"unit {name} by {unit.creator}, number {unit.number}, time {unit.time}, entry {entry.place}"
+
+
 def unit_title(spot):
     """What a browser shows where the pointer rests on a unit."""
     node, unit = spot.node, spot.node.unit
-    said = f"unit {unit.digest.hex()[:16]} by {unit.creator}, number {unit.number}, time {unit.time}, entry {node.entry.place}"
+    said = unit_words(unit, node.entry)
     if unit.is_block:
         said += f"; block of height {node.height}, value {value_text(unit.value)[:60]}"
     elif spot.label:
@@ -174,7 +206,7 @@ def unit_title(spot):
 
 
 def unit_shape(spot):
-    """A block is a box, another unit a pill. A final block has a second frame, a unit of an equivocation a red broken ring."""
+    """A block is a box, another unit a pill. A final block has a second frame, an equivocation a red broken ring."""
     unit, half = spot.node.unit, spot.width / 2
     x, y, width = spot.x - half, spot.y - UNIT_HEIGHT / 2, spot.width
     kind = fill_of(spot.label) + (" body block" if unit.is_block else " body")
@@ -183,9 +215,11 @@ def unit_shape(spot):
         parts.append(rect(x - 3.5, y - 3.5, width + 7, UNIT_HEIGHT + 7, "frame", 3, from_entry(spot.final)))
     if spot.forked:
         out = 6 if spot.final else 3.5
-        parts.append(rect(x - out, y - out, width + 2 * out, UNIT_HEIGHT + 2 * out, "ring", 3 if unit.is_block else 13, from_entry(spot.forked)))
+        corner, since = 3 if unit.is_block else 13, from_entry(spot.forked)
+        parts.append(rect(x - out, y - out, width + 2 * out, UNIT_HEIGHT + 2 * out, "ring", corner, since))
     if spot.label:
-        parts.append(text(spot.x, spot.y + 4, spot.label.text, ink_of(spot.label) + (" bold label" if unit.is_block else " label")))
+        weight = " bold label" if unit.is_block else " label"
+        parts.append(text(spot.x, spot.y + 4, spot.label.text, ink_of(spot.label) + weight))
     return "".join(parts)
 
 
@@ -199,7 +233,8 @@ def tag_shape(spot, tag, place):
     width = tag_width(tag)
     x = spot.x - width / 2
     if tag.kind == "start":
-        return rect(x, y, width, TAG_HEIGHT - 1.5, fill_of(tag.label), 2) + text(spot.x, y + 9, tag.text, f"tag {ink_of(tag.label)}")
+        said = text(spot.x, y + 9, tag.text, f"tag {ink_of(tag.label)}")
+        return rect(x, y, width, TAG_HEIGHT - 1.5, fill_of(tag.label), 2) + said
     if tag.kind in ("mark", "conflict"):
         return text(spot.x, y + 9, tag.text, "tag m")
     return rect(x, y, width, TAG_HEIGHT - 1.5, "none box", 2) + text(spot.x, y + 9, tag.text, "tag bold")
@@ -208,7 +243,8 @@ def tag_shape(spot, tag, place):
 def unit_marks(scene):
     parts = []
     for spot in scene.spots.values():
-        tags = "".join(f"<g{from_entry(tag.since)}>{tag_shape(spot, tag, place)}</g>" for place, tag in enumerate(spot.tags))
+        each = enumerate(spot.tags)
+        tags = "".join(f"<g{from_entry(tag.since)}>{tag_shape(spot, tag, place)}</g>" for place, tag in each)
         node = spot.node
         marks = f' data-unit="{node.unit.digest.hex()[:16]}"' + from_entry(node.entry.place)
         marks += from_entry(node.since, "settled") if node.since > node.entry.place else ""
@@ -221,7 +257,7 @@ def apart_marks(scene):
     parts = [f'<path class="rule" d="M{LABEL_WIDTH} {number(y)}H{number(scene.width)}"/>' for _, y, _ in scene.sections]
     for one in scene.apart:
         name, half = one.unit.digest.hex()[:16], UNIT_HEIGHT / 2
-        title = f"unit {name} by {one.unit.creator}, number {one.unit.number}, time {one.unit.time}, entry {one.entry.place}: {one.kind}, {one.why}"
+        title = f"{unit_words(one.unit, one.entry)}: {one.kind}, {one.why}"
         parts.append(f'<g class="apart" data-unit="{name}"{from_entry(one.entry.place)}><title>{escape(title)}</title>'
                      + rect(one.x, one.y - half, one.width, UNIT_HEIGHT, one.kind, half)
                      + text(one.x + 7, one.y + 4, apart_text(one)) + "</g>")
@@ -230,8 +266,8 @@ def apart_marks(scene):
 
 def drawing(scene, axis, width):
     """The picture itself, without head, legend and foot."""
-    return "".join([bands(scene, width), round_lines(scene, axis), f'<g>{citation_lines(scene)}{lane_lines(scene)}</g><g class="overlay"></g>',
-                    f'<g>{unit_marks(scene)}</g>', apart_marks(scene)])
+    lines = f'<g>{citation_lines(scene)}{lane_lines(scene)}</g><g class="overlay"></g>'
+    return bands(scene, width) + round_lines(scene, axis) + lines + f"<g>{unit_marks(scene)}</g>" + apart_marks(scene)
 
 
 # ---- head, table, legend, foot
@@ -240,10 +276,12 @@ def head_lines(seen, scene):
     """What the picture is of. The first line is its title."""
     config, lines = seen.reading.config, [seen.name.rsplit("/", 1)[-1]]
     counts = " · ".join(f"{name} {count}" for name, count in seen.report.counts.items() if count or name == "units")
-    shown = "" if scene.window == (1, scene.all_rounds) else f" · rounds {scene.window[0]} to {scene.window[1]} of {scene.all_rounds}"
+    (first, last), exceeded, base = scene.window, seen.report.exceeded, time_base(scene)
+    shown = "" if (first, last) == (1, scene.all_rounds) else f" · rounds {first} to {last} of {scene.all_rounds}"
     lines.append(f"{len(seen.log.entries)} entries · {counts}{shown}")
     lines.append(f"total weight {sum(config.weights)} · threshold {config.threshold} · levels {config.levels}"
-                 + (f" · faulty weight {seen.report.exceeded} exceeds the threshold" if seen.report.exceeded is not None else ""))
+                 + (f" · faulty weight {exceeded} exceeds the threshold" if exceeded is not None else "")
+                 + (f" · times count from {base} ms{utc(base)}" if base else ""))
     return lines + seen.notes
 
 
@@ -255,11 +293,12 @@ def ranges(numbers):
             runs[-1][1] = each
         else:
             runs.append([each, each])
-    return ", ".join(str(low) if low == high else f"{low} to {high}" if high > low + 1 else f"{low}, {high}" for low, high in runs)
+    words = {0: "{0}", 1: "{0}, {1}"}
+    return ", ".join(words.get(high - low, "{0} to {1}").format(low, high) for low, high in runs)
 
 
 def committee_text(committee):
-    """The members, those with the same starts together: `0, 1 from 0/1` is from number 0 at level 0 and from 1 at level 1."""
+    """The members, those with the same starts together: `0, 1 from 0/1` is from 0 at level 0 and from 1 at level 1."""
     alike = {}
     for who, starts in committee.items():
         alike.setdefault(starts, []).append(who)
@@ -271,11 +310,12 @@ def final_lines(seen, scene, labels, most=FINALS_MOST):
     shown = [final for final in seen.finals if final.digest in scene.spots]
     lines = []
     for final in shown[:most]:
-        lines.append(f"block {labels[final.digest].text}: {final.digest.hex()[:8]}, level {final.level}, quorum {final.quorum},"
-                     f" at {final.at}, committee {committee_text(final.committee)}")
+        lines.append(f"block {labels[final.digest].text}: {final.digest.hex()[:8]}, level {final.level}, "
+                     f"quorum {final.quorum}, at {final.at}, committee {committee_text(final.committee)}")
     if len(seen.finals) > len(lines):
         lines.append(f"and {len(seen.finals) - len(lines)} more, which `explain` prints")
-    return [line if len(line) <= TABLE_LETTERS else line[:TABLE_LETTERS - 2] + " …" for line in lines] or ["no block is final"]
+    cut = [line if len(line) <= TABLE_LETTERS else line[:TABLE_LETTERS - 2] + " …" for line in lines]
+    return cut or ["no block is final"]
 
 
 def legend_items(scene, seen):
@@ -310,16 +350,18 @@ def legend_mark(kind, x, y, what):
         wide = unit_width(said)
         shape = rect(x, top, wide, UNIT_HEIGHT, f"{fill_of(what)} g", 2 if kind != "unit" else UNIT_HEIGHT / 2)
         frame = rect(x - 3.5, top - 3.5, wide + 7, UNIT_HEIGHT + 7, "frame g", 3) if kind == "final" else ""
-        middle = f'<text x="{number(x + wide / 2)}" y="{number(y + 4)}" text-anchor="middle" class="{ink_of(what)}">{escape(said)}</text>'
+        middle = f'<g text-anchor="middle">{text(x + wide / 2, y + 4, said, ink_of(what))}</g>'
         return f'{shape}{frame}{middle}', wide + (4 if kind == "final" else 0)
     if kind in ("start", "tag"):
         spot = Place(x + tag_width(what) / 2, y - UNIT_HEIGHT / 2 - 10)
         return f'<g class="u">{tag_shape(spot, what, 0)}</g>', tag_width(what)
     if kind == "fork":
-        return f'<path class="fork" d="M{x} {y}h18"/>' + rect(x + 16, top, 20, UNIT_HEIGHT, "ring", 10), 36
+        ring = rect(x + 16, top, 20, UNIT_HEIGHT, "ring", 10)
+        return f'<path class="fork" d="M{number(x)} {number(y)}h18"/>{ring}', 36
     if kind == "hub":
-        return f'<path class="cite" d="M{x} {y - 7}l13 7M{x} {y + 7}l26 -14M{x + 13} {y}l13 7"/><circle class="dot" cx="{x + 13}" cy="{y}" r="3.5"/>', 26
-    return f'<path class="{kind}" d="M{x} {y}h26"/>', 26
+        dot = f'<circle class="dot" cx="{number(x + 13)}" cy="{number(y)}" r="3.5"/>'
+        return f'<path class="cite" d="M{number(x)} {number(y - 7)}l26 14m0 -14l-26 14"/>{dot}', 26
+    return f'<path class="{kind}" d="M{number(x)} {number(y)}h26"/>', 26
 
 
 class Place:
@@ -353,6 +395,7 @@ def picture(seen, scene, labels):
     parts.append(f'<g transform="translate(0 {top})">{drawing(scene, -8, width)}{lane_labels(scene)}</g>')
     y = top + scene.height + 12
     parts.append(text(12, y + 12, "Final blocks, as the program explains them", "big"))
+    parts.append(text(344, y + 12, "committee: validators and the numbers of their starts at level 0/1/..", "soft"))
     parts += [text(12, y + 12 + TABLE_LINE * (place + 1), line, "mono") for place, line in enumerate(table)]
     y += 22 + TABLE_LINE * len(table)
     shapes, height = legend(legend_items(scene, seen), y + 4, width)

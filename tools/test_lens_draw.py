@@ -21,6 +21,7 @@ from lens_seen import Seen
 from lens_svg import committee_text, picture, ranges
 
 DATA = pathlib.Path(__file__).resolve().parent.parent / "crates" / "highway" / "data"
+DOCS = DATA.parent.parent.parent / "docs"
 NO_PROGRAM = "no built program: name one with HIGHWAY"
 
 
@@ -265,7 +266,8 @@ class Files(unittest.TestCase):
     @unittest.skipUnless(has_program(), NO_PROGRAM)
     def test_bad_input_is_named(self):
         bad, data = self.folder / "bad.hwlg", (DATA / "four.hwlg").read_bytes()
-        cases = (("bad magic", b"HWLX" + data[4:]), ("version 3", data[:4] + b"\x03" + data[5:]), ("torn at 9", data[:20]),
+        cases = (("bad magic", b"HWLX" + data[4:]), ("version 3", data[:4] + b"\x03" + data[5:]),
+                 ("torn at 9", data[:20]),
                  ("bad event at 183", data[:183] + b"\x02" + data[184:]),
                  ("bad vertex at 183: ", data[:189] + b"\x07" + data[190:]))
         for said, cut in cases:
@@ -276,6 +278,17 @@ class Files(unittest.TestCase):
             self.assertFalse((self.folder / "out.svg").exists())
         self.assertEqual(self.run_lens("draw", self.folder / "nothing", self.folder / "out.svg")[0], 2)
         self.assertEqual(self.run_lens("draw", DATA / "four.hwlg", self.folder / "out.svg", "--rounds", "7..9")[0], 2)
+
+    @unittest.skipUnless(has_program(), NO_PROGRAM)
+    def test_the_pictures_in_docs_are_drawn_so(self):
+        world = running_example()
+        (self.folder / "example.hwlg").write_bytes(log_of(world, EXAMPLE_ORDER))
+        logs = [DATA / "four.hwlg", DATA / "both.hwlg", self.folder / "example.hwlg", DOCS / "five.hwlg"]
+        for log in logs:
+            shipped, out = DOCS / f"{log.stem}.svg", self.folder / f"{log.stem}.svg"
+            self.assertEqual(self.run_lens("draw", log, out)[0], 0)
+            self.assertEqual(out.read_text(), shipped.read_text(), f"draw {shipped} again")
+            self.assertLess(shipped.stat().st_size, 150_000)
 
     @unittest.skipUnless(has_program(), NO_PROGRAM)
     def test_a_torn_log_is_drawn_up_to_its_end(self):

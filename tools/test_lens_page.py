@@ -25,7 +25,7 @@ NO_PROGRAM = "no built program: build crates/highway, or name one with HIGHWAY"
 
 
 class Stand:
-    """Stands in for the program: says what the own reading says, and the final blocks and the verdict that a test names."""
+    """Stands in for the program: says what the own reading says, and the final blocks and verdict that a test names."""
 
     def __init__(self, finals=(), verdict=None):
         self.finals, self.verdict = list(finals), verdict
@@ -190,8 +190,9 @@ class BadWords(Room):
     def test_bad_input_is_named(self):
         out, four = self.room / "out.html", DATA / "four.hwlg"
         bad = self.file(four.read_bytes()[:20])
-        for words, said in (((four, four, four, out), "one log, or two"), ((bad, out), "torn at 9"),
-                            ((four, DATA / "ending.hwlg", out), "other config"), ((self.room / "none", out), "no such file")):
+        cases = (((four, four, four, out), "one log, or two"), ((bad, out), "torn at 9"),
+                 ((four, DATA / "ending.hwlg", out), "other config"), ((self.room / "none", out), "no such file"))
+        for words, said in cases:
             status, _, told = self.lens("page", *words)
             self.assertEqual((status, told.count("\n")), (2, 1), told)
             self.assertIn(said, told)
