@@ -13,6 +13,7 @@ from the program. 2: bad words, a bad file, or no program; one line on standard 
 """
 import argparse
 import importlib
+import io
 import os
 import pathlib
 import sys
@@ -112,19 +113,29 @@ def make_parser():
     return parser
 
 
-def main(words=None):
-    """Runs a command, and answers its status. An error is one line on standard error."""
-    arguments = make_parser().parse_args(words)
+def answer(arguments):
+    """The status of a command. Bad input, no program, and a file that can't be written are one line each, and 2."""
     try:
-        status = importlib.import_module(f"lens_{arguments.command}").run(arguments)
-        sys.stdout.flush()
-        return status
-    except (InputError, ProgramError) as error:
+        return importlib.import_module(f"lens_{arguments.command}").run(arguments)
+    except BrokenPipeError:
+        raise
+    except (InputError, ProgramError, OSError) as error:
         sys.stdout.flush()
         print(f"lens: {error}", file=sys.stderr)
         return 2
+
+
+def main(words=None):
+    """Runs a command, and answers its status."""
+    words = sys.argv[1:] if words is None else words
+    if isinstance(sys.stdout, io.TextIOWrapper):
+        sys.stdout.reconfigure(errors="backslashreplace")
+    try:
+        status = answer(make_parser().parse_args(words))
+        sys.stdout.flush()
+        return status
     except KeyboardInterrupt:
-        return 0 if arguments.command == "watch" else 130
+        return 0 if words[0] == "watch" else 130
     except BrokenPipeError:
         os.dup2(os.open(os.devnull, os.O_WRONLY), sys.stdout.fileno())
         return 0
