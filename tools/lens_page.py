@@ -88,7 +88,7 @@ def judged(panel, digest):
     said = [f"final at height {final.height}: level {final.level}, quorum {final.quorum}, since entry "
             f"{panel.seen.entry_of(final)}" for final in panel.seen.finals if final.digest == digest]
     spot = panel.scene.spots.get(digest)
-    if spot and spot.forked:
+    if spot and spot.forked and spot.node.unit.creator in panel.seen.faulty:
         said.append(f"validator {spot.node.unit.creator} is faulty: another unit of it has this number")
     return said + ([panel.seen.culprits[digest]] if digest in panel.seen.culprits else [])
 

@@ -97,7 +97,7 @@ def bands(scene, width):
 
 def lane_labels(scene):
     """Who the lanes belong to. In a picture of many lanes each label is one line."""
-    parts = []
+    parts = [] if scene.few else [text(10, scene.top - 8, "validator · weight", "soft tag")]
     for lane in scene.lanes:
         y, name = lane.top + 20, f"validator {lane.validator}"
         if scene.few:
