@@ -360,7 +360,7 @@ def mark_tags(scene, seen):
         if since:
             spot.tags.append(Tag("endorsed", "E", since.place))
         if spot.node.unit.digest in seen.conflict:
-            spot.tags.append(Tag("conflict", "conflict", spot.node.since))
+            spot.tags.append(Tag("conflict", "conflict", spot.final or spot.node.since))
 
 
 def merge(tags):
