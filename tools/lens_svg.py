@@ -1,7 +1,7 @@
 """A laid out scene as SVG, with its legend and its foot.
 
-Colours are those of Okabe and Ito, which colour-blind readers tell apart; what they say is also written, or told by a
-shape. The picture follows the reader's light or dark background. It proves nothing.
+Colours are those of Okabe and Ito, which colour-blind readers tell apart, in an order in which the two that come
+nearest to each other stand three apart; what they say is also written, or told by a shape. The picture follows the reader's light or dark background. It proves nothing.
 """
 import datetime
 import re
@@ -11,7 +11,7 @@ from lens_layout import LABEL_WIDTH, LETTER, TAG_HEIGHT, UNIT_HEIGHT, apart_text
 from lens_log import value_text
 
 COLOURS = (("#0072b2", "#ffffff"), ("#e69f00", "#000000"), ("#009e73", "#000000"),
-           ("#56b4e9", "#000000"), ("#cc79a7", "#000000"), ("#f0e442", "#000000"))
+           ("#56b4e9", "#000000"), ("#f0e442", "#000000"), ("#cc79a7", "#000000"))
 HEAD_LINE, TABLE_LINE, LEGEND_LINE = 18, 17, 26
 FINALS_MOST, TABLE_LETTERS = 8, 140
 WIDTH_LEAST = 760
