@@ -1,7 +1,8 @@
 """A laid out scene as SVG, with its legend and its foot.
 
 Colours are those of Okabe and Ito, which colour-blind readers tell apart, in an order in which the two that come
-nearest to each other stand three apart; what they say is also written, or told by a shape. The picture follows the reader's light or dark background. It proves nothing.
+nearest to each other stand three apart; what they say is also written, or told by a shape. The picture follows the
+reader's light or dark background. It proves nothing.
 """
 import datetime
 import re
