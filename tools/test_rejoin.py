@@ -4,6 +4,7 @@ the environment variable HIGHWAY names it."""
 import fcntl
 import os
 import shutil
+import subprocess
 import tempfile
 import unittest
 from pathlib import Path
@@ -146,6 +147,17 @@ class Joins(InFolder):
         self.assertIn("safe to run", self.join(1, half, rest))
         self.assertEqual(self.own(self.log, 1), whole)
         self.assertEqual(len(read_as_far(self.log).entries), 4)
+
+    def test_a_peer_may_host_at_an_address(self):
+        address = f"127.0.0.1:{rejoin.free_port()}"
+        words = [PROGRAM.absolute(), "host", self.config, self.keys, self.peer("hosted.log", range(4)), address, "64"]
+        quiet = {"stdout": subprocess.DEVNULL, "stderr": subprocess.DEVNULL, "cwd": self.folder}
+        host = subprocess.Popen(list(map(str, words)), **quiet)
+        try:
+            self.assertIn("has 2 own units, 2 of them of peers", self.join(1, address))
+        finally:
+            host.kill()
+            host.wait()
 
     def test_zeros_are_cut_first_and_the_old_log_stays_beside(self):
         self.put(Path(self.peer("own.log", (0,))).read_bytes() + bytes(40))
