@@ -5,7 +5,7 @@
 
 A hub serves, and three validators dial it, each in a folder of its own with the settings and the keys that are shipped. One validator
 is killed (SIGKILL) and started again so many times; where that cut the last entry of its log, the log is mended first, as
-docs/NETWORK.md says. Then all are stopped, each log is replayed, and each two of them are audited. The status is 0 where each log has
+docs/OPERATING.md says. Then all are stopped, each log is replayed, and each two of them are audited. The status is 0 where each log has
 final blocks, nobody is faulty in any, and each two agree.
 
 It stands outside the gate and proves nothing.
