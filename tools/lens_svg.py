@@ -396,7 +396,7 @@ def picture(seen, scene, labels):
     parts.append(f'<g transform="translate(0 {top})">{drawing(scene, -8, width)}{lane_labels(scene)}</g>')
     y = top + scene.height + 12
     parts.append(text(12, y + 12, "Final blocks, as the program explains them", "big"))
-    parts.append(text(344, y + 12, "committee: validators and the numbers of their starts at level 0/1/..", "soft"))
+    parts.append(text(400, y + 12, "committee: validators and the numbers of their starts at level 0/1/..", "soft"))
     parts += [text(12, y + 12 + TABLE_LINE * (place + 1), line, "mono") for place, line in enumerate(table)]
     y += 22 + TABLE_LINE * len(table)
     shapes, height = legend(legend_items(scene, seen), y + 4, width)
