@@ -321,7 +321,7 @@ def main(arguments=None):
             print(join(Rejoin(words.program, words.config, words.keys, words.log, words.me, peers, words.patience),
                        words.settle))
     except (Problem, InputError, OSError) as error:
-        print(f"not safe: {error}")
+        print(f"{'not mended' if words.command == 'mend' else 'not safe'}: {error}")
         return 1
     return 0
 
