@@ -455,6 +455,15 @@ class Records(InRepository):
         self.assertEqual(status, 1)
         self.assertIn("1 of 4 pages have to be tried again (pages were added or changed): no_step.md", said)
 
+    def test_untried_pages_can_be_allowed_and_changed_ones_cannot(self):
+        self.assertEqual(self.current()[0], 1)
+        status, said = self.current("--allow-untried")
+        self.assertEqual(status, 0)
+        self.assertIn("never tried, by crate: top 4", said)
+        self.record_all()
+        self.change("crates/top/src/lib.rt", "n != 0", "n > 0")
+        self.assertEqual(self.current("--allow-untried")[0], 1)
+
     def test_a_page_that_is_gone_is_told(self):
         self.record_all()
         os.remove(f"{self.root}/crates/top/must-fail/no_step.md")

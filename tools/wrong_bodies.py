@@ -38,6 +38,7 @@ def arguments(words):
     parser = argparse.ArgumentParser(description=__doc__, formatter_class=argparse.RawDescriptionHelpFormatter)
     parser.add_argument("names", nargs="*", metavar="NAME", help="a crate of crates.txt")
     parser.add_argument("--current", action="store_true", help="say whether pages apply and records are current")
+    parser.add_argument("--allow-untried", action="store_true", help="with --current: pages never tried are no fault")
     parser.add_argument("--anew", action="store_true", help="try all pages, whatever is recorded")
     parser.add_argument("--jobs", type=int, default=1, metavar="N", help="processors: so many checks side by side")
     parser.add_argument("--root", default=ROOT, help=argparse.SUPPRESS)
@@ -46,6 +47,8 @@ def arguments(words):
         parser.error("--jobs takes a number from 1 on")
     if given.current and given.anew:
         parser.error("--current tries nothing, so it doesn't go with --anew")
+    if given.allow_untried and not given.current:
+        parser.error("--allow-untried goes with --current")
     return given
 
 
@@ -65,8 +68,9 @@ def stop_on_lost(root, crates):
             raise SourceError(f"crates/{name} has pages in must-fail/, and crates.txt doesn't list it")
 
 
-def look(crate, known):
-    """Returns what is wrong with a crate's pages and record, as lines, and whether it has to be tried again."""
+def look(crate, known, allow_untried=False):
+    """Returns what is wrong with a crate's pages and record, as lines, and whether it has to be tried again. Where pages
+    that were never tried are allowed, only those that were recorded are asked about."""
     pages, faults = pages_of(crate)
     for page in pages:
         why = page.fault or applied(crate.folder, [page])[2]
@@ -74,6 +78,8 @@ def look(crate, known):
             faults.append(f"{crate.name}/{page.name}: {why}")
     base, record = tried_record.base_of(crate, known), tried_record.read(crate)
     old = tried_record.stale(pages, record, base)
+    if allow_untried:
+        old = [it for it in old if it in record.pages]
     lost = tried_record.gone(pages, record)
     if old:
         why = tried_record.why_stale(record, base)
@@ -94,11 +100,21 @@ def tell_of_kits(crates):
         print(f"note: tried with another toolchain than {kit} (--anew tries them with this one): {' '.join(others)}")
 
 
-def current(crates):
+def tell_of_untried(crates):
+    """Says how many pages of which crates were never tried."""
+    untried = {it.name: sum(page.name not in tried_record.read(it).pages for page in pages_of(it)[0]) for it in crates}
+    lacking = [f"{name} {count}" for name, count in untried.items() if count]
+    if lacking:
+        print(f"wrong bodies: never tried, by crate: {', '.join(lacking)}")
+
+
+def current(crates, allow_untried=False):
     """Says whether each page applies and each record is current."""
     known, faults, again = {}, [], []
+    if allow_untried:
+        tell_of_untried(crates)
     for crate in crates:
-        found, is_old = look(crate, known)
+        found, is_old = look(crate, known, allow_untried)
         faults += found
         again += [crate.name] * is_old
     for it in faults:
@@ -216,7 +232,7 @@ def main(words):
         crates = crates_of(given.root)
         stop_on_lost(given.root, crates)
         named = chosen(crates, given.names)
-        return current(named) if given.current else try_all(named, given)
+        return current(named, given.allow_untried) if given.current else try_all(named, given)
     except (CheckError, SourceError, OSError) as error:
         print(f"wrong bodies: {error}", file=sys.stderr)
         return 2
