@@ -182,7 +182,6 @@ module _ (config : Config) (left right : List Vertex) where
 
 -- ---- the journal, place by place
 
-
 -- one vertex more
 pub held_more : (settled : List Node) (journal : List Vertex) (n : ℕ) (v : Vertex) → Some v ≡ slice_get journal n → held_units settled (take (n + 1) journal) ≡ held_units settled (take n journal) ++ held_by settled v
 held_more settled journal n v e = ap (λ (vs : List Vertex). held_units settled vs) (front_more journal n v e) ∙ flat_map-append (held_by settled) (take n journal) (v ∷ []) ∙ ap (λ (hs : List HeldUnit). held_units settled (take n journal) ++ hs) (append-nil (held_by settled v))
