@@ -1,68 +1,123 @@
 //! A door to peers over TCP, which tells no sessions.
-ghost use Rattle.std.specs.Prelude.{◌≡◌, ◌<◌, None, false, IfErr, IsErr, is_ok, is_some};
+ghost use Rattle.std.specs.Prelude.{◌≡◌, None, false, IfErr, IsErr, is_ok, is_some};
 ghost use Rattle.std.specs.Io.{ReadsAtMost};
 ghost use Rattle.hw_io.specs.Sinks.{TakesSome};
 
+use crate::complaints::{Complaints, Voice};
+use crate::hung::HungPeers;
+use crate::log::LogFile;
+use crate::patience::Patience;
+use crate::session::Session;
+use crate::waiting::WaitingRoom;
 use hw_io::{Door, DoorNumbers, IoFault};
 use std::io;
-use std::io::{Read, Write};
-use std::net::{Net, OpenListener, OpenStream, Shutdown, TcpListener, TcpStream, ToSocketAddrs};
-use std::time::Duration;
+use std::io::ErrorKind;
+use std::net::{Net, OpenListener, OpenStream, TcpListener, TcpStream, ToSocketAddrs};
+use std::time::{Duration, Instant};
 
-/// How many seconds a call of `dial` waits for one address of a peer.
-const DIAL_SECONDS: u64 = 10;
+/// How many connections are let in at most before it is looked who said something.
+const LET_IN: usize = 64;
 
-/// How many seconds a read or a write waits for the peer.
-const PEER_SECONDS: u64 = 60;
+/// How many microseconds pass at first, and at most, until it is looked again whether a connection that
+/// waits said something.
+const FIRST_PAUSE: u64 = 200;
 
-/// How many milliseconds a stream that ends waits for more of what the peer is still sending.
-const PARTING_MILLISECONDS: u64 = 500;
-
-/// How many pieces of what the peer is still sending are read at most.
-const PARTING_READS: usize = 64;
+const LONGEST_PAUSE: u64 = 5_000;
 
 /// A door over a network. It listens at the address that it is made with, as `127.0.0.1:7000`, and
 /// dials addresses of that form, or with the name of a host.
 ///
-/// `accept` waits until a peer comes. A dial waits 10 seconds for each address of the peer, and a read
-/// or a write 60 seconds for the peer. Each error of the system is `Failed` and counted. `hang_up` ends
-/// what is written, and then reads on until the peer ends its side, an error comes, half a second
-/// passes without a byte, or 64 pieces were read. It doesn't learn whether the peer read what was
-/// written.
+/// `accept` waits until a peer comes and says something. Connections that say nothing wait beside each
+/// other, at most 64 of them and for 5 seconds; they are no sessions. A dial waits 5 seconds for each
+/// address of the peer, a read or a write 5 seconds for the peer, and a session ends after 10 seconds and
+/// a second more for each 65,536 bytes that went either way. A peer that was dialled and let a call wait
+/// for all of this is given a tenth of it the next time, until a session with it ends well. Where it lets a
+/// call wait for all of that too, it isn't dialled for nine times as long, and each dial of it fails at once.
+///
+/// What is written is held and goes out in pieces of 65,536 bytes, at the next `read`, or at `hang_up`. A
+/// call that sends what is held and fails is the one that counts.
+///
+/// Where the door is handed the log of a node, all that was appended to it is on the disk before a peer is
+/// dialled, and before anything is sent to a peer that came. So no unit that a node made goes out before it
+/// is on the disk, and what a peer was told to be taken is kept. What a peer sends that was dialled is on
+/// the disk before the next dial; if it is lost, that peer has it still.
+///
+/// Each error of the system is `Failed`, counted, and told on standard error, with the peer's address.
+/// `hang_up` ends what is written, and then reads on until the peer ends its side, an error comes or half
+/// a second has passed. It doesn't learn whether the peer read what was written.
 #[derive(Drop)]
-pub struct HostDoor<R: Net> {
+pub struct HostDoor<'a, R: Net + Voice> {
     runtime: R,
+    log: Option<&'a LogFile>,
     listener: Option<R::Listener>,
-    stream: Option<R::Stream>,
+    waiting: WaitingRoom<R::Stream>,
+    session: Option<Session<R::Stream>>,
+    peer: Peer,
+    hung: HungPeers,
+    complaints: Complaints<R>,
     numbers: DoorNumbers,
 }
 
-impl<R: Net> HostDoor<R> {
-    /// A door that listens at this address. Where that fails, each `accept` fails.
-    pub fn new(runtime: R, address: &str) -> HostDoor<R>
-        ensures open { result.stream ≡ None }
+/// What the peer of the session is called, if there was memory for it, and when it was dialled, if it was.
+#[derive(Drop)]
+struct Peer {
+    name: Option<String>,
+    dialled: Option<Instant>,
+}
+
+impl Peer {
+    fn unknown() -> Peer {
+        Peer {
+            name: None,
+            dialled: None,
+        }
+    }
+
+    fn called(&self) -> &str {
+        match &self.name {
+            Some(name) => name.as_str(),
+            None => "a peer",
+        }
+    }
+}
+
+impl<'a, R: Net + Voice> HostDoor<'a, R> {
+    /// A door that listens at this address. Where that fails, it is told at once, and each `accept` fails.
+    pub fn new(runtime: R, address: &str) -> HostDoor<'a, R>
+        ensures open { result.session ≡ None }
         ensures numbers { result.numbers ≡ record { accepts = 0; dials = 0; ends = 0; faults = 0 } }
     {
-        let listener = TcpListener::bind(&runtime, address).ok();
+        let mut door = HostDoor::without_address(runtime);
+        match TcpListener::bind(&runtime, address) {
+            Ok(listener) => door.listener = Some(listener),
+            Err(error) => door.complaints.tell(address, error),
+        }
+        door
+    }
+
+    /// A door that listens nowhere, so that each `accept` fails.
+    pub fn without_address(runtime: R) -> HostDoor<'a, R>
+        ensures open { result.session ≡ None }
+        ensures numbers { result.numbers ≡ record { accepts = 0; dials = 0; ends = 0; faults = 0 } }
+    {
         HostDoor {
             runtime,
-            listener,
-            stream: None,
+            log: None,
+            listener: None,
+            waiting: WaitingRoom::new(runtime.alloc()),
+            session: None,
+            peer: Peer::unknown(),
+            hung: HungPeers::new(runtime.alloc()),
+            complaints: Complaints::new(runtime),
             numbers: DoorNumbers::new(),
         }
     }
 
-    /// A door that listens nowhere, so that each `accept` fails.
-    pub fn without_address(runtime: R) -> HostDoor<R>
-        ensures open { result.stream ≡ None }
-        ensures numbers { result.numbers ≡ record { accepts = 0; dials = 0; ends = 0; faults = 0 } }
+    /// The same door, behind the log of a node.
+    pub fn behind(self, log: Option<&'a LogFile>) -> HostDoor<'a, R>
+        ensures { result ≡ record self.entry { log = result.log } }
     {
-        HostDoor {
-            runtime,
-            listener: None,
-            stream: None,
-            numbers: DoorNumbers::new(),
-        }
+        HostDoor { log, ..self }
     }
 
     /// The port at which it listens, which the system chose where the address had port 0.
@@ -80,29 +135,192 @@ impl<R: Net> HostDoor<R> {
         self.numbers
     }
 
-    /// Keeps this stream, if it was made.
-    fn enter(&mut self, stream: io::Result<R::Stream>) -> Result<(), IoFault>
-        ensures open { is_some self.new.stream ≡ is_ok result }
+    /// Waits for a peer that says something, and begins a session with it.
+    fn welcome(&mut self) -> io::Result<()>
+        ensures open { is_some self.new.session ≡ is_ok result }
         ensures numbers { self.new.numbers ≡ self.old.numbers }
-        ensures cause { IfErr result (λ fault. fault ≡ IoFault.Failed) }
     {
-        match stream {
-            Ok(stream) => {
-                self.stream = Some(stream);
-                Ok(())
+        self.leave();
+        self.peer = Peer::unknown();
+        let stream = next_speaker(&self.runtime, &self.listener, &mut self.waiting)?;
+        self.peer = Peer {
+            name: self.name_of(&stream),
+            dialled: None,
+        };
+        let alloc = self.runtime.alloc();
+        self.session = Some(Session::new(alloc, &self.runtime, stream, Patience::Full)?);
+        Ok(())
+    }
+
+    /// The address of a peer that came, without its port.
+    fn name_of(&self, stream: &R::Stream) -> Option<String> {
+        let address = stream.peer_addr().ok()?;
+        let address = address.ip();
+        format!(in self.runtime.alloc(); "{address}").ok()
+    }
+
+    /// Calls the peer at this address, and begins a session with it.
+    fn call(&mut self, address: &str) -> io::Result<()>
+        ensures open { is_some self.new.session ≡ is_ok result }
+        ensures numbers { self.new.numbers ≡ self.old.numbers }
+    {
+        self.leave();
+        let alloc = self.runtime.alloc();
+        let now = Instant::now(&self.runtime)?;
+        self.peer = Peer {
+            name: String::from_str(alloc, address).ok(),
+            dialled: Some(now),
+        };
+        let Some(patience) = self.hung.patience(address, now) else {
+            return Err(resting());
+        };
+        self.sync_log()?;
+        let stream = dialled(&self.runtime, address, patience)?;
+        self.session = Some(Session::new(alloc, &self.runtime, stream, patience)?);
+        Ok(())
+    }
+
+    /// Reads of the session, if one is there, after what is held was sent. An empty buffer waits for nothing.
+    fn receive(&mut self, buf: &mut [u8]) -> io::Result<usize>
+        ensures bound { ReadsAtMost result buf.new }
+        ensures none { is_some self.old.session ≡ false → IsErr result }
+        ensures stays { is_some self.new.session ≡ is_some self.old.session }
+        ensures numbers { self.new.numbers ≡ self.old.numbers }
+    {
+        if buf.is_empty() && self.session.is_some() {
+            return Ok(0);
+        }
+        self.flush()?;
+        match &mut self.session {
+            Some(session) => session.read(&self.runtime, buf),
+            None => Err(ErrorKind::NotConnected.into()),
+        }
+    }
+
+    /// Holds the first bytes of the piece for the peer, if a session is there, and answers how many.
+    fn send(&mut self, bytes: &[u8]) -> io::Result<usize>
+        ensures some { TakesSome result bytes.now }
+        ensures none { is_some self.old.session ≡ false → IsErr result }
+        ensures stays { is_some self.new.session ≡ is_some self.old.session }
+        ensures numbers { self.new.numbers ≡ self.old.numbers }
+    {
+        let is_full = match &self.session {
+            Some(session) => session.is_full(),
+            None => return Err(ErrorKind::NotConnected.into()),
+        };
+        if is_full {
+            self.flush()?;
+        }
+        let held = match &mut self.session {
+            Some(session) => session.hold(bytes)?,
+            None => 0,
+        };
+        if held > 0 || bytes.is_empty() {
+            Ok(held)
+        } else {
+            Err(ErrorKind::WriteZero.into())
+        }
+    }
+
+    /// Sends what is held. What was appended to the log in a session with a peer that came is on the disk
+    /// before; what was appended before a dial is on the disk since then.
+    fn flush(&mut self) -> io::Result<()>
+        ensures stays { is_some self.new.session ≡ is_some self.old.session }
+        ensures numbers { self.new.numbers ≡ self.old.numbers }
+    {
+        let is_empty = match &self.session {
+            Some(session) => session.is_empty(),
+            None => true,
+        };
+        if is_empty {
+            return Ok(());
+        }
+        if self.peer.dialled.is_none() {
+            self.sync_log()?;
+        }
+        match &mut self.session {
+            Some(session) => session.flush(&self.runtime),
+            None => Ok(()),
+        }
+    }
+
+    /// Puts on the disk what was appended to the log.
+    fn sync_log(&mut self) -> io::Result<()>
+        ensures { self.new ≡ record self.old { complaints = self.new.complaints } }
+    {
+        let Some(log) = self.log else { return Ok(()) };
+        match log.sync() {
+            Ok(()) => Ok(()),
+            Err(error) => {
+                self.complaints.tell(log.name(), error);
+                Err(error)
             }
-            Err(_) => {
-                self.stream = None;
-                Err(IoFault::Failed)
-            }
+        }
+    }
+
+    /// What a call answers that failed by this error, which is told. A peer that was dialled and let the call
+    /// wait too long is given less time from now on.
+    fn fault(&mut self, error: io::Error) -> IoFault
+        ensures { self.new ≡ record self.old { hung = self.new.hung; complaints = self.new.complaints } }
+    {
+        if error.kind() == ErrorKind::TimedOut {
+            self.note_hung();
+        }
+        // A door that listens nowhere said so when it was made.
+        if error.kind() != ErrorKind::NotConnected {
+            self.complaints.tell(self.peer.called(), error);
+        }
+        if error.kind() == ErrorKind::OutOfMemory {
+            IoFault::OutOfMemory
+        } else {
+            IoFault::Failed
+        }
+    }
+
+    /// Keeps that the peer hung, if it was dialled.
+    fn note_hung(&mut self)
+        ensures { self.new ≡ record self.old { hung = self.new.hung } }
+    {
+        if let (Some(dialled), Ok(now)) = (self.peer.dialled, Instant::now(&self.runtime)) {
+            let taken = now.duration_since(dialled);
+            self.hung.note(self.peer.called(), now, taken);
+        }
+    }
+
+    /// Ends the session, if one is there.
+    fn leave(&mut self)
+        ensures gone { self.new.session ≡ None }
+        ensures numbers { self.new.numbers ≡ self.old.numbers }
+    {
+        self.part();
+        self.session = None;
+    }
+
+    /// Parts from a peer in whose session no call failed: sends what is held, and lets the peer end too.
+    fn part(&mut self)
+        ensures numbers { self.new.numbers ≡ self.old.numbers }
+    {
+        match &self.session {
+            Some(session) if !session.has_failed() => {}
+            _ => return,
+        }
+        if let Err(error) = self.flush() {
+            self.fault(error);
+            return;
+        }
+        if let Some(session) = &mut self.session {
+            session.part(&self.runtime);
+        }
+        if self.peer.dialled.is_some() {
+            self.hung.forgive(self.peer.called());
         }
     }
 }
 
-impl<R: Net> Door for HostDoor<R> {
+impl<'a, R: Net + Voice> Door for HostDoor<'a, R> {
     ghost sessions = { λ _. None };
 
-    ghost is_open = { λ door. is_some door.stream };
+    ghost is_open = { λ door. is_some door.session };
 
     ghost accepts = { λ door. door.numbers.accepts };
 
@@ -113,120 +331,120 @@ impl<R: Net> Door for HostDoor<R> {
     ghost faults = { λ door. door.numbers.faults };
 
     fn accept(&mut self) -> Result<(), IoFault> {
-        self.stream = None;
-        let stream = accepted::<R>(&self.listener);
-        let outcome = self.enter(stream);
+        let outcome = match self.welcome() {
+            Ok(()) => Ok(()),
+            Err(error) => Err(self.fault(error)),
+        };
         self.numbers.count_accept();
         self.numbers.count_failure(&outcome);
         outcome
     }
 
     fn dial(&mut self, address: &str) -> Result<(), IoFault> {
-        self.stream = None;
-        let stream = dialled(&self.runtime, address);
-        let outcome = self.enter(stream);
+        let outcome = match self.call(address) {
+            Ok(()) => Ok(()),
+            Err(error) => Err(self.fault(error)),
+        };
         self.numbers.count_dial();
         self.numbers.count_failure(&outcome);
         outcome
     }
 
     fn read(&mut self, buf: &mut [u8]) -> Result<usize, IoFault> {
-        let outcome = read_of(&mut self.stream, buf);
+        let outcome = match self.receive(buf) {
+            Ok(count) => Ok(count),
+            Err(error) => Err(self.fault(error)),
+        };
         self.numbers.count_end(&outcome, buf);
         self.numbers.count_failure(&outcome);
         outcome
     }
 
     fn write(&mut self, bytes: &[u8]) -> Result<usize, IoFault> {
-        let outcome = write_to(&mut self.stream, bytes);
+        let outcome = match self.send(bytes) {
+            Ok(count) => Ok(count),
+            Err(error) => Err(self.fault(error)),
+        };
         self.numbers.count_failure(&outcome);
         outcome
     }
 
     fn hang_up(&mut self) {
-        part(&mut self.stream);
-        self.stream = None;
+        self.leave();
     }
 }
 
-/// The stream of the next peer.
-fn accepted<R: Net>(listener: &Option<R::Listener>) -> io::Result<R::Stream> {
-    match listener {
-        Some(listener) => {
-            let (stream, _) = listener.accept()?;
-            patient(stream)
+/// What a dial answers of a peer that hung again and again.
+fn resting() -> io::Error {
+    io::Error::new(
+        ErrorKind::ResourceBusy,
+        "it hung again, and isn't dialled for a while",
+    )
+}
+
+/// The stream of the first peer that says something.
+fn next_speaker<R: Net + Voice>(
+    runtime: &R,
+    listener: &Option<R::Listener>,
+    waiting: &mut WaitingRoom<R::Stream>,
+) -> io::Result<R::Stream> {
+    let mut pause = FIRST_PAUSE;
+    for _ in 0..u64::MAX {
+        let_in(runtime, listener, waiting)?;
+        let now = Instant::now(runtime)?;
+        if let Some(stream) = waiting.first_to_speak(now) {
+            return Ok(stream);
         }
-        None => Err(io::ErrorKind::NotConnected.into()),
+        runtime.sleep(Duration::from_micros(pause));
+        pause = pause.saturating_mul(2).min(LONGEST_PAUSE);
+    }
+    Err(ErrorKind::TimedOut.into())
+}
+
+/// Lets in who came. Where nobody waits, it waits until somebody comes.
+fn let_in<R: Net + Voice>(
+    runtime: &R,
+    listener: &Option<R::Listener>,
+    waiting: &mut WaitingRoom<R::Stream>,
+) -> io::Result<()> {
+    for _ in 0..LET_IN {
+        match accepted::<R>(listener, !waiting.is_empty())? {
+            Some(stream) => waiting.admit(stream, Instant::now(runtime)?)?,
+            None => break,
+        }
+    }
+    Ok(())
+}
+
+/// The stream of the next peer that came, which doesn't block. Where somebody waits already, it doesn't wait
+/// for one to come, and answers none where none came.
+fn accepted<R: Net>(
+    listener: &Option<R::Listener>,
+    is_somebody_waiting: bool,
+) -> io::Result<Option<R::Stream>> {
+    let Some(listener) = listener else {
+        return Err(ErrorKind::NotConnected.into());
+    };
+    listener.set_nonblocking(is_somebody_waiting)?;
+    match listener.accept() {
+        Ok((stream, _)) => {
+            stream.set_nonblocking(true)?;
+            Ok(Some(stream))
+        }
+        Err(error) if error.kind() == ErrorKind::WouldBlock => Ok(None),
+        Err(error) => Err(error),
     }
 }
 
 /// The stream to the peer at this address: the first of its addresses that answers.
-fn dialled<R: Net>(runtime: &R, address: &str) -> io::Result<R::Stream> {
-    let wait = Duration::from_secs(DIAL_SECONDS);
-    let mut outcome = Err(io::ErrorKind::NotConnected.into());
+fn dialled<R: Net>(runtime: &R, address: &str, patience: Patience) -> io::Result<R::Stream> {
+    let wait = Duration::from_millis(patience.wait());
+    let mut outcome = Err(ErrorKind::AddrNotAvailable.into());
     for address in address.to_socket_addrs(runtime)? {
         outcome = TcpStream::connect_timeout(runtime, &address, wait);
         if outcome.is_ok() {
             break;
         }
     }
-    patient(outcome?)
-}
-
-/// The stream, with a bound on its waits, and without a delay of small pieces.
-fn patient<S: OpenStream + Drop>(stream: S) -> io::Result<S> {
-    let wait = Duration::from_secs(PEER_SECONDS);
-    stream.set_read_timeout(Some(wait))?;
-    stream.set_write_timeout(Some(wait))?;
-    stream.set_nodelay(true)?;
-    Ok(stream)
-}
-
-/// Ends what is written to the stream and reads on for a bounded while: a stream that is closed with
-/// bytes unread is reset, and the peer may lose what it was sent last.
-fn part<S: OpenStream + Read>(stream: &mut Option<S>) {
-    let Some(stream) = stream else { return };
-    let wait = Duration::from_millis(PARTING_MILLISECONDS);
-    let parted = stream.shutdown(Shutdown::Write);
-    if parted.and(stream.set_read_timeout(Some(wait))).is_err() {
-        return;
-    }
-    let mut rest = [0; 4096];
-    for _ in 0..PARTING_READS {
-        match stream.read(&mut rest) {
-            Ok(count) if count > 0 => (),
-            _ => break,
-        }
-    }
-}
-
-/// Reads of the stream, if there is one. An empty buffer waits for nothing.
-fn read_of<S: Read>(stream: &mut Option<S>, buf: &mut [u8]) -> Result<usize, IoFault>
-    ensures bound { ReadsAtMost result buf.new }
-    ensures none { is_some stream.old ≡ false → IsErr result }
-    ensures stays { is_some stream.new ≡ is_some stream.old }
-{
-    match stream {
-        Some(_) if buf.is_empty() => Ok(0),
-        Some(stream) => match stream.read(buf) {
-            Ok(count) => Ok(count),
-            Err(_) => Err(IoFault::Failed),
-        },
-        None => Err(IoFault::Failed),
-    }
-}
-
-/// Writes to the stream, if there is one.
-fn write_to<S: Write>(stream: &mut Option<S>, bytes: &[u8]) -> Result<usize, IoFault>
-    ensures some { TakesSome result bytes.now }
-    ensures none { is_some stream.old ≡ false → IsErr result }
-    ensures stays { is_some stream.new ≡ is_some stream.old }
-{
-    match stream {
-        Some(stream) => match stream.write(bytes) {
-            Ok(count) if count > 0 || bytes.is_empty() => Ok(count),
-            _ => Err(IoFault::Failed),
-        },
-        None => Err(IoFault::Failed),
-    }
+    outcome
 }

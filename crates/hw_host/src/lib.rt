@@ -4,11 +4,23 @@
 //! nothing below the program depends on how the machine is reached.
 #![tactic(auto)]
 
+mod announced;
 mod appended;
 mod clock;
+mod complaints;
 mod door;
 mod files;
+mod hung;
+mod log;
+mod node_files;
+mod patience;
+mod session;
+mod waiting;
 
+pub use announced::Announced;
 pub use clock::HostClock;
+pub use complaints::Voice;
 pub use door::HostDoor;
 pub use files::{HostFiles, HostSink};
+pub use log::LogFile;
+pub use node_files::{NO_LIMIT, NodeFiles};

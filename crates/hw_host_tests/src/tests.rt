@@ -1,7 +1,13 @@
 use hw_consumers::{BLOCKS_FILE, BlockCount, ValueFile};
-use hw_host::{HostClock, HostDoor, HostFiles, HostSink};
+use hw_host::{HostClock, HostDoor, HostFiles, HostSink, LogFile, NodeFiles, Voice};
 use hw_io::{Clock, Consumer, Door, DoorNumbers, Files, IoFault, MemSink, write_all};
+use std::alloc::AllocError;
+use std::fs::File;
+use std::io::{Read, Write};
+use std::net::{Net, Shutdown, TcpListener, TcpStream};
+use std::os::unix;
 use std::test::Fail;
+use std::time::{Duration, Instant};
 use std::{fs, rt};
 
 type Count = Result<usize, IoFault>;
@@ -162,23 +168,21 @@ fn real_moments_are_milliseconds_since_1970(rt: HostRuntime) {
     assert!(rt; moment > 1_577_836_800_000 && moment < 7_258_118_400_000);
 }
 
-/// What the two sides of a session answer, one call after the other. The second side is the one that was dialled.
-fn talk<D: Door, E: Door>(
-    caller: &mut D,
-    called: &mut E,
-    heard: &mut [u8],
-    back: &mut [u8],
-) -> [Count; 9] {
+/// The address at which a door listens.
+fn address_of<R: Net + Voice>(rt: R, door: &HostDoor<R>) -> Result<String, AllocError> {
+    let port = door.port().unwrap_or(0);
+    format!(in rt.alloc(); "127.0.0.1:{port}")
+}
+
+/// What a door answers that is dialled by a peer that said `abc`.
+fn serve<D: Door>(door: &mut D, heard: &mut [u8]) -> [Count; 6] {
     [
-        done(called.accept()),
-        caller.write(b"abc"),
-        called.read(heard),
-        called.write(b"de"),
-        caller.read(back),
-        called.read(&mut []),
-        hung_up(caller),
-        called.read(heard),
-        caller.read(back),
+        done(door.accept()),
+        door.read(heard),
+        door.write(b"de"),
+        door.read(&mut []),
+        hung_up(door),
+        door.read(heard),
     ]
 }
 
@@ -187,54 +191,159 @@ fn hung_up<D: Door>(door: &mut D) -> Count {
     Ok(0)
 }
 
-/// What `talk` answers.
-const TALKED: [Count; 9] = [
-    Ok(0),
-    Ok(3),
-    Ok(3),
-    Ok(2),
-    Ok(2),
-    Ok(0),
-    Ok(0),
-    Ok(0),
-    Err(IoFault::Failed),
-];
+/// What `serve` answers.
+const SERVED: [Count; 6] = [Ok(0), Ok(3), Ok(2), Ok(0), Ok(0), Err(IoFault::Failed)];
+
+/// What `serve` counts.
+const SERVED_NUMBERS: DoorNumbers = DoorNumbers {
+    accepts: 1,
+    dials: 0,
+    ends: 0,
+    faults: 1,
+};
 
 #[test]
-fn a_real_door_dials_and_is_dialled(rt: HostRuntime) -> Result<(), Fail> {
-    let mut called = HostDoor::new(&rt, "127.0.0.1:0");
-    let mut caller = HostDoor::without_address(&rt);
-    let port = called.port().unwrap_or(0);
-    let address = format!(in rt.alloc(); "127.0.0.1:{port}")?;
+fn a_real_door_is_dialled(rt: HostRuntime) -> Result<(), Fail> {
+    let mut door = HostDoor::new(&rt, "127.0.0.1:0");
+    let address = address_of(&rt, &door)?;
+    let mut peer = TcpStream::connect(&rt, address.as_str())?;
     let mut heard = [0; 4];
     let mut back = [0; 4];
-    assert_eq!(rt; caller.dial(address.as_str()), Ok(()));
-    assert_eq!(rt;
-        talk(&mut caller, &mut called, &mut heard, &mut back),
-        TALKED
-    );
-    assert_eq!(rt; heard, *b"abc\0");
-    assert_eq!(rt; back, *b"de\0\0");
-    assert_eq!(rt;
-        called.numbers(),
-        DoorNumbers {
-            accepts: 1,
-            dials: 0,
-            ends: 1,
-            faults: 0
-        }
-    );
-    assert_eq!(rt;
-        caller.numbers(),
-        DoorNumbers {
-            accepts: 0,
-            dials: 1,
-            ends: 0,
-            faults: 1
-        }
-    );
+    peer.write_all(b"abc")?;
+    let answers = serve(&mut door, &mut heard);
+    let said = peer.read(&mut back)?;
+    assert!(rt; answers == SERVED && door.numbers() == SERVED_NUMBERS);
+    assert!(rt; heard == *b"abc\0" && back == *b"de\0\0" && said == 2);
     Ok(())
 }
+
+/// What a door answers that dialled a peer, which said `de` and ended.
+fn visit<D: Door>(door: &mut D, back: &mut [u8]) -> [Count; 4] {
+    [
+        door.write(b"abc"),
+        door.read(back),
+        door.read(back),
+        hung_up(door),
+    ]
+}
+
+/// What `visit` answers.
+const VISITED: [Count; 4] = [Ok(3), Ok(2), Ok(0), Ok(0)];
+
+/// What `visit` and the dial before it count.
+const VISITED_NUMBERS: DoorNumbers = DoorNumbers {
+    accepts: 0,
+    dials: 1,
+    ends: 1,
+    faults: 0,
+};
+
+#[test]
+fn a_real_door_dials(rt: HostRuntime) -> Result<(), Fail> {
+    let listener = TcpListener::bind(&rt, "127.0.0.1:0")?;
+    let port = listener.local_addr()?.port();
+    let address = format!(in rt.alloc(); "127.0.0.1:{port}")?;
+    let mut door = HostDoor::without_address(&rt);
+    let mut heard = [0; 4];
+    let mut back = [0; 4];
+    assert!(rt; door.dial(address.as_str()) == Ok(()));
+    let (mut peer, _) = listener.accept()?;
+    peer.write_all(b"de")?;
+    peer.shutdown(Shutdown::Write)?;
+    let answers = visit(&mut door, &mut back);
+    let said = peer.read(&mut heard)?;
+    assert!(rt; answers == VISITED && door.numbers() == VISITED_NUMBERS);
+    assert!(rt; heard == *b"abc\0" && back == *b"de\0\0" && said == 3);
+    Ok(())
+}
+
+#[test]
+fn a_silent_peer_does_not_hold_the_next_one(rt: HostRuntime) -> Result<(), Fail> {
+    let mut door = HostDoor::new(&rt, "127.0.0.1:0");
+    let address = address_of(&rt, &door)?;
+    let _silent = TcpStream::connect(&rt, address.as_str())?;
+    let mut peer = TcpStream::connect(&rt, address.as_str())?;
+    let mut heard = [0; 1];
+    peer.write_all(b"a")?;
+    let accepted = done(door.accept());
+    let read = door.read(&mut heard);
+    assert!(rt; (accepted, read, heard) == (Ok(0), Ok(1), *b"a"));
+    Ok(())
+}
+
+/// How many seconds pass until a peer that was dialled and says nothing is given up.
+fn seconds_held<R: Net + Voice>(rt: R, door: &mut HostDoor<R>, address: &str) -> u64 {
+    let dialled = door.dial(address);
+    let began = Instant::now(&rt);
+    let read = door.read(&mut [0]);
+    door.hang_up();
+    match (began, dialled, read) {
+        (Ok(began), Ok(()), Err(IoFault::Failed)) => seconds_since(rt, began),
+        _ => u64::MAX,
+    }
+}
+
+fn seconds_since<R: Voice>(rt: R, began: Instant) -> u64 {
+    match began.elapsed(&rt) {
+        Ok(taken) => taken.as_secs(),
+        Err(_) => u64::MAX,
+    }
+}
+
+#[test]
+fn a_peer_that_hung_is_given_less_time(rt: HostRuntime) -> Result<(), Fail> {
+    let listener = TcpListener::bind(&rt, "127.0.0.1:0")?;
+    let port = listener.local_addr()?.port();
+    let address = format!(in rt.alloc(); "127.0.0.1:{port}")?;
+    let mut door = HostDoor::without_address(&rt);
+    let first = seconds_held(&rt, &mut door, address.as_str());
+    let second = seconds_held(&rt, &mut door, address.as_str());
+    assert!(rt; 4 <= first && first <= 20 && second <= 3);
+    Ok(())
+}
+
+/// Sends a byte every 300 milliseconds, and answers how many a door read until it gave up.
+fn trickle<R: Voice, D: Door>(rt: R, peer: &mut TcpStream, door: &mut D) -> u64 {
+    let mut count = 0;
+    for _ in 0..60 {
+        if peer.write_all(b"a").is_err() || door.read(&mut [0]) != Ok(1) {
+            break;
+        }
+        count += 1;
+        rt.sleep(Duration::from_millis(300));
+    }
+    count
+}
+
+#[test]
+fn a_trickling_peer_is_given_up(rt: HostRuntime) -> Result<(), Fail> {
+    let mut door = HostDoor::new(&rt, "127.0.0.1:0");
+    let address = address_of(&rt, &door)?;
+    let mut peer = TcpStream::connect(&rt, address.as_str())?;
+    peer.write_all(b"a")?;
+    let accepted = done(door.accept());
+    let count = trickle(&rt, &mut peer, &mut door);
+    assert!(rt; accepted == Ok(0) && 5 <= count && count <= 40);
+    Ok(())
+}
+
+/// What a door answers that has no peer anywhere.
+fn fail<D: Door>(door: &mut D) -> [Count; 4] {
+    [
+        done(door.accept()),
+        done(door.dial("no address")),
+        done(door.dial("127.0.0.1:1")),
+        door.write(b"a"),
+    ]
+}
+
+/// What `fail` counts.
+const FAILED: DoorNumbers = DoorNumbers {
+    accepts: 1,
+    dials: 2,
+    ends: 0,
+    faults: 4,
+};
 
 #[test]
 fn a_real_door_counts_what_fails(rt: HostRuntime) -> Result<(), Fail> {
@@ -242,19 +351,9 @@ fn a_real_door_counts_what_fails(rt: HostRuntime) -> Result<(), Fail> {
     let port = listening.port().unwrap_or(0);
     let address = format!(in rt.alloc(); "127.0.0.1:{port}")?;
     let mut taken = HostDoor::new(&rt, address.as_str());
-    assert_eq!(rt; taken.accept(), Err(IoFault::Failed));
-    assert_eq!(rt; taken.dial("no address"), Err(IoFault::Failed));
-    assert_eq!(rt; taken.dial("127.0.0.1:1"), Err(IoFault::Failed));
-    assert_eq!(rt; taken.write(b"a"), Err(IoFault::Failed));
-    assert_eq!(rt;
-        taken.numbers(),
-        DoorNumbers {
-            accepts: 1,
-            dials: 2,
-            ends: 0,
-            faults: 4
-        }
-    );
+    let answers = fail(&mut taken);
+    let numbers = taken.numbers();
+    assert!(rt; answers == [Err(IoFault::Failed); 4] && numbers == FAILED);
     Ok(())
 }
 
@@ -296,20 +395,129 @@ fn the_count_of_blocks_is_a_line(rt: HostRuntime) {
     assert_eq!(rt; count.into_out().taken(), b"2\n".as_slice());
 }
 
+/// What a door answers that says its last words to a peer whose words it doesn't read.
+fn leave<D: Door>(door: &mut D) -> [Count; 3] {
+    [
+        done(door.accept()),
+        door.write(b"last words"),
+        hung_up(door),
+    ]
+}
+
 #[test]
 fn a_peer_hears_all_that_was_written_before_the_end(rt: HostRuntime) -> Result<(), Fail> {
-    let mut host = HostDoor::new(&rt, "127.0.0.1:0");
-    let mut peer = HostDoor::without_address(&rt);
-    let port = host.port().unwrap_or(0);
-    let address = format!(in rt.alloc(); "127.0.0.1:{port}")?;
+    let mut door = HostDoor::new(&rt, "127.0.0.1:0");
+    let address = address_of(&rt, &door)?;
+    let mut peer = TcpStream::connect(&rt, address.as_str())?;
     let mut heard = [0; 12];
-    assert_eq!(rt; peer.dial(address.as_str()), Ok(()));
-    assert_eq!(rt; host.accept(), Ok(()));
-    assert_eq!(rt; peer.write(b"not read"), Ok(8));
-    assert_eq!(rt; host.write(b"last words"), Ok(10));
-    host.hang_up();
-    assert_eq!(rt; peer.read(&mut heard), Ok(10));
-    assert_eq!(rt; heard, *b"last words\0\0");
-    assert_eq!(rt; peer.read(&mut heard), Ok(0));
+    peer.write_all(b"not read")?;
+    let answers = leave(&mut door);
+    let said = peer.read(&mut heard)?;
+    let end = peer.read(&mut heard[said..])?;
+    assert!(rt; answers == [Ok(0), Ok(10), Ok(0)] && (said, end) == (10, 0));
+    assert!(rt; heard == *b"last words\0\0");
+    Ok(())
+}
+
+/// What two nodes answer that append to one log. Which was asked of it first has it.
+fn claim<F: Files, G: Files>(first: &mut F, second: &mut G, log: &str) -> [Count; 6] {
+    [
+        asked(first.exists(log)),
+        done(first.append(log, b"a")),
+        asked(second.exists(log)),
+        done(second.begin(log)),
+        done(second.append(log, b"b")),
+        done(first.append(log, b"c")),
+    ]
+}
+
+/// What `claim` answers.
+const CLAIMED: [Count; 6] = [
+    Ok(0),
+    Ok(0),
+    Err(IoFault::Failed),
+    Err(IoFault::Failed),
+    Err(IoFault::Failed),
+    Ok(0),
+];
+
+/// The answers of two nodes over one log.
+fn claimed<R: rt::Files<File = File> + Voice>(rt: R, log: &str) -> Result<[Count; 6], AllocError> {
+    let first = LogFile::new(rt.alloc(), log)?;
+    let second = LogFile::new(rt.alloc(), log)?;
+    let mut ours = NodeFiles::new(rt, Some(&first));
+    let mut theirs = NodeFiles::new(rt, Some(&second));
+    Ok(claim(&mut ours, &mut theirs, log))
+}
+
+#[test]
+fn one_process_has_a_log(rt: HostRuntime) -> Result<(), Fail> {
+    let answers = claimed(rt, "hw_host_claimed.tmp")?;
+    let held = removed(&rt, "hw_host_claimed.tmp");
+    let is_lock_empty = removed(&rt, "hw_host_claimed.tmp.lock") == [0; 4];
+    assert!(rt; answers == CLAIMED && held == *b"ac\0\0" && is_lock_empty);
+    Ok(())
+}
+
+/// What a node and a stranger answer that append to one log, which the node reads first.
+fn overtake<F: Files, G: Files>(node: &mut F, stranger: &mut G, log: &str) -> [Count; 7] {
+    let mut buf = [0; 4];
+    [
+        done(stranger.append(log, b"a")),
+        done(node.begin(log)),
+        node.read(&mut buf),
+        node.read(&mut buf),
+        done(stranger.append(log, b"b")),
+        done(node.append(log, b"c")),
+        done(node.append(log, b"d")),
+    ]
+}
+
+/// What `overtake` answers.
+const OVERTAKEN: [Count; 7] = [
+    Ok(0),
+    Ok(0),
+    Ok(1),
+    Ok(0),
+    Ok(0),
+    Err(IoFault::Failed),
+    Err(IoFault::Failed),
+];
+
+/// The answers of a node over a log, and of a stranger that needs no lock.
+fn overtaken<R: rt::Files<File = File> + Voice>(
+    rt: R,
+    log: &str,
+) -> Result<[Count; 7], AllocError> {
+    let own = LogFile::new(rt.alloc(), log)?;
+    let mut node = NodeFiles::new(rt, Some(&own));
+    Ok(overtake(&mut node, &mut HostFiles::new(rt), log))
+}
+
+#[test]
+fn nothing_goes_behind_the_bytes_of_others(rt: HostRuntime) -> Result<(), Fail> {
+    let _ = fs::remove_file(&rt, "hw_host_overtaken.tmp");
+    let answers = overtaken(rt, "hw_host_overtaken.tmp")?;
+    let held = removed(&rt, "hw_host_overtaken.tmp");
+    fs::remove_file(&rt, "hw_host_overtaken.tmp.lock")?;
+    assert!(rt; answers == OVERTAKEN && held == *b"ab\0\0");
+    Ok(())
+}
+
+/// What a node answers that appends to a log on a disk that is full.
+fn fill<R: rt::Files<File = File> + Voice>(rt: R, log: &str) -> Result<[Count; 2], AllocError> {
+    let own = LogFile::new(rt.alloc(), log)?;
+    let mut node = NodeFiles::new(rt, Some(&own));
+    Ok([done(node.append(log, b"a")), done(node.append(log, b"b"))])
+}
+
+#[test]
+fn a_full_disk_fails_each_append(rt: HostRuntime) -> Result<(), Fail> {
+    let _ = fs::remove_file(&rt, "hw_host_full.tmp");
+    unix::fs::symlink(&rt, "/dev/full", "hw_host_full.tmp")?;
+    let answers = fill(rt, "hw_host_full.tmp")?;
+    fs::remove_file(&rt, "hw_host_full.tmp")?;
+    fs::remove_file(&rt, "hw_host_full.tmp.lock")?;
+    assert!(rt; answers == [Err(IoFault::Failed); 2]);
     Ok(())
 }

@@ -1,0 +1,232 @@
+//! The log of a node, as one process has it.
+ghost use Rattle.std.specs.Prelude.{◌≡◌, ◌++◌, string_bytes, IfOk, None};
+
+use std::alloc::{AllocError, Global};
+use std::cell::RefCell;
+use std::fs::{File, OpenFile, TryLockError};
+use std::io::{ErrorKind, Write};
+use std::path::Path;
+use std::{fs, io, rt};
+
+/// What stands behind the name of a log in the name of its lock.
+const LOCK_SUFFIX: &str = ".lock";
+
+/// The log that a node appends to. One process has it at a time, nobody else appends to it, and what was
+/// appended is on the disk before anything is sent.
+///
+/// The process has the log while it has an advisory lock of the system on the file `LOG.lock` beside it,
+/// which it takes before it reads the log for the first time. The system frees the lock when the process
+/// ends, however it ends. The file stays, and is empty. From its first append on the process also has such
+/// a lock on the log itself, so that the log is safe under its other names too.
+///
+/// A log that the process made is in its folder after a crash of the machine too, where the folder can be
+/// synced.
+///
+/// An append fails where another process has the log, and where the file isn't as long as this process
+/// found it or left it. After an append or a sync that failed, each later append fails.
+#[derive(Drop)]
+pub struct LogFile {
+    name: String,
+    lock_name: String,
+    state: RefCell<LogState>,
+}
+
+impl LogFile {
+    /// The log of that name, of which nothing is asked yet.
+    pub fn new(alloc: Global, name: &str) -> Result<LogFile, AllocError>
+        ensures name { IfOk result (λ log. string_bytes log.name ≡ name.now) }
+    {
+        let lock_name = format!(in alloc; "{name}{LOCK_SUFFIX}")?;
+        let name = String::from_str(alloc, name)?;
+        Ok(LogFile {
+            name,
+            lock_name,
+            state: RefCell::new(LogState::new()),
+        })
+    }
+
+    /// Whether it is the log of that name.
+    pub(crate) fn is(&self, name: &str) -> bool {
+        self.name.as_str() == name
+    }
+
+    /// The name of the log.
+    pub(crate) fn name(&self) -> &str {
+        self.name.as_str()
+    }
+
+    /// The file to blame for this error of an append: the lock, where it can't be made or taken.
+    pub(crate) fn blamed(&self, error: io::Error) -> &str {
+        match self.state.try_borrow() {
+            Ok(state) if state.lock.is_none() && error.kind() != ErrorKind::ResourceBusy => {
+                self.lock_name.as_str()
+            }
+            _ => self.name.as_str(),
+        }
+    }
+
+    /// Takes the log for this process, unless it has it already. It is an error only where another process
+    /// has it: where the lock can't be made or taken, appends fail and the log can still be read.
+    pub(crate) fn take<R: rt::Files<File = File>>(&self, runtime: &R) -> io::Result<()> {
+        let mut state = self.state.try_borrow_mut()?;
+        match state.take(runtime, self.lock_name.as_str()) {
+            Err(error) if error.kind() == ErrorKind::ResourceBusy => Err(error),
+            _ => Ok(()),
+        }
+    }
+
+    /// Keeps how long the log was found, where it wasn't found before.
+    pub(crate) fn found(&self, length: u64) {
+        if let Ok(mut state) = self.state.try_borrow_mut() {
+            state.found(length);
+        }
+    }
+
+    /// Puts the bytes at the end of the log, and makes it where it is missing.
+    pub(crate) fn append<R: rt::Files<File = File>>(
+        &self,
+        runtime: &R,
+        bytes: &[u8],
+    ) -> io::Result<()> {
+        let mut state = self.state.try_borrow_mut()?;
+        state.take(runtime, self.lock_name.as_str())?;
+        let outcome = state.put(runtime, self.name.as_str(), bytes);
+        state.lose_on(outcome)
+    }
+
+    /// Puts on the disk what was appended since the last call. After an error each later call fails too.
+    pub(crate) fn sync(&self) -> io::Result<()> {
+        let mut state = self.state.try_borrow_mut()?;
+        state.sync()
+    }
+}
+
+/// What the process knows of the log, and the files that it has open for it.
+#[derive(Drop)]
+struct LogState {
+    /// The lock, once it is taken.
+    lock: Option<File>,
+    /// The log, open to append to it.
+    file: Option<File>,
+    /// The folder of the log, where this process made the log and that isn't on the disk.
+    folder: Option<File>,
+    /// How long the log is for this process.
+    length: Option<u64>,
+    /// Whether something was appended that isn't on the disk.
+    unsynced: bool,
+    /// Why nothing can be appended any more.
+    lost: Option<io::Error>,
+}
+
+impl LogState {
+    fn new() -> LogState {
+        LogState {
+            lock: None,
+            file: None,
+            folder: None,
+            length: None,
+            unsynced: false,
+            lost: None,
+        }
+    }
+
+    fn found(&mut self, length: u64) {
+        if self.length.is_none() {
+            self.length = Some(length);
+        }
+    }
+
+    /// Takes the lock, unless it was taken, or was refused before.
+    fn take<R: rt::Files<File = File>>(&mut self, runtime: &R, lock_name: &str) -> io::Result<()> {
+        if let Some(error) = self.lost {
+            return Err(error);
+        }
+        if self.lock.is_some() {
+            return Ok(());
+        }
+        match opened_alone(runtime, lock_name) {
+            Ok(lock) => {
+                self.lock = Some(lock);
+                Ok(())
+            }
+            Err(error) => self.lose_on(Err(error)),
+        }
+    }
+
+    /// Hands the outcome on, and keeps its error as what later appends answer.
+    fn lose_on(&mut self, outcome: io::Result<()>) -> io::Result<()> {
+        if let Err(error) = outcome {
+            self.lost = Some(error);
+        }
+        outcome
+    }
+
+    /// Appends where the log is as long as this process found it or left it.
+    fn put<R: rt::Files<File = File>>(
+        &mut self,
+        runtime: &R,
+        name: &str,
+        bytes: &[u8],
+    ) -> io::Result<()> {
+        let mut file = match self.file.take() {
+            Some(file) => file,
+            None => opened_alone(runtime, name)?,
+        };
+        let length = file.metadata()?.len();
+        if length == 0 {
+            self.folder = folder_of(runtime, name).ok();
+        }
+        if self.length.is_some_and(|known| known != length) {
+            return Err(io::Error::other("another process wrote to it"));
+        }
+        self.unsynced = true;
+        file.write_all(bytes)?;
+        self.length = length.checked_add(bytes.len() as u64);
+        self.file = Some(file);
+        Ok(())
+    }
+
+    fn sync(&mut self) -> io::Result<()> {
+        if !self.unsynced {
+            return Ok(());
+        }
+        if let Some(error) = self.lost {
+            return Err(error);
+        }
+        let outcome = match &self.file {
+            Some(file) => file.sync_data(),
+            None => Ok(()),
+        };
+        // A folder that can't be synced is no fault of the log.
+        if let Some(folder) = self.folder.take() {
+            let _ = folder.sync_all();
+        }
+        self.unsynced = outcome.is_err();
+        self.lose_on(outcome)
+    }
+}
+
+/// The file of that name, open to append to it, and made where it is missing. This process alone has it.
+fn opened_alone<R: rt::Files<File = File>>(runtime: &R, name: &str) -> io::Result<File> {
+    let file = fs::OpenOptions::new()
+        .append(true)
+        .create(true)
+        .open(runtime, name)?;
+    match file.try_lock() {
+        Ok(()) => Ok(file),
+        Err(TryLockError::WouldBlock) => Err(io::Error::new(
+            ErrorKind::ResourceBusy,
+            "another process has it",
+        )),
+        Err(TryLockError::Error(error)) => Err(error),
+    }
+}
+
+/// The folder of this file, open to put on the disk which files it has.
+fn folder_of<R: rt::Files<File = File>>(runtime: &R, name: &str) -> io::Result<File> {
+    let folder = match Path::new(name).parent() {
+        Some(folder) if !folder.as_str().is_empty() => folder,
+        _ => Path::new("."),
+    };
+    fs::open(runtime, folder)
+}

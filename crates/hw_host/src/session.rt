@@ -1,0 +1,205 @@
+//! A session over a stream: what is written is held until it is worth a send, and each wait is bounded.
+ghost use Rattle.std.specs.Prelude.{◌≤◌, length, IfOk};
+ghost use Rattle.std.specs.Io.{ReadsAtMost};
+
+use crate::patience::Patience;
+use std::alloc::Global;
+use std::io::{ErrorKind, Read, Write};
+use std::net::{OpenStream, Shutdown};
+use std::time::{Duration, Instant};
+use std::{io, time};
+
+/// How many bytes are held at most before they are sent.
+const PIECE: usize = 65_536;
+
+/// How many milliseconds a session that ends waits for more of what the peer is still sending.
+const PARTING_MILLISECONDS: u64 = 500;
+
+/// How many pieces of what the peer is still sending are read at most.
+const PARTING_READS: usize = 64;
+
+/// A session with a peer.
+#[derive(Drop)]
+pub(crate) struct Session<S> {
+    stream: S,
+    began: Instant,
+    patience: Patience,
+    /// How many milliseconds the stream waits, as it was told last.
+    wait: u64,
+    /// How many bytes went either way.
+    moved: u64,
+    /// What was written and isn't sent.
+    held: Vec<u8>,
+    /// Whether a call failed.
+    has_failed: bool,
+}
+
+impl<S: OpenStream + Read + Write + Drop> Session<S> {
+    /// A session that begins now. Small pieces are sent without a delay.
+    pub(crate) fn new(
+        alloc: Global,
+        clock: &impl time::Clock,
+        stream: S,
+        patience: Patience,
+    ) -> io::Result<Session<S>> {
+        stream.set_nonblocking(false)?;
+        stream.set_nodelay(true)?;
+        set_waits(&stream, patience.wait())?;
+        Ok(Session {
+            stream,
+            began: Instant::now(clock)?,
+            patience,
+            wait: patience.wait(),
+            moved: 0,
+            held: Vec::new(alloc),
+            has_failed: false,
+        })
+    }
+
+    /// Whether a call failed.
+    pub(crate) fn has_failed(&self) -> bool {
+        self.has_failed
+    }
+
+    /// Whether nothing is held.
+    pub(crate) fn is_empty(&self) -> bool {
+        self.held.is_empty()
+    }
+
+    /// Whether nothing more can be held before something is sent.
+    pub(crate) fn is_full(&self) -> bool {
+        self.held.len() >= PIECE
+    }
+
+    /// Holds the first bytes of the piece, and answers how many. That is at least 1 unless the piece is
+    /// empty, or as much is held as can be.
+    pub(crate) fn hold(&mut self, bytes: &[u8]) -> io::Result<usize>
+        ensures { IfOk result (λ count. count ≤ length bytes.now) }
+    {
+        let room = PIECE.saturating_sub(self.held.len());
+        let count = bytes.len().min(room);
+        self.held.extend_from_slice(&bytes[..count])?;
+        Ok(count)
+    }
+
+    /// Reads the peer's next bytes, after all that is held was sent.
+    pub(crate) fn read(&mut self, clock: &impl time::Clock, buf: &mut [u8]) -> io::Result<usize>
+        ensures { ReadsAtMost result buf.new }
+    {
+        self.set_wait(clock)?;
+        let outcome = self.stream.read(buf);
+        match outcome {
+            Ok(count) => {
+                self.moved = self.moved.saturating_add(count as u64);
+                Ok(count)
+            }
+            Err(error) => Err(self.failed(error)),
+        }
+    }
+
+    /// Sends what is held. After an error nothing is held any more.
+    pub(crate) fn flush(&mut self, clock: &impl time::Clock) -> io::Result<()> {
+        let mut outcome = Ok(());
+        let mut sent = 0;
+        for _ in 0..self.held.len() {
+            if sent >= self.held.len() {
+                break;
+            }
+            match self.send_from(clock, sent) {
+                Ok(count) => sent = sent.saturating_add(count),
+                Err(error) => {
+                    outcome = Err(error);
+                    break;
+                }
+            }
+        }
+        self.held.clear();
+        outcome
+    }
+
+    /// Sends the held bytes from this place on, as far as the stream takes them at once.
+    fn send_from(&mut self, clock: &impl time::Clock, sent: usize) -> io::Result<usize> {
+        self.set_wait(clock)?;
+        let outcome = match self.held.as_slice().get(sent..) {
+            Some(rest) => self.stream.write(rest),
+            None => Ok(0),
+        };
+        match outcome {
+            Ok(count) if count > 0 => {
+                self.moved = self.moved.saturating_add(count as u64);
+                Ok(count)
+            }
+            Ok(_) => Err(self.failed(ErrorKind::WriteZero.into())),
+            Err(error) => Err(self.failed(error)),
+        }
+    }
+
+    /// Lets the next call wait as long as it may. It is an error where the session's time is up.
+    fn set_wait(&mut self, clock: &impl time::Clock) -> io::Result<()> {
+        let taken = milliseconds(self.began.elapsed(clock)?);
+        let Some(wait) = self.patience.next_wait(self.moved, taken) else {
+            self.has_failed = true;
+            return Err(io::Error::new(ErrorKind::TimedOut, "the session took too long"));
+        };
+        if wait != self.wait {
+            set_waits(&self.stream, wait)?;
+            self.wait = wait;
+        }
+        Ok(())
+    }
+
+    /// Keeps that a call failed, and says of a wait that was too long that it was.
+    fn failed(&mut self, error: io::Error) -> io::Error {
+        self.has_failed = true;
+        match error.kind() {
+            ErrorKind::WouldBlock | ErrorKind::TimedOut => {
+                io::Error::new(ErrorKind::TimedOut, "no byte came or went in time")
+            }
+            _ => error,
+        }
+    }
+
+    /// Ends what is written and reads on for a bounded while, unless a call failed: a stream that is closed
+    /// with bytes unread is reset, and the peer may lose what it was sent last.
+    pub(crate) fn part(&mut self, clock: &impl time::Clock) {
+        if self.has_failed || self.stream.shutdown(Shutdown::Write).is_err() {
+            return;
+        }
+        let Ok(began) = Instant::now(clock) else {
+            return
+        };
+        for _ in 0..PARTING_READS {
+            if !self.is_still_sending(clock, began) {
+                break;
+            }
+        }
+    }
+
+    /// Whether a byte of the peer comes in what is left of the while that began then.
+    fn is_still_sending(&mut self, clock: &impl time::Clock, began: Instant) -> bool {
+        let mut rest = [0; 4096];
+        let Ok(taken) = began.elapsed(clock) else {
+            return false
+        };
+        let left = PARTING_MILLISECONDS.saturating_sub(milliseconds(taken));
+        if left == 0 || set_waits(&self.stream, left).is_err() {
+            return false;
+        }
+        match self.stream.read(&mut rest) {
+            Ok(count) => count > 0,
+            Err(_) => false,
+        }
+    }
+}
+
+/// Bounds the waits of a stream.
+fn set_waits<S: OpenStream>(stream: &S, milliseconds: u64) -> io::Result<()> {
+    let wait = Duration::from_millis(milliseconds);
+    stream.set_read_timeout(Some(wait))?;
+    stream.set_write_timeout(Some(wait))
+}
+
+/// The milliseconds of this while, as far as a number holds them.
+fn milliseconds(while_taken: Duration) -> u64 {
+    u64::try_from(while_taken.as_millis()).unwrap_or(u64::MAX)
+}
