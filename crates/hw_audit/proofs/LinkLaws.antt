@@ -25,6 +25,7 @@ use Rattle.hw_types.proofs.UnionLaws.{from_left, from_right}
 use Rattle.hw_types.proofs.OrderLaws.{unit_same, unit_vertex, received_in, unit_self}
 use Rattle.hw_safety.proofs.AccountLaws.{in_journal}
 use Rattle.hw_safety.specs.Verdicts.{held_in}
+use Rattle.hw_safety.proofs.FrontLaws.{front_more}
 use Rattle.hw_safety.proofs.ClashLaws.{among_held, held_among}
 use Rattle.hw_audit.specs.Held.{HeldUnit, node_held, is_settled, held_as, held_by, held_units}
 use Rattle.hw_audit.specs.Forks.{AreShown}

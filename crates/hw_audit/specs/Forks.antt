@@ -1,12 +1,12 @@
 -- Units of one creator and one sequence number that differ.
-use Rattle.std.specs.Prelude.{◌≡◌, ℕ, ◌≤◌, ◌<◌, ◌⊎◌, ◌≢◌, Bool, true, false, ◌&&◌, ◌==◌, List, length, filter, min, slice_index_or, Option, Some, None}
+use Rattle.std.specs.Prelude.{◌≡◌, ℕ, ◌≤◌, ◌<◌, ◌⊎◌, ◌≢◌, Bool, true, false, ◌&&◌, ◌==◌, List, length, filter, slice_index_or, Option, Some, None}
 use Rattle.std.specs.Option.{option_map}
 use Rattle.std.specs.Map.{lookup}
-use Rattle.std.specs.List.{list_any}
 use Rattle.hw_types.specs.Graph.{Node}
 use Rattle.hw_types.specs.Below.{Among}
 use Rattle.hw_types.specs.Same.{unit_eq}
-use Rattle.hw_types.specs.Culprits.{stands_before, equivocations_of, pair_of}
+use Rattle.hw_types.specs.Culprits.{stands_before, pair_of}
+use Rattle.hw_safety.specs.Pairs.{is_culprit, lower_of}
 use Rattle.hw_audit.specs.declared.forks.Place.{Place}
 use Rattle.hw_audit.specs.Held.{HeldUnit, node_held}
 
