@@ -304,12 +304,12 @@ fn a_peer_that_hung_is_given_less_time(rt: HostRuntime) -> Result<(), Fail> {
 
 /// Sends a byte every 300 milliseconds, and answers how many a door read until it gave up.
 fn trickle<R: Voice, D: Door>(rt: R, peer: &mut TcpStream, door: &mut D) -> u64 {
-    let mut count = 0;
+    let mut count: u64 = 0;
     for _ in 0..60 {
         if peer.write_all(b"a").is_err() || door.read(&mut [0]) != Ok(1) {
             break;
         }
-        count += 1;
+        count = count.saturating_add(1);
         rt.sleep(Duration::from_millis(300));
     }
     count
