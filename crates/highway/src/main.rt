@@ -1,6 +1,8 @@
 //! The program: its top call, over the real files, output and arguments.
 #![tactic(auto)]
 
+mod appended;
+mod plain;
 mod usage;
 
 use hw_consumers::{BLOCKS_FILE, BlockCount, ValueFile};
@@ -8,6 +10,7 @@ use hw_host::{Announced, HostClock, HostDoor, HostSink, LogFile, NO_LIMIT, NodeF
 use hw_io::Consumer;
 use hw_program::{OUT_OF_MEMORY, Words, highway, listening_address};
 use hw_types::OutOfMemory;
+use plain::{PlainFiles, PlainSink};
 use std::env;
 use std::io::ErrorKind;
 use std::process::ExitCode;
@@ -37,9 +40,9 @@ fn main(rt: HostRuntime) -> ExitCode {
 /// at their address. The log of a node that runs is appended to by this process alone.
 fn run_on_host(rt: HostRuntime, words: &Words) -> Result<u8, OutOfMemory> {
     let alloc = rt.alloc();
-    let values = ValueFile::new(alloc, NodeFiles::new(rt, None));
+    let values = ValueFile::new(alloc, PlainFiles::new(rt));
     let values = Announced::new(rt, BLOCKS_FILE, values);
-    let count = BlockCount::new(alloc, HostSink::new(rt.stderr()));
+    let count = BlockCount::new(alloc, PlainSink::new(rt.stderr()));
     let count = Announced::new(rt, "the count of blocks", count);
     let mut consumers: Vec<Box<dyn Consumer>> = Vec::new(alloc);
     consumers.push(Box::new(alloc, values)?)?;
