@@ -5,8 +5,8 @@ mod appended;
 mod plain;
 mod usage;
 
-use hw_consumers::{BLOCKS_FILE, BlockCount, ValueFile};
-use hw_host::{Announced, HostClock, HostDoor, HostSink, LogFile, NO_LIMIT, NodeFiles};
+use hw_consumers::{BlockCount, ValueFile};
+use hw_host::{HostClock, HostDoor, HostSink, LogFile, NO_LIMIT, NodeFiles};
 use hw_io::Consumer;
 use hw_program::{OUT_OF_MEMORY, Words, highway, listening_address};
 use hw_types::OutOfMemory;
@@ -41,9 +41,7 @@ fn main(rt: HostRuntime) -> ExitCode {
 fn run_on_host(rt: HostRuntime, words: &Words) -> Result<u8, OutOfMemory> {
     let alloc = rt.alloc();
     let values = ValueFile::new(alloc, PlainFiles::new(rt));
-    let values = Announced::new(rt, BLOCKS_FILE, values);
     let count = BlockCount::new(alloc, PlainSink::new(rt.stderr()));
-    let count = Announced::new(rt, "the count of blocks", count);
     let mut consumers: Vec<Box<dyn Consumer>> = Vec::new(alloc);
     consumers.push(Box::new(alloc, values)?)?;
     consumers.push(Box::new(alloc, count)?)?;
