@@ -1,6 +1,7 @@
 pub mod Tables
 pub mod Starts
 pub mod Firsts
+pub mod Asked
 pub mod Search
 pub mod Kept
 pub mod Bounds

@@ -14,6 +14,7 @@ ghost use Rattle.hw_horizon.specs.Bounds.{AreBounds, AreTips, AreWide, IsBounded
 
 use crate::firsts::{Firsts, NO_UNIT};
 use crate::follow::{Span, changed_span, follow_level};
+use crate::question::Question;
 use hw_dag::{Dag, Panorama, UnitNo, View};
 use hw_types::{OutOfMemory, WeightList};
 use std::alloc::Global;
@@ -185,16 +186,21 @@ impl Bounds {
         forget_unless(self.tips.as_mut_slice(), again);
         self.block = Some(block);
         self.least = least;
+        // For the prover: recalls what is said of each graph.
+        dag.recall_graph();
+        let question = Question {
+            dag,
+            weights: weights.as_slice(),
+            panorama,
+            block,
+            quorum: least,
+        };
         let changed = changed_span(dag, panorama, self.tips.as_slice());
         follow_levels(
+            &question,
             self.levels.as_mut_slice(),
             &mut self.lower,
-            dag,
-            weights.as_slice(),
-            panorama,
             self.tips.as_slice(),
-            block,
-            least,
             changed,
         );
         put_tips(self.tips.as_mut_slice(), dag, panorama);
@@ -230,50 +236,31 @@ impl Bounds {
 
 // Makes the bound of each level that of the panorama, from level 0 on.
 fn follow_levels(
+    question: &Question<'_>,
     levels: &mut [Bound],
     lower: &mut Bound,
-    dag: &Dag,
-    weights: &[u64],
-    panorama: &Panorama,
     tips: &[Option<UnitNo>],
-    block: UnitNo,
-    least: u64,
     changed: Span,
 )
-    requires panorama { IsPanorama dag.now panorama.now }
-    requires weights { AreWeights weights.now dag.now }
-    requires known { block.0 < count_of dag.now }
-    requires tips { length tips.now ≡ dag.now.validators }
-    requires changed { (v : ℕ) → v < dag.now.validators → IsOutside changed v → slice_index_or tips.now v None ≡ tip_in (view_at panorama.now v) }
-    requires span { changed.to ≤ dag.now.validators }
-    requires firsts { (j : ℕ) → j < length levels.old → length (bound_of levels.old j).firsts ≡ dag.now.validators }
-    requires support { (j : ℕ) → j < length levels.old → length (bound_of levels.old j).support ≡ dag.now.validators }
-    requires lower_firsts { length lower.old.firsts ≡ dag.now.validators }
-    requires lower_support { length lower.old.support ≡ dag.now.validators }
-    requires bounded { (v : ℕ) (tip : Number) → slice_index_or tips.now v None ≡ Some tip → IsBounded weights.now dag.now block.0 least levels.old v tip.0 }
-    ensures bounded { (v : ℕ) (tip : Number) → view_at panorama.now v ≡ View.Correct tip → IsBounded weights.now dag.now block.0 least levels.new v tip.0 }
+    requires tips { length tips.now ≡ question.now.dag.now.validators }
+    requires changed { (v : ℕ) → v < question.now.dag.now.validators → IsOutside changed v → slice_index_or tips.now v None ≡ tip_in (view_at question.now.panorama.now v) }
+    requires span { changed.to ≤ question.now.dag.now.validators }
+    requires firsts { (j : ℕ) → j < length levels.old → length (bound_of levels.old j).firsts ≡ question.now.dag.now.validators }
+    requires support { (j : ℕ) → j < length levels.old → length (bound_of levels.old j).support ≡ question.now.dag.now.validators }
+    requires lower_firsts { length lower.old.firsts ≡ question.now.dag.now.validators }
+    requires lower_support { length lower.old.support ≡ question.now.dag.now.validators }
+    requires bounded { (v : ℕ) (tip : Number) → slice_index_or tips.now v None ≡ Some tip → IsBounded question.now.weights.now question.now.dag.now question.now.block.0 question.now.quorum levels.old v tip.0 }
+    ensures bounded { (v : ℕ) (tip : Number) → view_at question.now.panorama.now v ≡ View.Correct tip → IsBounded question.now.weights.now question.now.dag.now question.now.block.0 question.now.quorum levels.new v tip.0 }
     ensures length { length levels.new ≡ length levels.old }
-    ensures firsts { (j : ℕ) → j < length levels.new → length (bound_of levels.new j).firsts ≡ dag.now.validators }
-    ensures support { (j : ℕ) → j < length levels.new → length (bound_of levels.new j).support ≡ dag.now.validators }
-    ensures lower_firsts { length lower.new.firsts ≡ dag.now.validators }
-    ensures lower_support { length lower.new.support ≡ dag.now.validators }
+    ensures firsts { (j : ℕ) → j < length levels.new → length (bound_of levels.new j).firsts ≡ question.now.dag.now.validators }
+    ensures support { (j : ℕ) → j < length levels.new → length (bound_of levels.new j).support ≡ question.now.dag.now.validators }
+    ensures lower_firsts { length lower.new.firsts ≡ question.now.dag.now.validators }
+    ensures lower_support { length lower.new.support ≡ question.now.dag.now.validators }
 {
     let mut low = NO_UNIT;
     for level in 0..levels.len() {
         let bound = &mut levels[level];
-        low = follow_level(
-            bound,
-            lower,
-            level == 0,
-            dag,
-            weights,
-            panorama,
-            tips,
-            block,
-            least,
-            changed,
-            low,
-        );
+        low = follow_level(question, bound, lower, level == 0, tips, changed, low);
         lower.copy_from(&levels[level]);
     }
 }
@@ -298,10 +285,7 @@ fn asks_again(asked: Option<UnitNo>, asked_least: u64, block: UnitNo, least: u64
     ensures block { IsTrue result → asked ≡ Some block }
     ensures least { IsTrue result → asked_least ≡ least }
 {
-    match asked {
-        Some(asked) => asked == block && asked_least == least,
-        None => false,
-    }
+    asked == Some(block) && asked_least == least
 }
 
 // No latest unit is known, unless they are wanted again.

@@ -2,9 +2,8 @@
 //! one with the greater number comes later, so to see a member is to observe that unit or a greater
 //! number, and no far unit is read.
 
-ghost use Rattle.std.specs.Prelude.{◌≡◌, ℕ, ◌-◌, ◌^◌, ◌<◌, ◌↔◌, length, true, nat_le, replicate, slice_index_or, slice_set, IsTrue, IfOk};
-ghost use Rattle.hw_types.specs.Graph.{is_consistent};
-ghost use Rattle.hw_dag.specs.Dag.{count_of, graph, observations, unit_at, seq_of, IsPanorama, view_at};
+ghost use Rattle.std.specs.Prelude.{◌≡◌, ℕ, ◌-◌, ◌^◌, ◌<◌, ◌↔◌, length, true, nat_le, slice_index_or, slice_set, IsTrue, IfOk};
+ghost use Rattle.hw_dag.specs.Dag.{count_of, unit_at, seq_of, IsPanorama};
 ghost use Rattle.hw_dag.specs.Admission.{IsGraph};
 ghost use Rattle.hw_dag.specs.Lanes.{is_lane_below};
 ghost use Rattle.hw_dag.specs.declared.numbers.UnitNo.{UnitNo as Number};

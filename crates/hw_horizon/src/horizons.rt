@@ -15,6 +15,7 @@ ghost use Rattle.hw_horizon.specs.Search.{table_of, start_of, committees_of, Are
 use crate::bounds::Bounds;
 use crate::firsts::Firsts;
 use crate::kept::Walks;
+use crate::question::Question;
 use crate::rounds::{prune, put_members};
 use crate::table::Table;
 use crate::votes::put_vote_starts;
@@ -117,65 +118,47 @@ impl Horizons {
         ensures validators { self.new.validators ≡ self.old.validators }
         ensures levels { self.new.levels ≡ self.old.levels }
     {
-        let tables = self.tables.as_mut_slice();
-        put_tables(
-            tables,
-            &mut self.scratch,
-            &mut self.walks,
+        // For the prover: recalls what is said of each graph.
+        dag.recall_graph();
+        let question = Question {
             dag,
-            weights.as_slice(),
+            weights: weights.as_slice(),
             panorama,
             block,
-            level,
             quorum,
+        };
+        put_tables(
+            &question,
+            self.tables.as_mut_slice(),
+            &mut self.scratch,
+            &mut self.walks,
+            level,
         );
         let found = self.scratch.lower.has_member();
         self.found = if found { Some(level) } else { None };
         found
     }
 
-    /// Whether a summit for the block exists, of this level and quorum, in this panorama. Nothing of it is
-    /// kept, so this costs less than finding the greatest. The bounds are those of this panorama, and spare
-    /// looks at units.
-    pub fn has_summit(
-        &mut self,
-        bounds: &Bounds,
-        dag: &Dag,
-        weights: &WeightList,
-        panorama: &Panorama,
-        block: UnitNo,
-        level: u32,
-        quorum: u64,
-    ) -> bool
-        requires panorama { IsPanorama dag.now panorama.now }
-        requires consistent { IsTrue (is_consistent (graph dag.now) (observations dag.now panorama.now)) }
-        requires weights { AreWeights weights.now dag.now }
-        requires known { block.0 < count_of dag.now }
+    /// Whether a summit exists, of this level, for the block, panorama and quorum of the question. Nothing of
+    /// it is kept, so this costs less than finding the greatest. The bounds are those of this panorama, and
+    /// spare looks at units.
+    pub fn has_summit(&mut self, question: &Question<'_>, bounds: &Bounds, level: u32) -> bool
+        requires consistent { IsTrue (is_consistent (graph question.now.dag.now) (observations question.now.dag.now question.now.panorama.now)) }
         requires level { level ≤ self.old.levels }
-        requires validators { self.old.validators ≡ dag.now.validators }
-        requires walks { AreKept dag.now self.old.walks }
-        requires wide { AreWide dag.now.validators bounds.now }
-        requires bounds { AreBounds weights.now dag.now bounds.now }
-        requires tips { AreTips panorama.now bounds.now }
-        requires asked { bounds.now.block ≡ Some block }
-        ensures exact { IsTrue result ↔ HasSummit weights.now (graph dag.now) (observations dag.now panorama.now) (node_at dag.now block.0) level quorum }
+        requires validators { self.old.validators ≡ question.now.dag.now.validators }
+        requires walks { AreKept question.now.dag.now self.old.walks }
+        requires wide { AreWide question.now.dag.now.validators bounds.now }
+        requires bounds { AreBounds question.now.weights.now question.now.dag.now bounds.now }
+        requires tips { AreTips question.now.panorama.now bounds.now }
+        requires asked { bounds.now.block ≡ Some question.now.block }
+        ensures exact { IsTrue result ↔ HasSummit question.now.weights.now (graph question.now.dag.now) (observations question.now.dag.now question.now.panorama.now) (node_at question.now.dag.now question.now.block.0) level question.now.quorum }
         ensures found { self.new.found ≡ None }
-        ensures walks { AreKept dag.now self.new.walks }
+        ensures walks { AreKept question.now.dag.now self.new.walks }
         ensures validators { self.new.validators ≡ self.old.validators }
         ensures levels { self.new.levels ≡ self.old.levels }
     {
         self.found = None;
-        has_member(
-            &mut self.scratch,
-            &mut self.walks,
-            bounds,
-            dag,
-            weights.as_slice(),
-            panorama,
-            block,
-            level,
-            quorum,
-        )
+        has_member(question, &mut self.scratch, &mut self.walks, bounds, level)
     }
 
     /// The start of a validator in the committee of a level, of the summit that the last search found.
@@ -192,33 +175,32 @@ impl Horizons {
 
 // Puts the table of each level up to this one.
 fn put_tables(
+    question: &Question<'_>,
     tables: &mut [Table],
     scratch: &mut Scratch,
     walks: &mut Walks,
-    dag: &Dag,
-    weights: &[u64],
-    panorama: &Panorama,
-    block: UnitNo,
     level: u32,
-    quorum: u64,
 )
-    requires panorama { IsPanorama dag.now panorama.now }
-    requires consistent { IsTrue (is_consistent (graph dag.now) (observations dag.now panorama.now)) }
-    requires weights { AreWeights weights.now dag.now }
-    requires known { block.0 < count_of dag.now }
-    requires tables { (k : ℕ) → k < length tables.old → length (table_of tables.old k) ≡ dag.now.validators }
+    requires consistent { IsTrue (is_consistent (graph question.now.dag.now) (observations question.now.dag.now question.now.panorama.now)) }
+    requires tables { (k : ℕ) → k < length tables.old → length (table_of tables.old k) ≡ question.now.dag.now.validators }
     requires levels { level < length tables.old }
-    requires scratch { IsScratch dag.now.validators scratch.old }
-    requires walk_count { length walks.old.walks ≡ dag.now.validators }
-    requires walks { AreKept dag.now walks.old }
-    ensures tables { (k : ℕ) → k ≤ level → table_of tables.new k ≡ pruned_table weights.now (graph dag.now) (observations dag.now panorama.now) (node_at dag.now block.0) quorum k }
-    ensures lower { scratch.new.lower ≡ pruned_table weights.now (graph dag.now) (observations dag.now panorama.now) (node_at dag.now block.0) quorum level }
-    ensures lengths { (k : ℕ) → k < length tables.new → length (table_of tables.new k) ≡ dag.now.validators }
-    ensures scratch { IsScratch dag.now.validators scratch.new }
-    ensures walk_count { length walks.new.walks ≡ dag.now.validators }
-    ensures walks { AreKept dag.now walks.new }
+    requires scratch { IsScratch question.now.dag.now.validators scratch.old }
+    requires walk_count { length walks.old.walks ≡ question.now.dag.now.validators }
+    requires walks { AreKept question.now.dag.now walks.old }
+    ensures tables { (k : ℕ) → k ≤ level → table_of tables.new k ≡ pruned_table question.now.weights.now (graph question.now.dag.now) (observations question.now.dag.now question.now.panorama.now) (node_at question.now.dag.now question.now.block.0) question.now.quorum k }
+    ensures lower { scratch.new.lower ≡ pruned_table question.now.weights.now (graph question.now.dag.now) (observations question.now.dag.now question.now.panorama.now) (node_at question.now.dag.now question.now.block.0) question.now.quorum level }
+    ensures lengths { (k : ℕ) → k < length tables.new → length (table_of tables.new k) ≡ question.now.dag.now.validators }
+    ensures scratch { IsScratch question.now.dag.now.validators scratch.new }
+    ensures walk_count { length walks.new.walks ≡ question.now.dag.now.validators }
+    ensures walks { AreKept question.now.dag.now walks.new }
 {
-    put_vote_starts(&mut scratch.lower, walks, dag, panorama, block);
+    put_vote_starts(
+        &mut scratch.lower,
+        walks,
+        question.dag,
+        question.panorama,
+        question.block,
+    );
     tables[0].copy_from(&scratch.lower);
     for below in 0..level as usize {
         let Scratch {
@@ -227,9 +209,7 @@ fn put_tables(
             next,
             firsts,
         } = scratch;
-        prune(
-            present, next, firsts, None, dag, weights, panorama, quorum, lower,
-        );
+        prune(question, lower, present, next, firsts, None);
         lower.copy_from(present);
         tables[below + 1].copy_from(lower);
     }
@@ -237,46 +217,27 @@ fn put_tables(
 
 // Whether somebody is in the committee of this level. Starts are found only of the levels below it.
 fn has_member(
+    question: &Question<'_>,
     scratch: &mut Scratch,
     walks: &mut Walks,
     bounds: &Bounds,
-    dag: &Dag,
-    weights: &[u64],
-    panorama: &Panorama,
-    block: UnitNo,
     level: u32,
-    quorum: u64,
 ) -> bool
-    requires panorama { IsPanorama dag.now panorama.now }
-    requires consistent { IsTrue (is_consistent (graph dag.now) (observations dag.now panorama.now)) }
-    requires weights { AreWeights weights.now dag.now }
-    requires known { block.0 < count_of dag.now }
-    requires scratch { IsScratch dag.now.validators scratch.old }
-    requires walk_count { length walks.old.walks ≡ dag.now.validators }
-    requires walks { AreKept dag.now walks.old }
-    requires exact { AreExact weights.now dag.now panorama.now bounds.now }
-    ensures member { result ≡ list_any is_some (pruned_table weights.now (graph dag.now) (observations dag.now panorama.now) (node_at dag.now block.0) quorum level) }
-    ensures scratch { IsScratch dag.now.validators scratch.new }
-    ensures walk_count { length walks.new.walks ≡ dag.now.validators }
-    ensures walks { AreKept dag.now walks.new }
+    requires consistent { IsTrue (is_consistent (graph question.now.dag.now) (observations question.now.dag.now question.now.panorama.now)) }
+    requires scratch { IsScratch question.now.dag.now.validators scratch.old }
+    requires walk_count { length walks.old.walks ≡ question.now.dag.now.validators }
+    requires walks { AreKept question.now.dag.now walks.old }
+    requires exact { AreExact question.now.weights.now question.now.dag.now question.now.panorama.now bounds.now }
+    ensures member { result ≡ list_any is_some (pruned_table question.now.weights.now (graph question.now.dag.now) (observations question.now.dag.now question.now.panorama.now) (node_at question.now.dag.now question.now.block.0) question.now.quorum level) }
+    ensures scratch { IsScratch question.now.dag.now.validators scratch.new }
+    ensures walk_count { length walks.new.walks ≡ question.now.dag.now.validators }
+    ensures walks { AreKept question.now.dag.now walks.new }
 {
     if level == 0 {
-        put_lower(
-            scratch, walks, bounds, dag, weights, panorama, block, level, quorum,
-        );
+        put_lower(question, scratch, walks, bounds, level);
         return scratch.lower.has_member();
     }
-    put_lower(
-        scratch,
-        walks,
-        bounds,
-        dag,
-        weights,
-        panorama,
-        block,
-        level - 1,
-        quorum,
-    );
+    put_lower(question, scratch, walks, bounds, level - 1);
     let Scratch {
         lower,
         present,
@@ -284,39 +245,36 @@ fn has_member(
         ..
     } = scratch;
     let bound = bounds.level(level - 1);
-    put_members(
-        present, firsts, bound, dag, weights, panorama, quorum, lower,
-    );
+    put_members(question, lower, present, firsts, bound);
     present.has_member()
 }
 
 // Leaves in `lower` the table of this level.
 fn put_lower(
+    question: &Question<'_>,
     scratch: &mut Scratch,
     walks: &mut Walks,
     bounds: &Bounds,
-    dag: &Dag,
-    weights: &[u64],
-    panorama: &Panorama,
-    block: UnitNo,
     level: u32,
-    quorum: u64,
 )
-    requires panorama { IsPanorama dag.now panorama.now }
-    requires consistent { IsTrue (is_consistent (graph dag.now) (observations dag.now panorama.now)) }
-    requires weights { AreWeights weights.now dag.now }
-    requires known { block.0 < count_of dag.now }
-    requires scratch { IsScratch dag.now.validators scratch.old }
-    requires walk_count { length walks.old.walks ≡ dag.now.validators }
-    requires walks { AreKept dag.now walks.old }
-    requires exact { AreExact weights.now dag.now panorama.now bounds.now }
-    ensures lower { scratch.new.lower ≡ pruned_table weights.now (graph dag.now) (observations dag.now panorama.now) (node_at dag.now block.0) quorum level }
-    ensures slots { HasSlots panorama.now scratch.new.lower }
-    ensures scratch { IsScratch dag.now.validators scratch.new }
-    ensures walk_count { length walks.new.walks ≡ dag.now.validators }
-    ensures walks { AreKept dag.now walks.new }
+    requires consistent { IsTrue (is_consistent (graph question.now.dag.now) (observations question.now.dag.now question.now.panorama.now)) }
+    requires scratch { IsScratch question.now.dag.now.validators scratch.old }
+    requires walk_count { length walks.old.walks ≡ question.now.dag.now.validators }
+    requires walks { AreKept question.now.dag.now walks.old }
+    requires exact { AreExact question.now.weights.now question.now.dag.now question.now.panorama.now bounds.now }
+    ensures lower { scratch.new.lower ≡ pruned_table question.now.weights.now (graph question.now.dag.now) (observations question.now.dag.now question.now.panorama.now) (node_at question.now.dag.now question.now.block.0) question.now.quorum level }
+    ensures slots { HasSlots question.now.panorama.now scratch.new.lower }
+    ensures scratch { IsScratch question.now.dag.now.validators scratch.new }
+    ensures walk_count { length walks.new.walks ≡ question.now.dag.now.validators }
+    ensures walks { AreKept question.now.dag.now walks.new }
 {
-    put_vote_starts(&mut scratch.lower, walks, dag, panorama, block);
+    put_vote_starts(
+        &mut scratch.lower,
+        walks,
+        question.dag,
+        question.panorama,
+        question.block,
+    );
     for below in 0..level {
         let Scratch {
             lower,
@@ -325,9 +283,7 @@ fn put_lower(
             firsts,
         } = scratch;
         let bound = bounds.level(below);
-        prune(
-            present, next, firsts, bound, dag, weights, panorama, quorum, lower,
-        );
+        prune(question, lower, present, next, firsts, bound);
         lower.copy_from(present);
     }
 }

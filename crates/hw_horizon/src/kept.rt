@@ -1,7 +1,7 @@
 //! What is kept of the walks down the lanes for one block, so that only new units are looked at when
 //! the same block is asked again.
 
-ghost use Rattle.std.specs.Prelude.{◌≡◌, ℕ, ◌<◌, ◌⊎◌, length, Some, None, slice_set, slice_index_or, IsTrue, IfOk};
+ghost use Rattle.std.specs.Prelude.{◌≡◌, ℕ, ◌<◌, ◌⊎◌, length, Some, None, slice_set, slice_index_or, IfOk};
 ghost use Rattle.hw_horizon.specs.declared.fences.Fence.{Fence as Fenced};
 ghost use Rattle.hw_horizon.specs.declared.kept.Walk.{Walk as Walked};
 ghost use Rattle.hw_horizon.specs.Kept.{walk_of, walk_from};
@@ -59,7 +59,7 @@ impl Walks {
         ensures same { (v : ℕ) (walk : Walked) → walk_of self.new v ≡ Some walk → walk_of self.old v ≡ Some walk }
         ensures fences { self.new.fences ≡ self.old.fences }
     {
-        if !is_asked(self.block, block) {
+        if self.block != Some(block) {
             forget(self.walks.as_mut_slice());
             self.block = Some(block);
         }
@@ -95,20 +95,7 @@ impl Walks {
         ensures walks { self.new.walks ≡ slice_set self.old.walks validator (walk_from tip start) }
         ensures fences { self.new.fences ≡ self.old.fences }
     {
-        self.walks[validator as usize] = match start {
-            Some(start) => Some(Walk { tip, start }),
-            None => None,
-        };
-    }
-}
-
-// Whether that block was asked.
-fn is_asked(asked: Option<UnitNo>, block: UnitNo) -> bool
-    ensures { IsTrue result → asked ≡ Some block }
-{
-    match asked {
-        Some(asked) => asked == block,
-        None => false,
+        self.walks[validator as usize] = start.map(|start| Walk { tip, start });
     }
 }
 

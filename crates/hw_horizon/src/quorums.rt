@@ -9,26 +9,23 @@ ghost use Rattle.hw_horizon.specs.Firsts.{is_after, weight_after, has_quorum as 
 
 use crate::firsts::Firsts;
 use crate::jumps::lane_at;
+use crate::question::Question;
 use hw_dag::{Dag, UnitNo, View};
 
 /// The number, not below the floor, from which on each unit of the lane sees a quorum. It is found by
 /// bisection, since the units that see one are the last ones.
 pub fn quorum_start(
-    dag: &Dag,
-    weights: &[u64],
+    question: &Question<'_>,
     tip: UnitNo,
     floor: u64,
-    quorum: u64,
     firsts: &Firsts,
 ) -> Option<u64>
-    requires graph { IsGraph dag.now }
-    requires weights { AreWeights weights.now dag.now }
-    requires firsts { length firsts.now ≡ dag.now.validators }
-    requires known { tip.0 < count_of dag.now }
-    requires suffix { IsSuffix dag.now tip.0 (has_quorum_lem weights.now dag.now quorum firsts.now) }
-    ensures { IsStart dag.now tip.0 floor (has_quorum_lem weights.now dag.now quorum firsts.now) result }
+    requires firsts { length firsts.now ≡ question.now.dag.now.validators }
+    requires known { tip.0 < count_of question.now.dag.now }
+    requires suffix { IsSuffix question.now.dag.now tip.0 (has_quorum_lem question.now.weights.now question.now.dag.now question.now.quorum firsts.now) }
+    ensures { IsStart question.now.dag.now tip.0 floor (has_quorum_lem question.now.weights.now question.now.dag.now question.now.quorum firsts.now) result }
 {
-    let last = dag.unit(tip).signed().unit.seq;
+    let last = question.dag.unit(tip).signed().unit.seq;
     if last < floor {
         return None;
     }
@@ -36,15 +33,15 @@ pub fn quorum_start(
     let mut high = last;
     while low < high {
         let middle = low + (high - low) / 2;
-        let no = lane_at(dag, tip, middle);
-        if has_quorum(dag, weights, no, quorum, firsts) {
+        let no = lane_at(question.dag, tip, middle);
+        if has_quorum(question, no, firsts) {
             high = middle;
         } else {
             low = middle + 1;
         }
     }
     // Where an earlier unit sees a quorum, the latest one does.
-    if high == last && !has_quorum(dag, weights, tip, quorum, firsts) {
+    if high == last && !has_quorum(question, tip, firsts) {
         return None;
     }
     Some(low)
@@ -53,62 +50,52 @@ pub fn quorum_start(
 /// Whether there is such a number: the latest unit has one not below the floor, and sees a quorum. `seen`
 /// is what it saw, where that is known, before those fell who weigh `fallen`.
 pub fn has_start(
-    dag: &Dag,
-    weights: &[u64],
+    question: &Question<'_>,
     tip: UnitNo,
     floor: u64,
-    quorum: u64,
     firsts: &Firsts,
     seen: Option<u64>,
     fallen: u64,
 ) -> bool
-    requires graph { IsGraph dag.now }
-    requires weights { AreWeights weights.now dag.now }
-    requires firsts { length firsts.now ≡ dag.now.validators }
-    requires known { tip.0 < count_of dag.now }
-    requires near { IfSome seen (λ seen. IsNear weights.now dag.now firsts.now tip.0 seen fallen) }
-    ensures { result ≡ (nat_le floor (seq_of (unit_at dag.now tip.0)) && has_quorum_lem weights.now dag.now quorum firsts.now tip.0) }
+    requires firsts { length firsts.now ≡ question.now.dag.now.validators }
+    requires known { tip.0 < count_of question.now.dag.now }
+    requires near { IfSome seen (λ seen. IsNear question.now.weights.now question.now.dag.now firsts.now tip.0 seen fallen) }
+    ensures { result ≡ (nat_le floor (seq_of (unit_at question.now.dag.now tip.0)) && has_quorum_lem question.now.weights.now question.now.dag.now question.now.quorum firsts.now tip.0) }
 {
-    floor <= dag.unit(tip).signed().unit.seq
-        && still_has_quorum(dag, weights, tip, quorum, firsts, seen, fallen)
+    floor <= question.dag.unit(tip).signed().unit.seq
+        && still_has_quorum(question, tip, firsts, seen, fallen)
 }
 
 // Whether the unit sees a quorum of those present. They are looked at only where what it saw before doesn't
 // tell.
 fn still_has_quorum(
-    dag: &Dag,
-    weights: &[u64],
+    question: &Question<'_>,
     no: UnitNo,
-    quorum: u64,
     firsts: &Firsts,
     seen: Option<u64>,
     fallen: u64,
 ) -> bool
-    requires graph { IsGraph dag.now }
-    requires weights { AreWeights weights.now dag.now }
-    requires firsts { length firsts.now ≡ dag.now.validators }
-    requires known { no.0 < count_of dag.now }
-    requires near { IfSome seen (λ seen. IsNear weights.now dag.now firsts.now no.0 seen fallen) }
-    ensures { result ≡ has_quorum_lem weights.now dag.now quorum firsts.now no.0 }
+    requires firsts { length firsts.now ≡ question.now.dag.now.validators }
+    requires known { no.0 < count_of question.now.dag.now }
+    requires near { IfSome seen (λ seen. IsNear question.now.weights.now question.now.dag.now firsts.now no.0 seen fallen) }
+    ensures { result ≡ has_quorum_lem question.now.weights.now question.now.dag.now question.now.quorum firsts.now no.0 }
 {
     let Some(seen) = seen else {
-        return has_quorum(dag, weights, no, quorum, firsts);
+        return has_quorum(question, no, firsts);
     };
-    if seen < quorum {
+    if seen < question.quorum {
         return false;
     }
-    fallen <= seen - quorum || has_quorum(dag, weights, no, quorum, firsts)
+    fallen <= seen - question.quorum || has_quorum(question, no, firsts)
 }
 
 /// Whether the unit sees a quorum of those present.
-pub fn has_quorum(dag: &Dag, weights: &[u64], no: UnitNo, quorum: u64, firsts: &Firsts) -> bool
-    requires graph { IsGraph dag.now }
-    requires weights { AreWeights weights.now dag.now }
-    requires firsts { length firsts.now ≡ dag.now.validators }
-    requires known { no.0 < count_of dag.now }
-    ensures { result ≡ has_quorum_lem weights.now dag.now quorum firsts.now no.0 }
+pub fn has_quorum(question: &Question<'_>, no: UnitNo, firsts: &Firsts) -> bool
+    requires firsts { length firsts.now ≡ question.now.dag.now.validators }
+    requires known { no.0 < count_of question.now.dag.now }
+    ensures { result ≡ has_quorum_lem question.now.weights.now question.now.dag.now question.now.quorum firsts.now no.0 }
 {
-    quorum <= weight_after(dag, weights, no, firsts)
+    question.quorum <= weight_after(question.dag, question.weights, no, firsts)
 }
 
 /// The weight of those present that the unit sees.

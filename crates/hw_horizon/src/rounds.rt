@@ -1,10 +1,10 @@
 //! One level out of the level below it: members fall until no more do.
 
-ghost use Rattle.std.specs.Prelude.{◌≡◌, ℕ, suc, ◌+◌, ◌-◌, ◌<◌, ◌≤◌, List, length, None, is_some, slice_index_or, IsTrue, IfSome, if◌then◌else◌};
+ghost use Rattle.std.specs.Prelude.{◌≡◌, ℕ, suc, ◌+◌, ◌-◌, ◌<◌, ◌≤◌, List, length, true, None, is_some, slice_index_or, IsTrue, IfSome, if◌then◌else◌};
 ghost use Rattle.std.specs.Option.{option_map};
 ghost use Rattle.hw_types.specs.Votes.{weight_of};
 ghost use Rattle.hw_types.specs.Graph.{is_consistent};
-ghost use Rattle.hw_dag.specs.Dag.{UnitGraph, graph, observations, count_of, IsPanorama};
+ghost use Rattle.hw_dag.specs.Dag.{UnitGraph, graph, observations, count_of};
 ghost use Rattle.hw_dag.specs.declared.numbers.View.{View as Slot};
 ghost use Rattle.hw_dag.specs.Admission.{IsGraph};
 ghost use Rattle.hw_dag.specs.Lanes.{AreWeights};
@@ -15,79 +15,66 @@ ghost use Rattle.hw_horizon.specs.Bounds.{IsExact};
 
 use crate::bounds::Bound;
 use crate::firsts::{Firsts, NO_UNIT};
+use crate::question::Question;
 use crate::quorums::{has_start, quorum_start};
 use crate::table::Table;
-use hw_dag::{Dag, Panorama, View};
+use hw_dag::{Dag, View};
 
 /// Puts into `present` the committee of the level above that of `lower`. `bound` is what may be known of
 /// the level of `lower`.
 pub(crate) fn prune(
+    question: &Question<'_>,
+    lower: &Table,
     present: &mut Table,
     next: &mut Table,
     firsts: &mut Firsts,
     bound: Option<&Bound>,
-    dag: &Dag,
-    weights: &[u64],
-    panorama: &Panorama,
-    quorum: u64,
-    lower: &Table,
 )
-    requires panorama { IsPanorama dag.now panorama.now }
-    requires consistent { IsTrue (is_consistent (graph dag.now) (observations dag.now panorama.now)) }
-    requires weights { AreWeights weights.now dag.now }
-    requires slots { HasSlots panorama.now lower.now }
-    requires lower_length { length lower.now ≡ dag.now.validators }
-    requires present_length { length present.old ≡ dag.now.validators }
-    requires next_length { length next.old ≡ dag.now.validators }
-    requires firsts_length { length firsts.old ≡ dag.now.validators }
-    requires exact { IfSome bound (λ bound. IsExact weights.now dag.now panorama.now bound.now) }
-    ensures present { present.new ≡ table_after (suc (length weights.now)) weights.now (graph dag.now) (observations dag.now panorama.now) quorum lower.now }
-    ensures next_length { length next.new ≡ dag.now.validators }
-    ensures firsts_length { length firsts.new ≡ dag.now.validators }
+    requires consistent { IsTrue (is_consistent (graph question.now.dag.now) (observations question.now.dag.now question.now.panorama.now)) }
+    requires slots { HasSlots question.now.panorama.now lower.now }
+    requires lower_length { length lower.now ≡ question.now.dag.now.validators }
+    requires present_length { length present.old ≡ question.now.dag.now.validators }
+    requires next_length { length next.old ≡ question.now.dag.now.validators }
+    requires firsts_length { length firsts.old ≡ question.now.dag.now.validators }
+    requires exact { IfSome bound (λ bound. IsExact question.now.weights.now question.now.dag.now question.now.panorama.now bound.now) }
+    ensures present { present.new ≡ table_after (suc (length question.now.weights.now)) question.now.weights.now (graph question.now.dag.now) (observations question.now.dag.now question.now.panorama.now) question.now.quorum lower.now }
+    ensures next_length { length next.new ≡ question.now.dag.now.validators }
+    ensures firsts_length { length firsts.new ≡ question.now.dag.now.validators }
 {
-    put_members(
-        present, firsts, bound, dag, weights, panorama, quorum, lower,
-    );
-    put_next(next, dag, weights, panorama, quorum, lower, present, firsts);
+    put_members(question, lower, present, firsts, bound);
+    put_next(question, lower, present, firsts, next);
     present.copy_from(next);
 }
 
 /// Leaves in `present` who is in the committee of the level above that of `lower`, with their first units.
 /// Their starts aren't looked for.
 pub(crate) fn put_members(
+    question: &Question<'_>,
+    lower: &Table,
     present: &mut Table,
     firsts: &mut Firsts,
     bound: Option<&Bound>,
-    dag: &Dag,
-    weights: &[u64],
-    panorama: &Panorama,
-    quorum: u64,
-    lower: &Table,
 )
-    requires panorama { IsPanorama dag.now panorama.now }
-    requires consistent { IsTrue (is_consistent (graph dag.now) (observations dag.now panorama.now)) }
-    requires weights { AreWeights weights.now dag.now }
-    requires slots { HasSlots panorama.now lower.now }
-    requires lower_length { length lower.now ≡ dag.now.validators }
-    requires present_length { length present.old ≡ dag.now.validators }
-    requires firsts_length { length firsts.old ≡ dag.now.validators }
-    requires exact { IfSome bound (λ bound. IsExact weights.now dag.now panorama.now bound.now) }
-    ensures members { SameMembers present.new (table_after (length weights.now) weights.now (graph dag.now) (observations dag.now panorama.now) quorum lower.now) }
-    ensures present_length { length present.new ≡ dag.now.validators }
-    ensures firsts_length { length firsts.new ≡ dag.now.validators }
-    ensures firsts { AreFirsts dag.now panorama.now lower.now present.new firsts.new }
+    requires consistent { IsTrue (is_consistent (graph question.now.dag.now) (observations question.now.dag.now question.now.panorama.now)) }
+    requires slots { HasSlots question.now.panorama.now lower.now }
+    requires lower_length { length lower.now ≡ question.now.dag.now.validators }
+    requires present_length { length present.old ≡ question.now.dag.now.validators }
+    requires firsts_length { length firsts.old ≡ question.now.dag.now.validators }
+    requires exact { IfSome bound (λ bound. IsExact question.now.weights.now question.now.dag.now question.now.panorama.now bound.now) }
+    ensures members { SameMembers present.new (table_after (length question.now.weights.now) question.now.weights.now (graph question.now.dag.now) (observations question.now.dag.now question.now.panorama.now) question.now.quorum lower.now) }
+    ensures present_length { length present.new ≡ question.now.dag.now.validators }
+    ensures firsts_length { length firsts.new ≡ question.now.dag.now.validators }
+    ensures firsts { AreFirsts question.now.dag.now question.now.panorama.now lower.now present.new firsts.new }
 {
     present.copy_from(lower);
-    firsts.find(dag, panorama, lower, present);
+    firsts.find(question.dag, question.panorama, lower, present);
     let seen = seen_of(bound, firsts);
-    let total = members_weight(dag, weights, present);
+    let total = members_weight(question.dag, question.weights, present);
     let mut weight = total;
-    for _ in 0..weights.len() {
-        let left = strike(
-            present, firsts, dag, weights, panorama, quorum, lower, weight, seen, total,
-        );
+    for _ in 0..question.weights.len() {
+        let left = strike(question, lower, present, firsts, weight, seen, total);
         // Nobody sees a quorum of those who weigh less than one.
-        if left < quorum {
+        if left < question.quorum {
             present.clear();
             firsts.clear();
             return;
@@ -128,103 +115,85 @@ fn members_weight(dag: &Dag, weights: &[u64], present: &Table) -> u64
 // there, and says what those left weigh. It ends as soon as that is less than a quorum. `seen` is what each
 // latest unit saw, where that is known, when those present weighed `total`.
 fn strike(
+    question: &Question<'_>,
+    lower: &Table,
     present: &mut Table,
     firsts: &mut Firsts,
-    dag: &Dag,
-    weights: &[u64],
-    panorama: &Panorama,
-    quorum: u64,
-    lower: &Table,
     weight: u64,
     seen: Option<&[u64]>,
     total: u64,
 ) -> u64
-    requires panorama { IsPanorama dag.now panorama.now }
-    requires consistent { IsTrue (is_consistent (graph dag.now) (observations dag.now panorama.now)) }
-    requires weights { AreWeights weights.now dag.now }
-    requires slots { HasSlots panorama.now present.old }
-    requires present_length { length present.old ≡ dag.now.validators }
-    requires firsts_length { length firsts.old ≡ dag.now.validators }
-    requires firsts { AreFirsts dag.now panorama.now lower.now present.old firsts.old }
-    requires weight { weight ≡ weight_of weights.now (is_member present.old) }
+    requires consistent { IsTrue (is_consistent (graph question.now.dag.now) (observations question.now.dag.now question.now.panorama.now)) }
+    requires slots { HasSlots question.now.panorama.now present.old }
+    requires present_length { length present.old ≡ question.now.dag.now.validators }
+    requires firsts_length { length firsts.old ≡ question.now.dag.now.validators }
+    requires firsts { AreFirsts question.now.dag.now question.now.panorama.now lower.now present.old firsts.old }
+    requires weight { weight ≡ weight_of question.now.weights.now (is_member present.old) }
     requires total { weight ≤ total }
-    requires seen { IfSome seen (λ seen. AreSeen weights.now dag.now panorama.now firsts.old seen.now (total - weight)) }
-    ensures present_length { length present.new ≡ dag.now.validators }
-    ensures firsts_length { length firsts.new ≡ dag.now.validators }
-    ensures firsts { AreFirsts dag.now panorama.now lower.now present.new firsts.new }
-    ensures weight { result ≡ weight_of weights.now (is_member present.new) }
+    requires seen { IfSome seen (λ seen. AreSeen question.now.weights.now question.now.dag.now question.now.panorama.now firsts.old seen.now (total - weight)) }
+    ensures present_length { length present.new ≡ question.now.dag.now.validators }
+    ensures firsts_length { length firsts.new ≡ question.now.dag.now.validators }
+    ensures firsts { AreFirsts question.now.dag.now question.now.panorama.now lower.now present.new firsts.new }
+    ensures weight { result ≡ weight_of question.now.weights.now (is_member present.new) }
     ensures among { AreAmong present.new present.old }
-    ensures keeps { (kept : Starts) → AreAmong kept (next_table weights.now (graph dag.now) (observations dag.now panorama.now) quorum lower.now kept) → AreAmong kept present.old → AreAmong kept present.new }
-    ensures judged { quorum ≤ result → AreAmong present.new (next_table weights.now (graph dag.now) (observations dag.now panorama.now) quorum lower.now present.old) }
+    ensures keeps { (kept : Starts) → AreAmong kept (next_table question.now.weights.now (graph question.now.dag.now) (observations question.now.dag.now question.now.panorama.now) question.now.quorum lower.now kept) → AreAmong kept present.old → AreAmong kept present.new }
+    ensures judged { question.now.quorum ≤ result → AreAmong present.new (next_table question.now.weights.now (graph question.now.dag.now) (observations question.now.dag.now question.now.panorama.now) question.now.quorum lower.now present.old) }
     ensures settled { result ≡ weight → AreAmong present.old present.new }
     ensures total { result ≤ total }
-    ensures seen { IfSome seen.entry (λ seen. AreSeen weights.now dag.now panorama.now firsts.new seen.now (total - result)) }
+    ensures seen { IfSome seen.entry (λ seen. AreSeen question.now.weights.now question.now.dag.now question.now.panorama.now firsts.new seen.now (total - result)) }
 {
     let mut left = weight;
-    for v in 0..dag.validators() {
-        if left < quorum {
+    for v in 0..question.dag.validators() {
+        if left < question.quorum {
             return left;
         }
         let fallen = total - left;
-        left -= let_fall(
-            present, firsts, dag, weights, panorama, quorum, lower, seen, fallen, v,
-        );
+        left -= let_fall(question, lower, present, firsts, seen, fallen, v);
     }
     left
 }
 
 // Lets the validator fall where it is present and doesn't remain, and says how much less those left weigh.
 fn let_fall(
+    question: &Question<'_>,
+    lower: &Table,
     present: &mut Table,
     firsts: &mut Firsts,
-    dag: &Dag,
-    weights: &[u64],
-    panorama: &Panorama,
-    quorum: u64,
-    lower: &Table,
     seen: Option<&[u64]>,
     fallen: u64,
     validator: u32,
 ) -> u64
-    requires graph { IsGraph dag.now }
-    requires panorama { IsPanorama dag.now panorama.now }
-    requires consistent { IsTrue (is_consistent (graph dag.now) (observations dag.now panorama.now)) }
-    requires weights { AreWeights weights.now dag.now }
-    requires slots { HasSlots panorama.now present.old }
-    requires present_length { length present.old ≡ dag.now.validators }
-    requires firsts_length { length firsts.old ≡ dag.now.validators }
-    requires firsts { AreFirsts dag.now panorama.now lower.now present.old firsts.old }
-    requires seen { IfSome seen (λ seen. AreSeen weights.now dag.now panorama.now firsts.old seen.now fallen) }
-    requires within { validator < dag.now.validators }
-    ensures present_length { length present.new ≡ dag.now.validators }
-    ensures firsts_length { length firsts.new ≡ dag.now.validators }
-    ensures firsts { AreFirsts dag.now panorama.now lower.now present.new firsts.new }
-    ensures weight { result + weight_of weights.now (is_member present.new) ≡ weight_of weights.now (is_member present.old) }
+    requires consistent { IsTrue (is_consistent (graph question.now.dag.now) (observations question.now.dag.now question.now.panorama.now)) }
+    requires slots { HasSlots question.now.panorama.now present.old }
+    requires present_length { length present.old ≡ question.now.dag.now.validators }
+    requires firsts_length { length firsts.old ≡ question.now.dag.now.validators }
+    requires firsts { AreFirsts question.now.dag.now question.now.panorama.now lower.now present.old firsts.old }
+    requires seen { IfSome seen (λ seen. AreSeen question.now.weights.now question.now.dag.now question.now.panorama.now firsts.old seen.now fallen) }
+    requires within { validator < question.now.dag.now.validators }
+    ensures present_length { length present.new ≡ question.now.dag.now.validators }
+    ensures firsts_length { length firsts.new ≡ question.now.dag.now.validators }
+    ensures firsts { AreFirsts question.now.dag.now question.now.panorama.now lower.now present.new firsts.new }
+    ensures weight { result + weight_of question.now.weights.now (is_member present.new) ≡ weight_of question.now.weights.now (is_member present.old) }
     ensures others { (v : ℕ) → (v ≡ validator → ⊥) → entry present.new v ≡ entry present.old v }
-    ensures judged { is_some (entry present.new validator) ≡ is_some (if is_some (entry present.old validator) then start_over weights.now (graph dag.now) (observations dag.now panorama.now) quorum lower.now present.old validator else None) }
+    ensures judged { is_some (entry present.new validator) ≡ is_some (if is_some (entry present.old validator) then start_over question.now.weights.now (graph question.now.dag.now) (observations question.now.dag.now question.now.panorama.now) question.now.quorum lower.now present.old validator else None) }
     ensures stays { result ≡ 0 → entry present.new validator ≡ entry present.old validator }
-    ensures near { (n : ℕ) → n < count_of dag.now → IsNear weights.now dag.now firsts.new n (weight_after weights.now dag.now firsts.old n) result }
+    ensures near { (n : ℕ) → n < count_of question.now.dag.now → IsNear question.now.weights.now question.now.dag.now firsts.new n (weight_after question.now.weights.now question.now.dag.now firsts.old n) result }
 {
     if present.get(validator).is_none()
-        || remains(
-            dag, weights, panorama, quorum, lower, present, firsts, seen, fallen, validator,
-        )
+        || remains(question, lower, present, firsts, seen, fallen, validator)
     {
         return 0;
     }
     present.set(validator, None);
     firsts.set(validator, NO_UNIT);
-    weights[validator as usize]
+    question.weights[validator as usize]
 }
 
-// Whether the validator is present, and has a start over those present: its latest unit sees a quorum of
+// Whether the validator, which is present, has a start over those present: its latest unit sees a quorum of
 // them, and isn't before its start of the level below. `seen` is what each latest unit saw, where that is
 // known, before those fell who weigh `fallen`.
 fn remains(
-    dag: &Dag,
-    weights: &[u64],
-    panorama: &Panorama,
-    quorum: u64,
+    question: &Question<'_>,
     lower: &Table,
     present: &Table,
     firsts: &Firsts,
@@ -232,25 +201,20 @@ fn remains(
     fallen: u64,
     validator: u32,
 ) -> bool
-    requires graph { IsGraph dag.now }
-    requires panorama { IsPanorama dag.now panorama.now }
-    requires consistent { IsTrue (is_consistent (graph dag.now) (observations dag.now panorama.now)) }
-    requires weights { AreWeights weights.now dag.now }
-    requires slots { HasSlots panorama.now present.now }
-    requires firsts_length { length firsts.now ≡ dag.now.validators }
-    requires firsts { AreFirsts dag.now panorama.now lower.now present.now firsts.now }
-    requires seen { IfSome seen (λ seen. AreSeen weights.now dag.now panorama.now firsts.now seen.now fallen) }
-    requires within { validator < dag.now.validators }
-    ensures { result ≡ is_some (if is_some (entry present.now validator) then start_over weights.now (graph dag.now) (observations dag.now panorama.now) quorum lower.now present.now validator else None) }
+    requires consistent { IsTrue (is_consistent (graph question.now.dag.now) (observations question.now.dag.now question.now.panorama.now)) }
+    requires slots { HasSlots question.now.panorama.now present.now }
+    requires firsts_length { length firsts.now ≡ question.now.dag.now.validators }
+    requires firsts { AreFirsts question.now.dag.now question.now.panorama.now lower.now present.now firsts.now }
+    requires seen { IfSome seen (λ seen. AreSeen question.now.weights.now question.now.dag.now question.now.panorama.now firsts.now seen.now fallen) }
+    requires within { validator < question.now.dag.now.validators }
+    requires present { is_some (entry present.now validator) ≡ true }
+    ensures { result ≡ is_some (if is_some (entry present.now validator) then start_over question.now.weights.now (graph question.now.dag.now) (observations question.now.dag.now question.now.panorama.now) question.now.quorum lower.now present.now validator else None) }
 {
-    if present.get(validator).is_none() {
-        return false;
-    }
-    match panorama.get(validator) {
+    match question.panorama.get(validator) {
         View::Correct(tip) => {
             let floor = lower.get(validator).unwrap_or(0);
             let saw = seen_by(seen, validator);
-            has_start(dag, weights, tip, floor, quorum, firsts, saw, fallen)
+            has_start(question, tip, floor, firsts, saw, fallen)
         }
         View::Absent | View::Faulty => false,
     }
@@ -269,58 +233,47 @@ fn seen_by(seen: Option<&[u64]>, validator: u32) -> Option<u64>
 
 // Puts into `next` the starts of those present over those present.
 fn put_next(
-    next: &mut Table,
-    dag: &Dag,
-    weights: &[u64],
-    panorama: &Panorama,
-    quorum: u64,
+    question: &Question<'_>,
     lower: &Table,
     present: &Table,
     firsts: &Firsts,
+    next: &mut Table,
 )
-    requires panorama { IsPanorama dag.now panorama.now }
-    requires consistent { IsTrue (is_consistent (graph dag.now) (observations dag.now panorama.now)) }
-    requires weights { AreWeights weights.now dag.now }
-    requires slots { HasSlots panorama.now present.now }
-    requires firsts_length { length firsts.now ≡ dag.now.validators }
-    requires firsts { AreFirsts dag.now panorama.now lower.now present.now firsts.now }
-    requires length { length next.old ≡ dag.now.validators }
-    ensures { next.new ≡ next_table weights.now (graph dag.now) (observations dag.now panorama.now) quorum lower.now present.now }
+    requires consistent { IsTrue (is_consistent (graph question.now.dag.now) (observations question.now.dag.now question.now.panorama.now)) }
+    requires slots { HasSlots question.now.panorama.now present.now }
+    requires firsts_length { length firsts.now ≡ question.now.dag.now.validators }
+    requires firsts { AreFirsts question.now.dag.now question.now.panorama.now lower.now present.now firsts.now }
+    requires length { length next.old ≡ question.now.dag.now.validators }
+    ensures { next.new ≡ next_table question.now.weights.now (graph question.now.dag.now) (observations question.now.dag.now question.now.panorama.now) question.now.quorum lower.now present.now }
 {
-    for v in 0..dag.validators() {
-        let start = start_over(dag, weights, panorama, quorum, lower, present, firsts, v);
+    for v in 0..question.dag.validators() {
+        let start = start_over(question, lower, present, firsts, v);
         next.set(v, start);
     }
 }
 
 // The start of the validator over those present, where it is one of them.
 fn start_over(
-    dag: &Dag,
-    weights: &[u64],
-    panorama: &Panorama,
-    quorum: u64,
+    question: &Question<'_>,
     lower: &Table,
     present: &Table,
     firsts: &Firsts,
     validator: u32,
 ) -> Option<u64>
-    requires graph { IsGraph dag.now }
-    requires panorama { IsPanorama dag.now panorama.now }
-    requires consistent { IsTrue (is_consistent (graph dag.now) (observations dag.now panorama.now)) }
-    requires weights { AreWeights weights.now dag.now }
-    requires slots { HasSlots panorama.now present.now }
-    requires firsts_length { length firsts.now ≡ dag.now.validators }
-    requires firsts { AreFirsts dag.now panorama.now lower.now present.now firsts.now }
-    requires within { validator < dag.now.validators }
-    ensures { result ≡ (if is_some (entry present.now validator) then start_over weights.now (graph dag.now) (observations dag.now panorama.now) quorum lower.now present.now validator else None) }
+    requires consistent { IsTrue (is_consistent (graph question.now.dag.now) (observations question.now.dag.now question.now.panorama.now)) }
+    requires slots { HasSlots question.now.panorama.now present.now }
+    requires firsts_length { length firsts.now ≡ question.now.dag.now.validators }
+    requires firsts { AreFirsts question.now.dag.now question.now.panorama.now lower.now present.now firsts.now }
+    requires within { validator < question.now.dag.now.validators }
+    ensures { result ≡ (if is_some (entry present.now validator) then start_over question.now.weights.now (graph question.now.dag.now) (observations question.now.dag.now question.now.panorama.now) question.now.quorum lower.now present.now validator else None) }
 {
     if present.get(validator).is_none() {
         return None;
     }
-    match panorama.get(validator) {
+    match question.panorama.get(validator) {
         View::Correct(tip) => {
             let floor = lower.get(validator).unwrap_or(0);
-            quorum_start(dag, weights, tip, floor, quorum, firsts)
+            quorum_start(question, tip, floor, firsts)
         }
         View::Absent | View::Faulty => None,
     }

@@ -8,7 +8,7 @@ use Rattle.hw_horizon.proofs.bounds.follow_levels.Goals as goal
 
 pub follow_level-low-requires-clause-supported : goal.follow_level-low-requires-clause-supported
 follow_level-low-requires-clause-supported c =
-    support_below c.args.weights.now c.args.dag.now c.args.panorama.now c.args.tips.now c.args.block.0 c.args.least c.args.levels.now c.loop-level.levels c.loop-level.lower c.loop-level.low c.loop-level.level c.loop-level.invariant.followed
+    support_below c.args.question.now.weights.now c.args.question.now.dag.now c.args.question.now.panorama.now c.args.tips.now c.args.question.now.block.0 c.args.question.now.quorum c.args.levels.now c.loop-level.levels c.loop-level.lower c.loop-level.low c.loop-level.level c.loop-level.invariant.followed
 
 pub loop-level-preserved : goal.loop-level-preserved
 loop-level-preserved c =
@@ -22,11 +22,11 @@ loop-level-preserved c =
     sym c.index-levels-level.is ∙ get_or_read c.loop-level.levels c.loop-level.level c.index-levels-level.result inside c.index-levels-level.is (record { firsts = []; support = [] }) in
     let lower : c.copy_from.new.self ≡ c.follow_level-low.new.bound = c.copy_from.ensures ∙ (rw get_or-set_same refl) in
     let here = put_level c.loop-level.levels c.loop-level.level c.follow_level-low.new.bound inside in
-    let wide_firsts : length c.follow_level-low.new.bound.firsts ≡ c.args.dag.now.validators = done.firsts_length ∙ ap (λ (b : LevelBound). length b.firsts) entry ∙ i.firsts c.loop-level.level inside in
-    let wide_support : length c.follow_level-low.new.bound.support ≡ c.args.dag.now.validators = done.support_length ∙ ap (λ (b : LevelBound). length b.support) entry ∙ i.support c.loop-level.level inside in
+    let wide_firsts : length c.follow_level-low.new.bound.firsts ≡ c.args.question.now.dag.now.validators = done.firsts_length ∙ ap (λ (b : LevelBound). length b.firsts) entry ∙ i.firsts c.loop-level.level inside in
+    let wide_support : length c.follow_level-low.new.bound.support ≡ c.args.question.now.dag.now.validators = done.support_length ∙ ap (λ (b : LevelBound). length b.support) entry ∙ i.support c.loop-level.level inside in
     record {
-      followed = subst (λ (b : LevelBound). HasFollowed c.args.weights.now c.args.dag.now c.args.panorama.now c.args.tips.now c.args.block.0 c.args.least c.args.levels.now (set c.loop-level.levels c.loop-level.level c.follow_level-low.new.bound) b c.follow_level-low.result (c.loop-level.level + 1)) (sym lower)
-          (followed_more c.args.weights.now c.args.dag.now done.graph c.args.panorama.now c.args.tips.now c.args.block.0 c.args.least c.args.levels.now c.requires.bounded
+      followed = subst (λ (b : LevelBound). HasFollowed c.args.question.now.weights.now c.args.question.now.dag.now c.args.question.now.panorama.now c.args.tips.now c.args.question.now.block.0 c.args.question.now.quorum c.args.levels.now (set c.loop-level.levels c.loop-level.level c.follow_level-low.new.bound) b c.follow_level-low.result (c.loop-level.level + 1)) (sym lower)
+          (followed_more c.args.question.now.weights.now c.args.question.now.dag.now c.args.question.now.asked.graph_is c.args.question.now.panorama.now c.args.tips.now c.args.question.now.block.0 c.args.question.now.quorum c.args.levels.now c.requires.bounded
           c.loop-level.levels (set c.loop-level.levels c.loop-level.level c.follow_level-low.new.bound) c.loop-level.lower c.follow_level-low.new.bound c.loop-level.low c.follow_level-low.result c.loop-level.level i.followed inside refl
           done.firsts done.support (subst (λ (b : LevelBound). AreLowered b c.follow_level-low.new.bound c.follow_level-low.result) entry done.lowered));
       firsts = λ j lj. elim (cases_eq j c.loop-level.level) [

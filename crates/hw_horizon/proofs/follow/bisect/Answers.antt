@@ -4,31 +4,31 @@ use Rattle.hw_horizon.proofs.LaneLaws.{lane_above}
 use Rattle.hw_horizon.proofs.FollowLaws.{gap_first}
 use Rattle.hw_horizon.proofs.follow.bisect.Goals as goal
 
-pub loop-block-preserved-then-counts : goal.loop-block-preserved-then-counts
-loop-block-preserved-then-counts c =
-    let i = c.loop-block.invariant in
+pub loop-dag-preserved-then-counts : goal.loop-dag-preserved-then-counts
+loop-dag-preserved-then-counts c =
+    let i = c.loop-dag.invariant in
     let back = c.back-no.ensures in
     let near = back.near c.half.ensures.some in
     let less = c.half.ensures.less in
-    let high = c.seq_of-in-loop-block-2.ensures in
-    let low = c.seq_of-in-loop-block-3.ensures in
+    let high = c.seq_of-in-loop-dag-2.ensures in
+    let low = c.seq_of-in-loop-dag-3.ensures in
     let order = i.order in
     record {
       last_known = i.last_known;
       last_on_lane = i.last_on_lane;
       first_known = back.known;
-      first_on_lane = lane_above c.args.dag.now c.requires.graph c.args.tip.0 c.back-no.result.0 c.loop-block.first.0 back.known i.first_known back.on_lane i.first_on_lane;
+      first_on_lane = lane_above c.args.question.now.dag.now c.args.question.now.asked.graph_is c.args.tip.0 c.back-no.result.0 c.loop-dag.first.0 back.known i.first_known back.on_lane i.first_on_lane;
       order = omega arith;
       fails = i.fails;
     }
 
-pub loop-block-preserved : goal.loop-block-preserved
-loop-block-preserved c =
-    let i = c.loop-block.invariant in
+pub loop-dag-preserved : goal.loop-dag-preserved
+loop-dag-preserved c =
+    let i = c.loop-dag.invariant in
     let back = c.back-no.ensures in
     record {
       last_known = back.known;
-      last_on_lane = lane_above c.args.dag.now c.requires.graph c.args.tip.0 c.back-no.result.0 c.loop-block.first.0 back.known i.first_known back.on_lane i.first_on_lane;
+      last_on_lane = lane_above c.args.question.now.dag.now c.args.question.now.asked.graph_is c.args.tip.0 c.back-no.result.0 c.loop-dag.first.0 back.known i.first_known back.on_lane i.first_on_lane;
       first_known = i.first_known;
       first_on_lane = i.first_on_lane;
       order = back.before;
@@ -38,6 +38,6 @@ loop-block-preserved c =
 pub returns : goal.returns
 returns c =
     let high = c.seq_of.ensures in
-    let low = c.seq_of-in-loop-block.ensures in
-    let near = c.loop-block-test.false in
-    gap_first c.args.dag.now c.requires.graph c.args.tip.0 c.requires.tip_known (counts_over c.args.weights.now c.args.dag.now c.args.block.0 c.args.least c.args.is_votes c.args.lower.now.firsts) c.loop-block.last.0 c.loop-block.first.0 c.loop-block.invariant (omega arith)
+    let low = c.seq_of-in-loop-dag.ensures in
+    let near = c.loop-dag-test.false in
+    gap_first c.args.question.now.dag.now c.args.question.now.asked.graph_is c.args.tip.0 c.requires.tip_known (counts_over c.args.question.now.weights.now c.args.question.now.dag.now c.args.question.now.block.0 c.args.question.now.quorum c.args.is_votes c.args.lower.now.firsts) c.loop-dag.last.0 c.loop-dag.first.0 c.loop-dag.invariant (omega arith)

@@ -33,12 +33,12 @@ loop-v-preserved c =
       rest = λ w le. put_other c.loop-v.bound.firsts c.set_first.new.self.firsts c.loop-v.v w c.next_first-first.result put (omega arith) ∙ i.rest w (omega arith);
       firsts = λ w tip lt e. elim (cases_eq w c.loop-v.v) [
         | inl same ↦
-            let here : view_at c.args.panorama.now c.loop-v.v ≡ view.Correct tip = subst (λ (k : ℕ). view_at c.args.panorama.now k ≡ view.Correct tip) same e in
+            let here : view_at c.args.question.now.panorama.now c.loop-v.v ≡ view.Correct tip = subst (λ (k : ℕ). view_at c.args.question.now.panorama.now k ≡ view.Correct tip) same e in
             let is : first_of c.set_first.new.self w ≡ c.next_first-first.result = ap (λ (k : ℕ). first_of c.set_first.new.self k) same ∙ put_same c.loop-v.bound.firsts c.set_first.new.self.firsts c.loop-v.v c.next_first-first.result put inside in
-            subst (λ (n : ℕ). IsFirstOf c.args.dag.now tip.0 (counts_over c.args.weights.now c.args.dag.now c.args.block.0 c.args.least c.args.is_votes c.args.lower.now.firsts) n) (sym is)
-            (c.next_first-first.ensures tip (c.get.ensures ∙ here))
+            subst (λ (n : ℕ). IsFirstOf c.args.question.now.dag.now tip.0 (counts_over c.args.question.now.weights.now c.args.question.now.dag.now c.args.question.now.block.0 c.args.question.now.quorum c.args.is_votes c.args.lower.now.firsts) n) (sym is)
+            (c.next_first-first.ensures tip here)
         | inr other ↦
-            subst (λ (n : ℕ). IsFirstOf c.args.dag.now tip.0 (counts_over c.args.weights.now c.args.dag.now c.args.block.0 c.args.least c.args.is_votes c.args.lower.now.firsts) n)
+            subst (λ (n : ℕ). IsFirstOf c.args.question.now.dag.now tip.0 (counts_over c.args.question.now.weights.now c.args.question.now.dag.now c.args.question.now.block.0 c.args.question.now.quorum c.args.is_votes c.args.lower.now.firsts) n)
             (sym (put_other c.loop-v.bound.firsts c.set_first.new.self.firsts c.loop-v.v w c.next_first-first.result put other)) (i.firsts w tip (omega arith) e)
       ];
       lowered = lowered_more c.args.bound.now c.loop-v.bound c.set_first.new.self c.loop-v.v c.next_first-first.result c.loop-v.moves.down c.moved-moves.result.down i.lowered (i.rest c.loop-v.v (omega arith)) put inside
@@ -53,6 +53,6 @@ returns-clause-firsts c = λ w tip e. elim (cases_lt w c.loop-v.v) [
   | inl less ↦ c.loop-v.invariant.firsts w tip less e
   | inr le ↦
       (let past = c.loop-v-test.false in
-      subst (λ (n : ℕ). IsFirstOf c.args.dag.now tip.0 (counts_over c.args.weights.now c.args.dag.now c.args.block.0 c.args.least c.args.is_votes c.args.lower.now.firsts) n)
+      subst (λ (n : ℕ). IsFirstOf c.args.question.now.dag.now tip.0 (counts_over c.args.question.now.weights.now c.args.question.now.dag.now c.args.question.now.block.0 c.args.question.now.quorum c.args.is_votes c.args.lower.now.firsts) n)
       (sym (c.loop-v.invariant.rest w le)) (c.requires.outside w tip (inr (omega arith)) e))
 ]

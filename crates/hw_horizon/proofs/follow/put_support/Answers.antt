@@ -31,12 +31,12 @@ loop-v-preserved c =
       rest = λ w le. put_other c.loop-v.bound.support c.set_support.new.self.support c.loop-v.v w c.next_support-weight.result put (omega arith) ∙ i.rest w (omega arith);
       done = λ w tip lt e. elim (cases_eq w c.loop-v.v) [
         | inl same ↦
-            let here : view_at c.args.panorama.now c.loop-v.v ≡ view.Correct tip = subst (λ (k : ℕ). view_at c.args.panorama.now k ≡ view.Correct tip) same e in
+            let here : view_at c.args.question.now.panorama.now c.loop-v.v ≡ view.Correct tip = subst (λ (k : ℕ). view_at c.args.question.now.panorama.now k ≡ view.Correct tip) same e in
             let is : support_of c.set_support.new.self w ≡ c.next_support-weight.result = ap (λ (k : ℕ). support_of c.set_support.new.self k) same ∙ put_same c.loop-v.bound.support c.set_support.new.self.support c.loop-v.v c.next_support-weight.result put inside in
-            let sees = subst (λ (ns : List ℕ). weight_after c.args.weights.now c.args.dag.now ns tip.0 ≡ c.next_support-weight.result) i.firsts (c.next_support-weight.ensures tip (c.get.ensures ∙ here)) in
-            subst (λ (n : ℕ). weight_after c.args.weights.now c.args.dag.now c.args.bound.now.firsts tip.0 ≡ n) (sym is) sees
+            let sees = subst (λ (ns : List ℕ). weight_after c.args.question.now.weights.now c.args.question.now.dag.now ns tip.0 ≡ c.next_support-weight.result) i.firsts (c.next_support-weight.ensures tip (c.get-view.ensures ∙ here)) in
+            subst (λ (n : ℕ). weight_after c.args.question.now.weights.now c.args.question.now.dag.now c.args.bound.now.firsts tip.0 ≡ n) (sym is) sees
         | inr other ↦
-            subst (λ (n : ℕ). weight_after c.args.weights.now c.args.dag.now c.args.bound.now.firsts tip.0 ≡ n)
+            subst (λ (n : ℕ). weight_after c.args.question.now.weights.now c.args.question.now.dag.now c.args.bound.now.firsts tip.0 ≡ n)
             (sym (put_other c.loop-v.bound.support c.set_support.new.self.support c.loop-v.v w c.next_support-weight.result put other)) (i.done w tip (omega arith) e)
       ];
     }
@@ -44,9 +44,9 @@ loop-v-preserved c =
 pub returns-clause-support : goal.returns-clause-support
 returns-clause-support c = λ w tip e. elim (cases_lt w c.loop-v.v) [
   | inl less ↦
-      subst (λ (ns : List ℕ). weight_after c.args.weights.now c.args.dag.now ns tip.0 ≡ support_of c.loop-v.bound w) (sym c.loop-v.invariant.firsts) (c.loop-v.invariant.done w tip less e)
+      subst (λ (ns : List ℕ). weight_after c.args.question.now.weights.now c.args.question.now.dag.now ns tip.0 ≡ support_of c.loop-v.bound w) (sym c.loop-v.invariant.firsts) (c.loop-v.invariant.done w tip less e)
   | inr le ↦
       (let past = c.loop-v-test.false in
-      subst (λ (ns : List ℕ). weight_after c.args.weights.now c.args.dag.now ns tip.0 ≡ support_of c.loop-v.bound w) (sym c.loop-v.invariant.firsts)
-      (subst (λ (n : ℕ). weight_after c.args.weights.now c.args.dag.now c.args.bound.now.firsts tip.0 ≡ n) (sym (c.loop-v.invariant.rest w le)) (c.requires.outside w tip (inr (omega arith)) e)))
+      subst (λ (ns : List ℕ). weight_after c.args.question.now.weights.now c.args.question.now.dag.now ns tip.0 ≡ support_of c.loop-v.bound w) (sym c.loop-v.invariant.firsts)
+      (subst (λ (n : ℕ). weight_after c.args.question.now.weights.now c.args.question.now.dag.now c.args.bound.now.firsts tip.0 ≡ n) (sym (c.loop-v.invariant.rest w le)) (c.requires.outside w tip (inr (omega arith)) e)))
 ]

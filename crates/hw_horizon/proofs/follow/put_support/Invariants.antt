@@ -11,5 +11,5 @@ invariant-loop-v l = record {
   firsts : l.bound.firsts ≡ l.fn.bound.firsts;
   long : length l.bound.support ≡ length l.fn.bound.support;
   rest : (v : ℕ) → l.v ≤ v → support_of l.bound v ≡ support_of l.fn.bound v;
-  done : (v : ℕ) (tip : UnitNo) → v < l.v → view_at l.panorama v ≡ view.Correct tip → weight_after l.weights l.dag l.fn.bound.firsts tip.0 ≡ support_of l.bound v;
+  done : (v : ℕ) (tip : UnitNo) → v < l.v → view_at l.question.panorama.now v ≡ view.Correct tip → weight_after l.question.weights.now l.question.dag.now l.fn.bound.firsts tip.0 ≡ support_of l.bound v;
 }

@@ -7,7 +7,7 @@ use Rattle.hw_horizon.proofs.horizons.put_lower.Given as goal
 
 abbrev pub invariant-loop-below : goal.invariant-loop-below
 invariant-loop-below l = record {
-  lower : l.scratch.lower ≡ pruned_table l.weights (graph l.dag) (observations l.dag l.panorama) (node_at l.dag l.fn.block.0) l.quorum l.below;
-  slots : HasSlots l.panorama l.scratch.lower;
-  scratch : IsScratch l.dag.validators l.scratch;
+  lower : l.scratch.lower ≡ pruned_table l.question.weights.now (graph l.question.dag.now) (observations l.question.dag.now l.question.panorama.now) (node_at l.question.dag.now l.question.block.0) l.question.quorum l.below;
+  slots : HasSlots l.question.panorama.now l.scratch.lower;
+  scratch : IsScratch l.question.dag.now.validators l.scratch;
 }

@@ -8,12 +8,12 @@ use Rattle.hw_horizon.proofs.rounds.put_members.Given as goal
 
 abbrev pub invariant-loop : goal.invariant-loop
 invariant-loop l = record {
-  present_length : length l.present ≡ l.dag.validators;
-  firsts_length : length l.firsts ≡ l.dag.validators;
-  firsts : AreFirsts l.dag l.panorama l.lower l.present l.firsts;
-  weight : l.weight ≡ weight_of l.weights (is_member l.present);
+  present_length : length l.present ≡ l.question.dag.now.validators;
+  firsts_length : length l.firsts ≡ l.question.dag.now.validators;
+  firsts : AreFirsts l.question.dag.now l.question.panorama.now l.lower l.present l.firsts;
+  weight : l.weight ≡ weight_of l.question.weights.now (is_member l.present);
   total : l.weight ≤ l.total;
-  seen : IfSome l.seen (λ s. AreSeen l.weights l.dag l.panorama l.firsts s.now (l.total - l.weight));
-  down : AreAmong l.present (table_after l.counter l.weights (graph l.dag) (observations l.dag l.panorama) l.quorum l.lower);
-  up : AreAmong (table_after (length l.weights) l.weights (graph l.dag) (observations l.dag l.panorama) l.quorum l.lower) l.present;
+  seen : IfSome l.seen (λ s. AreSeen l.question.weights.now l.question.dag.now l.question.panorama.now l.firsts s.now (l.total - l.weight));
+  down : AreAmong l.present (table_after l.counter l.question.weights.now (graph l.question.dag.now) (observations l.question.dag.now l.question.panorama.now) l.question.quorum l.lower);
+  up : AreAmong (table_after (length l.question.weights.now) l.question.weights.now (graph l.question.dag.now) (observations l.question.dag.now l.question.panorama.now) l.question.quorum l.lower) l.present;
 }

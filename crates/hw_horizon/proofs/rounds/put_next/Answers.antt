@@ -22,5 +22,5 @@ pub returns : goal.returns
 returns c =
     let i = c.loop-v.invariant in
     let many = c.validators-v-end.ensures.validators in
-    let width = c.requires.weights.length_is in
-    next_by_entries c.args.weights.now (graph c.args.dag.now) (observations c.args.dag.now c.args.panorama.now) c.args.quorum c.args.lower.now c.args.present.now c.loop-v.next (omega (arith, i.long)) (λ v lt. i.starts v (omega arith))
+    let width = c.args.question.now.asked.weights_are.length_is in
+    next_by_entries c.args.question.now.weights.now (graph c.args.question.now.dag.now) (observations c.args.question.now.dag.now c.args.question.now.panorama.now) c.args.question.now.quorum c.args.lower.now c.args.present.now c.loop-v.next (omega (arith, i.long)) (λ v lt. i.starts v (omega arith))

@@ -6,6 +6,6 @@ use Rattle.hw_horizon.proofs.rounds.put_next.Given as goal
 
 abbrev pub invariant-loop-v : goal.invariant-loop-v
 invariant-loop-v l = record {
-  long : length l.next ≡ l.dag.validators;
-  starts : (v : ℕ) → v < l.v → entry l.next v ≡ cond (is_some (entry l.present v)) (start_over l.weights (graph l.dag) (observations l.dag l.panorama) l.quorum l.lower l.present v) None;
+  long : length l.next ≡ l.question.dag.now.validators;
+  starts : (v : ℕ) → v < l.v → entry l.next v ≡ cond (is_some (entry l.present v)) (start_over l.question.weights.now (graph l.question.dag.now) (observations l.question.dag.now l.question.panorama.now) l.question.quorum l.lower l.present v) None;
 }

@@ -31,7 +31,7 @@ loop-v-preserved c =
     let weight = i.weight in
     let less = j.weight in
     let among : AreAmong c.let_fall-left.new.present c.loop-v.present =
-    judged_among c.args.weights.now (graph c.args.dag.now) (observations c.args.dag.now c.args.panorama.now) c.args.quorum c.args.lower.now c.loop-v.present c.let_fall-left.new.present c.loop-v.v j.others j.judged in
+    judged_among c.args.question.now.weights.now (graph c.args.question.now.dag.now) (observations c.args.question.now.dag.now c.args.question.now.panorama.now) c.args.question.now.quorum c.args.lower.now c.loop-v.present c.let_fall-left.new.present c.loop-v.v j.others j.judged in
     record {
       present_length = j.present_length;
       firsts_length = j.firsts_length;
@@ -41,10 +41,10 @@ loop-v-preserved c =
       most = omega arith;
       among = λ v h. i.among v (among v h);
       keeps = λ kept stable down.
-          judged_keeps c.args.weights.now (graph c.args.dag.now) (observations c.args.dag.now c.args.panorama.now) c.args.quorum c.args.lower.now c.loop-v.present c.let_fall-left.new.present c.loop-v.v j.others j.judged
+          judged_keeps c.args.question.now.weights.now (graph c.args.question.now.dag.now) (observations c.args.question.now.dag.now c.args.question.now.panorama.now) c.args.question.now.quorum c.args.lower.now c.loop-v.present c.let_fall-left.new.present c.loop-v.v j.others j.judged
           kept stable (i.keeps kept stable down);
       judged = below_more _ _ (λ v lt h. i.judged v lt (among v h))
-          (judged_start c.args.weights.now (graph c.args.dag.now) (observations c.args.dag.now c.args.panorama.now) c.args.quorum c.args.lower.now c.loop-v.present c.let_fall-left.new.present c.loop-v.v j.others j.judged
+          (judged_start c.args.question.now.weights.now (graph c.args.question.now.dag.now) (observations c.args.question.now.dag.now c.args.question.now.panorama.now) c.args.question.now.quorum c.args.lower.now c.loop-v.present c.let_fall-left.new.present c.loop-v.v j.others j.judged
           c.args.present.now i.among);
       settled = λ same v h.
           let none : c.let_fall-left.result ≡ 0 = omega arith in
@@ -54,7 +54,7 @@ loop-v-preserved c =
             | inr other ↦ ap is_some (j.others v other) ∙ was
           ];
       seen = IfSome_then c.args.seen i.seen
-          (λ s are. more_fell c.args.weights.now c.args.dag.now c.args.panorama.now c.requires.panorama c.loop-v.firsts c.let_fall-left.new.firsts s.now (c.args.total - c.loop-v.left) c.let_fall-left.result _ are j.near
+          (λ s are. more_fell c.args.question.now.weights.now c.args.question.now.dag.now c.args.question.now.panorama.now c.args.question.now.asked.panorama_is c.loop-v.firsts c.let_fall-left.new.firsts s.now (c.args.total - c.loop-v.left) c.let_fall-left.result _ are j.near
           (let whole = c.requires.total in omega arith));
     }
 
@@ -63,7 +63,7 @@ returns-clause-judged c = λ enough.
     let i = c.loop-v.invariant in
     let many = c.validators-v-end.ensures.validators in
     let end = c.loop-v-test.false in
-    let width = c.requires.weights.length_is in
+    let width = c.args.question.now.asked.weights_are.length_is in
     let long = i.present_length in
-    all_judged c.args.weights.now (graph c.args.dag.now) (observations c.args.dag.now c.args.panorama.now) c.args.quorum c.args.lower.now c.args.present.now c.loop-v.present (long ∙ sym width) i.among
+    all_judged c.args.question.now.weights.now (graph c.args.question.now.dag.now) (observations c.args.question.now.dag.now c.args.question.now.panorama.now) c.args.question.now.quorum c.args.lower.now c.args.present.now c.loop-v.present (long ∙ sym width) i.among
     (λ v lt. i.judged v (omega arith))

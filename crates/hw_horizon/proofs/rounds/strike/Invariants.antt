@@ -9,15 +9,15 @@ use Rattle.hw_horizon.proofs.rounds.strike.Given as goal
 
 abbrev pub invariant-loop-v : goal.invariant-loop-v
 invariant-loop-v l = record {
-  present_length : length l.present ≡ l.dag.validators;
-  firsts_length : length l.firsts ≡ l.dag.validators;
-  firsts : AreFirsts l.dag l.panorama l.lower l.present l.firsts;
-  slots : HasSlots l.panorama l.present;
-  weight : l.left ≡ weight_of l.weights (is_member l.present);
+  present_length : length l.present ≡ l.question.dag.now.validators;
+  firsts_length : length l.firsts ≡ l.question.dag.now.validators;
+  firsts : AreFirsts l.question.dag.now l.question.panorama.now l.lower l.present l.firsts;
+  slots : HasSlots l.question.panorama.now l.present;
+  weight : l.left ≡ weight_of l.question.weights.now (is_member l.present);
   most : l.left ≤ l.fn.weight;
   among : AreAmong l.present l.fn.present;
-  keeps : (kept : Starts) → AreAmong kept (next_table l.weights (graph l.dag) (observations l.dag l.panorama) l.quorum l.lower kept) → AreAmong kept l.fn.present → AreAmong kept l.present;
-  judged : (v : ℕ) → v < l.v → is_some (entry l.present v) ≡ true → is_some (start_over l.weights (graph l.dag) (observations l.dag l.panorama) l.quorum l.lower l.fn.present v) ≡ true;
+  keeps : (kept : Starts) → AreAmong kept (next_table l.question.weights.now (graph l.question.dag.now) (observations l.question.dag.now l.question.panorama.now) l.question.quorum l.lower kept) → AreAmong kept l.fn.present → AreAmong kept l.present;
+  judged : (v : ℕ) → v < l.v → is_some (entry l.present v) ≡ true → is_some (start_over l.question.weights.now (graph l.question.dag.now) (observations l.question.dag.now l.question.panorama.now) l.question.quorum l.lower l.fn.present v) ≡ true;
   settled : l.left ≡ l.fn.weight → AreAmong l.fn.present l.present;
-  seen : IfSome l.seen (λ s. AreSeen l.weights l.dag l.panorama l.firsts s.now (l.fn.total - l.left));
+  seen : IfSome l.seen (λ s. AreSeen l.question.weights.now l.question.dag.now l.question.panorama.now l.firsts s.now (l.fn.total - l.left));
 }

@@ -11,8 +11,8 @@ follow_levels-requires-clause-bounded c = λ v tip e.
     let are = subst (λ (k : KeptBounds). AreBounds c.args.weights.now c.args.dag.now k) (sym c.self.view_is) c.requires.bounds in
     let put : (with_items c.self.inside.tips c.forget_unless.new.tips).items ≡ c.forget_unless.new.tips = with_items_is c.self.inside.tips c.forget_unless.new.tips (c.forget_unless.auto.tips ∙ c.as_mut_slice.ensures.len) in
     let here : get_or c.forget_unless.new.tips v None ≡ Some tip = sym (ap (λ (ts : List (Option UnitNo)). get_or ts v None) (c.as_slice-3.ensures.value ∙ put)) ∙ e in
-    subst (λ (ls : List LevelBound). IsBounded c.as_slice-2.result.now c.args.dag.now c.args.block.0 c.args.least ls v tip.0) (sym c.as_mut_slice-2.ensures.value)
-    (subst (λ (ws : List ℕ). IsBounded ws c.args.dag.now c.args.block.0 c.args.least c.self.inside.levels.items v tip.0) (sym c.as_slice-2.ensures)
+    subst (λ (ls : List LevelBound). IsBounded c.as_slice.result.now c.args.dag.now c.args.block.0 c.args.least ls v tip.0) (sym c.as_mut_slice-2.ensures.value)
+    (subst (λ (ws : List ℕ). IsBounded ws c.args.dag.now c.args.block.0 c.args.least c.self.inside.levels.items v tip.0) (sym c.as_slice.ensures)
     (bounds_again c.args.weights.now c.args.dag.now _ c.args.block c.args.least c.forget_unless.new.tips c.asks_again-again.result are c.asks_again-again.ensures.block c.asks_again-again.ensures.least
     (λ t. c.forget_unless.ensures.kept t ∙ c.as_mut_slice.ensures.value) c.forget_unless.ensures.none v tip here))
 
@@ -29,4 +29,4 @@ returns-clause-bounds c = λ block e v tip t.
     let slot = tips_put c.args.panorama.now c.put_tips.new.tips long c.put_tips.ensures.tips v tip here in
     subst (λ (b : UnitNo). IsBounded c.args.weights.now c.args.dag.now b.0 c.args.least (with_items c.self.inside.levels c.follow_levels.new.levels).items v tip.0) same
     (subst (λ (ls : List LevelBound). IsBounded c.args.weights.now c.args.dag.now c.args.block.0 c.args.least ls v tip.0) (sym levels)
-    (subst (λ (ws : List ℕ). IsBounded ws c.args.dag.now c.args.block.0 c.args.least c.follow_levels.new.levels v tip.0) c.as_slice-2.ensures (c.follow_levels.ensures.bounded v tip slot)))
+    (subst (λ (ws : List ℕ). IsBounded ws c.args.dag.now c.args.block.0 c.args.least c.follow_levels.new.levels v tip.0) c.as_slice.ensures (c.follow_levels.ensures.bounded v tip slot)))

@@ -28,7 +28,7 @@ returns-clause-kept c = λ h.
       | then-found w ↦ w.self-is
       | else-found w ↦ absurd (let bad : true ≡ false = sym h ∙ w.if-found.false in cc)
     ] in
-    let same : (with_items c.self.inside.tables c.put_tables.new.tables).items ≡ c.put_tables.new.tables = with_items_is c.self.inside.tables c.put_tables.new.tables (c.put_tables.auto.tables ∙ c.as_mut_slice-tables.ensures.len) in
+    let same : (with_items c.self.inside.tables c.put_tables.new.tables).items ≡ c.put_tables.new.tables = with_items_is c.self.inside.tables c.put_tables.new.tables (c.put_tables.auto.tables ∙ c.as_mut_slice.ensures.len) in
     kept_greatest c.args.weights.now (graph c.args.dag.now) (observations c.args.dag.now c.args.panorama.now) (node_at c.args.dag.now c.args.block.0) c.args.quorum
     (record { validators = c.self.inside.validators; levels = c.self.inside.levels; found = c.if-found.self; tables = (with_items c.self.inside.tables c.put_tables.new.tables).items; walks = c.put_tables.new.walks }) c.args.level found
     (λ k le. ap (λ (ts : List Starts). table_of ts k) same ∙ c.put_tables.ensures.tables k le
