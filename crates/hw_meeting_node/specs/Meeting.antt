@@ -38,12 +38,15 @@ owed_by c theirs torn = due_of c.journal (told_of c) theirs (torn_by c theirs ++
 
 -- ---- its four words, in their order: the caller says one before each frame that it reads, the host one behind it
 
+-- the instance that it is of
 abbrev pub hello : CoreState → List MeetingFrame
 hello c = frame.Hello (instance_of c.config) ∷ []
 
+-- what it has of each lane
 abbrev pub summary : CoreState → List MeetingFrame
 summary c = frame.Summary (told_of c) ∷ []
 
+-- the validators that are torn for it, by what the other tells
 abbrev pub torn : CoreState → List LaneSummary → List MeetingFrame
 torn c theirs = frame.Torn (torn_by c theirs) ∷ []
 
@@ -128,18 +131,22 @@ given_vertex judge m v = answered (record m { core = after_in m.core v (judge v)
 abbrev pub finished : Side → Meeting → Reaction Meeting
 finished side m = ends m (to_done side m.due) end.Done
 
+-- a frame where the other is to greet
 abbrev pub at_greeting : Side → Meeting → ℕ → MeetingFrame → Reaction Meeting
 at_greeting side m at (frame.Hello instance) = greeted side m instance
 at_greeting side m at f = not_due m at
 
+-- a frame where the other is to tell what it has of each lane
 abbrev pub at_telling : Side → Meeting → ℕ → MeetingFrame → Reaction Meeting
 at_telling side m at (frame.Summary theirs) = told side m theirs
 at_telling side m at f = not_due m at
 
+-- a frame where the other is to tell which validators are torn for it
 abbrev pub at_tearing : Side → Meeting → ℕ → MeetingFrame → Reaction Meeting
 at_tearing side m at (frame.Torn torn) = given_torn side m torn
 at_tearing side m at f = not_due m at
 
+-- a frame where the other hands over vertices, up to its Done
 abbrev pub at_taking : Side → (Vertex → Bool) → Meeting → ℕ → MeetingFrame → Reaction Meeting
 at_taking side judge m at (frame.Vertex v) = given_vertex judge m v
 at_taking side judge m at frame.Done = finished side m

@@ -131,10 +131,11 @@ pub record MeetsPeer (side : Side) (address : Option (List ℕ)) (c : CoreState)
   pub meets : Meets side c judge read written m ends_old ends_new e
   pub told : new ≡ option_map (λ (sessions : List Session). sessions ++ (record { address = address; read = read; written = written; failed = is_link_end e }) ∷ []) old
 
--- the same of a node that dialled this address, and of one that was dialled
+-- the same of a node that dialled this address
 abbrev pub CallsPeer : List ℕ → CoreState → (Vertex → Bool) → CoreState → Option (List Session) → Option (List Session) → ℕ → ℕ → MeetEnd → Type 0
 CallsPeer address c judge m old new ends_old ends_new e = MeetsPeer Caller (Some address) c judge m old new ends_old ends_new e
 
+-- and of one that was dialled
 abbrev pub HostsPeer : CoreState → (Vertex → Bool) → CoreState → Option (List Session) → Option (List Session) → ℕ → ℕ → MeetEnd → Type 0
 HostsPeer c judge m old new ends_old ends_new e = MeetsPeer Host None c judge m old new ends_old ends_new e
 
