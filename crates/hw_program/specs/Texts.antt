@@ -41,6 +41,7 @@ input_ended name text = record { status = 2; text = codes "input " ++ name ++ co
 abbrev pub read_fault_line : List ℕ
 read_fault_line = codes "read fault" ++ line_feed
 
+-- how the program ends there
 abbrev pub read_fault_ended : Ended
 read_fault_ended = record { status = 4; text = read_fault_line }
 
@@ -52,6 +53,7 @@ append_fault_line = codes "append fault" ++ line_feed
 abbrev pub out_of_memory_line : List ℕ
 out_of_memory_line = codes "out of memory" ++ line_feed
 
+-- how the program ends there
 abbrev pub memory_ended : Ended
 memory_ended = record { status = 7; text = out_of_memory_line }
 
