@@ -66,10 +66,11 @@ pub record NodeMeets (side : Side) (address : Option (List ℕ)) (n m : NodeStat
   pub meets : MeetsPeer side address n.core (verdict_of n.keys) m.core old new ends_old ends_new e
   pub left : Leaves e side n meets.read m tells held_old held_new
 
--- the same of a node that dialled this address, and of one that was dialled
+-- the same of a node that dialled this address
 abbrev pub NodeCalls : List ℕ → NodeState → NodeState → Bool → (List ℕ → Option (List ℕ)) → (List ℕ → Option (List ℕ)) → Option (List Session) → Option (List Session) → ℕ → ℕ → MeetEnd → Type 0
 NodeCalls address n m tells held_old held_new old new ends_old ends_new e = NodeMeets Caller (Some address) n m tells held_old held_new old new ends_old ends_new e
 
+-- and of one that was dialled
 abbrev pub NodeHosts : NodeState → NodeState → Bool → (List ℕ → Option (List ℕ)) → (List ℕ → Option (List ℕ)) → Option (List Session) → Option (List Session) → ℕ → ℕ → MeetEnd → Type 0
 NodeHosts n m tells held_old held_new old new ends_old ends_new e = NodeMeets Host None n m tells held_old held_new old new ends_old ends_new e
 
