@@ -33,19 +33,23 @@ TookUntil sight step number count first after x y e =
     ((stop : StopsAtStep step number count first after x y e) × HaveTaken sight stop.last.node.core stop.last.kept.passed after.consumers)
     ⊎ ((stop : StopsAtReport sight step number count first after x y e) × HaveTaken sight stop.last.node.core stop.last.kept.passed after.consumers)
 
+-- So it is of each run of this step that was cut short, where no consumer had taken anything before it.
 abbrev pub CutRuns : {B K X : Type 0} → Sight B K → Option ℕ → StepOver B X → Type 0
 CutRuns {B} {K} {X} sight me step = (tells : Bool) (names : Names) (number count : ℕ) (before after : Outside B) (x y : X) (e : ServiceFault) → (run : RunsPart sight tells names me step number count before after x y e)
     → HaveNothing sight before.consumers → TookUntil sight step number count run.first after x y e
 
--- So it is where a node serves, where a validator takes turns, and where a node is dialled by others, or dials one, and meets them.
+-- the same where a node serves
 abbrev pub CutServices : {B K : Type 0} → Sight B K → Type 0
 CutServices sight = (tells : Bool) → CutRuns sight None (serves_session sight tells)
 
+-- the same where a validator takes turns
 abbrev pub CutTurns : {B K : Type 0} → Sight B K → Type 0
 CutTurns sight = (tells : Bool) (me : ℕ) → CutRuns sight (Some me) (TakesTurn sight tells me)
 
+-- the same where a node is dialled by others, and meets them
 abbrev pub CutHosts : {B K : Type 0} → Sight B K → Type 0
 CutHosts sight = (tells : Bool) → CutRuns sight None (hosts_session sight tells)
 
+-- the same where a node dials another, and meets it
 abbrev pub CutCalls : {B K : Type 0} → Sight B K → Type 0
 CutCalls sight = (tells : Bool) (address : List ℕ) → CutRuns sight None (calls_peer sight tells address)

@@ -76,6 +76,7 @@ abbrev pub ServesIsALife : Type 0
 ServesIsALife = (n m : NodeState) (read written : List ℕ) (tells : Bool) (held_old held_new : List ℕ → Option (List ℕ)) (ends_old ends_new : ℕ) (e : SessionEnd)
     → Serves n read written m tells held_old held_new ends_old ends_new e → IsLogged e → TakesSome n (vertices_sent read) m
 
+-- The same of a session that the node dialled.
 abbrev pub DrivesIsALife : Type 0
 DrivesIsALife = (n m : NodeState) (mark now : PeerMark) (read written : List ℕ) (tells : Bool) (held_old held_new : List ℕ → Option (List ℕ)) (ends_old ends_new : ℕ) (e : SessionEnd)
     → Drives n mark read written m now tells held_old held_new ends_old ends_new e → IsLogged e → TakesSome n (vertices_sent read) m
@@ -151,6 +152,7 @@ abbrev pub ServesSaysOfLog : Type 0
 ServesSaysOfLog = (n m : NodeState) (read written : List ℕ) (tells : Bool) (held_old held_new : List ℕ → Option (List ℕ)) (ends_old ends_new : ℕ) (e : SessionEnd)
     → Serves n read written m tells held_old held_new ends_old ends_new e → IsLogged e → SaysOfLog (logged_of m) (served n read).said
 
+-- The same of a session that the node dialled.
 abbrev pub DrivesSaysOfLog : Type 0
 DrivesSaysOfLog = (n m : NodeState) (mark now : PeerMark) (read written : List ℕ) (tells : Bool) (held_old held_new : List ℕ → Option (List ℕ)) (ends_old ends_new : ℕ) (e : SessionEnd)
     → Drives n mark read written m now tells held_old held_new ends_old ends_new e → IsLogged e → SaysOfLog (logged_of m) (driven n mark read).said
