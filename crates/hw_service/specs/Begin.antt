@@ -25,6 +25,7 @@ pub record Names : Type 0 where
   pub keys : List ℕ
   pub log : List ℕ
 
+-- the names that its sources have
 abbrev pub names_of : Sources → Names
 names_of s = record { config = s.config.now; keys = s.keys.now; log = s.log.now }
 

@@ -116,6 +116,7 @@ pub record MakesNot {B K : Type 0} (sight : Sight B K) (tells : Bool) (me moment
   pub makes : MakesUnit sight tells me moment old new (Err e)
   pub peers : after ≡ before
 
+-- a turn: the validator makes its unit, and then dials each peer once
 abbrev pub Turns : {B K : Type 0} → Sight B K → Bool → ℕ → ℕ → Scene B → Scene B → List Peer → List Peer → Result Bool ServiceFault → Type 0
 Turns sight tells me moment old new before after (Ok failed) = DrivesPeers sight tells me moment old new before after (Ok failed)
 Turns sight tells me moment old new before after (Err e) = MakesNot sight tells me moment old new before after e ⊎ DrivesPeers sight tells me moment old new before after (Err e)
