@@ -222,8 +222,8 @@ impl Replay {
         }
     }
 
-    /// Counts a refused unit, unless it stops the replay. The entry is at that byte. It stands apart, since a function clears
-    /// the room of all that it may hold, and mostly nothing is refused.
+    /// Counts a refused unit, unless it stops the replay. The entry is at that byte. Out of line: the back end zeroes a
+    /// function's whole frame on entry, and mostly nothing is refused.
     fn refuse_unit(&mut self, at: u64, refused: UnitRefused) -> Result<(), StartFault>
         requires fits { VertexFits (Vertices.Unit refused.unit) }
         requires room { self.old.refused < 2 ^ 62 }
