@@ -1,5 +1,5 @@
 -- What a search kept is what pruning finds.
-use Rattle.std.proofs.Common.{◌≡◌, ℕ, zero, suc, ◌⊎◌, ◌+◌, ◌≤◌, ◌<◌, inl, inr, Bool, true, false, cond, List, [], ◌∷◌, ◌++◌, length, map, take, codes, Option, Some, None, refl, sym, ap, subst, ◌∙◌, arith}
+use Rattle.std.proofs.Common.{◌≡◌, ℕ, zero, suc, ◌⊎◌, ◌+◌, ◌-◌, ◌≤◌, ◌<◌, inl, inr, Bool, true, false, cond, List, [], ◌∷◌, ◌++◌, length, map, take, codes, Option, Some, None, refl, sym, ap, subst, ◌∙◌, arith}
 use Rattle.std.specs.Prelude.{◌&&◌, ◌==◌, IsTrue, filter, is_some}
 use Rattle.std.specs.List.{flat_map, range_with_len}
 use Rattle.std.proofs.lemmas.Bool.{eqb-true, eq-eqb}
@@ -11,7 +11,7 @@ use Rattle.hw_types.specs.declared.answers.Decision.{Decision}
 use Rattle.hw_types.specs.Graph.{Node, find_node}
 use Rattle.hw_types.specs.Below.{Among}
 use Rattle.hw_types.specs.Settled.{Received, settled_of, panorama_of}
-use Rattle.hw_types.specs.Summit.{Committees, HasSummit, IsGreatest}
+use Rattle.hw_types.specs.Summit.{Committees, HasSummit, IsSummit, IsGreatest}
 use Rattle.hw_types.specs.Decisions.{received_at, IsRecord}
 use Rattle.hw_types.specs.Journal.{received_of}
 use Rattle.hw_types.specs.Real.{CoreState, setting_of, received_in, settled_in, panorama_in}
@@ -26,7 +26,8 @@ use Rattle.hw_safety.proofs.DecidedLaws.{decisions_are}
 use Rattle.hw_safety.proofs.HeightLaws.{one_block_each}
 use Rattle.hw_horizon.specs.Search.{Search, start_of, committees_of}
 use Rattle.hw_core.proofs.EndLaws.{all_at}
-use Rattle.hw_explain.specs.Explain.{starts_of, member_text, committee_words, committee_of}
+use Rattle.hw_explain.specs.Explain.{starts_of, committee_words, committee_of}
+use Rattle.hw_explain.specs.Greatest.{member_text, member_with, members_with}
 use Rattle.hw_explain.specs.Searched.{IsDecidedNow, IsFound, start_or_zero, starts_in, members_in, words_in}
 
 -- ---- lists
@@ -128,45 +129,52 @@ members_are weights units panorama block quorum level =
 
 -- ---- two greatest summits are one
 
-module _ (weights : List ℕ) (units : List Node) (panorama : List Obs) (block : Node) (level quorum : ℕ) (search : Search)
-    (is : IsGreatest weights units panorama block level quorum (committees_of search)) where
+-- a member of a level is one of each level below
+member_below : (weights : List ℕ) (units : List Node) (panorama : List Obs) (block : Node) (level quorum : ℕ) (c : Committees) → IsSummit weights units panorama block level quorum c
+    → (k j v : ℕ) → j + k ≤ level → IsTrue (c.member (j + k) v) → IsTrue (c.member j v)
+member_below weights units panorama block level quorum c is zero j v le m = let same : j + 0 ≡ j = omega arith in subst (λ (i : ℕ). IsTrue (c.member i v)) same m
+member_below weights units panorama block level quorum c is (suc k) j v le m =
+    let same : j + suc k ≡ (j + k) + 1 = omega arith in
+    member_below weights units panorama block level quorum c is k j v (omega arith) (is.nested (j + k) v (omega arith) (subst (λ (i : ℕ). IsTrue (c.member i v)) same m)).0
+
+module _ (weights : List ℕ) (units : List Node) (panorama : List Obs) (block : Node) (level quorum : ℕ) (c : Committees)
+    (is : IsGreatest weights units panorama block level quorum c) where
   abbrev at_level : ℕ → Starts
   at_level j = pruned weights units panorama block quorum j
 
   found : IsGreatest weights units panorama block level quorum (pruned_committees weights units panorama block quorum)
-  found = pruned_is_greatest weights units panorama block quorum level ((summit_is_left weights units panorama block quorum level).0 (committees_of search, is.summit))
+  found = pruned_is_greatest weights units panorama block quorum level ((summit_is_left weights units panorama block quorum level).0 (c, is.summit))
 
-  same_member : (j v : ℕ) → j ≤ level → is_some (start_of search j v) ≡ is_some (start_in (at_level j) v)
-  same_member j v le = bool_same (is_some (start_of search j v)) (is_some (start_in (at_level j) v))
-      (λ h. (found.greatest (committees_of search) is.summit j v le h).0)
+  same_member : (j v : ℕ) → j ≤ level → c.member j v ≡ is_some (start_in (at_level j) v)
+  same_member j v le = bool_same (c.member j v) (is_some (start_in (at_level j) v))
+      (λ h. (found.greatest c is.summit j v le h).0)
       (λ h. (is.greatest (pruned_committees weights units panorama block quorum) found.summit j v le h).0)
 
-  none_zero : (o : Option ℕ) → is_some o ≡ false → or_zero o ≡ 0
-  none_zero None h = refl
-  none_zero (Some n) h = absurd cc
+  same_start : (j v : ℕ) → j ≤ level → IsTrue (c.member j v) → c.start j v ≡ or_zero (start_in (at_level j) v)
+  same_start j v le h =
+      let up = (found.greatest c is.summit j v le h).1 in
+      let down = (is.greatest (pruned_committees weights units panorama block quorum) found.summit j v le (sym (same_member j v le) ∙ h)).1 in
+      omega arith
 
-  same_start : (j v : ℕ) → j ≤ level → start_or_zero search j v ≡ or_zero (start_in (at_level j) v)
-  same_start j v le = go (is_some (start_of search j v)) refl
+  -- a member has the same starts
+  same_starts : (v : ℕ) → IsTrue (c.member level v) → map (λ j. c.start j v) (range_with_len 0 (level + 1)) ≡ starts_of at_level level v
+  same_starts v h = map_on (λ j. c.start j v) (λ j. or_zero (start_in (at_level j) v)) (range_with_len 0 (level + 1)) at
     where
-      go : (b : Bool) → is_some (start_of search j v) ≡ b → start_or_zero search j v ≡ or_zero (start_in (at_level j) v)
-      go true h =
-          let there : is_some (start_in (at_level j) v) ≡ true = sym (same_member j v le) ∙ h in
-          let up = (found.greatest (committees_of search) is.summit j v le h).1 in
-          let down = (is.greatest (pruned_committees weights units panorama block quorum) found.summit j v le there).1 in
-          omega arith
-      go false h = none_zero (start_of search j v) h ∙ sym (none_zero (start_in (at_level j) v) (sym (same_member j v le) ∙ h))
-
-  same_starts : (v : ℕ) → starts_in search level v ≡ starts_of at_level level v
-  same_starts v = map_on (λ j. start_or_zero search j v) (λ j. or_zero (start_in (at_level j) v)) (range_with_len 0 (level + 1))
-      (λ j m. let low = range_among 0 (level + 1) j m in same_start j v (let high = low.1 in omega arith))
+      at : (j : ℕ) → Among j (range_with_len 0 (level + 1)) → c.start j v ≡ or_zero (start_in (at_level j) v)
+      at j m =
+          let low = range_among 0 (level + 1) j m in
+          let high = low.1 in
+          let le : j ≤ level = omega arith in
+          let rest : level ≡ j + (level - j) = omega arith in
+          same_start j v le (member_below weights units panorama block level quorum c is.summit (level - j) j v (omega arith) (subst (λ (i : ℕ). IsTrue (c.member i v)) rest h))
 
   -- what is printed is the committee of the greatest summit
-  pub words_same : words_in search level (length weights) ≡ committee_words at_level level
+  pub words_same : codes "committee" ∷ members_with c (length weights) level ≡ committee_words at_level level
   words_same = ap (λ ws. codes "committee" ∷ ws) (
-      map_on (λ v. member_text v (starts_in search level v)) (λ v. member_text v (starts_of at_level level v)) (members_in search level (length weights))
-      (λ v m. ap (member_text v) (same_starts v))
+      map_on (member_with c level) (λ v. member_text v (starts_of at_level level v)) (filter (c.member level) (range_with_len 0 (length weights)))
+      (λ v m. ap (member_text v) (same_starts v (Among-filter (c.member level) v (range_with_len 0 (length weights)) m).1))
       ∙ ap (map (λ v. member_text v (starts_of at_level level v))) (
-      filter_on (λ v. is_some (start_of search level v)) (λ v. is_some (start_in (at_level level) v)) (range_with_len 0 (length weights)) (λ v m. same_member level v (omega arith))
+      filter_on (c.member level) (λ v. is_some (start_in (at_level level) v)) (range_with_len 0 (length weights)) (λ v m. same_member level v (omega arith))
       ∙ members_are weights units panorama block quorum level
       )
       )
@@ -195,7 +203,7 @@ pub committee_is : (c : CoreState) (d : Decision) (search : Search) → IsDecide
 unfolding committee_of
 committee_is c d search now found =
     let b = block_now c d now in
-    words_same c.config.weights (settled_in c) (panorama_in c) b.0 d.level d.quorum search (found b.0 b.1)
+    words_same c.config.weights (settled_in c) (panorama_in c) b.0 d.level d.quorum (committees_of search) (found b.0 b.1)
     ∙ ap (λ o. elim o as (λ z. List (List ℕ)) [
       | None ↦ []
       | Some block ↦ committee_words (λ j. pruned c.config.weights (settled_in c) (panorama_in c) block d.quorum j) d.level

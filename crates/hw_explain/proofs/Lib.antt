@@ -5,3 +5,4 @@ pub mod GreatestLaws
 pub mod GrowLaws
 pub mod ToldLaws
 pub mod LogLaws
+pub mod AllowedLaws

@@ -1,7 +1,7 @@
 -- The decided blocks of a journal, each with its greatest summit at its moment.
 -- Source: ours.
 use Rattle.std.specs.Prelude.{ℕ, ◌+◌, ◌==◌, List, [], ◌∷◌, ◌++◌, length, map, codes, slice_get, Option, Some, None, if◌then◌else◌}
-use Rattle.std.specs.List.{flat_map, range_with_len, join_with_byte}
+use Rattle.std.specs.List.{flat_map, range_with_len}
 use Rattle.hw_types.specs.declared.unit.Vertex.{Vertex}
 use Rattle.hw_types.specs.declared.config.Config.{Config}
 use Rattle.hw_types.specs.declared.answers.Decision.{Decision}
@@ -12,10 +12,10 @@ use Rattle.hw_types.specs.Decisions.{received_at}
 use Rattle.hw_types.specs.Real.{CoreState, setting_of, received_in}
 use Rattle.hw_safety.specs.Pruned.{Starts, start_in, or_zero, members, pruned}
 use Rattle.hw_safety.specs.Decided.{decisions_of}
-use Rattle.hw_text.specs.Text.{number_text}
 use Rattle.hw_text.specs.Lines.{line_of}
 use Rattle.hw_core.specs.Decided.{decided_in}
 use Rattle.hw_explain.specs.Report.{final_words, exceeded_line, exceeded_in}
+use Rattle.hw_explain.specs.Greatest.{member_text}
 
 -- ---- a decided block
 
@@ -30,10 +30,6 @@ summit_for config received quorum block level = pruned config.weights (settled_o
 -- the starts of a member from level 0 to this one
 abbrev pub starts_of : Summit → ℕ → ℕ → List ℕ
 starts_of summit level v = map (λ j. or_zero (start_in (summit j) v)) (range_with_len 0 (level + 1))
-
--- a member and its starts
-abbrev pub member_text : ℕ → List ℕ → List ℕ
-member_text v starts = number_text v ++ codes ":" ++ join_with_byte 44 (map number_text starts)
 
 -- the members of the last committee
 abbrev pub committee_words : Summit → ℕ → List (List ℕ)

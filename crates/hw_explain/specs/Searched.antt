@@ -13,7 +13,7 @@ use Rattle.hw_dag.specs.Dag.{UnitGraph}
 use Rattle.hw_horizon.specs.Search.{Search, start_of, committees_of}
 use Rattle.hw_horizon.specs.Kept.{AreKept}
 use Rattle.hw_core.specs.Decided.{decided_in}
-use Rattle.hw_explain.specs.Explain.{member_text}
+use Rattle.hw_explain.specs.Greatest.{member_text}
 
 -- it has room for each validator and level, and nothing is kept of any graph yet
 pub record IsFresh (search : Search) (config : Config) : Type 0 where

@@ -4,7 +4,7 @@ ghost use Rattle.std.specs.Prelude.{◌≡◌, ◌+◌, ◌∷◌, ◌++◌, map
 ghost use Rattle.std.specs.List.{flat_map, range_with_len};
 ghost use Rattle.hw_text.specs.Text.{number_text};
 ghost use Rattle.hw_text.specs.Lines.{spaced};
-ghost use Rattle.hw_explain.specs.Explain.{member_text};
+ghost use Rattle.hw_explain.specs.Greatest.{member_text};
 ghost use Rattle.hw_explain.specs.Searched.{start_or_zero, starts_in, words_in, part_in};
 
 use hw_horizon::Horizons;

@@ -6,6 +6,7 @@
 
 mod committee;
 mod explain;
+mod laws;
 mod lines;
 mod logs;
 mod reports;
@@ -13,6 +14,7 @@ mod summit;
 mod told;
 
 pub use explain::explain_line;
+pub use laws::{committees_are_greatest, report_is_of_decisions};
 pub use lines::{Counts, put_counts, put_exceeded, put_faulty, put_final, put_fork};
 pub use logs::explain_log;
 pub use reports::{faulty, report};

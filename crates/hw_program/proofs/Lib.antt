@@ -8,6 +8,7 @@ pub mod FileLaws
 pub mod ScriptLaws
 pub mod CauseLaws
 pub mod AuditLaws
+pub mod AuditedLaws
 pub mod ConflictLaws
 pub mod RewriteLaws
 pub mod MigratedLaws

@@ -12,7 +12,7 @@ use Rattle.hw_program.specs.declared.ended.Ended.{Ended}
 
 -- ---- what is wrong with the bytes of a log
 
--- An error of the outside has no text here.
+-- what is wrong with a log; an error of the outside has no text here
 unfoldable pub log_text : LogError → List ℕ
 log_text log.BadMagic = codes "bad magic"
 log_text (log.Version v) = codes "version " ++ number_text v

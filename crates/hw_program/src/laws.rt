@@ -1,6 +1,13 @@
 //! What follows of a run.
 
-ghost use Rattle.hw_program.specs.Laws.{ConflictIsTold, ReadsTheSame, LogIsAnswered, CheckIsAnswered};
+ghost use Rattle.hw_program.specs.Laws.{AuditIsTheVerdict, VerdictIsThere, ConflictIsTold, ReadsTheSame, LogIsAnswered, CheckIsAnswered};
+
+/// An audit of two logs that can be replayed tells the verdict on what their nodes accepted, with any decided blocks
+/// that the definition allows. There is one on any two journals.
+pub fn an_audit_tells_the_verdict()
+    ensures tells { AuditIsTheVerdict }
+    ensures there { VerdictIsThere }
+{}
 
 /// Where two logs report conflicting final blocks, and no two of their units clash, the status is that of a
 /// conflict. So the top call's clause on it holds: culprits that weigh more than the threshold are named.

@@ -36,7 +36,10 @@ mod work;
 mod workloads;
 
 pub use ended::OUT_OF_MEMORY;
-pub use laws::{a_conflict_is_told, a_migrated_log_reads_the_same, certificates_are_answered};
+pub use laws::{
+    a_conflict_is_told, a_migrated_log_reads_the_same, an_audit_tells_the_verdict,
+    certificates_are_answered,
+};
 pub use run::highway;
 pub use services::listening_address;
 pub use words::Words;
