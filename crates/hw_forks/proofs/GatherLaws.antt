@@ -1,19 +1,22 @@
 -- The votes of a panorama.
 use Rattle.std.proofs.Common.{◌≡◌, ℕ, zero, suc, ◌+◌, ◌<◌, ◌≤◌, inl, inr, List, [], ◌∷◌, ◌++◌, length, get_or, take, refl, sym, ap, subst, ◌∙◌, arith, length-append}
 use Rattle.std.specs.Prelude.{sum_by, slice_index, slice_set}
-use Rattle.std.proofs.lemmas.List.{take_more_set, length-take-le, length-set, append-nil}
+use Rattle.std.specs.List.{range_with_len}
+use Rattle.std.proofs.lemmas.List.{take_more_set, length-take-le, length-set, length_push, append-nil}
 use Rattle.std.proofs.lemmas.List.Elements.{All-get_or}
 use Rattle.std.proofs.lemmas.List.Sums.{sum_by_push, sum_by_more, sum_by-take-le}
 use Rattle.hw_types.specs.Below.{Among}
+use Rattle.hw_types.proofs.DistinctLaws.{IsDistinct, distinct_length, range_length}
 use Rattle.hw_types.proofs.EntryLaws.{append_cases}
+use Rattle.hw_types.proofs.WordsLaws.{range_in}
 use Rattle.hw_dag.specs.declared.numbers.UnitNo.{UnitNo}
 use Rattle.hw_dag.specs.declared.numbers.View.{View}
 use Rattle.hw_dag.specs.declared.numbers.View.TheVariants as view
-use Rattle.hw_dag.specs.Dag.{UnitGraph, view_at, IsPanorama}
+use Rattle.hw_dag.specs.Dag.{UnitGraph, unit_at, count_of, creator_of, view_at, IsPanorama}
 use Rattle.hw_dag.specs.Admission.{IsGraph}
 use Rattle.hw_dag.specs.Lanes.{AreWeights}
 use Rattle.hw_forks.specs.declared.votes.Vote.{Vote}
-use Rattle.hw_forks.specs.Votes.{votes_of, vote_of, vote_in, IsVote, AreVotes}
+use Rattle.hw_forks.specs.Votes.{votes_of, vote_of, vote_in, IsVote, AreVotes, IsRoomFor}
 use Rattle.hw_forks.proofs.DefinedLaws.{vote_at}
 
 module _ (dag : UnitGraph) (weights : List ℕ) (panorama : List View) where
@@ -53,14 +56,76 @@ module _ (dag : UnitGraph) (weights : List ℕ) (panorama : List View) where
       let last = in_fit (view_at panorama n) (slice_index weights n) in
       simp length-append (omega arith)
 
-  -- so each slot has room for its vote
-  pub count_room : (votes : List Vote) (count n : ℕ) → count ≤ length votes → take count votes ≡ votes_of dag weights panorama n → n < length votes → count < length votes
-  count_room votes count n le front room =
-      let few = votes_fit n in
-      let many : count ≡ length (votes_of dag weights panorama n) = sym (length-take-le count votes le) ∙ ap length front in
-      omega arith
-
   module _ (ip : IsPanorama dag panorama) where
+    -- ---- and no more than units, since each Correct slot names one of its own
+
+    -- the units of the first n slots
+    abbrev unit_in : View → List ℕ
+    unit_in view.Absent = []
+    unit_in (view.Correct number) = number.0 ∷ []
+    unit_in view.Faulty = []
+
+    units_of : ℕ → List ℕ
+    units_of zero = []
+    units_of (suc n) = unit_in (view_at panorama n) ++ units_of n
+
+    as_many : (w : View) (weight : ℕ) → length (unit_in w) ≡ length (vote_in dag w weight)
+    as_many view.Absent weight = refl
+    as_many (view.Correct number) weight = refl
+    as_many view.Faulty weight = refl
+
+    units_many : (n : ℕ) → length (units_of n) ≡ length (votes_of dag weights panorama n)
+    unfolding votes_of units_of
+    units_many zero = refl
+    units_many (suc n) =
+        let before = units_many n in
+        let last = as_many (view_at panorama n) (slice_index weights n) in
+        simp length-append (omega arith)
+
+    -- such a unit is one of the graph, by one of these validators
+    unit_known : (n number : ℕ) → Among number (units_of n) → (number < count_of dag) × (creator_of (unit_at dag number) < n)
+    unfolding units_of
+    unit_known zero number m = absurd m
+    unit_known (suc n) number m = elim (append_cases number (unit_in (view_at panorama n)) (units_of n) m) [
+      | inl last ↦ go (view_at panorama n) refl last
+      | inr before ↦ let known = unit_known n number before in let lt = known.1 in (known.0, omega arith)
+    ]
+      where
+        go : (w : View) → view_at panorama n ≡ w → Among number (unit_in w) → (number < count_of dag) × (creator_of (unit_at dag number) < suc n)
+        go view.Absent e h = absurd h
+        go view.Faulty e h = absurd h
+        go (view.Correct own) e (inr h) = absurd h
+        go (view.Correct own) e (inl h) =
+            let by = ip.creator_is n own e in
+            subst (λ (k : ℕ). (k < count_of dag) × (creator_of (unit_at dag k) < suc n)) h (ip.known n own e, omega arith)
+
+    units_apart : (n : ℕ) → IsDistinct (units_of n)
+    unfolding units_of
+    units_apart zero = tt
+    units_apart (suc n) = go (view_at panorama n) refl (units_apart n)
+      where
+        go : (w : View) → view_at panorama n ≡ w → IsDistinct (units_of n) → IsDistinct (unit_in w ++ units_of n)
+        go view.Absent e d = d
+        go view.Faulty e d = d
+        go (view.Correct own) e d = (λ m. let by = ip.creator_is n own e in let low = (unit_known n own.0 m).1 in absurd (omega arith), d)
+
+    units_few : (n : ℕ) → length (votes_of dag weights panorama n) ≤ count_of dag
+    units_few n =
+        let within = distinct_length (units_of n) (range_with_len 0 (count_of dag)) (units_apart n) (λ number m. range_in 0 (count_of dag) number (omega arith) (let lt = (unit_known n number m).0 in omega arith)) in
+        let many = units_many n in
+        let all = range_length 0 (count_of dag) in
+        omega arith
+
+    -- so there is room for the vote of each Correct slot
+    pub count_room : (votes : List Vote) (count n : ℕ) (number : UnitNo) → count ≤ length votes → take count votes ≡ votes_of dag weights panorama n → view_at panorama n ≡ view.Correct number
+        → n < dag.validators → IsRoomFor dag (length votes) → count < length votes
+    count_room votes count n number le front here lt room =
+        let many : count ≡ length (votes_of dag weights panorama n) = sym (length-take-le count votes le) ∙ ap length front in
+        let more : length (votes_of dag weights panorama (n + 1)) ≡ length (votes_of dag weights panorama n) + 1 = ap length (votes_with n number here) ∙ length_push (votes_of dag weights panorama n) (vote_of dag number (slice_index weights n)) in
+        let units = units_few (n + 1) in
+        let slots = votes_fit (n + 1) in
+        elim room [ inl enough ↦ omega arith | inr enough ↦ omega arith ]
+
     -- ---- what holds of the votes
 
     module _ (g : IsGraph dag) (aw : AreWeights weights dag) where

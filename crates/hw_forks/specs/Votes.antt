@@ -1,5 +1,5 @@
 -- The votes of a panorama, by number.
-use Rattle.std.specs.Prelude.{◌≡◌, ℕ, zero, suc, ◌<◌, ◌^◌, true, List, [], ◌∷◌, ◌++◌, unwrap_or, sum_by, slice_index}
+use Rattle.std.specs.Prelude.{◌≡◌, ℕ, zero, suc, ◌<◌, ◌≤◌, ◌⊎◌, ◌^◌, true, List, [], ◌∷◌, ◌++◌, unwrap_or, sum_by, slice_index}
 use Rattle.hw_types.specs.Below.{Among}
 use Rattle.hw_types.specs.Votes.{is_block}
 use Rattle.hw_dag.specs.declared.numbers.UnitNo.{UnitNo}
@@ -40,3 +40,7 @@ pub record AreVotes (dag : UnitGraph) (votes : List Vote) : Type 0 where
   pub graph : IsGraph dag
   pub each : (vote : Vote) → Among vote votes → IsVote dag vote
   pub bounded : sum_by (λ (vote : Vote). vote.weight) votes < 2 ^ 62
+
+-- room that serves the graph: a Correct slot has one vote, and there are no more of them than units, nor than validators
+abbrev pub IsRoomFor : UnitGraph → ℕ → Type 0
+IsRoomFor dag room = (count_of dag ≤ room) ⊎ (dag.validators ≤ room)

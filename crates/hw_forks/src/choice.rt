@@ -7,7 +7,7 @@ ghost use Rattle.hw_dag.specs.declared.numbers.UnitNo.{UnitNo as Number};
 ghost use Rattle.hw_dag.specs.Dag.{graph, observations, node_at, IsPanorama};
 ghost use Rattle.hw_dag.specs.Admission.{IsFork};
 ghost use Rattle.hw_dag.specs.Lanes.{AreWeights};
-ghost use Rattle.hw_forks.specs.Votes.{AreVotes};
+ghost use Rattle.hw_forks.specs.Votes.{AreVotes, IsRoomFor};
 ghost use Rattle.hw_forks.specs.Walk.{WalksTo};
 
 use crate::ancestors::children_height;
@@ -20,8 +20,8 @@ use hw_types::{OutOfMemory, WeightList};
 use std::alloc::Global;
 use std::marker::Model;
 
-/// Scratch for fork choices. Contracts see it as its room: how many validators a graph may have for it to
-/// serve.
+/// Scratch for fork choices. Contracts see it as its room: it serves each graph that has no more units than
+/// that, and each that has no more validators.
 #[derive(Drop)]
 pub struct Forks {
     votes: Vec<Vote>,
@@ -39,7 +39,7 @@ impl Model for Forks {
 }
 
 impl Forks {
-    /// Room for no validator. It takes its memory from `alloc` as it grows.
+    /// Room for no unit. It takes its memory from `alloc` as it grows.
     pub fn new(alloc: Global) -> Forks
         ensures { result ≡ 0 }
     {
@@ -49,7 +49,8 @@ impl Forks {
         }
     }
 
-    /// Makes room for a graph of `count` validators. The room never shrinks.
+    /// Makes room for a graph of `count` units, however many validators it has, and for one of `count`
+    /// validators, however many units it has. The room never shrinks.
     pub fn reserve(&mut self, count: u32) -> Result<(), OutOfMemory>
         ensures room { OnOk result (count ≤ self.new) }
         ensures kept { self.old ≤ self.new }
@@ -64,14 +65,15 @@ impl Forks {
         Ok(())
     }
 
-    /// The fork choice of the panorama. There is none exactly where no slot is Correct.
+    /// The fork choice of the panorama. There is none exactly where no slot is Correct. The room needed is
+    /// that for as many units as the graph has, or for as many validators.
     pub fn fork_choice(
         &mut self,
         dag: &Dag,
         weights: &WeightList,
         panorama: &Panorama,
     ) -> Option<UnitNo>
-        requires room { dag.now.validators ≤ self.old }
+        requires room { IsRoomFor dag.now self.old }
         requires panorama { IsPanorama dag.now panorama.now }
         requires weights { AreWeights weights.now dag.now }
         ensures fork { option_map (λ (no : Number). node_at dag.now no.0) result ≡ fork_of weights.now (graph dag.now) (observations dag.now panorama.now) }

@@ -14,7 +14,8 @@
 //! heights and branches, there are no more rounds than the weight of all votes can be halved, and no step
 //! is linear in the length of the chain.
 //!
-//! There is no more than one vote and one share for each validator, so the scratch has room for
+//! There is no more than one vote and one share for each Correct slot, and each of these names a unit of
+//! its own. So room for as many as the graph has units is enough, and so is room for as many as it has
 //! validators, however long the chain.
 #![tactic(auto)]
 

@@ -4,7 +4,7 @@ ghost use Rattle.std.specs.Prelude.{◌≡◌, ◌<◌, ◌≤◌, length, take}
 ghost use Rattle.hw_dag.specs.Dag.{count_of, IsPanorama};
 ghost use Rattle.hw_dag.specs.Admission.{IsGraph};
 ghost use Rattle.hw_dag.specs.Lanes.{AreWeights};
-ghost use Rattle.hw_forks.specs.Votes.{vote_of as vote_of_lem, votes_of, AreVotes};
+ghost use Rattle.hw_forks.specs.Votes.{vote_of as vote_of_lem, votes_of, AreVotes, IsRoomFor};
 
 use hw_dag::{Dag, Panorama, UnitNo, View};
 
@@ -36,7 +36,7 @@ fn vote_of(dag: &Dag, no: UnitNo, weight: u64) -> Vote
 
 /// Puts the vote of each Correct slot first in the list, and says how many there are.
 pub fn gather(votes: &mut [Vote], dag: &Dag, weights: &[u64], panorama: &Panorama) -> usize
-    requires room { dag.now.validators ≤ length votes.old }
+    requires room { IsRoomFor dag.now (length votes.old) }
     requires panorama { IsPanorama dag.now panorama.now }
     requires weights { AreWeights weights.now dag.now }
     ensures count { result ≤ length votes.new }

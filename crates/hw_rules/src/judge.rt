@@ -6,6 +6,7 @@ ghost use Rattle.hw_types.specs.Rules.{state_rule, is_after_terminal};
 ghost use Rattle.hw_dag.specs.Dag.{graph, count_of};
 ghost use Rattle.hw_dag.specs.Admission.{IsResolved, IsFork, IsGraph, node_prepared};
 ghost use Rattle.hw_dag.specs.Lanes.{AreWeights};
+ghost use Rattle.hw_forks.specs.Votes.{IsRoomFor};
 ghost use Rattle.hw_naivety.specs.Naivety.{IsNoted};
 ghost use Rattle.hw_rules.specs.Judged.{IsCase, KeepsLocalRules, IsForkOf, AllEndorseSeen, below_of, stands_at};
 
@@ -44,7 +45,7 @@ impl Judge<'_> {
         requires all { self.now.naivety.now.count ≡ count_of self.now.dag.now }
         requires alone { KeepsLocalRules self.now.config.now prepared.now.signed.unit }
         requires resolved { IsResolved self.now.dag.now prepared.now }
-        requires forks { self.now.dag.now.validators ≤ forks.old }
+        requires forks { IsRoomFor self.now.dag.now forks.old }
         requires marks { count_of self.now.dag.now ≤ marks.old }
         // An answer tells exactly what the rules tell.
         ensures kept { IfOk result (λ fork. state_rule self.now.config.now (graph self.now.dag.now) (node_prepared prepared.now) ≡ None) }

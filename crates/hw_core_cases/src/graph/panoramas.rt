@@ -105,7 +105,7 @@ pub fn fork_choice(alloc: Global, state: &State, panorama: &Panorama) -> Option<
     requires { IsPanorama state.now.dag panorama.now }
 {
     let mut forks = Forks::new(alloc);
-    forks.reserve(state.dag().validators()).ok()?;
+    forks.reserve(state.dag().count()).ok()?;
     Some(forks.fork_choice(state.dag(), &state.config().weights, panorama))
 }
 

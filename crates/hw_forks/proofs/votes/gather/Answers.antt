@@ -3,7 +3,7 @@ use Rattle.std.proofs.lemmas.List.{length_push}
 use Rattle.std.proofs.lemmas.Slice.Zip.{zip_turn, zip_end}
 use Rattle.hw_dag.specs.declared.numbers.View.TheVariants as view
 use Rattle.hw_forks.specs.declared.votes.Vote.{Vote}
-use Rattle.hw_forks.specs.Votes.{votes_of, vote_of, AreVotes}
+use Rattle.hw_forks.specs.Votes.{votes_of, vote_of, AreVotes, IsRoomFor}
 use Rattle.hw_forks.proofs.GatherLaws.{votes_none, votes_with, votes_without, count_room, put_last, votes_are}
 use Rattle.hw_forks.proofs.votes.gather.Goals as goal
 
@@ -17,9 +17,12 @@ bounds-votes-count c =
     let kept = c.loop-slot.auto.votes in
     let turn = zip_turn c.args.panorama.now c.args.weights.now c.loop-slot.yielded c.into_iter-slot-iterator.result c.loop-slot.slot-iterator c.next.new.self c.next.result
     (search rules) (search rules) c.loop-slot.yielded_by (c.in-Some.slot, c.in-Some.weight) c.in-Some.is c.next.ensures.steps in
+    let here = sym (turn.2 view.Absent) ∙ sym c.view.ensures ∙ c.in-Correct.is in
     let slots = c.requires.panorama.length_is in
     let within = turn.0 in
-    count_room c.args.dag.now c.args.weights.now c.args.panorama.now c.loop-slot.votes c.loop-slot.count (length c.loop-slot.yielded) i.0 i.1 (omega arith)
+    let long : length c.loop-slot.votes ≡ length c.args.votes.now = kept in
+    count_room c.args.dag.now c.args.weights.now c.args.panorama.now c.requires.panorama c.loop-slot.votes c.loop-slot.count (length c.loop-slot.yielded) c.in-Correct.no i.0 i.1 here (omega arith)
+    (subst (IsRoomFor c.args.dag.now) (sym long) large)
 
 pub loop-slot-preserved-in-Correct : goal.loop-slot-preserved-in-Correct
 loop-slot-preserved-in-Correct c =
@@ -33,7 +36,9 @@ loop-slot-preserved-in-Correct c =
     let here = sym (turn.2 view.Absent) ∙ sym c.view.ensures ∙ c.in-Correct.is in
     let slots = c.requires.panorama.length_is in
     let within = turn.0 in
-    let less = count_room c.args.dag.now c.args.weights.now c.args.panorama.now c.loop-slot.votes c.loop-slot.count n i.0 i.1 (omega arith) in
+    let many : length c.loop-slot.votes ≡ length c.args.votes.now = kept in
+    let less = count_room c.args.dag.now c.args.weights.now c.args.panorama.now c.requires.panorama c.loop-slot.votes c.loop-slot.count n c.in-Correct.no i.0 i.1 here (omega arith)
+    (subst (IsRoomFor c.args.dag.now) (sym many) large) in
     let put = put_last c.loop-slot.votes _ (votes_of c.args.dag.now c.args.weights.now c.args.panorama.now n) c.loop-slot.count _ c.vote_of.result less i.1 refl refl in (
       put.0,
       put.1 ∙ ap (λ (vote : Vote). votes_of c.args.dag.now c.args.weights.now c.args.panorama.now n ++ vote ∷ [])
