@@ -3,23 +3,29 @@
 A function's proof cites what the others state, and not their bodies. So pages that change the bodies of different
 functions can share a check: a page is refused only if a function that it changes is refused for itself. A function
 whose callee is refused may not have been tried, so its page goes into the next check. Pages that meet in a function go
-into different checks. A page that changes more than bodies, or on which a shared check gave no clear answer, goes into
-a check of its own, and there the whole check's answer counts."""
+into different checks. Such a check is asked for the functions that its pages change alone (and it checks those that they
+call). A page that changes more than bodies, or on which a shared check gave no clear answer, goes into a check of its
+own: first of the functions that most likely see the change, and only where they refuse nothing, of the whole crate.
+That a page is proved is said by a check of the whole crate alone."""
 
 from dataclasses import dataclass, field
 
-from rattle_pages import applied, is_named, place_of
+from page_reach import first_asked
+from rattle_pages import applied, is_named, paths_of, place_of
 
 REFUSED, PROVED, FAULTY, UNTRIED = "refused", "proved", "faulty", "untried"
 
 
 @dataclass
 class Case:
-    """A page that is tried: where it stands, whether it needs a check of its own, and what came of it."""
+    """A page that is tried: where it stands, the functions that are asked about it, whether it needs a check of its own
+    and that of the whole crate, and what came of it."""
 
     page: object
     place: object
+    asked: list = field(default_factory=list)
     is_alone: bool = False
+    is_whole: bool = False
     kind: str = ""
     said: str = ""
 
@@ -47,9 +53,16 @@ class Trial:
             case = Case(page, None)
             case.settle(FAULTY, why)
         else:
-            place = place_of(page, self.crate.folder)
-            case = Case(page, place, is_alone=place.is_beyond_bodies)
+            case = self.case_of(page)
         self.cases.append(case)
+
+    def case_of(self, page):
+        """Returns a page as it is tried first."""
+        place, folder = place_of(page, self.crate.folder), self.crate.folder
+        if place.is_beyond_bodies:
+            asked = first_asked(page, place, self.crate)
+            return Case(page, place, asked, is_alone=True, is_whole=not asked)
+        return Case(page, place, [path for key in place.functions for path in paths_of(key, self.crate.name, folder)])
 
     def left(self):
         return [it for it in self.cases if not it.kind]
@@ -59,11 +72,12 @@ class Trial:
         while self.left():
             batch = self.batch()
             texts, _, _ = applied(self.crate.folder, [it.page for it in batch])
-            answer = self.check(texts)
+            only = [] if batch[0].is_whole else sorted({path for it in batch for path in it.asked})
+            answer = self.check(texts, only)
             self.judge(batch, answer)
             settled = sum(bool(it.kind) for it in batch)
-            functions = len(set().union(*[it.place.functions for it in batch]))
-            told = f"{len(batch)}, functions {functions}, settled {settled}; {answer.seconds:.0f} processor seconds"
+            asked = f"{len(only)} functions" if only else "the whole crate"
+            told = f"{len(batch)}, asked of {asked}, settled {settled}; {answer.seconds:.0f} processor seconds"
             self.say(f"pages in a check: {told}")
             if not settled and not any(it.is_alone for it in batch):
                 for it in batch:
@@ -71,7 +85,7 @@ class Trial:
 
     def batch(self):
         """Returns the pages of the next check: those that change most functions first, so that few are left over."""
-        order = sorted(self.left(), key=lambda it: (it.is_alone, -len(it.place.functions)))
+        order = sorted(self.left(), key=lambda it: (it.is_whole, it.is_alone, -len(it.place.functions)))
         batch, taken = order[:1], set(order[0].place.functions)
         for case in [] if order[0].is_alone else order[1:]:
             if case.is_alone or case.place.functions & taken:
@@ -83,17 +97,28 @@ class Trial:
         return batch
 
     def judge(self, batch, answer):
-        """Settles the pages of a check on which its answer is clear, and has others tried alone."""
-        if len(batch) == 1 and (batch[0].is_alone or answer.is_proved or not answer.is_verdict):
-            judge_alone(batch[0], answer)
+        """Settles the pages of a check on which its answer is clear, and has others tried alone, or in the whole crate."""
+        first = batch[0]
+        if first.is_whole:
+            judge_alone(first, answer)
+        elif answer.unknown:
+            self.ask_all([it for it in batch if answer.unknown in it.asked] or batch)
         elif answer.is_proved:
-            for it in batch:
-                judge_alone(it, answer)
-        elif not answer.is_verdict:
+            self.ask_all(batch)
+        elif not answer.is_verdict and len(batch) > 1:
             self.part(batch, answer)
+        elif not answer.is_verdict:
+            judge_alone(first, answer)
+        elif first.place.is_beyond_bodies:
+            self.judge_first_asked(first, answer)
         else:
             for it in batch:
                 self.judge_in_company(it, answer)
+
+    def ask_all(self, cases):
+        """Has pages tried in the whole crate, each alone."""
+        for it in cases:
+            it.is_alone = it.is_whole = True
 
     def part(self, batch, answer):
         """Has the pages on whose lines a check stopped tried alone, or all where no line tells whose it was."""
@@ -101,11 +126,21 @@ class Trial:
         for it in blamed or batch:
             it.is_alone = True
 
+    def judge_first_asked(self, case, answer):
+        """Settles a page that changes more than bodies if a function that was asked about it is refused."""
+        if answer.refused or answer.unread:
+            judge_alone(case, answer)
+        else:
+            self.ask_all([case])
+
     def judge_in_company(self, case, answer):
-        """Settles a page if a function that it changes is refused for itself; else it goes into another check."""
+        """Settles a page if a function that it changes is refused for itself; else it goes into another check: the next,
+        if its function rests on one that is refused, or that of the whole crate, if its function is proved."""
         own = self.own(case, answer.refused)
         if own:
             case.settle(REFUSED, words_of(own, answer.refused[own]))
+        elif case.is_alone or self.own(case, answer.proved) and not self.own(case, answer.resting | answer.undecided):
+            self.ask_all([case])
         elif not self.own(case, answer.resting):
             case.is_alone = True
 
