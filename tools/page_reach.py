@@ -7,7 +7,7 @@ these functions is refused, the whole crate is checked."""
 
 import re
 
-from rattle_pages import key_of, paths_of
+from rattle_pages import key_of
 from rattle_sources import files_of, functions_of, heard, text_of
 
 ITEM = re.compile(r"\s*(?:pub(?:\([^)]*\))? )?(?:const|static|struct|enum|type|trait|ghost|fn) (\w+)")
@@ -18,10 +18,9 @@ NO_NAME = {"use", "mod", "infix", "infixl", "infixr"}
 
 
 def first_asked(page, place, crate):
-    """Returns the paths of the functions to ask first about a page that changes more than bodies, in order."""
+    """Returns the keys of the functions to ask first about a page that changes more than bodies."""
     texts = {it: text_of(f"{crate.folder}/{it}") for it in files_of(crate.folder, ("src", "specs"))}
-    keys = place.functions or reached(names_changed(page, texts), texts) or in_files(page, texts)
-    return sorted({path for key in keys for path in paths_of(key, crate.name, crate.folder)})
+    return place.functions or reached(names_changed(page, texts), texts) or in_files(page, texts)
 
 
 def names_changed(page, texts):

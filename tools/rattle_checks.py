@@ -20,12 +20,14 @@ LIMIT = re.compile(
     r"antt ran out of (stack|the (steps|memory) that the check of one declaration may (take|use))"
     r"|(outgrew the memory limit|stopped at the step limit) \("
 )
-LINE = re.compile(r"fn (\S+): (not proved|no proof|could not tell|proved)(.*)")
+LINE = re.compile(r"fn (\S+): (not proved|no proof|could not tell|proved|no holes|depends on a hole)(.*)")
 # Where the lines about a function name a goal that is open.
 OPEN = re.compile(r"note: src/.* it is not proved .*\(`([\w-]+)`\)")
 UNMET = re.compile(r"(?:\./)?proofs/(\S+)/\w+\.antt:\d+:\d+: error: `([^`\s]+)`: (?!.*has no `)")
 # The last line of a check in which not all that it was asked for is proved, and what it says of a name that fits nothing.
-NOT_PROVED = re.compile(r"logic=not-proved|only=\d+ proved=\d+\s*$")
+NOT_PROVED = re.compile(r"logic=not-proved|only=\d+ (proved|holes)=\d+\s*$")
+# What a check that goes past holes says of a function that is proved, as far as what it calls is.
+PROVED = ("proved", "no holes", "depends on a hole")
 UNKNOWN = re.compile(r"rattle: error: (?:`[^`]*` has no function|several functions are named) `([^`]+)`")
 UNREADABLE = re.compile(r"is not in scope|has no field|is no name|operand is missing|expected the end|cannot continue")
 
@@ -80,7 +82,7 @@ def answer_of(status, lines, changed=()):
             answer.resting.add(name)
         elif kind == "could not tell":
             answer.undecided.add(name)
-        elif kind == "proved":
+        elif kind in PROVED:
             answer.proved.add(name)
         else:
             answer.refused[name] = open_goal([*about, rest]) or unmet.get(name.partition("::")[2], "")
@@ -133,9 +135,9 @@ class Toolchain:
     def line(self):
         return subprocess.run([self.rt, "version"], capture_output=True, text=True, check=True).stdout.strip()
 
-    def words(self, crate, kept, jobs, only=()):
+    def words(self, crate, kept, jobs, only=(), with_holes=False):
         """Returns the command that checks a crate in the folder that it is run in, over what `kept` holds: all of it, or
-        these functions and those that they call."""
+        these functions and those that they call, and past holes if there are some."""
         rlibs = f"{self.kit}/rlibs"
         root = "src/main.rt" if crate.is_program() else "src/lib.rt"
         words = [f"{self.kit}/bin/rattle", "check", "--crate-name", crate.name, root]
@@ -150,6 +152,7 @@ class Toolchain:
         words += ["--logic-built", f"{self.kit}/logic_built"]
         for it in only:
             words += ["--only", it]
+        words += ["--allow-holes"] if with_holes else []
         return [*words, "--jobs", str(jobs), "--incremental", kept]
 
     def renew(self, crate):
@@ -233,17 +236,22 @@ class Bench:
                 os.rename(self.kept, self.before)
             shutil.rmtree(self.room, ignore_errors=True)
 
-    def check(self, texts, only=()):
-        """Checks the crate with these texts in place of its own, or only these functions of it, and returns the answer."""
+    def check(self, texts, only=(), gone=()):
+        """Checks the crate, or only these functions of it, with these texts in place of its own, and without the folders
+        that are gone. Where some are, their functions have holes."""
         copy = tempfile.mkdtemp(prefix="copy-", dir=self.room)
         try:
             for part in PARTS:
                 if os.path.isdir(f"{self.crate.folder}/{part}"):
                     shutil.copytree(f"{self.crate.folder}/{part}", f"{copy}/{part}")
+            for it in gone:
+                shutil.rmtree(f"{copy}/{it}", ignore_errors=True)
             for path, text in texts.items():
+                os.makedirs(os.path.dirname(f"{copy}/{path}"), exist_ok=True)
                 with open(f"{copy}/{path}", "w", encoding="utf-8") as it:
                     it.write(text)
-            status, lines, seconds = run(self.toolchain.words(self.crate, self.kept, self.jobs, only), copy)
+            words = self.toolchain.words(self.crate, self.kept, self.jobs, only, bool(gone))
+            status, lines, seconds = run(words, copy)
         finally:
             shutil.rmtree(copy, ignore_errors=True)
         self.checks, self.seconds = self.checks + 1, self.seconds + seconds

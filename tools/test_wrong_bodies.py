@@ -19,6 +19,7 @@ import tried_record  # noqa: E402
 import wrong_bodies  # noqa: E402
 from rattle_pages import applied, is_named, page_of, pages_of, place_of  # noqa: E402
 from rattle_sources import crates_of, functions_of, interface_of, owner_of  # noqa: E402
+from stubbed_bodies import stubbed  # noqa: E402
 from wrong_body_trials import FAULTY, PROVED, REFUSED, UNTRIED, Trial  # noqa: E402
 
 LOW = """//! The crate below.
@@ -159,10 +160,11 @@ class InRepository(unittest.TestCase):
 
     def tried(self, check, *names):
         """Returns the cases of a trial of these pages, by name. What each check is asked for stands in `self.asked`."""
-        self.asked = []
+        self.asked, self.texts = [], []
 
-        def asked(texts, only):
-            self.asked.append(only)
+        def asked(texts, only, gone):
+            self.asked.append([*only, "alone"] if gone else only)
+            self.texts.append(texts)
             return check(texts)
 
         trial = Trial(self.top, asked, lambda _: None)
@@ -391,8 +393,31 @@ class Trials(InRepository):
             return answer("top::Steps::far" if "> FAR" in texts["src/lib.rt"] else "top::Steps::on")
 
         cases = self.tried(check, "no_step.md", "far_one_later.edit")
-        self.assertEqual(self.asked, [["Steps::far", "Steps::on"], ["Steps::on"], []])
+        self.assertEqual(self.asked, [["Steps::far", "Steps::on"], ["Steps::on", "alone"], []])
         self.assertEqual({it.kind for it in cases.values()}, {REFUSED})
+
+    def test_without_an_own_goal_the_functions_are_asked_with_what_they_call(self):
+        bare = rattle_checks.answer_of(1, ["fn top::Steps::on: not proved; it calls `low::more`", "only=2 holes=1"])
+        said = answer("top::Steps::on", only=2)
+        cases = self.tried(lambda texts: bare if self.asked[-1][-1] == "alone" else said, "no_step.md")
+        self.assertEqual(self.asked, [["Steps::on", "alone"], ["Steps::on"]])
+        self.assertEqual(cases["no_step.md"].kind, REFUSED)
+
+    def test_in_a_cheap_check_all_other_bodies_are_left_out(self):
+        self.tried(lambda texts: answer("top::Steps::on"), "no_step.md")
+        text = self.texts[0]["src/lib.rt"]
+        self.assertIn("more(self.count) - 1;", text)
+        self.assertNotIn("self.count >= FAR", text)
+        self.assertEqual(text.count("unreachable!()"), 1)
+        self.assertEqual(len(text.split("\n")), len(TOP.split("\n")))
+        self.assertIn("Rattle.top.proofs.Steps.far.Goals", self.texts[0]["proofs/Steps/far/Answers.antt"])
+
+    def test_bodies_that_may_tell_more_stay(self):
+        texts, gone = stubbed(self.low, {}, set())
+        self.assertEqual(gone, ["proofs/more", "proofs/helped"])
+        self.assertIn("self.open() && self.open()", texts["src/lib.rt"])
+        self.put("crates/low/proofs/Laws.antt", "use Rattle.low.proofs.helped.Goals as goal\n")
+        self.assertEqual(stubbed(self.low, {}, {("src/lib.rt", "more")}), ({}, []))
 
     def test_an_own_function_that_is_undecided_is_tried_again_alone(self):
         def check(texts):
@@ -401,12 +426,12 @@ class Trials(InRepository):
             return answer("top::Steps::far")
 
         cases = self.tried(check, "no_step.md", "far_one_later.edit")
-        self.assertEqual(self.asked[1:], [["Steps::far"]])
+        self.assertEqual(self.asked[1:], [["Steps::far", "alone"]])
         self.assertEqual(cases["far_one_later.edit"].kind, REFUSED)
 
     def test_of_a_constant_the_functions_that_name_it_are_asked_first(self):
         cases = self.tried(lambda texts: answer("top::Steps::far", only=1), "farther.md")
-        self.assertEqual(self.asked, [["Steps::far"]])
+        self.assertEqual(self.asked, [["Steps::far", "alone"]])
         self.assertEqual(cases["farther.md"].said, "`top::Steps::far`, goal `returns`")
 
     def test_where_the_first_asked_refuse_nothing_the_whole_crate_is(self):
@@ -414,7 +439,7 @@ class Trials(InRepository):
             return answer(status=0) if self.asked[-1] else answer("top::other")
 
         self.assertEqual(self.tried(check, "farther.md")["farther.md"].said, "`top::other`, goal `returns`")
-        self.assertEqual(self.asked, [["Steps::far"], []])
+        self.assertEqual(self.asked, [["Steps::far", "alone"], []])
         self.assertEqual(self.tried(lambda texts: answer(status=0), "farther.md")["farther.md"].kind, PROVED)
 
     def test_of_a_definition_the_laws_that_rest_on_it_are_asked_first(self):
@@ -425,7 +450,7 @@ class Trials(InRepository):
         self.put("crates/top/specs/Far.antt", specs)
         self.put("crates/top/must-fail/seven.md", "# It.\nfile: specs/Far.antt\nold: nat_lt 7\nnew: nat_lt 8\n")
         self.tried(lambda texts: answer("top::laws::far_is_kept", only=1), "seven.md")
-        self.assertEqual(self.asked, [["laws::far_is_kept"]])
+        self.assertEqual(self.asked, [["laws::far_is_kept", "alone"]])
 
     def test_pages_that_meet_in_a_function_do_not(self):
         asked = []
@@ -613,7 +638,7 @@ class Runs(InRepository):
         def __exit__(self, *_):
             pass
 
-        def check(self, texts, only=()):
+        def check(self, texts, only=(), gone=()):
             if self.name == "low":
                 raise ValueError("no such thing")
             return answer(*(f"top::{it}" for it in only))
@@ -635,7 +660,7 @@ class Runs(InRepository):
         self.assertEqual(tried_record.read(self.low).pages, {})
 
     def test_what_was_settled_before_a_failure_is_recorded(self):
-        def check(bench, texts, only=()):
+        def check(bench, texts, only=(), gone=()):
             if "> FAR" in texts["src/lib.rt"]:
                 return answer("top::Steps::on", "top::Steps::far")
             raise ValueError("no such thing")
