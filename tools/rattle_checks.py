@@ -1,8 +1,8 @@
 """Checks of a copy of a crate with some of its texts changed, and what they say.
 
-The command is the toolchain's own, `rattle check`, with the words that its help gives. It runs over what earlier checks
-of the crate kept, and over the built libraries below it, as `rt lib` leaves them in each crate's out/rlib. With `--only`
-it checks only some functions of the crate, and those that they call."""
+The command is the toolchain's own, `rattle check`, with the words that its help gives. It runs over what earlier
+checks of the crate kept, and over the built libraries below it, as `rt lib` leaves them in each crate's out/rlib. With
+`--only` it checks only some functions of the crate, and those that they call."""
 
 import contextlib
 import fcntl
@@ -24,7 +24,8 @@ LINE = re.compile(r"fn (\S+): (not proved|no proof|could not tell|proved|no hole
 # Where the lines about a function name a goal that is open.
 OPEN = re.compile(r"note: src/.* it is not proved .*\(`([\w-]+)`\)")
 UNMET = re.compile(r"(?:\./)?proofs/(\S+)/\w+\.antt:\d+:\d+: error: `([^`\s]+)`: (?!.*has no `)")
-# The last line of a check in which not all that it was asked for is proved, and what it says of a name that fits nothing.
+# The last line of a check in which not all that it was asked for is proved, and what it says of a name that fits no
+# function, or several.
 NOT_PROVED = re.compile(r"logic=not-proved|only=\d+ (proved|holes)=\d+\s*$")
 # What a check that goes past holes says of a function that is proved, as far as what it calls is.
 PROVED = ("proved", "no holes", "depends on a hole")
@@ -136,8 +137,8 @@ class Toolchain:
         return subprocess.run([self.rt, "version"], capture_output=True, text=True, check=True).stdout.strip()
 
     def words(self, crate, kept, jobs, only=(), with_holes=False):
-        """Returns the command that checks a crate in the folder that it is run in, over what `kept` holds: all of it, or
-        these functions and those that they call, and past holes if there are some."""
+        """Returns the command that checks a crate in the folder that it is run in, over what `kept` holds: all of it,
+        or these functions and those that they call, and past holes if there are some."""
         rlibs = f"{self.kit}/rlibs"
         root = "src/main.rt" if crate.is_program() else "src/lib.rt"
         words = [f"{self.kit}/bin/rattle", "check", "--crate-name", crate.name, root]
@@ -237,8 +238,8 @@ class Bench:
             shutil.rmtree(self.room, ignore_errors=True)
 
     def check(self, texts, only=(), gone=()):
-        """Checks the crate, or only these functions of it, with these texts in place of its own, and without the folders
-        that are gone. Where some are, their functions have holes."""
+        """Checks the crate, or only these functions of it, with these texts in place of its own, and without the
+        folders that are gone. Where some are, their functions have holes."""
         copy = tempfile.mkdtemp(prefix="copy-", dir=self.room)
         try:
             for part in PARTS:

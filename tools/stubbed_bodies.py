@@ -6,8 +6,8 @@ the bodies that are left are checked against all contracts as they stand. A refu
 check of the whole crate would say: it hangs on no other body. That nothing is refused here proves nothing.
 
 A body stays where leaving it out could change more than itself: one that a trait or an `impl` of a trait may pass on,
-of a `const fn`, in a cycle of calls, or whose type is hidden (`impl` in the head), and one whose goals a file of proofs/
-outside its own folder names."""
+of a `const fn`, in a cycle of calls, or whose type is hidden (`impl` in the head), and one whose goals a file of
+proofs/ outside its own folder names."""
 
 import os
 import re
@@ -24,8 +24,8 @@ unreachable-requires c = ?
 
 
 def stubbed(crate, texts, spared):
-    """Returns the texts of a check in which all bodies but those of the spared keys are left out, where they can be, and
-    the folders of proofs/ that it has no use for."""
+    """Returns the texts of a check in which all bodies but those of the spared keys are left out, where they can be,
+    and the folders of proofs/ that it has no use for."""
     sources = {it: texts.get(it) or text_of(f"{crate.folder}/{it}") for it in files_of(crate.folder, ("src",))}
     modules, named = modules_of_types(sources), names_of_others(crate)
     made, gone = dict(texts), []
@@ -70,7 +70,8 @@ def proof_path(file, function, modules):
 def must_stay(rows, function):
     """Returns whether a body could tell more than what the function states."""
     head = " ".join(rows[function.first : function.body])
-    return bool(function.cycle) or bool(re.search(r"\bconst fn\b|\bfn main\b|\bimpl\b", head)) or function.body == function.last
+    is_open = re.search(r"\bconst fn\b|\bfn main\b|\bimpl\b", head)
+    return bool(function.cycle or is_open) or function.body == function.last
 
 
 def names_of_others(crate):

@@ -337,8 +337,8 @@ class Answers(unittest.TestCase):
         self.assertTrue(rattle_checks.answer_of(0, ["only=2 proved=2"]).is_proved)
 
     def test_a_function_that_is_not_there_is_told(self):
-        for said in ("`a` has no function `b::f`: help: write it", "several functions are named `b::f`: help: write it"):
-            found = rattle_checks.answer_of(2, [f"rattle: error: {said}"])
+        for said in ("`a` has no function `b::f`", "several functions are named `b::f`"):
+            found = rattle_checks.answer_of(2, [f"rattle: error: {said}: help: write it"])
             self.assertEqual((found.unknown, found.is_verdict), ("b::f", False))
 
     def test_a_front_end_error_is_no_verdict(self):
@@ -446,7 +446,8 @@ class Trials(InRepository):
         laws = "\npub fn far_is_kept()\n    ensures { StaysFar }\n{}\n\npub fn other()\n    ensures { Other }\n{}\n"
         self.put("crates/top/src/laws.rt", laws)
         specs = "abbrev pub is_far : ℕ → Bool\nis_far n = nat_lt 7 n\n"
-        specs += "\n-- is_far\npub record StaysFar : Type 0 where\n  pub kept : IsTrue (is_far 9)\n\npub Other : Type 0\n"
+        specs += "\n-- is_far\npub record StaysFar : Type 0 where\n  pub kept : IsTrue (is_far 9)\n"
+        specs += "\npub Other : Type 0\n"
         self.put("crates/top/specs/Far.antt", specs)
         self.put("crates/top/must-fail/seven.md", "# It.\nfile: specs/Far.antt\nold: nat_lt 7\nnew: nat_lt 8\n")
         self.tried(lambda texts: answer("top::laws::far_is_kept", only=1), "seven.md")
@@ -612,8 +613,8 @@ class Libraries(InRepository):
         words = rattle_checks.Toolchain().words(self.top, "/kept", 2)
         self.assertIn(f"low={self.root}/crates/low/out/rlib/low.rlib", words)
         self.assertEqual(words[-4:], ["--jobs", "2", "--incremental", "/kept"])
-        words = rattle_checks.Toolchain().words(self.top, "/kept", 1, ["even", "Steps::on"])
-        self.assertIn("--only even --only Steps::on", " ".join(words))
+        words = rattle_checks.Toolchain().words(self.top, "/kept", 1, ["even", "Steps::on"], True)
+        self.assertIn("--only even --only Steps::on --allow-holes", " ".join(words))
 
 
 class Runs(InRepository):

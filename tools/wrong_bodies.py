@@ -6,11 +6,11 @@
   tools/wrong_bodies.py --current    proves nothing: says in seconds whether each page still applies and each record is
                                      current, and fails with the names of the crates that have to be tried again
 
-A trial begins with what `rt check` of the crate kept in its out/, if it kept anything, and needs the libraries below it
-built: it says which are missing. A page that is proved, doesn't apply or doesn't compile is an error with its name. A
-crate that can't be tried stops no other, and each crate's record is written when its pages are through. Crates are begun
-in the order of their names here: the dearest first use several processors best. What another toolchain tried is tried
-again; --current only tells of it.
+A trial begins with what `rt check` of the crate kept in its out/, if it kept anything, and needs the libraries below
+it built: it says which are missing. A page that is proved, doesn't apply or doesn't compile is an error with its name.
+A crate that can't be tried stops no other, and each crate's record is written when its pages are through, or when it is
+ended. Crates are begun in the order of their names here: the dearest first use several processors best. What another
+toolchain tried is tried again; --current only tells of it.
 
 Examples:
   tools/wrong_bodies.py hw_endorse hw_forks

@@ -21,8 +21,8 @@ REFUSED, PROVED, FAULTY, UNTRIED = "refused", "proved", "faulty", "untried"
 
 @dataclass
 class Case:
-    """A page that is tried: where it stands, the functions that are asked about it, what kind of check it needs next, and
-    what came of it."""
+    """A page that is tried: where it stands, the functions that are asked about it, what kind of check it needs next,
+    and what came of it."""
 
     page: object
     place: object
@@ -109,7 +109,7 @@ class Trial:
         return batch
 
     def judge(self, batch, answer, is_stubbed=False):
-        """Settles the pages of a check on which its answer is clear, and has the others tried in another kind of check."""
+        """Settles the pages of a check on which its answer is clear, and has the others tried in another one."""
         first = batch[0]
         if first.is_whole:
             judge_alone(first, answer)
@@ -134,9 +134,9 @@ class Trial:
             it.is_alone = it.is_whole = True
 
     def judge_stubbed(self, batch, answer):
-        """Settles the pages of which a function is refused for itself, with a goal of its own that is open. If nothing of
-        a page is refused, the whole crate is asked. The others are tried again, and if no page of a check was settled,
-        with what their functions call."""
+        """Settles the pages of which a function is refused for itself, with a goal of its own that is open. If nothing
+        of a page is refused, the whole crate is asked. The others are tried again, and if no page of a check was
+        settled, with what their functions call."""
         if not answer.is_verdict and len(batch) > 1:
             self.part(batch, answer)
             return
