@@ -256,7 +256,7 @@ class Bench:
         finally:
             shutil.rmtree(copy, ignore_errors=True)
         self.checks, self.seconds = self.checks + 1, self.seconds + seconds
-        answer = answer_of(status, lines, texts)
+        answer = answer_of(status, lines, [it for it in texts if os.path.dirname(it) not in gone])
         answer.seconds = seconds
         return answer
 
