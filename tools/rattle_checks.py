@@ -1,7 +1,8 @@
 """Checks of a copy of a crate with some of its texts changed, and what they say.
 
-The command is the toolchain's own, `rattle check`, with the words that its help gives. It runs over what earlier checks
-of the crate kept, and over the built libraries below it, as `rt lib` leaves them in each crate's out/rlib."""
+The command is the toolchain's own, `rattle check`, with the words that its help gives. It runs over what earlier
+checks of the crate kept, and over the built libraries below it, as `rt lib` leaves them in each crate's out/rlib. With
+`--only` it checks only some functions of the crate, and those that they call."""
 
 import contextlib
 import fcntl
@@ -19,10 +20,16 @@ LIMIT = re.compile(
     r"antt ran out of (stack|the (steps|memory) that the check of one declaration may (take|use))"
     r"|(outgrew the memory limit|stopped at the step limit) \("
 )
-LINE = re.compile(r"fn (\S+): (not proved|no proof|could not tell|proved)(.*)")
+LINE = re.compile(r"fn (\S+): (not proved|no proof|could not tell|proved|no holes|depends on a hole)(.*)")
 # Where the lines about a function name a goal that is open.
 OPEN = re.compile(r"note: src/.* it is not proved .*\(`([\w-]+)`\)")
 UNMET = re.compile(r"(?:\./)?proofs/(\S+)/\w+\.antt:\d+:\d+: error: `([^`\s]+)`: (?!.*has no `)")
+# The last line of a check in which not all that it was asked for is proved, and what it says of a name that fits no
+# function, or several.
+NOT_PROVED = re.compile(r"logic=not-proved|only=\d+ (proved|holes)=\d+\s*$")
+# What a check that goes past holes says of a function that is proved, as far as what it calls is.
+PROVED = ("proved", "no holes", "depends on a hole")
+UNKNOWN = re.compile(r"rattle: error: (?:`[^`]*` has no function|several functions are named) `([^`]+)`")
 UNREADABLE = re.compile(r"is not in scope|has no field|is no name|operand is missing|expected the end|cannot continue")
 
 
@@ -34,12 +41,15 @@ class CheckError(Exception):
 class Answer:
     """What a check said.
 
-    Where not all is proved: the functions that are refused for themselves, with an open goal each, those that only rest
-    on others, those on which it could not tell, and where the front end stopped if it came to no verdict."""
+    Where not all that it was asked for is proved: the functions that are proved, those that are refused for themselves,
+    with an open goal each, those that only rest on others, those on which it could not tell, and where the front end
+    stopped if it came to no verdict, or the function that it was asked for and could not find."""
 
     is_proved: bool = False
     is_verdict: bool = False
     is_uncompiled: bool = False
+    unknown: str = ""
+    proved: set = field(default_factory=set)
     refused: dict = field(default_factory=dict)
     resting: set = field(default_factory=set)
     undecided: set = field(default_factory=set)
@@ -54,7 +64,8 @@ def answer_of(status, lines, changed=()):
     """Reads what a check printed; `changed` are the files that it read with other texts."""
     answer = Answer(is_proved=status == 0)
     rows = [row for row in lines if row.strip()]
-    answer.is_verdict = status == 0 or (status == 1 and bool(rows) and rows[-1].startswith("logic=not-proved"))
+    answer.is_verdict = status == 0 or (status == 1 and bool(rows) and bool(NOT_PROVED.match(rows[-1])))
+    answer.unknown = next((said[1] for said in map(UNKNOWN.match, rows) if said), "") if status == 2 else ""
     answer.is_at_limit = status == 3 and any(LIMIT.search(row) for row in rows)
     is_cut = status == 1 and not answer.is_verdict
     answer.is_uncompiled = is_cut and any(re.search(r"\berror\[[\w-]+\]", row) for row in rows)
@@ -72,7 +83,9 @@ def answer_of(status, lines, changed=()):
             answer.resting.add(name)
         elif kind == "could not tell":
             answer.undecided.add(name)
-        elif kind != "proved":
+        elif kind in PROVED:
+            answer.proved.add(name)
+        else:
             answer.refused[name] = open_goal([*about, rest]) or unmet.get(name.partition("::")[2], "")
         about = []
     if not answer.is_verdict:
@@ -123,8 +136,9 @@ class Toolchain:
     def line(self):
         return subprocess.run([self.rt, "version"], capture_output=True, text=True, check=True).stdout.strip()
 
-    def words(self, crate, kept, jobs):
-        """Returns the command that checks a crate in the folder that it is run in, over what `kept` holds."""
+    def words(self, crate, kept, jobs, only=(), with_holes=False):
+        """Returns the command that checks a crate in the folder that it is run in, over what `kept` holds: all of it,
+        or these functions and those that they call, and past holes if there are some."""
         rlibs = f"{self.kit}/rlibs"
         root = "src/main.rt" if crate.is_program() else "src/lib.rt"
         words = [f"{self.kit}/bin/rattle", "check", "--crate-name", crate.name, root]
@@ -137,6 +151,9 @@ class Toolchain:
             words += ["-L", f"dependency={os.path.dirname(rlib_of(it))}"]
         words += ["--antt-project", f"{self.kit}/rattle/logic/antt-project.json"]
         words += ["--logic-built", f"{self.kit}/logic_built"]
+        for it in only:
+            words += ["--only", it]
+        words += ["--allow-holes"] if with_holes else []
         return [*words, "--jobs", str(jobs), "--incremental", kept]
 
     def renew(self, crate):
@@ -220,21 +237,26 @@ class Bench:
                 os.rename(self.kept, self.before)
             shutil.rmtree(self.room, ignore_errors=True)
 
-    def check(self, texts):
-        """Checks the crate with these texts in place of its own, and returns the answer."""
+    def check(self, texts, only=(), gone=()):
+        """Checks the crate, or only these functions of it, with these texts in place of its own, and without the
+        folders that are gone. Where some are, their functions have holes."""
         copy = tempfile.mkdtemp(prefix="copy-", dir=self.room)
         try:
             for part in PARTS:
                 if os.path.isdir(f"{self.crate.folder}/{part}"):
                     shutil.copytree(f"{self.crate.folder}/{part}", f"{copy}/{part}")
+            for it in gone:
+                shutil.rmtree(f"{copy}/{it}", ignore_errors=True)
             for path, text in texts.items():
+                os.makedirs(os.path.dirname(f"{copy}/{path}"), exist_ok=True)
                 with open(f"{copy}/{path}", "w", encoding="utf-8") as it:
                     it.write(text)
-            status, lines, seconds = run(self.toolchain.words(self.crate, self.kept, self.jobs), copy)
+            words = self.toolchain.words(self.crate, self.kept, self.jobs, only, bool(gone))
+            status, lines, seconds = run(words, copy)
         finally:
             shutil.rmtree(copy, ignore_errors=True)
         self.checks, self.seconds = self.checks + 1, self.seconds + seconds
-        answer = answer_of(status, lines, texts)
+        answer = answer_of(status, lines, [it for it in texts if os.path.dirname(it) not in gone])
         answer.seconds = seconds
         return answer
 

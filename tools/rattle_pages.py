@@ -138,6 +138,13 @@ def names_of(key, crate_name, folder):
     return module, names
 
 
+def paths_of(key, crate_name, folder):
+    """Returns how a check is asked for the functions of that key: by path below the crate, or a method by its type."""
+    module, names = names_of(key, crate_name, folder)
+    inside = module.partition("::")[2]
+    return [it if "::" in it or not inside else f"{inside}::{it}" for it in names]
+
+
 def is_named(told, key, crate_name, folder):
     """Returns whether a function that the check told of is one of that key, or a closure in it."""
     module, names = names_of(key, crate_name, folder)

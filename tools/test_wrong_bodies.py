@@ -8,6 +8,7 @@ import shutil
 import sys
 import tempfile
 import unittest
+from unittest import mock
 
 sys.dont_write_bytecode = True
 sys.path.insert(0, os.path.dirname(os.path.abspath(__file__)))
@@ -18,6 +19,7 @@ import tried_record  # noqa: E402
 import wrong_bodies  # noqa: E402
 from rattle_pages import applied, is_named, page_of, pages_of, place_of  # noqa: E402
 from rattle_sources import crates_of, functions_of, interface_of, owner_of  # noqa: E402
+from stubbed_bodies import stubbed  # noqa: E402
 from wrong_body_trials import FAULTY, PROVED, REFUSED, UNTRIED, Trial  # noqa: E402
 
 LOW = """//! The crate below.
@@ -108,14 +110,18 @@ PAGES = {
 }
 
 
-def answer(*refused, status=1, resting=(), lines=()):
-    """Returns a check's answer that refuses these functions, as its printed lines would give it."""
+def answer(*refused, status=1, resting=(), lines=(), only=0):
+    """Returns a check's answer that refuses these functions, as its printed lines would give it; where it was asked for
+    some functions only, of so many."""
     rows = [*lines]
     for name in refused:
         place = name.partition("::")[2].replace("::", "/")
         rows += [f"./proofs/{place}/Answers.antt:1:1: error: `returns`: the two sides differ", f"fn {name}: not proved"]
     rows += [f"fn {name}: no proof: it calls `top::other`, which is not proved" for name in resting]
-    rows += ["logic=proved functions=4"] if not status else ["logic=not-proved"] if status == 1 else []
+    if only:
+        rows.append(f"only={only} proved={only - len(refused) if status else only}")
+    else:
+        rows += ["logic=proved functions=4"] if not status else ["logic=not-proved"] if status == 1 else []
     return rattle_checks.answer_of(status, rows, ["src/lib.rt"])
 
 
@@ -153,8 +159,15 @@ class InRepository(unittest.TestCase):
         return next(it for it in pages_of(self.top)[0] if it.name == name)
 
     def tried(self, check, *names):
-        """Returns the cases of a trial of these pages, by name."""
-        trial = Trial(self.top, check, lambda _: None)
+        """Returns the cases of a trial of these pages, by name. What each check is asked for stands in `self.asked`."""
+        self.asked, self.texts = [], []
+
+        def asked(texts, only, gone):
+            self.asked.append([*only, "alone"] if gone else only)
+            self.texts.append(texts)
+            return check(texts)
+
+        trial = Trial(self.top, asked, lambda _: None)
         for name in names:
             trial.add(self.page(name))
         trial.run()
@@ -317,6 +330,17 @@ class Answers(unittest.TestCase):
         self.assertEqual((found.resting, found.undecided), ({"a::i"}, {"a::j"}))
         self.assertTrue(found.is_verdict)
 
+    def test_a_check_of_some_functions_has_a_verdict(self):
+        found = rattle_checks.answer_of(1, ["fn a::f: not proved", "fn a::g: proved", "only=2 proved=1", ""])
+        self.assertTrue(found.is_verdict)
+        self.assertEqual((found.refused, found.proved), ({"a::f": ""}, {"a::g"}))
+        self.assertTrue(rattle_checks.answer_of(0, ["only=2 proved=2"]).is_proved)
+
+    def test_a_function_that_is_not_there_is_told(self):
+        for said in ("`a` has no function `b::f`", "several functions are named `b::f`"):
+            found = rattle_checks.answer_of(2, [f"rattle: error: {said}: help: write it"])
+            self.assertEqual((found.unknown, found.is_verdict), ("b::f", False))
+
     def test_a_front_end_error_is_no_verdict(self):
         found = rattle_checks.answer_of(1, ["error[E1]: mismatched types", " --> src/lib.rt:4:9", ""])
         self.assertFalse(found.is_verdict)
@@ -348,6 +372,87 @@ class Trials(InRepository):
         self.assertEqual([it.kind for it in cases.values()], [REFUSED, REFUSED])
         self.assertEqual(cases["no_step.md"].said, "`top::Steps::on`, goal `returns`")
 
+    def test_a_shared_check_is_asked_for_the_functions_of_its_pages(self):
+        self.put("crates/top/must-fail/cycle.md", "# It.\nfile: src/lib.rt\nold: n == 0\nnew: n == 1\n")
+        said = answer("top::Steps::on", "top::Steps::far", "top::even", only=4)
+        cases = self.tried(lambda texts: said, "no_step.md", "far_one_later.edit", "cycle.md")
+        self.assertEqual(self.asked, [["Steps::far", "Steps::on", "even", "odd"]])
+        self.assertEqual({it.kind for it in cases.values()}, {REFUSED})
+
+    def test_a_page_is_proved_by_a_whole_check_alone(self):
+        cases = self.tried(lambda texts: answer(status=0), "no_step.md", "far_one_later.edit")
+        self.assertEqual(self.asked, [["Steps::far", "Steps::on"], [], []])
+        self.assertEqual({it.kind for it in cases.values()}, {PROVED})
+
+    def test_a_function_that_cannot_be_asked_for_is_tried_in_a_whole_check(self):
+        lines = ["rattle: error: several functions are named `Steps::far`: help: write one of `top::a::Steps::far`"]
+
+        def check(texts):
+            if "Steps::far" in self.asked[-1]:
+                return rattle_checks.answer_of(2, lines)
+            return answer("top::Steps::far" if "> FAR" in texts["src/lib.rt"] else "top::Steps::on")
+
+        cases = self.tried(check, "no_step.md", "far_one_later.edit")
+        self.assertEqual(self.asked, [["Steps::far", "Steps::on"], ["Steps::on", "alone"], []])
+        self.assertEqual({it.kind for it in cases.values()}, {REFUSED})
+
+    def test_without_an_own_goal_the_functions_are_asked_with_what_they_call(self):
+        bare = rattle_checks.answer_of(1, ["fn top::Steps::on: not proved; it calls `low::more`", "only=2 holes=1"])
+        said = answer("top::Steps::on", only=2)
+        cases = self.tried(lambda texts: bare if self.asked[-1][-1] == "alone" else said, "no_step.md")
+        self.assertEqual(self.asked, [["Steps::on", "alone"], ["Steps::on"]])
+        self.assertEqual(cases["no_step.md"].kind, REFUSED)
+
+    def test_in_a_cheap_check_all_other_bodies_are_left_out(self):
+        self.tried(lambda texts: answer("top::Steps::on"), "no_step.md")
+        text = self.texts[0]["src/lib.rt"]
+        self.assertIn("more(self.count) - 1;", text)
+        self.assertNotIn("self.count >= FAR", text)
+        self.assertEqual(text.count("unreachable!()"), 1)
+        self.assertEqual(len(text.split("\n")), len(TOP.split("\n")))
+        self.assertIn("Rattle.top.proofs.Steps.far.Goals", self.texts[0]["proofs/Steps/far/Answers.antt"])
+
+    def test_bodies_that_may_tell_more_stay(self):
+        texts, gone = stubbed(self.low, {}, set())
+        self.assertEqual(gone, ["proofs/more", "proofs/helped"])
+        self.assertIn("self.open() && self.open()", texts["src/lib.rt"])
+        self.put("crates/low/proofs/Laws.antt", "use Rattle.low.proofs.helped.Goals as goal\n")
+        self.assertEqual(stubbed(self.low, {}, {("src/lib.rt", "more")}), ({}, []))
+
+    def test_an_own_function_that_is_undecided_is_tried_again_alone(self):
+        def check(texts):
+            if len(self.asked) == 1:
+                return answer("top::Steps::on", lines=["fn top::Steps::far: could not tell"])
+            return answer("top::Steps::far")
+
+        cases = self.tried(check, "no_step.md", "far_one_later.edit")
+        self.assertEqual(self.asked[1:], [["Steps::far", "alone"]])
+        self.assertEqual(cases["far_one_later.edit"].kind, REFUSED)
+
+    def test_of_a_constant_the_functions_that_name_it_are_asked_first(self):
+        cases = self.tried(lambda texts: answer("top::Steps::far", only=1), "farther.md")
+        self.assertEqual(self.asked, [["Steps::far", "alone"]])
+        self.assertEqual(cases["farther.md"].said, "`top::Steps::far`, goal `returns`")
+
+    def test_where_the_first_asked_refuse_nothing_the_whole_crate_is(self):
+        def check(texts):
+            return answer(status=0) if self.asked[-1] else answer("top::other")
+
+        self.assertEqual(self.tried(check, "farther.md")["farther.md"].said, "`top::other`, goal `returns`")
+        self.assertEqual(self.asked, [["Steps::far", "alone"], []])
+        self.assertEqual(self.tried(lambda texts: answer(status=0), "farther.md")["farther.md"].kind, PROVED)
+
+    def test_of_a_definition_the_laws_that_rest_on_it_are_asked_first(self):
+        laws = "\npub fn far_is_kept()\n    ensures { StaysFar }\n{}\n\npub fn other()\n    ensures { Other }\n{}\n"
+        self.put("crates/top/src/laws.rt", laws)
+        specs = "abbrev pub is_far : ℕ → Bool\nis_far n = nat_lt 7 n\n"
+        specs += "\n-- is_far\npub record StaysFar : Type 0 where\n  pub kept : IsTrue (is_far 9)\n"
+        specs += "\npub Other : Type 0\n"
+        self.put("crates/top/specs/Far.antt", specs)
+        self.put("crates/top/must-fail/seven.md", "# It.\nfile: specs/Far.antt\nold: nat_lt 7\nnew: nat_lt 8\n")
+        self.tried(lambda texts: answer("top::laws::far_is_kept", only=1), "seven.md")
+        self.assertEqual(self.asked, [["laws::far_is_kept", "alone"]])
+
     def test_pages_that_meet_in_a_function_do_not(self):
         asked = []
 
@@ -376,11 +481,11 @@ class Trials(InRepository):
             asked.append(texts["src/lib.rt"])
             if "> FAR" in asked[-1] and "count) - 1;" not in asked[-1]:
                 return answer(status=0)
-            return answer("top::Steps::on")
+            return answer("top::Steps::on", lines=["fn top::Steps::far: proved"])
 
         cases = self.tried(check, "no_step.md", "far_one_later.edit")
         self.assertEqual((cases["no_step.md"].kind, cases["far_one_later.edit"].kind), (REFUSED, PROVED))
-        self.assertEqual(len(asked), 2)
+        self.assertEqual(self.asked, [["Steps::far", "Steps::on"], []])
 
     def test_a_function_whose_callee_failed_goes_into_the_next_check(self):
         answers = [answer("top::Steps::on", resting=["top::Steps::far"]), answer("top::Steps::far")]
@@ -508,6 +613,62 @@ class Libraries(InRepository):
         words = rattle_checks.Toolchain().words(self.top, "/kept", 2)
         self.assertIn(f"low={self.root}/crates/low/out/rlib/low.rlib", words)
         self.assertEqual(words[-4:], ["--jobs", "2", "--incremental", "/kept"])
+        words = rattle_checks.Toolchain().words(self.top, "/kept", 1, ["even", "Steps::on"], True)
+        self.assertIn("--only even --only Steps::on --allow-holes", " ".join(words))
+
+
+class Runs(InRepository):
+    """Runs over both crates, with answers of checks that are made up."""
+
+    class Kit:
+        def line(self):
+            return "kit 1"
+
+        def renew(self, crate):
+            pass
+
+    class Bench:
+        checks, seconds = 1, 2.0
+
+        def __init__(self, crate, toolchain, jobs):
+            self.name = crate.name
+
+        def __enter__(self):
+            return self
+
+        def __exit__(self, *_):
+            pass
+
+        def check(self, texts, only=(), gone=()):
+            if self.name == "low":
+                raise ValueError("no such thing")
+            return answer(*(f"top::{it}" for it in only))
+
+    def run_all(self, *words):
+        out, kit, bench = io.StringIO(), self.Kit, self.Bench
+        with mock.patch.multiple(wrong_bodies, Toolchain=kit, Bench=bench, missing_below=lambda crate: []):
+            with contextlib.redirect_stdout(out):
+                status = wrong_bodies.main(["--root", self.root, *words])
+        return status, out.getvalue()
+
+    def test_a_crate_that_fails_stops_no_other(self):
+        self.put("crates/low/must-fail/two.md", "# It.\nfile: src/lib.rt\nold:     helped(count)\nnew:     2\n")
+        status, said = self.run_all("--jobs", "2")
+        self.assertEqual(status, 1)
+        self.assertIn("error: low: NOT TRIED: ValueError: no such thing", said)
+        self.assertIn("wrong bodies: 2 crates, 2 checks, 4 processor seconds, 1 errors", said)
+        self.assertEqual(sorted(tried_record.read(self.top).pages), sorted(PAGES))
+        self.assertEqual(tried_record.read(self.low).pages, {})
+
+    def test_what_was_settled_before_a_failure_is_recorded(self):
+        def check(bench, texts, only=(), gone=()):
+            if "> FAR" in texts["src/lib.rt"]:
+                return answer("top::Steps::on", "top::Steps::far")
+            raise ValueError("no such thing")
+
+        with mock.patch.object(self.Bench, "check", check):
+            self.assertEqual(self.run_all("top")[0], 1)
+        self.assertEqual(sorted(tried_record.read(self.top).pages), ["far_one_later.edit", "no_step.md"])
 
 
 def built_interfaces():

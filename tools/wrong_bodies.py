@@ -6,9 +6,11 @@
   tools/wrong_bodies.py --current    proves nothing: says in seconds whether each page still applies and each record is
                                      current, and fails with the names of the crates that have to be tried again
 
-A trial begins with what `rt check` of the crate kept in its out/, and needs the libraries below it built: it says which
-are missing. A page that is proved, doesn't apply or doesn't compile is an error with its name. What another toolchain
-tried is tried again; --current only tells of it.
+A trial begins with what `rt check` of the crate kept in its out/, if it kept anything, and needs the libraries below
+it built: it says which are missing. A page that is proved, doesn't apply or doesn't compile is an error with its name.
+A crate that can't be tried stops no other, and each crate's record is written when its pages are through, or when it is
+ended. Crates are begun in the order of their names here: the dearest first use several processors best. What another
+toolchain tried is tried again; --current only tells of it.
 
 Examples:
   tools/wrong_bodies.py hw_endorse hw_forks
@@ -29,7 +31,7 @@ import tried_record  # noqa: E402
 from rattle_checks import Bench, CheckError, Toolchain, end_all, missing_below  # noqa: E402
 from rattle_pages import applied, pages_of  # noqa: E402
 from rattle_sources import SourceError, crates_of  # noqa: E402
-from wrong_body_trials import Trial  # noqa: E402
+from wrong_body_trials import UNTRIED, Trial  # noqa: E402
 
 ROOT = os.path.dirname(os.path.dirname(os.path.abspath(__file__)))
 
@@ -132,7 +134,7 @@ class Run:
     """One run that tries pages: the toolchain, the sums of interfaces, and what was not as it should be."""
 
     def __init__(self, given):
-        self.toolchain, self.known, self.errors = Toolchain(), {}, []
+        self.toolchain, self.known, self.errors, self.benches = Toolchain(), {}, [], []
         self.kit, self.anew = self.toolchain.line(), given.anew
 
     def try_crate(self, crate, jobs):
@@ -148,11 +150,14 @@ class Run:
         for page in pages:
             if page.name in old:
                 trial.add(page)
-        if trial.left():
-            self.make_ready(crate)
-            with bench:
-                trial.run()
-        self.keep(crate, base, record, trial, pages)
+        self.benches.append(bench)
+        try:
+            if trial.left():
+                self.make_ready(crate)
+                with bench:
+                    trial.run()
+        finally:
+            self.keep(crate, base, record, trial, pages)
         if not old:
             return [f"{crate.name}: {len(pages)} pages, all current"]
         clock = time.monotonic() - began
@@ -173,7 +178,7 @@ class Run:
             why = "files changed while it was tried, so nothing is recorded: run this again"
             self.errors.append(f"{crate.name}: {why}")
             return
-        tried = {it.page.name for it in trial.cases}
+        tried = {it.page.name for it in trial.cases if it.kind not in ("", UNTRIED)}
         verdicts = {}
         for page in pages:
             sum = tried_record.checksum(page, base)
@@ -207,8 +212,8 @@ def try_all(crates, given):
     def one(crate):
         try:
             print("\n".join(run.try_crate(crate, max(1, given.jobs // lanes))), flush=True)
-        except (CheckError, SourceError, OSError) as error:
-            run.errors.append(f"{crate.name}: NOT TRIED: {error}")
+        except Exception as error:  # whatever it is, the other crates are tried
+            run.errors.append(f"{crate.name}: NOT TRIED: {type(error).__name__}: {error}")
 
     with ThreadPoolExecutor(lanes) as pool:
         begun = [pool.submit(one, crate) for crate in crates]
@@ -221,7 +226,9 @@ def try_all(crates, given):
             raise
     for it in run.errors:
         print(f"error: {it}")
-    print(f"wrong bodies: {len(crates)} crates, {len(run.errors)} errors")
+    checks, seconds = sum(it.checks for it in run.benches), sum(it.seconds for it in run.benches)
+    spent = f"{checks} checks, {seconds:.0f} processor seconds"
+    print(f"wrong bodies: {len(crates)} crates, {spent}, {len(run.errors)} errors")
     return 1 if run.errors else 0
 
 

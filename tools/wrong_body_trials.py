@@ -1,25 +1,35 @@
-"""How many pages of a crate are tried in few checks.
+"""How many pages of a crate are tried in few checks, and cheap ones.
 
 A function's proof cites what the others state, and not their bodies. So pages that change the bodies of different
-functions can share a check: a page is refused only if a function that it changes is refused for itself. A function
-whose callee is refused may not have been tried, so its page goes into the next check. Pages that meet in a function go
-into different checks. A page that changes more than bodies, or on which a shared check gave no clear answer, goes into
-a check of its own, and there the whole check's answer counts."""
+functions can share a check: a page is refused only if a function that it changes is refused for itself. Pages that meet
+in a function go into different checks, and so does a page that changes more than bodies; of that one the functions are
+asked that most likely see the change.
+
+A check is asked only for the functions that its pages change, with all other bodies left out (stubbed_bodies.py). Where
+that gives no clear answer on a page, the same functions are asked with what they call as it stands. There a function
+whose callee is refused may not have been tried, so its page goes into the next check. What isn't refused so is tried
+alone, by a check of the whole crate: that a page is proved is said by such a check alone."""
 
 from dataclasses import dataclass, field
 
-from rattle_pages import applied, is_named, place_of
+from page_reach import first_asked
+from rattle_pages import applied, is_named, paths_of, place_of
+from stubbed_bodies import stubbed
 
 REFUSED, PROVED, FAULTY, UNTRIED = "refused", "proved", "faulty", "untried"
 
 
 @dataclass
 class Case:
-    """A page that is tried: where it stands, whether it needs a check of its own, and what came of it."""
+    """A page that is tried: where it stands, the functions that are asked about it, what kind of check it needs next,
+    and what came of it."""
 
     page: object
     place: object
+    keys: set = field(default_factory=set)
     is_alone: bool = False
+    is_with_called: bool = False
+    is_whole: bool = False
     kind: str = ""
     said: str = ""
 
@@ -47,9 +57,16 @@ class Trial:
             case = Case(page, None)
             case.settle(FAULTY, why)
         else:
-            place = place_of(page, self.crate.folder)
-            case = Case(page, place, is_alone=place.is_beyond_bodies)
+            case = self.case_of(page)
         self.cases.append(case)
+
+    def case_of(self, page):
+        """Returns a page as it is tried first."""
+        place = place_of(page, self.crate.folder)
+        if place.is_beyond_bodies:
+            keys = first_asked(page, place, self.crate)
+            return Case(page, place, keys, is_alone=True, is_whole=not keys)
+        return Case(page, place, place.functions)
 
     def left(self):
         return [it for it in self.cases if not it.kind]
@@ -58,42 +75,86 @@ class Trial:
         """Tries each page, in as few checks as hold them."""
         while self.left():
             batch = self.batch()
-            texts, _, _ = applied(self.crate.folder, [it.page for it in batch])
-            answer = self.check(texts)
-            self.judge(batch, answer)
-            settled = sum(bool(it.kind) for it in batch)
-            functions = len(set().union(*[it.place.functions for it in batch]))
-            told = f"{len(batch)}, functions {functions}, settled {settled}; {answer.seconds:.0f} processor seconds"
-            self.say(f"pages in a check: {told}")
-            if not settled and not any(it.is_alone for it in batch):
-                for it in batch:
-                    it.is_alone = True
+            self.judge(batch, *self.answer(batch))
+
+    def answer(self, batch):
+        """Returns what the next check says of its pages, and whether bodies were left out in it."""
+        texts, gone, only = applied(self.crate.folder, [it.page for it in batch])[0], [], []
+        keys = set().union(*[it.keys for it in batch])
+        if not batch[0].is_whole:
+            only = sorted(set().union(*[self.paths(it) for it in batch]))
+        if not batch[0].is_whole and not batch[0].is_with_called:
+            texts, gone = stubbed(self.crate, texts, keys)
+        answer = self.check(texts, only, gone)
+        how = f"{len(only)} functions, {len(gone)} left out" if only else "the whole crate"
+        pages = " ".join(it.page.name for it in batch)
+        self.say(f"a check of {how}: {answer.seconds:.0f} processor seconds: {pages}")
+        return answer, bool(gone)
+
+    def paths(self, case):
+        """Returns how a check is asked for the functions of a page."""
+        return {path for key in case.keys for path in paths_of(key, self.crate.name, self.crate.folder)}
 
     def batch(self):
         """Returns the pages of the next check: those that change most functions first, so that few are left over."""
-        order = sorted(self.left(), key=lambda it: (it.is_alone, -len(it.place.functions)))
-        batch, taken = order[:1], set(order[0].place.functions)
+        order = sorted(self.left(), key=lambda it: (it.is_whole, it.is_with_called, it.is_alone, -len(it.keys)))
+        batch, taken = order[:1], set(order[0].keys)
         for case in [] if order[0].is_alone else order[1:]:
-            if case.is_alone or case.place.functions & taken:
+            if case.is_alone or case.is_with_called != order[0].is_with_called or case.keys & taken:
                 continue
             if applied(self.crate.folder, [it.page for it in [*batch, case]])[1]:
                 continue
             batch.append(case)
-            taken |= case.place.functions
+            taken |= case.keys
         return batch
 
-    def judge(self, batch, answer):
-        """Settles the pages of a check on which its answer is clear, and has others tried alone."""
-        if len(batch) == 1 and (batch[0].is_alone or answer.is_proved or not answer.is_verdict):
-            judge_alone(batch[0], answer)
+    def judge(self, batch, answer, is_stubbed=False):
+        """Settles the pages of a check on which its answer is clear, and has the others tried in another one."""
+        first = batch[0]
+        if first.is_whole:
+            judge_alone(first, answer)
+        elif answer.unknown:
+            self.ask_all([it for it in batch if answer.unknown in self.paths(it)] or batch)
         elif answer.is_proved:
-            for it in batch:
-                judge_alone(it, answer)
-        elif not answer.is_verdict:
+            self.ask_all(batch)
+        elif is_stubbed:
+            self.judge_stubbed(batch, answer)
+        elif not answer.is_verdict and len(batch) > 1:
             self.part(batch, answer)
+        elif not answer.is_verdict:
+            judge_alone(first, answer)
+        elif first.place.is_beyond_bodies:
+            self.judge_first_asked(first, answer)
         else:
-            for it in batch:
-                self.judge_in_company(it, answer)
+            self.judge_in_company(batch, answer)
+
+    def ask_all(self, cases):
+        """Has pages tried in the whole crate, each alone."""
+        for it in cases:
+            it.is_alone = it.is_whole = True
+
+    def judge_stubbed(self, batch, answer):
+        """Settles the pages of which a function is refused for itself, with a goal of its own that is open. If nothing
+        of a page is refused, the whole crate is asked. The others are tried again, and if no page of a check was
+        settled, with what their functions call."""
+        if not answer.is_verdict and len(batch) > 1:
+            self.part(batch, answer)
+            return
+        unclear = []
+        for case in batch:
+            own = self.own(case, {name for name, goal in answer.refused.items() if goal})
+            if answer.is_verdict and own and not answer.unread:
+                case.settle(REFUSED, words_of(own, answer.refused[own]))
+            elif answer.is_verdict and self.is_only_proved(case, answer):
+                self.ask_all([case])
+            else:
+                unclear.append(case)
+        for case in unclear if len(unclear) == len(batch) else []:
+            case.is_with_called = True
+
+    def is_only_proved(self, case, answer):
+        others = {*answer.refused, *answer.resting, *answer.undecided}
+        return bool(self.own(case, answer.proved)) and not self.own(case, others)
 
     def part(self, batch, answer):
         """Has the pages on whose lines a check stopped tried alone, or all where no line tells whose it was."""
@@ -101,18 +162,32 @@ class Trial:
         for it in blamed or batch:
             it.is_alone = True
 
-    def judge_in_company(self, case, answer):
-        """Settles a page if a function that it changes is refused for itself; else it goes into another check."""
-        own = self.own(case, answer.refused)
-        if own:
-            case.settle(REFUSED, words_of(own, answer.refused[own]))
-        elif not self.own(case, answer.resting):
-            case.is_alone = True
+    def judge_first_asked(self, case, answer):
+        """Settles a page that changes more than bodies if a function that was asked about it is refused."""
+        if answer.refused or answer.unread:
+            judge_alone(case, answer)
+        else:
+            self.ask_all([case])
+
+    def judge_in_company(self, batch, answer):
+        """Settles the pages of which a function is refused for itself. The others go into other checks: the next, if a
+        function rests on one that is refused, or that of the whole crate, if it is proved."""
+        for case in batch:
+            own = self.own(case, answer.refused)
+            if own:
+                case.settle(REFUSED, words_of(own, answer.refused[own]))
+            elif case.is_alone or self.is_only_proved(case, answer):
+                self.ask_all([case])
+            elif not self.own(case, answer.resting):
+                case.is_alone = True
+        if not any(it.kind or it.is_alone for it in batch):
+            for it in batch:
+                it.is_alone = True
 
     def own(self, case, told):
-        """Returns the first function of those that the check told of which the page changes."""
+        """Returns the first function of those that the check told of that is asked about the page."""
         for name in sorted(told):
-            for key in case.place.functions:
+            for key in case.keys:
                 if is_named(name, key, self.crate.name, self.crate.folder):
                     return name
         return None
