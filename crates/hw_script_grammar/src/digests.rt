@@ -64,12 +64,19 @@ fn each_digest(alloc: Global, names: &Names, words: &mut Words<'_>) -> Result<Di
 {
     let mut list = DigestList::new(alloc);
     while let Some(word) = words.next() {
-        match names.digest(word) {
-            Some(digest) => list.push(digest)?,
-            None => return Err(Fault::Grammar),
-        }
+        list.push(digest_as(names, word)?)?;
     }
     Ok(list)
+}
+
+/// The digest of the unit that is defined under the name.
+fn digest_as(names: &Names, word: &[u8]) -> Result<Digest, Fault>
+    ensures { Gives (λ digest. digest) result (digest_as names.now word.now) }
+{
+    match names.digest(word) {
+        Some(digest) => Ok(digest),
+        None => Err(Fault::Grammar),
+    }
 }
 
 /// These digests in rising order.

@@ -45,8 +45,8 @@ fn next_unit(names: &Names, words: &mut Words<'_>) -> Result<WireUnit, Fault>
     ensures fits { IfOk result Fits }
 {
     let word = words.word()?;
-    match names.unit(word) {
-        Some(unit) => Ok(unit.copy()?),
-        None => Err(Fault::Grammar),
-    }
+    let Some(unit) = names.unit(word) else {
+        return Err(Fault::Grammar);
+    };
+    Ok(unit.copy()?)
 }

@@ -29,12 +29,19 @@ fn each_weight(alloc: Global, words: &mut Words<'_>) -> Result<WeightList, Fault
 {
     let mut list = WeightList::new(alloc);
     while let Some(word) = words.next() {
-        match number_up_to(u64::MAX, word) {
-            Some(number) => list.push(number)?,
-            None => return Err(Fault::Grammar),
-        }
+        list.push(weight(word)?)?;
     }
     Ok(list)
+}
+
+/// The number below 2^64 that the word is.
+fn weight(word: &[u8]) -> Result<u64, Fault>
+    ensures { Gives (λ n. n) result (number_below (2 ^ 64) word.now) }
+{
+    match number_up_to(u64::MAX, word) {
+        Some(number) => Ok(number),
+        None => Err(Fault::Grammar),
+    }
 }
 
 /// One or more numbers below 2^32.
@@ -55,10 +62,17 @@ fn each_count(alloc: Global, words: &mut Words<'_>) -> Result<IndexList, Fault>
 {
     let mut list = IndexList::new(alloc);
     while let Some(word) = words.next() {
-        match number_up_to(u64::from(u32::MAX), word) {
-            Some(number) => list.push(number as u32)?,
-            None => return Err(Fault::Grammar),
-        }
+        list.push(count(word)?)?;
     }
     Ok(list)
+}
+
+/// The number below 2^32 that the word is.
+fn count(word: &[u8]) -> Result<u32, Fault>
+    ensures { Gives (λ n. n) result (number_below (2 ^ 32) word.now) }
+{
+    match number_up_to(u64::from(u32::MAX), word) {
+        Some(number) => Ok(number as u32),
+        None => Err(Fault::Grammar),
+    }
 }

@@ -24,9 +24,10 @@ impl Named {
         ensures { IfOk result (λ named. named ≡ self.now) }
     {
         let name = self.name.copy()?;
+        let vertex = self.vertex.copy()?;
         Ok(Named {
             name,
-            vertex: self.vertex.copy()?,
+            vertex,
             digest: self.digest,
         })
     }
