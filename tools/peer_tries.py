@@ -1,0 +1,246 @@
+#!/usr/bin/env python3
+"""Sets peers that misbehave on real nodes, and says what that costs beside a run without them at the same time.
+
+    peer_tries.py PROGRAM KIND [--seconds 60]
+
+    silent-connections   a hub and three validators; a connection that says nothing comes to the hub each second
+    resets               the same; somebody connects and resets the connection in a loop
+    trickles             the same; a connection that sends a byte a second comes to the hub, one after the other
+    silent-peer          a validator whose second PEER accepts and says nothing
+    trickling-peer       a validator whose second PEER sends a byte each second
+    slow-peer            a validator whose second PEER says Hello, and then reads a byte each second
+    sixteen              a hub and sixteen honest validators: each `link fault` is counted
+
+Final blocks are those in the log of validator 0, and units the `made` lines of the validator. For the kinds with a PEER a
+round takes 1,024 milliseconds, for the others 256. The last line is what the misbehaviour costs, as a share of what the
+other network did in the same time, and the status is 0 where that is below a tenth for connections and a fifth for
+peers, and where there is no link fault.
+
+It stands outside the gate and proves nothing."""
+
+import argparse
+import contextlib
+import hashlib
+import json
+import shutil
+import socket
+import struct
+import subprocess
+import sys
+import tempfile
+import threading
+import time
+from pathlib import Path
+
+from rejoin import free_port
+
+DATA = Path(__file__).resolve().parent.parent / "crates" / "highway" / "data"
+CONNECTIONS = ("silent-connections", "resets", "trickles")
+PEERS = ("silent-peer", "trickling-peer", "slow-peer")
+# Frames begin with their length. A Hello is a kind byte and the digest of the settings.
+HELLO_KIND, LONG_FRAME = b"\x01", (1 << 20).to_bytes(4) + b"\x02"
+
+
+class Network:
+    """A hub and validators, each in a folder of its own; all of them are stopped at the end."""
+
+    def __init__(self, room, program, validators, exponent):
+        self.room, self.program, self.nodes = room, program, {}
+        room.mkdir()
+        members = list(range(validators))
+        settings = {"weights": [1] * validators, "threshold": 0, "levels": 1, "exponents": [exponent, 12], "leaders": members}
+        (room / "settings.json").write_text(json.dumps(settings), encoding="ascii")
+        lines = [hashlib.sha256(bytes([number])).hexdigest() for number in members]
+        (room / "keys").write_text("".join(f"{line}\n" for line in lines), encoding="ascii")
+        self.port = free_port()
+        self.address = f"127.0.0.1:{self.port}"
+        self.start("hub", "serve", self.address, 65536)
+        await_listener(self.port)
+
+    def start(self, name, command, *words):
+        folder = self.room / name
+        folder.mkdir()
+        for file in ("settings.json", "keys"):
+            shutil.copy(self.room / file, folder)
+        line = [self.program, command, "settings.json", "keys", "node.log", *map(str, words)]
+        with open(folder / "out", "wb") as out, open(folder / "err", "wb") as err:
+            self.nodes[name] = subprocess.Popen(line, cwd=folder, stdout=out, stderr=err)
+
+    def validate(self, number, *peers):
+        self.start(f"v{number}", "run", number, 1_000_000, *peers)
+
+    def stop(self):
+        """Stops the validators before the hub, so that none finds it gone."""
+        for node in reversed(self.nodes.values()):
+            node.kill()
+            node.wait()
+
+    def instance(self):
+        """The digest of the configuration, whose length stands in the header of a log."""
+        data = (self.room / "hub" / "node.log").read_bytes()
+        return hashlib.sha256(data[9:9 + int.from_bytes(data[5:9])]).digest()
+
+    def lines(self, name, start, file="out"):
+        text = (self.room / name / file).read_text(encoding="utf-8")
+        return sum(start in line for line in text.splitlines())
+
+    def finals(self):
+        """How many blocks are final by the log of validator 0; a log may be torn, since its node was killed."""
+        whole = self.room / "whole.log"
+        subprocess.run([self.program, "mend", self.room / "v0" / "node.log", whole], check=True, capture_output=True)
+        said = subprocess.run([self.program, "replay", whole], cwd=self.room, check=True, capture_output=True, text=True)
+        return sum(line.startswith("final ") for line in said.stdout.splitlines())
+
+
+def await_listener(port):
+    """Waits until somebody listens."""
+    until = time.monotonic() + 20
+    while time.monotonic() < until:
+        with contextlib.suppress(OSError), socket.create_connection(("127.0.0.1", port)):
+            return
+        time.sleep(0.05)
+    sys.exit("the hub doesn't listen")
+
+
+# ---- who misbehaves
+
+def each_second(port, ended):
+    """Connects each second and says nothing."""
+    kept = []
+    while not ended.wait(1):
+        with contextlib.suppress(OSError):
+            kept.append(socket.create_connection(("127.0.0.1", port)))
+
+
+def reset_on(port, ended):
+    """Connects and resets the connection, again and again."""
+    while not ended.is_set():
+        with contextlib.suppress(OSError), socket.create_connection(("127.0.0.1", port)) as stream:
+            stream.setsockopt(socket.SOL_SOCKET, socket.SO_LINGER, struct.pack("ii", 1, 0))
+
+
+def trickle_on(port, ended):
+    """Connects and sends a byte of a long frame each second; when it is let go, it comes again."""
+    while not ended.is_set():
+        with contextlib.suppress(OSError), socket.create_connection(("127.0.0.1", port)) as stream:
+            trickle(stream, ended, LONG_FRAME)
+
+
+def trickle(stream, ended, begin):
+    """Sends these bytes and then zeros, a byte each second."""
+    stream.settimeout(1)
+    for place in range(1 << 20):
+        stream.sendall(begin[place:place + 1] or b"\0")
+        if ended.wait(1):
+            return
+
+
+def read_slowly(stream, ended, hello):
+    """Says Hello, and then reads a byte each second."""
+    stream.sendall(hello)
+    while not ended.wait(1):
+        if not stream.recv(1):
+            return
+
+
+def hold(stream, ended, _hello):
+    """Says nothing."""
+    while not ended.wait(0.2):
+        pass
+
+
+class BadPeer:
+    """Who listens as a PEER, and treats each who dials in its way."""
+
+    def __init__(self, kind, instance, ended):
+        self.door, self.ended, self.dials = socket.create_server(("127.0.0.1", 0), backlog=64), ended, 0
+        self.address = f"127.0.0.1:{self.door.getsockname()[1]}"
+        self.hello = (33).to_bytes(4) + HELLO_KIND + instance
+        self.treat = {"silent-peer": hold, "slow-peer": read_slowly,
+                      "trickling-peer": lambda stream, ended, _: trickle(stream, ended, LONG_FRAME)}[kind]
+        threading.Thread(target=self.listen, daemon=True).start()
+
+    def listen(self):
+        while True:
+            stream, _ = self.door.accept()
+            self.dials += 1
+            threading.Thread(target=self.serve, args=(stream,), daemon=True).start()
+
+    def serve(self, stream):
+        with contextlib.suppress(OSError), stream:
+            self.treat(stream, self.ended, self.hello)
+
+
+# ---- what is tried
+
+def tried_connections(words, room, ended):
+    """The final blocks of a network that is left alone, and of one that isn't."""
+    networks = [Network(room / name, words.program, 3, 8) for name in ("alone", "hurt")]
+    try:
+        for network in networks:
+            for number in range(3):
+                network.validate(number, network.address)
+        hurt = {"silent-connections": each_second, "resets": reset_on, "trickles": trickle_on}[words.kind]
+        threading.Thread(target=hurt, args=(networks[1].port, ended), daemon=True).start()
+        time.sleep(words.seconds)
+    finally:
+        ended.set()
+        for network in networks:
+            network.stop()
+    print(f"sessions at the hub: {', '.join(str(network.lines('hub', 'session ')) for network in networks)} that failed")
+    return "final blocks", [network.finals() for network in networks], 0.1
+
+
+def tried_peers(words, room, ended):
+    """The units of a validator with one PEER, and of one that has a bad PEER besides."""
+    networks = [Network(room / name, words.program, 3, 10) for name in ("alone", "hurt")]
+    bad = BadPeer(words.kind, networks[0].instance(), ended)
+    try:
+        networks[0].validate(0, networks[0].address)
+        networks[1].validate(0, networks[1].address, bad.address)
+        time.sleep(words.seconds)
+    finally:
+        ended.set()
+        for network in networks:
+            network.stop()
+    print(f"the bad peer was dialled {bad.dials} times; {networks[1].lines('v0', '', 'err')} lines on standard error")
+    return "units", [network.lines("v0", "made ") for network in networks], 0.2
+
+
+def tried_sixteen(words, room):
+    """How many link faults there are where all are honest."""
+    network = Network(room / "sixteen", words.program, 16, 10)
+    try:
+        for number in range(16):
+            network.validate(number, network.address)
+        time.sleep(words.seconds)
+    finally:
+        network.stop()
+    faults = sum(network.lines(name, "link fault") for name in network.nodes)
+    made = sum(network.lines(f"v{number}", "made ") for number in range(16))
+    for name in network.nodes:
+        for line in (network.room / name / "err").read_text(encoding="utf-8").splitlines():
+            print(f"{name}: {line}")
+    print(f"sixteen: {made} units, {network.finals()} final blocks, {faults} link faults in {words.seconds:g} seconds")
+    return faults == 0
+
+
+def main(arguments=None):
+    parser = argparse.ArgumentParser(description=__doc__, formatter_class=argparse.RawDescriptionHelpFormatter)
+    parser.add_argument("program", type=lambda text: Path(text).resolve(), metavar="PROGRAM")
+    parser.add_argument("kind", choices=(*CONNECTIONS, *PEERS, "sixteen"), metavar="KIND")
+    parser.add_argument("--seconds", type=float, default=60.0)
+    words = parser.parse_args(arguments)
+    ended = threading.Event()
+    with tempfile.TemporaryDirectory(prefix="highway-") as folder:
+        if words.kind == "sixteen":
+            return 0 if tried_sixteen(words, Path(folder)) else 1
+        tries = tried_connections if words.kind in CONNECTIONS else tried_peers
+        what, (alone, hurt), limit = tries(words, Path(folder), ended)
+    cost = 1 - hurt / alone if alone else 1
+    print(f"{words.kind}: {hurt} {what} in {words.seconds:g} seconds, {alone} without: it costs {cost:.1%}")
+    return 0 if cost < limit else 1
+
+
+if __name__ == "__main__":
+    sys.exit(main())
