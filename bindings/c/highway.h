@@ -1,0 +1,120 @@
+/* The proved core of a Highway validator, for C. Link libhw_c.a and then liblibc_c.a, which stands in the kit's c/.
+ *
+ * Ownership. A caller owns an hw_core, {0} at first. hw_core_new fills an empty one, hw_core_free empties it. A call
+ * with an empty one answers HW_EMPTY. It is never copied while it is full. Bytes that go in are read during the call
+ * alone. Bytes that come out go into the caller's buffer.
+ * Buffers. A call that writes bytes writes as many as fit into buf[0..room], and says the length of all of them: where
+ * that is more than room, call again with more room. Pointers are never NULL, not even for 0 bytes, and what they
+ * point to doesn't overlap. After an error what they point to is as it was; but an hw_answer says what stands behind
+ * the error.
+ * Threads. A handle may go to another thread, and one call at a time uses it, also of those that only read. Two
+ * handles are two: calls of them may overlap.
+ * Signals, fork. No call is made from a signal handler, nor from the forked child of a process with threads.
+ * A bool is 0 or 1. */
+#ifndef HIGHWAY_H
+#define HIGHWAY_H
+#include <stdbool.h>
+#include <stddef.h>
+#include <stdint.h>
+#ifdef __cplusplus
+extern "C" {
+#endif
+
+/* A place for a node: null while there is none. */
+typedef struct { void *at; } hw_core;
+
+/* What each call answers. */
+enum {
+  HW_OK = 0,
+  HW_OUT_OF_MEMORY = 1,         /* nothing has changed */
+  HW_NONE = 2,                  /* there is none */
+  HW_OUT_OF_RANGE = 3,          /* a number is outside its range */
+  HW_EMPTY = 4,                 /* the handle holds no node */
+  HW_FULL = 5,                  /* the handle holds a node already */
+  HW_TOO_LONG = 6,              /* longer than its format or its journal allows */
+  HW_OTHER_INSTANCE = 7,        /* the two nodes are of different configurations */
+  HW_BAD_BYTES = 0x100,         /* + 0 truncated, 1 trailing, 2 bad tag, 3 too long, 4 out of range; at is the place */
+  HW_BAD_CONFIG = 0x200,        /* + 1 .. 9, the limit that is broken; at is the validator without weight */
+  HW_BAD_SIGNATURE = 0x300,     /* the verdict was no */
+  HW_BAD_PAIR = 0x310,          /* + 0 creator, 1 sequence, 2 instance, 3 same */
+  HW_CLASH = 0x320,             /* digest is that of another unit */
+  HW_RECORDS_FULL = 0x321,      /* the journal is as long as it may be */
+  HW_PARK_FULL = 0x322,         /* as many units wait as may */
+  HW_LOCAL_RULE = 0x400,        /* + 0 .. 18, the rule that is broken */
+  HW_BAD_CERTIFICATE = 0x500,   /* + 0 magic, 1 version, 2 torn, 3 too long, 4 trailing; at is the place */
+  HW_BAD_CERTIFIED_CONFIG = 0x510, /* + as HW_BAD_BYTES; at is the place in the configuration */
+  HW_BAD_CERTIFIED_VERTEX = 0x520  /* + as HW_BAD_BYTES; at is the place of the vertex */
+};
+
+/* What stands behind a status; what it doesn't need is 0. After hw_deliver the kind says what became of the vertex: 0
+ * count units settled, 1 it waits for count needs, 2 it breaks the rule of the number count, 3 it was there already. */
+typedef struct { uint32_t kind, count; uint64_t at; uint8_t digest[32]; } hw_answer;
+
+/* A configuration without its lists. Leaders are drawn by the key where is_drawn is 1, else told by a table. The
+ * height of the last block is end where has_end is 1. */
+typedef struct {
+  uint64_t ftt, end;
+  uint32_t max_records, max_parked;
+  uint8_t levels, min_exponent, max_exponent, is_drawn, has_end, key[32];
+} hw_settings;
+
+/* Who signed a vertex: 0 a unit, by its creator; 1 evidence, by the creator of each unit; 2 an endorsement of a unit. */
+typedef struct { uint32_t validator; uint8_t unit[32], signature[32]; } hw_signer;
+typedef struct { uint32_t kind; hw_signer first, second; } hw_signatures;
+
+typedef struct {
+  uint64_t journal, decided, faulty_weight;
+  uint32_t settled, parked, dropped, exceeded, has_fork;
+  uint8_t fork[32];
+} hw_summary_of;
+
+/* 0 nothing is known of the validator, 1 this is its latest unit, 2 it equivocated. */
+typedef struct { uint32_t kind; uint8_t unit[32]; } hw_observed;
+
+/* 0 unknown, 1 settled under this number, 2 parked for so many needs, 3 dropped for the rule of this number. */
+typedef struct { uint32_t kind, number; } hw_placed;
+
+typedef struct { uint8_t block[32]; uint64_t height, quorum, at; uint32_t level; } hw_decided;
+
+/* 0 the unit has to settle, 1 the validator has to be known as faulty, 2 the unit has to be endorsed. */
+typedef struct { uint32_t kind, validator; uint8_t digest[32]; } hw_need;
+
+/* 0 a proposal, 1 a confirmation, 2 a witness; how many bytes its unit has; and what its creator signs. */
+typedef struct { uint32_t kind; uint64_t length; uint8_t digest[32]; } hw_planned;
+
+/* 0 they agree on height blocks; 1 they decided left and right at this height, and the culprits weigh so much; 2 two
+ * units clash. The text has length bytes. */
+typedef struct { uint32_t kind; uint64_t length, height, culprits, weight; uint8_t left[32], right[32]; } hw_audited;
+
+/* 0 yes; no, since 1 the configuration breaks a limit, 2 the vertex of this number is refused, 3 the faulty weigh so
+ * much, 4 the block doesn't stand. The status is that of 1 and 2. */
+typedef struct { uint32_t kind, status, number; uint64_t weight; uint8_t block[32], instance[32]; } hw_judged;
+
+uint32_t hw_config(const hw_settings *settings, const uint64_t *weights, size_t validators, const uint32_t *table,
+                   size_t entries, uint8_t *buf, size_t room, size_t *len, hw_answer *answer);
+uint32_t hw_core_new(const uint8_t *config, size_t config_len, hw_answer *answer, hw_core *core);
+uint32_t hw_core_free(hw_core *core);
+uint32_t hw_signed(const uint8_t *vertex, size_t vertex_len, hw_signatures *signatures, hw_answer *answer);
+uint32_t hw_deliver(hw_core *core, const uint8_t *vertex, size_t vertex_len, bool verdict, hw_answer *answer);
+uint32_t hw_journal(hw_core *core, uint64_t place, uint8_t *buf, size_t room, size_t *len);
+uint32_t hw_summary(hw_core *core, hw_summary_of *summary);
+uint32_t hw_observation(hw_core *core, uint32_t validator, hw_observed *observed);
+uint32_t hw_place(hw_core *core, const uint8_t unit[32], hw_placed *placed);
+uint32_t hw_decision(hw_core *core, uint64_t index, hw_decided *decided);
+uint32_t hw_unmet(hw_core *core, hw_need *list, size_t room, size_t *count);
+uint32_t hw_for_need(hw_core *core, const hw_need *need, size_t place, uint8_t *buf, size_t room, size_t *len);
+uint32_t hw_next_unit(hw_core *core, uint32_t validator, uint64_t now, const uint8_t *value, size_t value_len,
+                      hw_planned *planned, uint8_t *buf, size_t room);
+uint32_t hw_with_signature(const uint8_t *unit, size_t unit_len, const uint8_t signature[32], uint8_t *buf,
+                           size_t room, size_t *len, hw_answer *answer);
+uint32_t hw_audit(hw_core *left, hw_core *right, hw_audited *audited, uint8_t *buf, size_t room);
+uint32_t hw_certificate(hw_core *core, uint64_t index, uint8_t *buf, size_t room, size_t *len);
+uint32_t hw_certified(const uint8_t *certificate, size_t certificate_len, size_t place, hw_signatures *signatures,
+                      hw_answer *answer);
+uint32_t hw_check(const uint8_t *certificate, size_t certificate_len, const bool *verdicts, size_t count,
+                  hw_judged *judged, hw_answer *answer);
+
+#ifdef __cplusplus
+}
+#endif
+#endif

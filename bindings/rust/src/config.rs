@@ -1,0 +1,91 @@
+//! Configurations.
+
+use crate::{Error, sys};
+
+/// Who leads which round.
+#[derive(Clone, Debug, PartialEq, Eq)]
+pub enum Leaders {
+    /// Validators by round, again from the first after the last: 1 to 4,096 entries.
+    Table(Vec<u32>),
+    /// Drawn by weight, from the words that this key gives.
+    Drawn([u8; 32]),
+}
+
+/// What the nodes of an instance agree on before they begin.
+///
+/// ```
+/// use highway::{Core, Error, Limit, Settings};
+///
+/// let settings = Settings { fault_tolerance: 1, ..Settings::of_weights(vec![4, 3, 3]) };
+/// let core = Core::new(&settings.to_bytes()?)?;
+/// assert_eq!(core.summary()?.journal, 0);
+///
+/// let light = Settings { fault_tolerance: 10, ..settings };
+/// assert_eq!(light.to_bytes(), Err(Error::Config(Limit::Threshold)));
+/// # Ok::<(), Error>(())
+/// ```
+#[derive(Clone, Debug, PartialEq, Eq)]
+pub struct Settings {
+    /// The weight of each validator.
+    pub weights: Vec<u64>,
+    /// What is said of final blocks holds while the faulty validators weigh no more than this.
+    pub fault_tolerance: u64,
+    /// The greatest level of a summit that is looked for: 1 to 30.
+    pub levels: u8,
+    /// The least exponent of a round: a round of exponent e lasts 2^e milliseconds. At least 2.
+    pub min_exponent: u8,
+    /// The greatest exponent of a round, at most 40.
+    pub max_exponent: u8,
+    /// Who leads which round.
+    pub leaders: Leaders,
+    /// How many vertices a journal may have.
+    pub max_records: u32,
+    /// How many units may wait at a time.
+    pub max_parked: u32,
+    /// The height of the last block, where there is one.
+    pub end: Option<u64>,
+}
+
+impl Settings {
+    /// Settings of validators with these weights, to be changed as a host wants: no fault tolerance, one level,
+    /// rounds of 1,024 milliseconds, leaders drawn by a key of zeros, as much room as 256 validators may have, no end.
+    pub fn of_weights(weights: Vec<u64>) -> Settings {
+        Settings {
+            weights,
+            fault_tolerance: 0,
+            levels: 1,
+            min_exponent: 10,
+            max_exponent: 20,
+            leaders: Leaders::Drawn([0; 32]),
+            max_records: 32_768,
+            max_parked: 1_024,
+            end: None,
+        }
+    }
+
+    /// The bytes of the configuration, which name its instance.
+    ///
+    /// # Errors
+    ///
+    /// [`Error::Config`] names the first limit that it breaks, and [`Error::TooLong`] is for more than 1,024 weights
+    /// or 4,096 entries of a table.
+    pub fn to_bytes(&self) -> Result<Vec<u8>, Error> {
+        let (table, key): (&[u32], _) = match &self.leaders {
+            Leaders::Table(entries) => (entries, None),
+            Leaders::Drawn(key) => (&[], Some(*key)),
+        };
+        let fields = sys::Settings {
+            ftt: self.fault_tolerance,
+            end: self.end.unwrap_or(0),
+            max_records: self.max_records,
+            max_parked: self.max_parked,
+            levels: self.levels,
+            min_exponent: self.min_exponent,
+            max_exponent: self.max_exponent,
+            is_drawn: u8::from(key.is_some()),
+            has_end: u8::from(self.end.is_some()),
+            key: key.unwrap_or_default(),
+        };
+        sys::config(&fields, &self.weights, table)
+    }
+}

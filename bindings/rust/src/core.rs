@@ -1,0 +1,382 @@
+//! A node.
+
+use crate::{Certificate, Digest, Error, Need, Plan, Rule, Verdict, sys};
+use std::fmt;
+use std::iter::FusedIterator;
+
+/// A node of one instance: what it received, and all that follows from it.
+///
+/// It may go to another thread. Two threads never use it at once: each call takes the node out of its place and puts
+/// it back.
+///
+/// ```
+/// fn goes_to_another_thread<T: Send>() {}
+/// goes_to_another_thread::<highway::Core>();
+/// ```
+///
+/// ```compile_fail
+/// fn is_used_by_two<T: Sync>() {}
+/// is_used_by_two::<highway::Core>();
+/// ```
+pub struct Core {
+    handle: sys::Handle,
+}
+
+/// What became of a vertex that was accepted.
+#[derive(Clone, Copy, Debug, PartialEq, Eq)]
+pub enum Receipt {
+    /// It went last in the journal.
+    Admitted {
+        /// So many units settled.
+        settled: u32,
+    },
+    /// It went last in the journal, and waits.
+    Parked {
+        /// For so many needs.
+        missing: u32,
+    },
+    /// It went last in the journal, and breaks this rule of the units below it.
+    Dropped(Rule),
+    /// The journal had it already, and nothing changed.
+    Repeat,
+}
+
+/// Why a vertex was refused: the error, and whether the peer that sent it may be blamed.
+#[derive(Clone, Copy, Debug, PartialEq, Eq)]
+pub struct Refusal {
+    /// Why.
+    pub error: Error,
+}
+
+impl Refusal {
+    /// Whether no honest peer sends such a vertex. What the node hasn't room or memory for is nobody's fault.
+    pub fn is_fault_of_sender(&self) -> bool {
+        !matches!(self.error, Error::OutOfMemory | Error::RecordsFull | Error::ParkFull)
+    }
+}
+
+impl fmt::Display for Refusal {
+    fn fmt(&self, f: &mut fmt::Formatter<'_>) -> fmt::Result {
+        write!(f, "refused: {}", self.error)
+    }
+}
+
+impl std::error::Error for Refusal {
+    fn source(&self) -> Option<&(dyn std::error::Error + 'static)> {
+        Some(&self.error)
+    }
+}
+
+impl From<Refusal> for Error {
+    fn from(refusal: Refusal) -> Error {
+        refusal.error
+    }
+}
+
+/// A final block.
+#[derive(Clone, Copy, Debug, PartialEq, Eq)]
+pub struct Decision {
+    /// Its digest.
+    pub block: Digest,
+    /// How many blocks lead from it to the root.
+    pub height: u64,
+    /// The least level that had a summit at that moment.
+    pub level: u32,
+    /// The weight that a committee of that level needs.
+    pub quorum: u64,
+    /// How long the journal was then.
+    pub at: u64,
+}
+
+/// How much a node has of what.
+#[derive(Clone, Copy, Debug, PartialEq, Eq)]
+pub struct Summary {
+    /// The vertices of its journal.
+    pub journal: u64,
+    /// The units that are settled.
+    pub settled: u32,
+    /// The units that wait.
+    pub parked: u32,
+    /// The units that break a rule of the units below them.
+    pub dropped: u32,
+    /// The final blocks.
+    pub decided: u64,
+    /// What the faulty validators weigh.
+    pub faulty_weight: u64,
+    /// Whether that exceeds the fault tolerance, so that nothing is promised of final blocks any more.
+    pub is_exceeded: bool,
+    /// The fork choice: `None` exactly where the node observes no unit.
+    pub fork: Option<Digest>,
+}
+
+/// What a node observes of a validator.
+#[derive(Clone, Copy, Debug, PartialEq, Eq)]
+pub enum Observation {
+    /// No unit of it is known.
+    Absent,
+    /// This is its latest unit.
+    Correct(Digest),
+    /// It equivocated.
+    Faulty,
+}
+
+/// What became of a unit.
+#[derive(Clone, Copy, Debug, PartialEq, Eq)]
+pub enum Place {
+    /// The journal has no such unit.
+    Unknown,
+    /// It is settled, under this number.
+    Settled(u32),
+    /// It waits for so many needs.
+    Parked(u32),
+    /// It breaks this rule of the units below it.
+    Dropped(Rule),
+}
+
+/// The journal of a node, entry by entry, as bytes: with its verdicts this is what a host keeps.
+#[derive(Debug)]
+pub struct Journal<'a> {
+    core: &'a Core,
+    place: u64,
+    end: u64,
+}
+
+impl Iterator for Journal<'_> {
+    type Item = Result<Vec<u8>, Error>;
+
+    fn next(&mut self) -> Option<Self::Item> {
+        if self.place >= self.end {
+            return None;
+        }
+        self.place += 1;
+        Some(self.core.handle.journal(self.place - 1))
+    }
+}
+
+impl FusedIterator for Journal<'_> {}
+
+/// The final blocks of a node, by moment and then by height.
+#[derive(Debug)]
+pub struct Decisions<'a> {
+    core: &'a Core,
+    index: u64,
+}
+
+impl Iterator for Decisions<'_> {
+    type Item = Decision;
+
+    fn next(&mut self) -> Option<Decision> {
+        let decision = self.core.decision(self.index)?;
+        self.index += 1;
+        Some(decision)
+    }
+}
+
+impl FusedIterator for Decisions<'_> {}
+
+fn receipt_of(answer: &sys::Answer) -> Receipt {
+    match answer.kind {
+        0 => Receipt::Admitted { settled: answer.count },
+        1 => Receipt::Parked { missing: answer.count },
+        2 => Receipt::Dropped(Rule::of(answer.count)),
+        _ => Receipt::Repeat,
+    }
+}
+
+impl Core {
+    /// A node that has received nothing, of the configuration that the bytes spell.
+    ///
+    /// # Errors
+    ///
+    /// [`Error::Bytes`] where they spell none, and [`Error::Config`] where it breaks a limit.
+    pub fn new(config: &[u8]) -> Result<Core, Error> {
+        Ok(Core { handle: sys::Handle::new(config)? })
+    }
+
+    /// Takes the vertex that the bytes spell, with the verdict on its signatures.
+    ///
+    /// # Errors
+    ///
+    /// A refusal changes nothing. [`Refusal::is_fault_of_sender`] says whether a peer may be blamed.
+    ///
+    /// ```
+    /// # use highway::{Core, Error, Settings};
+    /// # let mut core = Core::new(&Settings::of_weights(vec![1]).to_bytes()?)?;
+    /// let refusal = core.deliver(b"no vertex", true).unwrap_err();
+    /// assert!(refusal.is_fault_of_sender());
+    /// assert_eq!(refusal.to_string(), "refused: bad bytes: bad tag at 0");
+    /// # Ok::<(), Error>(())
+    /// ```
+    pub fn deliver(&mut self, vertex: &[u8], verdict: bool) -> Result<Receipt, Refusal> {
+        match self.handle.deliver(vertex, verdict) {
+            Ok(answer) => Ok(receipt_of(&answer)),
+            Err(error) => Err(Refusal { error }),
+        }
+    }
+
+    /// How much the node has of what, what its faulty validators weigh, and its fork choice.
+    ///
+    /// # Errors
+    ///
+    /// None is known; the library's answer is handed on.
+    pub fn summary(&self) -> Result<Summary, Error> {
+        let summary = self.handle.summary()?;
+        Ok(Summary {
+            journal: summary.journal,
+            settled: summary.settled,
+            parked: summary.parked,
+            dropped: summary.dropped,
+            decided: summary.decided,
+            faulty_weight: summary.faulty_weight,
+            is_exceeded: summary.exceeded == 1,
+            fork: (summary.has_fork == 1).then_some(Digest(summary.fork)),
+        })
+    }
+
+    /// The fork choice: `None` exactly where the node observes no unit.
+    ///
+    /// # Errors
+    ///
+    /// As [`Core::summary`].
+    pub fn fork(&self) -> Result<Option<Digest>, Error> {
+        Ok(self.summary()?.fork)
+    }
+
+    /// The entry of that place of the journal, as bytes.
+    ///
+    /// # Errors
+    ///
+    /// [`Error::Nothing`] where the journal has none there.
+    pub fn entry(&self, place: u64) -> Result<Vec<u8>, Error> {
+        self.handle.journal(place)
+    }
+
+    /// The entries of the journal, from that place on.
+    pub fn journal_from(&self, place: u64) -> Journal<'_> {
+        let end = self.handle.summary().map_or(0, |summary| summary.journal);
+        Journal { core: self, place, end }
+    }
+
+    /// What the node observes of the validator.
+    ///
+    /// # Errors
+    ///
+    /// [`Error::OutOfRange`] where there is no such validator.
+    pub fn observation(&self, validator: u32) -> Result<Observation, Error> {
+        let observed = self.handle.observation(validator)?;
+        Ok(match observed.kind {
+            0 => Observation::Absent,
+            1 => Observation::Correct(Digest(observed.unit)),
+            _ => Observation::Faulty,
+        })
+    }
+
+    /// What became of the unit of this digest.
+    ///
+    /// # Errors
+    ///
+    /// As [`Core::summary`].
+    pub fn place(&self, unit: Digest) -> Result<Place, Error> {
+        let placed = self.handle.place(&unit.0)?;
+        Ok(match placed.kind {
+            0 => Place::Unknown,
+            1 => Place::Settled(placed.number),
+            2 => Place::Parked(placed.number),
+            _ => Place::Dropped(Rule::of(placed.number)),
+        })
+    }
+
+    /// The final block of that place, where there are so many.
+    pub fn decision(&self, index: u64) -> Option<Decision> {
+        let decided = self.handle.decision(index).ok()?;
+        Some(Decision {
+            block: Digest(decided.block),
+            height: decided.height,
+            level: decided.level,
+            quorum: decided.quorum,
+            at: decided.at,
+        })
+    }
+
+    /// The final blocks from that place on.
+    pub fn decisions_from(&self, index: u64) -> Decisions<'_> {
+        Decisions { core: self, index }
+    }
+
+    /// The first needs that parked units miss, at most so many: what to ask peers for.
+    ///
+    /// # Errors
+    ///
+    /// [`Error::OutOfMemory`] alone.
+    pub fn unmet(&self, most: usize) -> Result<Vec<Need>, Error> {
+        Ok(self.handle.unmet(most)?.iter().map(Need::of_sys).collect())
+    }
+
+    /// The vertices that this node has for a peer with that need, as bytes. A block's value is asked for so too: by
+    /// the need of its unit.
+    ///
+    /// # Errors
+    ///
+    /// [`Error::OutOfMemory`] alone.
+    pub fn for_need(&self, need: Need) -> Result<Vec<Vec<u8>>, Error> {
+        let missing = need.to_sys();
+        let mut vertices = Vec::new();
+        loop {
+            match self.handle.for_need(&missing, vertices.len()) {
+                Ok(vertex) => vertices.push(vertex),
+                Err(Error::Nothing) => return Ok(vertices),
+                Err(error) => return Err(error),
+            }
+        }
+    }
+
+    /// The unit that the validator may make at this moment, in milliseconds, with this value for a proposal. The node
+    /// stays as it is: the host signs, keeps the vertex, delivers it, and sends it.
+    ///
+    /// # Errors
+    ///
+    /// [`Error::OutOfRange`] where there is no such validator, the moment is 2^63 or later, or the value has more than
+    /// 4,096 bytes.
+    pub fn next_unit(&self, validator: u32, now: u64, value: &[u8]) -> Result<Option<Plan>, Error> {
+        match self.handle.next_unit(validator, now, value) {
+            Ok((planned, unit)) => Ok(Some(Plan::of_sys(&planned, unit))),
+            Err(Error::Nothing) => Ok(None),
+            Err(error) => Err(error),
+        }
+    }
+
+    /// What this node's journal and another's say of each other, and that as text, which names each culprit.
+    ///
+    /// # Errors
+    ///
+    /// [`Error::OtherInstance`] where the two are of different configurations.
+    pub fn audit(&self, other: &Core) -> Result<(Verdict, String), Error> {
+        if std::ptr::eq(self, other) {
+            // One handle is never given twice; and a node is in no conflict with itself.
+            let common = self.summary()?.decided;
+            return Ok((Verdict::Agree { common }, String::new()));
+        }
+        let (audited, text) = self.handle.audit(&other.handle)?;
+        Ok((Verdict::of_sys(&audited), String::from_utf8_lossy(&text).into_owned()))
+    }
+
+    /// The certificate of the final block of that place: `None` where the block doesn't stand now.
+    ///
+    /// # Errors
+    ///
+    /// [`Error::OutOfRange`] where there is no such block, and [`Error::TooLong`] where it would have more vertices
+    /// than a journal may have.
+    pub fn certificate(&self, index: u64) -> Result<Option<Certificate>, Error> {
+        match self.handle.certificate(index) {
+            Ok(bytes) => Ok(Some(Certificate::from_bytes(bytes))),
+            Err(Error::Nothing) => Ok(None),
+            Err(error) => Err(error),
+        }
+    }
+}
+
+impl fmt::Debug for Core {
+    fn fmt(&self, f: &mut fmt::Formatter<'_>) -> fmt::Result {
+        f.debug_struct("Core").field("summary", &self.handle.summary()).finish_non_exhaustive()
+    }
+}

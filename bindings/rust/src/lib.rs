@@ -1,0 +1,63 @@
+//! The core of one validator of the Highway protocol, proved in Rattle, in safe Rust.
+//!
+//! A [`Core`] takes vertices as bytes, each with the caller's verdict on its signatures, and answers what became of
+//! them. What it says of its units, its fork choice and its final blocks is what the protocol's definitions give for
+//! its configuration and its journal. That is proved of the core, and that each call hands it on is proved of the
+//! library that is linked, `hw_c`. This crate is not proved: it says by hand how the calls are made.
+//!
+//! Vertices come in any order. One that misses something is parked until it has all that it needs.
+//!
+//! ```
+//! use highway::{Core, Leaders, Receipt, Settings};
+//!
+//! # fn main() -> Result<(), highway::Error> {
+//! let config = Settings { leaders: Leaders::Table(vec![0]), ..Settings::of_weights(vec![1]) }.to_bytes()?;
+//! let mut core = Core::new(&config)?;
+//!
+//! // The one validator proposes at the beginning of a round, signs with a scheme of the host's own, and delivers.
+//! let plan = core.next_unit(0, 0, b"the first block")?.expect("validator 0 leads");
+//! let signature = [7; 32];
+//! let vertex = plan.signed(&signature)?;
+//! assert_eq!(core.deliver(&vertex, true)?, Receipt::Admitted { settled: 1 });
+//! assert_eq!(core.fork()?, Some(plan.digest()));
+//! # Ok(())
+//! # }
+//! ```
+
+mod config;
+mod core;
+mod error;
+mod light;
+mod need;
+mod rule;
+mod signatures;
+mod step;
+#[allow(unsafe_code)]
+mod sys;
+
+pub use config::{Leaders, Settings};
+pub use core::{Core, Decision, Decisions, Journal, Observation, Place, Receipt, Refusal, Summary};
+pub use error::{BytesFault, CertificateFault, Error, Limit, PairFault};
+pub use light::{Certificate, Judgement, Verdict};
+pub use need::Need;
+pub use rule::Rule;
+pub use signatures::{Signature, Signatures};
+pub use step::{Plan, PlanKind};
+
+use std::fmt;
+
+/// The name of a unit, or of an instance: its SHA-256 digest. It is printed as 64 hexadecimal digits.
+#[derive(Clone, Copy, PartialEq, Eq, PartialOrd, Ord, Hash)]
+pub struct Digest(pub [u8; 32]);
+
+impl fmt::Display for Digest {
+    fn fmt(&self, f: &mut fmt::Formatter<'_>) -> fmt::Result {
+        self.0.iter().try_for_each(|byte| write!(f, "{byte:02x}"))
+    }
+}
+
+impl fmt::Debug for Digest {
+    fn fmt(&self, f: &mut fmt::Formatter<'_>) -> fmt::Result {
+        write!(f, "Digest({self})")
+    }
+}

@@ -1,0 +1,110 @@
+//! What two nodes say of each other, and what a certificate shows.
+
+use crate::{Digest, Error, Signatures, sys};
+
+/// What the journals of two nodes say of each other.
+#[derive(Clone, Debug, PartialEq, Eq)]
+pub enum Verdict {
+    /// The one chain of final blocks begins the other.
+    Agree {
+        /// So many blocks are final in both.
+        common: u64,
+    },
+    /// The two decided different blocks at this height. The culprits equivocated.
+    Conflict {
+        /// The height.
+        height: u64,
+        /// The block of the one.
+        left: Digest,
+        /// The block of the other.
+        right: Digest,
+        /// How many culprits there are.
+        culprits: u64,
+        /// What they weigh together: more than the fault tolerance.
+        weight: u64,
+    },
+    /// Two units differ and have one digest.
+    Clash,
+}
+
+impl Verdict {
+    pub(crate) fn of_sys(audited: &sys::Audited) -> Verdict {
+        match audited.kind {
+            0 => Verdict::Agree { common: audited.height },
+            1 => Verdict::Conflict {
+                height: audited.height,
+                left: Digest(audited.left),
+                right: Digest(audited.right),
+                culprits: audited.culprits,
+                weight: audited.weight,
+            },
+            _ => Verdict::Clash,
+        }
+    }
+}
+
+/// A light certificate: a block, and the few vertices that make it stand, as bytes.
+#[derive(Clone, Debug, PartialEq, Eq)]
+pub struct Certificate {
+    bytes: Vec<u8>,
+}
+
+/// What a certificate is answered.
+#[derive(Clone, Copy, Debug, PartialEq, Eq)]
+pub enum Judgement {
+    /// The block stands: another node of this instance that decided another block at its height is in a conflict with
+    /// it whose culprits weigh more than the fault tolerance. The caller compares the instance with the one it knows.
+    Yes {
+        /// The block.
+        block: Digest,
+        /// The digest of the configuration.
+        instance: Digest,
+    },
+    /// The configuration breaks a limit.
+    Config(Error),
+    /// The vertex of this number is refused.
+    Refused(u32, Error),
+    /// The faulty validators have this weight, which exceeds the fault tolerance.
+    Exceeded(u64),
+    /// The block doesn't stand.
+    Unstood,
+}
+
+impl Certificate {
+    /// What may be a certificate: the bytes are read by each call.
+    pub fn from_bytes(bytes: Vec<u8>) -> Certificate {
+        Certificate { bytes }
+    }
+
+    /// Its bytes.
+    pub fn as_bytes(&self) -> &[u8] {
+        &self.bytes
+    }
+
+    /// Who signed what, vertex by vertex, up to the first error.
+    pub fn signatures(&self) -> impl Iterator<Item = Result<Signatures, Error>> + '_ {
+        (0..).map_while(|place| match sys::certified(&self.bytes, place) {
+            Ok(signed) => Some(Ok(Signatures::of_sys(&signed))),
+            Err(Error::Nothing) => None,
+            Err(error) => Some(Err(error)),
+        })
+    }
+
+    /// What it is answered with these verdicts on its vertices, one for each in their order.
+    ///
+    /// # Errors
+    ///
+    /// [`Error::Certificate`] where the bytes are none, and [`Error::OutOfRange`] where the verdicts are more or less
+    /// than the vertices.
+    pub fn check(&self, verdicts: &[bool]) -> Result<Judgement, Error> {
+        let judged = sys::check(&self.bytes, verdicts)?;
+        let refused = || Error::of(judged.status, &sys::Answer::default());
+        Ok(match judged.kind {
+            0 => Judgement::Yes { block: Digest(judged.block), instance: Digest(judged.instance) },
+            1 => Judgement::Config(refused()),
+            2 => Judgement::Refused(judged.number, refused()),
+            3 => Judgement::Exceeded(judged.weight),
+            _ => Judgement::Unstood,
+        })
+    }
+}

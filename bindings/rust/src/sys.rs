@@ -1,0 +1,282 @@
+//! The exports of hw_c, each by its declaration in crates/hw_c/src/lib.rt, and all calls of them.
+//!
+//! There a `Global` takes no bytes, a slice is a pointer and a length, and a `&mut` is a pointer. Nothing compares the
+//! two texts but a test of the numbers and the tests that call each.
+
+use crate::error::Error;
+use std::cell::UnsafeCell;
+use std::ptr::null_mut;
+
+/// A place for a node: null while there is none.
+#[repr(C)]
+pub struct RawHandle {
+    at: *mut u8,
+}
+
+macro_rules! record {
+    ($(#[$doc:meta])* $name:ident { $($field:ident : $type:ty),* $(,)? }) => {
+        $(#[$doc])*
+        #[repr(C)]
+        #[derive(Clone, Copy, Debug, Default)]
+        pub struct $name { $(pub $field: $type),* }
+    };
+}
+
+record!(Answer { kind: u32, count: u32, at: u64, digest: [u8; 32] });
+record!(Settings {
+    ftt: u64, end: u64, max_records: u32, max_parked: u32, levels: u8, min_exponent: u8, max_exponent: u8,
+    is_drawn: u8, has_end: u8, key: [u8; 32],
+});
+record!(Signer { validator: u32, unit: [u8; 32], signature: [u8; 32] });
+record!(Signed { kind: u32, first: Signer, second: Signer });
+record!(Summary {
+    journal: u64, decided: u64, faulty_weight: u64, settled: u32, parked: u32, dropped: u32, exceeded: u32,
+    has_fork: u32, fork: [u8; 32],
+});
+record!(Observed { kind: u32, unit: [u8; 32] });
+record!(Placed { kind: u32, number: u32 });
+record!(Decided { block: [u8; 32], height: u64, quorum: u64, at: u64, level: u32 });
+record!(Missing { kind: u32, validator: u32, digest: [u8; 32] });
+record!(Planned { kind: u32, length: u64, digest: [u8; 32] });
+record!(Audited { kind: u32, length: u64, height: u64, culprits: u64, weight: u64, left: [u8; 32], right: [u8; 32] });
+record!(Judged { kind: u32, status: u32, number: u32, weight: u64, block: [u8; 32], instance: [u8; 32] });
+
+#[allow(clippy::too_many_arguments)]
+mod exports {
+    use super::{Answer, Audited, Decided, Judged, Missing, Observed, Placed, Planned, RawHandle, Settings, Signed, Summary};
+
+    unsafe extern "C" {
+        pub fn hw_config(
+            settings: *const Settings, weights: *const u64, validators: usize, table: *const u32, entries: usize,
+            buf: *mut u8, room: usize, len: *mut usize, answer: *mut Answer,
+        ) -> u32;
+        pub fn hw_core_new(config: *const u8, len: usize, answer: *mut Answer, core: *mut RawHandle) -> u32;
+        pub fn hw_core_free(core: *mut RawHandle) -> u32;
+        pub fn hw_signed(vertex: *const u8, len: usize, signed: *mut Signed, answer: *mut Answer) -> u32;
+        pub fn hw_deliver(core: *mut RawHandle, vertex: *const u8, len: usize, verdict: bool, answer: *mut Answer) -> u32;
+        pub fn hw_journal(core: *mut RawHandle, place: u64, buf: *mut u8, room: usize, len: *mut usize) -> u32;
+        pub fn hw_summary(core: *mut RawHandle, summary: *mut Summary) -> u32;
+        pub fn hw_observation(core: *mut RawHandle, validator: u32, observed: *mut Observed) -> u32;
+        pub fn hw_place(core: *mut RawHandle, unit: *const [u8; 32], placed: *mut Placed) -> u32;
+        pub fn hw_decision(core: *mut RawHandle, index: u64, decided: *mut Decided) -> u32;
+        pub fn hw_unmet(core: *mut RawHandle, list: *mut Missing, room: usize, count: *mut usize) -> u32;
+        pub fn hw_for_need(
+            core: *mut RawHandle, need: *const Missing, place: usize, buf: *mut u8, room: usize, len: *mut usize,
+        ) -> u32;
+        pub fn hw_next_unit(
+            core: *mut RawHandle, validator: u32, now: u64, value: *const u8, value_len: usize, planned: *mut Planned,
+            buf: *mut u8, room: usize,
+        ) -> u32;
+        pub fn hw_with_signature(
+            unit: *const u8, unit_len: usize, signature: *const [u8; 32], buf: *mut u8, room: usize, len: *mut usize,
+            answer: *mut Answer,
+        ) -> u32;
+        pub fn hw_audit(left: *mut RawHandle, right: *mut RawHandle, audited: *mut Audited, buf: *mut u8, room: usize) -> u32;
+        pub fn hw_certificate(core: *mut RawHandle, index: u64, buf: *mut u8, room: usize, len: *mut usize) -> u32;
+        pub fn hw_certified(
+            certificate: *const u8, len: usize, place: usize, signed: *mut Signed, answer: *mut Answer,
+        ) -> u32;
+        pub fn hw_check(
+            certificate: *const u8, len: usize, verdicts: *const bool, count: usize, judged: *mut Judged,
+            answer: *mut Answer,
+        ) -> u32;
+    }
+}
+
+/// A handle that holds a node, from `new` to its drop.
+///
+/// A call writes to the handle also where it only reads the node, so the handle stands in a cell. That makes it not
+/// `Sync`, so no two calls of one node overlap; and no call runs code of the caller's.
+pub struct Handle {
+    place: UnsafeCell<RawHandle>,
+}
+
+// SAFETY: `Send` is proved of the handle's type, in crates/hw_c/proofs/handle/Handle/TheSendSync.
+unsafe impl Send for Handle {}
+
+/// The bytes that a call writes, which says how many there are in all.
+fn bytes_of(mut call: impl FnMut(&mut [u8], &mut usize) -> Result<(), Error>) -> Result<Vec<u8>, Error> {
+    let mut bytes = vec![0; 1024];
+    loop {
+        let mut len = 0;
+        call(&mut bytes, &mut len)?;
+        if len <= bytes.len() {
+            bytes.truncate(len);
+            return Ok(bytes);
+        }
+        bytes.resize(len, 0);
+    }
+}
+
+/// What a status says, with nothing behind it.
+fn said(status: u32) -> Result<(), Error> {
+    Error::check(status, &Answer::default())
+}
+
+impl Handle {
+    pub fn new(config: &[u8]) -> Result<Handle, Error> {
+        let (mut place, mut answer) = (RawHandle { at: null_mut() }, Answer::default());
+        // SAFETY: all pointers are of borrows that last for the call.
+        let status = unsafe { exports::hw_core_new(config.as_ptr(), config.len(), &mut answer, &mut place) };
+        Error::check(status, &answer)?;
+        Ok(Handle { place: UnsafeCell::new(place) })
+    }
+
+    pub fn deliver(&mut self, vertex: &[u8], verdict: bool) -> Result<Answer, Error> {
+        let mut answer = Answer::default();
+        // SAFETY: all pointers are of borrows that last for the call.
+        let status = unsafe {
+            exports::hw_deliver(self.place.get_mut(), vertex.as_ptr(), vertex.len(), verdict, &mut answer)
+        };
+        Error::check(status, &answer)?;
+        Ok(answer)
+    }
+
+    pub fn journal(&self, place: u64) -> Result<Vec<u8>, Error> {
+        // SAFETY: no other call of this node is running, since a handle isn't `Sync`; the rest are borrows.
+        bytes_of(|buf, len| said(unsafe { exports::hw_journal(self.place.get(), place, buf.as_mut_ptr(), buf.len(), len) }))
+    }
+
+    pub fn summary(&self) -> Result<Summary, Error> {
+        let mut summary = Summary::default();
+        // SAFETY: as in `journal`.
+        said(unsafe { exports::hw_summary(self.place.get(), &mut summary) })?;
+        Ok(summary)
+    }
+
+    pub fn observation(&self, validator: u32) -> Result<Observed, Error> {
+        let mut observed = Observed::default();
+        // SAFETY: as in `journal`.
+        said(unsafe { exports::hw_observation(self.place.get(), validator, &mut observed) })?;
+        Ok(observed)
+    }
+
+    pub fn place(&self, unit: &[u8; 32]) -> Result<Placed, Error> {
+        let mut placed = Placed::default();
+        // SAFETY: as in `journal`.
+        said(unsafe { exports::hw_place(self.place.get(), unit, &mut placed) })?;
+        Ok(placed)
+    }
+
+    pub fn decision(&self, index: u64) -> Result<Decided, Error> {
+        let mut decided = Decided::default();
+        // SAFETY: as in `journal`.
+        said(unsafe { exports::hw_decision(self.place.get(), index, &mut decided) })?;
+        Ok(decided)
+    }
+
+    pub fn unmet(&self, most: usize) -> Result<Vec<Missing>, Error> {
+        let (mut list, mut count) = (vec![Missing::default(); most], 0);
+        // SAFETY: as in `journal`.
+        said(unsafe { exports::hw_unmet(self.place.get(), list.as_mut_ptr(), list.len(), &mut count) })?;
+        list.truncate(count);
+        Ok(list)
+    }
+
+    pub fn for_need(&self, need: &Missing, place: usize) -> Result<Vec<u8>, Error> {
+        bytes_of(|buf, len| {
+            // SAFETY: as in `journal`.
+            said(unsafe { exports::hw_for_need(self.place.get(), need, place, buf.as_mut_ptr(), buf.len(), len) })
+        })
+    }
+
+    pub fn next_unit(&self, validator: u32, now: u64, value: &[u8]) -> Result<(Planned, Vec<u8>), Error> {
+        let mut planned = Planned::default();
+        let unit = bytes_of(|buf, len| {
+            // SAFETY: as in `journal`.
+            said(unsafe {
+                exports::hw_next_unit(
+                    self.place.get(), validator, now, value.as_ptr(), value.len(), &mut planned, buf.as_mut_ptr(),
+                    buf.len(),
+                )
+            })?;
+            *len = planned.length as usize;
+            Ok(())
+        })?;
+        Ok((planned, unit))
+    }
+
+    pub fn audit(&self, other: &Handle) -> Result<(Audited, Vec<u8>), Error> {
+        let mut audited = Audited::default();
+        let text = bytes_of(|buf, len| {
+            // SAFETY: as in `journal`; the caller has seen to it that the two are two.
+            said(unsafe {
+                exports::hw_audit(self.place.get(), other.place.get(), &mut audited, buf.as_mut_ptr(), buf.len())
+            })?;
+            *len = audited.length as usize;
+            Ok(())
+        })?;
+        Ok((audited, text))
+    }
+
+    pub fn certificate(&self, index: u64) -> Result<Vec<u8>, Error> {
+        bytes_of(|buf, len| {
+            // SAFETY: as in `journal`.
+            said(unsafe { exports::hw_certificate(self.place.get(), index, buf.as_mut_ptr(), buf.len(), len) })
+        })
+    }
+}
+
+impl Drop for Handle {
+    fn drop(&mut self) {
+        // SAFETY: the handle isn't used again.
+        unsafe { exports::hw_core_free(self.place.get_mut()) };
+    }
+}
+
+pub fn config(settings: &Settings, weights: &[u64], table: &[u32]) -> Result<Vec<u8>, Error> {
+    bytes_of(|buf, len| {
+        let mut answer = Answer::default();
+        // SAFETY: all pointers are of borrows that last for the call.
+        let status = unsafe {
+            exports::hw_config(
+                settings, weights.as_ptr(), weights.len(), table.as_ptr(), table.len(), buf.as_mut_ptr(), buf.len(),
+                len, &mut answer,
+            )
+        };
+        Error::check(status, &answer)
+    })
+}
+
+pub fn signed(vertex: &[u8]) -> Result<Signed, Error> {
+    let (mut signed, mut answer) = (Signed::default(), Answer::default());
+    // SAFETY: all pointers are of borrows that last for the call.
+    let status = unsafe { exports::hw_signed(vertex.as_ptr(), vertex.len(), &mut signed, &mut answer) };
+    Error::check(status, &answer)?;
+    Ok(signed)
+}
+
+pub fn with_signature(unit: &[u8], signature: &[u8; 32]) -> Result<Vec<u8>, Error> {
+    bytes_of(|buf, len| {
+        let mut answer = Answer::default();
+        // SAFETY: all pointers are of borrows that last for the call.
+        let status = unsafe {
+            exports::hw_with_signature(
+                unit.as_ptr(), unit.len(), signature, buf.as_mut_ptr(), buf.len(), len, &mut answer,
+            )
+        };
+        Error::check(status, &answer)
+    })
+}
+
+pub fn certified(certificate: &[u8], place: usize) -> Result<Signed, Error> {
+    let (mut signed, mut answer) = (Signed::default(), Answer::default());
+    // SAFETY: all pointers are of borrows that last for the call.
+    let status = unsafe {
+        exports::hw_certified(certificate.as_ptr(), certificate.len(), place, &mut signed, &mut answer)
+    };
+    Error::check(status, &answer)?;
+    Ok(signed)
+}
+
+pub fn check(certificate: &[u8], verdicts: &[bool]) -> Result<Judged, Error> {
+    let (mut judged, mut answer) = (Judged::default(), Answer::default());
+    // SAFETY: all pointers are of borrows that last for the call.
+    let status = unsafe {
+        exports::hw_check(
+            certificate.as_ptr(), certificate.len(), verdicts.as_ptr(), verdicts.len(), &mut judged, &mut answer,
+        )
+    };
+    Error::check(status, &answer)?;
+    Ok(judged)
+}

@@ -1,0 +1,35 @@
+-- What a call does with the handle of a node, which may be empty.
+-- Source: ours.
+use Rattle.std.specs.Prelude.{◌≡◌, ℕ, List, Bool, Option, Some, None, Result, Ok, Err}
+use Rattle.hw_types.specs.declared.answers.Receipt.{Receipt}
+use Rattle.hw_types.specs.Real.{CoreState}
+use Rattle.hw_c.specs.declared.codes.Fault.{Fault}
+use Rattle.hw_c.specs.declared.codes.Fault.TheVariants as fault
+use Rattle.hw_c.specs.Calls.{IsNodeOf, IsDelivery}
+
+-- an empty handle gets a new node of the configuration that the bytes spell, or stays empty; a full one stays as it is
+abbrev pub Begins : Option CoreState → List ℕ → Result Unit Fault → Option CoreState → Type 0
+Begins (Some old) bytes r new = (r ≡ Err fault.Full) × (new ≡ Some old)
+Begins None bytes (Ok done) new = (core : CoreState) × (new ≡ Some core) × IsNodeOf bytes (Ok core)
+Begins None bytes (Err f) new = (new ≡ None) × IsNodeOf bytes (Err f)
+
+-- the handle is empty then, and it was full where the call is done
+abbrev pub Ends : Option CoreState → Result Unit Fault → Option CoreState → Type 0
+Ends None r new = (r ≡ Err fault.Empty) × (new ≡ None)
+Ends (Some old) r new = (r ≡ Ok tt) × (new ≡ None)
+
+-- a node takes the vertex that the bytes spell
+abbrev pub Delivers : Option CoreState → List ℕ → Bool → Result Receipt Fault → Option CoreState → Type 0
+Delivers None bytes verdict r new = (r ≡ Err fault.Empty) × (new ≡ None)
+Delivers (Some old) bytes verdict r new = (core : CoreState) × (new ≡ Some core) × IsDelivery old bytes verdict r core
+
+-- a node is read, and stays as it is
+abbrev pub Reads : {A : Type 0} → (CoreState → Result A Fault → Type 0) → Option CoreState → Result A Fault → Option CoreState → Type 0
+Reads Is None r new = (r ≡ Err fault.Empty) × (new ≡ None)
+Reads Is (Some core) r new = Is core r × (new ≡ Some core)
+
+-- two nodes are read, and stay as they are
+abbrev pub ReadsBoth : {A : Type 0} → (CoreState → CoreState → Result A Fault → Type 0) → Option CoreState → Option CoreState → Result A Fault → Option CoreState → Option CoreState → Type 0
+ReadsBoth Is None right r left_new right_new = (r ≡ Err fault.Empty) × (left_new ≡ None) × (right_new ≡ right)
+ReadsBoth Is (Some left) None r left_new right_new = (r ≡ Err fault.Empty) × (left_new ≡ Some left) × (right_new ≡ None)
+ReadsBoth Is (Some left) (Some right) r left_new right_new = Is left right r × (left_new ≡ Some left) × (right_new ≡ Some right)

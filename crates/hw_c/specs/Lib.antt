@@ -1,0 +1,11 @@
+pub mod Answers
+pub mod Audits
+pub mod Buffers
+pub mod Calls
+pub mod Handles
+pub mod Held
+pub mod Light
+pub mod Needed
+pub mod Settings
+pub mod Steps
+pub mod Told

@@ -1,0 +1,57 @@
+-- What is answered of certificates.
+-- Source: ours.
+use Rattle.std.specs.Prelude.{◌≡◌, ◌≢◌, ℕ, ◌≤◌, Bool, List, length, slice_get, Some, Result, Ok, Err}
+use Rattle.hw_types.specs.declared.unit.Digest.{Digest}
+use Rattle.hw_types.specs.declared.unit.Vertex.{Vertex}
+use Rattle.hw_types.specs.Real.{CoreState}
+use Rattle.hw_types.specs.Spelling.{instance_of}
+use Rattle.hw_core.specs.Decided.{decided_in}
+use Rattle.hw_light.specs.declared.certificate.Certificate.{Certificate}
+use Rattle.hw_light.specs.declared.answers.Certified.TheVariants.{NotNow}
+use Rattle.hw_light.specs.declared.answers.Checked.{Checked}
+use Rattle.hw_light.specs.declared.answers.Checked.TheVariants.{Yes, No}
+use Rattle.hw_light.specs.declared.answers.CheckFault.TheVariants as fault
+use Rattle.hw_light.specs.Certify.{IsMade, IsTooLong, IsCertifiedAs, IfDelivered, IsYesFor}
+use Rattle.hw_light.specs.Checked.{IsAnswer, IfYes, IsCertified}
+use Rattle.hw_light.specs.Reading.{certificate_of, IsErrorOf}
+use Rattle.hw_light.specs.Spelling.{SpellsCertificate}
+use Rattle.hw_c.specs.declared.codes.Fault.{Fault}
+use Rattle.hw_c.specs.declared.codes.Fault.TheVariants as why
+use Rattle.hw_c.specs.declared.signed.Signed.{Signed}
+use Rattle.hw_c.specs.declared.light.Judged.{Judged}
+use Rattle.hw_c.specs.Answers.{signed_of}
+use Rattle.hw_c.specs.Calls.{IsWant}
+use Rattle.hw_c.specs.Told.{config_status, cause_status}
+
+-- The certificate of the decided block of that place, which is answered yes where its signatures are right; or why there is none:
+-- the place is none, the block doesn't stand now, or there would be more vertices than a journal may have.
+abbrev pub IsCertificate : CoreState → ℕ → Result (List ℕ) Fault → Type 0
+IsCertificate c index (Ok bytes) = (made : Certificate) × IsMade c index made × IfDelivered c (IsYesFor made) × SpellsCertificate bytes made
+IsCertificate c index (Err why.OutOfRange) = length (decided_in c) ≤ index
+IsCertificate c index (Err why.Nothing) = IsCertifiedAs c index NotNow
+IsCertificate c index (Err why.TooLong) = (count : ℕ) × IsTooLong c index count
+IsCertificate c index (Err f) = IsWant f
+
+-- who signed the vertex of that place in the certificate that the bytes spell, and what
+abbrev pub IsCertifiedSigned : List ℕ → ℕ → Result Signed Fault → Type 0
+IsCertifiedSigned bytes place (Ok signed) = (c : Certificate) × (certificate_of bytes ≡ Ok c) × ((v : Vertex) × (slice_get c.vertices place ≡ Some v) × (signed ≡ signed_of v))
+IsCertifiedSigned bytes place (Err (why.Certificate e)) = IsErrorOf (certificate_of bytes) e
+IsCertifiedSigned bytes place (Err why.Nothing) = (c : Certificate) × (certificate_of bytes ≡ Ok c) × (length c.vertices ≤ place)
+IsCertifiedSigned bytes place (Err f) = IsWant f
+
+-- 0 yes; no, since 1 its configuration breaks a limit, 2 a vertex is refused, 3 the faulty weigh too much, 4 the block doesn't stand
+abbrev pub judged_of : Checked → Digest → Digest → Judged
+judged_of (Yes core) block instance = record { kind = 0; status = 0; number = 0; weight = 0; block = block.0; instance = instance.0 }
+judged_of (No (fault.Config limit)) block instance = record { kind = 1; status = config_status limit; number = 0; weight = 0; block = block.0; instance = instance.0 }
+judged_of (No (fault.Refused number cause)) block instance = record { kind = 2; status = cause_status cause; number = number; weight = 0; block = block.0; instance = instance.0 }
+judged_of (No (fault.Exceeded weight)) block instance = record { kind = 3; status = 0; number = 0; weight = weight; block = block.0; instance = instance.0 }
+judged_of (No fault.Unstood) block instance = record { kind = 4; status = 0; number = 0; weight = 0; block = block.0; instance = instance.0 }
+
+-- what the certificate that the bytes spell is answered with these verdicts, and what a yes shows
+abbrev pub IsJudged : List ℕ → List Bool → Result Judged Fault → Type 0
+IsJudged bytes verdicts (Ok judged) =
+    (c : Certificate) × (certificate_of bytes ≡ Ok c) × (length verdicts ≡ length c.vertices)
+    × ((checked : Checked) × IsAnswer c verdicts checked × IfYes (IsCertified c) checked × (judged ≡ judged_of checked c.block (instance_of c.config)))
+IsJudged bytes verdicts (Err (why.Certificate e)) = IsErrorOf (certificate_of bytes) e
+IsJudged bytes verdicts (Err why.OutOfRange) = (c : Certificate) × (certificate_of bytes ≡ Ok c) × (length verdicts ≢ length c.vertices)
+IsJudged bytes verdicts (Err f) = IsWant f

@@ -1,0 +1,94 @@
+//! What two nodes say of each other.
+
+ghost use Rattle.std.specs.Prelude.{◌≡◌, length};
+ghost use Rattle.hw_c.specs.Audits.{audited_of, IsAudit, IsAuditPut};
+ghost use Rattle.hw_c.specs.Told.{status};
+
+use crate::codes::{Fault, OK, status_of};
+use crate::put::copy_bytes;
+use hw_audit::{AuditError, Verdict, audit, audit_text};
+use hw_core::Core;
+use hw_types::Bytes;
+use std::alloc::Global;
+
+/// What two nodes say of each other, and how many bytes the text of it has.
+#[repr(C)]
+#[derive(Clone, Copy)]
+pub struct Audited {
+    pub kind: u32,
+    pub length: u64,
+    pub height: u64,
+    pub culprits: u64,
+    pub weight: u64,
+    pub left: [u8; 32],
+    pub right: [u8; 32],
+}
+
+/// What two nodes say of each other, and that as text.
+#[derive(Drop)]
+pub struct Audit {
+    pub audited: Audited,
+    pub text: Bytes,
+}
+
+fn audited_of(verdict: &Verdict, length: u64) -> Audited
+    ensures { result ≡ audited_of verdict.now length }
+{
+    let mut audited = Audited {
+        kind: 0,
+        length,
+        height: 0,
+        culprits: 0,
+        weight: 0,
+        left: [0; 32],
+        right: [0; 32],
+    };
+    match verdict {
+        Verdict::Agree { common } => audited.height = *common,
+        Verdict::Conflict {
+            height,
+            left,
+            right,
+            culprits,
+            weight,
+        } => {
+            audited.kind = 1;
+            audited.height = *height;
+            audited.culprits = culprits.len() as u64;
+            audited.weight = *weight;
+            audited.left = left.0;
+            audited.right = right.0;
+        }
+        Verdict::Clash { .. } => audited.kind = 2,
+    }
+    audited
+}
+
+/// What the journals of two nodes say of each other.
+pub fn audit_of(alloc: Global, left: &Core, right: &Core) -> Result<Audit, Fault>
+    ensures { IsAudit left.now right.now result }
+{
+    let verdict = match audit(alloc, left, right) {
+        Ok(verdict) => verdict,
+        Err(AuditError::Instances) => return Err(Fault::OtherInstance),
+        Err(AuditError::OutOfMemory) => return Err(Fault::OutOfMemory),
+    };
+    let text = audit_text(alloc, &verdict, left.state().config())?;
+    let audited = audited_of(&verdict, text.len() as u64);
+    Ok(Audit { audited, text })
+}
+
+/// Puts an audit, where there is one, and answers the status.
+pub fn put_audit(outcome: Result<Audit, Fault>, audited: &mut Audited, buf: &mut [u8]) -> u32
+    ensures status { result ≡ status outcome }
+    ensures put { IsAuditPut outcome audited.old audited.new buf.old buf.new }
+{
+    match outcome {
+        Ok(audit) => {
+            *audited = audit.audited;
+            copy_bytes(audit.text.as_slice(), buf);
+            OK
+        }
+        Err(fault) => status_of(fault),
+    }
+}

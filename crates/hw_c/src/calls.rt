@@ -1,0 +1,207 @@
+//! What the exports do with a node.
+
+ghost use Rattle.std.specs.Prelude.{◌≡◌, is_some, Option};
+ghost use Rattle.hw_types.specs.declared.unit.Digest.{Digest};
+ghost use Rattle.hw_c.specs.Answers.{flag, digest_bytes, summary_of, observed_of, placed_of, decided_of};
+ghost use Rattle.hw_c.specs.Calls.{IsNodeOf, IsDelivery, IsEntry, IsSummary, IsObserved, IsPlaced, IsDecided};
+
+use crate::codes::{Fault, rule_number};
+use hw_admit::StateStart;
+use hw_codec::{decode_config, decode_vertex, encode_vertex};
+use hw_core::{Core, Place};
+use hw_types::{Bytes, Decision, Digest, Obs, Receipt};
+use std::alloc::Global;
+
+/// How much a node has of what, the weight of its faulty validators, and its fork choice.
+#[repr(C)]
+#[derive(Clone, Copy)]
+pub struct Summary {
+    pub journal: u64,
+    pub decided: u64,
+    pub faulty_weight: u64,
+    pub settled: u32,
+    pub parked: u32,
+    pub dropped: u32,
+    /// 1 where the faulty weight exceeds the threshold, else 0.
+    pub exceeded: u32,
+    /// 1 where there is a fork choice, else 0.
+    pub has_fork: u32,
+    pub fork: [u8; 32],
+}
+
+/// What a node observes of a validator.
+#[repr(C)]
+#[derive(Clone, Copy)]
+pub struct Observed {
+    pub kind: u32,
+    pub unit: [u8; 32],
+}
+
+/// What became of a unit.
+#[repr(C)]
+#[derive(Clone, Copy)]
+pub struct Placed {
+    pub kind: u32,
+    pub number: u32,
+}
+
+/// A decided block.
+#[repr(C)]
+#[derive(Clone, Copy)]
+pub struct Decided {
+    pub block: [u8; 32],
+    pub height: u64,
+    pub quorum: u64,
+    pub at: u64,
+    pub level: u32,
+}
+
+/// A node of the configuration that the bytes spell.
+pub fn make(alloc: Global, config: &[u8]) -> Result<Core, Fault>
+    ensures { IsNodeOf config.now result }
+{
+    let config = decode_config(alloc, config)?;
+    match Core::new(alloc, config) {
+        Ok(core) => Ok(core),
+        Err(StateStart::Fault(fault)) => Err(Fault::Config(fault)),
+        Err(StateStart::OutOfMemory) => Err(Fault::OutOfMemory),
+    }
+}
+
+/// Delivers the vertex that the bytes spell.
+pub fn deliver(
+    alloc: Global,
+    core: &mut Core,
+    bytes: &[u8],
+    verdict: bool,
+) -> Result<Receipt, Fault>
+    ensures { IsDelivery core.old bytes.now verdict result core.new }
+{
+    let vertex = decode_vertex(alloc, bytes)?;
+    match core.deliver(vertex, verdict) {
+        Ok(receipt) => Ok(receipt),
+        Err(refused) => Err(Fault::Refused(refused.cause)),
+    }
+}
+
+/// The journal's entry of that place, as bytes.
+pub fn entry(alloc: Global, core: &Core, place: u64) -> Result<Bytes, Fault>
+    ensures { IsEntry core.now place result }
+{
+    if place >= core.journal_count() {
+        return Err(Fault::Nothing);
+    }
+    Ok(encode_vertex(alloc, core.journal_at(place))?)
+}
+
+fn flag(holds: bool) -> u32
+    ensures { result ≡ flag holds }
+{
+    if holds { 1 } else { 0 }
+}
+
+fn digest_bytes(digest: Option<Digest>) -> [u8; 32]
+    ensures { result ≡ digest_bytes digest }
+{
+    match digest {
+        Some(digest) => digest.0,
+        None => [0; 32],
+    }
+}
+
+/// How much the node has of what, the weight of its faulty validators, and its fork choice.
+pub fn summary(core: &Core) -> Result<Summary, Fault>
+    ensures { IsSummary core.now result }
+{
+    let fork = core.fork();
+    Ok(Summary {
+        journal: core.journal_count(),
+        decided: core.decision_count(),
+        faulty_weight: core.faulty_weight(),
+        settled: core.settled_count(),
+        parked: core.parked_count(),
+        dropped: core.dropped_count(),
+        exceeded: flag(core.exceeded().is_some()),
+        has_fork: flag(fork.is_some()),
+        fork: digest_bytes(fork),
+    })
+}
+
+fn observed_of(observation: Obs) -> Observed
+    ensures { result ≡ observed_of observation }
+{
+    match observation {
+        Obs::Absent => Observed {
+            kind: 0,
+            unit: [0; 32],
+        },
+        Obs::Correct(unit) => Observed {
+            kind: 1,
+            unit: unit.0,
+        },
+        Obs::Faulty => Observed {
+            kind: 2,
+            unit: [0; 32],
+        },
+    }
+}
+
+/// What the node observes of the validator.
+pub fn observed(core: &Core, validator: u32) -> Result<Observed, Fault>
+    ensures { IsObserved core.now validator result }
+{
+    if validator as usize >= core.state().config().weights.len() {
+        return Err(Fault::OutOfRange);
+    }
+    Ok(observed_of(core.observation(validator)))
+}
+
+fn placed_of(place: Place) -> Placed
+    ensures { result ≡ placed_of place }
+{
+    match place {
+        Place::Unknown => Placed { kind: 0, number: 0 },
+        Place::Settled(number) => Placed {
+            kind: 1,
+            number: number.0,
+        },
+        Place::Parked(missing) => Placed {
+            kind: 2,
+            number: missing,
+        },
+        Place::Dropped(rule) => Placed {
+            kind: 3,
+            number: rule_number(rule),
+        },
+    }
+}
+
+/// What became of the unit of this digest.
+pub fn placed(core: &Core, digest: &[u8; 32]) -> Result<Placed, Fault>
+    ensures { IsPlaced core.now digest.now result }
+{
+    let place = core.place_of(&Digest(*digest));
+    Ok(placed_of(place))
+}
+
+fn decided_of(decision: &Decision) -> Decided
+    ensures { result ≡ decided_of decision.now }
+{
+    Decided {
+        block: decision.block.0,
+        height: decision.height,
+        quorum: decision.quorum,
+        at: decision.at,
+        level: decision.level,
+    }
+}
+
+/// The decided block of that place.
+pub fn decided(core: &Core, index: u64) -> Result<Decided, Fault>
+    ensures { IsDecided core.now index result }
+{
+    if index >= core.decision_count() {
+        return Err(Fault::Nothing);
+    }
+    Ok(decided_of(core.decision(index)))
+}

@@ -1,0 +1,82 @@
+//! What a caller in another language holds: a place for a node.
+
+ghost use Rattle.std.specs.Prelude.{◌≡◌, Some, None, Option, option_map};
+ghost use Rattle.hw_c.specs.Held.{Held, held_coded, held_owns, value_in, boxed_in};
+
+use crate::content::Content;
+use std::alloc::Global;
+use std::marker::Model;
+use std::mem::replace;
+use std::ptr::null_mut;
+use hw_core::Core;
+
+/// A place for a node: a pointer, which is null while there is none.
+#[repr(C)]
+#[derive(Drop)]
+pub struct Handle {
+    at: *mut u8,
+    alloc: Global,
+    pub ghost held: { Option Held } by { held_coded },
+}
+
+impl Model for Handle {
+    ghost also_owns = { λ h. held_owns h.alloc h.at h.held };
+}
+
+impl Handle {
+    /// A place with no node.
+    fn empty(alloc: Global) -> Handle
+        ensures { result.held ≡ None }
+    {
+        Handle {
+            at: null_mut(),
+            alloc,
+        }
+    }
+
+    /// A place with this node.
+    fn full(content: Content<Core, Global>) -> Handle
+        ensures { result.held ≡ Some content.value }
+    {
+        let Content { at, alloc } = content;
+        Handle {
+            at: at as *mut u8,
+            alloc,
+        }
+    }
+
+    /// The content of the place, where it has one.
+    fn content(self) -> Option<Content<Core, Global>>
+        ensures { value_in result ≡ self.held }
+    {
+        let Handle { at, alloc } = self;
+        if at == null_mut() {
+            return None;
+        }
+        Some(Content {
+            at: at as *mut Core,
+            alloc,
+        })
+    }
+
+    /// Puts a node into the empty place.
+    pub(crate) fn fill(&mut self, core: Box<Core>)
+        requires { self.old.held ≡ None }
+        ensures { self.new.held ≡ Some core.value }
+    {
+        *self = Handle::full(Content::of(core));
+    }
+
+    /// Takes the node out, where there is one.
+    pub(crate) fn take(&mut self, alloc: Global) -> Option<Box<Core>>
+        ensures taken { boxed_in result ≡ self.old.held }
+        ensures empty { self.new.held ≡ None }
+    {
+        let none = Handle::empty(alloc);
+        let content = replace(self, none).content()?;
+        Some(content.boxed())
+    }
+}
+
+// The box behind it may go to another thread.
+unsafe impl Send for Handle {}

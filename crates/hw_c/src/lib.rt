@@ -1,0 +1,323 @@
+//! The core for C and Rust: what stands in `highway.h`.
+//!
+//! A caller owns a handle, one word that is null until `hw_core_new` fills it. A call takes the node out of its
+//! handle, works, and puts it back; so calls of one handle never overlap, and a handle that holds no node is answered
+//! with a status of its own. No memory of the library is handed out: bytes go into the caller's buffer as far as they
+//! fit, and the length that is told is that of all of them.
+//!
+//! Each contract names the outcome of the call, says what it is of the node, and what of it stands in the status and
+//! in the caller's structs.
+#![tactic(auto)]
+
+ghost use Rattle.std.specs.Prelude.{◌≡◌, ℕ, List, Result, None};
+ghost use Rattle.hw_types.specs.declared.answers.Receipt.{Receipt};
+ghost use Rattle.hw_c.specs.declared.audits.Audit.{Audit};
+ghost use Rattle.hw_c.specs.declared.calls.Decided.{Decided};
+ghost use Rattle.hw_c.specs.declared.calls.Observed.{Observed};
+ghost use Rattle.hw_c.specs.declared.calls.Placed.{Placed};
+ghost use Rattle.hw_c.specs.declared.calls.Summary.{Summary};
+ghost use Rattle.hw_c.specs.declared.codes.Fault.{Fault};
+ghost use Rattle.hw_c.specs.declared.light.Judged.{Judged};
+ghost use Rattle.hw_c.specs.declared.signed.Signed.{Signed};
+ghost use Rattle.hw_c.specs.declared.steps.Step.{Step};
+ghost use Rattle.hw_c.specs.Audits.{IsAudit, IsAuditPut};
+ghost use Rattle.hw_c.specs.Buffers.{IsWritten};
+ghost use Rattle.hw_c.specs.Calls.{IsSigned, IsEntry, IsSummary, IsObserved, IsPlaced, IsDecided, IsUnmet, IsWithSignature};
+ghost use Rattle.hw_c.specs.Handles.{Begins, Ends, Delivers, Reads, ReadsBoth};
+ghost use Rattle.hw_c.specs.Light.{IsCertificate, IsCertifiedSigned, IsJudged};
+ghost use Rattle.hw_c.specs.Needed.{IsForNeed};
+ghost use Rattle.hw_c.specs.Settings.{IsConfig};
+ghost use Rattle.hw_c.specs.Steps.{IsStep, IsStepPut};
+ghost use Rattle.hw_c.specs.Told.{status, behind, delivery_answer, Puts, PutsWith};
+
+mod audits;
+mod calls;
+mod codes;
+mod content;
+mod handle;
+mod held;
+mod light;
+mod needs;
+mod put;
+mod settings;
+mod signed;
+mod steps;
+
+pub use audits::Audited;
+pub use calls::{Decided, Observed, Placed, Summary};
+pub use codes::Answer;
+pub use handle::Handle;
+pub use light::Judged;
+pub use needs::Missing;
+pub use settings::Settings;
+pub use signed::{Signed, Signer};
+pub use steps::Planned;
+
+use put::{put, put_bytes, put_bytes_with, put_done, put_receipt, put_with};
+use std::alloc::Global;
+
+/// The bytes of the configuration with these fields.
+#[unsafe(no_mangle)]
+pub extern "C" fn hw_config(
+    alloc: Global,
+    settings: &Settings,
+    weights: &[u64],
+    table: &[u32],
+    buf: &mut [u8],
+    len: &mut usize,
+    answer: &mut Answer,
+) -> u32
+    ensures { (r : Result (List ℕ) Fault) × IsConfig settings.now weights.now table.now r × IsWritten r buf.old buf.new len.old len.new × (result ≡ status r) × (answer.new ≡ behind r) }
+{
+    let outcome = settings::config(alloc, settings, weights, table);
+    put_bytes_with(outcome, buf, len, answer)
+}
+
+/// Puts a node of the configuration that the bytes spell into an empty handle.
+#[unsafe(no_mangle)]
+pub extern "C" fn hw_core_new(
+    alloc: Global,
+    config: &[u8],
+    answer: &mut Answer,
+    core: &mut Handle,
+) -> u32
+    ensures { (r : Result Unit Fault) × Begins core.old.held config.now r core.new.held × (result ≡ status r) × (answer.new ≡ behind r) }
+{
+    let outcome = held::begin(alloc, config, core);
+    put_done(outcome, answer)
+}
+
+/// Lets the node of a handle go, which is empty then.
+#[unsafe(no_mangle)]
+pub extern "C" fn hw_core_free(
+    alloc: Global,
+    core: &mut Handle,
+) -> u32
+    ensures { (r : Result Unit Fault) × Ends core.old.held r core.new.held × (result ≡ status r) }
+{
+    let outcome = held::end(alloc, core);
+    put::said(outcome)
+}
+
+/// Who signed the vertex that the bytes spell, and what.
+#[unsafe(no_mangle)]
+pub extern "C" fn hw_signed(
+    alloc: Global,
+    vertex: &[u8],
+    signed: &mut Signed,
+    answer: &mut Answer,
+) -> u32
+    ensures { (r : Result Signed Fault) × IsSigned vertex.now r × PutsWith r signed.old signed.new answer.new result }
+{
+    let outcome = signed::signed(alloc, vertex);
+    put_with(outcome, signed, answer)
+}
+
+/// Delivers the vertex that the bytes spell, with the verdict on its signatures.
+#[unsafe(no_mangle)]
+pub extern "C" fn hw_deliver(
+    alloc: Global,
+    core: &mut Handle,
+    vertex: &[u8],
+    verdict: bool,
+    answer: &mut Answer,
+) -> u32
+    ensures { (r : Result Receipt Fault) × Delivers core.old.held vertex.now verdict r core.new.held × (result ≡ status r) × (answer.new ≡ delivery_answer r) }
+{
+    let outcome = held::deliver(alloc, core, vertex, verdict);
+    put_receipt(outcome, answer)
+}
+
+/// The journal's entry of that place, as bytes.
+#[unsafe(no_mangle)]
+pub extern "C" fn hw_journal(
+    alloc: Global,
+    core: &mut Handle,
+    place: u64,
+    buf: &mut [u8],
+    len: &mut usize,
+) -> u32
+    ensures { (r : Result (List ℕ) Fault) × Reads (λ c. IsEntry c place) core.old.held r core.new.held × IsWritten r buf.old buf.new len.old len.new × (result ≡ status r) }
+{
+    let outcome = held::entry(alloc, core, place);
+    put_bytes(outcome, buf, len)
+}
+
+/// How much the node has of what, the weight of its faulty validators, and its fork choice.
+#[unsafe(no_mangle)]
+pub extern "C" fn hw_summary(
+    alloc: Global,
+    core: &mut Handle,
+    summary: &mut Summary,
+) -> u32
+    ensures { (r : Result Summary Fault) × Reads IsSummary core.old.held r core.new.held × Puts r summary.old summary.new result }
+{
+    let outcome = held::summary(alloc, core);
+    put(outcome, summary)
+}
+
+/// What the node observes of the validator.
+#[unsafe(no_mangle)]
+pub extern "C" fn hw_observation(
+    alloc: Global,
+    core: &mut Handle,
+    validator: u32,
+    observed: &mut Observed,
+) -> u32
+    ensures { (r : Result Observed Fault) × Reads (λ c. IsObserved c validator) core.old.held r core.new.held × Puts r observed.old observed.new result }
+{
+    let outcome = held::observed(alloc, core, validator);
+    put(outcome, observed)
+}
+
+/// What became of the unit of this digest.
+#[unsafe(no_mangle)]
+pub extern "C" fn hw_place(
+    alloc: Global,
+    core: &mut Handle,
+    digest: &[u8; 32],
+    placed: &mut Placed,
+) -> u32
+    ensures { (r : Result Placed Fault) × Reads (λ c. IsPlaced c digest.now) core.old.held r core.new.held × Puts r placed.old placed.new result }
+{
+    let outcome = held::placed(alloc, core, digest);
+    put(outcome, placed)
+}
+
+/// The decided block of that place.
+#[unsafe(no_mangle)]
+pub extern "C" fn hw_decision(
+    alloc: Global,
+    core: &mut Handle,
+    index: u64,
+    decided: &mut Decided,
+) -> u32
+    ensures { (r : Result Decided Fault) × Reads (λ c. IsDecided c index) core.old.held r core.new.held × Puts r decided.old decided.new result }
+{
+    let outcome = held::decided(alloc, core, index);
+    put(outcome, decided)
+}
+
+/// The first needs that parked units miss, as many as fit.
+#[unsafe(no_mangle)]
+pub extern "C" fn hw_unmet(
+    alloc: Global,
+    core: &mut Handle,
+    list: &mut [Missing],
+    count: &mut usize,
+) -> u32
+    ensures read { (r : Result ℕ Fault) × Reads (λ c. IsUnmet c list.old list.new) core.old.held r core.new.held × Puts r count.old count.new result }
+    ensures empty { core.old.held ≡ None → list.new ≡ list.old }
+{
+    let outcome = held::unmet(alloc, core, list);
+    put(outcome, count)
+}
+
+/// The vertex of that place among those that the node has for the need, as bytes.
+#[unsafe(no_mangle)]
+pub extern "C" fn hw_for_need(
+    alloc: Global,
+    core: &mut Handle,
+    missing: &Missing,
+    place: usize,
+    buf: &mut [u8],
+    len: &mut usize,
+) -> u32
+    ensures { (r : Result (List ℕ) Fault) × Reads (λ c. IsForNeed c missing.now place) core.old.held r core.new.held × IsWritten r buf.old buf.new len.old len.new × (result ≡ status r) }
+{
+    let outcome = held::for_need(alloc, core, missing, place);
+    put_bytes(outcome, buf, len)
+}
+
+/// The unit that the validator may make at this moment, as bytes without a signature.
+#[unsafe(no_mangle)]
+pub extern "C" fn hw_next_unit(
+    alloc: Global,
+    core: &mut Handle,
+    me: u32,
+    now: u64,
+    value: &[u8],
+    planned: &mut Planned,
+    buf: &mut [u8],
+) -> u32
+    ensures { (r : Result Step Fault) × Reads (λ c. IsStep c me now value.now) core.old.held r core.new.held × IsStepPut r planned.old planned.new buf.old buf.new × (result ≡ status r) }
+{
+    let outcome = held::next(alloc, core, me, now, value);
+    steps::put_step(outcome, planned, buf)
+}
+
+/// The vertex of a unit with its creator's signature, as bytes.
+#[unsafe(no_mangle)]
+pub extern "C" fn hw_with_signature(
+    alloc: Global,
+    unit: &[u8],
+    signature: &[u8; 32],
+    buf: &mut [u8],
+    len: &mut usize,
+    answer: &mut Answer,
+) -> u32
+    ensures { (r : Result (List ℕ) Fault) × IsWithSignature unit.now signature.now r × IsWritten r buf.old buf.new len.old len.new × (result ≡ status r) × (answer.new ≡ behind r) }
+{
+    let outcome = steps::with_signature(alloc, unit, signature);
+    put_bytes_with(outcome, buf, len, answer)
+}
+
+/// What the journals of two nodes say of each other, and that as text. The handles are two.
+#[unsafe(no_mangle)]
+pub extern "C" fn hw_audit(
+    alloc: Global,
+    left: &mut Handle,
+    right: &mut Handle,
+    audited: &mut Audited,
+    buf: &mut [u8],
+) -> u32
+    ensures { (r : Result Audit Fault) × ReadsBoth IsAudit left.old.held right.old.held r left.new.held right.new.held × IsAuditPut r audited.old audited.new buf.old buf.new × (result ≡ status r) }
+{
+    let outcome = held::audit(alloc, left, right);
+    audits::put_audit(outcome, audited, buf)
+}
+
+/// The certificate of the decided block of that place, as bytes.
+#[unsafe(no_mangle)]
+pub extern "C" fn hw_certificate(
+    alloc: Global,
+    core: &mut Handle,
+    index: u64,
+    buf: &mut [u8],
+    len: &mut usize,
+) -> u32
+    ensures { (r : Result (List ℕ) Fault) × Reads (λ c. IsCertificate c index) core.old.held r core.new.held × IsWritten r buf.old buf.new len.old len.new × (result ≡ status r) }
+{
+    let outcome = held::certificate(alloc, core, index);
+    put_bytes(outcome, buf, len)
+}
+
+/// Who signed the vertex of that place in the certificate that the bytes spell, and what.
+#[unsafe(no_mangle)]
+pub extern "C" fn hw_certified(
+    alloc: Global,
+    certificate: &[u8],
+    place: usize,
+    signed: &mut Signed,
+    answer: &mut Answer,
+) -> u32
+    ensures { (r : Result Signed Fault) × IsCertifiedSigned certificate.now place r × PutsWith r signed.old signed.new answer.new result }
+{
+    let outcome = light::certified(alloc, certificate, place);
+    put_with(outcome, signed, answer)
+}
+
+/// What the certificate that the bytes spell is answered, with these verdicts on its vertices' signatures.
+#[unsafe(no_mangle)]
+pub extern "C" fn hw_check(
+    alloc: Global,
+    certificate: &[u8],
+    verdicts: &[bool],
+    judged: &mut Judged,
+    answer: &mut Answer,
+) -> u32
+    ensures { (r : Result Judged Fault) × IsJudged certificate.now verdicts.now r × PutsWith r judged.old judged.new answer.new result }
+{
+    let outcome = light::judged(alloc, certificate, verdicts);
+    put_with(outcome, judged, answer)
+}

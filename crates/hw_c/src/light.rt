@@ -1,0 +1,99 @@
+//! Certificates: made by a node, read, and checked.
+
+ghost use Rattle.std.specs.Prelude.{◌≡◌, IfOk};
+ghost use Rattle.hw_types.specs.Spelling.{ConfigFits};
+ghost use Rattle.hw_light.specs.Checked.{IsAnswer, IfYes, IsCertified};
+ghost use Rattle.hw_c.specs.Light.{judged_of, IsCertificate, IsCertifiedSigned, IsJudged};
+
+use crate::codes::{Fault, cause_status, config_status};
+use crate::signed::{Signed, signed_of};
+use hw_codec::instance_of;
+use hw_core::Core;
+use hw_light::{Certified, CheckFault, Checked, certify, check, decode_certificate, encode_certificate};
+use hw_types::{Bytes, Digest};
+use std::alloc::Global;
+
+/// What a certificate with verdicts is answered, its block, and the instance that it is of.
+#[repr(C)]
+#[derive(Clone, Copy)]
+pub struct Judged {
+    pub kind: u32,
+    /// The status of what is refused, or of the limit that is broken.
+    pub status: u32,
+    /// The vertex that is refused, counted from 0.
+    pub number: u32,
+    /// The weight of the faulty validators, where it exceeds the threshold.
+    pub weight: u64,
+    pub block: [u8; 32],
+    pub instance: [u8; 32],
+}
+
+/// The certificate of the decided block of that place, as bytes.
+pub fn certificate(alloc: Global, core: &mut Core, index: u64) -> Result<Bytes, Fault>
+    ensures made { IsCertificate core.old index result }
+    ensures unchanged { core.new ≡ core.old }
+{
+    if index >= core.decision_count() {
+        return Err(Fault::OutOfRange);
+    }
+    match certify(alloc, core, index)? {
+        Certified::Made(certificate) => Ok(encode_certificate(alloc, &certificate)?),
+        Certified::NotNow => Err(Fault::Nothing),
+        Certified::TooLong(_) => Err(Fault::TooLong),
+    }
+}
+
+/// Who signed the vertex of that place in the certificate that the bytes spell, and what.
+pub fn certified(alloc: Global, bytes: &[u8], place: usize) -> Result<Signed, Fault>
+    ensures { IsCertifiedSigned bytes.now place result }
+{
+    let certificate = decode_certificate(alloc, bytes)?;
+    if place >= certificate.vertices.len() {
+        return Err(Fault::Nothing);
+    }
+    Ok(signed_of(alloc, &certificate.vertices.as_slice()[place])?)
+}
+
+fn judged_of(checked: &Checked, block: Digest, instance: Digest) -> Judged
+    ensures { result ≡ judged_of checked.now block instance }
+{
+    let mut judged = Judged {
+        kind: 0,
+        status: 0,
+        number: 0,
+        weight: 0,
+        block: block.0,
+        instance: instance.0,
+    };
+    match checked {
+        Checked::Yes(_) => {}
+        Checked::No(CheckFault::Config(fault)) => {
+            judged.kind = 1;
+            judged.status = config_status(*fault);
+        }
+        Checked::No(CheckFault::Refused(number, cause)) => {
+            judged.kind = 2;
+            judged.status = cause_status(*cause);
+            judged.number = *number;
+        }
+        Checked::No(CheckFault::Exceeded(weight)) => {
+            judged.kind = 3;
+            judged.weight = *weight;
+        }
+        Checked::No(CheckFault::Unstood) => judged.kind = 4,
+    }
+    judged
+}
+
+/// What the certificate that the bytes spell is answered, with these verdicts on its vertices' signatures.
+pub fn judged(alloc: Global, bytes: &[u8], verdicts: &[bool]) -> Result<Judged, Fault>
+    ensures { IsJudged bytes.now verdicts.now result }
+{
+    let certificate = decode_certificate(alloc, bytes)?;
+    if verdicts.len() != certificate.vertices.len() {
+        return Err(Fault::OutOfRange);
+    }
+    let instance = instance_of(alloc, &certificate.config)?;
+    let checked = check(alloc, &certificate, verdicts)?;
+    Ok(judged_of(&checked, certificate.block, instance))
+}

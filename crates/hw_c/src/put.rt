@@ -1,0 +1,154 @@
+//! How an outcome goes to the caller.
+
+ghost use Rattle.std.specs.Prelude.{◌≡◌, length};
+ghost use Rattle.hw_c.specs.Told.{status, behind, Puts, PutsWith, receipt_answer, delivery_answer};
+ghost use Rattle.hw_c.specs.Buffers.{IsWritten, copied};
+
+use crate::codes::{Answer, Fault, OK, answer_of, blank, rule_number, status_of};
+use hw_types::{Bytes, Receipt};
+
+/// Puts the value, where there is one, and answers the status.
+pub fn put<T: Copy>(outcome: Result<T, Fault>, out: &mut T) -> u32
+    ensures { Puts outcome out.old out.new result }
+{
+    match outcome {
+        Ok(value) => {
+            *out = value;
+            OK
+        }
+        Err(fault) => status_of(fault),
+    }
+}
+
+/// The same, and tells what stands behind the status.
+pub fn put_with<T: Copy>(outcome: Result<T, Fault>, out: &mut T, answer: &mut Answer) -> u32
+    ensures { PutsWith outcome out.old out.new answer.new result }
+{
+    match outcome {
+        Ok(value) => {
+            *out = value;
+            *answer = blank();
+            OK
+        }
+        Err(fault) => {
+            *answer = answer_of(fault);
+            status_of(fault)
+        }
+    }
+}
+
+/// The status of what is done, or isn't.
+pub fn said(outcome: Result<(), Fault>) -> u32
+    ensures { result ≡ status outcome }
+{
+    match outcome {
+        Ok(()) => OK,
+        Err(fault) => status_of(fault),
+    }
+}
+
+/// Tells what stands behind the status, and answers the status.
+pub fn put_done(outcome: Result<(), Fault>, answer: &mut Answer) -> u32
+    ensures status { result ≡ status outcome }
+    ensures answer { answer.new ≡ behind outcome }
+{
+    match outcome {
+        Ok(()) => {
+            *answer = blank();
+            OK
+        }
+        Err(fault) => {
+            *answer = answer_of(fault);
+            status_of(fault)
+        }
+    }
+}
+
+/// Tells what became of a vertex.
+fn receipt_answer(receipt: Receipt) -> Answer
+    ensures { result ≡ receipt_answer receipt }
+{
+    let mut answer = blank();
+    match receipt {
+        Receipt::Admitted { settled } => answer.count = settled,
+        Receipt::Parked { missing } => {
+            answer.kind = 1;
+            answer.count = missing;
+        }
+        Receipt::Dropped(rule) => {
+            answer.kind = 2;
+            answer.count = rule_number(rule);
+        }
+        Receipt::Repeat => answer.kind = 3,
+    }
+    answer
+}
+
+/// Tells what a delivery was answered, and answers the status.
+pub fn put_receipt(outcome: Result<Receipt, Fault>, answer: &mut Answer) -> u32
+    ensures status { result ≡ status outcome }
+    ensures answer { answer.new ≡ delivery_answer outcome }
+{
+    match outcome {
+        Ok(receipt) => {
+            *answer = receipt_answer(receipt);
+            OK
+        }
+        Err(fault) => {
+            *answer = answer_of(fault);
+            status_of(fault)
+        }
+    }
+}
+
+/// Copies as many bytes as fit, and says how many there are in all.
+pub fn copy_bytes(bytes: &[u8], buf: &mut [u8]) -> usize
+    ensures count { result ≡ length bytes.now }
+    ensures copied { buf.new ≡ copied bytes.now buf.old }
+{
+    let count = if bytes.len() < buf.len() {
+        bytes.len()
+    } else {
+        buf.len()
+    };
+    buf[..count].copy_from_slice(&bytes[..count]);
+    bytes.len()
+}
+
+/// Puts bytes, where there are any, and answers the status.
+pub fn put_bytes(outcome: Result<Bytes, Fault>, buf: &mut [u8], len: &mut usize) -> u32
+    ensures status { result ≡ status outcome }
+    ensures written { IsWritten outcome buf.old buf.new len.old len.new }
+{
+    match outcome {
+        Ok(bytes) => {
+            *len = copy_bytes(bytes.as_slice(), buf);
+            OK
+        }
+        Err(fault) => status_of(fault),
+    }
+}
+
+/// The same, and tells what stands behind the status.
+pub fn put_bytes_with(
+    outcome: Result<Bytes, Fault>,
+    buf: &mut [u8],
+    len: &mut usize,
+    answer: &mut Answer,
+) -> u32
+    ensures status { result ≡ status outcome }
+    ensures written { IsWritten outcome buf.old buf.new len.old len.new }
+    ensures answer { answer.new ≡ behind outcome }
+{
+    match outcome {
+        Ok(bytes) => {
+            *len = copy_bytes(bytes.as_slice(), buf);
+            *answer = blank();
+            OK
+        }
+        Err(fault) => {
+            *answer = answer_of(fault);
+            status_of(fault)
+        }
+    }
+}

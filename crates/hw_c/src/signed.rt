@@ -1,0 +1,100 @@
+//! Who signed a vertex, and what: so a caller can judge the signatures before it delivers the vertex.
+
+ghost use Rattle.std.specs.Prelude.{◌≡◌, IfOk};
+ghost use Rattle.hw_types.specs.Spelling.{Fits, VertexFits};
+ghost use Rattle.hw_c.specs.Answers.{signer_of, signed_of, no_signer};
+ghost use Rattle.hw_c.specs.Calls.{IsSigned};
+
+use crate::codes::Fault;
+use hw_codec::{decode_vertex, digest_of};
+use hw_types::{Endorsement, OutOfMemory, SignedUnit, Vertex};
+use std::alloc::Global;
+
+/// A validator's signature of the digest of a unit.
+#[repr(C)]
+#[derive(Clone, Copy)]
+pub struct Signer {
+    pub validator: u32,
+    pub unit: [u8; 32],
+    pub signature: [u8; 32],
+}
+
+/// The signatures of a vertex: one, or two where it is an evidence.
+#[repr(C)]
+#[derive(Clone, Copy)]
+pub struct Signed {
+    pub kind: u32,
+    pub first: Signer,
+    pub second: Signer,
+}
+
+/// Who signed the vertex that the bytes spell, and what.
+pub fn signed(alloc: Global, bytes: &[u8]) -> Result<Signed, Fault>
+    ensures { IsSigned bytes.now result }
+{
+    let vertex = decode_vertex(alloc, bytes)?;
+    Ok(signed_of(alloc, &vertex)?)
+}
+
+/// Who signed the vertex, and what.
+pub fn signed_of(alloc: Global, vertex: &Vertex) -> Result<Signed, OutOfMemory>
+    requires { VertexFits vertex.now }
+    ensures { IfOk result (λ signed. signed ≡ signed_of vertex.now) }
+{
+    match vertex {
+        Vertex::Unit(unit) => {
+            let first = signer_of(alloc, unit)?;
+            Ok(Signed {
+                kind: 0,
+                first,
+                second: no_signer(),
+            })
+        }
+        Vertex::Evidence(evidence) => {
+            let first = signer_of(alloc, &evidence.left)?;
+            let second = signer_of(alloc, &evidence.right)?;
+            Ok(Signed {
+                kind: 1,
+                first,
+                second,
+            })
+        }
+        Vertex::Endorsement(endorsement) => Ok(Signed {
+            kind: 2,
+            first: endorser_of(endorsement),
+            second: no_signer(),
+        }),
+    }
+}
+
+fn signer_of(alloc: Global, signed: &SignedUnit) -> Result<Signer, OutOfMemory>
+    requires { Fits signed.now.unit }
+    ensures { IfOk result (λ signer. signer ≡ signer_of signed.now) }
+{
+    let digest = digest_of(alloc, &signed.unit)?;
+    Ok(Signer {
+        validator: signed.unit.creator,
+        unit: digest.0,
+        signature: signed.signature.0,
+    })
+}
+
+fn endorser_of(endorsement: &Endorsement) -> Signer
+    ensures { result ≡ record { validator = endorsement.now.endorser; unit = endorsement.now.unit.0; signature = endorsement.now.signature.0 } }
+{
+    Signer {
+        validator: endorsement.endorser,
+        unit: endorsement.unit.0,
+        signature: endorsement.signature.0,
+    }
+}
+
+fn no_signer() -> Signer
+    ensures { result ≡ no_signer }
+{
+    Signer {
+        validator: 0,
+        unit: [0; 32],
+        signature: [0; 32],
+    }
+}

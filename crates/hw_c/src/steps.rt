@@ -1,0 +1,131 @@
+//! The unit that a validator may make now.
+
+ghost use Rattle.std.specs.Prelude.{◌≡◌, ◌<◌, ◌≤◌, ◌^◌, ℕ, length, IfOk, OnOk, Option};
+ghost use Rattle.hw_types.specs.Real.{setting_of, received_in};
+ghost use Rattle.hw_types.specs.Spelling.{Fits};
+ghost use Rattle.hw_types.specs.Step.{step};
+ghost use Rattle.hw_c.specs.Answers.{plan_number};
+ghost use Rattle.hw_c.specs.Calls.{IsWithSignature};
+ghost use Rattle.hw_c.specs.Steps.{IsStep, IsSpelledStep, IsStepPut};
+ghost use Rattle.hw_c.specs.Told.{status};
+
+use crate::codes::{Fault, OK, status_of};
+use crate::put::copy_bytes;
+use hw_codec::{decode_unit, digest_of, encode_unit, encode_vertex, fits};
+use hw_core::Core;
+use hw_types::{Bytes, OutOfMemory, Plan, PlanKind, Signature, SignedUnit, Vertex};
+use hw_validator::next_unit;
+use std::alloc::Global;
+
+/// The end of time, in milliseconds.
+const END_OF_TIME: u64 = 1 << 63;
+
+/// The most bytes of a value.
+const LONGEST_VALUE: usize = 4096;
+
+/// What a planned unit is for, how many bytes it has without a signature, and what its creator signs.
+#[repr(C)]
+#[derive(Clone, Copy)]
+pub struct Planned {
+    pub kind: u32,
+    pub length: u64,
+    pub digest: [u8; 32],
+}
+
+/// A planned unit, and its bytes.
+#[derive(Drop)]
+pub struct Step {
+    pub planned: Planned,
+    pub bytes: Bytes,
+}
+
+/// The unit that the validator may make at this moment, where there is one.
+#[tactic(auto, using(crate::proofs::StepLaws::step_is))]
+fn plan(
+    alloc: Global,
+    core: &Core,
+    me: u32,
+    now: u64,
+    value: &[u8],
+) -> Result<Option<Plan>, OutOfMemory>
+    requires me { me < length core.now.config.weights }
+    requires now { now < 2 ^ 63 }
+    requires value { length value.now ≤ 4096 }
+    ensures { IfOk result (λ plan. plan ≡ step (setting_of core.now.config) (received_in core.now) me now value.now) }
+{
+    next_unit(alloc, core.state(), me, now, value)
+}
+
+fn plan_number(kind: PlanKind) -> u32
+    ensures { result ≡ plan_number kind }
+{
+    match kind {
+        PlanKind::Propose => 0,
+        PlanKind::Confirm => 1,
+        PlanKind::Witness => 2,
+    }
+}
+
+fn spelled(alloc: Global, plan: &Plan) -> Result<Step, OutOfMemory>
+    requires { Fits plan.now.unit }
+    ensures { IfOk result (IsSpelledStep plan.now) }
+{
+    let digest = digest_of(alloc, &plan.unit)?;
+    let bytes = encode_unit(alloc, &plan.unit)?;
+    let planned = Planned {
+        kind: plan_number(plan.kind),
+        length: bytes.len() as u64,
+        digest: digest.0,
+    };
+    Ok(Step { planned, bytes })
+}
+
+/// The unit that the validator may make at this moment, as bytes without a signature.
+pub fn next(alloc: Global, core: &Core, me: u32, now: u64, value: &[u8]) -> Result<Step, Fault>
+    ensures { IsStep core.now me now value.now result }
+{
+    if me as usize >= core.state().config().weights.len() {
+        return Err(Fault::OutOfRange);
+    }
+    if now >= END_OF_TIME || value.len() > LONGEST_VALUE {
+        return Err(Fault::OutOfRange);
+    }
+    let Some(plan) = plan(alloc, core, me, now, value)? else {
+        return Err(Fault::Nothing);
+    };
+    if !fits(&plan.unit) {
+        return Err(Fault::TooLong);
+    }
+    Ok(spelled(alloc, &plan)?)
+}
+
+/// Puts a step, where there is one, and answers the status.
+pub fn put_step(outcome: Result<Step, Fault>, planned: &mut Planned, buf: &mut [u8]) -> u32
+    ensures status { result ≡ status outcome }
+    ensures put { IsStepPut outcome planned.old planned.new buf.old buf.new }
+{
+    match outcome {
+        Ok(step) => {
+            *planned = step.planned;
+            copy_bytes(step.bytes.as_slice(), buf);
+            OK
+        }
+        Err(fault) => status_of(fault),
+    }
+}
+
+/// The vertex of a unit with its creator's signature, as bytes.
+pub fn with_signature(
+    alloc: Global,
+    unit: &[u8],
+    signature: &[u8; 32],
+) -> Result<Bytes, Fault>
+    ensures { IsWithSignature unit.now signature.now result }
+{
+    let unit = decode_unit(alloc, unit)?;
+    let vertex = Vertex::Unit(SignedUnit {
+        unit,
+        signature: Signature(*signature),
+    });
+    Ok(encode_vertex(alloc, &vertex)?)
+}
