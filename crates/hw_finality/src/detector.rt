@@ -10,7 +10,7 @@ ghost use Rattle.hw_finality.specs.Laws.{DecidesOn, IsNothingNew};
 use crate::found::{Found, Outcome};
 use crate::list::FoundList;
 use crate::quorums::quorums_of;
-use crate::search::search;
+use crate::search::Searcher;
 use hw_dag::{Dag, Panorama, UnitNo};
 use hw_horizon::{Bounds, Horizons};
 use hw_types::{Config, OutOfMemory};
@@ -21,11 +21,7 @@ use std::marker::Model;
 /// for more, and what its search keeps.
 #[derive(Drop)]
 pub struct Detector {
-    config: Config,
-    /// The quorum of each level from 1 on.
-    quorums: Vec<u64>,
-    horizons: Horizons,
-    bounds: Bounds,
+    searcher: Searcher,
     found: FoundList,
 }
 
@@ -35,18 +31,12 @@ impl Model for Detector {
     ghost Value = { DetectorState };
 
     ghost view = { λ d. record {
-      config = d.config;
+      config = d.searcher.config;
       spare = d.found.spare;
       found = d.found.blocks;
-      walks = d.horizons.walks;
-      bounds = d.bounds;
+      walks = d.searcher.horizons.walks;
+      bounds = d.searcher.bounds;
     } };
-
-    ghost use Rattle.std.specs.Prelude.{◌≡◌, length};
-    ghost use Rattle.hw_horizon.specs.Bounds.{AreWide};
-    ghost use Rattle.hw_finality.specs.Detected.{AreQuorums};
-
-    ghost invariant = { λ d. AreQuorums d.config d.quorums.items × (d.horizons.validators ≡ length d.config.weights) × (d.horizons.levels ≡ d.config.levels) × AreWide (length d.config.weights) d.bounds };
 }
 
 impl Detector {
@@ -59,11 +49,14 @@ impl Detector {
     {
         let validators = config.weights.len() as u32;
         let levels = u32::from(config.levels);
-        Ok(Detector {
+        let searcher = Searcher {
             config: config.copy()?,
             quorums: quorums_of(alloc, config)?,
             horizons: Horizons::new(alloc, validators, levels)?,
             bounds: Bounds::new(alloc, validators, levels)?,
+        };
+        Ok(Detector {
+            searcher,
             found: FoundList::new(alloc),
         })
     }
@@ -106,20 +99,13 @@ impl Detector {
         ensures room { length self.new.found + self.new.spare ≡ length self.old.found + self.old.spare }
         ensures config { self.new.config ≡ self.old.config }
     {
-        if self.config.ftt < faulty {
+        if self.searcher.config.ftt < faulty {
             return Outcome::Exceeded(faulty);
         }
-        outcome_of(search(
-            &mut self.found,
-            &mut self.horizons,
-            &mut self.bounds,
-            &self.config,
-            self.quorums.as_slice(),
-            dag,
-            panorama,
-            fork,
-            at,
-        ))
+        let count = self
+            .searcher
+            .search(&mut self.found, dag, panorama, fork, at);
+        outcome_of(count)
     }
 
     /// How many blocks were found so far.

@@ -1,8 +1,7 @@
 //! The blocks found so far, with room for more.
 
-ghost use Rattle.std.specs.Prelude.{◌≡◌, ◌+◌, ◌^◌, ◌<◌, ◌≤◌, [], ◌∷◌, ◌++◌, length, slice_index_or, OnOk, Some};
+ghost use Rattle.std.specs.Prelude.{◌≡◌, ◌+◌, ◌^◌, ◌<◌, ◌≤◌, [], ◌∷◌, ◌++◌, length, OnOk, Some};
 ghost use Rattle.std.specs.Prelude.{slice_get};
-ghost use Rattle.hw_finality.specs.declared.found.Found.{Found as Block};
 
 use crate::found::Found;
 use hw_types::OutOfMemory;
