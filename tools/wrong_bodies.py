@@ -8,9 +8,9 @@
 
 A trial begins with what `rt check` of the crate kept in its out/, if it kept anything, and needs the libraries below
 it built: it says which are missing. A page that is proved, doesn't apply or doesn't compile is an error with its name.
-A crate that can't be tried stops no other, and each crate's record is written when its pages are through, or when it is
-ended. Crates are begun in the order of their names here: the dearest first use several processors best. What another
-toolchain tried is tried again; --current only tells of it.
+A crate that can't be tried stops no other, and each crate's record is written when its pages are through, or when this
+is ended. Crates are begun in the order of the names given, or else those with most pages first, so that several
+processors end together. What another toolchain tried is tried again; --current only tells of it.
 
 Examples:
   tools/wrong_bodies.py hw_endorse hw_forks
@@ -239,6 +239,8 @@ def main(words):
         crates = crates_of(given.root)
         stop_on_lost(given.root, crates)
         named = chosen(crates, given.names)
+        if not given.names and not given.current:
+            named.sort(key=lambda it: -len(pages_of(it)[0]))
         return current(named, given.allow_untried) if given.current else try_all(named, given)
     except (CheckError, SourceError, OSError) as error:
         print(f"wrong bodies: {error}", file=sys.stderr)
