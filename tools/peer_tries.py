@@ -9,12 +9,13 @@
     silent-peer          a validator whose second PEER accepts and says nothing
     trickling-peer       a validator whose second PEER sends a byte each second
     slow-peer            a validator whose second PEER says Hello, and then reads a byte each second
-    sixteen              a hub and sixteen honest validators: each `link fault` is counted
+    sixteen              a hub and sixteen honest validators: each `link fault` is counted, until the hub's sessions
+                         are used up
 
 Final blocks are those in the log of validator 0, and units the `made` lines of the validator. For the kinds with a PEER a
-round takes 1,024 milliseconds, for the others 256. The last line is what the misbehaviour costs, as a share of what the
-other network did in the same time, and the status is 0 where that is below a tenth for connections and a fifth for
-peers, and where there is no link fault.
+round takes 1,024 milliseconds, for `sixteen` too, and for the others 256. The last line is what the misbehaviour costs,
+as a share of what the other network did in the same time. A hub whose sessions are used up is started again. The status
+is 0 where the cost is below a tenth for connections and a fifth for peers, and where there is no link fault.
 
 It stands outside the gate and proves nothing."""
 
@@ -54,16 +55,29 @@ class Network:
         (room / "keys").write_text("".join(f"{line}\n" for line in lines), encoding="ascii")
         self.port = free_port()
         self.address = f"127.0.0.1:{self.port}"
-        self.start("hub", "serve", self.address, 65536)
+        self.serve()
         await_listener(self.port)
+
+    def serve(self):
+        """Starts the hub, for as many sessions as it can be started for."""
+        self.start("hub", "serve", self.address, 65536)
+
+    def run_for(self, seconds):
+        """Waits so long, and starts the hub again where its sessions are used up."""
+        until = time.monotonic() + seconds
+        while time.monotonic() < until:
+            time.sleep(0.05)
+            if self.nodes["hub"].poll() is not None:
+                self.serve()
 
     def start(self, name, command, *words):
         folder = self.room / name
-        folder.mkdir()
-        for file in ("settings.json", "keys"):
-            shutil.copy(self.room / file, folder)
+        if not folder.exists():
+            folder.mkdir()
+            for file in ("settings.json", "keys"):
+                shutil.copy(self.room / file, folder)
         line = [self.program, command, "settings.json", "keys", "node.log", *map(str, words)]
-        with open(folder / "out", "wb") as out, open(folder / "err", "wb") as err:
+        with open(folder / "out", "ab") as out, open(folder / "err", "ab") as err:
             self.nodes[name] = subprocess.Popen(line, cwd=folder, stdout=out, stderr=err)
 
     def validate(self, number, *peers):
@@ -80,9 +94,15 @@ class Network:
         data = (self.room / "hub" / "node.log").read_bytes()
         return hashlib.sha256(data[9:9 + int.from_bytes(data[5:9])]).digest()
 
-    def lines(self, name, start, file="out"):
-        text = (self.room / name / file).read_text(encoding="utf-8")
-        return sum(start in line for line in text.splitlines())
+    def lines(self, name, part):
+        """How many lines of a node's output have this part."""
+        text = (self.room / name / "out").read_text(encoding="utf-8")
+        return sum(part in line for line in text.splitlines())
+
+    def reasons(self, name):
+        """What a node told on standard error."""
+        text = (self.room / name / "err").read_text(encoding="utf-8")
+        return [f"{name}: {line}" for line in text.splitlines()]
 
     def finals(self):
         """How many blocks are final by the log of validator 0; a log may be torn, since its node was killed."""
@@ -173,6 +193,15 @@ class BadPeer:
 
 # ---- what is tried
 
+def run_all(networks, seconds):
+    """Lets all networks run for so long at the same time."""
+    others = [threading.Thread(target=network.run_for, args=(seconds,)) for network in networks]
+    for other in others:
+        other.start()
+    for other in others:
+        other.join()
+
+
 def tried_connections(words, room, ended):
     """The final blocks of a network that is left alone, and of one that isn't."""
     networks = [Network(room / name, words.program, 3, 8) for name in ("alone", "hurt")]
@@ -182,7 +211,7 @@ def tried_connections(words, room, ended):
                 network.validate(number, network.address)
         hurt = {"silent-connections": each_second, "resets": reset_on, "trickles": trickle_on}[words.kind]
         threading.Thread(target=hurt, args=(networks[1].port, ended), daemon=True).start()
-        time.sleep(words.seconds)
+        run_all(networks, words.seconds)
     finally:
         ended.set()
         for network in networks:
@@ -198,12 +227,12 @@ def tried_peers(words, room, ended):
     try:
         networks[0].validate(0, networks[0].address)
         networks[1].validate(0, networks[1].address, bad.address)
-        time.sleep(words.seconds)
+        run_all(networks, words.seconds)
     finally:
         ended.set()
         for network in networks:
             network.stop()
-    print(f"the bad peer was dialled {bad.dials} times; {networks[1].lines('v0', '', 'err')} lines on standard error")
+    print(f"the bad peer was dialled {bad.dials} times; {len(networks[1].reasons('v0'))} lines on standard error")
     return "units", [network.lines("v0", "made ") for network in networks], 0.2
 
 
@@ -213,15 +242,19 @@ def tried_sixteen(words, room):
     try:
         for number in range(16):
             network.validate(number, network.address)
-        time.sleep(words.seconds)
+        began, faults, lasted = time.monotonic(), 0, 0.0
+        while lasted < words.seconds:
+            time.sleep(0.2)
+            found = sum(network.lines(name, "link fault") for name in network.nodes)
+            if network.nodes["hub"].poll() is not None:
+                break
+            faults, lasted = found, time.monotonic() - began
+        reasons = [line for name in network.nodes for line in network.reasons(name)] if faults else []
     finally:
         network.stop()
-    faults = sum(network.lines(name, "link fault") for name in network.nodes)
     made = sum(network.lines(f"v{number}", "made ") for number in range(16))
-    for name in network.nodes:
-        for line in (network.room / name / "err").read_text(encoding="utf-8").splitlines():
-            print(f"{name}: {line}")
-    print(f"sixteen: {made} units, {network.finals()} final blocks, {faults} link faults in {words.seconds:g} seconds")
+    print("".join(f"{line}\n" for line in reasons), end="")
+    print(f"sixteen: {made} units, {network.finals()} final blocks, {faults} link faults in {lasted:.0f} seconds")
     return faults == 0
 
 
