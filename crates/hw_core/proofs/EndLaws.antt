@@ -1,5 +1,5 @@
 -- Where settling ends.
-use Rattle.std.proofs.Common.{◌≡◌, ◌≢◌, ◌⊎◌, inl, inr, ℕ, suc, Bool, true, false, not, List, [], ◌∷◌, ◌++◌, length, Option, Some, None, refl, sym, ap, subst, ◌∙◌, arith, All, eqb-true, eq-eqb}
+use Rattle.std.proofs.Common.{◌≡◌, ◌≢◌, ◌⊎◌, inl, inr, ℕ, Bool, true, false, not, List, [], ◌∷◌, ◌++◌, length, Option, Some, None, refl, sym, ap, subst, ◌∙◌, arith, All, eqb-true, eq-eqb}
 use Rattle.std.proofs.lemmas.List.Elements.{filter_map-append}
 use Rattle.std.specs.Prelude.{◌&&◌, ◌||◌, ◌==◌, is_none}
 use Rattle.hw_types.specs.declared.unit.Digest.{Digest}
@@ -270,7 +270,7 @@ module _ (s : Setting) (journal : List Vertex) (v : Vertex) (verdict : Bool) (st
       let some = part_length (waiting_nodes waiting) units taken.order in
       let most = listed_most s (journal ++ v ∷ []) in
       let end = turns_end s.config (known_in state) l units (admitted_in state) (waiting_nodes waiting) found (waiting_nodes left) (length (journal ++ v ∷ [])) judging run
-          (λ y m e. misses y m (sym (same_missing s.config l state taken.knows (by_name found) y) ∙ e)) (omega arith) in
+      (λ y m e. misses y m (sym (same_missing s.config l state taken.knows (by_name found) y) ∙ e)) (omega arith) in
       sym (order_more s journal v ∙ ap (λ (xs : List Node). settle_more (length (journal ++ v ∷ [])) s.config l units xs) (sym taken.in_order) ∙ end)
 
   pub settling_ended : IsOf s (journal ++ v ∷ []) later left

@@ -189,7 +189,7 @@ module _ (s : NodeState) (waiting left : List (Waiting PreparedUnit)) (p : Prepa
       let w = map_among (λ w. node_prepared w.item) y out.before m in
       let was : Among w.0 waiting = subst (λ (ws : List (Waiting PreparedUnit)). Among w.0 ws) (sym out.waiting_is) (from_left w.0 out.before (out.from ∷ out.after) w.1) in
       out.first w.0 w.1 ((can.are.each w.0 was).needs_are ∙ ap (λ (units : List Node). missing_of s.config (known_in s) units (node_prepared w.0.item)) (graph_is s)
-          ∙ ap (λ (z : Node). missing_of s.config (known_in s) (by_name (admitted_in s)) z) w.2 ∙ e)
+      ∙ ap (λ (z : Node). missing_of s.config (known_in s) (by_name (admitted_in s)) z) w.2 ∙ e)
 
   -- and no settled unit has its name
   pub unknown_yet : IsUnknown (admitted_in s) p.digest

@@ -45,7 +45,7 @@ module _ {A : Type 0} where
       let rest : bs ++ x ∷ after ≡ q.0 = cc in
       let here : p z ≡ false = subst (λ (w : A). p w ≡ false) same (none b (inl refl)) in
       rw here (find_in_part p bs x after zs (subst (λ (ws : List A). IsPart ws zs) (sym rest) q.2) once.1 t (λ y m. none y (inr m))
-          (λ y m e. elim (all y (inr m) e) [ inl f ↦ absurd (let no : false ≡ true = sym (none y (inl f)) ∙ e in cc) | inr n ↦ n ]))
+      (λ y m e. elim (all y (inr m) e) [ inl f ↦ absurd (let no : false ≡ true = sym (none y (inl f)) ∙ e in cc) | inr n ↦ n ]))
 
   -- nothing passes
   pub find_none : (p : A → Bool) (ys : List A) → ((y : A) → Among y ys → p y ≡ false) → find p ys ≡ None

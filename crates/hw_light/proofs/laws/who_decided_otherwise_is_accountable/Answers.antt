@@ -7,4 +7,4 @@ use Rattle.hw_light.proofs.laws.who_decided_otherwise_is_accountable.Goals as go
 
 pub returns : goal.returns
 returns c = λ e v. accountable c.args.certificate.now c.args.yes.now c.args.other.now e v c.requires.certified c.requires.config
-(subst (λ (k : Config). HasPairs (setting_of k) c.args.other.now.journal) c.requires.config c.state-state.ensures.pairs)
+    (subst (λ (k : Config). HasPairs (setting_of k) c.args.other.now.journal) c.requires.config c.state-state.ensures.pairs)
