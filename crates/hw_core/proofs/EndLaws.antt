@@ -1,5 +1,6 @@
 -- Where settling ends.
-use Rattle.std.proofs.Common.{◌≡◌, ◌≢◌, inl, inr, ℕ, suc, Bool, true, false, not, List, [], ◌∷◌, ◌++◌, length, Option, Some, None, refl, sym, ap, subst, ◌∙◌, arith, All, eqb-true, eq-eqb}
+use Rattle.std.proofs.Common.{◌≡◌, ◌≢◌, ◌⊎◌, inl, inr, ℕ, Bool, true, false, not, List, [], ◌∷◌, ◌++◌, length, Option, Some, None, refl, sym, ap, subst, ◌∙◌, arith, All, eqb-true, eq-eqb}
+use Rattle.std.proofs.lemmas.List.Elements.{filter_map-append}
 use Rattle.std.specs.Prelude.{◌&&◌, ◌||◌, ◌==◌, is_none}
 use Rattle.hw_types.specs.declared.unit.Digest.{Digest}
 use Rattle.hw_types.specs.declared.unit.Need.{Need}
@@ -13,32 +14,30 @@ use Rattle.hw_types.specs.ByName.{by_name, IsRising}
 use Rattle.hw_types.specs.Rules.{state_rule}
 use Rattle.hw_types.specs.Settled.{Received, equivocates, is_endorsed, is_need_met, needs_of, missing_of, settles, settled_of, parked_of, dropped_of}
 use Rattle.hw_types.specs.laws.StateLaws.{Admits, LeadsToSettled, NamesApart, units_in, candidates}
-use Rattle.hw_types.specs.Journal.{Setting, received_of, answer, is_accepted}
+use Rattle.hw_types.specs.Journal.{Setting, unit_of_vertex, received_of, answer, is_accepted}
 use Rattle.hw_types.proofs.ClosureLaws.{Within}
 use Rattle.hw_types.proofs.StableLaws.{and_parts}
 use Rattle.hw_types.proofs.WordsLaws.{either}
 use Rattle.hw_types.proofs.JournalLaws.{filter_alike, received_rising, longer_extends}
-use Rattle.hw_types.proofs.EntryLaws.{map_among, append_cases, same_named}
+use Rattle.hw_types.proofs.EntryLaws.{map_among, append_cases, by_name_in, same_named}
 use Rattle.hw_types.proofs.UnionLaws.{from_left, from_right}
 use Rattle.hw_types.proofs.GraphLaws.{rising_one_name}
 use Rattle.hw_types.proofs.SettledLaws.{digest_self}
 use Rattle.hw_types.proofs.LawfulLaws.{settled_admits}
-use Rattle.hw_types.proofs.OrderLaws.{Accepted, accepted}
-use Rattle.hw_types.proofs.StepLaws.{parked_has, parked_is, dropped_has, is_split, new_known, accepted_step, accepted_leads}
+use Rattle.hw_types.proofs.OrderLaws.{Accepted, accepted, in_known}
+use Rattle.hw_types.proofs.StepLaws.{parked_has, parked_is, dropped_has, dropped_is, is_split, new_known, accepted_step, accepted_leads}
 use Rattle.hw_types.proofs.GrowsLaws.{received_grows}
 use Rattle.hw_dag.specs.Admission.{PreparedUnit, node_prepared}
 use Rattle.hw_admit.specs.State.{NodeState, is_marked}
 use Rattle.hw_admit.proofs.FaultyLaws.{faulty_same}
 use Rattle.hw_park.specs.Parked.{Waiting}
-use Rattle.hw_core.specs.Settle.{known_in, admitted_in, waiting_nodes, CanSettle, IsDropped, HasSettled, HasNoted, rule_in}
+use Rattle.hw_core.specs.Order.{settle_more, settling_order}
+use Rattle.hw_core.specs.Settle.{known_in, admitted_in, waiting_nodes, CanSettle, IsDropped, TakesTurns, HasSettled, HasNoted, rule_in}
 use Rattle.hw_core.specs.Keeps.{KnowsOf, IsOf, HasTaken, AreRules}
-use Rattle.hw_core.proofs.PartLaws.{part_among, part_then}
+use Rattle.hw_core.proofs.PartLaws.{part_among, part_then, part_length}
+pub use Rattle.hw_core.proofs.SettleLaws.{all_at}
 use Rattle.hw_core.proofs.SettleLaws.{graph_is}
-
-pub all_at : {A : Type 0} (P : A → Type 0) (xs : List A) → All P xs → (x : A) → Among x xs → P x
-all_at P [] a x m = absurd m
-all_at P (y ∷ ys) a x (inl e) = subst P e (a 0 y (omega arith))
-all_at P (y ∷ ys) a x (inr m) = all_at P ys (λ k f lt. a (suc k) f (omega arith)) x m
+use Rattle.hw_core.proofs.TurnLaws.{Judging, turns_end, order_more, listed_most}
 
 -- ---- what the state knows is what was received
 
@@ -221,6 +220,59 @@ module _ (s : Setting) (journal : List Vertex) (v : Vertex) (verdict : Bool) (st
         ]
       ]
 
+  -- ---- the order in which they settled
+
+  abbrev units : List Node
+  units = units_in s (journal ++ v ∷ [])
+
+  leads_now : (moment : List Node) → Admits s.config (known_in state) (waiting_nodes waiting) (admitted_in state) moment → LeadsToSettled s.config l (candidates s journal v) moment
+  leads_now moment run = accepted_leads s journal v apart was (admitted_in state) moment start_is (carried_run s.config l state taken.knows (candidates s journal v) (waiting_nodes waiting) (admitted_in state) moment taken.waits.to run)
+
+  -- what settles at some moment breaks no rule at last
+  kept_at_last : (y : Node) (moment : List Node) → Admits s.config (known_in state) (waiting_nodes waiting) (admitted_in state) moment → settles s.config l (by_name moment) y ≡ true → state_rule s.config (settled_of s.config l) y ≡ None
+  kept_at_last y moment run t =
+      let parts = and_parts (length (missing_of s.config l (by_name moment) y) == 0) (is_none (state_rule s.config (by_name moment) y)) t in
+      ((leads_now moment run).judged y (eqb-true (length (missing_of s.config l (by_name moment) y)) 0 parts.0)).1 ∙ no_rule (state_rule s.config (by_name moment) y) parts.1
+
+  -- and was not dropped before
+  known_or : (y : Node) → Among y units → (moment : List Node) → Admits s.config (known_in state) (waiting_nodes waiting) (admitted_in state) moment → settles s.config l (by_name moment) y ≡ true
+      → Among y (admitted_in state) ⊎ Among y (waiting_nodes waiting)
+  known_or y m moment run t = elim (append_cases y (units_in s journal) (units_in s (v ∷ [])) (subst (λ (us : List Node). Among y us) (filter_map-append (unit_of_vertex s) journal (v ∷ [])) m)) [
+    | inl old ↦ elim ((is_split s.config k (received_rising s journal)).one y (in_known s journal apart y old)) [
+      | inl there ↦ inl (by_name_in (admitted_in state) y (subst (λ (us : List Node). Among y us) (sym start_is) there))
+      | inr rest ↦ elim rest [
+        | inl parked ↦ inr (taken.waits.back y (from_left y (parked_of s.config k) (units_in s (v ∷ [])) parked))
+        | inr gone ↦ absurd (
+            let still = ((received_grows s.config k l (received_rising s journal) rising_l (longer_extends s journal (v ∷ []))).dropped y gone).0 in
+            let broken = (dropped_is s.config l rising_l y still).2 in
+            let no : true ≡ false = sym (ap (λ (o : Option Rule). is_none o) (kept_at_last y moment run t)) ∙ broken in
+            cc)
+      ]
+    ]
+    | inr new ↦ inr (taken.waits.back y (from_right y (parked_of s.config k) (units_in s (v ∷ [])) new))
+  ]
+
+  judging : Judging s.config (known_in state) l units (admitted_in state) (waiting_nodes waiting)
+  judging = record {
+    once = taken.once;
+    part = taken.order;
+    same = same_missing s.config l state taken.knows;
+    known_or = known_or;
+    verdict = λ y moment found rule before run met broken t.
+        let met_l : length (missing_of s.config l (by_name moment) y) ≡ 0 = ap (λ (ns : List Need). length ns) (sym (same_missing s.config l state taken.knows (by_name moment) y) ∙ met) in
+        let last : Some rule ≡ None = sym (((leads_now moment before).judged y met_l).1 ∙ broken) ∙ kept_at_last y found run t in
+        absurd cc;
+  }
+
+  in_order_is : found ≡ settling_order s (journal ++ v ∷ [])
+  in_order_is =
+      let run : TakesTurns s.config (known_in state) (admitted_in state) (waiting_nodes waiting) found (waiting_nodes left) = subst (λ (c : Config). TakesTurns c (known_in state) (admitted_in state) (waiting_nodes waiting) found (waiting_nodes left)) taken.config h.turns in
+      let some = part_length (waiting_nodes waiting) units taken.order in
+      let most = listed_most s (journal ++ v ∷ []) in
+      let end = turns_end s.config (known_in state) l units (admitted_in state) (waiting_nodes waiting) found (waiting_nodes left) (length (journal ++ v ∷ [])) judging run
+      (λ y m e. misses y m (sym (same_missing s.config l state taken.knows (by_name found) y) ∙ e)) (omega arith) in
+      sym (order_more s journal v ∙ ap (λ (xs : List Node). settle_more (length (journal ++ v ∷ [])) s.config l units xs) (sym taken.in_order) ∙ end)
+
   pub settling_ended : IsOf s (journal ++ v ∷ []) later left
   settling_ended = record {
     config = config_later;
@@ -229,4 +281,6 @@ module _ (s : Setting) (journal : List Vertex) (v : Vertex) (verdict : Bool) (st
     can = can;
     parked = record { to = to_parked; back = from_parked };
     order = part_then (waiting_nodes left) (waiting_nodes waiting) (units_in s (journal ++ v ∷ [])) h.still taken.order;
+    once = taken.once;
+    in_order = in_order_is;
   }

@@ -31,7 +31,7 @@ use Rattle.hw_admit.specs.State.{NodeState, is_marked, told_in}
 use Rattle.hw_endorse.specs.Told.{in_order, is_told, with_pair, has_majority}
 use Rattle.hw_endorse.proofs.PairLaws.{told_turn}
 use Rattle.hw_park.specs.Parked.{Parked, Waiting, struck}
-use Rattle.hw_core.specs.Settle.{IsPart, known_in, waiting_nodes, AreWaiting, CanSettle}
+use Rattle.hw_core.specs.Settle.{IsPart, known_in, waiting_nodes, AreWaiting, CanSettle, IsOnce, admitted_in}
 use Rattle.hw_core.specs.Keeps.{KnowsOf, HasTaken, IsNode}
 use Rattle.hw_core.specs.Deliver.{answer_to, IsTaken}
 use Rattle.hw_core.proofs.AnswerLaws.{answer_refused, answer_repeat, answer_full, answer_taken}
@@ -39,6 +39,7 @@ use Rattle.hw_core.proofs.TakeLaws.{was_accepted}
 use Rattle.hw_core.proofs.PartLaws.{part_more}
 use Rattle.hw_core.proofs.EndLaws.{same_endorsed}
 use Rattle.hw_core.proofs.WaitLaws.{length_struck, waiting_same, waiting_struck}
+use Rattle.std.proofs.lemmas.List.{append-nil}
 
 -- the digest of a pair, where there is one
 name_in : Digest → Option (Digest × ℕ) → Digest
@@ -193,4 +194,6 @@ module _ (journal : List Vertex) (park : Parked PreparedUnit) (state : NodeState
         back = λ x m. subst (λ (xs : List Node). Among x xs) (sym same) (node.is_of.parked.back x (elim (append_cases x (parked_of s.config k) (units_in s (v ∷ [])) m) [ inl old ↦ old | inr none ↦ absurd none ]));
       };
       order = subst₂ (λ (ns us : List Node). IsPart ns us) (sym same) (sym (filter_map-append (unit_of_vertex s) journal (v ∷ []))) (part_more (waiting_nodes park.waiting) (units_in s journal) (units_in s (v ∷ [])) node.is_of.order);
+      once = subst IsOnce (sym (filter_map-append (unit_of_vertex s) journal (v ∷ []) ∙ append-nil (units_in s journal))) node.is_of.once;
+      in_order = ap (λ (t : NodeState). admitted_in t) told ∙ node.is_of.in_order;
     }

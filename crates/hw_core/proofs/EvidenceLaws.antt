@@ -39,7 +39,7 @@ use Rattle.hw_admit.specs.State.{NodeState, is_marked, is_faulty_in}
 use Rattle.hw_admit.proofs.FaultyLaws.{faulty_same}
 use Rattle.hw_endorse.specs.Told.{in_order}
 use Rattle.hw_park.specs.Parked.{Parked, Waiting, struck}
-use Rattle.hw_core.specs.Settle.{IsPart, known_in, waiting_nodes, AreWaiting, CanSettle}
+use Rattle.hw_core.specs.Settle.{IsPart, known_in, waiting_nodes, AreWaiting, CanSettle, IsOnce, admitted_in}
 use Rattle.hw_core.specs.Keeps.{KnowsOf, HasTaken, IsNode}
 use Rattle.hw_core.specs.Deliver.{answer_to, IsTaken, MayWantMemory}
 use Rattle.hw_core.proofs.AnswerLaws.{answer_refused, answer_repeat, answer_full, answer_taken, answer_memory}
@@ -247,4 +247,6 @@ module _ (journal : List Vertex) (park : Parked PreparedUnit) (state : NodeState
           back = λ x m. subst (λ (xs : List Node). Among x xs) (sym same) (node.is_of.parked.back x (elim (append_cases x (parked_of s.config k) (units_in s (v ∷ [])) m) [ inl old ↦ old | inr none ↦ absurd none ]));
         };
         order = subst₂ (λ (ns us : List Node). IsPart ns us) (sym same) (sym (filter_map-append (unit_of_vertex s) journal (v ∷ []))) (part_more (waiting_nodes park.waiting) (units_in s journal) (units_in s (v ∷ [])) node.is_of.order);
+        once = subst IsOnce (sym (filter_map-append (unit_of_vertex s) journal (v ∷ []) ∙ append-nil (units_in s journal))) node.is_of.once;
+        in_order = ap (λ (t : NodeState). admitted_in t) told ∙ node.is_of.in_order;
       }

@@ -22,10 +22,10 @@ use Rattle.hw_types.proofs.StepLaws.{parked_has}
 use Rattle.hw_dag.specs.Admission.{PreparedUnit, node_prepared}
 use Rattle.hw_admit.specs.State.{NodeState}
 use Rattle.hw_park.specs.Parked.{Parked, Waiting, awaited}
-use Rattle.hw_core.specs.Settle.{waiting_nodes}
+use Rattle.hw_core.specs.Settle.{IsOnce, waiting_nodes}
 use Rattle.hw_core.specs.Keeps.{IsNode, IsTable}
 use Rattle.hw_core.specs.Readers.{unmet_in}
-use Rattle.hw_core.proofs.PartLaws.{IsOnce, part_gives}
+use Rattle.hw_core.proofs.PartLaws.{part_gives}
 use Rattle.hw_core.proofs.UnitBoundLaws.{missing_is}
 
 -- ---- no unit stands twice in a journal

@@ -1,8 +1,9 @@
 -- Laws of lists that have some of others, in their order.
-use Rattle.std.proofs.Common.{◌≡◌, ◌⊎◌, inl, inr, List, [], ◌∷◌, ◌++◌, map, refl, sym, ap, subst, ◌∙◌}
+use Rattle.std.proofs.Common.{◌≡◌, ◌⊎◌, inl, inr, ◌≤◌, List, [], ◌∷◌, ◌++◌, length, map, refl, sym, ap, subst, ◌∙◌, arith}
 use Rattle.std.specs.List.{flat_map}
 use Rattle.hw_types.specs.Below.{Among}
-use Rattle.hw_core.specs.Settle.{IsPart}
+use Rattle.hw_types.proofs.EntryLaws.{append_cases}
+use Rattle.hw_core.specs.Settle.{IsPart, IsOnce}
 
 module _ {A : Type 0} where
   pub part_self : (xs : List A) → IsPart xs xs
@@ -48,11 +49,27 @@ module _ {A : Type 0} where
   part_last xs (y ∷ ys) z (inl p) = inl (part_last xs ys z p)
   part_last xs (y ∷ ys) z (inr q) = inr (q.0 ++ z ∷ [], ap (λ (ws : List A). ws ++ z ∷ []) q.1, part_last q.0 ys z q.2)
 
+  -- a part without one of its members
+  pub part_without : (before : List A) (x : A) (after : List A) → IsPart (before ++ after) (before ++ x ∷ after)
+  part_without [] x after = part_skip x after after (part_self after)
+  part_without (b ∷ bs) x after = part_keep b (bs ++ after) (bs ++ x ∷ after) (part_without bs x after)
+
+  pub part_length : (xs ys : List A) → IsPart xs ys → length xs ≤ length ys
+  part_length xs [] p = let none = ap length p in omega arith
+  part_length xs (y ∷ ys) (inl p) = let less = part_length xs ys p in omega arith
+  part_length xs (y ∷ ys) (inr q) = let rest = part_length q.0 ys q.2 in let all = ap length q.1 in omega arith
+
   -- ---- where none stands twice
 
-  abbrev pub IsOnce : List A → Type 0
-  IsOnce [] = Unit {0}
-  IsOnce (x ∷ xs) = (Among x xs → ⊥) × IsOnce xs
+  pub once_last : (xs : List A) (z : A) → IsOnce xs → (Among z xs → ⊥) → IsOnce (xs ++ z ∷ [])
+  once_last [] z once new = (λ m. m, tt)
+  once_last (x ∷ xs) z once new = (
+    λ m. elim (append_cases x xs (z ∷ []) m) [
+      | inl old ↦ once.0 old
+      | inr here ↦ elim here [ inl e ↦ new (inl (sym e)) | inr none ↦ none ]
+    ],
+    once_last xs z once.1 (λ m. new (inr m)),
+  )
 
   -- what is left out gives nothing, so the part gives what the whole gives
   pub part_gives : {B : Type 0} (f : A → List B) (xs ys : List A) → IsPart xs ys → IsOnce ys → ((y : A) → Among y ys → Among y xs ⊎ (f y ≡ [])) → flat_map f xs ≡ flat_map f ys

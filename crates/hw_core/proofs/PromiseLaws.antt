@@ -31,6 +31,7 @@ use Rattle.hw_types.proofs.ReceiptLaws.{tells_where}
 use Rattle.hw_types.proofs.BoundLaws.{journal_bounded}
 use Rattle.hw_types.proofs.OrderLaws.{Accepted, received_same, journal_apart}
 use Rattle.hw_safety.proofs.PairLaws.{delivered_pairs}
+use Rattle.hw_core.specs.Deliver.{HasCome}
 use Rattle.hw_core.specs.Promises.{begun, delivered, answers_to, DeliveriesAreTheJournal, IsSound, NodesAreSound, TellsTheSame, OrderOfDeliveriesDoesNotCount, IsFreshUnit, WholeUnitIsAdmitted, LackingUnitIsParked, NewEndorsementIsAdmitted, NewEvidenceIsAdmitted, OnlyMemoryRefuses}
 use Rattle.hw_core.proofs.AnswerLaws.{answer_taken}
 use Rattle.hw_core.proofs.FreshLaws.{fresh_clash, fresh_unit}
@@ -59,6 +60,10 @@ nodes_sound config ds = subst IsSound (sym (delivered_is config ds)) (record {
   parked = (journal_bounded (setting_of config) ds).parked;
   apart = journal_apart (setting_of config) ds;
 })
+
+-- so is one whose journal deliveries made
+pub come_sound : (c : CoreState) → HasCome c.config c.journal → IsSound c
+come_sound c come = subst IsSound (delivered_is c.config come.0 ∙ ap (λ (vs : List Vertex). record { config = c.config; journal = vs }) (sym come.1)) (nodes_sound c.config come.0)
 
 -- ---- order
 

@@ -48,7 +48,7 @@ use Rattle.hw_core.proofs.DecidedLaws.{decided_is, get_mapped}
 use Rattle.hw_core.specs.Shown.{ShownState}
 use Rattle.hw_core.specs.Keeps.{IsKept}
 use Rattle.hw_core.specs.Missing.{IsFoundIn}
-use Rattle.hw_core.specs.Readers.{signed_unit, unit_in, missed_by, missing_needs, IsOrder, IsPlace, IsUnsettled, fork_in}
+use Rattle.hw_core.specs.Readers.{signed_unit, unit_in, node_in, missed_by, missing_needs, IsOrder, IsPlace, IsUnsettled, fork_in}
 use Rattle.hw_core.proofs.CountLaws.{graph_length}
 use Rattle.hw_core.proofs.UnitBoundLaws.{few_missing, missing_is, units_few}
 use Rattle.hw_core.proofs.WaitLaws.{no_needs}
@@ -245,7 +245,11 @@ module _ (instance : Digest) (journal : List Vertex) (names : List (Digest × �
         ap (unit_in core) (sym name) ∙ found.1.is,
         subst (λ (y : Node). Among y (settled_of state.config k)) (sym found.2) settled,
         omega arith,
-        (admitted_in state, admitted_order g, subst (λ (y : Node). slice_get (admitted_in state) number.0 ≡ Some y) (sym found.2) (get_mapped node_of state.dag.units number.0 (unit_at state.dag number.0) (slice_get-get_or state.dag.units number.0 stand_in lt))),
+        (
+          subst (IsOrder core) kept.node.is_of.in_order (admitted_order g),
+          subst (λ (order : List Node). slice_get order number.0 ≡ Some (node_in core found.0)) kept.node.is_of.in_order
+              (subst (λ (y : Node). slice_get (admitted_in state) number.0 ≡ Some y) (sym found.2) (get_mapped node_of state.dag.units number.0 (unit_at state.dag number.0) (slice_get-get_or state.dag.units number.0 stand_in lt))),
+        ),
       )
 
   pub dropped_place : (d : Digest) (rule : Rule) → rule_in rules d ≡ Some rule → IsPlace core d (place.Dropped rule)

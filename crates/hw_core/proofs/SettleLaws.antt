@@ -1,8 +1,8 @@
 -- What becomes of those that wait as units settle.
-use Rattle.std.proofs.Common.{◌≡◌, ◌⊎◌, inl, inr, ℕ, ◌+◌, ◌<◌, Bool, true, false, List, [], ◌∷◌, ◌++◌, length, map, filter, Option, Some, None, refl, sym, ap, subst, subst₂, ◌∙◌, arith}
+use Rattle.std.proofs.Common.{◌≡◌, ◌≢◌, ◌⊎◌, inl, inr, ℕ, suc, ◌+◌, ◌<◌, Bool, true, false, List, [], ◌∷◌, ◌++◌, length, map, filter, Option, Some, None, refl, sym, ap, subst, subst₂, ◌∙◌, arith, All}
 use Rattle.std.specs.Prelude.{◌==◌, is_none, Result, Ok, Err, OnOk, OnErr, IfErr}
 use Rattle.std.specs.List.{range_with_len}
-use Rattle.std.proofs.lemmas.List.{map-append, length-append}
+use Rattle.std.proofs.lemmas.List.{map-append, length-append, append-nil}
 use Rattle.hw_types.specs.declared.unit.Digest.{Digest}
 use Rattle.hw_types.specs.declared.unit.Need.{Need}
 use Rattle.hw_types.specs.declared.unit.Need.TheVariants as need
@@ -12,7 +12,7 @@ use Rattle.hw_types.specs.Graph.{Node}
 use Rattle.hw_types.specs.Below.{Among}
 use Rattle.hw_types.specs.ByName.{by_name}
 use Rattle.hw_types.specs.Rules.{state_rule}
-use Rattle.hw_types.specs.Settled.{Received, is_faulty, missing_of}
+use Rattle.hw_types.specs.Settled.{Received, is_faulty, missing_of, settles}
 use Rattle.hw_types.specs.laws.StateLaws.{HasOneMore, Admits}
 use Rattle.hw_types.proofs.StableLaws.{and_whole}
 use Rattle.hw_types.proofs.EntryLaws.{map_among, among_map, append_cases, by_name_more, by_name_append, same_named}
@@ -26,10 +26,16 @@ use Rattle.hw_rules.specs.Judged.{KeepsLocalRules}
 use Rattle.hw_admit.specs.State.{NodeState, IsAdmitted, MarksAreMet, is_marked, is_faulty_in}
 use Rattle.hw_admit.proofs.FaultyLaws.{faulty_same}
 use Rattle.hw_park.specs.Parked.{Waiting, struck}
-use Rattle.hw_core.specs.Settle.{IsPart, known_in, admitted_in, waiting_nodes, IsUnknown, IsUnawaited, AreApart, AreWaiting, Awaits, CanSettle, IsDue, KnowsTheSame, IsDropped, HasSettled, HasMoreRoom}
+use Rattle.hw_core.specs.Settle.{IsPart, known_in, admitted_in, waiting_nodes, IsUnknown, IsUnawaited, AreApart, AreWaiting, Awaits, CanSettle, IsDue, KnowsTheSame, IsDropped, AllMiss, TakesTurns, HasSettled, HasMoreRoom}
 use Rattle.hw_core.proofs.NeedLaws.{cited_met, marked_met}
 use Rattle.hw_core.proofs.PartLaws.{part_self, part_among, part_then, part_more, part_map}
+use Rattle.hw_core.proofs.TurnLaws.{turns_then}
 use Rattle.hw_core.proofs.WaitLaws.{length_struck, waiting_unit, waiting_both, IsHandedOut}
+
+pub all_at : {A : Type 0} (P : A → Type 0) (xs : List A) → All P xs → (x : A) → Among x xs → P x
+all_at P [] a x m = absurd m
+all_at P (y ∷ ys) a x (inl e) = subst P e (a 0 y (omega arith))
+all_at P (y ∷ ys) a x (inr m) = all_at P ys (λ k f lt. a (suc k) f (omega arith)) x m
 
 -- ---- one unit more
 
@@ -169,6 +175,28 @@ module _ (s : NodeState) (waiting left : List (Waiting PreparedUnit)) (p : Prepa
   pub left_within : (y : Node) → Among y (waiting_nodes left) → Among y (waiting_nodes waiting)
   left_within y m = let w = map_among (λ w. node_prepared w.item) y left m in subst (λ (z : Node). Among z (waiting_nodes waiting)) w.2 (among_map (λ w. node_prepared w.item) w.0 waiting (out.rest w.0 w.1))
 
+  pub waiting_split : waiting_nodes waiting ≡ waiting_nodes out.before ++ node_prepared p ∷ waiting_nodes out.after
+  waiting_split =
+      ap (λ (ws : List (Waiting PreparedUnit)). waiting_nodes ws) out.waiting_is ∙ map-append (λ (w : Waiting PreparedUnit). node_prepared w.item) out.before (out.from ∷ out.after)
+      ∙ ap (λ (q : PreparedUnit). waiting_nodes out.before ++ node_prepared q ∷ waiting_nodes out.after) out.item_is
+
+  pub left_split : waiting_nodes left ≡ waiting_nodes out.before ++ waiting_nodes out.after
+  left_split = ap (λ (ws : List (Waiting PreparedUnit)). waiting_nodes ws) out.left_is ∙ map-append (λ (w : Waiting PreparedUnit). node_prepared w.item) out.before out.after
+
+  -- those before it miss something
+  pub miss_before : AllMiss s.config (known_in s) (admitted_in s) (waiting_nodes out.before)
+  miss_before y m e =
+      let w = map_among (λ w. node_prepared w.item) y out.before m in
+      let was : Among w.0 waiting = subst (λ (ws : List (Waiting PreparedUnit)). Among w.0 ws) (sym out.waiting_is) (from_left w.0 out.before (out.from ∷ out.after) w.1) in
+      out.first w.0 w.1 ((can.are.each w.0 was).needs_are ∙ ap (λ (units : List Node). missing_of s.config (known_in s) units (node_prepared w.0.item)) (graph_is s)
+      ∙ ap (λ (z : Node). missing_of s.config (known_in s) (by_name (admitted_in s)) z) w.2 ∙ e)
+
+  -- and no settled unit has its name
+  pub unknown_yet : IsUnknown (admitted_in s) p.digest
+  unknown_yet y m e =
+      let z = same_named (admitted_in s) y m in
+      is_due.unknown z.0 (subst (λ (units : List Node). Among z.0 units) (sym (graph_is s)) z.1) (z.2 ∙ e)
+
   pub left_part : IsPart (waiting_nodes left) (waiting_nodes waiting)
   left_part = part_map (λ (w : Waiting PreparedUnit). node_prepared w.item) left waiting out.order
 
@@ -188,6 +216,7 @@ same_then s t later first second = record { config = second.config ∙ first.con
 pub settled_none : (s : NodeState) (waiting : List (Waiting PreparedUnit)) → HasSettled s waiting s waiting
 settled_none s waiting = record {
   same = record { config = refl; grows = grows_itself s.dag; marked = refl; pairs = refl };
+  turns = TakesTurns.begin;
   run = Admits.begin;
   still = part_self (waiting_nodes waiting);
   placed = λ x m. inr (inl m);
@@ -208,14 +237,25 @@ module _ (s : NodeState) (start : List (Waiting PreparedUnit)) (t : NodeState) (
   rule_then : (r : Option Rule) → state_rule t.config (graph t.dag) y ≡ r → state_rule s.config (by_name (admitted_in t)) y ≡ r
   rule_then r e = subst₂ (λ (c : Config) (units : List Node). state_rule c units y ≡ r) so_far.same.config (graph_is t) e
 
+  -- the run so far, with the unit that is judged now in its place
+  turns_here : TakesTurns s.config (known_in s) (admitted_in s) (waiting_nodes start) (admitted_in t) (waiting_nodes out.before ++ y ∷ waiting_nodes out.after)
+  turns_here = subst (λ (ns : List Node). TakesTurns s.config (known_in s) (admitted_in s) (waiting_nodes start) (admitted_in t) ns) (waiting_split t waiting left p can out) so_far.turns
+
+  miss_here : AllMiss s.config (known_in s) (admitted_in t) (waiting_nodes out.before)
+  miss_here = subst₂ (λ (c : Config) (k : Received). AllMiss c k (admitted_in t) (waiting_nodes out.before)) so_far.same.config (known_same s t so_far.same) (miss_before t waiting left p can out)
+
+  settles_here : state_rule t.config (graph t.dag) y ≡ None → settles s.config (known_in s) (by_name (admitted_in t)) y ≡ true
+  settles_here kept = and_whole _ _ (ap (λ (ns : List Need). length ns == 0) missing_then) (ap (λ (o : Option Rule). is_none o) (rule_then None kept))
+
   -- it settled
   pub settled_kept : (later : NodeState) (after : List (Waiting PreparedUnit)) → state_rule t.config (graph t.dag) y ≡ None → KnowsTheSame t later → admitted_in later ≡ admitted_in t ++ y ∷ []
       → waiting_nodes after ≡ waiting_nodes left → HasSettled s start later after
   settled_kept later after kept same admitted nodes = record {
     same = same_then s t later so_far.same same;
+    turns = subst₂ (λ (ns ws : List Node). TakesTurns s.config (known_in s) (admitted_in s) (waiting_nodes start) ns ws) (sym admitted) (sym (nodes ∙ left_split t waiting left p can out))
+        (TakesTurns.settle y (admitted_in t) (waiting_nodes out.before) (waiting_nodes out.after) turns_here miss_here (unknown_yet t waiting left p can out) (settles_here kept));
     run = subst (λ (ns : List Node). Admits s.config (known_in s) (waiting_nodes start) (admitted_in s) ns) (sym admitted)
-        (Admits.admit y (admitted_in t) so_far.run from_start
-        (and_whole _ _ (ap (λ (ns : List Need). length ns == 0) missing_then) (ap (λ (o : Option Rule). is_none o) (rule_then None kept))));
+        (Admits.admit y (admitted_in t) so_far.run from_start (settles_here kept));
     still = part_then (waiting_nodes after) (waiting_nodes waiting) (waiting_nodes start) (subst (λ (ns : List Node). IsPart ns (waiting_nodes waiting)) (sym nodes) (left_part t waiting left p can out)) so_far.still;
     placed = λ x m. elim (so_far.placed x m) [
       | inl there ↦ inl (subst (λ (ns : List Node). Among x ns) (sym admitted) (from_left x (admitted_in t) (y ∷ []) there))
@@ -236,6 +276,8 @@ module _ (s : NodeState) (start : List (Waiting PreparedUnit)) (t : NodeState) (
   pub settled_dropped : (later : NodeState) (after : List (Waiting PreparedUnit)) (rule : Rule) → state_rule t.config (graph t.dag) y ≡ Some rule → later ≡ t → after ≡ left → HasSettled s start later after
   settled_dropped later after rule broken e f = subst₂ (λ (l : NodeState) (ws : List (Waiting PreparedUnit)). HasSettled s start l ws) (sym e) (sym f) record {
     same = so_far.same;
+    turns = subst (λ (ws : List Node). TakesTurns s.config (known_in s) (admitted_in s) (waiting_nodes start) (admitted_in t) ws) (sym (left_split t waiting left p can out))
+        (TakesTurns.drop y rule (admitted_in t) (waiting_nodes out.before) (waiting_nodes out.after) turns_here miss_here missing_then (rule_then (Some rule) broken));
     run = so_far.run;
     still = part_then (waiting_nodes left) (waiting_nodes waiting) (waiting_nodes start) (left_part t waiting left p can out) so_far.still;
     placed = λ x m. elim (so_far.placed x m) [
@@ -291,6 +333,8 @@ module _ (s t u : NodeState) (waiting between left : List (Waiting PreparedUnit)
   pub settled_then : HasSettled s waiting u left
   settled_then = record {
     same = same_then s t u first.same second.same;
+    turns = turns_then s.config (known_in s) (admitted_in s) (waiting_nodes waiting) (admitted_in t) (waiting_nodes between) (admitted_in u) (waiting_nodes left) first.turns
+        (subst₂ (λ (c : Config) (k : Received). TakesTurns c k (admitted_in t) (waiting_nodes between) (admitted_in u) (waiting_nodes left)) first.same.config (known_same s t first.same) second.turns);
     run = carried_on (admitted_in u) second.run;
     still = part_then (waiting_nodes left) (waiting_nodes between) (waiting_nodes waiting) second.still first.still;
     placed = λ x m. elim (first.placed x m) [
@@ -333,8 +377,8 @@ module _ (s : NodeState) (waiting : List (Waiting PreparedUnit)) (p : PreparedUn
     };
   }
 
-  pub out_fresh : IsHandedOut (waiting ++ fresh ∷ []) waiting p
-  out_fresh = record {
+  pub out_fresh : All (λ w. w.needs ≢ []) waiting → IsHandedOut (waiting ++ fresh ∷ []) waiting p
+  out_fresh none = record {
     from = fresh;
     was = from_right fresh waiting (fresh ∷ []) (inl refl);
     item_is = refl;
@@ -345,4 +389,9 @@ module _ (s : NodeState) (waiting : List (Waiting PreparedUnit)) (p : PreparedUn
     apart = can.are.apart;
     fewer = let long = length-append waiting (fresh ∷ []) in omega arith;
     order = part_more waiting waiting (fresh ∷ []) (part_self waiting);
+    before = waiting;
+    after = [];
+    waiting_is = refl;
+    left_is = sym (append-nil waiting);
+    first = λ w m. all_at (λ w. w.needs ≢ []) waiting none w m;
   }

@@ -31,7 +31,7 @@ use Rattle.hw_core.specs.Keeps.{IsNode}
 use Rattle.hw_core.specs.Decided.{DecidedState, IsDecided}
 use Rattle.hw_core.specs.Shown.{IsDecidedBlock, HasSummitNow, IsStartNow, IsStartOf, ShownState, IsSearchOf, IsAnswer, IsAnswerOf, IsShown}
 use Rattle.hw_core.proofs.SettleLaws.{grows_roomy}
-use Rattle.hw_core.proofs.EndLaws.{all_at}
+use Rattle.hw_core.proofs.SettleLaws.{all_at}
 use Rattle.hw_core.proofs.DecidedLaws.{decided_is, get_mapped, found_at, node_panorama}
 
 -- ---- while the graph grows

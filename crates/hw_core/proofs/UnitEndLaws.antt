@@ -32,13 +32,13 @@ use Rattle.hw_dag.specs.Admission.{PreparedUnit, node_prepared}
 use Rattle.hw_endorse.specs.Told.{in_order}
 use Rattle.hw_admit.specs.State.{NodeState}
 use Rattle.hw_park.specs.Parked.{Parked, Waiting}
-use Rattle.hw_core.specs.Settle.{IsPart, known_in, waiting_nodes, IsUnawaited, AreApart, Awaits, CanSettle}
+use Rattle.hw_core.specs.Settle.{IsPart, known_in, waiting_nodes, IsUnawaited, AreApart, Awaits, CanSettle, IsOnce}
 use Rattle.hw_core.specs.Keeps.{HasTaken, IsNode}
 use Rattle.hw_core.specs.Units.{IsNewUnit}
 use Rattle.hw_core.proofs.UnitTakeLaws.{at_among, none_ready, new_unknown, new_unawaited}
 use Rattle.hw_core.proofs.UnitBoundLaws.{missing_here}
-use Rattle.hw_core.proofs.EndLaws.{all_at}
-use Rattle.hw_core.proofs.PartLaws.{part_last}
+use Rattle.hw_core.proofs.SettleLaws.{all_at}
+use Rattle.hw_core.proofs.PartLaws.{part_last, once_last}
 
 nodes_last : (ws : List (Waiting PreparedUnit)) (w : Waiting PreparedUnit) → waiting_nodes (ws ++ w ∷ []) ≡ waiting_nodes ws ++ node_prepared w.item ∷ []
 nodes_last [] w = refl
@@ -101,6 +101,8 @@ module _ (journal : List Vertex) (park : Parked PreparedUnit) (state : NodeState
         back = λ y m. subst (λ (xs : List Node). Among y xs) (sym (nodes_last park.waiting last)) (back y (append_cases y (parked_of s.config k) (units_in s (v ∷ [])) m));
       };
       order = subst₂ (λ (ns us : List Node). IsPart ns us) (sym (nodes_last park.waiting last)) longer (part_last (waiting_nodes park.waiting) (units_in s journal) (node_prepared p) node.is_of.order);
+      once = subst IsOnce longer (once_last (units_in s journal) (node_prepared p) node.is_of.once (λ m. new.fresh (node_prepared p) m digest));
+      in_order = node.is_of.in_order;
     }
       where
         new_one : node_prepared p ∷ [] ≡ units_in s (v ∷ [])

@@ -1,5 +1,5 @@
 -- Lists of units that wait.
-use Rattle.std.proofs.Common.{◌≡◌, ◌⊎◌, inl, inr, suc, Bool, true, false, not, cond, List, [], ◌∷◌, length, find, Some, None, refl, sym, ap, subst, ◌∙◌, eqb-true}
+use Rattle.std.proofs.Common.{◌≡◌, ◌≢◌, ◌⊎◌, inl, inr, suc, Bool, true, false, not, cond, List, [], ◌∷◌, ◌++◌, length, find, Some, None, refl, sym, ap, subst, ◌∙◌, eqb-true}
 use Rattle.std.specs.Prelude.{◌==◌, ◌||◌}
 use Rattle.std.specs.Option.{option_map}
 use Rattle.hw_types.specs.declared.unit.Digest.{Digest}
@@ -122,6 +122,12 @@ pub record IsHandedOut (waiting left : List (Waiting PreparedUnit)) (p : Prepare
   pub apart : AreApart left
   pub fewer : length waiting ≡ suc (length left)
   pub order : IsPart left waiting
+  -- those before it miss something
+  pub before : List (Waiting PreparedUnit)
+  pub after : List (Waiting PreparedUnit)
+  pub waiting_is : waiting ≡ before ++ from ∷ after
+  pub left_is : left ≡ before ++ after
+  pub first : (w : Waiting PreparedUnit) → Among w before → w.needs ≢ []
 
 pub no_needs : (ns : List Need) → (length ns == 0) ≡ true → ns ≡ []
 no_needs [] e = refl
@@ -146,6 +152,11 @@ handed_out (w ∷ ws) apart p found = go (is_ready w) refl (λ h. handed_out ws 
           apart = apart.1;
           fewer = refl;
           order = part_skip w ws ws (part_self ws);
+          before = [];
+          after = ws;
+          waiting_is = refl;
+          left_is = refl;
+          first = λ v m. absurd m;
         }
     go false e rest =
         let later : Some p ≡ next_item ws = found ∙ ap (λ (b : Bool). option_map (λ (v : Waiting PreparedUnit). v.item) (cond b (Some w) (find is_ready ws))) e in
@@ -164,6 +175,14 @@ handed_out (w ∷ ws) apart p found = go (is_ready w) refl (λ h. handed_out ws 
           apart = (λ v m. apart.0 v (h.rest v m), h.apart);
           fewer = ap suc h.fewer;
           order = part_keep w (without_next ws) ws h.order;
+          before = w ∷ h.before;
+          after = h.after;
+          waiting_is = ap (λ (vs : List (Waiting PreparedUnit)). w ∷ vs) h.waiting_is;
+          left_is = ap (λ (vs : List (Waiting PreparedUnit)). w ∷ vs) h.left_is;
+          first = λ v m. elim m [
+            | inl same ↦ (λ none. absurd (let yes : true ≡ false = sym (ap (λ (ns : List Need). length ns == 0) (ap (λ (u : Waiting PreparedUnit). u.needs) same ∙ none)) ∙ e in cc))
+            | inr n ↦ h.first v n
+          ];
         }
 
 pub length_nodes : (ws : List (Waiting PreparedUnit)) → length (waiting_nodes ws) ≡ length ws

@@ -22,7 +22,9 @@ use Rattle.hw_dag.specs.Dag.{graph, count_of, node_at, observations}
 use Rattle.hw_dag.specs.Admission.{PreparedUnit}
 use Rattle.hw_admit.specs.State.{NodeState, is_marked}
 use Rattle.hw_park.specs.Parked.{Waiting, Parked}
-use Rattle.hw_core.specs.Settle.{CanSettle, IsPart, waiting_nodes, rule_in}
+use Rattle.hw_core.specs.Order.{settling_order}
+use Rattle.hw_core.specs.Settle.{CanSettle, IsPart, IsOnce, admitted_in, waiting_nodes, rule_in}
+use Rattle.hw_core.specs.Deliver.{HasCome}
 use Rattle.hw_core.specs.Decided.{DecidedState, IsDecided}
 use Rattle.hw_core.specs.Shown.{ShownState, IsShown}
 
@@ -31,7 +33,8 @@ pub record KnowsOf (received : Received) (state : NodeState) : Type 0 where
   pub evidence : (v : ℕ) → is_marked state.marked v ≡ has_evidence received.with_evidence v
   pub endorsements : state.pairs ≡ received.endorsements
 
--- The settled units are those of the journal, and its parked units wait for what they miss, in the order of the journal.
+-- The settled units are those of the journal, in the order in which they settled, and its parked units wait for what they miss, in the
+-- order of the journal.
 pub record IsOf (s : Setting) (journal : List Vertex) (state : NodeState) (waiting : List (Waiting PreparedUnit)) : Type 0 where
   pub config : state.config ≡ s.config
   pub settled : graph state.dag ≡ settled_of s.config (received_of s journal)
@@ -39,6 +42,8 @@ pub record IsOf (s : Setting) (journal : List Vertex) (state : NodeState) (waiti
   pub can : CanSettle state waiting
   pub parked : HasSame (waiting_nodes waiting) (parked_of s.config (received_of s journal))
   pub order : IsPart (waiting_nodes waiting) (units_in s journal)
+  pub once : IsOnce (units_in s journal)
+  pub in_order : admitted_in state ≡ settling_order s journal
 
 -- The state knows what one vertex more says, and all that may settle now waits.
 pub record HasTaken (s : Setting) (journal : List Vertex) (v : Vertex) (state : NodeState) (waiting : List (Waiting PreparedUnit)) : Type 0 where
@@ -47,12 +52,15 @@ pub record HasTaken (s : Setting) (journal : List Vertex) (v : Vertex) (state : 
   pub knows : KnowsOf (received_of s (journal ++ v ∷ [])) state
   pub waits : HasSame (waiting_nodes waiting) (candidates s journal v)
   pub order : IsPart (waiting_nodes waiting) (units_in s (journal ++ v ∷ []))
+  pub once : IsOnce (units_in s (journal ++ v ∷ []))
+  pub in_order : admitted_in state ≡ settling_order s journal
 
--- A journal within its bound whose names are apart, with what is kept beside it.
+-- A journal within its bound that deliveries made, whose names are apart, with what is kept beside it.
 pub record IsNode (journal : List Vertex) (park : Parked PreparedUnit) (state : NodeState) : Type 0 where
   pub bounded : length journal ≤ state.config.max_records
   pub limit : park.limit ≡ state.config.max_parked
   pub apart : NamesApart (units_in (setting_of state.config) journal)
+  pub come : HasCome state.config journal
   pub is_of : IsOf (setting_of state.config) journal state park.waiting
 
 -- The table has the place of each unit of the journal by its name, and no other name.

@@ -18,6 +18,7 @@ use Rattle.hw_types.specs.Spelling.{digest_of}
 use Rattle.hw_types.specs.laws.StateLaws.{units_in}
 use Rattle.hw_types.specs.Journal.{named}
 use Rattle.hw_types.specs.Real.{CoreState, setting_of, received_in, settled_in, weight_in}
+use Rattle.hw_core.specs.Order.{order_in}
 use Rattle.hw_core.specs.declared.place.Place.{Place}
 use Rattle.hw_core.specs.declared.place.Place.TheVariants as place
 
@@ -69,18 +70,17 @@ evidence_of c v = find (λ e. v == e.left.unit.creator) (filter_map signed_evide
 unfoldable pub endorsements_of : CoreState → Digest → List Endorsement
 endorsements_of c d = filter (λ e. digest_eq d e.unit) (filter_map signed_endorsement c.journal)
 
--- An order in which the settled units may have come: each of them once, and behind those that it observes. The graph of the state
--- numbers them in such an order. Which one it is the journal alone doesn't say. Source: ours.
+-- An order in which the settled units may have come: each of them once, and behind those that it observes. Source: ours.
 pub record IsOrder (c : CoreState) (order : List Node) : Type 0 where
   pub all : by_name order ≡ settled_in c
   pub once : length order ≡ length (settled_in c)
   pub earlier : (m n : ℕ) (x y : Node) → slice_get order m ≡ Some x → slice_get order n ≡ Some y → cites y.unit.panorama x ≡ true → m < n
 
--- the unit stands at that number of such an order
+-- the unit has that number in the order in which the settled units settled, which is such an order
 abbrev pub IsNumber : CoreState → Node → ℕ → Type 0
-IsNumber c x n = (order : List Node) × IsOrder c order × (slice_get order n ≡ Some x)
+IsNumber c x n = IsOrder c (order_in c) × (slice_get (order_in c) n ≡ Some x)
 
--- What became of the journal's unit of this name. A settled one has its number in an order of the settled units.
+-- What became of the journal's unit of this name. A settled one has its number in the order in which the units settled.
 abbrev pub IsPlace : CoreState → Digest → Place → Type 0
 IsPlace c d place.Unknown = unit_in c d ≡ None
 IsPlace c d (place.Settled number) = (u : SignedUnit) × (unit_in c d ≡ Some u) × Among (node_in c u) (settled_in c) × (number.0 < length (settled_in c)) × IsNumber c (node_in c u) number.0

@@ -1,5 +1,5 @@
 -- What waits at a node, and what becomes of it as units settle.
-use Rattle.std.specs.Prelude.{◌≡◌, ◌≢◌, ◌+◌, ◌≤◌, ◌⊎◌, List, [], ◌∷◌, length, map, filter, Option, Some}
+use Rattle.std.specs.Prelude.{◌≡◌, ◌≢◌, ◌+◌, ◌≤◌, ◌⊎◌, true, List, [], ◌∷◌, ◌++◌, length, map, filter, Option, Some}
 use Rattle.std.specs.List.{range_with_len}
 use Rattle.std.specs.Map.{lookup}
 use Rattle.hw_types.specs.declared.unit.Digest.{Digest}
@@ -9,7 +9,7 @@ use Rattle.hw_types.specs.Graph.{Node, digest_eq}
 use Rattle.hw_types.specs.Below.{Among}
 use Rattle.hw_types.specs.ByName.{by_name}
 use Rattle.hw_types.specs.Rules.{state_rule}
-use Rattle.hw_types.specs.Settled.{Received, missing_of}
+use Rattle.hw_types.specs.Settled.{Received, missing_of, settles}
 use Rattle.hw_types.specs.laws.StateLaws.{Admits}
 use Rattle.hw_dag.specs.Dag.{GrowsTo, node_of, graph}
 use Rattle.hw_dag.specs.Admission.{PreparedUnit, node_prepared}
@@ -77,6 +77,11 @@ abbrev pub IsPart : {A : Type 0} → List A → List A → Type 0
 IsPart xs [] = xs ≡ []
 IsPart {A} xs (y ∷ ys) = IsPart xs ys ⊎ ((rest : List A) × (xs ≡ y ∷ rest) × IsPart rest ys)
 
+-- no member stands twice
+abbrev pub IsOnce : {A : Type 0} → List A → Type 0
+IsOnce [] = Unit {0}
+IsOnce (x ∷ xs) = (Among x xs → ⊥) × IsOnce xs
+
 -- the state has the units that it had, and knows the same of evidence and endorsements
 pub record KnowsTheSame (s later : NodeState) : Type 0 where
   pub config : later.config ≡ s.config
@@ -91,10 +96,24 @@ pub record IsDropped (config : Config) (known : Received) (from start : List Nod
   pub met : missing_of config known (by_name found) x ≡ []
   pub broken : state_rule config (by_name found) x ≡ Some rule
 
+-- each of these units misses something over those that are settled
+abbrev pub AllMiss : Config → Received → List Node → List Node → Type 0
+AllMiss config known found units = (y : Node) → Among y units → missing_of config known (by_name found) y ≢ []
+
+-- Units that wait are judged one by one, each time the first that misses nothing: it settles, or is dropped. What has settled then, and
+-- what still waits, from what was settled and what waited at first.
+pub data TakesTurns (config : Config) (known : Received) (start from : List Node) : List Node → List Node → Type 0 where
+  begin : TakesTurns config known start from start from
+  settle : (x : Node) (found before after : List Node) → TakesTurns config known start from found (before ++ x ∷ after) → AllMiss config known found before
+      → IsUnknown found x.digest → settles config known (by_name found) x ≡ true → TakesTurns config known start from (found ++ x ∷ []) (before ++ after)
+  drop : (x : Node) (rule : Rule) (found before after : List Node) → TakesTurns config known start from found (before ++ x ∷ after) → AllMiss config known found before
+      → missing_of config known (by_name found) x ≡ [] → state_rule config (by_name found) x ≡ Some rule → TakesTurns config known start from found (before ++ after)
+
 -- Of the units that waited some settled one after the other, and each of the others waits as before, in the order in which they
 -- were parked, or was dropped.
 pub record HasSettled (s : NodeState) (waiting : List (Waiting PreparedUnit)) (later : NodeState) (left : List (Waiting PreparedUnit)) : Type 0 where
   pub same : KnowsTheSame s later
+  pub turns : TakesTurns s.config (known_in s) (admitted_in s) (waiting_nodes waiting) (admitted_in later) (waiting_nodes left)
   pub run : Admits s.config (known_in s) (waiting_nodes waiting) (admitted_in s) (admitted_in later)
   pub still : IsPart (waiting_nodes left) (waiting_nodes waiting)
   pub placed : (x : Node) → Among x (waiting_nodes waiting)

@@ -28,9 +28,10 @@ use Rattle.hw_light.specs.Standing.{BlockStands}
 use Rattle.hw_light.specs.Checked.{RefusedAt, taken_from, taken_of, IsTaken}
 use Rattle.hw_light.specs.declared.answers.Certified.{Certified}
 use Rattle.hw_light.specs.declared.answers.Certified.TheVariants.{Made, NotNow, TooLong}
-use Rattle.hw_light.specs.Certify.{IsMade, IsCertifiedAs, IfMade, IfDelivered, IsYesFor}
+use Rattle.hw_light.specs.Certify.{IsMade, IsCertifiedAs, IfMade, IsYesFor}
 use Rattle.hw_light.proofs.CheckLaws.{few_faulty, same_core}
 use Rattle.hw_light.proofs.MadeLaws.{extract}
+use Rattle.hw_core.specs.Deliver.{HasCome}
 
 -- ---- deliveries of which none is refused
 
@@ -118,7 +119,7 @@ made_is_yes core index made lawful m deliveries from =
     yes_for made (subst (λ (k : Config). config_fault k ≡ None) (sym m.config) lawful) (subst (λ (k : Config). Certifies (setting_of k) made.vertices made.block) (sym m.config) named)
 
 -- where it was
-pub if_made_yes : (core : CoreState) (index : ℕ) (certified : Certified) → config_fault core.config ≡ None → IsCertifiedAs core index certified → IfMade (λ made. IfDelivered core (IsYesFor made)) certified
-if_made_yes core index (Made made) lawful is = made_is_yes core index made lawful is
-if_made_yes core index NotNow lawful is = tt
-if_made_yes core index (TooLong count) lawful is = tt
+pub if_made_yes : (core : CoreState) (index : ℕ) (certified : Certified) → config_fault core.config ≡ None → HasCome core.config core.journal → IsCertifiedAs core index certified → IfMade IsYesFor certified
+if_made_yes core index (Made made) lawful come is = made_is_yes core index made lawful is come.0 come.1
+if_made_yes core index NotNow lawful come is = tt
+if_made_yes core index (TooLong count) lawful come is = tt

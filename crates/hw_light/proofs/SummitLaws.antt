@@ -72,6 +72,7 @@ module _ (core : CoreState) (state : NodeState) (of : IsStateOf core state) wher
 
   pub order_is : IsSettlingOrder core order
   order_is = record {
+    is = of.order;
     same = record { to = in_settled; back = in_order };
     once = (let long : length order ≡ count_of dag = simp length-map in long) ∙ sym (graph_length dag of.graph_is) ∙ ap (λ (xs : List Node). length xs) of.settled;
     in_order = subst (λ (xs : List Node). ComeAfterCited (settled_in core) [] xs) (units_by_number dag) (come_from (count_of dag) 0 [] (omega arith) (λ k lt. absurd (omega arith)));

@@ -7,8 +7,7 @@ use Rattle.hw_types.specs.declared.config.Config.{Config}
 use Rattle.hw_types.specs.declared.answers.Decision.{Decision}
 use Rattle.hw_types.specs.Graph.{Node}
 use Rattle.hw_types.specs.Summit.{Committees, IsGreatest}
-use Rattle.hw_types.specs.Journal.{journal_of}
-use Rattle.hw_types.specs.Real.{CoreState, setting_of, settled_in, panorama_in}
+use Rattle.hw_types.specs.Real.{CoreState, settled_in, panorama_in}
 use Rattle.hw_core.specs.Readers.{exceeded_in}
 use Rattle.hw_core.specs.Shown.{IsDecidedBlock, HasSummitNow}
 use Rattle.hw_light.specs.declared.certificate.Certificate.{Certificate}
@@ -68,10 +67,6 @@ abbrev pub IfMade : (Certificate → Type 0) → Certified → Type 0
 IfMade P (Made made) = P made
 IfMade P NotNow = Unit {0}
 IfMade P (TooLong count) = Unit {0}
-
--- where deliveries made the node's journal, from none
-abbrev pub IfDelivered : CoreState → Type 0 → Type 0
-IfDelivered core P = (deliveries : List (Vertex × Bool)) → core.journal ≡ journal_of (setting_of core.config) deliveries → P
 
 -- the answer is yes
 abbrev pub IsYes : Checked → Type 0

@@ -13,6 +13,7 @@ use Rattle.hw_types.specs.Settled.{validators}
 use Rattle.hw_types.specs.Summit.{Committees}
 use Rattle.hw_types.specs.laws.StateLaws.{HasSame}
 use Rattle.hw_types.specs.Real.{CoreState, settled_in}
+use Rattle.hw_core.specs.Order.{order_in}
 use Rattle.hw_core.specs.Readers.{unit_in}
 use Rattle.hw_needs.specs.Needs.{evidence_against, unit_vertices, evidence_vertices}
 
@@ -27,8 +28,9 @@ abbrev pub ComeAfterCited : List Node → List Node → List Node → Type 0
 ComeAfterCited settled before [] = Unit {0}
 ComeAfterCited settled before (x ∷ xs) = ((y : Node) → Among y settled → cites x.unit.panorama y ≡ true → Among y before) × ComeAfterCited settled (before ++ x ∷ []) xs
 
--- the settled units of a node in the order in which they came in: each once, after all that it cites
+-- the settled units of a node in the order in which they settled: each once, after all that it cites
 pub record IsSettlingOrder (core : CoreState) (order : List Node) : Type 0 where
+  pub is : order ≡ order_in core
   pub same : HasSame order (settled_in core)
   pub once : length order ≡ length (settled_in core)
   pub in_order : ComeAfterCited (settled_in core) [] order

@@ -12,6 +12,8 @@ use Rattle.hw_dag.specs.Admission.{IsGraph}
 use Rattle.hw_horizon.specs.Search.{Search}
 use Rattle.hw_horizon.specs.Kept.{AreKept}
 use Rattle.hw_admit.specs.State.{NodeState}
+use Rattle.hw_core.specs.Order.{order_in}
+use Rattle.hw_core.specs.Settle.{admitted_in}
 
 -- the block is a settled unit, and stands at some level
 pub record BlockStands (core : CoreState) (block : Digest) : Type 0 where
@@ -29,6 +31,7 @@ pub record IsStateOf (core : CoreState) (state : NodeState) : Type 0 where
   pub config : state.config ≡ core.config
   pub graph_is : IsGraph state.dag
   pub settled : graph state.dag ≡ settled_in core
+  pub order : admitted_in state ≡ order_in core
   pub panorama : observations state.dag state.panorama ≡ panorama_in core
 
 -- the unit of that number has a summit of some level, with its quorum

@@ -15,7 +15,7 @@
 
 ghost use Rattle.std.specs.Prelude.{◌≡◌, IfOk, IfSome, IfNone};
 ghost use Rattle.hw_light.specs.Spelling.{CertificateFits};
-ghost use Rattle.hw_light.specs.Certify.{IfDelivered, IsYesFor};
+ghost use Rattle.hw_light.specs.Certify.{IsYesFor};
 ghost use Rattle.hw_light.specs.Asked.{IsDecisionOf, HasNoDecision, IsAskedOf, IfAnswered, told_in, told_of};
 
 use crate::{Certified, certify};
@@ -40,9 +40,8 @@ pub fn certify_block(alloc: Global, core: &mut Core, block: &Digest) -> Result<A
     // So what is told of it is worked out from the node: which answer it is, and how many vertices there are.
     ensures told { IfOk result (λ answer. told_in answer ≡ told_of core.old block.now) }
 
-    // Whatever was delivered to the node, a certificate is answered yes where its signatures are right, and
-    // it may be spelled.
-    ensures yes { IfOk result (IfAnswered (λ made. IfDelivered core.old (IsYesFor made))) }
+    // A certificate is answered yes where its signatures are right, and it may be spelled.
+    ensures yes { IfOk result (IfAnswered IsYesFor) }
     ensures fits { IfOk result (IfAnswered CertificateFits) }
     ensures unchanged { core.new ≡ core.old }
 {

@@ -8,7 +8,7 @@ ghost use Rattle.hw_core.specs.Decided.{decided_in};
 ghost use Rattle.hw_core.specs.Readers.{exceeded_in};
 ghost use Rattle.hw_core.specs.Shown.{HasSummitNow};
 ghost use Rattle.hw_light.specs.Spelling.{CertificateFits};
-ghost use Rattle.hw_light.specs.Certify.{IsCertifiedAs, IsCounted, IfMade, IfDelivered, IsYesFor};
+ghost use Rattle.hw_light.specs.Certify.{IsCertifiedAs, IsCounted, IfMade, IsYesFor};
 
 use crate::answers::Certified;
 use crate::certificate::{Certificate, VertexList};
@@ -33,8 +33,8 @@ pub fn certify(alloc: Global, core: &mut Core, index: u64) -> Result<Certified, 
     // Each answer is given exactly where it is due.
     ensures answer { IfOk result (IsCertifiedAs core.old index) }
 
-    // Whatever was delivered to the node, the certificate is answered yes where its signatures are right.
-    ensures yes { IfOk result (IfMade (λ made. IfDelivered core.old (IsYesFor made))) }
+    // The certificate is answered yes where its signatures are right.
+    ensures yes { IfOk result (IfMade IsYesFor) }
 
     // It may be spelled.
     ensures fits { IfOk result (IfMade CertificateFits) }
@@ -52,7 +52,7 @@ fn certify_standing(alloc: Global, core: &Core, index: u64) -> Result<Certified,
     requires few_faulty { exceeded_in core.now ≡ None }
     requires stands { HasSummitNow core.now index }
     ensures answer { IfOk result (IsCertifiedAs core.now index) }
-    ensures yes { IfOk result (IfMade (λ made. IfDelivered core.now (IsYesFor made))) }
+    ensures yes { IfOk result (IfMade IsYesFor) }
     ensures fits { IfOk result (IfMade CertificateFits) }
 {
     let state = core.state();

@@ -1,11 +1,35 @@
 //! What a yes shows.
 
+ghost use Rattle.std.specs.Prelude.{◌≡◌, Any};
+ghost use Rattle.hw_types.specs.declared.answers.Decision.{Decision as Decided};
+ghost use Rattle.hw_types.specs.Below.{Among};
+ghost use Rattle.hw_types.specs.Real.{setting_of};
+ghost use Rattle.hw_safety.specs.declared.verdict.Verdict.{Verdict as Judgement};
+ghost use Rattle.hw_safety.specs.Verdicts.{IsVerdict, IsAccountable};
+ghost use Rattle.hw_core.specs.Decided.{decided_in};
+ghost use Rattle.hw_light.specs.Checked.{IsCertified};
 ghost use Rattle.hw_light.specs.Laws.{YesIsDecided, YesIsAccountable};
+
+use crate::certificate::Certificate;
+use hw_core::Core;
 
 /// The node of a yes decided the certificate's block. A node of the same configuration that decided another
 /// block of that height is in a conflict with it whose culprits weigh more than the threshold, or a unit of the
-/// one and a unit of the other differ and have one digest.
+/// one and a unit of the other differ and have one digest. That the other's evidence are pairs is what
+/// `Core::state` says of each node.
 pub fn a_yes_is_accountable()
     ensures decided { YesIsDecided }
     ensures accountable { YesIsAccountable }
 {}
+
+/// The second of these of a node in hand, beside the node of a yes: `Core::state` says of each node what the law asks
+/// for.
+pub fn who_decided_otherwise_is_accountable(certificate: &Certificate, yes: &Core, other: &Core)
+    requires certified { IsCertified certificate.now yes.now }
+    requires config { other.now.config ≡ certificate.now.config }
+    ensures { (e : Decided) (v : Judgement) → Among e (decided_in other.now) → Any (λ (d : Decided). (d.block ≡ certificate.now.block) × (d.height ≡ e.height)) (decided_in yes.now) → (e.block ≡ certificate.now.block → ⊥) → IsVerdict (setting_of certificate.now.config) yes.now.journal other.now.journal (decided_in yes.now) (decided_in other.now) v → IsAccountable certificate.now.config.ftt v }
+{
+    let _state = other.state();
+    // These two stand in the contract alone.
+    let _ = (certificate, yes);
+}

@@ -46,6 +46,6 @@ pub use encoding::encode_certificate;
 pub use error::CertError;
 pub use errors::{put_codec, put_error, put_limit};
 pub use keys::read_keys;
-pub use laws::a_yes_is_accountable;
+pub use laws::{a_yes_is_accountable, who_decided_otherwise_is_accountable};
 pub use lines::{put_asked, put_fault};
 pub use ranges::certificate_is_in_range;

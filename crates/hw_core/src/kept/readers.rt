@@ -1,6 +1,6 @@
 //! What a node tells of its journal. No reader takes memory.
 
-ghost use Rattle.std.specs.Prelude.{◌≡◌, ℕ, ◌<◌, ◌≤◌, ◌↔◌, IsTrue, length, slice_get, take, Some, IfSome, IfNone};
+ghost use Rattle.std.specs.Prelude.{◌≡◌, ℕ, ◌<◌, ◌≤◌, ◌↔◌, IsTrue, length, slice_get, take, Some, None, IfSome, IfNone};
 ghost use Rattle.std.specs.Option.{option_copied};
 ghost use Rattle.hw_types.specs.Graph.{slot};
 ghost use Rattle.hw_types.specs.Settled.{has_evidence, parked_of, dropped_of};
@@ -10,7 +10,12 @@ ghost use Rattle.hw_safety.specs.Safety.{HasPairs};
 ghost use Rattle.hw_types.specs.Real.{setting_of, received_in, settled_in, panorama_in, weight_in};
 ghost use Rattle.hw_dag.specs.Dag.{graph, observations};
 ghost use Rattle.hw_admit.specs.State.{is_marked};
+ghost use Rattle.hw_types.specs.Limits.{config_fault};
 ghost use Rattle.hw_core.specs.Decided.{decided_in};
+ghost use Rattle.hw_core.specs.Deliver.{HasCome};
+ghost use Rattle.hw_core.specs.Order.{order_in};
+ghost use Rattle.hw_core.specs.Promises.{IsSound};
+ghost use Rattle.hw_core.specs.Settle.{admitted_in};
 ghost use Rattle.hw_core.specs.Shown.{HasSummitNow, IsStartNow, IsStartOf};
 ghost use Rattle.hw_types.specs.declared.unit.Vertex.TheVariants as vertex;
 ghost use Rattle.hw_core.specs.Readers.{unit_in, missing_needs, unmet_in, evidence_of, endorsements_of, IsPlace, IsUnsettled, fork_in, exceeded_in};
@@ -252,16 +257,22 @@ impl Kept {
     pub(crate) fn state(&self) -> &State
         ensures config { result.now.config ≡ self.now.config }
         ensures settled { graph result.now.dag ≡ settled_in self.now }
+        ensures order { admitted_in result.now ≡ order_in self.now }
         ensures panorama { observations result.now.dag result.now.panorama ≡ panorama_in self.now }
         ensures evidence { (v : ℕ) → is_marked result.now.marked v ≡ has_evidence (received_in self.now).with_evidence v }
         ensures endorsements { result.now.pairs ≡ (received_in self.now).endorsements }
 
-        // What holds of each journal: its evidence are pairs, and no two of its units have one name.
+        // What holds of each journal: deliveries made it, under a lawful configuration; its evidence are pairs, and no
+        // two of its units have one name.
+        ensures reached { HasCome self.now.config self.now.journal }
+        ensures lawful { config_fault self.now.config ≡ None }
+        ensures sound { IsSound self.now }
         ensures pairs { HasPairs (setting_of self.now.config) self.now.journal }
         ensures apart { NamesApart (units_in (setting_of self.now.config) self.now.journal) }
     {
         // For the prover: recalls what is said of each state's panorama.
         let _panorama = self.state.panorama();
+        let _config = self.state.config();
         &self.state
     }
 }

@@ -6,7 +6,7 @@ use Rattle.hw_dag.specs.declared.numbers.UnitNo.{UnitNo}
 use Rattle.hw_dag.specs.Dag.{UnitGraph}
 use Rattle.hw_light.specs.Standing.{IsStateOf}
 use Rattle.hw_light.specs.Extract.{vertices_for}
-use Rattle.hw_light.specs.Certify.{IsCertifiedAs, IfMade, IfDelivered, IsYesFor}
+use Rattle.hw_light.specs.Certify.{IsCertifiedAs, IfMade, IsYesFor}
 use Rattle.hw_light.specs.Under.{AreKnown, nodes_at}
 use Rattle.hw_light.proofs.CertifyLaws.{if_made_yes}
 use Rattle.hw_light.proofs.SummitLaws.{answer_of}
@@ -17,6 +17,7 @@ summit_units-requires-clause-of c = record {
   config = c.state-state.ensures.config;
   graph_is = c.dag-dag.ensures.graph;
   settled = c.state-state.ensures.settled;
+  order = c.state-state.ensures.order;
   panorama = c.state-state.ensures.panorama;
 }
 
@@ -30,7 +31,7 @@ returns-clause-answer c =
     let core = c.args.core.now in
     let state = c.state-state.result.now in
     let told = c.state-state.ensures in
-    let of : IsStateOf core state = record { config = told.config; graph_is = c.dag-dag.ensures.graph; settled = told.settled; panorama = told.panorama } in
+    let of : IsStateOf core state = record { config = told.config; graph_is = c.dag-dag.ensures.graph; settled = told.settled; order = told.order; panorama = told.panorama } in
     let vertices = c.in_ok-vertices.ensures.vertices ∙ ap (λ (ns : List UnitNo). vertices_for core (nodes_at c.dag-dag.result.now ns)) c.as_slice.ensures.value
     ∙ ap (λ (d : UnitGraph). vertices_for core (nodes_at d c.in_ok-numbers.numbers.items)) c.dag-dag.ensures.dag in
     let config = c.config-config.ensures.config ∙ told.config in
@@ -42,5 +43,5 @@ pub returns-clause-yes : goal.returns-clause-yes
 returns-clause-yes c =
     let core = c.args.core.now in
     let lawful = subst (λ (k : Config). config_fault k ≡ None) c.state-state.ensures.config c.config-config.ensures.lawful in
-    IfOk-weaker c.counted.result (IsCertifiedAs core c.args.index) (IfMade (λ made. IfDelivered core (IsYesFor made)))
-    (λ certified is. if_made_yes core c.args.index certified lawful is) (returns-clause-answer c)
+    IfOk-weaker c.counted.result (IsCertifiedAs core c.args.index) (IfMade IsYesFor)
+    (λ certified is. if_made_yes core c.args.index certified lawful c.state-state.ensures.reached is) (returns-clause-answer c)
