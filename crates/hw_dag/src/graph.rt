@@ -1,9 +1,6 @@
 //! The graph and what comes into it.
 
 ghost use Rattle.std.specs.Prelude.{◌≡◌, ◌≢◌, ℕ, ◌+◌, ◌-◌, ◌^◌, ◌<◌, ◌≤◌, ◌↔◌, [], ◌∷◌, ◌++◌, false, length, Some, IsTrue, IsNone, IfSome, IfNone, IfOk, IfErr, OnOk, OnErr};
-ghost use Rattle.std.specs.List.{list_any};
-ghost use Rattle.indexmap.specs.IndexSet.{spare as room_of};
-ghost use Rattle.hw_types.specs.Graph.{digest_eq};
 ghost use Rattle.hw_types.specs.declared.unit.Obs.TheVariants as Obs;
 ghost use Rattle.hw_dag.specs.declared.numbers.View.TheVariants as View;
 ghost use Rattle.hw_dag.specs.Dag.{unit_at, count_of, graph, observations};
@@ -15,8 +12,8 @@ use crate::numbers::{Panorama, Slot, UnitNo, View};
 use crate::preparing::{NoRoom, Prepared};
 use crate::settled::Unit;
 use crate::skips::SkipTable;
+use hw_names::NameTable;
 use hw_types::{Digest, Obs, OutOfMemory, SignedUnit};
-use indexmap::IndexSet;
 use std::alloc::Global;
 use std::marker::Model;
 
@@ -29,7 +26,7 @@ pub struct Dag {
     validators: u32,
     spare: u32,
     units: Vec<Unit>,
-    names: IndexSet<Digest>,
+    names: NameTable,
     lanes: SkipTable,
     chains: SkipTable,
     /// Of each validator the unit that all its units lead up to, Faulty where they may be on two lanes.
@@ -40,7 +37,6 @@ pub struct Dag {
 
 impl Model for Dag {
     ghost use Rattle.std.specs.Prelude.{◌≡◌, ◌-◌, false, vec_len, vec_capacity};
-    ghost use Rattle.indexmap.specs.IndexSet.{spare as room_of};
     ghost use Rattle.hw_dag.specs.Dag.{UnitGraph};
 
     ghost Value = { UnitGraph };
@@ -53,8 +49,8 @@ impl Model for Dag {
 
     ghost use Rattle.hw_dag.specs.Tables.{IsKept, HasSpare, AreLatest, NoneFaulty};
 
-    ghost invariant = { λ d. IsKept (record { validators = d.validators; spare = d.spare; units = d.units.items }) d.names.keys d.lanes.backs d.chains.backs
-        × HasSpare d.spare (vec_capacity d.units - vec_len d.units) (room_of d.names) d.lanes.spare d.chains.spare
+    ghost invariant = { λ d. IsKept (record { validators = d.validators; spare = d.spare; units = d.units.items }) d.names.names d.lanes.backs d.chains.backs
+        × HasSpare d.spare (vec_capacity d.units - vec_len d.units) d.names.room d.lanes.spare d.chains.spare
         × AreLatest (record { validators = d.validators; spare = d.spare; units = d.units.items }) d.latest
         × (d.forked ≡ false → NoneFaulty d.latest) };
 }
@@ -69,7 +65,7 @@ impl Dag {
             validators,
             spare: 0,
             units: Vec::new(alloc),
-            names: IndexSet::new(alloc),
+            names: NameTable::new(alloc),
             lanes: SkipTable::new(alloc),
             chains: SkipTable::new(alloc),
             latest: Panorama::new(alloc, validators)?,
@@ -172,7 +168,7 @@ impl Dag {
         ensures found { IfSome result (λ no. (no.0 < count_of self.now) × ((unit_at self.now no.0).digest ≡ digest.now)) }
         ensures none { IsNone result ↔ IsNew self.now digest.now }
     {
-        let place = self.names.get_index_of(digest)?;
+        let place = self.names.find(digest)?;
         Some(UnitNo(place as u32))
     }
 
@@ -302,7 +298,7 @@ impl Dag {
         self.spare -= 1;
         self.lanes.push(before, unit.signed().unit.seq);
         self.chains.push(unit.parent(), unit.height().unwrap_or(0));
-        add_name(&mut self.names, *unit.digest());
+        self.names.push(*unit.digest());
         self.units.push_reserved(unit);
     }
 }
@@ -331,16 +327,4 @@ fn is_faulty(view: View) -> bool
     ensures { result ≡ false → view ≢ View.Faulty }
 {
     matches!(view, View::Faulty)
-}
-
-// Puts a new name last.
-fn add_name(names: &mut IndexSet<Digest>, name: Digest)
-    requires room { 1 ≤ room_of names.old }
-    requires fresh { list_any (digest_eq name) names.old.keys ≡ false }
-    ensures keys { names.new.keys ≡ names.old.keys ++ name ∷ [] }
-    ensures room { room_of names.old ≤ room_of names.new + 1 }
-{
-    if names.insert(name).is_err() {
-        unreachable!()
-    }
 }
