@@ -12,10 +12,10 @@ import sync_order
 LOG = "/srv/a/node.log"
 MADE = '''\
 71 openat(AT_FDCWD</srv/a>, "node.log.lock", O_WRONLY|O_CREAT|O_NOCTTY|O_APPEND|O_CLOEXEC, 0666) = 4</srv/a/node.log.lock>
-71 openat(AT_FDCWD</srv/a>, "node.log.begun", O_WRONLY|O_CREAT|O_APPEND|O_CLOEXEC, 0666) = 6</srv/a/node.log.begun>
-71 write(6</srv/a/node.log.begun>, ""..., 74) = 74
-71 fdatasync(6</srv/a/node.log.begun>)    = 0
-71 rename("node.log.begun", "node.log")   = 0
+71 openat(AT_FDCWD</srv/a>, "node.log.part", O_WRONLY|O_CREAT|O_APPEND|O_CLOEXEC, 0666) = 6</srv/a/node.log.part>
+71 write(6</srv/a/node.log.part>, ""..., 74) = 74
+71 fdatasync(6</srv/a/node.log.part>)    = 0
+71 rename("node.log.part", "node.log")   = 0
 71 openat(AT_FDCWD</srv/a>, ".", O_RDONLY|O_NOCTTY|O_CLOEXEC) = 7</srv/a>
 '''
 SYNCED = "71 fdatasync(6</srv/a/node.log>)         = 0\n"
@@ -48,7 +48,7 @@ class Orders(unittest.TestCase):
         self.assertEqual(faults_of(MADE, SYNCED, SEND, FOLDER, SEND), 1)
 
     def test_a_log_that_was_there_needs_no_sync_of_its_folder(self):
-        opened = MADE.splitlines()[1].replace(".begun", "") + "\n"
+        opened = MADE.splitlines()[1].replace(".part", "") + "\n"
         self.assertEqual(faults_of(opened, APPEND, SYNCED, SEND), 0)
 
     def test_a_sync_that_fails_is_none(self):

@@ -1,11 +1,13 @@
 #!/usr/bin/env python3
-"""Starts a second process on the log of a validator, and says whether anybody equivocated: two_processes.py PROGRAM KIND TRIES
+"""Starts a second process on the log of a validator, or kills one as it makes its log, and says whether the log reads as
+what was written and anybody equivocated: two_processes.py PROGRAM KIND TRIES
 
     together   two processes `run` validator 0 on one log, started at the same time
     overlap    a second process starts on the log after a second, and the first is killed 0.3 s later; then a third starts
     beside     `serve` and `run` have one log
+    killed     a process that has no log is killed within 1.5 ms of its lock: then there is no log, or it replays
 
-Each try has a hub and three validators on this machine. At its end all are killed, validator 0 runs once more alone, and
+But for `killed`, each try has a hub and three validators on this machine. At its end all are killed, validator 0 runs once more alone, and
 then the logs of the hub and of validator 0 are read: each entry has to be signed by the keys, nothing may be parked, the two
 logs have to agree, and nobody may be faulty. So a log reads as what was written. The status is 0 where that is so each time.
 
@@ -13,6 +15,7 @@ logs have to agree, and nobody may be faulty. So a log reads as what was written
 
 import argparse
 import concurrent.futures
+import random
 import shutil
 import subprocess
 import sys
@@ -119,15 +122,34 @@ def one_try(program, kind):
         return problem_of(nodes)
 
 
+def killed_try(program, _kind):
+    """What is wrong with the log of a process that was killed as it made it, or None."""
+    with tempfile.TemporaryDirectory() as folder:
+        nodes = Nodes(program, folder)
+        node = nodes.run(0, f"127.0.0.1:{free_port()}")
+        until = time.monotonic() + 20
+        while not (nodes.folder / "v0.log.lock").exists() and time.monotonic() < until:
+            pass
+        until = time.monotonic() + random.random() * 0.0015
+        while time.monotonic() < until:
+            pass
+        nodes.kill(node)
+        if not (nodes.folder / "v0.log").exists():
+            return None
+        status, lines = nodes.said("replay", "v0.log")
+        return None if status == 0 else f"v0: status {status}: {lines[0]}"
+
+
 def main(arguments=None):
     parser = argparse.ArgumentParser(description=__doc__, formatter_class=argparse.RawDescriptionHelpFormatter)
     parser.add_argument("program", type=lambda text: Path(text).resolve(), metavar="PROGRAM")
-    parser.add_argument("kind", choices=("together", "overlap", "beside"), metavar="KIND", help="together, overlap or beside")
+    parser.add_argument("kind", choices=("together", "overlap", "beside", "killed"), metavar="KIND")
     parser.add_argument("tries", type=int, metavar="TRIES")
     parser.add_argument("--jobs", type=int, default=1)
     words = parser.parse_args(arguments)
     with concurrent.futures.ThreadPoolExecutor(words.jobs) as pool:
-        found = list(pool.map(lambda _: one_try(words.program, words.kind), range(words.tries)))
+        try_it = killed_try if words.kind == "killed" else one_try
+        found = list(pool.map(lambda _: try_it(words.program, words.kind), range(words.tries)))
     problems = [problem for problem in found if problem]
     for problem in problems:
         print(problem)

@@ -1,16 +1,13 @@
 //! The program: its top call, over the real files, output and arguments.
 #![tactic(auto)]
 
-mod appended;
-mod plain;
 mod usage;
 
 use hw_consumers::{BlockCount, ValueFile};
-use hw_host::{HostClock, HostDoor, HostSink, LogFile, NO_LIMIT, NodeFiles};
+use hw_host::{Announced, HostClock, HostDoor, HostSink, LogFile, NO_LIMIT, NodeFiles, ToldFiles};
 use hw_io::Consumer;
 use hw_program::{OUT_OF_MEMORY, Words, highway, listening_address};
 use hw_types::OutOfMemory;
-use plain::{PlainFiles, PlainSink};
 use std::env;
 use std::io::ErrorKind;
 use std::process::ExitCode;
@@ -36,15 +33,16 @@ fn main(rt: HostRuntime) -> ExitCode {
 }
 
 /// Runs over the files, the output, the clock and the network of the host. The values of decided blocks go into a
-/// file, and their count onto standard error. Where the words ask to serve or to host, the door listens
-/// at their address. The log of a node that runs is appended to by this process alone.
+/// file, and their count onto standard error; a person is told of a consumer that is dropped. Where the words ask to
+/// serve or to host, the door listens at their address. The log of a node that runs is appended to by this process
+/// alone.
 fn run_on_host(rt: HostRuntime, words: &Words) -> Result<u8, OutOfMemory> {
     let alloc = rt.alloc();
-    let values = ValueFile::new(alloc, PlainFiles::new(rt));
-    let count = BlockCount::new(alloc, PlainSink::new(rt.stderr()));
+    let values = ValueFile::new(alloc, ToldFiles::new(rt));
+    let count = BlockCount::new(alloc, HostSink::new(rt.stderr()));
     let mut consumers: Vec<Box<dyn Consumer>> = Vec::new(alloc);
-    consumers.push(Box::new(alloc, values)?)?;
-    consumers.push(Box::new(alloc, count)?)?;
+    consumers.push(Box::new(alloc, Announced::new(rt, 0, values))?)?;
+    consumers.push(Box::new(alloc, Announced::new(rt, 1, count))?)?;
     let log = match own_log(words) {
         Some(name) => Some(LogFile::new(alloc, name)?),
         None => None,

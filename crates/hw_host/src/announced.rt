@@ -4,22 +4,23 @@ ghost use Rattle.std.specs.Prelude.{◌≡◌};
 use crate::complaints::Voice;
 use hw_io::{Consumer, IoFault};
 
-/// A consumer that tells on standard error when it fails, since it is dropped then.
+/// A consumer that tells on standard error when it fails, since it is dropped then. It is called by the number
+/// that reports have for it.
 #[derive(Drop)]
-pub struct Announced<R: Voice, C: Consumer> {
+pub struct Announced<R, C> {
     runtime: R,
-    name: &'static str,
+    number: u64,
     consumer: C,
 }
 
 impl<R: Voice, C: Consumer> Announced<R, C> {
-    /// This consumer, which is called by that name.
-    pub fn new(runtime: R, name: &'static str, consumer: C) -> Announced<R, C>
+    /// This consumer, which has this number.
+    pub fn new(runtime: R, number: u64, consumer: C) -> Announced<R, C>
         ensures { result.consumer ≡ consumer }
     {
         Announced {
             runtime,
-            name,
+            number,
             consumer,
         }
     }
@@ -41,9 +42,9 @@ impl<R: Voice, C: Consumer> Consumer for Announced<R, C> {
     fn take(&mut self, height: u64, value: &[u8]) -> Result<(), IoFault> {
         let outcome = self.consumer.take(height, value);
         if let Err(fault) = outcome {
-            let (name, reason) = (self.name, reason(fault));
+            let (number, reason) = (self.number, reason(fault));
             let _ = eprintln!(self.runtime;
-                "highway: {name}: {reason} at height {height}, and gets no block any more"
+                "highway: consumer {number}: {reason} at height {height}, and is given no block any more"
             );
         }
         outcome
@@ -52,8 +53,8 @@ impl<R: Voice, C: Consumer> Consumer for Announced<R, C> {
     fn finish(&mut self) -> Result<(), IoFault> {
         let outcome = self.consumer.finish();
         if let Err(fault) = outcome {
-            let (name, reason) = (self.name, reason(fault));
-            let _ = eprintln!(self.runtime; "highway: {name}: {reason} at the end");
+            let (number, reason) = (self.number, reason(fault));
+            let _ = eprintln!(self.runtime; "highway: consumer {number}: {reason} at the end");
         }
         outcome
     }

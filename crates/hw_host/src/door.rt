@@ -32,15 +32,14 @@ const LONGEST_PAUSE: u64 = 5_000;
 /// address of the peer, a read or a write 5 seconds for the peer, and a session ends after 10 seconds and
 /// a second more for each 65,536 bytes that went either way. A peer that was dialled and let a call wait
 /// for all of this is given a tenth of it the next time, until a session with it ends well. Where it lets a
-/// call wait for all of that too, it isn't dialled for nine times as long, and each dial of it fails at once.
+/// call wait for all of that too, it isn't dialled for 19 times as long, and each dial of it fails at once.
 ///
 /// What is written is held and goes out in pieces of 65,536 bytes, at the next `read`, or at `hang_up`. A
 /// call that sends what is held and fails is the one that counts.
 ///
-/// Where the door is handed the log of a node, all that was appended to it is on the disk before a peer is
-/// dialled, and before anything is sent to a peer that came. So no unit that a node made goes out before it
-/// is on the disk, and what a peer was told to be taken is kept. What a peer sends that was dialled is on
-/// the disk before the next dial; if it is lost, that peer has it still.
+/// Where the door is handed the log of a node, all that was appended to it is on the disk before the next byte
+/// is sent. So no unit that a node made goes out before it is on the disk, and what a peer was told to be
+/// taken is kept. What is appended until then needs one sync.
 ///
 /// Each error of the system is `Failed`, counted, and told on standard error, with the peer's address.
 /// `hang_up` ends what is written, and then reads on until the peer ends its side, an error comes or half
@@ -174,7 +173,6 @@ impl<'a, R: Net + Voice> HostDoor<'a, R> {
         let Some(patience) = self.hung.patience(address, now) else {
             return Err(resting());
         };
-        self.sync_log()?;
         let stream = dialled(&self.runtime, address, patience)?;
         self.session = Some(Session::new(alloc, &self.runtime, stream, patience)?);
         Ok(())
@@ -222,8 +220,7 @@ impl<'a, R: Net + Voice> HostDoor<'a, R> {
         }
     }
 
-    /// Sends what is held. What was appended to the log in a session with a peer that came is on the disk
-    /// before; what was appended before a dial is on the disk since then.
+    /// Sends what is held, once all that was appended to the log is on the disk.
     fn flush(&mut self) -> io::Result<()>
         ensures stays { is_some self.new.session ≡ is_some self.old.session }
         ensures numbers { self.new.numbers ≡ self.old.numbers }
@@ -235,9 +232,7 @@ impl<'a, R: Net + Voice> HostDoor<'a, R> {
         if is_empty {
             return Ok(());
         }
-        if self.peer.dialled.is_none() {
-            self.sync_log()?;
-        }
+        self.sync_log()?;
         match &mut self.session {
             Some(session) => session.flush(&self.runtime),
             None => Ok(()),

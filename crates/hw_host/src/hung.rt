@@ -8,8 +8,8 @@ use std::time::{Duration, Instant};
 const KEPT: usize = 64;
 
 /// How often the time that a peer took must pass, where it hung again, before it is dialled again. So a peer
-/// that always hangs takes a tenth of the time in which others could be dialled.
-const REST: u32 = 9;
+/// that always hangs takes a twentieth of the time in which others could be dialled.
+const REST: u32 = 19;
 
 /// The peers that hung the last time that they were dialled.
 #[derive(Drop)]

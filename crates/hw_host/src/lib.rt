@@ -15,6 +15,7 @@ mod log;
 mod node_files;
 mod patience;
 mod session;
+mod told_files;
 mod waiting;
 
 pub use announced::Announced;
@@ -24,3 +25,4 @@ pub use door::HostDoor;
 pub use files::{HostFiles, HostSink};
 pub use log::LogFile;
 pub use node_files::{NO_LIMIT, NodeFiles};
+pub use told_files::ToldFiles;

@@ -11,6 +11,9 @@ use std::{fs, io, rt};
 /// What stands behind the name of a log in the name of its lock.
 const LOCK_SUFFIX: &str = ".lock";
 
+/// What stands behind the name of a log in the name of the file that becomes the log.
+const PART_SUFFIX: &str = ".part";
+
 /// The log that a node appends to. One process has it at a time, nobody else appends to it, and what was
 /// appended is on the disk before anything is sent.
 ///
@@ -19,8 +22,9 @@ const LOCK_SUFFIX: &str = ".lock";
 /// ends, however it ends. The file stays, and is empty. From its first append on the process also has such
 /// a lock on the log itself, so that the log is safe under its other names too.
 ///
-/// A log that the process made is in its folder after a crash of the machine too, where the folder can be
-/// synced.
+/// Where there is no log, the first append writes the file `LOG.part`, puts it on the disk and gives it the
+/// log's name. So a log is there with all of that append, or isn't there. It is in its folder after a crash of
+/// the machine too, where the folder can be synced.
 ///
 /// An append fails where another process has the log, and where the file isn't as long as this process
 /// found it or left it. After an append or a sync that failed, each later append fails.
@@ -28,6 +32,7 @@ const LOCK_SUFFIX: &str = ".lock";
 pub struct LogFile {
     name: String,
     lock_name: String,
+    part_name: String,
     state: RefCell<LogState>,
 }
 
@@ -37,10 +42,12 @@ impl LogFile {
         ensures name { IfOk result (λ log. string_bytes log.name ≡ name.now) }
     {
         let lock_name = format!(in alloc; "{name}{LOCK_SUFFIX}")?;
+        let part_name = format!(in alloc; "{name}{PART_SUFFIX}")?;
         let name = String::from_str(alloc, name)?;
         Ok(LogFile {
             name,
             lock_name,
+            part_name,
             state: RefCell::new(LogState::new()),
         })
     }
@@ -90,7 +97,12 @@ impl LogFile {
     ) -> io::Result<()> {
         let mut state = self.state.try_borrow_mut()?;
         state.take(runtime, self.lock_name.as_str())?;
-        let outcome = state.put(runtime, self.name.as_str(), bytes);
+        let (name, part_name) = (self.name.as_str(), self.part_name.as_str());
+        let outcome = if state.has_none(runtime, name) {
+            state.make(runtime, name, part_name, bytes)
+        } else {
+            state.put(runtime, name, bytes)
+        };
         state.lose_on(outcome)
     }
 
@@ -159,6 +171,39 @@ impl LogState {
             self.lost = Some(error);
         }
         outcome
+    }
+
+    /// Whether there is no log, and this process found none.
+    fn has_none<R: rt::Files<File = File>>(&self, runtime: &R, name: &str) -> bool {
+        if self.file.is_some() || self.length.is_some_and(|known| known > 0) {
+            return false;
+        }
+        // A link that leads nowhere is there: what it names is made in its place.
+        match fs::symlink_metadata(runtime, name) {
+            Ok(_) => false,
+            Err(error) => error.kind() == ErrorKind::NotFound,
+        }
+    }
+
+    /// Makes the log with these bytes.
+    fn make<R: rt::Files<File = File>>(
+        &mut self,
+        runtime: &R,
+        name: &str,
+        part_name: &str,
+        bytes: &[u8],
+    ) -> io::Result<()> {
+        // A process that was killed may have left one.
+        let _ = fs::remove_file(runtime, part_name);
+        let mut file = opened_alone(runtime, part_name)?;
+        file.write_all(bytes)?;
+        file.sync_data()?;
+        fs::rename(runtime, part_name, name)?;
+        self.folder = folder_of(runtime, name).ok();
+        self.unsynced = true;
+        self.length = Some(bytes.len() as u64);
+        self.file = Some(file);
+        Ok(())
     }
 
     /// Appends where the log is as long as this process found it or left it.

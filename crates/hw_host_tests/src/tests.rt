@@ -452,10 +452,14 @@ fn claimed<R: rt::Files<File = File> + Voice>(rt: R, log: &str) -> Result<[Count
 
 #[test]
 fn one_process_has_a_log(rt: HostRuntime) -> Result<(), Fail> {
+    // What a kill left of another log while that was made.
+    let left = done(HostFiles::new(&rt).append("hw_host_claimed.tmp.part", b"left"));
     let answers = claimed(rt, "hw_host_claimed.tmp")?;
     let held = removed(&rt, "hw_host_claimed.tmp");
+    let is_part_gone = !fs::exists(&rt, "hw_host_claimed.tmp.part")?;
     let is_lock_empty = removed(&rt, "hw_host_claimed.tmp.lock") == [0; 4];
-    assert!(rt; answers == CLAIMED && held == *b"ac\0\0" && is_lock_empty);
+    assert!(rt; left == Ok(0) && answers == CLAIMED && held == *b"ac\0\0");
+    assert!(rt; is_part_gone && is_lock_empty);
     Ok(())
 }
 
