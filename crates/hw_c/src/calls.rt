@@ -110,7 +110,7 @@ fn digest_bytes(digest: Option<Digest>) -> [u8; 32]
 }
 
 /// How much the node has of what, the weight of its faulty validators, and its fork choice.
-pub fn summary(core: &Core) -> Result<Summary, Fault>
+pub fn summarize(core: &Core) -> Result<Summary, Fault>
     ensures { IsSummary core.now result }
 {
     let fork = core.fork();
@@ -147,7 +147,7 @@ fn observed_of(observation: Obs) -> Observed
 }
 
 /// What the node observes of the validator.
-pub fn observed(core: &Core, validator: u32) -> Result<Observed, Fault>
+pub fn observation(core: &Core, validator: u32) -> Result<Observed, Fault>
     ensures { IsObserved core.now validator result }
 {
     if validator as usize >= core.state().config().weights.len() {
@@ -177,7 +177,7 @@ fn placed_of(place: Place) -> Placed
 }
 
 /// What became of the unit of this digest.
-pub fn placed(core: &Core, digest: &[u8; 32]) -> Result<Placed, Fault>
+pub fn place(core: &Core, digest: &[u8; 32]) -> Result<Placed, Fault>
     ensures { IsPlaced core.now digest.now result }
 {
     let place = core.place_of(&Digest(*digest));
@@ -197,7 +197,7 @@ fn decided_of(decision: &Decision) -> Decided
 }
 
 /// The decided block of that place.
-pub fn decided(core: &Core, index: u64) -> Result<Decided, Fault>
+pub fn decision(core: &Core, index: u64) -> Result<Decided, Fault>
     ensures { IsDecided core.now index result }
 {
     if index >= core.decision_count() {

@@ -44,7 +44,7 @@ pub fn certificate(alloc: Global, core: &mut Core, index: u64) -> Result<Bytes, 
 }
 
 /// Who signed the vertex of that place in the certificate that the bytes spell, and what.
-pub fn certified(alloc: Global, bytes: &[u8], place: usize) -> Result<Signed, Fault>
+pub fn certified_signatures(alloc: Global, bytes: &[u8], place: usize) -> Result<Signed, Fault>
     ensures { IsCertifiedSigned bytes.now place result }
 {
     let certificate = decode_certificate(alloc, bytes)?;
@@ -86,7 +86,7 @@ fn judged_of(checked: &Checked, block: Digest, instance: Digest) -> Judged
 }
 
 /// What the certificate that the bytes spell is answered, with these verdicts on its vertices' signatures.
-pub fn judged(alloc: Global, bytes: &[u8], verdicts: &[bool]) -> Result<Judged, Fault>
+pub fn judgement(alloc: Global, bytes: &[u8], verdicts: &[bool]) -> Result<Judged, Fault>
     ensures { IsJudged bytes.now verdicts.now result }
 {
     let certificate = decode_certificate(alloc, bytes)?;

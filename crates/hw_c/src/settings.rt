@@ -71,7 +71,7 @@ fn config_with(
 }
 
 /// The bytes of the configuration with these fields, which keeps all limits.
-pub fn config(
+pub fn spelled(
     alloc: Global,
     settings: &Settings,
     weights: &[u64],

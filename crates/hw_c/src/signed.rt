@@ -29,7 +29,7 @@ pub struct Signed {
 }
 
 /// Who signed the vertex that the bytes spell, and what.
-pub fn signed(alloc: Global, bytes: &[u8]) -> Result<Signed, Fault>
+pub fn signatures(alloc: Global, bytes: &[u8]) -> Result<Signed, Fault>
     ensures { IsSigned bytes.now result }
 {
     let vertex = decode_vertex(alloc, bytes)?;
