@@ -60,15 +60,11 @@ fn report(core: &Core, validators: u32, refused: usize, repeats: usize) -> Vec<S
         .collect();
     lines.push(format!("faulty {}", if faulty.is_empty() { "-".into() } else { faulty.join(" ") }));
     lines.push(format!("fork {}", summary.fork.map_or("-".into(), |fork| fork.to_string())));
-    let before = lines.len();
     for decision in core.decisions_from(0) {
         lines.push(format!(
             "final {} {} level {} quorum {} at {}",
             decision.height, decision.block, decision.level, decision.quorum, decision.at
         ));
-    }
-    if lines.len() == before {
-        lines.push("final -".into());
     }
     if summary.is_exceeded {
         lines.push(format!("exceeded {}", summary.faulty_weight));

@@ -68,14 +68,14 @@ fn what_is_missing_is_asked_for() {
     assert!(matches!(late.deliver(sent.last().unwrap(), true), Ok(Receipt::Parked { .. })));
     assert_eq!(late.fork(), Ok(None));
     for _ in 0..sent.len() {
-        for need in late.unmet(4).unwrap() {
+        for need in late.unmet(256).unwrap() {
             assert!(matches!(need, Need::Unit(_)));
             for vertex in cores[0].for_need(need).unwrap() {
                 late.deliver(&vertex, true).unwrap();
             }
         }
     }
-    assert!(late.unmet(4).unwrap().is_empty());
+    assert!(late.unmet(256).unwrap().is_empty());
     assert_eq!(late.fork(), cores[0].fork());
     assert_eq!(late.for_need(Need::Evidence(0)), Ok(vec![]));
 }
