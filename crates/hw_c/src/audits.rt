@@ -56,8 +56,10 @@ fn audited_of(verdict: &Verdict, length: u64) -> Audited
             audited.height = *height;
             audited.culprits = culprits.len() as u64;
             audited.weight = *weight;
-            audited.left = left.0;
-            audited.right = right.0;
+            let left = left.0;
+            let right = right.0;
+            audited.left = left;
+            audited.right = right;
         }
         Verdict::Clash { .. } => audited.kind = 2,
     }

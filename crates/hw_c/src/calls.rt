@@ -113,7 +113,8 @@ fn digest_bytes(digest: Option<Digest>) -> [u8; 32]
 pub fn summarize(core: &Core) -> Result<Summary, Fault>
     ensures { IsSummary core.now result }
 {
-    let fork = core.fork();
+    let found = core.fork();
+    let fork = digest_bytes(found);
     Ok(Summary {
         journal: core.journal_count(),
         decided: core.decision_count(),
@@ -122,8 +123,8 @@ pub fn summarize(core: &Core) -> Result<Summary, Fault>
         parked: core.parked_count(),
         dropped: core.dropped_count(),
         exceeded: flag(core.exceeded().is_some()),
-        has_fork: flag(fork.is_some()),
-        fork: digest_bytes(fork),
+        has_fork: flag(found.is_some()),
+        fork,
     })
 }
 
@@ -135,10 +136,10 @@ fn observed_of(observation: Obs) -> Observed
             kind: 0,
             unit: [0; 32],
         },
-        Obs::Correct(unit) => Observed {
-            kind: 1,
-            unit: unit.0,
-        },
+        Obs::Correct(digest) => {
+            let unit = digest.0;
+            Observed { kind: 1, unit }
+        }
         Obs::Faulty => Observed {
             kind: 2,
             unit: [0; 32],
@@ -187,8 +188,9 @@ pub fn place(core: &Core, digest: &[u8; 32]) -> Result<Placed, Fault>
 fn decided_of(decision: &Decision) -> Decided
     ensures { result ≡ decided_of decision.now }
 {
+    let block = decision.block.0;
     Decided {
-        block: decision.block.0,
+        block,
         height: decision.height,
         quorum: decision.quorum,
         at: decision.at,

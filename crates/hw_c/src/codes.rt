@@ -299,7 +299,10 @@ pub fn answer_of(fault: Fault) -> Answer
     match fault {
         Fault::Bytes(error) => answer.at = codec_place(error),
         Fault::Config(fault) => answer.at = config_place(fault),
-        Fault::Refused(cause) => answer.digest = cause_digest(cause),
+        Fault::Refused(cause) => {
+            let digest = cause_digest(cause);
+            answer.digest = digest;
+        }
         Fault::Certificate(error) => answer.at = cert_place(error),
         _ => {}
     }

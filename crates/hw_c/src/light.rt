@@ -57,13 +57,15 @@ pub fn certified_signatures(alloc: Global, bytes: &[u8], place: usize) -> Result
 fn judged_of(checked: &Checked, block: Digest, instance: Digest) -> Judged
     ensures { result ≡ judged_of checked.now block instance }
 {
+    let block = block.0;
+    let instance = instance.0;
     let mut judged = Judged {
         kind: 0,
         status: 0,
         number: 0,
         weight: 0,
-        block: block.0,
-        instance: instance.0,
+        block,
+        instance,
     };
     match checked {
         Checked::Yes(_) => {}

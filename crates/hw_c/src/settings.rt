@@ -29,7 +29,8 @@ fn leaders_with(alloc: Global, settings: &Settings, table: &[u32]) -> Result<Lea
     ensures { IfOk result (λ leaders. leaders ≡ leaders_with settings.now table.now) }
 {
     if settings.is_drawn != 0 {
-        return Ok(Leaders::Drawn(settings.key));
+        let key = settings.key;
+        return Ok(Leaders::Drawn(key));
     }
     let mut entries = IndexList::new(alloc);
     entries.extend(table)?;

@@ -72,10 +72,11 @@ fn spelled(alloc: Global, plan: &Plan) -> Result<Step, OutOfMemory>
 {
     let digest = digest_of(alloc, &plan.unit)?;
     let bytes = encode_unit(alloc, &plan.unit)?;
+    let digest = digest.0;
     let planned = Planned {
         kind: plan_number(plan.kind),
         length: bytes.len() as u64,
-        digest: digest.0,
+        digest,
     };
     Ok(Step { planned, bytes })
 }
