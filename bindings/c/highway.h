@@ -40,7 +40,7 @@ enum {
   HW_CLASH = 0x320,             /* digest is that of another unit */
   HW_RECORDS_FULL = 0x321,      /* the journal is as long as it may be */
   HW_PARK_FULL = 0x322,         /* as many units wait as may */
-  HW_LOCAL_RULE = 0x400,        /* + 0 .. 18, the rule that is broken */
+  HW_LOCAL_RULE = 0x400,        /* + 1 .. 19, the rule that is broken */
   HW_BAD_CERTIFICATE = 0x500,   /* + 0 magic, 1 version, 2 torn, 3 too long, 4 trailing; at is the place */
   HW_BAD_CERTIFIED_CONFIG = 0x510, /* + as HW_BAD_BYTES; at is the place in the configuration */
   HW_BAD_CERTIFIED_VERTEX = 0x520  /* + as HW_BAD_BYTES; at is the place of the vertex */

@@ -303,7 +303,8 @@ impl Core {
         Decisions { core: self, index }
     }
 
-    /// The first needs that parked units miss, at most so many: what to ask peers for.
+    /// The first needs that parked units miss, at most so many: what to ask peers for. A need stays until it is met, so
+    /// also while the unit that it names waits itself; ask for as many as may wait.
     ///
     /// # Errors
     ///

@@ -169,7 +169,7 @@ impl Error {
             0x320 => Error::Clash(Digest(answer.digest)),
             0x321 => Error::RecordsFull,
             0x322 => Error::ParkFull,
-            0x400..=0x412 => Error::Local(Rule::of(status - 0x400)),
+            0x401..=0x413 => Error::Local(Rule::of(status - 0x400)),
             0x500..=0x504 => Error::Certificate(certificate_fault(status - 0x500, at)),
             0x510..=0x514 => Error::Certificate(CertificateFault::Config(BYTES[(status - 0x510) as usize], at)),
             0x520..=0x524 => Error::Certificate(CertificateFault::Vertex(BYTES[(status - 0x520) as usize], at)),

@@ -4,7 +4,7 @@ use std::fmt;
 
 macro_rules! rules {
     ($($(#[$doc:meta])* $name:ident = $number:literal, $text:literal;)*) => {
-        /// A rule that a unit keeps, in the order in which they are tested. The first eight read the unit and the
+        /// A rule that a unit keeps, in the order in which they are tested, numbered from 1. The first eight read the unit and the
         /// configuration alone, the others read the units below it too.
         #[derive(Clone, Copy, Debug, PartialEq, Eq, PartialOrd, Ord, Hash)]
         pub enum Rule { $($(#[$doc])* $name = $number,)* }
@@ -29,41 +29,41 @@ macro_rules! rules {
 
 rules! {
     /// Its instance isn't that of the configuration.
-    WrongInstance = 0, "wrong instance";
+    WrongInstance = 1, "wrong instance";
     /// Its creator is no validator.
-    UnknownCreator = 1, "unknown creator";
+    UnknownCreator = 2, "unknown creator";
     /// Its panorama hasn't one observation for each validator.
-    PanoramaLength = 2, "panorama length";
+    PanoramaLength = 3, "panorama length";
     /// Its observation of its own creator is Faulty.
-    FaultySelf = 3, "faulty self";
+    FaultySelf = 4, "faulty self";
     /// Its number doesn't fit what it observes of its own creator.
-    FirstSequence = 4, "first sequence number";
+    FirstSequence = 5, "first sequence number";
     /// Its exponent is outside the configuration's range.
-    RoundExponent = 5, "round exponent";
+    RoundExponent = 6, "round exponent";
     /// Its endorsed list isn't strictly rising by bytes.
-    EndorsedOrder = 6, "order of the endorsed list";
+    EndorsedOrder = 7, "order of the endorsed list";
     /// It has no value, and cites nothing.
-    NoBlock = 7, "no block";
+    NoBlock = 8, "no block";
     /// A correct observation names a unit of another creator.
-    SlotCreator = 8, "creator of a cited unit";
+    SlotCreator = 9, "creator of a cited unit";
     /// Its number isn't one more than that of its creator's cited unit.
-    SequenceNumber = 9, "sequence number";
+    SequenceNumber = 10, "sequence number";
     /// Its panorama isn't consistent.
-    Inconsistent = 10, "inconsistent panorama";
+    Inconsistent = 11, "inconsistent panorama";
     /// A cited unit has a greater time.
-    TimeGoesBack = 11, "time goes back";
+    TimeGoesBack = 12, "time goes back";
     /// Its exponent isn't that of its creator's cited unit, and it doesn't lie in a later round of the greater one.
-    RoundChange = 12, "change of the round exponent";
+    RoundChange = 13, "change of the round exponent";
     /// It is its creator's third unit in its round.
-    ThirdInRound = 13, "third unit in its round";
+    ThirdInRound = 14, "third unit in its round";
     /// It has a value, and isn't its round's one block by the round's leader.
-    NotLeader = 14, "not the leader";
+    NotLeader = 15, "not the leader";
     /// A cited unit's endorsed list has a digest that its own hasn't.
-    EndorsedShrinks = 15, "endorsed list shrinks";
+    EndorsedShrinks = 16, "endorsed list shrinks";
     /// A digest of its endorsed list is no unit below it.
-    EndorsedUnseen = 16, "endorsed unit isn't below it";
+    EndorsedUnseen = 17, "endorsed unit isn't below it";
     /// Two units of one creator, both naive for it, aren't comparable.
-    Naive = 17, "naive";
+    Naive = 18, "naive";
     /// It has a value, and stands on the configuration's last block.
-    AfterTerminal = 18, "after the last block";
+    AfterTerminal = 19, "after the last block";
 }

@@ -1,3 +1,3 @@
-pub mod Steps
+pub mod Words
 pub mod Places
 pub mod StepLaws

@@ -1,6 +1,6 @@
 -- Steps over contents and handles. Assumes `Logic`.
 --     Contents, content_out, content_in     the content of a box as a row: it owns what a box of the same types does, and stands in as many words
-use Rattle.hw_c.proofs.Steps.{◌≡◌, refl, List, [], ◌∷◌, Val, Item, Seq, ‵, ◌$◌, use1, id⊢, move, RattleType, block_ptr, token, Fits, Bx, R, P, B, handle, word, box_owns, box_out, box_in, fsplit, fjoin, fpick, fpack, feq_i, feq_l, drop, nothing, Ptr, null_ptr, ptr_val, vstruct, vcons, vnil, of_list, ◌++◌, subst, T, has_ty, WT, lit<, handle_tells, box_typed, dnil}
+use Rattle.hw_c.proofs.Words.{◌≡◌, refl, List, [], ◌∷◌, Val, Item, Seq, ‵, ◌$◌, use1, id⊢, move, RattleType, block_ptr, token, Fits, Bx, R, P, B, handle, word, box_owns, box_out, box_in, fsplit, fjoin, fpick, fpack, feq_i, feq_l, drop, nothing, Ptr, null_ptr, ptr_val, vstruct, vcons, vnil, of_list, ◌++◌, subst, T, has_ty, WT, lit<, handle_tells, box_typed, dnil}
 use Prim.Native.Nat.{ℕ}
 use seplogic.Ra.Ura.{Ura}
 use types.Logic.{Logic}

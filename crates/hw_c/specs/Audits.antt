@@ -10,7 +10,7 @@ use Rattle.hw_audit.specs.Text.{audit_text}
 use Rattle.hw_c.specs.declared.codes.Fault.{Fault}
 use Rattle.hw_c.specs.declared.codes.Fault.TheVariants as fault
 use Rattle.hw_c.specs.declared.audits.Audited.{Audited}
-use Rattle.hw_c.specs.declared.audits.Audit.{Audit}
+use Rattle.hw_c.specs.declared.audits.AuditText.{AuditText}
 use Rattle.hw_c.specs.Buffers.{copied}
 use Rattle.hw_c.specs.Calls.{IsWant}
 use Rattle.hw_c.specs.Told.{zeros}
@@ -22,7 +22,7 @@ audited_of (verdict.Conflict height left right culprits weight) count = record {
 audited_of (verdict.Clash left right) count = record { kind = 2; length = count; height = 0; culprits = 0; weight = 0; left = zeros; right = zeros }
 
 -- the verdict on two nodes of one configuration, field by field and as text; or they are of two
-abbrev pub IsAudit : CoreState → CoreState → Result Audit Fault → Type 0
+abbrev pub IsAudit : CoreState → CoreState → Result AuditText Fault → Type 0
 IsAudit left right (Ok a) =
     (v : Verdict) × IsVerdictOn left right v × IsWeighty left.config.ftt v × ShowsFirstClash (setting_of left.config) left.journal right.journal v
     × (a.text ≡ audit_text left.config.ftt v) × (a.audited ≡ audited_of v (length a.text))
@@ -30,6 +30,6 @@ IsAudit left right (Err fault.OtherInstance) = left.config ≢ right.config
 IsAudit left right (Err f) = IsWant f
 
 -- the audit goes out, and its text as far as it fits; or nothing changed
-abbrev pub IsAuditPut : Result Audit Fault → Audited → Audited → List ℕ → List ℕ → Type 0
+abbrev pub IsAuditPut : Result AuditText Fault → Audited → Audited → List ℕ → List ℕ → Type 0
 IsAuditPut (Ok a) old new buf_old buf_new = (new ≡ a.audited) × (buf_new ≡ copied a.text buf_old)
 IsAuditPut (Err f) old new buf_old buf_new = (new ≡ old) × (buf_new ≡ buf_old)

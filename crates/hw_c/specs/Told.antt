@@ -22,27 +22,27 @@ use Rattle.hw_c.specs.declared.codes.Fault.TheVariants as fault
 abbrev pub zeros : List ℕ
 zeros = replicate 32 0
 
--- a rule, by its place in the order in which rules are tested
+-- a rule, by its place in the order in which rules are tested, counted from 1 as in printed answers
 abbrev pub rule_number : Rule → ℕ
-rule_number rule.WrongInstance = 0
-rule_number rule.UnknownCreator = 1
-rule_number rule.PanoramaLength = 2
-rule_number rule.FaultySelf = 3
-rule_number rule.FirstSequence = 4
-rule_number rule.RoundExponent = 5
-rule_number rule.EndorsedOrder = 6
-rule_number rule.NoBlock = 7
-rule_number rule.SlotCreator = 8
-rule_number rule.SequenceNumber = 9
-rule_number rule.Inconsistent = 10
-rule_number rule.TimeGoesBack = 11
-rule_number rule.RoundChange = 12
-rule_number rule.ThirdInRound = 13
-rule_number rule.NotLeader = 14
-rule_number rule.EndorsedShrinks = 15
-rule_number rule.EndorsedUnseen = 16
-rule_number rule.Naive = 17
-rule_number rule.AfterTerminal = 18
+rule_number rule.WrongInstance = 1
+rule_number rule.UnknownCreator = 2
+rule_number rule.PanoramaLength = 3
+rule_number rule.FaultySelf = 4
+rule_number rule.FirstSequence = 5
+rule_number rule.RoundExponent = 6
+rule_number rule.EndorsedOrder = 7
+rule_number rule.NoBlock = 8
+rule_number rule.SlotCreator = 9
+rule_number rule.SequenceNumber = 10
+rule_number rule.Inconsistent = 11
+rule_number rule.TimeGoesBack = 12
+rule_number rule.RoundChange = 13
+rule_number rule.ThirdInRound = 14
+rule_number rule.NotLeader = 15
+rule_number rule.EndorsedShrinks = 16
+rule_number rule.EndorsedUnseen = 17
+rule_number rule.Naive = 18
+rule_number rule.AfterTerminal = 19
 
 -- ---- faults
 

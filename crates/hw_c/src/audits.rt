@@ -26,7 +26,7 @@ pub struct Audited {
 
 /// What two nodes say of each other, and that as text.
 #[derive(Drop)]
-pub struct Audit {
+pub struct AuditText {
     pub audited: Audited,
     pub text: Bytes,
 }
@@ -56,8 +56,10 @@ fn audited_of(verdict: &Verdict, length: u64) -> Audited
             audited.height = *height;
             audited.culprits = culprits.len() as u64;
             audited.weight = *weight;
-            audited.left = left.0;
-            audited.right = right.0;
+            let left = left.0;
+            let right = right.0;
+            audited.left = left;
+            audited.right = right;
         }
         Verdict::Clash { .. } => audited.kind = 2,
     }
@@ -65,7 +67,7 @@ fn audited_of(verdict: &Verdict, length: u64) -> Audited
 }
 
 /// What the journals of two nodes say of each other.
-pub fn audit_of(alloc: Global, left: &Core, right: &Core) -> Result<Audit, Fault>
+pub fn audit_of(alloc: Global, left: &Core, right: &Core) -> Result<AuditText, Fault>
     ensures { IsAudit left.now right.now result }
 {
     let verdict = match audit(alloc, left, right) {
@@ -75,11 +77,11 @@ pub fn audit_of(alloc: Global, left: &Core, right: &Core) -> Result<Audit, Fault
     };
     let text = audit_text(alloc, &verdict, left.state().config())?;
     let audited = audited_of(&verdict, text.len() as u64);
-    Ok(Audit { audited, text })
+    Ok(AuditText { audited, text })
 }
 
 /// Puts an audit, where there is one, and answers the status.
-pub fn put_audit(outcome: Result<Audit, Fault>, audited: &mut Audited, buf: &mut [u8]) -> u32
+pub fn put_audit(outcome: Result<AuditText, Fault>, audited: &mut Audited, buf: &mut [u8]) -> u32
     ensures status { result ≡ status outcome }
     ensures put { IsAuditPut outcome audited.old audited.new buf.old buf.new }
 {

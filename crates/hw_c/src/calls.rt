@@ -110,10 +110,11 @@ fn digest_bytes(digest: Option<Digest>) -> [u8; 32]
 }
 
 /// How much the node has of what, the weight of its faulty validators, and its fork choice.
-pub fn summary(core: &Core) -> Result<Summary, Fault>
+pub fn summarize(core: &Core) -> Result<Summary, Fault>
     ensures { IsSummary core.now result }
 {
-    let fork = core.fork();
+    let found = core.fork();
+    let fork = digest_bytes(found);
     Ok(Summary {
         journal: core.journal_count(),
         decided: core.decision_count(),
@@ -122,8 +123,8 @@ pub fn summary(core: &Core) -> Result<Summary, Fault>
         parked: core.parked_count(),
         dropped: core.dropped_count(),
         exceeded: flag(core.exceeded().is_some()),
-        has_fork: flag(fork.is_some()),
-        fork: digest_bytes(fork),
+        has_fork: flag(found.is_some()),
+        fork,
     })
 }
 
@@ -135,10 +136,10 @@ fn observed_of(observation: Obs) -> Observed
             kind: 0,
             unit: [0; 32],
         },
-        Obs::Correct(unit) => Observed {
-            kind: 1,
-            unit: unit.0,
-        },
+        Obs::Correct(digest) => {
+            let unit = digest.0;
+            Observed { kind: 1, unit }
+        }
         Obs::Faulty => Observed {
             kind: 2,
             unit: [0; 32],
@@ -147,7 +148,7 @@ fn observed_of(observation: Obs) -> Observed
 }
 
 /// What the node observes of the validator.
-pub fn observed(core: &Core, validator: u32) -> Result<Observed, Fault>
+pub fn observation(core: &Core, validator: u32) -> Result<Observed, Fault>
     ensures { IsObserved core.now validator result }
 {
     if validator as usize >= core.state().config().weights.len() {
@@ -177,7 +178,7 @@ fn placed_of(place: Place) -> Placed
 }
 
 /// What became of the unit of this digest.
-pub fn placed(core: &Core, digest: &[u8; 32]) -> Result<Placed, Fault>
+pub fn place(core: &Core, digest: &[u8; 32]) -> Result<Placed, Fault>
     ensures { IsPlaced core.now digest.now result }
 {
     let place = core.place_of(&Digest(*digest));
@@ -187,8 +188,9 @@ pub fn placed(core: &Core, digest: &[u8; 32]) -> Result<Placed, Fault>
 fn decided_of(decision: &Decision) -> Decided
     ensures { result ≡ decided_of decision.now }
 {
+    let block = decision.block.0;
     Decided {
-        block: decision.block.0,
+        block,
         height: decision.height,
         quorum: decision.quorum,
         at: decision.at,
@@ -197,7 +199,7 @@ fn decided_of(decision: &Decision) -> Decided
 }
 
 /// The decided block of that place.
-pub fn decided(core: &Core, index: u64) -> Result<Decided, Fault>
+pub fn decision(core: &Core, index: u64) -> Result<Decided, Fault>
     ensures { IsDecided core.now index result }
 {
     if index >= core.decision_count() {

@@ -125,31 +125,31 @@ pub struct Answer {
     pub digest: [u8; 32],
 }
 
-/// The number of a rule, in the order in which rules are tested.
+/// The number of a rule in the order in which rules are tested, counted from 1 as in printed answers.
 pub fn rule_number(rule: Rule) -> u32
     ensures number { result ≡ rule_number rule }
-    ensures small { result ≤ 18 }
+    ensures small { result ≤ 19 }
 {
     match rule {
-        Rule::WrongInstance => 0,
-        Rule::UnknownCreator => 1,
-        Rule::PanoramaLength => 2,
-        Rule::FaultySelf => 3,
-        Rule::FirstSequence => 4,
-        Rule::RoundExponent => 5,
-        Rule::EndorsedOrder => 6,
-        Rule::NoBlock => 7,
-        Rule::SlotCreator => 8,
-        Rule::SequenceNumber => 9,
-        Rule::Inconsistent => 10,
-        Rule::TimeGoesBack => 11,
-        Rule::RoundChange => 12,
-        Rule::ThirdInRound => 13,
-        Rule::NotLeader => 14,
-        Rule::EndorsedShrinks => 15,
-        Rule::EndorsedUnseen => 16,
-        Rule::Naive => 17,
-        Rule::AfterTerminal => 18,
+        Rule::WrongInstance => 1,
+        Rule::UnknownCreator => 2,
+        Rule::PanoramaLength => 3,
+        Rule::FaultySelf => 4,
+        Rule::FirstSequence => 5,
+        Rule::RoundExponent => 6,
+        Rule::EndorsedOrder => 7,
+        Rule::NoBlock => 8,
+        Rule::SlotCreator => 9,
+        Rule::SequenceNumber => 10,
+        Rule::Inconsistent => 11,
+        Rule::TimeGoesBack => 12,
+        Rule::RoundChange => 13,
+        Rule::ThirdInRound => 14,
+        Rule::NotLeader => 15,
+        Rule::EndorsedShrinks => 16,
+        Rule::EndorsedUnseen => 17,
+        Rule::Naive => 18,
+        Rule::AfterTerminal => 19,
     }
 }
 
@@ -299,7 +299,10 @@ pub fn answer_of(fault: Fault) -> Answer
     match fault {
         Fault::Bytes(error) => answer.at = codec_place(error),
         Fault::Config(fault) => answer.at = config_place(fault),
-        Fault::Refused(cause) => answer.digest = cause_digest(cause),
+        Fault::Refused(cause) => {
+            let digest = cause_digest(cause);
+            answer.digest = digest;
+        }
         Fault::Certificate(error) => answer.at = cert_place(error),
         _ => {}
     }

@@ -8,7 +8,7 @@ ghost use Rattle.hw_c.specs.Light.{IsCertificate};
 ghost use Rattle.hw_c.specs.Needed.{IsForNeed};
 ghost use Rattle.hw_c.specs.Steps.{IsStep};
 
-use crate::audits::{self, Audit};
+use crate::audits::{self, AuditText};
 use crate::calls::{self, Decided, Observed, Placed, Summary};
 use crate::codes::Fault;
 use crate::handle::Handle;
@@ -65,7 +65,7 @@ pub fn deliver(
 }
 
 /// The journal's entry of that place, as bytes.
-pub fn entry(alloc: Global, core: &mut Handle, place: u64) -> Result<Bytes, Fault>
+pub fn read_entry(alloc: Global, core: &mut Handle, place: u64) -> Result<Bytes, Fault>
     ensures { Reads (λ c. IsEntry c place) core.old.held result core.new.held }
 {
     let Some(node) = core.take(alloc) else {
@@ -77,55 +77,55 @@ pub fn entry(alloc: Global, core: &mut Handle, place: u64) -> Result<Bytes, Faul
 }
 
 /// How much the node has of what, the weight of its faulty validators, and its fork choice.
-pub fn summary(alloc: Global, core: &mut Handle) -> Result<Summary, Fault>
+pub fn read_summary(alloc: Global, core: &mut Handle) -> Result<Summary, Fault>
     ensures { Reads IsSummary core.old.held result core.new.held }
 {
     let Some(node) = core.take(alloc) else {
         return Err(Fault::Empty);
     };
-    let outcome = calls::summary(&node);
+    let outcome = calls::summarize(&node);
     core.fill(node);
     outcome
 }
 
 /// What the node observes of the validator.
-pub fn observed(alloc: Global, core: &mut Handle, validator: u32) -> Result<Observed, Fault>
+pub fn read_observed(alloc: Global, core: &mut Handle, validator: u32) -> Result<Observed, Fault>
     ensures { Reads (λ c. IsObserved c validator) core.old.held result core.new.held }
 {
     let Some(node) = core.take(alloc) else {
         return Err(Fault::Empty);
     };
-    let outcome = calls::observed(&node, validator);
+    let outcome = calls::observation(&node, validator);
     core.fill(node);
     outcome
 }
 
 /// What became of the unit of this digest.
-pub fn placed(alloc: Global, core: &mut Handle, digest: &[u8; 32]) -> Result<Placed, Fault>
+pub fn read_placed(alloc: Global, core: &mut Handle, digest: &[u8; 32]) -> Result<Placed, Fault>
     ensures { Reads (λ c. IsPlaced c digest.now) core.old.held result core.new.held }
 {
     let Some(node) = core.take(alloc) else {
         return Err(Fault::Empty);
     };
-    let outcome = calls::placed(&node, digest);
+    let outcome = calls::place(&node, digest);
     core.fill(node);
     outcome
 }
 
 /// The decided block of that place.
-pub fn decided(alloc: Global, core: &mut Handle, index: u64) -> Result<Decided, Fault>
+pub fn read_decided(alloc: Global, core: &mut Handle, index: u64) -> Result<Decided, Fault>
     ensures { Reads (λ c. IsDecided c index) core.old.held result core.new.held }
 {
     let Some(node) = core.take(alloc) else {
         return Err(Fault::Empty);
     };
-    let outcome = calls::decided(&node, index);
+    let outcome = calls::decision(&node, index);
     core.fill(node);
     outcome
 }
 
 /// The first needs that parked units miss, as many as fit.
-pub fn unmet(alloc: Global, core: &mut Handle, list: &mut [Missing]) -> Result<usize, Fault>
+pub fn read_unmet(alloc: Global, core: &mut Handle, list: &mut [Missing]) -> Result<usize, Fault>
     ensures read { Reads (λ c. IsUnmet c list.old list.new) core.old.held result core.new.held }
     ensures empty { core.old.held ≡ None → list.new ≡ list.old }
 {
@@ -138,7 +138,7 @@ pub fn unmet(alloc: Global, core: &mut Handle, list: &mut [Missing]) -> Result<u
 }
 
 /// The vertex of that place among those that the node has for the need, as bytes.
-pub fn for_need(alloc: Global, core: &mut Handle, missing: &Missing, place: usize) -> Result<Bytes, Fault>
+pub fn read_for_need(alloc: Global, core: &mut Handle, missing: &Missing, place: usize) -> Result<Bytes, Fault>
     ensures { Reads (λ c. IsForNeed c missing.now place) core.old.held result core.new.held }
 {
     let Some(node) = core.take(alloc) else {
@@ -150,7 +150,7 @@ pub fn for_need(alloc: Global, core: &mut Handle, missing: &Missing, place: usiz
 }
 
 /// The unit that the validator may make at this moment, as bytes without a signature.
-pub fn next(alloc: Global, core: &mut Handle, me: u32, now: u64, value: &[u8]) -> Result<Step, Fault>
+pub fn read_next(alloc: Global, core: &mut Handle, me: u32, now: u64, value: &[u8]) -> Result<Step, Fault>
     ensures { Reads (λ c. IsStep c me now value.now) core.old.held result core.new.held }
 {
     let Some(node) = core.take(alloc) else {
@@ -162,7 +162,7 @@ pub fn next(alloc: Global, core: &mut Handle, me: u32, now: u64, value: &[u8]) -
 }
 
 /// The certificate of the decided block of that place, as bytes.
-pub fn certificate(alloc: Global, core: &mut Handle, index: u64) -> Result<Bytes, Fault>
+pub fn read_certificate(alloc: Global, core: &mut Handle, index: u64) -> Result<Bytes, Fault>
     ensures { Reads (λ c. IsCertificate c index) core.old.held result core.new.held }
 {
     let Some(mut node) = core.take(alloc) else {
@@ -174,18 +174,18 @@ pub fn certificate(alloc: Global, core: &mut Handle, index: u64) -> Result<Bytes
 }
 
 /// What the journals of two nodes say of each other.
-pub fn audit(alloc: Global, left: &mut Handle, right: &mut Handle) -> Result<Audit, Fault>
+pub fn read_audit(alloc: Global, left: &mut Handle, right: &mut Handle) -> Result<AuditText, Fault>
     ensures { ReadsBoth IsAudit left.old.held right.old.held result left.new.held right.new.held }
 {
     let Some(one) = left.take(alloc) else {
         return Err(Fault::Empty);
     };
-    let outcome = audit_with(alloc, &one, right);
+    let outcome = read_audit_with(alloc, &one, right);
     left.fill(one);
     outcome
 }
 
-fn audit_with(alloc: Global, left: &Core, right: &mut Handle) -> Result<Audit, Fault>
+fn read_audit_with(alloc: Global, left: &Core, right: &mut Handle) -> Result<AuditText, Fault>
     ensures { Reads (IsAudit left.now) right.old.held result right.new.held }
 {
     let Some(other) = right.take(alloc) else {

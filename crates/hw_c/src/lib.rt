@@ -11,7 +11,7 @@
 
 ghost use Rattle.std.specs.Prelude.{◌≡◌, ℕ, List, Result, None};
 ghost use Rattle.hw_types.specs.declared.answers.Receipt.{Receipt};
-ghost use Rattle.hw_c.specs.declared.audits.Audit.{Audit};
+ghost use Rattle.hw_c.specs.declared.audits.AuditText.{AuditText};
 ghost use Rattle.hw_c.specs.declared.calls.Decided.{Decided};
 ghost use Rattle.hw_c.specs.declared.calls.Observed.{Observed};
 ghost use Rattle.hw_c.specs.declared.calls.Placed.{Placed};
@@ -69,7 +69,7 @@ pub extern "C" fn hw_config(
 ) -> u32
     ensures { (r : Result (List ℕ) Fault) × IsConfig settings.now weights.now table.now r × IsWritten r buf.old buf.new len.old len.new × (result ≡ status r) × (answer.new ≡ behind r) }
 {
-    let outcome = settings::config(alloc, settings, weights, table);
+    let outcome = settings::spelled(alloc, settings, weights, table);
     put_bytes_with(outcome, buf, len, answer)
 }
 
@@ -109,7 +109,7 @@ pub extern "C" fn hw_signed(
 ) -> u32
     ensures { (r : Result Signed Fault) × IsSigned vertex.now r × PutsWith r signed.old signed.new answer.new result }
 {
-    let outcome = signed::signed(alloc, vertex);
+    let outcome = signed::signatures(alloc, vertex);
     put_with(outcome, signed, answer)
 }
 
@@ -139,7 +139,7 @@ pub extern "C" fn hw_journal(
 ) -> u32
     ensures { (r : Result (List ℕ) Fault) × Reads (λ c. IsEntry c place) core.old.held r core.new.held × IsWritten r buf.old buf.new len.old len.new × (result ≡ status r) }
 {
-    let outcome = held::entry(alloc, core, place);
+    let outcome = held::read_entry(alloc, core, place);
     put_bytes(outcome, buf, len)
 }
 
@@ -152,7 +152,7 @@ pub extern "C" fn hw_summary(
 ) -> u32
     ensures { (r : Result Summary Fault) × Reads IsSummary core.old.held r core.new.held × Puts r summary.old summary.new result }
 {
-    let outcome = held::summary(alloc, core);
+    let outcome = held::read_summary(alloc, core);
     put(outcome, summary)
 }
 
@@ -166,7 +166,7 @@ pub extern "C" fn hw_observation(
 ) -> u32
     ensures { (r : Result Observed Fault) × Reads (λ c. IsObserved c validator) core.old.held r core.new.held × Puts r observed.old observed.new result }
 {
-    let outcome = held::observed(alloc, core, validator);
+    let outcome = held::read_observed(alloc, core, validator);
     put(outcome, observed)
 }
 
@@ -180,7 +180,7 @@ pub extern "C" fn hw_place(
 ) -> u32
     ensures { (r : Result Placed Fault) × Reads (λ c. IsPlaced c digest.now) core.old.held r core.new.held × Puts r placed.old placed.new result }
 {
-    let outcome = held::placed(alloc, core, digest);
+    let outcome = held::read_placed(alloc, core, digest);
     put(outcome, placed)
 }
 
@@ -194,7 +194,7 @@ pub extern "C" fn hw_decision(
 ) -> u32
     ensures { (r : Result Decided Fault) × Reads (λ c. IsDecided c index) core.old.held r core.new.held × Puts r decided.old decided.new result }
 {
-    let outcome = held::decided(alloc, core, index);
+    let outcome = held::read_decided(alloc, core, index);
     put(outcome, decided)
 }
 
@@ -209,7 +209,7 @@ pub extern "C" fn hw_unmet(
     ensures read { (r : Result ℕ Fault) × Reads (λ c. IsUnmet c list.old list.new) core.old.held r core.new.held × Puts r count.old count.new result }
     ensures empty { core.old.held ≡ None → list.new ≡ list.old }
 {
-    let outcome = held::unmet(alloc, core, list);
+    let outcome = held::read_unmet(alloc, core, list);
     put(outcome, count)
 }
 
@@ -225,7 +225,7 @@ pub extern "C" fn hw_for_need(
 ) -> u32
     ensures { (r : Result (List ℕ) Fault) × Reads (λ c. IsForNeed c missing.now place) core.old.held r core.new.held × IsWritten r buf.old buf.new len.old len.new × (result ≡ status r) }
 {
-    let outcome = held::for_need(alloc, core, missing, place);
+    let outcome = held::read_for_need(alloc, core, missing, place);
     put_bytes(outcome, buf, len)
 }
 
@@ -242,7 +242,7 @@ pub extern "C" fn hw_next_unit(
 ) -> u32
     ensures { (r : Result Step Fault) × Reads (λ c. IsStep c me now value.now) core.old.held r core.new.held × IsStepPut r planned.old planned.new buf.old buf.new × (result ≡ status r) }
 {
-    let outcome = held::next(alloc, core, me, now, value);
+    let outcome = held::read_next(alloc, core, me, now, value);
     steps::put_step(outcome, planned, buf)
 }
 
@@ -271,9 +271,9 @@ pub extern "C" fn hw_audit(
     audited: &mut Audited,
     buf: &mut [u8],
 ) -> u32
-    ensures { (r : Result Audit Fault) × ReadsBoth IsAudit left.old.held right.old.held r left.new.held right.new.held × IsAuditPut r audited.old audited.new buf.old buf.new × (result ≡ status r) }
+    ensures { (r : Result AuditText Fault) × ReadsBoth IsAudit left.old.held right.old.held r left.new.held right.new.held × IsAuditPut r audited.old audited.new buf.old buf.new × (result ≡ status r) }
 {
-    let outcome = held::audit(alloc, left, right);
+    let outcome = held::read_audit(alloc, left, right);
     audits::put_audit(outcome, audited, buf)
 }
 
@@ -288,7 +288,7 @@ pub extern "C" fn hw_certificate(
 ) -> u32
     ensures { (r : Result (List ℕ) Fault) × Reads (λ c. IsCertificate c index) core.old.held r core.new.held × IsWritten r buf.old buf.new len.old len.new × (result ≡ status r) }
 {
-    let outcome = held::certificate(alloc, core, index);
+    let outcome = held::read_certificate(alloc, core, index);
     put_bytes(outcome, buf, len)
 }
 
@@ -303,7 +303,7 @@ pub extern "C" fn hw_certified(
 ) -> u32
     ensures { (r : Result Signed Fault) × IsCertifiedSigned certificate.now place r × PutsWith r signed.old signed.new answer.new result }
 {
-    let outcome = light::certified(alloc, certificate, place);
+    let outcome = light::certified_signatures(alloc, certificate, place);
     put_with(outcome, signed, answer)
 }
 
@@ -318,6 +318,6 @@ pub extern "C" fn hw_check(
 ) -> u32
     ensures { (r : Result Judged Fault) × IsJudged certificate.now verdicts.now r × PutsWith r judged.old judged.new answer.new result }
 {
-    let outcome = light::judged(alloc, certificate, verdicts);
+    let outcome = light::judgement(alloc, certificate, verdicts);
     put_with(outcome, judged, answer)
 }

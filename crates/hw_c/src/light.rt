@@ -44,7 +44,7 @@ pub fn certificate(alloc: Global, core: &mut Core, index: u64) -> Result<Bytes, 
 }
 
 /// Who signed the vertex of that place in the certificate that the bytes spell, and what.
-pub fn certified(alloc: Global, bytes: &[u8], place: usize) -> Result<Signed, Fault>
+pub fn certified_signatures(alloc: Global, bytes: &[u8], place: usize) -> Result<Signed, Fault>
     ensures { IsCertifiedSigned bytes.now place result }
 {
     let certificate = decode_certificate(alloc, bytes)?;
@@ -57,13 +57,15 @@ pub fn certified(alloc: Global, bytes: &[u8], place: usize) -> Result<Signed, Fa
 fn judged_of(checked: &Checked, block: Digest, instance: Digest) -> Judged
     ensures { result ≡ judged_of checked.now block instance }
 {
+    let block = block.0;
+    let instance = instance.0;
     let mut judged = Judged {
         kind: 0,
         status: 0,
         number: 0,
         weight: 0,
-        block: block.0,
-        instance: instance.0,
+        block,
+        instance,
     };
     match checked {
         Checked::Yes(_) => {}
@@ -86,7 +88,7 @@ fn judged_of(checked: &Checked, block: Digest, instance: Digest) -> Judged
 }
 
 /// What the certificate that the bytes spell is answered, with these verdicts on its vertices' signatures.
-pub fn judged(alloc: Global, bytes: &[u8], verdicts: &[bool]) -> Result<Judged, Fault>
+pub fn judgement(alloc: Global, bytes: &[u8], verdicts: &[bool]) -> Result<Judged, Fault>
     ensures { IsJudged bytes.now verdicts.now result }
 {
     let certificate = decode_certificate(alloc, bytes)?;

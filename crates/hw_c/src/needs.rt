@@ -26,31 +26,38 @@ fn missing_of(need: &Need) -> Missing
     ensures { result ≡ missing_of need.now }
 {
     match need {
-        Need::Unit(unit) => Missing {
-            kind: 0,
-            validator: 0,
-            digest: unit.0,
-        },
+        Need::Unit(unit) => {
+            let digest = unit.0;
+            Missing {
+                kind: 0,
+                validator: 0,
+                digest,
+            }
+        }
         Need::Evidence(validator) => Missing {
             kind: 1,
             validator: *validator,
             digest: [0; 32],
         },
-        Need::Endorsed(unit) => Missing {
-            kind: 2,
-            validator: 0,
-            digest: unit.0,
-        },
+        Need::Endorsed(unit) => {
+            let digest = unit.0;
+            Missing {
+                kind: 2,
+                validator: 0,
+                digest,
+            }
+        }
     }
 }
 
 fn need_of(missing: &Missing) -> Option<Need>
     ensures { result ≡ need_of missing.now }
 {
+    let digest = missing.digest;
     match missing.kind {
-        0 => Some(Need::Unit(Digest(missing.digest))),
+        0 => Some(Need::Unit(Digest(digest))),
         1 => Some(Need::Evidence(missing.validator)),
-        2 => Some(Need::Endorsed(Digest(missing.digest))),
+        2 => Some(Need::Endorsed(Digest(digest))),
         _ => None,
     }
 }

@@ -29,7 +29,8 @@ fn leaders_with(alloc: Global, settings: &Settings, table: &[u32]) -> Result<Lea
     ensures { IfOk result (λ leaders. leaders ≡ leaders_with settings.now table.now) }
 {
     if settings.is_drawn != 0 {
-        return Ok(Leaders::Drawn(settings.key));
+        let key = settings.key;
+        return Ok(Leaders::Drawn(key));
     }
     let mut entries = IndexList::new(alloc);
     entries.extend(table)?;
@@ -71,7 +72,7 @@ fn config_with(
 }
 
 /// The bytes of the configuration with these fields, which keeps all limits.
-pub fn config(
+pub fn spelled(
     alloc: Global,
     settings: &Settings,
     weights: &[u64],

@@ -29,7 +29,7 @@ pub struct Signed {
 }
 
 /// Who signed the vertex that the bytes spell, and what.
-pub fn signed(alloc: Global, bytes: &[u8]) -> Result<Signed, Fault>
+pub fn signatures(alloc: Global, bytes: &[u8]) -> Result<Signed, Fault>
     ensures { IsSigned bytes.now result }
 {
     let vertex = decode_vertex(alloc, bytes)?;
@@ -72,20 +72,24 @@ fn signer_of(alloc: Global, signed: &SignedUnit) -> Result<Signer, OutOfMemory>
     ensures { IfOk result (λ signer. signer ≡ signer_of signed.now) }
 {
     let digest = digest_of(alloc, &signed.unit)?;
+    let unit = digest.0;
+    let signature = signed.signature.0;
     Ok(Signer {
         validator: signed.unit.creator,
-        unit: digest.0,
-        signature: signed.signature.0,
+        unit,
+        signature,
     })
 }
 
 fn endorser_of(endorsement: &Endorsement) -> Signer
     ensures { result ≡ record { validator = endorsement.now.endorser; unit = endorsement.now.unit.0; signature = endorsement.now.signature.0 } }
 {
+    let unit = endorsement.unit.0;
+    let signature = endorsement.signature.0;
     Signer {
         validator: endorsement.endorser,
-        unit: endorsement.unit.0,
-        signature: endorsement.signature.0,
+        unit,
+        signature,
     }
 }
 

@@ -41,7 +41,7 @@ pub struct Step {
 
 /// The unit that the validator may make at this moment, where there is one.
 #[tactic(auto, using(crate::proofs::StepLaws::step_is))]
-fn plan(
+fn planned_unit(
     alloc: Global,
     core: &Core,
     me: u32,
@@ -72,10 +72,11 @@ fn spelled(alloc: Global, plan: &Plan) -> Result<Step, OutOfMemory>
 {
     let digest = digest_of(alloc, &plan.unit)?;
     let bytes = encode_unit(alloc, &plan.unit)?;
+    let digest = digest.0;
     let planned = Planned {
         kind: plan_number(plan.kind),
         length: bytes.len() as u64,
-        digest: digest.0,
+        digest,
     };
     Ok(Step { planned, bytes })
 }
@@ -90,7 +91,7 @@ pub fn next(alloc: Global, core: &Core, me: u32, now: u64, value: &[u8]) -> Resu
     if now >= END_OF_TIME || value.len() > LONGEST_VALUE {
         return Err(Fault::OutOfRange);
     }
-    let Some(plan) = plan(alloc, core, me, now, value)? else {
+    let Some(plan) = planned_unit(alloc, core, me, now, value)? else {
         return Err(Fault::Nothing);
     };
     if !fits(&plan.unit) {

@@ -1,5 +1,5 @@
 -- The content's pointer and allocator go into the call, which gives the box that they were.
-use Rattle.hw_c.proofs.Steps.{◌≡◌, refl, sym, subst, ap, List, [], ◌∷◌, ◌++◌, T, Args, a_type, dcons, dnil, inst_fn, Val, vptr, has_ty, WT, ent, id⊢, fact, fact_i, emp, ftrue, fsep, flft, ◌⊑◌, tables, WpFn, at_ret, ‵, raw, ◌⊛◌, some, later, ◌$◌, ◌∵◌, !, qed, by, move, keep, drop, use0, use1, join, split, split3, pick, await, rewrite, fsplit, fjoin, feq_i, suffices, whole, sub, stop, fld, no_more, and_then, of_opd, returns, enter, first, blocks, exec, alloc_all, pass_all, free_all, look_at, get, get_in, sets, lands_last, env, no, bounded, block_ptr, plain, heard, nothing, only, calls_at_last, triple_of, framed, Stays, stay_dropped, walk_of, Goes-blank, Bx, D, B, word, box_typed, box_out, box_in, proved_at, leaves}
+use Rattle.hw_c.proofs.Words.{◌≡◌, refl, sym, subst, ap, List, [], ◌∷◌, ◌++◌, T, Args, a_type, dcons, dnil, inst_fn, Val, vptr, has_ty, WT, ent, id⊢, fact, fact_i, emp, ftrue, fsep, flft, ◌⊑◌, tables, WpFn, at_ret, ‵, raw, ◌⊛◌, some, later, ◌$◌, ◌∵◌, !, qed, by, move, keep, drop, use0, use1, join, split, split3, pick, await, rewrite, fsplit, fjoin, feq_i, suffices, whole, sub, stop, fld, no_more, and_then, of_opd, returns, enter, first, blocks, exec, alloc_all, pass_all, free_all, look_at, get, get_in, sets, lands_last, env, no, bounded, block_ptr, plain, heard, nothing, only, calls_at_last, triple_of, framed, Stays, stay_dropped, walk_of, Goes-blank, Bx, D, B, word, box_typed, box_out, box_in, proved_at, leaves}
 use Rattle.std.proofs.VecSteps.Shapes.{after}
 use Rattle.hw_c.proofs.Places.{Contents, content_out}
 use Rattle.std_alloc.proofs.BoxSteps.Form.{box_ty}

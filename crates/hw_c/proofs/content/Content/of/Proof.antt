@@ -1,5 +1,5 @@
 -- The content of a box owns what the box owned: the call gives its pointer and its allocator, and both are moved.
-use Rattle.hw_c.proofs.Steps.{◌≡◌, refl, sym, subst, ap, ◌∙◌, List, [], ◌∷◌, ◌++◌, Args, a_type, dcons, dnil, inst_fn, Val, vstruct, of_list, suffices, ent, never, id⊢, fst∗, fact, ftrue, fsep, flft, tables, WpFn, sem, ‵, raw, ◌⊛◌, some, later, ◌$◌, ◌∵◌, !, qed, by, move, drop, use1, join, split, split3, pick, await, rewrite, fsplit, fjoin, fpick, feq_l, whole, sub, agg, stop, fld, no_more, and_then, of_opd, returns, enter, alloc_all, pass_all, free_all, look_at, get, get_in, sets, lands_as, no, bounded, Ptr, RawPtr, block_ptr, null_ptr, ptr_val, in_a_block, plain, heard, nothing, only, Tuple, calls_at, triple_of, framed, Stays, stay_dropped, walk_of, token, handle_tells, Goes-blank, box_owns, Bx, R, P, B, τ, word, box_typed, box_out, box_in, proved_at, leaves, keep, use0, fact_i, emp}
+use Rattle.hw_c.proofs.Words.{◌≡◌, refl, sym, subst, ap, ◌∙◌, List, [], ◌∷◌, ◌++◌, Args, a_type, dcons, dnil, inst_fn, Val, vstruct, of_list, suffices, ent, never, id⊢, fst∗, fact, ftrue, fsep, flft, tables, WpFn, sem, ‵, raw, ◌⊛◌, some, later, ◌$◌, ◌∵◌, !, qed, by, move, drop, use1, join, split, split3, pick, await, rewrite, fsplit, fjoin, fpick, feq_l, whole, sub, agg, stop, fld, no_more, and_then, of_opd, returns, enter, alloc_all, pass_all, free_all, look_at, get, get_in, sets, lands_as, no, bounded, Ptr, RawPtr, block_ptr, null_ptr, ptr_val, in_a_block, plain, heard, nothing, only, Tuple, calls_at, triple_of, framed, Stays, stay_dropped, walk_of, token, handle_tells, Goes-blank, box_owns, Bx, R, P, B, τ, word, box_typed, box_out, box_in, proved_at, leaves, keep, use0, fact_i, emp}
 use mir.Raw.{raw as bare}
 use Rattle.hw_c.proofs.Places.{content_in}
 use Rattle.std_alloc.specs.contracts.boxed.Box.into_raw_with_allocator as callee

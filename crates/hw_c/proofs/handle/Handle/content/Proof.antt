@@ -1,6 +1,6 @@
 -- Where the handle holds nothing its pointer is null, and else it is the start of a block that may be freed: so the test is
 -- defined, and tells the two apart.
-use Rattle.hw_c.proofs.Steps.{◌≡◌, refl, sym, subst, List, [], ◌∷◌, ◌++◌, lit<, Val, of_list, ent, emp, never, id⊢, fst∗, fact, fact_i, Fml, ftrue, fsep, tables, WpFn, sem, Sq, at_ret, prop, ‵, raw, ◌⊛◌, ◌$◌, ◌∵◌, !, qed, by, keep, drop, use0, use1, split, fsplit, fjoin, suffices, live, whole, sub, agg, stop, fld, lit, bin, no_more, and_then, of_opd, returns, returns_within, enter, first, branches, skips, exec, alloc_all, pass_all, free_all, look_at, get, get_in, sets, env, yes, Ptr, block_ptr, null_ptr, in_a_block, tests_null, plain, nothing, feq_l, box_owns, token, word, box_typed, R, τ, proved_at, leaves, Stays, stay_dropped, walk_of, Goes-dropped}
+use Rattle.hw_c.proofs.Words.{◌≡◌, refl, sym, subst, List, [], ◌∷◌, ◌++◌, lit<, Val, of_list, ent, emp, never, id⊢, fst∗, fact, fact_i, Fml, ftrue, fsep, tables, WpFn, sem, Sq, at_ret, prop, ‵, raw, ◌⊛◌, ◌$◌, ◌∵◌, !, qed, by, keep, drop, use0, use1, split, fsplit, fjoin, suffices, live, whole, sub, agg, stop, fld, lit, bin, no_more, and_then, of_opd, returns, returns_within, enter, first, branches, skips, exec, alloc_all, pass_all, free_all, look_at, get, get_in, sets, env, yes, Ptr, block_ptr, null_ptr, in_a_block, tests_null, plain, nothing, feq_l, box_owns, token, word, box_typed, R, τ, proved_at, leaves, Stays, stay_dropped, walk_of, Goes-dropped}
 use mir.Raw.{raw as bare}
 use mir.Val.{vnil}
 use Prim.Native.Nat.{ℕ}

@@ -1,5 +1,5 @@
 -- A null pointer and an allocator make a handle that holds nothing.
-use Rattle.hw_c.proofs.Steps.{refl, sym, subst, List, [], ◌∷◌, ◌++◌, Val, ent, emp, id⊢, fact, fact_i, null_ptr, ftrue, fsep, tables, WpFn, ‵, raw, ◌⊛◌, ◌$◌, ◌∵◌, !, qed, by, keep, drop, use0, split, fsplit, suffices, agg, lit, no_more, and_then, returns, enter, alloc_all, pass_all, free_all, look_at, get, sets, yes, plain, nothing, fjoin, handle_tells, proved_at, leaves, Stays, stay_dropped, walk_of, Goes-dropped, ◌≡◌, Ptr, feq_i}
+use Rattle.hw_c.proofs.Words.{refl, sym, subst, List, [], ◌∷◌, ◌++◌, Val, ent, emp, id⊢, fact, fact_i, null_ptr, ftrue, fsep, tables, WpFn, ‵, raw, ◌⊛◌, ◌$◌, ◌∵◌, !, qed, by, keep, drop, use0, split, fsplit, suffices, agg, lit, no_more, and_then, returns, enter, alloc_all, pass_all, free_all, look_at, get, sets, yes, plain, nothing, fjoin, handle_tells, proved_at, leaves, Stays, stay_dropped, walk_of, Goes-dropped, ◌≡◌, Ptr, feq_i}
 use Rattle.std.specs.Prelude.{Option, None}
 use Rattle.std_heap.specs.contracts.Global as Heap
 use Rattle.hw_c.specs.Held.{Held, held_owns}

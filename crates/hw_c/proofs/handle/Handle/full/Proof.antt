@@ -1,5 +1,5 @@
 -- The content's pointer and allocator are the handle's.
-use Rattle.hw_c.proofs.Steps.{refl, sym, subst, List, [], ◌∷◌, ◌++◌, Val, ent, emp, id⊢, fact, fact_i, block_ptr, ftrue, fsep, tables, WpFn, ‵, raw, ◌⊛◌, ◌$◌, ◌∵◌, !, qed, by, keep, drop, use0, split, fsplit, suffices, whole, sub, agg, stop, fld, of_opd, no_more, and_then, returns, enter, alloc_all, pass_all, free_all, look_at, get, get_in, sets, yes, plain, nothing, fjoin, word, box_typed, proved_at, leaves, Stays, stay_dropped, walk_of, Goes-dropped, ◌≡◌}
+use Rattle.hw_c.proofs.Words.{refl, sym, subst, List, [], ◌∷◌, ◌++◌, Val, ent, emp, id⊢, fact, fact_i, block_ptr, ftrue, fsep, tables, WpFn, ‵, raw, ◌⊛◌, ◌$◌, ◌∵◌, !, qed, by, keep, drop, use0, split, fsplit, suffices, whole, sub, agg, stop, fld, of_opd, no_more, and_then, returns, enter, alloc_all, pass_all, free_all, look_at, get, get_in, sets, yes, plain, nothing, fjoin, word, box_typed, proved_at, leaves, Stays, stay_dropped, walk_of, Goes-dropped, ◌≡◌}
 use Rattle.std.specs.Prelude.{Some}
 use Rattle.hw_c.specs.Held.{held_owns}
 use Rattle.hw_c.proofs.Places.{E, Contents, Held-content, content_out, handle_in}

@@ -1,0 +1,55 @@
+#!/usr/bin/env bash
+# The bindings over the proved library: its archive, the numbers in all texts, the crate for Rust, the program in C.
+# What needs a tool that isn't here is left out, with a word. None of it is proved.
+set -uo pipefail
+cd "$(dirname "$0")/.."
+failed=()
+
+has() {
+    command -v "$1" >/dev/null && return 0
+    echo "bindings: skipped, since there is no $1 here: $2"
+    return 1
+}
+
+step() {
+    echo "bindings: $1"
+    "${@:2}" || failed+=("$1")
+}
+
+library() { (cd crates/hw_c && rt lib); }
+rust() { (cd bindings/rust && cargo --offline test --quiet); }
+examples() { (cd bindings/rust && cargo --offline run --quiet --example node && cargo --offline run --quiet --example audit); }
+
+memory="$(dirname "$(rt doc 2>/dev/null)")/c"
+program="$(mktemp -d)"
+trap 'rm -rf "$program"' EXIT
+build() {
+    cc -O2 -Wall -Wextra -Werror -I bindings/c bindings/c/replay.c crates/hw_c/out/libhw_c.a "$memory/liblibc_c.a" \
+        -o "$program/replay"
+}
+million() { "$program/replay" crates/highway/data/four.hwlg 250000; }
+clean() {
+    valgrind --quiet --error-exitcode=1 --leak-check=full --show-leak-kinds=all --errors-for-leak-kinds=all \
+        "$program/replay" crates/highway/data/both.hwlg 20
+}
+
+if has rt "all of it"; then
+    step "the archive" library
+    if [ -f crates/hw_c/out/libhw_c.a ]; then
+        if has cargo "the crate for Rust"; then
+            step "the tests of the crate" rust
+            step "its examples" examples
+        fi
+        if has cc "the program in C"; then
+            step "the program in C" build
+            [ -x "$program/replay" ] && step "a million deliveries" million
+            [ -x "$program/replay" ] && has valgrind "no leak, no bad access" && step "no leak, no bad access" clean
+        fi
+    fi
+fi
+has python3 "the numbers in all texts" && step "the numbers in all texts" python3 -B tools/bindings_numbers.py
+
+if [ ${#failed[@]} -gt 0 ]; then
+    echo "bindings: failed: ${failed[*]}"
+    exit 1
+fi
