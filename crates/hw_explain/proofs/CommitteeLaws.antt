@@ -9,7 +9,7 @@ use Rattle.hw_text.specs.Text.{number_text}
 use Rattle.hw_text.specs.Lines.{spaced}
 use Rattle.hw_horizon.specs.Search.{Search, start_of}
 use Rattle.hw_explain.specs.Greatest.{member_text}
-use Rattle.hw_explain.specs.Searched.{start_or_zero, starts_in, members_in, words_in, part_in}
+use Rattle.hw_explain.specs.Searched.{start_or_zero, starts_in, words_in, part_in}
 
 -- ---- numbers in a row
 

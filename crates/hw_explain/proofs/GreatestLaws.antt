@@ -1,12 +1,10 @@
 -- What a search kept is what pruning finds.
-use Rattle.std.proofs.Common.{◌≡◌, ℕ, zero, suc, ◌⊎◌, ◌+◌, ◌-◌, ◌≤◌, ◌<◌, inl, inr, Bool, true, false, cond, List, [], ◌∷◌, ◌++◌, length, map, take, codes, Option, Some, None, refl, sym, ap, subst, ◌∙◌, arith}
+use Rattle.std.proofs.Common.{◌≡◌, ℕ, zero, suc, ◌⊎◌, ◌+◌, ◌-◌, ◌≤◌, ◌<◌, inl, inr, Bool, true, false, cond, List, [], ◌∷◌, length, map, take, codes, Option, Some, None, refl, sym, ap, subst, ◌∙◌, arith}
 use Rattle.std.specs.Prelude.{◌&&◌, ◌==◌, IsTrue, filter, is_some}
-use Rattle.std.specs.List.{flat_map, range_with_len}
+use Rattle.std.specs.List.{range_with_len}
 use Rattle.std.proofs.lemmas.Bool.{eqb-true, eq-eqb}
 use Rattle.std.proofs.lemmas.List.{take_all}
 use Rattle.hw_types.specs.declared.unit.Obs.{Obs}
-use Rattle.hw_types.specs.declared.unit.Digest.{Digest}
-use Rattle.hw_types.specs.declared.config.Config.{Config}
 use Rattle.hw_types.specs.declared.answers.Decision.{Decision}
 use Rattle.hw_types.specs.Graph.{Node, find_node}
 use Rattle.hw_types.specs.Below.{Among}
@@ -24,11 +22,11 @@ use Rattle.hw_safety.specs.Pruned.{Starts, start_in, or_zero, members, choose, l
 use Rattle.hw_safety.proofs.PrunedLaws.{summit_is_left, pruned_is_greatest, range_among}
 use Rattle.hw_safety.proofs.DecidedLaws.{decisions_are}
 use Rattle.hw_safety.proofs.HeightLaws.{one_block_each}
-use Rattle.hw_horizon.specs.Search.{Search, start_of, committees_of}
+use Rattle.hw_horizon.specs.Search.{Search, committees_of}
 use Rattle.hw_core.proofs.EndLaws.{all_at}
 use Rattle.hw_explain.specs.Explain.{starts_of, committee_words, committee_of}
 use Rattle.hw_explain.specs.Greatest.{member_text, member_with, members_with}
-use Rattle.hw_explain.specs.Searched.{IsDecidedNow, IsFound, start_or_zero, starts_in, members_in, words_in}
+use Rattle.hw_explain.specs.Searched.{IsDecidedNow, IsFound, words_in}
 
 -- ---- lists
 

@@ -1,5 +1,5 @@
 -- The decisions of a longer journal.
-use Rattle.std.proofs.Common.{◌≡◌, ◌⊎◌, inl, inr, ℕ, zero, suc, ◌+◌, ◌<◌, ◌≤◌, Bool, cond, List, [], ◌∷◌, ◌++◌, length, refl, sym, ap, subst, ◌∙◌, arith, length-append}
+use Rattle.std.proofs.Common.{◌≡◌, ◌⊎◌, inl, inr, ℕ, zero, suc, ◌+◌, ◌<◌, ◌≤◌, Bool, cond, List, [], ◌∷◌, ◌++◌, length, refl, sym, ap, ◌∙◌, arith, length-append}
 use Rattle.std.specs.Prelude.{filter, find, not, ◌||◌, ◌==◌, is_some, Option, Some, None, slice_get}
 use Rattle.std.specs.List.{flat_map, list_any, range_with_len}
 use Rattle.std.proofs.lemmas.List.{take-append-le, append_assoc, append-nil}
@@ -14,7 +14,6 @@ use Rattle.hw_types.proofs.EntryLaws.{append_cases}
 use Rattle.hw_safety.specs.Decided.{Moment, moment_of, moment, least_level, stood_at, fresh_at, decision_of, decision_at, decided_in, decisions_of}
 use Rattle.hw_safety.proofs.DecidedLaws.{decisions_are}
 use Rattle.hw_safety.proofs.HeightLaws.{one_block_each}
-use Rattle.hw_safety.proofs.DetectorLaws.{nothing_at_first}
 use Rattle.hw_core.proofs.EndLaws.{all_at}
 
 -- ---- lists over a range

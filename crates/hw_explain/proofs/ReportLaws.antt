@@ -12,9 +12,8 @@ use Rattle.hw_types.specs.declared.unit.Digest.{Digest}
 use Rattle.hw_types.specs.declared.unit.Obs.{Obs}
 use Rattle.hw_types.specs.declared.unit.Obs.TheVariants.{Absent, Correct, Faulty}
 use Rattle.hw_types.specs.declared.unit.Vertex.{Vertex}
-use Rattle.hw_types.specs.declared.config.Config.{Config}
 use Rattle.hw_types.specs.Graph.{Node, slot, is_faulty_mark}
-use Rattle.hw_types.specs.Settled.{Received, correct_or_absent, is_faulty, settled_of, panorama_of, tip_of}
+use Rattle.hw_types.specs.Settled.{correct_or_absent, is_faulty, panorama_of, tip_of}
 use Rattle.hw_types.specs.Journal.{Setting, received_of}
 use Rattle.hw_types.specs.Real.{CoreState, received_in, settled_in, panorama_in}
 use Rattle.hw_types.proofs.TipLaws.{slot_over}

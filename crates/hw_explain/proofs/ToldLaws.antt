@@ -1,16 +1,13 @@
 -- What is told, vertex by vertex.
-use Rattle.std.proofs.Common.{◌≡◌, ◌⊎◌, inl, inr, ℕ, zero, suc, ◌+◌, ◌==◌, ◌<◌, ◌≤◌, Bool, true, false, cond, List, [], ◌∷◌, ◌++◌, length, take, codes, Option, Some, None, refl, sym, ap, subst, ◌∙◌, arith, append-nil, length-append, append_assoc}
+use Rattle.std.proofs.Common.{◌≡◌, inl, inr, ℕ, ◌+◌, ◌≤◌, List, [], ◌∷◌, ◌++◌, length, take, codes, Some, refl, sym, ap, subst, ◌∙◌, arith, length-append}
 use Rattle.std.specs.Prelude.{slice_get}
 use Rattle.std.specs.List.{flat_map}
-use Rattle.std.proofs.lemmas.List.{take_all, take_more, take-append-le}
-use Rattle.std.proofs.lemmas.Bool.{eqb-true, eq-eqb}
-use Rattle.std.proofs.lemmas.Option.{slice_get_within, get_or_from_slice_get, slice_get_past}
+use Rattle.std.proofs.lemmas.List.{take_all, take-append-le}
+use Rattle.std.proofs.lemmas.Option.{slice_get_within}
 use Rattle.hw_types.specs.declared.unit.Vertex.{Vertex}
-use Rattle.hw_types.specs.declared.config.Config.{Config}
 use Rattle.hw_types.specs.declared.answers.Decision.{Decision}
 use Rattle.hw_types.specs.Below.{Among}
 use Rattle.hw_types.specs.Settled.{Received}
-use Rattle.hw_types.specs.Journal.{Setting}
 use Rattle.hw_types.specs.Real.{CoreState, setting_of, received_in}
 use Rattle.hw_safety.specs.Decided.{decisions_of, decided_in as decided_at}
 use Rattle.hw_text.specs.Lines.{line_of}
@@ -19,7 +16,7 @@ use Rattle.hw_core.specs.Decided.{decided_in}
 use Rattle.hw_core.proofs.DecidedLaws.{decided_is, found_at}
 use Rattle.hw_explain.specs.declared.told.Told.{Told}
 use Rattle.hw_explain.specs.Report.{exceeded_line, exceeded_in}
-use Rattle.hw_explain.specs.Explain.{explained_line, line_of_decision, explained_lines, explained_text, explained_in, line_if_new, line_now}
+use Rattle.hw_explain.specs.Explain.{explained_line, explained_lines, explained_text, explained_in}
 use Rattle.hw_explain.specs.Searched.{IsDecidedNow}
 use Rattle.hw_explain.specs.Told.{line_in, HasLines, HasTold, IsBehind, AreNewFrom}
 use Rattle.hw_explain.proofs.ReportLaws.{one_more}

@@ -1,4 +1,4 @@
-//! What a yes shows.
+//! What a yes shows, and that what is worked out of certificates and keys is what the relations say.
 
 ghost use Rattle.std.specs.Prelude.{◌≡◌, Any};
 ghost use Rattle.hw_types.specs.declared.answers.Decision.{Decision as Decided};
@@ -9,6 +9,7 @@ ghost use Rattle.hw_safety.specs.Verdicts.{IsVerdict, IsAccountable};
 ghost use Rattle.hw_core.specs.Decided.{decided_in};
 ghost use Rattle.hw_light.specs.Checked.{IsCertified};
 ghost use Rattle.hw_light.specs.Laws.{YesIsDecided, YesIsAccountable};
+ghost use Rattle.hw_light.specs.Worked.{KeysAreReadAlike, AnswerIsWorkedOut, AskedIsWorkedOut};
 
 use crate::certificate::Certificate;
 use hw_core::Core;
@@ -22,6 +23,7 @@ pub fn a_yes_is_accountable()
     ensures accountable { YesIsAccountable }
 {}
 
+<<<<<<< HEAD
 /// The second of these of a node in hand, beside the node of a yes: `Core::state` says of each node what the law asks
 /// for.
 pub fn who_decided_otherwise_is_accountable(certificate: &Certificate, yes: &Core, other: &Core)
@@ -33,3 +35,15 @@ pub fn who_decided_otherwise_is_accountable(certificate: &Certificate, yes: &Cor
     // These two stand in the contract alone.
     let _ = (certificate, yes);
 }
+=======
+/// A text of keys says one thing to a node that serves and to a check of a certificate.
+pub fn keys_are_read_alike()
+    ensures { KeysAreReadAlike }
+{}
+
+/// What a check answers, and what a node tells of a certificate that it is asked for, are what is worked out.
+pub fn answers_are_worked_out()
+    ensures checked { AnswerIsWorkedOut }
+    ensures asked { AskedIsWorkedOut }
+{}
+>>>>>>> headline/headline

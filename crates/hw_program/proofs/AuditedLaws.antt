@@ -1,8 +1,7 @@
 -- An audit tells the verdict on the two nodes.
 use Rattle.std.proofs.Common.{◌≡◌, ℕ, inl, inr, Bool, true, false, cond, not, List, [], ◌∷◌, Option, Some, None, Result, Ok, Err, refl, sym, ap, subst, ◌∙◌}
-use Rattle.std.specs.Prelude.{◌&&◌, find}
+use Rattle.std.specs.Prelude.{find}
 use Rattle.std.specs.Option.{option_map, option_or}
-use Rattle.hw_types.specs.declared.unit.WireUnit.{WireUnit}
 use Rattle.hw_types.specs.declared.unit.SignedUnit.{SignedUnit}
 use Rattle.hw_types.specs.declared.unit.Vertex.{Vertex}
 use Rattle.hw_types.specs.declared.config.Config.{Config}
@@ -17,7 +16,7 @@ use Rattle.hw_types.specs.Real.{setting_of}
 use Rattle.hw_types.proofs.DecisionLaws.{decisions_one}
 use Rattle.hw_types.proofs.SettledLaws.{digest_self, digest_same}
 use Rattle.hw_types.proofs.StableLaws.{and_parts, and_whole}
-use Rattle.hw_types.proofs.WordsLaws.{not_true, not_false}
+use Rattle.hw_types.proofs.WordsLaws.{not_true}
 use Rattle.hw_safety.specs.Decided.{decisions_of}
 use Rattle.hw_safety.specs.declared.verdict.Verdict.{Verdict}
 use Rattle.hw_safety.specs.declared.verdict.Verdict.TheVariants as verdict

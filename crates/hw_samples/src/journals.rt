@@ -5,6 +5,10 @@ ghost use Rattle.hw_samples.specs.Forks.{ForkAboveTheThreshold, MarkNeedsEvidenc
 ghost use Rattle.hw_samples.specs.Chains.{HeaviestPath, SingleValidatorDecides, TwoLevelsWhereOneIsSilent, NoBlockAfterTheLast};
 ghost use Rattle.hw_samples.specs.Steps.{StepsAtTheBeginning, StepsAfterABlock, StepsAtTheEnd, NoStep};
 ghost use Rattle.hw_samples.specs.Gathered.{HandMadeJournals, RandomJournals, RandomDecisions};
+ghost use Rattle.hw_samples.specs.RandomCases1.{RandomCases1};
+ghost use Rattle.hw_samples.specs.RandomCases2.{RandomCases2};
+ghost use Rattle.hw_samples.specs.RandomCases3.{RandomCases3};
+ghost use Rattle.hw_samples.specs.RandomCases4.{RandomCases4};
 
 /// Four units in order: the block is decided by two validators that see each other.
 pub fn four_units_in_order()
@@ -124,4 +128,12 @@ pub fn random_journals()
 /// Random journals with what they decide, by another reading of the definitions.
 pub fn random_decisions()
     ensures { RandomDecisions }
+{}
+
+/// Random journals with evidence, endorsements, refusals and limits, by yet another reading of the definitions.
+pub fn random_cases()
+    ensures first { RandomCases1 }
+    ensures second { RandomCases2 }
+    ensures third { RandomCases3 }
+    ensures fourth { RandomCases4 }
 {}

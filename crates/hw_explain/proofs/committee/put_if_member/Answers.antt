@@ -1,8 +1,4 @@
-use Rattle.std.proofs.Common.{◌≡◌, ◌++◌, Result, Ok, Err, List, ℕ, sym, ◌∙◌}
-use Rattle.std.specs.Prelude.{OnOk}
-use Rattle.hw_text.specs.Lines.{spaced}
-use Rattle.hw_explain.specs.Greatest.{member_text}
-use Rattle.hw_explain.specs.Searched.{starts_in, part_in}
+use Rattle.std.proofs.Common.{sym, ◌∙◌}
 use Rattle.hw_explain.proofs.CommitteeLaws.{part_some, part_none, on_ok}
 use Rattle.hw_explain.proofs.committee.put_if_member.Goals as goal
 

@@ -1,4 +1,4 @@
-use Rattle.std.proofs.Common.{sym, subst, ap, ◌∙◌}
+use Rattle.std.proofs.Common.{sym, subst}
 use Rattle.hw_types.specs.Real.{CoreState}
 use Rattle.hw_explain.specs.Told.{HasTold}
 use Rattle.hw_explain.proofs.logs.tell_all.Goals as goal

@@ -1,4 +1,4 @@
-use Rattle.std.proofs.Common.{◌≡◌, ◌++◌, List, ℕ, sym, ap, ◌∙◌}
+use Rattle.std.proofs.Common.{◌≡◌, ◌++◌, ap, ◌∙◌}
 use Rattle.hw_types.specs.Real.{received_in}
 use Rattle.hw_explain.specs.declared.told.Told.{Told}
 use Rattle.hw_explain.specs.Report.{exceeded_line, exceeded_in}

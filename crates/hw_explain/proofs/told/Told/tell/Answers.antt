@@ -1,5 +1,5 @@
 use Rattle.std.proofs.Common.{arith}
-use Rattle.hw_explain.proofs.ToldLaws.{behind_lines, behind_new, behind_within}
+use Rattle.hw_explain.proofs.ToldLaws.{behind_lines, behind_new}
 use Rattle.hw_explain.proofs.told.Told.tell.Goals as goal
 
 pub loop-index-init : goal.loop-index-init

@@ -1,4 +1,4 @@
-use Rattle.hw_explain.specs.Told.{HasLines, AreNewFrom}
+use Rattle.hw_explain.specs.Told.{HasLines}
 use Rattle.hw_explain.proofs.told.Told.tell.Given as goal
 
 abbrev pub invariant-loop-index : goal.invariant-loop-index
