@@ -4,11 +4,11 @@ ghost use Rattle.std.specs.Prelude.{◌≡◌, Some, None, Option, option_map};
 ghost use Rattle.hw_c.specs.Held.{Held, held_coded, held_owns, value_in, boxed_in};
 
 use crate::content::Content;
+use hw_core::Core;
 use std::alloc::Global;
 use std::marker::Model;
 use std::mem::replace;
 use std::ptr::null_mut;
-use hw_core::Core;
 
 /// A place for a node: a pointer, which is null while there is none.
 #[repr(C)]

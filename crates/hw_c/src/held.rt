@@ -138,7 +138,12 @@ pub fn read_unmet(alloc: Global, core: &mut Handle, list: &mut [Missing]) -> Res
 }
 
 /// The vertex of that place among those that the node has for the need, as bytes.
-pub fn read_for_need(alloc: Global, core: &mut Handle, missing: &Missing, place: usize) -> Result<Bytes, Fault>
+pub fn read_for_need(
+    alloc: Global,
+    core: &mut Handle,
+    missing: &Missing,
+    place: usize,
+) -> Result<Bytes, Fault>
     ensures { Reads (λ c. IsForNeed c missing.now place) core.old.held result core.new.held }
 {
     let Some(node) = core.take(alloc) else {
@@ -150,7 +155,13 @@ pub fn read_for_need(alloc: Global, core: &mut Handle, missing: &Missing, place:
 }
 
 /// The unit that the validator may make at this moment, as bytes without a signature.
-pub fn read_next(alloc: Global, core: &mut Handle, me: u32, now: u64, value: &[u8]) -> Result<Step, Fault>
+pub fn read_next(
+    alloc: Global,
+    core: &mut Handle,
+    me: u32,
+    now: u64,
+    value: &[u8],
+) -> Result<Step, Fault>
     ensures { Reads (λ c. IsStep c me now value.now) core.old.held result core.new.held }
 {
     let Some(node) = core.take(alloc) else {

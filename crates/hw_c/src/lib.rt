@@ -49,12 +49,11 @@ pub use codes::Answer;
 pub use handle::Handle;
 pub use light::Judged;
 pub use needs::Missing;
+use put::{put, put_bytes, put_bytes_with, put_done, put_receipt, put_with};
 pub use settings::Settings;
 pub use signed::{Signed, Signer};
-pub use steps::Planned;
-
-use put::{put, put_bytes, put_bytes_with, put_done, put_receipt, put_with};
 use std::alloc::Global;
+pub use steps::Planned;
 
 /// The bytes of the configuration with these fields.
 #[unsafe(no_mangle)]
@@ -89,10 +88,7 @@ pub extern "C" fn hw_core_new(
 
 /// Lets the node of a handle go, which is empty then.
 #[unsafe(no_mangle)]
-pub extern "C" fn hw_core_free(
-    alloc: Global,
-    core: &mut Handle,
-) -> u32
+pub extern "C" fn hw_core_free(alloc: Global, core: &mut Handle) -> u32
     ensures { (r : Result Unit Fault) × Ends core.old.held r core.new.held × (result ≡ status r) }
 {
     let outcome = held::end(alloc, core);
@@ -145,11 +141,7 @@ pub extern "C" fn hw_journal(
 
 /// How much the node has of what, the weight of its faulty validators, and its fork choice.
 #[unsafe(no_mangle)]
-pub extern "C" fn hw_summary(
-    alloc: Global,
-    core: &mut Handle,
-    summary: &mut Summary,
-) -> u32
+pub extern "C" fn hw_summary(alloc: Global, core: &mut Handle, summary: &mut Summary) -> u32
     ensures { (r : Result Summary Fault) × Reads IsSummary core.old.held r core.new.held × Puts r summary.old summary.new result }
 {
     let outcome = held::read_summary(alloc, core);

@@ -9,7 +9,9 @@ use crate::codes::{Fault, cause_status, config_status};
 use crate::signed::{Signed, signed_of};
 use hw_codec::instance_of;
 use hw_core::Core;
-use hw_light::{Certified, CheckFault, Checked, certify, check, decode_certificate, encode_certificate};
+use hw_light::{
+    Certified, CheckFault, Checked, certify, check, decode_certificate, encode_certificate,
+};
 use hw_types::{Bytes, Digest};
 use std::alloc::Global;
 

@@ -82,12 +82,7 @@ pub fn unmet(alloc: Global, core: &Core, list: &mut [Missing]) -> Result<usize, 
 }
 
 /// The vertex of that place among those that the node has for the need, as bytes.
-pub fn for_need(
-    alloc: Global,
-    core: &Core,
-    missing: &Missing,
-    place: usize,
-) -> Result<Bytes, Fault>
+pub fn for_need(alloc: Global, core: &Core, missing: &Missing, place: usize) -> Result<Bytes, Fault>
     ensures { IsForNeed core.now missing.now place result }
 {
     let Some(need) = need_of(missing) else {

@@ -5,7 +5,9 @@ ghost use Rattle.hw_c.specs.Settings.{leaders_with, config_with, end_with, IsCon
 
 use crate::codes::Fault;
 use hw_codec::encode_config;
-use hw_types::{Bytes, Config, IndexList, Leaders, MAX_LEADERS, MAX_VALIDATORS, OutOfMemory, WeightList};
+use hw_types::{
+    Bytes, Config, IndexList, Leaders, MAX_LEADERS, MAX_VALIDATORS, OutOfMemory, WeightList,
+};
 use std::alloc::Global;
 
 /// The fields of a configuration that are no list. Who leads is drawn by the key where `is_drawn` isn't 0, else told

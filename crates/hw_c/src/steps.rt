@@ -116,11 +116,7 @@ pub fn put_step(outcome: Result<Step, Fault>, planned: &mut Planned, buf: &mut [
 }
 
 /// The vertex of a unit with its creator's signature, as bytes.
-pub fn with_signature(
-    alloc: Global,
-    unit: &[u8],
-    signature: &[u8; 32],
-) -> Result<Bytes, Fault>
+pub fn with_signature(alloc: Global, unit: &[u8], signature: &[u8; 32]) -> Result<Bytes, Fault>
     ensures { IsWithSignature unit.now signature.now result }
 {
     let unit = decode_unit(alloc, unit)?;
