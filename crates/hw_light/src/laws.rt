@@ -23,7 +23,6 @@ pub fn a_yes_is_accountable()
     ensures accountable { YesIsAccountable }
 {}
 
-<<<<<<< HEAD
 /// The second of these of a node in hand, beside the node of a yes: `Core::state` says of each node what the law asks
 /// for.
 pub fn who_decided_otherwise_is_accountable(certificate: &Certificate, yes: &Core, other: &Core)
@@ -35,7 +34,7 @@ pub fn who_decided_otherwise_is_accountable(certificate: &Certificate, yes: &Cor
     // These two stand in the contract alone.
     let _ = (certificate, yes);
 }
-=======
+
 /// A text of keys says one thing to a node that serves and to a check of a certificate.
 pub fn keys_are_read_alike()
     ensures { KeysAreReadAlike }
@@ -46,4 +45,3 @@ pub fn answers_are_worked_out()
     ensures checked { AnswerIsWorkedOut }
     ensures asked { AskedIsWorkedOut }
 {}
->>>>>>> headline/headline

@@ -46,10 +46,9 @@ pub use encoding::encode_certificate;
 pub use error::CertError;
 pub use errors::{put_codec, put_error, put_limit};
 pub use keys::read_keys;
-<<<<<<< HEAD
-pub use laws::{a_yes_is_accountable, who_decided_otherwise_is_accountable};
-=======
-pub use laws::{a_yes_is_accountable, answers_are_worked_out, keys_are_read_alike};
->>>>>>> headline/headline
+pub use laws::{
+    a_yes_is_accountable, answers_are_worked_out, keys_are_read_alike,
+    who_decided_otherwise_is_accountable,
+};
 pub use lines::{put_asked, put_fault};
 pub use ranges::certificate_is_in_range;
