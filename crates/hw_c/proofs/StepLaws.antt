@@ -1,6 +1,5 @@
 -- What a node's state plans is what its journal plans.
-use Rattle.std.proofs.Common.{◌≡◌, ℕ, List, [], Option, sym, ap, refl, ◌∙◌}
-use Rattle.hw_types.specs.declared.answers.Plan.{Plan}
+use Rattle.std.proofs.Common.{◌≡◌, ℕ, List, [], sym, ap, refl, ◌∙◌}
 use Rattle.hw_types.specs.declared.config.Config.{Config}
 use Rattle.hw_types.specs.declared.unit.Digest.{Digest}
 use Rattle.hw_types.specs.declared.unit.Obs.{Obs}

@@ -1,8 +1,6 @@
 -- What each call answers of a node, or of bytes.
 -- Source: ours.
-use Rattle.std.specs.Prelude.{◌≡◌, ◌≢◌, ◌⊎◌, ℕ, ◌+◌, ◌^◌, ◌<◌, ◌≤◌, Bool, List, [], ◌++◌, length, map, take, drop, slice_get, Option, Some, None, Result, Ok, Err, if◌then◌else◌}
-use Rattle.hw_types.specs.declared.unit.Digest.{Digest}
-use Rattle.hw_types.specs.declared.unit.Need.{Need}
+use Rattle.std.specs.Prelude.{◌≡◌, ℕ, ◌<◌, ◌≤◌, Bool, List, [], ◌++◌, length, map, take, drop, slice_get, Some, None, Result, Ok, Err}
 use Rattle.hw_types.specs.declared.unit.WireUnit.{WireUnit}
 use Rattle.hw_types.specs.declared.unit.Vertex.{Vertex}
 use Rattle.hw_types.specs.declared.unit.Vertex.TheVariants as vertex
