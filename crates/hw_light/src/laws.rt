@@ -32,7 +32,8 @@ pub fn who_decided_otherwise_is_accountable(certificate: &Certificate, yes: &Cor
 {
     let _state = other.state();
     // These two stand in the contract alone.
-    let _ = (certificate, yes);
+    let _ = certificate;
+    let _ = yes;
 }
 
 /// A text of keys says one thing to a node that serves and to a check of a certificate.
