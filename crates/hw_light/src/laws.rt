@@ -31,5 +31,6 @@ pub fn who_decided_otherwise_is_accountable(certificate: &Certificate, yes: &Cor
 {
     let _state = other.state();
     // These two stand in the contract alone.
-    let _ = (certificate, yes);
+    let _ = certificate;
+    let _ = yes;
 }
