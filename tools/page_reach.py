@@ -18,9 +18,12 @@ NO_NAME = {"use", "mod", "infix", "infixl", "infixr"}
 
 
 def first_asked(page, place, crate):
-    """Returns the keys of the functions to ask first about a page that changes more than bodies."""
+    """Returns the keys of the functions to ask first about a page that changes more than bodies, and those to ask next
+    if none of these is refused."""
     texts = {it: text_of(f"{crate.folder}/{it}") for it in files_of(crate.folder, ("src", "specs"))}
-    return place.functions or reached(names_changed(page, texts), texts) or in_files(page, texts)
+    layers = list(reached(names_changed(page, texts), texts))
+    first = place.functions or (layers[0] if layers else in_files(page, texts))
+    return first, set().union(*layers) - first
 
 
 def names_changed(page, texts):
@@ -57,16 +60,15 @@ def declared_by(row):
 
 
 def reached(names, texts):
-    """Returns the keys of the functions that name one of these, or else that name a definition that rests on them."""
+    """Gives the keys of the functions that name one of these, then with those that name a definition that rests on them,
+    and so on; each time more than before."""
+    found = set()
     while names:
-        found = {key for file, text in texts.items() if file.startswith("src/") for key in naming(file, text, names)}
-        if found:
-            return found
+        now = {key for file, text in texts.items() if file.startswith("src/") for key in naming(file, text, names)}
+        if now > found:
+            yield now
         above = names | {it for file, text in texts.items() if file.startswith("specs/") for it in resting(text, names)}
-        if above == names:
-            return set()
-        names = above
-    return set()
+        found, names = now, above if above != names else set()
 
 
 def naming(file, text, names):

@@ -452,6 +452,10 @@ class Trials(InRepository):
         self.put("crates/top/must-fail/seven.md", "# It.\nfile: specs/Far.antt\nold: nat_lt 7\nnew: nat_lt 8\n")
         self.tried(lambda texts: answer("top::laws::far_is_kept", only=1), "seven.md")
         self.assertEqual(self.asked, [["laws::far_is_kept", "alone"]])
+        # where none of them is refused, those that rest on it further are, and then the whole crate
+        self.put("crates/top/specs/Further.antt", "pub Other : Type 0\nOther = StaysFar\n")
+        self.tried(lambda texts: answer(status=0), "seven.md")
+        self.assertEqual(self.asked, [["laws::far_is_kept", "alone"], ["laws::other", "alone"], []])
 
     def test_pages_that_meet_in_a_function_do_not(self):
         asked = []
@@ -692,11 +696,14 @@ class AgainstTheToolchain(unittest.TestCase):
 
     @unittest.skipUnless(built_interfaces(), "no library is built here")
     def test_no_head_is_lost(self):
+        found = 0
         for crate, folder in built_interfaces():
             theirs = self.heads(folder, ["."], str)
             ours = self.heads(crate.folder, ["src"], interface_of)
-            self.assertTrue(theirs, crate.name)
+            found += bool(theirs)
             self.assertEqual(theirs - ours, set(), crate.name)
+        # (a library of tests alone has none)
+        self.assertTrue(found)
 
 
 if __name__ == "__main__":

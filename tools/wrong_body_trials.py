@@ -21,12 +21,13 @@ REFUSED, PROVED, FAULTY, UNTRIED = "refused", "proved", "faulty", "untried"
 
 @dataclass
 class Case:
-    """A page that is tried: where it stands, the functions that are asked about it, what kind of check it needs next,
-    and what came of it."""
+    """A page that is tried: where it stands, the functions that are asked about it, those to ask if none of them is
+    refused, what kind of check it needs next, and what came of it."""
 
     page: object
     place: object
     keys: set = field(default_factory=set)
+    further: set = field(default_factory=set)
     is_alone: bool = False
     is_with_called: bool = False
     is_whole: bool = False
@@ -64,8 +65,8 @@ class Trial:
         """Returns a page as it is tried first."""
         place = place_of(page, self.crate.folder)
         if place.is_beyond_bodies:
-            keys = first_asked(page, place, self.crate)
-            return Case(page, place, keys, is_alone=True, is_whole=not keys)
+            keys, further = first_asked(page, place, self.crate)
+            return Case(page, place, keys, further, is_alone=True, is_whole=not keys)
         return Case(page, place, place.functions)
 
     def left(self):
@@ -129,9 +130,10 @@ class Trial:
             self.judge_in_company(batch, answer)
 
     def ask_all(self, cases):
-        """Has pages tried in the whole crate, each alone."""
+        """Has pages tried in the whole crate, each alone, or first by further functions where some may see the change."""
         for it in cases:
-            it.is_alone = it.is_whole = True
+            it.is_alone, it.is_whole = True, not it.further
+            it.keys, it.further = it.further or it.keys, set()
 
     def judge_stubbed(self, batch, answer):
         """Settles the pages of which a function is refused for itself, with a goal of its own that is open. If nothing
