@@ -11,7 +11,7 @@ use Rattle.hw_light.specs.declared.answers.Certified.TheVariants.{NotNow}
 use Rattle.hw_light.specs.declared.answers.Checked.{Checked}
 use Rattle.hw_light.specs.declared.answers.Checked.TheVariants.{Yes, No}
 use Rattle.hw_light.specs.declared.answers.CheckFault.TheVariants as fault
-use Rattle.hw_light.specs.Certify.{IsMade, IsTooLong, IsCertifiedAs, IfDelivered, IsYesFor}
+use Rattle.hw_light.specs.Certify.{IsMade, IsTooLong, IsCertifiedAs, IsYesFor}
 use Rattle.hw_light.specs.Checked.{IsAnswer, IfYes, IsCertified}
 use Rattle.hw_light.specs.Reading.{certificate_of, IsErrorOf}
 use Rattle.hw_light.specs.Spelling.{SpellsCertificate}
@@ -26,7 +26,7 @@ use Rattle.hw_c.specs.Told.{config_status, cause_status}
 -- The certificate of the decided block of that place, which is answered yes where its signatures are right; or why there is none:
 -- the place is none, the block doesn't stand now, or there would be more vertices than a journal may have.
 abbrev pub IsCertificate : CoreState → ℕ → Result (List ℕ) Fault → Type 0
-IsCertificate c index (Ok bytes) = (made : Certificate) × IsMade c index made × IfDelivered c (IsYesFor made) × SpellsCertificate bytes made
+IsCertificate c index (Ok bytes) = (made : Certificate) × IsMade c index made × IsYesFor made × SpellsCertificate bytes made
 IsCertificate c index (Err why.OutOfRange) = length (decided_in c) ≤ index
 IsCertificate c index (Err why.Nothing) = IsCertifiedAs c index NotNow
 IsCertificate c index (Err why.TooLong) = (count : ℕ) × IsTooLong c index count
