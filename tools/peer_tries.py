@@ -91,7 +91,10 @@ class Network:
 
     def instance(self):
         """The digest of the configuration, whose length stands in the header of a log."""
-        data = (self.room / "hub" / "node.log").read_bytes()
+        log, ended = self.room / "hub" / "node.log", time.monotonic() + 10
+        while not log.exists() and time.monotonic() < ended:
+            time.sleep(0.05)
+        data = log.read_bytes()
         return hashlib.sha256(data[9:9 + int.from_bytes(data[5:9])]).digest()
 
     def lines(self, name, part):
