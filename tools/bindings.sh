@@ -16,7 +16,17 @@ step() {
     "${@:2}" || failed+=("$1")
 }
 
-library() { (cd crates/hw_c && rt lib); }
+# The archive, over the libraries that were proved; without any below, there is nothing to test.
+archive() {
+    has rt "all of it" && has python3 "the archive" || return
+    echo "bindings: the archive"
+    python3 -B tools/bindings_archive.py
+    case $? in
+        0) built=yes ;;
+        3) echo "bindings: skipped, since there is no archive" ;;
+        *) failed+=("the archive") ;;
+    esac
+}
 rust() { (cd bindings/rust && cargo --offline test --quiet); }
 examples() { (cd bindings/rust && cargo --offline run --quiet --example node && cargo --offline run --quiet --example audit); }
 
@@ -33,18 +43,17 @@ clean() {
         "$program/replay" crates/highway/data/both.hwlg 20
 }
 
-if has rt "all of it"; then
-    step "the archive" library
-    if [ -f crates/hw_c/out/libhw_c.a ]; then
-        if has cargo "the crate for Rust"; then
-            step "the tests of the crate" rust
-            step "its examples" examples
-        fi
-        if has cc "the program in C"; then
-            step "the program in C" build
-            [ -x "$program/replay" ] && step "a million deliveries" million
-            [ -x "$program/replay" ] && has valgrind "no leak, no bad access" && step "no leak, no bad access" clean
-        fi
+built=
+archive
+if [ -n "$built" ]; then
+    if has cargo "the crate for Rust"; then
+        step "the tests of the crate" rust
+        step "its examples" examples
+    fi
+    if has cc "the program in C"; then
+        step "the program in C" build
+        [ -x "$program/replay" ] && step "a million deliveries" million
+        [ -x "$program/replay" ] && has valgrind "no leak, no bad access" && step "no leak, no bad access" clean
     fi
 fi
 has python3 "the numbers in all texts" && step "the numbers in all texts" python3 -B tools/bindings_numbers.py
