@@ -4,6 +4,7 @@ pub mod OpenLaws
 pub mod HeadLaws
 pub mod LengthLaws
 pub mod EntryLaws
+pub mod AheadLaws
 pub mod NameLaws
 pub mod RunLaws
 pub mod MoreLaws

@@ -10,7 +10,8 @@ use Rattle.hw_types.specs.Spelling.{unit_bytes, digest_of}
 use Rattle.hw_types.specs.Reading.{vertex_of}
 use Rattle.hw_codec.specs.Ranges.{AreBytes}
 use Rattle.hw_codec.proofs.Spelled.{vertex_read_spells, vertex_read_in_range}
-use Rattle.hw_log.specs.Named.{IsNameOf}
+use Rattle.hw_lanes.specs.declared.pieces.Part.{Part}
+use Rattle.hw_log.specs.Named.{IsNameOf, NamesUnit}
 
 long : (bytes unit signature : List ℕ) (kind : ℕ) → bytes ≡ kind ∷ (unit ++ signature) → length bytes ≡ 1 + length unit + length signature
 long bytes unit signature kind is = let same = ap (λ (l : List ℕ). length l) is in omega (arith, length-append unit signature)
@@ -30,12 +31,16 @@ holds_unit bytes v s are read is =
     omega arith
 
 -- the digest of what stands between is the unit's name
-pub named_between : (bytes unit digest : List ℕ) (v : Vertex) (s : SignedUnit) → AreBytes bytes → vertex_of bytes ≡ Ok v → v ≡ vertex.Unit s
-    → unit ≡ slice_range bytes 1 (length bytes - 32) → digest ≡ sha256 unit → IsNameOf v (record { 0 = digest })
+pub names_unit : (bytes : List ℕ) (part : Part) (v : Vertex) (s : SignedUnit) → AreBytes bytes → vertex_of bytes ≡ Ok v → v ≡ vertex.Unit s
+    → part ≡ record { start = 1; end = length bytes - 32 } → NamesUnit v bytes part
 unfolding digest_of
-named_between bytes unit digest v s are read is part hashed =
+names_unit bytes part v s are read is part_is =
+    let more = holds_unit bytes v s are read is in
     let read' = read ∙ ap Ok is in
     let spelled = (vertex_read_spells bytes (vertex.Unit s) are read').is in
     let size = (vertex_read_in_range bytes (vertex.Unit s) are read').signature.size in
-    let whole = hashed ∙ ap sha256 (part ∙ between bytes (unit_bytes s.unit) s.signature.0 1 32 spelled size) in
-    subst (λ (w : Vertex). IsNameOf w (record { 0 = digest })) (sym is) (ap (λ (h : List ℕ). record { 0 = h }) whole)
+    let whole : sha256 (slice_range bytes 1 (length bytes - 32)) ≡ sha256 (unit_bytes s.unit) = ap sha256 (between bytes (unit_bytes s.unit) s.signature.0 1 32 spelled size) in
+    rw part_is (
+      (omega arith, omega arith),
+      subst (λ (w : Vertex). IsNameOf w (record { 0 = sha256 (slice_range bytes 1 (length bytes - 32)) })) (sym is) (ap (λ (h : List ℕ). record { 0 = h }) whole),
+    )

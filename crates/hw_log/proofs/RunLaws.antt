@@ -1,11 +1,12 @@
 -- A reader goes through a log: for loops over `next`.
-use Rattle.std.proofs.Common.{◌≡◌, ℕ, List, [], ◌∷◌, ◌++◌, Option, Some, None, Result, Ok, Err, sym, ap, ◌∙◌, append_assoc}
+use Rattle.std.proofs.Common.{◌≡◌, ℕ, List, [], ◌∷◌, ◌++◌, Option, Some, None, Result, Ok, Err, refl, sym, ap, ◌∙◌, append_assoc}
 use Rattle.std.proofs.lemmas.List.{append-nil}
 use Rattle.hw_types.specs.declared.config.Config.{Config}
 use Rattle.hw_log.specs.declared.entry.LogEntry.{LogEntry}
 use Rattle.hw_log.specs.declared.error.LogError.{LogError}
 use Rattle.hw_log.specs.Log.{◌>>=◌, Left, header_of, next_at, Entries, with_next, entries_of, log_of}
-use Rattle.hw_log.specs.Reader.{Reading, left_of, behind_given, StandsBehind}
+use Rattle.hw_log.specs.Reader.{Reading, left_of, behind_given, StandsBehind, Opens}
+use Rattle.hw_log.specs.Whole.{SaysWhole}
 use Rattle.hw_log.proofs.EntryLaws.{entries_next}
 
 abbrev pub with_entries : Config × Left → Result (Config × Entries) LogError
@@ -52,3 +53,10 @@ pub stands_at_fault : (bytes : List ℕ) (given : List LogEntry) (reader : Readi
 stands_at_fault bytes given reader unread e stands said =
     says_next bytes given reader unread (Err e) stands said
     ∙ ap (λ (l : List LogEntry). Ok (reader.config, record { given = l; fault = Some e })) (append-nil given)
+
+-- a log that was read to its end says the entries that were given
+pub says_whole : (file : Option (List ℕ)) (reader : Reading) (unread : List ℕ) (config : Config) (entries : List LogEntry) → Opens file unread (Ok reader)
+    → ((bytes : List ℕ) → StandsBehind bytes [] reader unread → log_of bytes ≡ Ok (config, record { given = entries; fault = None }))
+    → SaysWhole file (record { config = config; entries = entries })
+says_whole None reader unread config entries opens said = absurd opens
+says_whole (Some bytes) reader unread config entries opens said = record { bytes = bytes; there = refl; says = said bytes (stands_first bytes reader unread opens) }

@@ -4,13 +4,14 @@ ghost use Rattle.std.specs.Prelude.{◌≡◌, Some, None, Ok, set, replicate, I
 ghost use Rattle.hw_types.specs.Spelling.{Fits, VertexFits};
 ghost use Rattle.hw_codec.specs.Decoded.{IsErrorOf};
 ghost use Rattle.hw_codec.specs.Last.{last_of};
-ghost use Rattle.hw_log.specs.Named.{IsNameOf};
+ghost use Rattle.hw_log.specs.Named.{NamesUnit};
 ghost use Rattle.hw_log.specs.Lasts.{IsVersion, no_lasts, noted_in, with_noted, vertex_bytes_in, vertex_in};
 
 use crate::head::FULL;
-use crate::name::name_in;
+use crate::name::unit_in;
 use hw_codec::{Last, decode_vertex, decode_vertex_after, encode_vertex, encode_vertex_after};
-use hw_types::{Bytes, CodecError, Digest, OutOfMemory, Vertex, WireUnit};
+use hw_lanes::Part;
+use hw_types::{Bytes, CodecError, OutOfMemory, Vertex, WireUnit};
 use std::alloc::Global;
 use std::marker::Model;
 
@@ -140,14 +141,14 @@ impl Lasts {
         }
     }
 
-    /// The name of the unit that these bytes spell here, where they hold the whole of it: in version 1, of a vertex
+    /// The part of these bytes that spells the unit of the vertex, where they hold the whole of it: in version 1, of a vertex
     /// that is a unit.
-    pub(crate) fn name_in(&self, vertex: &Vertex, bytes: &[u8]) -> Option<Digest>
+    pub(crate) fn unit_in(&self, vertex: &Vertex, bytes: &[u8]) -> Option<Part>
         requires { vertex_in self.now bytes.now ≡ Ok vertex.now }
-        ensures { IfSome result (IsNameOf vertex.now) }
+        ensures { IfSome result (NamesUnit vertex.now bytes.now) }
     {
         if self.version == FULL {
-            name_in(vertex, bytes)
+            unit_in(vertex, bytes)
         } else {
             None
         }

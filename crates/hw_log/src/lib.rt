@@ -8,6 +8,7 @@
 //! it goes on from that one. [`Lasts`] keeps what that takes of the last unit of each validator.
 #![tactic(auto)]
 
+mod ahead;
 mod entry;
 mod error;
 mod file;

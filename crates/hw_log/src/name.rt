@@ -1,31 +1,34 @@
-//! The names of units, from bytes that spell them.
+//! Where in the bytes of a log that stands of which a unit's name is the digest.
 
-ghost use Rattle.std.specs.Prelude.{◌≡◌, ◌<◌, ◌-◌, length, slice_range, Ok, IfSome};
+ghost use Rattle.std.specs.Prelude.{◌≡◌, ◌+◌, ◌-◌, ◌<◌, Ok, IfSome};
 ghost use Rattle.hw_types.specs.Reading.{vertex_of};
-ghost use Rattle.hw_log.specs.Named.{IsNameOf};
+ghost use Rattle.hw_log.specs.Named.{NamesUnit};
 
-use hw_types::{Digest, Vertex};
-use sha2::{Digest as _, Sha256};
+use hw_lanes::Part;
+use hw_types::Vertex;
 
 /// How many bytes a signature has.
-const SIGNATURE_LENGTH: usize = 32;
+pub(crate) const SIGNATURE_LENGTH: usize = 32;
 
-/// The name of a unit, from the bytes that are its vertex in the full form; None of another vertex. The unit's own
-/// spelling is a part of these, so that nothing has to be spelled again.
-pub(crate) fn name_in(vertex: &Vertex, bytes: &[u8]) -> Option<Digest>
+/// The part of these bytes that spells the unit, where they are its vertex in the full form; None of another vertex. So
+/// nothing has to be spelled again for the unit's name.
+pub(crate) fn unit_in(vertex: &Vertex, bytes: &[u8]) -> Option<Part>
     requires { vertex_of bytes.now ≡ Ok vertex.now }
-    ensures { IfSome result (IsNameOf vertex.now) }
+    ensures { IfSome result (NamesUnit vertex.now bytes.now) }
 {
     match vertex {
-        Vertex::Unit(_) => Some(Digest(Sha256::digest(unit_in(bytes)))),
+        Vertex::Unit(_) => Some(unit_part(0, bytes.len())),
         Vertex::Evidence(_) | Vertex::Endorsement(_) => None,
     }
 }
 
 /// What stands between the kind and the signature of a unit's vertex.
-fn unit_in(bytes: &[u8]) -> &[u8]
-    requires { SIGNATURE_LENGTH < length bytes.now }
-    ensures { result.now ≡ slice_range bytes.now 1 (length bytes.now - SIGNATURE_LENGTH) }
+pub(crate) fn unit_part(start: usize, end: usize) -> Part
+    requires { start + SIGNATURE_LENGTH < end }
+    ensures { result ≡ record { start = start + 1; end = end - SIGNATURE_LENGTH } }
 {
-    &bytes[1..bytes.len() - SIGNATURE_LENGTH]
+    Part {
+        start: start + 1,
+        end: end - SIGNATURE_LENGTH,
+    }
 }

@@ -9,15 +9,17 @@ ghost use Rattle.hw_log.specs.declared.error.LogError.TheVariants.{Torn, BadConf
 ghost use Rattle.hw_log.specs.Lasts.{IsVersion, lasts_after, vertex_in};
 ghost use Rattle.hw_log.specs.Log.{rest_at, bytes_at, decoded, front_of, checked_config, header_of, head_at, body_at, entry_at, next_at};
 ghost use Rattle.hw_log.specs.Causes.{Fails, IsOutside, IsOfBytes, Gives, HasReadCause, IsReadAbout};
-ghost use Rattle.hw_log.specs.Named.{IsNameOf, entry_in, unnamed};
+ghost use Rattle.hw_log.specs.Named.{IsNameOf, NamesUnit, entry_in, unnamed};
 ghost use Rattle.hw_log.specs.Reader.{Reading, lasts_with, left_of, ahead_of, end_of, PlacesFit, Opens};
 
+use crate::ahead::NamingBuffer;
 use crate::entry::{LogEntry, NamedEntry};
 use crate::error::{LogError, error_of_read};
 use crate::head::{EntryHead, FRONT_LENGTH, Front, HEAD_LENGTH, MAX_LENGTH, front_of, head_of};
 use crate::lasts::Lasts;
 use hw_codec::decode_config;
-use hw_io::{Files, ReadBuffer};
+use hw_io::Files;
+use hw_lanes::Part;
 use hw_types::{CodecError, Config, Digest, Vertex};
 use std::alloc::{AllocFailed, Global};
 use std::marker::Model;
@@ -30,7 +32,7 @@ use std::marker::Model;
 #[derive(Drop)]
 pub struct LogReader {
     alloc: Global,
-    buffer: ReadBuffer,
+    buffer: NamingBuffer,
     config: Config,
     lasts: Lasts,
     place: u64,
@@ -48,6 +50,14 @@ impl Model for LogReader {
 struct ReadVertex {
     vertex: Box<Vertex>,
     name: Option<Digest>,
+}
+
+/// A vertex that is spelled, and where in the bytes its unit's spelling stands, where it is a unit, its name is wanted and
+/// the bytes hold the whole unit.
+#[derive(Drop)]
+struct SpelledVertex {
+    vertex: Box<Vertex>,
+    unit: Option<Part>,
 }
 
 impl LogReader {
@@ -70,7 +80,7 @@ impl LogReader {
         ensures appends { F.append_faults files.new ≡ F.append_faults files.old }
     {
         begin_file(files, name)?;
-        header(alloc, ReadBuffer::new(alloc), files)
+        header(alloc, NamingBuffer::new(alloc), files)
     }
 
     /// The configuration in the log's header.
@@ -281,10 +291,12 @@ impl LogReader {
         ensures appends { F.append_faults files.new ≡ F.append_faults files.old }
     {
         need(&mut self.buffer, files, length, at)?;
-        let read = decoded_vertex(&self.lasts, at, &self.buffer.as_slice()[..length], named)?;
+        let bytes = &self.buffer.as_slice()[..length];
+        let SpelledVertex { vertex, unit } = decoded_vertex(&self.lasts, at, bytes, named)?;
+        let name = self.buffer.name_of(unit);
         self.buffer.consume(length);
         self.place += length as u64;
-        Ok(read)
+        Ok(ReadVertex { vertex, name })
     }
 
     /// Goes behind an entry with this vertex.
@@ -321,7 +333,7 @@ fn begin_file<F: Files>(files: &mut F, name: &str) -> Result<(), LogError>
 #[tactic(auto, using(crate::proofs::FieldLaws::fails_bind), unfolding(crate::specs::Log::header_of))]
 fn header<F: Files>(
     alloc: Global,
-    mut buffer: ReadBuffer,
+    mut buffer: NamingBuffer,
     files: &mut F,
 ) -> Result<LogReader, LogError>
     ensures said { IsTrue F.tells → Gives (λ reader. (reader.config, left_of reader (F.unread files.new))) result (header_of (buffer ++ F.unread files.old)) }
@@ -350,7 +362,7 @@ fn header<F: Files>(
 
 /// Uses the front of a log, and answers what it says.
 #[tactic(auto, using(crate::proofs::FieldLaws::front_held))]
-fn front<F: Files>(buffer: &mut ReadBuffer, files: &mut F) -> Result<Front, LogError>
+fn front<F: Files>(buffer: &mut NamingBuffer, files: &mut F) -> Result<Front, LogError>
     ensures said { IsTrue F.tells → Gives (λ said. said) result (front_of (take FRONT_LENGTH (buffer.old ++ F.unread files.old))) }
     ensures rest { IsTrue F.tells → OnOk result (buffer.new ++ F.unread files.new ≡ drop FRONT_LENGTH (buffer.old ++ F.unread files.old)) }
     ensures limit { IfOk result (λ said. said.length ≤ MAX_LENGTH) }
@@ -374,7 +386,12 @@ fn front<F: Files>(buffer: &mut ReadBuffer, files: &mut F) -> Result<Front, LogE
 }
 
 /// Reads until the next `n` bytes are held. Where the file ends before, it is torn at this place.
-fn need<F: Files>(buffer: &mut ReadBuffer, files: &mut F, n: usize, at: u64) -> Result<(), LogError>
+fn need<F: Files>(
+    buffer: &mut NamingBuffer,
+    files: &mut F,
+    n: usize,
+    at: u64,
+) -> Result<(), LogError>
     requires { n ≤ MAX_LENGTH }
     ensures held { OnOk result (n ≤ length buffer.new) }
     ensures torn { IsTrue F.tells → IfErr result (λ e. (place : ℕ) → Fails e (bytes_at n (Torn at) (rest_at place (buffer.old ++ F.unread files.old)))) }
@@ -434,23 +451,28 @@ fn let_go(refused: AllocFailed<Vertex>) -> LogError
     LogError::OutOfMemory
 }
 
-/// The vertex that these bytes spell, in the entry at this place, behind these last units, with its unit's name if it
-/// is wanted.
-fn decoded_vertex(lasts: &Lasts, at: u64, bytes: &[u8], named: bool) -> Result<ReadVertex, LogError>
+/// The vertex that these bytes spell, in the entry at this place, behind these last units, with the place of its unit's
+/// spelling if its name is wanted.
+fn decoded_vertex(
+    lasts: &Lasts,
+    at: u64,
+    bytes: &[u8],
+    named: bool,
+) -> Result<SpelledVertex, LogError>
     ensures said { Gives (λ read. box_value read.vertex) result (decoded (BadVertex at) (vertex_in lasts.now bytes.now)) }
     ensures error { IfErr result IsOfBytes }
     ensures fits { IfOk result (λ read. VertexFits (box_value read.vertex)) }
-    ensures name { IfOk result (λ read. IfSome read.name (IsNameOf (box_value read.vertex))) }
+    ensures unit { IfOk result (λ read. IfSome read.unit (NamesUnit (box_value read.vertex) bytes.now)) }
 {
     match lasts.decode(bytes) {
         Ok(vertex) => {
-            let name = if named {
-                lasts.name_in(&vertex, bytes)
+            let unit = if named {
+                lasts.unit_in(&vertex, bytes)
             } else {
                 None
             };
             match Box::new(lasts.allocator(), vertex) {
-                Ok(vertex) => Ok(ReadVertex { vertex, name }),
+                Ok(vertex) => Ok(SpelledVertex { vertex, unit }),
                 Err(refused) => Err(let_go(refused)),
             }
         }

@@ -1,0 +1,8 @@
+mod Absorbing
+mod AtWork
+mod Bitwise
+mod Blocks
+mod Columns
+mod Lanes
+mod Padding
+mod Refill

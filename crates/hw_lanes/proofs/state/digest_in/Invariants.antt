@@ -1,0 +1,7 @@
+use Rattle.std.proofs.Common.{◌≡◌, ◌*◌, length, take}
+use Rattle.sha2.specs.Sha256.{digest_bytes}
+use Rattle.hw_lanes.specs.Columns.{column}
+use Rattle.hw_lanes.proofs.state.digest_in.Given as goal
+
+abbrev pub invariant-words : goal.invariant-words
+invariant-words l = (length l.out ≡ 32) × (take (4 * l.i) l.out ≡ digest_bytes (column l.state l.lane) l.i)
