@@ -5,7 +5,12 @@
 
     silent-connections   a hub and three validators; a connection that says nothing comes to the hub each second
     resets               the same; somebody connects and resets the connection in a loop
-    trickles             the same; a connection that sends a byte a second comes to the hub, one after the other
+    trickles             the same; a stranger at the validators' address sends the hub a byte a second, and comes
+                         again as soon as it is let go
+    trickles-elsewhere   the same; the stranger is at another address, 127.0.0.2
+    many-trickles        the same; eight strangers at once at that address
+    slow-strangers       the same; four strangers at once at the validators' address ask the hub for all that it has,
+                         read a byte a second, and come again when they find that they were let go
     silent-peer          a validator whose second PEER accepts and says nothing
     trickling-peer       a validator whose second PEER sends a byte each second
     slow-peer            a validator whose second PEER says Hello, and then reads a byte each second
@@ -14,15 +19,18 @@
 
 Final blocks are those in the log of validator 0, and units the `made` lines of the validator. For the kinds with a PEER a
 round takes 1,024 milliseconds, for `sixteen` too, and for the others 256. The last line is what the misbehaviour costs,
-as a share of what the other network did in the same time. A hub whose sessions are used up is started again. The status
-is 0 where the cost is below a tenth for connections and a fifth for peers, and where there is no link fault.
+as a share of what the other network did in the same time. A hub whose sessions are used up is started again, and how
+often is printed. The status is 0 where the cost is below a third for many strangers, a fifth for other strangers and for
+peers, and a tenth for connections, and where there is no link fault.
 
 It stands outside the gate and proves nothing."""
 
 import argparse
 import contextlib
+import functools
 import hashlib
 import json
+import select
 import shutil
 import socket
 import struct
@@ -36,17 +44,20 @@ from pathlib import Path
 from rejoin import free_port
 
 DATA = Path(__file__).resolve().parent.parent / "crates" / "highway" / "data"
-CONNECTIONS = ("silent-connections", "resets", "trickles")
+STRANGERS = ("trickles", "trickles-elsewhere", "many-trickles", "slow-strangers")
+CONNECTIONS = ("silent-connections", "resets", *STRANGERS)
 PEERS = ("silent-peer", "trickling-peer", "slow-peer")
-# Frames begin with their length. A Hello is a kind byte and the digest of the settings.
-HELLO_KIND, LONG_FRAME = b"\x01", (1 << 20).to_bytes(4) + b"\x02"
+# Frames begin with their length. A Hello is a kind byte and the digest of the settings, a Have a kind byte and a place.
+HELLO_KIND, HAVE_KIND, LONG_FRAME = b"\x01", b"\x03", (1 << 20).to_bytes(4) + b"\x02"
+# How many vertices a stranger asks for at most: those of some minutes.
+JOURNAL_ASKED = 8192
 
 
 class Network:
     """A hub and validators, each in a folder of its own; all of them are stopped at the end."""
 
     def __init__(self, room, program, validators, exponent):
-        self.room, self.program, self.nodes = room, program, {}
+        self.room, self.program, self.nodes, self.restarts = room, program, {}, 0
         room.mkdir()
         members = list(range(validators))
         settings = {"weights": [1] * validators, "threshold": 0, "levels": 1, "exponents": [exponent, 12], "leaders": members}
@@ -68,6 +79,7 @@ class Network:
         while time.monotonic() < until:
             time.sleep(0.05)
             if self.nodes["hub"].poll() is not None:
+                self.restarts += 1
                 self.serve()
 
     def start(self, name, command, *words):
@@ -142,13 +154,6 @@ def reset_on(port, ended):
             stream.setsockopt(socket.SOL_SOCKET, socket.SO_LINGER, struct.pack("ii", 1, 0))
 
 
-def trickle_on(port, ended):
-    """Connects and sends a byte of a long frame each second; when it is let go, it comes again."""
-    while not ended.is_set():
-        with contextlib.suppress(OSError), socket.create_connection(("127.0.0.1", port)) as stream:
-            trickle(stream, ended, LONG_FRAME)
-
-
 def trickle(stream, ended, begin):
     """Sends these bytes and then zeros, a byte each second."""
     stream.settimeout(1)
@@ -194,6 +199,72 @@ class BadPeer:
             self.treat(stream, self.ended, self.hello)
 
 
+# ---- strangers, who come again as soon as they are let go
+
+class Stranger:
+    """Who comes to a hub from an address, treats it in this way, and comes again; it counts how often it came."""
+
+    def __init__(self, port, ended, treat, source="127.0.0.1"):
+        self.port, self.ended, self.treat, self.source, self.visits = port, ended, treat, source, 0
+        threading.Thread(target=self.come_on, daemon=True).start()
+
+    def come_on(self):
+        while not self.ended.is_set():
+            with contextlib.suppress(OSError), socket.socket() as stream:
+                # A small buffer, so that the hub isn't rid of much that isn't read.
+                stream.setsockopt(socket.SOL_SOCKET, socket.SO_RCVBUF, 4096)
+                stream.bind((self.source, 0))
+                stream.connect(("127.0.0.1", self.port))
+                self.visits += 1
+                self.treat(stream, self.ended)
+                continue
+            # Nobody listens, or the connection was reset.
+            self.ended.wait(0.005)
+
+
+def is_let_go(stream, seconds):
+    """Whether the other side ends the connection within so many seconds."""
+    poll = select.poll()
+    poll.register(stream, select.POLLRDHUP)
+    return bool(poll.poll(seconds * 1000))
+
+
+def send_slowly(stream, ended):
+    """Sends a byte of a long frame each second, until it is let go."""
+    for place in range(1 << 20):
+        stream.sendall(LONG_FRAME[place:place + 1] or b"\0")
+        if is_let_go(stream, 1) or ended.is_set():
+            return
+
+
+def ask_for_all(stream, ended, instance):
+    """Asks for the whole journal, 256 vertices at a time, and reads a byte each second, until it is let go.
+
+    The end of a stream stands behind all that wasn't read of it. So it asks again each second, which is answered by a
+    reset where nobody is there any more."""
+    stream.sendall((33).to_bytes(4) + HELLO_KIND + instance)
+    for place in range(0, JOURNAL_ASKED, 256):
+        stream.sendall(have(place))
+    while not is_let_go(stream, 1) and not ended.is_set():
+        if not stream.recv(1):
+            return
+        stream.sendall(have(0))
+
+
+def have(place):
+    """The frame that asks for the journal from this place on."""
+    return (9).to_bytes(4) + HAVE_KIND + place.to_bytes(8)
+
+
+def strangers_at(kind, network, ended):
+    """Sets the strangers of this kind on a network's hub."""
+    if kind == "slow-strangers":
+        asking = functools.partial(ask_for_all, instance=network.instance())
+        return [Stranger(network.port, ended, asking) for _ in range(4)]
+    source, count = ("127.0.0.1" if kind == "trickles" else "127.0.0.2"), (8 if kind == "many-trickles" else 1)
+    return [Stranger(network.port, ended, send_slowly, source) for _ in range(count)]
+
+
 # ---- what is tried
 
 def run_all(networks, seconds):
@@ -205,6 +276,20 @@ def run_all(networks, seconds):
         other.join()
 
 
+def hurt(kind, network, ended):
+    """Sets on a network's hub what this kind says, and answers its strangers, if it has some."""
+    if kind in STRANGERS:
+        return strangers_at(kind, network, ended)
+    hurts = {"silent-connections": each_second, "resets": reset_on}[kind]
+    threading.Thread(target=hurts, args=(network.port, ended), daemon=True).start()
+    return []
+
+
+def limit_of(kind):
+    """Which share of the final blocks connections of this kind may cost."""
+    return {"many-trickles": 1 / 3}.get(kind, 0.2 if kind in STRANGERS else 0.1)
+
+
 def tried_connections(words, room, ended):
     """The final blocks of a network that is left alone, and of one that isn't."""
     networks = [Network(room / name, words.program, 3, 8) for name in ("alone", "hurt")]
@@ -212,15 +297,17 @@ def tried_connections(words, room, ended):
         for network in networks:
             for number in range(3):
                 network.validate(number, network.address)
-        hurt = {"silent-connections": each_second, "resets": reset_on, "trickles": trickle_on}[words.kind]
-        threading.Thread(target=hurt, args=(networks[1].port, ended), daemon=True).start()
+        strangers = hurt(words.kind, networks[1], ended)
         run_all(networks, words.seconds)
     finally:
         ended.set()
         for network in networks:
             network.stop()
-    print(f"sessions at the hub: {', '.join(str(network.lines('hub', 'session ')) for network in networks)} that failed")
-    return "final blocks", [network.finals() for network in networks], 0.1
+    print(f"sessions at the hub: {', '.join(str(network.lines('hub', 'session ')) for network in networks)} that failed; "
+          f"it was started again {networks[0].restarts} times alone, and {networks[1].restarts}")
+    if strangers:
+        print(f"strangers came {sum(stranger.visits for stranger in strangers)} times")
+    return "final blocks", [network.finals() for network in networks], limit_of(words.kind)
 
 
 def tried_peers(words, room, ended):

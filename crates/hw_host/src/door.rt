@@ -8,11 +8,12 @@ use crate::hung::HungPeers;
 use crate::log::LogFile;
 use crate::patience::Patience;
 use crate::session::Session;
-use crate::waiting::WaitingRoom;
+use crate::suspects::Suspects;
+use crate::waiting::{Visitor, WaitingRoom};
 use hw_io::{Door, DoorNumbers, IoFault};
 use std::io;
 use std::io::ErrorKind;
-use std::net::{Net, OpenListener, OpenStream, TcpListener, TcpStream, ToSocketAddrs};
+use std::net::{IpAddr, Net, OpenListener, OpenStream, TcpListener, TcpStream, ToSocketAddrs};
 use std::time::{Duration, Instant};
 
 /// How many connections are let in at most before it is looked who said something.
@@ -34,6 +35,14 @@ const LONGEST_PAUSE: u64 = 5_000;
 /// for all of this is given a tenth of it the next time, until a session with it ends well. Where it lets a
 /// call wait for all of that too, it isn't dialled for 19 times as long, and each dial of it fails at once.
 ///
+/// On a peer that came, the reads and writes of a session wait 2 seconds in all. Where that is used up it hung,
+/// unless it answered four times in each second of that, or carried 65,536 bytes. Then its address, without the
+/// port, is suspect for 19 times as long: who comes from there is served after all others that wait and said
+/// something, and is waited for 20 milliseconds in a session, and as long again after each of its answers. 64
+/// addresses are kept. An honest peer of such an address goes on where its link answers in 20 milliseconds. One
+/// whose link is slower is starved while somebody else hangs there each time, but for the session that comes first
+/// when the 19 times are over. Who comes from many addresses is no suspect before each of them hung.
+///
 /// What is written is held and goes out in pieces of 65,536 bytes, at the next `read`, or at `hang_up`. A
 /// call that sends what is held and fails is the one that counts.
 ///
@@ -53,15 +62,18 @@ pub struct HostDoor<'a, R: Net + Voice> {
     session: Option<Session<R::Stream>>,
     peer: Peer,
     hung: HungPeers,
+    suspects: Suspects,
     complaints: Complaints<R>,
     numbers: DoorNumbers,
 }
 
-/// What the peer of the session is called, if there was memory for it, and when it was dialled, if it was.
+/// What the peer of the session is called, if there was memory for it, when it was dialled, if it was, and from where
+/// it came, if it did.
 #[derive(Drop)]
 struct Peer {
     name: Option<String>,
     dialled: Option<Instant>,
+    came_from: Option<IpAddr>,
 }
 
 impl Peer {
@@ -69,6 +81,7 @@ impl Peer {
         Peer {
             name: None,
             dialled: None,
+            came_from: None,
         }
     }
 
@@ -107,6 +120,7 @@ impl<'a, R: Net + Voice> HostDoor<'a, R> {
             session: None,
             peer: Peer::unknown(),
             hung: HungPeers::new(runtime.alloc()),
+            suspects: Suspects::new(runtime.alloc()),
             complaints: Complaints::new(runtime),
             numbers: DoorNumbers::new(),
         }
@@ -141,21 +155,23 @@ impl<'a, R: Net + Voice> HostDoor<'a, R> {
     {
         self.leave();
         self.peer = Peer::unknown();
-        let stream = next_speaker(&self.runtime, &self.listener, &mut self.waiting)?;
-        self.peer = Peer {
-            name: self.name_of(&stream),
-            dialled: None,
-        };
+        let visitor = next_visitor(
+            &self.runtime,
+            &self.listener,
+            &mut self.waiting,
+            &self.suspects,
+        )?;
         let alloc = self.runtime.alloc();
-        self.session = Some(Session::new(alloc, &self.runtime, stream, Patience::Full)?);
+        let address = visitor.address;
+        self.peer = Peer {
+            name: format!(in alloc; "{address}").ok(),
+            dialled: None,
+            came_from: Some(address),
+        };
+        let now = Instant::now(&self.runtime)?;
+        let patience = self.suspects.patience(address, now);
+        self.session = Some(Session::new(alloc, &self.runtime, visitor.stream, patience)?);
         Ok(())
-    }
-
-    /// The address of a peer that came, without its port.
-    fn name_of(&self, stream: &R::Stream) -> Option<String> {
-        let address = stream.peer_addr().ok()?;
-        let address = address.ip();
-        format!(in self.runtime.alloc(); "{address}").ok()
     }
 
     /// Calls the peer at this address, and begins a session with it.
@@ -169,6 +185,7 @@ impl<'a, R: Net + Voice> HostDoor<'a, R> {
         self.peer = Peer {
             name: String::from_str(alloc, address).ok(),
             dialled: Some(now),
+            came_from: None,
         };
         let Some(patience) = self.hung.patience(address, now) else {
             return Err(resting());
@@ -253,10 +270,14 @@ impl<'a, R: Net + Voice> HostDoor<'a, R> {
         }
     }
 
-    /// What a call answers that failed by this error, which is told. A peer that was dialled and let the call
-    /// wait too long is given less time from now on.
+    /// What a call answers that failed by this error, which is told. A peer that let the call wait too long is given
+    /// less time from now on.
     fn fault(&mut self, error: io::Error) -> IoFault
-        ensures { self.new ≡ record self.old { hung = self.new.hung; complaints = self.new.complaints } }
+        ensures { self.new ≡ record self.old {
+          hung = self.new.hung;
+          suspects = self.new.suspects;
+          complaints = self.new.complaints;
+        } }
     {
         if error.kind() == ErrorKind::TimedOut {
             self.note_hung();
@@ -272,13 +293,30 @@ impl<'a, R: Net + Voice> HostDoor<'a, R> {
         }
     }
 
-    /// Keeps that the peer hung, if it was dialled.
+    /// Keeps that the peer was too slow.
     fn note_hung(&mut self)
-        ensures { self.new ≡ record self.old { hung = self.new.hung } }
+        ensures { self.new ≡ record self.old { hung = self.new.hung; suspects = self.new.suspects } }
     {
-        if let (Some(dialled), Ok(now)) = (self.peer.dialled, Instant::now(&self.runtime)) {
-            let taken = now.duration_since(dialled);
-            self.hung.note(self.peer.called(), now, taken);
+        let Ok(now) = Instant::now(&self.runtime) else {
+            return
+        };
+        match self.peer.dialled {
+            Some(dialled) => {
+                let taken = now.duration_since(dialled);
+                self.hung.note(self.peer.called(), now, taken);
+            }
+            None => self.note_suspect(now),
+        }
+    }
+
+    /// Keeps that the peer hung, if it came and did.
+    fn note_suspect(&mut self, now: Instant)
+        ensures { self.new ≡ record self.old { suspects = self.new.suspects } }
+    {
+        if let (Some(address), Some(session)) = (self.peer.came_from, &self.session) {
+            if session.has_hung() {
+                self.suspects.note(address, now, session.blocked());
+            }
         }
     }
 
@@ -303,11 +341,14 @@ impl<'a, R: Net + Voice> HostDoor<'a, R> {
             self.fault(error);
             return;
         }
-        if let Some(session) = &mut self.session {
-            session.part(&self.runtime);
-        }
+        let outcome = match &mut self.session {
+            Some(session) => session.part(&self.runtime),
+            None => Ok(()),
+        };
         if self.peer.dialled.is_some() {
             self.hung.forgive(self.peer.called());
+        } else if is_too_slow(&outcome) {
+            self.note_hung();
         }
     }
 }
@@ -377,18 +418,27 @@ fn resting() -> io::Error {
     )
 }
 
-/// The stream of the first peer that says something.
-fn next_speaker<R: Net + Voice>(
+/// Whether a call took too long.
+fn is_too_slow(outcome: &io::Result<()>) -> bool {
+    match outcome {
+        Ok(()) => false,
+        Err(error) => error.kind() == ErrorKind::TimedOut,
+    }
+}
+
+/// The next peer that says something.
+fn next_visitor<R: Net + Voice>(
     runtime: &R,
     listener: &Option<R::Listener>,
     waiting: &mut WaitingRoom<R::Stream>,
-) -> io::Result<R::Stream> {
+    suspects: &Suspects,
+) -> io::Result<Visitor<R::Stream>> {
     let mut pause = FIRST_PAUSE;
     for _ in 0..u64::MAX {
         let_in(runtime, listener, waiting)?;
         let now = Instant::now(runtime)?;
-        if let Some(stream) = waiting.first_to_speak(now) {
-            return Ok(stream);
+        if let Some(visitor) = waiting.next(now, suspects) {
+            return Ok(visitor);
         }
         runtime.sleep(Duration::from_micros(pause));
         pause = pause.saturating_mul(2).min(LONGEST_PAUSE);
@@ -404,27 +454,27 @@ fn let_in<R: Net + Voice>(
 ) -> io::Result<()> {
     for _ in 0..LET_IN {
         match accepted::<R>(listener, !waiting.is_empty())? {
-            Some(stream) => waiting.admit(stream, Instant::now(runtime)?)?,
+            Some((stream, address)) => waiting.admit(stream, address, Instant::now(runtime)?)?,
             None => break,
         }
     }
     Ok(())
 }
 
-/// The stream of the next peer that came, which doesn't block. Where somebody waits already, it doesn't wait
+/// The stream of the next peer that came, which doesn't block, and from where it came. Where somebody waits already, it doesn't wait
 /// for one to come, and answers none where none came.
 fn accepted<R: Net>(
     listener: &Option<R::Listener>,
     is_somebody_waiting: bool,
-) -> io::Result<Option<R::Stream>> {
+) -> io::Result<Option<(R::Stream, IpAddr)>> {
     let Some(listener) = listener else {
         return Err(ErrorKind::NotConnected.into());
     };
     listener.set_nonblocking(is_somebody_waiting)?;
     match listener.accept() {
-        Ok((stream, _)) => {
+        Ok((stream, address)) => {
             stream.set_nonblocking(true)?;
-            Ok(Some(stream))
+            Ok(Some((stream, address.ip())))
         }
         Err(error) if error.kind() == ErrorKind::WouldBlock => Ok(None),
         Err(error) => Err(error),

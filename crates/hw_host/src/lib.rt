@@ -15,6 +15,7 @@ mod log;
 mod node_files;
 mod patience;
 mod session;
+mod suspects;
 mod told_files;
 mod waiting;
 

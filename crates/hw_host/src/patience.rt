@@ -1,5 +1,6 @@
 //! How long a peer is waited for.
-ghost use Rattle.std.specs.Prelude.{◌≡◌, ◌+◌, ◌*◌, ◌/◌, ◌<◌, ◌≤◌, min, IfSome, IsNone, ◌↔◌};
+ghost use Rattle.std.specs.Prelude.{◌≡◌, ◌⊎◌, ◌+◌, ◌*◌, ◌/◌, ◌<◌, ◌≤◌, min, IfSome, IsNone, IsTrue, ◌↔◌};
+ghost use Rattle.hw_host.specs.Patience.{earned_time};
 
 /// No read and no write waits longer for a peer, and no dial for an address of one. A peer that works
 /// answers in milliseconds; in five seconds the sixteen validators of a hub are served on a busy machine.
@@ -15,17 +16,46 @@ const BYTES_A_SECOND: u64 = 65_536;
 /// A peer that hung the last time that it was dialled is given a tenth of each time.
 const HUNG_SHARE: u64 = 10;
 
+/// For how long in all the node is blocked on a peer that came, while others wait. A session of few units has some
+/// six answers, so a peer that answers in 300 milliseconds ends it; one with more units goes on in its next session.
+const GUEST_MILLISECONDS: u64 = 2_000;
+
+/// For how long the node is blocked at first on a peer whose address is suspect, and for how much longer by each of
+/// its answers. An honest peer that shares the address answers in a millisecond on the same machine, and in 20 on
+/// a busy one; and who comes each time to hang delays the others by no more.
+const SUSPECT_MILLISECONDS: u64 = 20;
+
+/// A peer that came and answers as fast as this doesn't hang, however far away it is.
+const ANSWER_MILLISECONDS: u64 = 250;
+
 /// How much time a peer is given.
 #[derive(Clone, Copy, Debug, PartialEq, Eq)]
 pub(crate) enum Patience {
-    /// All of it.
+    /// All of it, for a peer that was dialled.
     Full,
-    /// A tenth, since the peer hung the last time.
+    /// A tenth, since the peer hung the last time that it was dialled.
     Tenth,
+    /// That of a peer that came.
+    Guest,
+    /// That of a peer that came from an address of which one hung.
+    Suspect,
+}
+
+/// How far a session is.
+#[derive(Clone, Copy, Debug, PartialEq, Eq)]
+pub(crate) struct Progress {
+    /// How many milliseconds it has taken.
+    pub(crate) taken: u64,
+    /// For how many of them the node was blocked on the peer.
+    pub(crate) blocked: u64,
+    /// How many bytes went either way.
+    pub(crate) moved: u64,
+    /// How often the peer answered what was sent to it.
+    pub(crate) answers: u32,
 }
 
 impl Patience {
-    ghost use Rattle.hw_host.specs.Patience.{share_of, session_time};
+    ghost use Rattle.hw_host.specs.Patience.{share_of, session_time, blocked_time};
 
     /// How many milliseconds a read, a write or a dial waits at most.
     pub(crate) fn wait(self) -> u64
@@ -41,17 +71,33 @@ impl Patience {
         (SESSION_MILLISECONDS + moved / BYTES_A_SECOND * 1_000) / self.share()
     }
 
-    /// How many milliseconds the next read or write may wait in a session that has taken so many, or none
-    /// where its time is up.
-    pub(crate) fn next_wait(self, moved: u64, taken: u64) -> Option<u64>
-        ensures up { IsNone result ↔ (session_time self moved ≤ taken) }
-        ensures left { IfSome result (λ wait. (0 < wait) × (taken + wait ≤ session_time self moved)) }
+    /// For how many milliseconds in all the node may be blocked on the peer of such a session.
+    fn blocked(self, answers: u32, moved: u64) -> u64
+        ensures { result ≡ blocked_time self answers moved }
+    {
+        match self {
+            Patience::Full | Patience::Tenth => self.session(moved),
+            Patience::Guest => GUEST_MILLISECONDS,
+            Patience::Suspect => {
+                (SUSPECT_MILLISECONDS * (1 + u64::from(answers))).min(GUEST_MILLISECONDS)
+            }
+        }
+    }
+
+    /// How many milliseconds the next read or write may wait in a session that is so far, or none where its time
+    /// is up.
+    pub(crate) fn next_wait(self, session: Progress) -> Option<u64>
+        ensures up { IsNone result ↔ ((session_time self session.moved ≤ session.taken)
+            ⊎ (blocked_time self session.answers session.moved ≤ session.blocked)) }
+        ensures left { IfSome result (λ wait. (0 < wait) × (session.taken + wait ≤ session_time self session.moved)) }
+        ensures blocked { IfSome result (λ wait.
+            session.blocked + wait ≤ blocked_time self session.answers session.moved) }
         ensures most { IfSome result (λ wait. wait ≤ 5000 / share_of self) }
     {
-        match self.session(moved).checked_sub(taken) {
-            None | Some(0) => None,
-            Some(left) => Some(left.min(self.wait())),
-        }
+        let left = left_of(self.session(session.moved), session.taken)?;
+        let allowed = self.blocked(session.answers, session.moved);
+        let wait = left_of(allowed, session.blocked)?;
+        Some(left.min(wait).min(self.wait()))
     }
 
     /// By what each time is divided.
@@ -60,8 +106,27 @@ impl Patience {
         ensures some { 0 < result }
     {
         match self {
-            Patience::Full => 1,
             Patience::Tenth => HUNG_SHARE,
+            Patience::Full | Patience::Guest | Patience::Suspect => 1,
         }
     }
+}
+
+/// What is left of a time, or none where it is up.
+fn left_of(time: u64, taken: u64) -> Option<u64>
+    ensures up { IsNone result ↔ (time ≤ taken) }
+    ensures left { IfSome result (λ left. (0 < left) × (taken + left ≡ time)) }
+{
+    match time.checked_sub(taken) {
+        None | Some(0) => None,
+        Some(left) => Some(left),
+    }
+}
+
+/// Whether a peer that came hung: the node was blocked on it for more milliseconds than it earned by its answers and
+/// by the bytes that were carried.
+pub(crate) fn has_hung(blocked: u64, answers: u32, carried: u64) -> bool
+    ensures { IsTrue result ↔ (earned_time answers carried < blocked) }
+{
+    u64::from(answers) * ANSWER_MILLISECONDS + carried / BYTES_A_SECOND * 1_000 < blocked
 }

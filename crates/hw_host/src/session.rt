@@ -2,7 +2,7 @@
 ghost use Rattle.std.specs.Prelude.{◌≤◌, length, IfOk};
 ghost use Rattle.std.specs.Io.{ReadsAtMost};
 
-use crate::patience::Patience;
+use crate::patience::{Patience, Progress, has_hung};
 use std::alloc::Global;
 use std::io::{ErrorKind, Read, Write};
 use std::net::{OpenStream, Shutdown};
@@ -18,16 +18,27 @@ const PARTING_MILLISECONDS: u64 = 500;
 /// How many pieces of what the peer is still sending are read at most.
 const PARTING_READS: usize = 64;
 
+/// A write that takes less than so many milliseconds didn't wait for the peer, but for the system to take it.
+const WAITED_MILLISECONDS: u64 = 1;
+
 /// A session with a peer.
 #[derive(Drop)]
 pub(crate) struct Session<S> {
     stream: S,
     began: Instant,
     patience: Patience,
-    /// How many milliseconds the stream waits, as it was told last.
+    /// How many milliseconds the stream waits, as it was told last, or 0 where it wasn't told.
     wait: u64,
     /// How many bytes went either way.
     moved: u64,
+    /// How many of these came, or went in writes that waited for the peer.
+    carried: u64,
+    /// For how long the node was blocked on the peer.
+    blocked: Duration,
+    /// How often the peer answered what was sent to it.
+    answers: u32,
+    /// Whether something was sent that isn't answered.
+    is_answer_due: bool,
     /// What was written and isn't sent.
     held: Vec<u8>,
     /// Whether a call failed.
@@ -44,13 +55,16 @@ impl<S: OpenStream + Read + Write + Drop> Session<S> {
     ) -> io::Result<Session<S>> {
         stream.set_nonblocking(false)?;
         stream.set_nodelay(true)?;
-        set_waits(&stream, patience.wait())?;
         Ok(Session {
             stream,
             began: Instant::now(clock)?,
             patience,
-            wait: patience.wait(),
+            wait: 0,
             moved: 0,
+            carried: 0,
+            blocked: Duration::ZERO,
+            answers: 0,
+            is_answer_due: false,
             held: Vec::new(alloc),
             has_failed: false,
         })
@@ -59,6 +73,16 @@ impl<S: OpenStream + Read + Write + Drop> Session<S> {
     /// Whether a call failed.
     pub(crate) fn has_failed(&self) -> bool {
         self.has_failed
+    }
+
+    /// For how long the node was blocked on the peer.
+    pub(crate) fn blocked(&self) -> Duration {
+        self.blocked
+    }
+
+    /// Whether that is longer than the peer earned by what it did.
+    pub(crate) fn has_hung(&self) -> bool {
+        has_hung(milliseconds(self.blocked), self.answers, self.carried)
     }
 
     /// Whether nothing is held.
@@ -86,15 +110,45 @@ impl<S: OpenStream + Read + Write + Drop> Session<S> {
     pub(crate) fn read(&mut self, clock: &impl time::Clock, buf: &mut [u8]) -> io::Result<usize>
         ensures { ReadsAtMost result buf.new }
     {
-        self.set_wait(clock)?;
+        let began = self.set_wait(clock)?;
         let outcome = self.stream.read(buf);
+        self.count_blocked(clock, began);
         match outcome {
             Ok(count) => {
-                self.moved = self.moved.saturating_add(count as u64);
+                self.count_read(count as u64);
                 Ok(count)
             }
             Err(error) => Err(self.failed(error)),
         }
+    }
+
+    /// Counts bytes that came.
+    fn count_read(&mut self, count: u64) {
+        self.moved = self.moved.saturating_add(count);
+        self.carried = self.carried.saturating_add(count);
+        if self.is_answer_due && count > 0 {
+            self.answers = self.answers.saturating_add(1);
+            self.is_answer_due = false;
+        }
+    }
+
+    /// Counts bytes that went in a write that took so long.
+    fn count_written(&mut self, count: u64, taken: Duration) {
+        self.moved = self.moved.saturating_add(count);
+        if milliseconds(taken) >= WAITED_MILLISECONDS {
+            self.carried = self.carried.saturating_add(count);
+        }
+        self.is_answer_due = true;
+    }
+
+    /// Counts how long a call took that began then, and answers it.
+    fn count_blocked(&mut self, clock: &impl time::Clock, began: Instant) -> Duration {
+        let taken = match began.elapsed(clock) {
+            Ok(taken) => taken,
+            Err(_) => Duration::ZERO,
+        };
+        self.blocked = self.blocked.saturating_add(taken);
+        taken
     }
 
     /// Sends what is held. After an error nothing is held any more.
@@ -119,14 +173,15 @@ impl<S: OpenStream + Read + Write + Drop> Session<S> {
 
     /// Sends the held bytes from this place on, as far as the stream takes them at once.
     fn send_from(&mut self, clock: &impl time::Clock, sent: usize) -> io::Result<usize> {
-        self.set_wait(clock)?;
+        let began = self.set_wait(clock)?;
         let outcome = match self.held.as_slice().get(sent..) {
             Some(rest) => self.stream.write(rest),
             None => Ok(0),
         };
+        let taken = self.count_blocked(clock, began);
         match outcome {
             Ok(count) if count > 0 => {
-                self.moved = self.moved.saturating_add(count as u64);
+                self.count_written(count as u64, taken);
                 Ok(count)
             }
             Ok(_) => Err(self.failed(ErrorKind::WriteZero.into())),
@@ -134,10 +189,11 @@ impl<S: OpenStream + Read + Write + Drop> Session<S> {
         }
     }
 
-    /// Lets the next call wait as long as it may. It is an error where the session's time is up.
-    fn set_wait(&mut self, clock: &impl time::Clock) -> io::Result<()> {
-        let taken = milliseconds(self.began.elapsed(clock)?);
-        let Some(wait) = self.patience.next_wait(self.moved, taken) else {
+    /// Lets the next call wait as long as it may, and answers the present moment. It is an error where the
+    /// session's time is up.
+    fn set_wait(&mut self, clock: &impl time::Clock) -> io::Result<Instant> {
+        let now = Instant::now(clock)?;
+        let Some(wait) = self.patience.next_wait(self.progress(now)) else {
             self.has_failed = true;
             return Err(io::Error::new(ErrorKind::TimedOut, "the session took too long"));
         };
@@ -145,7 +201,17 @@ impl<S: OpenStream + Read + Write + Drop> Session<S> {
             set_waits(&self.stream, wait)?;
             self.wait = wait;
         }
-        Ok(())
+        Ok(now)
+    }
+
+    /// How far it is now.
+    fn progress(&self, now: Instant) -> Progress {
+        Progress {
+            taken: milliseconds(now.duration_since(self.began)),
+            blocked: milliseconds(self.blocked),
+            moved: self.moved,
+            answers: self.answers,
+        }
     }
 
     /// Keeps that a call failed, and says of a wait that was too long that it was.
@@ -160,34 +226,38 @@ impl<S: OpenStream + Read + Write + Drop> Session<S> {
     }
 
     /// Ends what is written and reads on for a bounded while, unless a call failed: a stream that is closed
-    /// with bytes unread is reset, and the peer may lose what it was sent last.
-    pub(crate) fn part(&mut self, clock: &impl time::Clock) {
-        if self.has_failed || self.stream.shutdown(Shutdown::Write).is_err() {
-            return;
+    /// with bytes unread is reset, and the peer may lose what it was sent last. It is an error where the peer
+    /// didn't end too.
+    pub(crate) fn part(&mut self, clock: &impl time::Clock) -> io::Result<()> {
+        if self.has_failed {
+            return Ok(());
         }
-        let Ok(began) = Instant::now(clock) else {
-            return
-        };
+        self.stream.shutdown(Shutdown::Write)?;
+        let began = Instant::now(clock)?;
         for _ in 0..PARTING_READS {
-            if !self.is_still_sending(clock, began) {
+            if !self.is_still_sending(clock, began)? {
                 break;
             }
         }
+        Ok(())
     }
 
     /// Whether a byte of the peer comes in what is left of the while that began then.
-    fn is_still_sending(&mut self, clock: &impl time::Clock, began: Instant) -> bool {
+    fn is_still_sending(&mut self, clock: &impl time::Clock, began: Instant) -> io::Result<bool> {
         let mut rest = [0; 4096];
-        let Ok(taken) = began.elapsed(clock) else {
-            return false
+        let now = Instant::now(clock)?;
+        let taken = milliseconds(now.duration_since(began));
+        let left = PARTING_MILLISECONDS.saturating_sub(taken);
+        let wait = match self.patience.next_wait(self.progress(now)) {
+            Some(wait) if left > 0 => wait.min(left),
+            _ => return Err(ErrorKind::TimedOut.into()),
         };
-        let left = PARTING_MILLISECONDS.saturating_sub(milliseconds(taken));
-        if left == 0 || set_waits(&self.stream, left).is_err() {
-            return false;
-        }
-        match self.stream.read(&mut rest) {
-            Ok(count) => count > 0,
-            Err(_) => false,
+        set_waits(&self.stream, wait)?;
+        let outcome = self.stream.read(&mut rest);
+        self.count_blocked(clock, now);
+        match outcome {
+            Ok(count) => Ok(count > 0),
+            Err(error) => Err(self.failed(error)),
         }
     }
 }
