@@ -1,5 +1,5 @@
-/* Sets the clock of the program that it is loaded into: the clock of the day is so many milliseconds ahead as the file says that OFFSET_FILE names,
-   or back, if the number is negative. tools/clock_jumps.py builds and uses it. */
+/* Sets the clock of the program that it is loaded into: the time of day is so many milliseconds ahead as the file says
+   that OFFSET_FILE names, or back, if that number is negative. tools/clock_jumps.py builds and uses it. */
 #define _GNU_SOURCE
 #include <fcntl.h>
 #include <stdlib.h>
@@ -7,7 +7,6 @@
 #include <time.h>
 #include <unistd.h>
 
-/* By system calls alone, since the program may watch or refuse calls of the library. */
 static long long offset(void) {
     char text[32] = "";
     int file = syscall(SYS_openat, AT_FDCWD, getenv("OFFSET_FILE"), O_RDONLY, 0);

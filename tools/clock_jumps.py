@@ -1,5 +1,5 @@
 #!/usr/bin/env python3
-"""Sets the clock of a validator back and ahead while it runs, and says whether it makes units as docs/OPERATING.md tells.
+"""Sets the clock of a validator back and ahead while it runs, and says whether it does what docs/OPERATING.md tells.
 
     clock_jumps.py PROGRAM [--seconds 3]
 
