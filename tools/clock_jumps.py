@@ -75,6 +75,15 @@ def made(node):
     return sum(line.startswith("made ") for line in (node.folder / "out").read_text(encoding="utf-8").splitlines())
 
 
+def await_units(validators, patience=20):
+    """Waits until each validator has made a unit."""
+    until = time.monotonic() + patience
+    while not all(map(made, validators)):
+        if time.monotonic() > until:
+            sys.exit(f"not each validator made a unit in {patience} seconds")
+        time.sleep(0.05)
+
+
 def faults_of(step, counts):
     """What is wrong with the numbers of units that the three validators made in a step."""
     if step.makes != bool(counts[0]):
@@ -114,6 +123,7 @@ def tried(words, room):
     try:
         for node in nodes:
             node.start()
+        await_units(nodes[1:])
         for step in STEPS:
             faults += faults_of(step, take(step, nodes, clock, words.seconds))
     finally:

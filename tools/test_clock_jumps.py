@@ -77,7 +77,7 @@ class Tries(unittest.TestCase):
         program, out = fake_program(self.folder, **WELL | commands), io.StringIO()
         with mock.patch.object(clock_jumps, "STEPS", steps), mock.patch.object(tempfile, "tempdir", str(self.folder)):
             with contextlib.redirect_stdout(out):
-                status = clock_jumps.main([str(program), "--seconds", "0.8"])
+                status = clock_jumps.main([str(program), "--seconds", "0.4"])
         return status, out.getvalue()
 
     @unittest.skipUnless(shutil.which("cc"), "there is no C compiler")
@@ -93,6 +93,13 @@ class Tries(unittest.TestCase):
         self.assertEqual(status, 1)
         self.assertRegex(said, "an hour back: validator 0 made [0-9]+ units\n")
         self.assertEqual(len(list(self.folder.glob("highway-*"))), 1)
+
+    @unittest.skipUnless(shutil.which("cc"), "there is no C compiler")
+    def test_a_network_that_makes_nothing_shows_nothing(self):
+        waits = clock_jumps.await_units
+        with mock.patch.object(clock_jumps, "await_units", lambda validators: waits(validators, 0.5)):
+            with self.assertRaisesRegex(SystemExit, "not each validator made a unit in 0.5 seconds"):
+                self.main(STEPS, run=VALIDATOR.replace("made", "peer 0"))
 
     def test_where_there_is_no_compiler_nothing_is_tried(self):
         with mock.patch.object(clock_jumps.shutil, "which", return_value=None):

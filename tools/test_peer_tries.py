@@ -80,13 +80,6 @@ class Strangers(unittest.TestCase):
             with self.assertRaises(ConnectionResetError):
                 self.accepted().recv(1)
 
-    def test_who_trickles_comes_again_when_it_is_let_go(self):
-        with mock.patch.object(peer_tries, "trickle", side_effect=[ConnectionResetError, None]) as trickle:
-            peer_tries.trickle_on(self.port, Ended(2))
-        self.assertEqual([call.args[2] for call in trickle.call_args_list], [peer_tries.LONG_FRAME] * 2)
-        for _ in range(2):
-            self.accepted()
-
 
 class Streams(unittest.TestCase):
     """What is done to one connection."""
