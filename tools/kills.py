@@ -19,6 +19,7 @@ The status is 0 where there is none; else the folders of the nodes stay. It stan
 """
 
 import argparse
+import collections
 import os
 import random
 import shutil
@@ -29,7 +30,7 @@ import tempfile
 import time
 from pathlib import Path
 
-from lens_log import Evidence, SignedUnit, read_as_far, short
+from lens_log import Evidence, InputError, SignedUnit, read_as_far, short
 from three_validators import agree, network, steady_port, stop
 
 TOOLS = Path(__file__).resolve().parent
@@ -127,9 +128,14 @@ def faults_of(logs):
 
 def told(nodes):
     """Prints what is wrong with the logs of nodes that were stopped, and answers whether nothing is."""
-    is_well = agree(nodes)
-    faults = [f"{node.name} ended with status {end}" for node in nodes for end in node.ends if end not in ENDS]
-    logs = {node.name: read_as_far(node.folder / node.log) for node in nodes}
+    is_well, faults, logs = agree(nodes), [], {}
+    for node in nodes:
+        ends = collections.Counter(end for end in node.ends if end not in ENDS)
+        faults += [f"{node.name} ended with status {end}, {count} times" for end, count in sorted(ends.items())]
+        try:
+            logs[node.name] = read_as_far(node.folder / node.log)
+        except InputError as error:
+            faults.append(f"{node.name}: {error.text}")
     faults += faults_of(logs)
     print("".join(f"{fault}\n" for fault in faults), end="")
     return is_well and not faults

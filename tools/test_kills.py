@@ -114,16 +114,16 @@ class Tries(unittest.TestCase):
         self.addCleanup(folder.cleanup)
         self.folder = Path(folder.name)
 
-    def main(self, count, **commands):
+    def main(self, count, seconds=8, **commands):
         program, out = fake_program(self.folder, **WELL | commands), io.StringIO()
         settle = kills.settle
-        with mock.patch.multiple(kills, APPENDS=(1,), PAUSES=(0.4,), settle=lambda nodes, _: settle(nodes, 1.5)):
+        with mock.patch.multiple(kills, APPENDS=(1,), PAUSES=(0.4,), settle=lambda nodes, _: settle(nodes, 1)):
             with mock.patch.object(tempfile, "tempdir", str(self.folder)), contextlib.redirect_stdout(out):
-                status = kills.main([str(program), "--kills", str(count), "--seconds", "8"])
+                status = kills.main([str(program), "--kills", str(count), "--seconds", str(seconds)])
         return status, out.getvalue()
 
     def test_nothing_is_lost(self):
-        status, said = self.main(5)
+        status, said = self.main(4)
         self.assertEqual(status, 0, said)
         self.assertRegex(said, r"\d kills, \d of them in an append; \d logs were torn and mended\n")
         self.assertEqual(said.count("agree 1\n"), 6)
@@ -138,7 +138,12 @@ class Tries(unittest.TestCase):
     def test_an_end_that_is_no_end_of_a_run(self):
         status, said = self.main(1, run=NODE.replace("time.sleep(60)", "sys.exit(5 * (words[3] == '2'))"))
         self.assertEqual(status, 1)
-        self.assertIn("v2 ended with status 5\n", said)
+        self.assertRegex(said, "v2 ended with status 5, [0-9] times\n")
+
+    def test_a_program_that_does_not_run(self):
+        status, said = self.main(1, 0.3, serve="sys.exit(127)", run="sys.exit(127)", replay="sys.exit(127)")
+        self.assertEqual(status, 1)
+        self.assertRegex(said, "v0 ended with status 127, [0-9]+ times\nv0: no such file")
 
     def test_a_log_that_cannot_be_mended_ends_the_trial(self):
         with self.assertRaisesRegex(SystemExit, "replay of its log ended with status 2: bad event at 9"):
