@@ -18,15 +18,14 @@ from fake_program import fake_program
 from three_validators import DATA
 
 # A validator that makes a unit each 20 ms, none before its last one's time, which it finds again when it is started.
-VALIDATOR = f"""shutil.copy({str(DATA / 'signed.hwlg')!r}, words[2])
-last = Path('last')
+VALIDATOR = f"""copy({str(DATA / 'signed.hwlg')!r}, words[2])
 while True:
-    if not last.exists() or time.time() >= float(last.read_text()):
-        last.write_text(str(time.time()))
+    if not os.path.exists('last') or time.time() >= float(read('last')):
+        write('last', str(time.time()), 'w')
         print('made block')
     time.sleep(0.02)
 """
-WELL = {"serve": f"shutil.copy({str(DATA / 'signed.hwlg')!r}, words[2]); time.sleep(60)", "run": VALIDATOR,
+WELL = {"serve": f"copy({str(DATA / 'signed.hwlg')!r}, words[2]); time.sleep(60)", "run": VALIDATOR,
         "replay": "print('units 4\\nfaulty -\\nfinal 1')", "audit": "print('agree 1')"}
 STEPS = (Step("right", 0, True), Step("an hour back", -HOUR, False), Step("started again", -HOUR, False, True),
          Step("right again", 0, True), Step("a day ahead", DAY, True), Step("right after that", 0, False))

@@ -80,7 +80,7 @@ class Tries(unittest.TestCase):
 
     def test_the_program_is_asked_for_a_replay(self):
         with tempfile.TemporaryDirectory() as folder:
-            said = "print(len(Path(words[0]).read_bytes())); sys.exit(2 * (Path(words[0]).read_bytes()[:4] != b'HWLG'))"
+            said = "print(len(read(words[0]))); sys.exit(2 * (read(words[0])[:4] != b'HWLG'))"
             status, said = self.main(str(fake_program(folder, replay=said)), "--flips", "10")
         self.assertEqual(status, 0)
         self.assertRegex(said, f"10 {SAME}|[0-9] {REFUSED}")

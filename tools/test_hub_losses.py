@@ -5,6 +5,7 @@ import io
 import json
 import shutil
 import tempfile
+import time
 import unittest
 from pathlib import Path
 from unittest import mock
@@ -17,17 +18,17 @@ from three_validators import DATA
 
 SIGNED = DATA / "signed.hwlg"
 # A hub makes its log anew where it lost it. It has missed units until the validators are started for a second time.
-NODE = f"""Path('starts').open('a').write('start ')
-if not Path(words[2]).exists(): shutil.copy({str(SIGNED)!r}, words[2])
+NODE = f"""if not os.path.exists(words[2]): copy({str(SIGNED)!r}, words[2])
+write('starts', 'start ', 'a')
 time.sleep(60)
 """
-MISSES = """starts = {name: len(Path('..', name, 'starts').read_text().split()) for name in ('hub', 'v1')}
-is_behind = Path.cwd().name == 'hub' and starts['hub'] > starts['v1']
+MISSES = """starts = {name: len(read('../' + name + '/starts').split()) for name in ('hub', 'v1')}
+is_behind = os.getcwd().endswith('/hub') and starts['hub'] > starts['v1']
 print('units 4 endorsements 0 parked', 3 * is_behind)
 print('faulty -')
 print('final 1\\n' * (1 + starts['v1'] - is_behind), end='')
 """
-WELL = {"serve": NODE, "run": NODE, "mend": "shutil.copy(words[0], words[1])", "replay": MISSES,
+WELL = {"serve": NODE, "run": NODE, "mend": "copy(words[0], words[1])", "replay": MISSES,
         "audit": "print('agree 1')"}
 
 
@@ -76,11 +77,27 @@ class Parts(InFolder):
         self.assertEqual((settings["parked"], settings["weights"]), (100, [1, 1, 1]))
 
 
+def wait_for_starts(nodes):
+    """Waits until each node has written that it was started so often as it was."""
+    until = time.monotonic() + 15
+    while any(not (node.folder / "starts").exists()
+              or len((node.folder / "starts").read_text(encoding="ascii").split()) < node.starts for node in nodes):
+        if time.monotonic() > until:
+            raise TimeoutError("a node didn't start")
+        time.sleep(0.02)
+
+
 class Tries(InFolder):
     def main(self, *words, **commands):
-        program, out = fake_program(self.folder, **WELL | commands), io.StringIO()
+        program, out, run_for = fake_program(self.folder, **WELL | commands), io.StringIO(), hub_losses.run_for
+
+        def run_once_all_started(nodes, _, what):
+            wait_for_starts(nodes)
+            return run_for(nodes, 0, what)
+
         with mock.patch.object(tempfile, "tempdir", str(self.folder)), contextlib.redirect_stdout(out):
-            status = hub_losses.main([str(program), *words, "--seconds", "1"])
+            with mock.patch.object(hub_losses, "run_for", run_once_all_started):
+                status = hub_losses.main([str(program), *words])
         return status, out.getvalue()
 
     def test_a_hub_that_has_all_again(self):

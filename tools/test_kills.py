@@ -13,19 +13,19 @@ from pathlib import Path
 from unittest import mock
 
 import kills
-from fake_program import fake_program
+from fake_program import await_files, fake_program
 from lens_log import read_log, spelled_log
 from three_validators import DATA
 
 SIGNED, OTHER = read_log(DATA / "signed.hwlg"), read_log(DATA / "signed-other.hwlg")
 WHOLE = len((DATA / "signed.hwlg").read_bytes())
 # Nodes write the shipped log and wait; a log that isn't as long as that is torn.
-NODE = f"Path(words[2]).write_bytes(Path({str(DATA / 'signed.hwlg')!r}).read_bytes()); time.sleep(60)"
+NODE = f"write(words[2], read({str(DATA / 'signed.hwlg')!r})); time.sleep(60)"
 TORN = f"""if os.path.getsize(words[0]) < {WHOLE}:
     print('input', words[0] + ': torn at 9')
     sys.exit(2)
 """
-WELL = {"serve": NODE, "run": NODE, "mend": f"shutil.copy({str(DATA / 'signed.hwlg')!r}, words[1])",
+WELL = {"serve": NODE, "run": NODE, "mend": f"copy({str(DATA / 'signed.hwlg')!r}, words[1])",
         "replay": TORN + "print('units 4\\nfaulty -\\nfinal 1')", "audit": "print('agree 1')"}
 
 
@@ -116,8 +116,13 @@ class Tries(unittest.TestCase):
 
     def main(self, count, seconds=8, **commands):
         program, out = fake_program(self.folder, **WELL | commands), io.StringIO()
-        settle = kills.settle
-        with mock.patch.multiple(kills, APPENDS=(1,), PAUSES=(0.4,), settle=lambda nodes, _: settle(nodes, 1)):
+        settle, logs = kills.settle, [f"highway-*/{name}/{name}.log" for name in ("hub", "v0", "v1", "v2")]
+
+        def settle_once_all_wrote(nodes, _):
+            with mock.patch.object(kills.time, "sleep", lambda _: await_files(self.folder, *logs * (seconds > 1))):
+                settle(nodes, 0)
+
+        with mock.patch.multiple(kills, APPENDS=(1,), PAUSES=(0.4,), settle=settle_once_all_wrote):
             with mock.patch.object(tempfile, "tempdir", str(self.folder)), contextlib.redirect_stdout(out):
                 status = kills.main([str(program), "--kills", str(count), "--seconds", str(seconds)])
         return status, out.getvalue()

@@ -17,18 +17,19 @@ from lens_log import read_head
 
 SIGNED = peer_tries.DATA / "signed.hwlg"
 # A hub writes a log, listens, and takes connections; a validator says lines, in number by how many PEERs it has.
-LISTENS = f"""shutil.copy({str(SIGNED)!r}, words[2])
+LISTENS = f"""import socket
+copy({str(SIGNED)!r}, words[2])
 print('session 1 link fault')
 door = socket.create_server(('127.0.0.1', int(words[3].split(':')[1])))
 """
 TAKES = "while True: door.accept()"
-SAYS = f"""shutil.copy({str(SIGNED)!r}, words[2])
+SAYS = f"""copy({str(SIGNED)!r}, words[2])
 print('made block\\n' * (10 if len(words) == 6 else 7), end='')
 print('highway: a reason', file=sys.stderr)
-open('said', 'w').close()
+write('said', b'')
 time.sleep(60)
 """
-WELL = {"serve": LISTENS + TAKES, "run": SAYS, "mend": "shutil.copy(words[0], words[1])",
+WELL = {"serve": LISTENS + TAKES, "run": SAYS, "mend": "copy(words[0], words[1])",
         "replay": "print('faulty -'); print('final 1\\n' * (10 if '/alone/' in words[0] else 8), end='')"}
 
 
@@ -221,7 +222,7 @@ class Tries(InRoom):
 
     def test_sixteen_honest_validators_have_no_link_fault(self):
         quiet = LISTENS.replace("link fault", "done") + TAKES
-        is_well, said = self.sixteen(serve=quiet, run=f"shutil.copy({str(SIGNED)!r}, words[2]); time.sleep(60)")
+        is_well, said = self.sixteen(serve=quiet, run=f"copy({str(SIGNED)!r}, words[2]); time.sleep(60)")
         self.assertTrue(is_well)
         self.assertIn("0 link faults in", said)
 

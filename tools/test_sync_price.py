@@ -11,12 +11,12 @@ import unittest
 from unittest import mock
 
 import sync_price
-from fake_program import fake_program
+from fake_program import await_files, fake_program
 from three_validators import DATA
 
 # A node without syncs leaves a file behind, by which a replay tells more final blocks.
-NODE = f"""if 'LD_PRELOAD' in os.environ: Path('unsynced').touch()
-shutil.copy({str(DATA / 'signed.hwlg')!r}, words[2])
+NODE = f"""if 'LD_PRELOAD' in os.environ: write('unsynced', b'')
+copy({str(DATA / 'signed.hwlg')!r}, words[2])
 time.sleep(60)
 """
 REPLAY = "print('units 4\\nfaulty -\\n' + 'final 1\\n' * (10 if os.path.exists('unsynced') else SYNCED), end='')"
@@ -53,8 +53,10 @@ class Tries(unittest.TestCase):
     def main(self, synced):
         replay = REPLAY.replace("SYNCED", str(synced))
         program, out = fake_program(self.folder, serve=NODE, run=NODE, replay=replay), io.StringIO()
-        with contextlib.redirect_stdout(out):
-            return sync_price.main([str(program), "--runs", "1", "--seconds", "1"]), out.getvalue()
+        logs = [f"highway-*/{name}/{name}.log" for name in ("hub", "v0", "v1", "v2")]
+        with contextlib.redirect_stdout(out), mock.patch.object(tempfile, "tempdir", self.folder):
+            with mock.patch.object(sync_price.time, "sleep", lambda _: await_files(self.folder, *logs)):
+                return sync_price.main([str(program), "--runs", "1"]), out.getvalue()
 
     def test_runs_in_turn(self):
         status, said = self.main(9)

@@ -14,7 +14,7 @@ from lens_log import read_log, spelled_log
 
 DATA = two_processes.DATA
 SIGNED = DATA / "signed.hwlg"
-MENDS = "shutil.copy(words[0], words[1])"
+MENDS = "copy(words[0], words[1])"
 REPORT = "print('units 4 parked 0 accused 0'); print('faulty -')"
 WAITS = "time.sleep(60)"
 
@@ -126,8 +126,8 @@ class Tries(InFolder):
 
     def network(self, **commands):
         """A program whose nodes write the shipped log and wait, and tell in a file that they were started."""
-        starts = f"open({str(self.folder / 'starts')!r}, 'a').write(sys.argv[1] + ' ' + words[2] + '\\n')"
-        node = f"{starts}; shutil.copy({str(SIGNED)!r}, words[2]); {WAITS}"
+        starts = f"write({str(self.folder / 'starts')!r}, sys.argv[1] + ' ' + words[2] + '\\n', 'a')"
+        node = f"{starts}; copy({str(SIGNED)!r}, words[2]); {WAITS}"
         return self.program(**{"serve": node, "run": node} | commands)
 
     def keys(self):
@@ -152,8 +152,8 @@ class Tries(InFolder):
         self.assertEqual(told, (1, "hub: torn\nv0: faulty 0\nbeside: 3 tries, 2 with a problem\n"))
 
     def test_a_process_that_is_killed_leaves_no_log_or_one_that_replays(self):
-        locks = "Path(words[2] + '.lock').touch()"
-        log = f"shutil.copy({str(SIGNED)!r}, words[2])"
+        locks = "write(words[2] + '.lock', b'')"
+        log = f"copy({str(SIGNED)!r}, words[2])"
         for node, replay, problem in (
                 (f"{locks}; {WAITS}", "", None),
                 (f"{log}; {locks}; {WAITS}", REPORT, None),
