@@ -1,5 +1,5 @@
 #!/usr/bin/env python3
-"""Has a hub lose the last entries of its log, and says whether it has all again once the validators are restarted.
+"""Has a hub lose the last entries of its log, and says whether all is well once the validators are restarted.
 
     hub_losses.py PROGRAM LOSS [--parked N] [--seconds 4]
 
@@ -8,8 +8,8 @@ so many seconds; then the hub is killed, its log cut, and it is started again, a
 are killed and started again, which is the remedy of docs/OPERATING.md. Each time it is printed what the logs hold. With
 `--parked`, the settings of all bound the park so.
 
-The status is 0 where at the end nothing is parked at the hub, its log has more final blocks than after the loss, all
-logs agree, and nobody is faulty; else the folders of the nodes stay. It stands outside the gate and proves nothing.
+The status is 0 where at the end nothing is parked in any log, each has more final blocks than after the loss, all logs
+agree, and nobody is faulty; else the folders of the nodes stay. It stands outside the gate and proves nothing.
 """
 
 import argparse
@@ -87,7 +87,7 @@ def run_for(nodes, seconds, what):
 
 
 def hurt(nodes, words):
-    """Loses and remedies, and answers what the hub held after the loss and at the end."""
+    """Loses and remedies, and answers what the logs held after the loss and hold at the end."""
     hub, *validators = nodes
     for node in nodes:
         node.start()
@@ -95,15 +95,17 @@ def hurt(nodes, words):
     hub.kill()
     print(f"the hub lost {lose(hub.folder / hub.log, words.loss)} entries")
     hub.start()
-    after = run_for(nodes, words.seconds, "after the loss")[0]
+    after = run_for(nodes, words.seconds, "after the loss")
     for node in validators:
         node.kill()
         node.start()
-    return after, run_for(nodes, words.seconds, "the validators restarted")[0]
+    run_for(nodes, words.seconds, "the validators restarted")
+    stop(nodes)
+    return after, run_for(nodes, 0, "at the end")
 
 
 def tried(words, room):
-    """Whether the hub has all again."""
+    """Whether all is well at the end."""
     nodes = network(room, [str(words.program)], steady_port())
     if words.parked:
         bound_park(nodes, words.parked)
@@ -112,8 +114,7 @@ def tried(words, room):
     finally:
         stop(nodes)
     is_well = agree(nodes)
-    print(f"after the loss the hub held {after}; at the end {end}")
-    return is_well and end.parked == 0 and end.finals > after.finals
+    return is_well and all(now.parked == 0 and now.finals > then.finals for then, now in zip(after, end))
 
 
 def loss_of(text):
