@@ -141,10 +141,10 @@ def await_listener(port):
 
 def each_second(port, ended):
     """Connects each second and says nothing."""
-    kept = []
-    while not ended.wait(1):
-        with contextlib.suppress(OSError):
-            kept.append(socket.create_connection(("127.0.0.1", port)))
+    with contextlib.ExitStack() as kept:
+        while not ended.wait(1):
+            with contextlib.suppress(OSError):
+                kept.enter_context(socket.create_connection(("127.0.0.1", port)))
 
 
 def reset_on(port, ended):

@@ -1,15 +1,16 @@
 #!/usr/bin/env python3
-"""Starts a second process on the log of a validator, or kills one as it makes its log, and says whether the log reads as
-what was written and anybody equivocated: two_processes.py PROGRAM KIND TRIES
+"""Starts a second process on the log of a validator, or kills one as it makes its log, and says whether the log reads
+as what was written and anybody equivocated: two_processes.py PROGRAM KIND TRIES
 
     together   two processes `run` validator 0 on one log, started at the same time
-    overlap    a second process starts on the log after a second, and the first is killed 0.3 s later; then a third starts
+    overlap    a second process starts on the log after a second; the first is killed 0.3 s later, and a third starts
     beside     `serve` and `run` have one log
     killed     a process that has no log is killed within 1.5 ms of its lock: then there is no log, or it replays
 
-But for `killed`, each try has a hub and three validators on this machine. At its end all are killed, validator 0 runs once more alone, and
-then the logs of the hub and of validator 0 are read: each entry has to be signed by the keys, nothing may be parked, the two
-logs have to agree, and nobody may be faulty. So a log reads as what was written. The status is 0 where that is so each time.
+But for `killed`, each try has a hub and three validators on this machine. At its end all are killed, validator 0 runs
+once more alone, and then the logs of the hub and of validator 0 are read: each entry has to be signed by the keys,
+nothing may be parked, the two logs have to agree, and nobody may be faulty. So a log reads as what was written. The
+status is 0 where that is so each time.
 
 `--jobs` tries at a time; it stands outside the gate and proves nothing."""
 
@@ -122,20 +123,29 @@ def one_try(program, kind):
         return problem_of(nodes)
 
 
+def lock_problem(node, lock, patience=20):
+    """Waits until there is this lock, and answers why there is none, or None."""
+    until = time.monotonic() + patience
+    while not lock.exists():
+        if node.poll() is not None:
+            return f"v0: it ended with status {node.returncode}, and took no lock"
+        if time.monotonic() > until:
+            return f"v0: it took no lock in {patience:g} seconds"
+    return None
+
+
 def killed_try(program, _kind):
     """What is wrong with the log of a process that was killed as it made it, or None."""
     with tempfile.TemporaryDirectory() as folder:
         nodes = Nodes(program, folder)
         node = nodes.run(0, f"127.0.0.1:{free_port()}")
-        until = time.monotonic() + 20
-        while not (nodes.folder / "v0.log.lock").exists() and time.monotonic() < until:
-            pass
+        problem = lock_problem(node, nodes.folder / "v0.log.lock")
         until = time.monotonic() + random.random() * 0.0015
         while time.monotonic() < until:
             pass
         nodes.kill(node)
-        if not (nodes.folder / "v0.log").exists():
-            return None
+        if problem or not (nodes.folder / "v0.log").exists():
+            return problem
         status, lines = nodes.said("replay", "v0.log")
         return None if status == 0 else f"v0: status {status}: {lines[0]}"
 
