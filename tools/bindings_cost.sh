@@ -1,24 +1,58 @@
 #!/usr/bin/env bash
 # What a delivery costs through the crate for Rust beside one inside the program, in instructions that valgrind counts:
 # bindings_cost.sh PROGRAM LOG. The program replays the log once; the crate delivers it once. Both read it from a file.
-# From each count that of the same with no entry is taken, which leaves the deliveries.
+# From each count that of the same with no entry is taken, which leaves the deliveries. What fails is named, with what
+# it said, and the status is 1 then, or 2 where the words or a tool aren't as they should be.
 set -euo pipefail
+
+stop() {
+    echo "bindings_cost: $2" >&2
+    exit "$1"
+}
+
+[ $# -eq 2 ] || stop 2 "two words are wanted: bindings_cost.sh PROGRAM LOG"
+[ -f "$1" ] && [ -x "$1" ] || stop 2 "$1 is no program"
+[ -f "$2" ] || stop 2 "there is no log $2"
+for tool in cargo python3 valgrind; do
+    command -v "$tool" >/dev/null || stop 2 "there is no $tool here"
+done
 program=$(realpath "$1")
 log=$(realpath "$2")
 cd "$(dirname "$0")/.."
+crate=$PWD/bindings/rust/target/release/examples/measure
 work=$(mktemp -d)
 trap 'rm -rf "$work"' EXIT
-python3 -B - "$log" "$work/none.hwlg" <<'P'
+
+python3 -B - "$log" "$work/none.hwlg" <<'P' || stop 2 "$log can't be read"
 import sys
+
 log = open(sys.argv[1], "rb").read()
-open(sys.argv[2], "wb").write(log[:9 + int.from_bytes(log[5:9], "big")])
+if log[:5] != b"HWLG\1":
+    sys.exit("bindings_cost: a log of version 1 is wanted")
+open(sys.argv[2], "wb").write(log[: 9 + int.from_bytes(log[5:9], "big")])
 P
-(cd bindings/rust && cargo --offline build --quiet --release --example measure)
-crate=bindings/rust/target/release/examples/measure
+(cd bindings/rust && cargo --offline build --quiet --release --example measure) || stop 1 "the crate isn't built"
+
+# Sets `counted` to the instructions of a run.
 count() {
-    valgrind --tool=callgrind --callgrind-out-file=/dev/null "$@" 2>&1 >/dev/null | sed -n 's/.*Collected : //p'
+    local status=0
+    (cd "$work" && valgrind --tool=callgrind --callgrind-out-file=/dev/null "$@" >out 2>said) || status=$?
+    counted=$(sed -n 's/.*Collected : //p' "$work/said")
+    if [ $status -eq 0 ] && [[ $counted =~ ^[0-9]+$ ]]; then return; fi
+    tail -n 8 "$work/out" "$work/said" >&2
+    stop 1 "status $status, and instructions counted: '$counted', of: valgrind $*"
 }
-through=$(($(count "$crate" "$log") - $(count "$crate" "$work/none.hwlg")))
-cd "$work"
-inside=$(($(count "$program" replay "$log") - $(count "$program" replay "$work/none.hwlg")))
-echo "through the crate $through, inside the program $inside: $(python3 -c "print('%.3f' % ($through / $inside))")"
+
+# Sets `cost` to what a run takes more over the log than over one with no entry.
+deliveries() {
+    count "$@" "$log"
+    cost=$counted
+    count "$@" "$work/none.hwlg"
+    cost=$((cost - counted))
+    [ $cost -gt 0 ] || stop 1 "the deliveries cost nothing, so $log has none: $*"
+}
+
+deliveries "$crate"
+through=$cost
+deliveries "$program" replay
+echo "through the crate $through, inside the program $cost: $(python3 -c "print('%.3f' % ($through / $cost))")"
