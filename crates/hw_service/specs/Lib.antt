@@ -9,3 +9,4 @@ pub mod Serve
 pub mod Counts
 pub mod Written
 pub mod Turns
+pub mod Loans

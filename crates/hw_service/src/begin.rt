@@ -244,20 +244,15 @@ fn go_on_fed<F: Files>(
     ensures appends { F.append_faults files.new ≡ F.append_faults files.old }
 {
     let name = name_of(alloc, log)?;
-    match replay_fed(alloc, files, log, Some(config), fanout, consumers) {
-        Ok(replay) => Ok(Node::replayed(alloc, name, config, keys, replay)),
-        Err(fault) => Err(fault),
-    }
+    let replay = replay_fed(alloc, files, log, Some(config), fanout, consumers)?;
+    Ok(Node::replayed(alloc, name, config, keys, replay))
 }
 
 /// A copy of a log's name.
 fn name_of(alloc: Global, log: &str) -> Result<String, OutOfMemory>
     ensures { IfOk result (λ name. string_bytes name ≡ log.now) }
 {
-    match String::from_str(alloc, log) {
-        Ok(name) => Ok(name),
-        Err(_) => Err(OutOfMemory),
-    }
+    Ok(String::from_str(alloc, log)?)
 }
 
 /// What a failed look for the log is answered as.

@@ -12,7 +12,6 @@ use crate::fault::ServiceFault;
 use crate::host::Host;
 use crate::lines::{closing_text, write_bytes};
 use hw_io::{Consumer, Sink};
-use hw_types::OutOfMemory;
 use std::alloc::Global;
 
 /// Tells the consumers that no block follows, and writes the report on the node. Answers how many vertices met
@@ -32,11 +31,7 @@ pub fn close_host<S: Sink>(
     ensures writes { IsWriteCounted (S.faults out.old) (S.faults out.new) result }
 {
     host.fanout.finish(consumers);
-    match closing_text(alloc, &host.node, &host.fanout) {
-        Ok(text) => match write_bytes(out, text.as_slice()) {
-            Ok(()) => Ok(host.node.limit_hits()),
-            Err(fault) => Err(fault),
-        },
-        Err(OutOfMemory) => Err(ServiceFault::OutOfMemory),
-    }
+    let text = closing_text(alloc, &host.node, &host.fanout)?;
+    write_bytes(out, text.as_slice())?;
+    Ok(host.node.limit_hits())
 }

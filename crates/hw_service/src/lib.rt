@@ -7,6 +7,7 @@
 mod begin;
 mod close;
 mod ended;
+mod environment;
 mod fault;
 mod host;
 mod lines;
@@ -18,6 +19,7 @@ mod turns;
 pub use begin::{Sources, begin_host};
 pub use close::close_host;
 pub use ended::Served;
+pub use environment::Environment;
 pub use fault::ServiceFault;
 pub use host::Host;
 pub use lines::tell_end;

@@ -49,10 +49,10 @@ pub fn tell_end<S: Sink>(
         SessionEnd::AppendFault => Err(ServiceFault::Append),
         SessionEnd::Clash => Err(clash_of(node)),
         SessionEnd::OutOfMemory => Err(ServiceFault::OutOfMemory),
-        end => match write_end(alloc, out, who, number, end) {
-            Ok(()) => Ok(is_link_fault(end)),
-            Err(fault) => Err(fault),
-        },
+        end => {
+            write_end(alloc, out, who, number, end)?;
+            Ok(is_link_fault(end))
+        }
     }
 }
 
@@ -60,10 +60,7 @@ pub fn tell_end<S: Sink>(
 fn is_link_fault(end: SessionEnd) -> bool
     ensures { result ≡ is_link_fault end }
 {
-    match end {
-        SessionEnd::LinkFault => true,
-        _ => false,
-    }
+    matches!(end, SessionEnd::LinkFault)
 }
 
 /// Writes the line of a session that ended so.
@@ -78,10 +75,8 @@ fn write_end<S: Sink>(
     ensures fault { IfErr result IsOfOutput }
     ensures writes { IsWriteCounted (S.faults out.old) (S.faults out.new) result }
 {
-    match line_of_end(alloc, who, number, end) {
-        Ok(line) => write_bytes(out, line.as_slice()),
-        Err(OutOfMemory) => Err(ServiceFault::OutOfMemory),
-    }
+    let line = line_of_end(alloc, who, number, end)?;
+    write_bytes(out, line.as_slice())
 }
 
 /// The line of a session that ended so.

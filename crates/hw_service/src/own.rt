@@ -26,6 +26,17 @@ use hw_text::{end_line, put_digest, put_word};
 use hw_types::{Bytes, Config, OutOfMemory, Plan, PlanKind};
 use std::alloc::Global;
 
+/// What a validator makes its unit of.
+#[derive(Clone, Copy)]
+struct Own<'v> {
+    /// The validator's number.
+    me: u32,
+    /// The moment of the clock.
+    moment: u64,
+    /// The value, if the unit is a block.
+    value: &'v [u8],
+}
+
 /// Makes the unit that the validator may make at this moment, and tells of it.
 pub(crate) fn make_unit<F: Files, S: Sink>(
     alloc: Global,
@@ -51,19 +62,13 @@ pub(crate) fn make_unit<F: Files, S: Sink>(
 
     ensures reads { F.read_faults files.new ≡ F.read_faults files.old }
 {
-    match value_at(alloc, host.node.core().state().config(), me, moment) {
-        Ok(value) => make_with(
-            alloc,
-            host,
-            me,
-            moment,
-            value.as_slice(),
-            files,
-            out,
-            consumers,
-        ),
-        Err(OutOfMemory) => Err(ServiceFault::OutOfMemory),
-    }
+    let value = value_at(alloc, host.node.core().state().config(), me, moment)?;
+    let own = Own {
+        me,
+        moment,
+        value: value.as_slice(),
+    };
+    make_with(alloc, host, own, files, out, consumers)
 }
 
 /// The value of a block: the validator's number as four bytes, and its round as eight.
@@ -79,23 +84,21 @@ fn value_at(alloc: Global, config: &Config, me: u32, now: u64) -> Result<Bytes, 
     Ok(Bytes::from_vec(value))
 }
 
-/// Makes the unit that the validator may make at this moment, with this value for a block, and tells of it.
+/// Makes the unit that the validator may make of this, and tells of it.
 fn make_with<F: Files, S: Sink>(
     alloc: Global,
     host: &mut Host,
-    me: u32,
-    moment: u64,
-    value: &[u8],
+    own: Own<'_>,
     files: &mut F,
     out: &mut S,
     consumers: &mut Vec<Box<dyn Consumer>>,
 ) -> Result<(), ServiceFault>
-    requires me { me < length host.old.node.core.config.weights }
-    requires moment { moment < 2 ^ 63 }
-    requires value { length value.now ≤ 4096 }
+    requires me { own.me < length host.old.node.core.config.weights }
+    requires moment { own.moment < 2 ^ 63 }
+    requires value { length own.value.now ≤ 4096 }
     requires room { length consumers.old.items ≤ length host.old.fanout.places }
     requires passed { host.old.fanout.passed ≡ length (told_chain host.old.node.core) }
-    ensures makes { (door : DoorSeen) → MakesWith (seen (λ b. consumed b) (λ b. (⟦<dyn Consumer as Consumer>⟧ b.vtable).faults b.value) (λ b. b.vtable)) F.tells me moment value.now (scene host.old.node host.old.fanout (outside (F.held files.old) door (S.taken out.old) consumers.old.items))
+    ensures makes { (door : DoorSeen) → MakesWith (seen (λ b. consumed b) (λ b. (⟦<dyn Consumer as Consumer>⟧ b.vtable).faults b.value) (λ b. b.vtable)) F.tells own.entry.me own.entry.moment own.entry.value.now (scene host.old.node host.old.fanout (outside (F.held files.old) door (S.taken out.old) consumers.old.items))
         (scene host.new.node host.new.fanout (outside (F.held files.new) door (S.taken out.new) consumers.new.items)) result }
     ensures whole { HaveTaken (seen (λ b. consumed b) (λ b. (⟦<dyn Consumer as Consumer>⟧ b.vtable).faults b.value) (λ b. b.vtable)) host.old.node.core host.old.fanout.passed consumers.old.items → OnOk result (HaveTaken (seen (λ b. consumed b) (λ b. (⟦<dyn Consumer as Consumer>⟧ b.vtable).faults b.value) (λ b. b.vtable)) host.new.node.core host.new.fanout.passed consumers.new.items) }
     ensures room { length consumers.new.items ≤ length host.new.fanout.places }
@@ -106,7 +109,7 @@ fn make_with<F: Files, S: Sink>(
 
     ensures reads { F.read_faults files.new ≡ F.read_faults files.old }
 {
-    match host.node.make(files, me, moment, value) {
+    match host.node.make(files, own.me, own.moment, own.value) {
         Ok(made) => {
             host.fanout.pass(consumers, host.node.core());
             tell_made(alloc, out, &made)
@@ -128,10 +131,10 @@ fn tell_made<S: Sink>(alloc: Global, out: &mut S, made: &Option<Plan>) -> Result
     ensures writes { IsWriteCounted (S.faults out.old) (S.faults out.new) result }
 {
     match made {
-        Some(plan) => match made_line(alloc, plan) {
-            Ok(line) => write_bytes(out, line.as_slice()),
-            Err(OutOfMemory) => Err(ServiceFault::OutOfMemory),
-        },
+        Some(plan) => {
+            let line = made_line(alloc, plan)?;
+            write_bytes(out, line.as_slice())
+        }
         None => Ok(()),
     }
 }

@@ -20,15 +20,12 @@ impl Peer {
     pub fn new(alloc: Global, address: &str) -> Result<Peer, OutOfMemory>
         ensures { IfOk result (λ peer. (string_bytes peer.address ≡ address.now) × (peer.mark ≡ record { pushed = 0; pulled = 0 })) }
     {
-        match String::from_str(alloc, address) {
-            Ok(address) => Ok(Peer {
-                address,
-                mark: PeerMark {
-                    pushed: 0,
-                    pulled: 0,
-                },
-            }),
-            Err(_) => Err(OutOfMemory),
-        }
+        Ok(Peer {
+            address: String::from_str(alloc, address)?,
+            mark: PeerMark {
+                pushed: 0,
+                pulled: 0,
+            },
+        })
     }
 }

@@ -52,10 +52,8 @@ pub fn serve<F: Files, S: Sink, D: Door>(
     ensures writes { IsWriteCounted (S.faults out.old) (S.faults out.new) result }
     ensures link { IfOk result (λ served. IsDoorCounted served.link_failed (D.faults door.old) (D.faults door.new)) }
 {
-    match begin_host(alloc, sources, None, files, consumers) {
-        Ok(mut host) => serve_begun(alloc, &mut host, sessions, files, out, door, consumers),
-        Err(fault) => Err(fault),
-    }
+    let mut host = begin_host(alloc, sources, None, files, consumers)?;
+    serve_begun(alloc, &mut host, sessions, files, out, door, consumers)
 }
 
 /// Lets a node that has begun serve so many sessions, and then reports.
@@ -82,16 +80,12 @@ fn serve_begun<F: Files, S: Sink, D: Door>(
 
     ensures reads { F.read_faults files.new ≡ F.read_faults files.old }
 {
-    match serve_sessions(alloc, host, sessions, files, out, door, consumers) {
-        Ok(link_failed) => match close_host(alloc, host, out, consumers) {
-            Ok(limits) => Ok(Served {
-                limits,
-                link_failed,
-            }),
-            Err(fault) => Err(fault),
-        },
-        Err(fault) => Err(fault),
-    }
+    let link_failed = serve_sessions(alloc, host, sessions, files, out, door, consumers)?;
+    let limits = close_host(alloc, host, out, consumers)?;
+    Ok(Served {
+        limits,
+        link_failed,
+    })
 }
 
 /// Serves so many sessions, one after the other, and answers whether a call of the door failed in one.
@@ -122,10 +116,7 @@ fn serve_sessions<F: Files, S: Sink, D: Door>(
 {
     let mut failed = false;
     for index in 0..sessions {
-        match serve_session(alloc, host, index + 1, files, out, door, consumers) {
-            Ok(one) => failed |= one,
-            Err(fault) => return Err(fault),
-        }
+        failed |= serve_session(alloc, host, index + 1, files, out, door, consumers)?;
     }
     Ok(failed)
 }

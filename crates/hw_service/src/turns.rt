@@ -7,6 +7,7 @@ ghost use Rattle.hw_fanout.specs.Chain.{told_chain};
 ghost use Rattle.hw_service.specs.Scene.{door_seen, outside, scene};
 ghost use Rattle.hw_service.specs.Begin.{names_of};
 ghost use Rattle.hw_service.specs.Begun.{IsAbout};
+ghost use Rattle.hw_service.specs.Loans.{loans};
 ghost use Rattle.hw_service.specs.Steps.{Takes};
 ghost use Rattle.hw_service.specs.Run.{Proceeds, HaveTaken};
 ghost use Rattle.hw_service.specs.Turns.{DrivesAt, DrivesSession, TakesTurn, RunsTurns, turning};
@@ -16,6 +17,7 @@ ghost use Rattle.hw_service.specs.Counts.{IsReadCounted, IsAppendCounted, IsWrit
 use crate::begin::{Sources, begin_host};
 use crate::close::close_host;
 use crate::ended::Served;
+use crate::environment::Environment;
 use crate::fault::ServiceFault;
 use crate::host::Host;
 use crate::lines::tell_end;
@@ -38,32 +40,26 @@ pub fn run<F: Files, S: Sink, C: Clock, D: Door>(
     me: u32,
     turns: u64,
     peers: &mut Vec<Peer>,
-    files: &mut F,
-    out: &mut S,
-    clock: &mut C,
-    door: &mut D,
+    environment: &mut Environment<'_, F, S, C, D>,
     consumers: &mut Vec<Box<dyn Consumer>>,
 ) -> Result<Served, ServiceFault>
     ensures runs { RunsTurns (seen (λ b. consumed b) (λ b. (⟦<dyn Consumer as Consumer>⟧ b.vtable).faults b.value) (λ b. b.vtable)) F.tells (names_of sources.entry) me turns
-        (outside (F.held files.old) (door_seen (D.sessions door.old) (D.accepts door.old) (D.dials door.old) (D.ends door.old)) (S.taken out.old) consumers.old.items)
-        (outside (F.held files.new) (door_seen (D.sessions door.new) (D.accepts door.new) (D.dials door.new) (D.ends door.new)) (S.taken out.new) consumers.new.items) (turning peers.old.items (C.given clock.old)) (turning peers.new.items (C.given clock.new)) result }
+        (outside (F.held environment.old.files.now) (door_seen (D.sessions environment.old.door.now) (D.accepts environment.old.door.now) (D.dials environment.old.door.now) (D.ends environment.old.door.now)) (S.taken environment.old.out.now) consumers.old.items)
+        (outside (F.held environment.new.files.now) (door_seen (D.sessions environment.new.door.now) (D.accepts environment.new.door.now) (D.dials environment.new.door.now) (D.ends environment.new.door.now)) (S.taken environment.new.out.now) consumers.new.items) (turning peers.old.items (C.given environment.old.clock.now)) (turning peers.new.items (C.given environment.new.clock.now)) result }
     ensures peers { length peers.new.items ≡ length peers.old.items }
-    ensures dials { OnOk result (D.dials door.new ≡ raised_by (turns * length peers.old.items) (D.dials door.old)) }
-    ensures accepts { D.accepts door.new ≡ D.accepts door.old }
+    ensures dials { OnOk result (D.dials environment.new.door.now ≡ raised_by (turns * length peers.old.items) (D.dials environment.old.door.now)) }
+    ensures accepts { D.accepts environment.new.door.now ≡ D.accepts environment.old.door.now }
+    ensures lent { loans environment.new.files environment.new.out environment.new.clock environment.new.door ≡ loans environment.old.files environment.old.out environment.old.clock environment.old.door }
 
     // Which counts rise.
-    ensures reads { IsReadCounted (F.read_faults files.old) (F.read_faults files.new) result }
-    ensures about { IsTrue F.tells → IfErr result (λ e. e ≡ fault.Read → IsAbout (names_of sources.entry) (F.faults_about files.old) (F.faults_about files.new)) }
-    ensures appends { IsAppendCounted (F.append_faults files.old) (F.append_faults files.new) result }
-    ensures writes { IsWriteCounted (S.faults out.old) (S.faults out.new) result }
-    ensures link { IfOk result (λ served. IsDoorCounted served.link_failed (D.faults door.old) (D.faults door.new)) }
+    ensures reads { IsReadCounted (F.read_faults environment.old.files.now) (F.read_faults environment.new.files.now) result }
+    ensures about { IsTrue F.tells → IfErr result (λ e. e ≡ fault.Read → IsAbout (names_of sources.entry) (F.faults_about environment.old.files.now) (F.faults_about environment.new.files.now)) }
+    ensures appends { IsAppendCounted (F.append_faults environment.old.files.now) (F.append_faults environment.new.files.now) result }
+    ensures writes { IsWriteCounted (S.faults environment.old.out.now) (S.faults environment.new.out.now) result }
+    ensures link { IfOk result (λ served. IsDoorCounted served.link_failed (D.faults environment.old.door.now) (D.faults environment.new.door.now)) }
 {
-    match begin_host(alloc, sources, Some(me), files, consumers) {
-        Ok(mut host) => run_begun(
-            alloc, &mut host, me, turns, peers, files, out, clock, door, consumers,
-        ),
-        Err(fault) => Err(fault),
-    }
+    let mut host = begin_host(alloc, sources, Some(me), environment.files, consumers)?;
+    run_begun(alloc, &mut host, me, turns, peers, environment, consumers)
 }
 
 /// Lets the validator of a node that has begun take so many turns, and then reports.
@@ -73,40 +69,32 @@ fn run_begun<F: Files, S: Sink, C: Clock, D: Door>(
     me: u32,
     turns: u64,
     peers: &mut Vec<Peer>,
-    files: &mut F,
-    out: &mut S,
-    clock: &mut C,
-    door: &mut D,
+    environment: &mut Environment<'_, F, S, C, D>,
     consumers: &mut Vec<Box<dyn Consumer>>,
 ) -> Result<Served, ServiceFault>
     requires me { me < length host.old.node.core.config.weights }
     requires room { length consumers.old.items ≤ length host.old.fanout.places }
     requires passed { host.old.fanout.passed ≡ length (told_chain host.old.node.core) }
     ensures proceeds { Proceeds (seen (λ b. consumed b) (λ b. (⟦<dyn Consumer as Consumer>⟧ b.vtable).faults b.value) (λ b. b.vtable)) (TakesTurn (seen (λ b. consumed b) (λ b. (⟦<dyn Consumer as Consumer>⟧ b.vtable).faults b.value) (λ b. b.vtable)) F.tells me) 1 turns
-        (scene host.old.node host.old.fanout (outside (F.held files.old) (door_seen (D.sessions door.old) (D.accepts door.old) (D.dials door.old) (D.ends door.old)) (S.taken out.old) consumers.old.items))
-        (outside (F.held files.new) (door_seen (D.sessions door.new) (D.accepts door.new) (D.dials door.new) (D.ends door.new)) (S.taken out.new) consumers.new.items) (turning peers.old.items (C.given clock.old)) (turning peers.new.items (C.given clock.new)) result }
+        (scene host.old.node host.old.fanout (outside (F.held environment.old.files.now) (door_seen (D.sessions environment.old.door.now) (D.accepts environment.old.door.now) (D.dials environment.old.door.now) (D.ends environment.old.door.now)) (S.taken environment.old.out.now) consumers.old.items))
+        (outside (F.held environment.new.files.now) (door_seen (D.sessions environment.new.door.now) (D.accepts environment.new.door.now) (D.dials environment.new.door.now) (D.ends environment.new.door.now)) (S.taken environment.new.out.now) consumers.new.items) (turning peers.old.items (C.given environment.old.clock.now)) (turning peers.new.items (C.given environment.new.clock.now)) result }
     ensures peers { length peers.new.items ≡ length peers.old.items }
-    ensures dials { OnOk result (D.dials door.new ≡ raised_by (turns * length peers.old.items) (D.dials door.old)) }
-    ensures accepts { D.accepts door.new ≡ D.accepts door.old }
-    ensures appends { IsAppendCounted (F.append_faults files.old) (F.append_faults files.new) result }
-    ensures writes { IsWriteCounted (S.faults out.old) (S.faults out.new) result }
-    ensures link { IfOk result (λ served. IsDoorCounted served.link_failed (D.faults door.old) (D.faults door.new)) }
+    ensures dials { OnOk result (D.dials environment.new.door.now ≡ raised_by (turns * length peers.old.items) (D.dials environment.old.door.now)) }
+    ensures accepts { D.accepts environment.new.door.now ≡ D.accepts environment.old.door.now }
+    ensures lent { loans environment.new.files environment.new.out environment.new.clock environment.new.door ≡ loans environment.old.files environment.old.out environment.old.clock environment.old.door }
+    ensures appends { IsAppendCounted (F.append_faults environment.old.files.now) (F.append_faults environment.new.files.now) result }
+    ensures writes { IsWriteCounted (S.faults environment.old.out.now) (S.faults environment.new.out.now) result }
+    ensures link { IfOk result (λ served. IsDoorCounted served.link_failed (D.faults environment.old.door.now) (D.faults environment.new.door.now)) }
     ensures no_read { IfErr result (λ e. e ≢ fault.Read) }
 
-    ensures reads { F.read_faults files.new ≡ F.read_faults files.old }
+    ensures reads { F.read_faults environment.new.files.now ≡ F.read_faults environment.old.files.now }
 {
-    match take_turns(
-        alloc, host, me, turns, peers, files, out, clock, door, consumers,
-    ) {
-        Ok(link_failed) => match close_host(alloc, host, out, consumers) {
-            Ok(limits) => Ok(Served {
-                limits,
-                link_failed,
-            }),
-            Err(fault) => Err(fault),
-        },
-        Err(fault) => Err(fault),
-    }
+    let link_failed = take_turns(alloc, host, me, turns, peers, environment, consumers)?;
+    let limits = close_host(alloc, host, environment.out, consumers)?;
+    Ok(Served {
+        limits,
+        link_failed,
+    })
 }
 
 /// Takes so many turns, one after the other, and answers whether a call of the door failed in a session.
@@ -116,37 +104,32 @@ fn take_turns<F: Files, S: Sink, C: Clock, D: Door>(
     me: u32,
     turns: u64,
     peers: &mut Vec<Peer>,
-    files: &mut F,
-    out: &mut S,
-    clock: &mut C,
-    door: &mut D,
+    environment: &mut Environment<'_, F, S, C, D>,
     consumers: &mut Vec<Box<dyn Consumer>>,
 ) -> Result<bool, ServiceFault>
     requires me { me < length host.old.node.core.config.weights }
     requires room { length consumers.old.items ≤ length host.old.fanout.places }
     requires passed { host.old.fanout.passed ≡ length (told_chain host.old.node.core) }
     ensures takes { Takes (TakesTurn (seen (λ b. consumed b) (λ b. (⟦<dyn Consumer as Consumer>⟧ b.vtable).faults b.value) (λ b. b.vtable)) F.tells me) 1 turns
-        ((scene host.old.node host.old.fanout (outside (F.held files.old) (door_seen (D.sessions door.old) (D.accepts door.old) (D.dials door.old) (D.ends door.old)) (S.taken out.old) consumers.old.items)), turning peers.old.items (C.given clock.old))
-        ((scene host.new.node host.new.fanout (outside (F.held files.new) (door_seen (D.sessions door.new) (D.accepts door.new) (D.dials door.new) (D.ends door.new)) (S.taken out.new) consumers.new.items)), turning peers.new.items (C.given clock.new)) result }
+        ((scene host.old.node host.old.fanout (outside (F.held environment.old.files.now) (door_seen (D.sessions environment.old.door.now) (D.accepts environment.old.door.now) (D.dials environment.old.door.now) (D.ends environment.old.door.now)) (S.taken environment.old.out.now) consumers.old.items)), turning peers.old.items (C.given environment.old.clock.now))
+        ((scene host.new.node host.new.fanout (outside (F.held environment.new.files.now) (door_seen (D.sessions environment.new.door.now) (D.accepts environment.new.door.now) (D.dials environment.new.door.now) (D.ends environment.new.door.now)) (S.taken environment.new.out.now) consumers.new.items)), turning peers.new.items (C.given environment.new.clock.now)) result }
     ensures whole { HaveTaken (seen (λ b. consumed b) (λ b. (⟦<dyn Consumer as Consumer>⟧ b.vtable).faults b.value) (λ b. b.vtable)) host.old.node.core host.old.fanout.passed consumers.old.items → OnOk result (HaveTaken (seen (λ b. consumed b) (λ b. (⟦<dyn Consumer as Consumer>⟧ b.vtable).faults b.value) (λ b. b.vtable)) host.new.node.core host.new.fanout.passed consumers.new.items) }
     ensures room { length consumers.new.items ≤ length host.new.fanout.places }
     ensures passed { OnOk result (host.new.fanout.passed ≡ length (told_chain host.new.node.core)) }
     ensures config { host.new.node.core.config ≡ host.old.node.core.config }
     ensures peers { length peers.new.items ≡ length peers.old.items }
-    ensures dials { OnOk result (D.dials door.new ≡ raised_by (turns * length peers.old.items) (D.dials door.old)) }
-    ensures accepts { D.accepts door.new ≡ D.accepts door.old }
-    ensures appends { IsAppendCounted (F.append_faults files.old) (F.append_faults files.new) result }
-    ensures writes { IsWriteCounted (S.faults out.old) (S.faults out.new) result }
-    ensures link { IfOk result (λ failed. IsDoorCounted failed (D.faults door.old) (D.faults door.new)) }
+    ensures dials { OnOk result (D.dials environment.new.door.now ≡ raised_by (turns * length peers.old.items) (D.dials environment.old.door.now)) }
+    ensures accepts { D.accepts environment.new.door.now ≡ D.accepts environment.old.door.now }
+    ensures lent { loans environment.new.files environment.new.out environment.new.clock environment.new.door ≡ loans environment.old.files environment.old.out environment.old.clock environment.old.door }
+    ensures appends { IsAppendCounted (F.append_faults environment.old.files.now) (F.append_faults environment.new.files.now) result }
+    ensures writes { IsWriteCounted (S.faults environment.old.out.now) (S.faults environment.new.out.now) result }
+    ensures link { IfOk result (λ failed. IsDoorCounted failed (D.faults environment.old.door.now) (D.faults environment.new.door.now)) }
 
-    ensures reads { F.read_faults files.new ≡ F.read_faults files.old }
+    ensures reads { F.read_faults environment.new.files.now ≡ F.read_faults environment.old.files.now }
 {
     let mut failed = false;
     for _index in 0..turns {
-        match take_turn(alloc, host, me, peers, files, out, clock, door, consumers) {
-            Ok(one) => failed |= one,
-            Err(fault) => return Err(fault),
-        }
+        failed |= take_turn(alloc, host, me, peers, environment, consumers)?;
     }
     Ok(failed)
 }
@@ -158,112 +141,114 @@ fn take_turn<F: Files, S: Sink, C: Clock, D: Door>(
     host: &mut Host,
     me: u32,
     peers: &mut Vec<Peer>,
-    files: &mut F,
-    out: &mut S,
-    clock: &mut C,
-    door: &mut D,
+    environment: &mut Environment<'_, F, S, C, D>,
     consumers: &mut Vec<Box<dyn Consumer>>,
 ) -> Result<bool, ServiceFault>
     requires me { me < length host.old.node.core.config.weights }
     requires room { length consumers.old.items ≤ length host.old.fanout.places }
     requires passed { host.old.fanout.passed ≡ length (told_chain host.old.node.core) }
     ensures turn { (number : ℕ) → TakesTurn (seen (λ b. consumed b) (λ b. (⟦<dyn Consumer as Consumer>⟧ b.vtable).faults b.value) (λ b. b.vtable)) F.tells me number
-        ((scene host.old.node host.old.fanout (outside (F.held files.old) (door_seen (D.sessions door.old) (D.accepts door.old) (D.dials door.old) (D.ends door.old)) (S.taken out.old) consumers.old.items)), turning peers.old.items (C.given clock.old))
-        ((scene host.new.node host.new.fanout (outside (F.held files.new) (door_seen (D.sessions door.new) (D.accepts door.new) (D.dials door.new) (D.ends door.new)) (S.taken out.new) consumers.new.items)), turning peers.new.items (C.given clock.new)) result }
+        ((scene host.old.node host.old.fanout (outside (F.held environment.old.files.now) (door_seen (D.sessions environment.old.door.now) (D.accepts environment.old.door.now) (D.dials environment.old.door.now) (D.ends environment.old.door.now)) (S.taken environment.old.out.now) consumers.old.items)), turning peers.old.items (C.given environment.old.clock.now))
+        ((scene host.new.node host.new.fanout (outside (F.held environment.new.files.now) (door_seen (D.sessions environment.new.door.now) (D.accepts environment.new.door.now) (D.dials environment.new.door.now) (D.ends environment.new.door.now)) (S.taken environment.new.out.now) consumers.new.items)), turning peers.new.items (C.given environment.new.clock.now)) result }
     ensures whole { HaveTaken (seen (λ b. consumed b) (λ b. (⟦<dyn Consumer as Consumer>⟧ b.vtable).faults b.value) (λ b. b.vtable)) host.old.node.core host.old.fanout.passed consumers.old.items → OnOk result (HaveTaken (seen (λ b. consumed b) (λ b. (⟦<dyn Consumer as Consumer>⟧ b.vtable).faults b.value) (λ b. b.vtable)) host.new.node.core host.new.fanout.passed consumers.new.items) }
     ensures room { length consumers.new.items ≤ length host.new.fanout.places }
     ensures passed { OnOk result (host.new.fanout.passed ≡ length (told_chain host.new.node.core)) }
     ensures config { host.new.node.core.config ≡ host.old.node.core.config }
     ensures peers { length peers.new.items ≡ length peers.old.items }
-    ensures dials { OnOk result (D.dials door.new ≡ raised_by (length peers.old.items) (D.dials door.old)) }
-    ensures accepts { D.accepts door.new ≡ D.accepts door.old }
-    ensures appends { IsAppendCounted (F.append_faults files.old) (F.append_faults files.new) result }
-    ensures writes { IsWriteCounted (S.faults out.old) (S.faults out.new) result }
-    ensures link { IfOk result (λ failed. IsDoorCounted failed (D.faults door.old) (D.faults door.new)) }
+    ensures dials { OnOk result (D.dials environment.new.door.now ≡ raised_by (length peers.old.items) (D.dials environment.old.door.now)) }
+    ensures accepts { D.accepts environment.new.door.now ≡ D.accepts environment.old.door.now }
+    ensures lent { loans environment.new.files environment.new.out environment.new.clock environment.new.door ≡ loans environment.old.files environment.old.out environment.old.clock environment.old.door }
+    ensures appends { IsAppendCounted (F.append_faults environment.old.files.now) (F.append_faults environment.new.files.now) result }
+    ensures writes { IsWriteCounted (S.faults environment.old.out.now) (S.faults environment.new.out.now) result }
+    ensures link { IfOk result (λ failed. IsDoorCounted failed (D.faults environment.old.door.now) (D.faults environment.new.door.now)) }
 
-    ensures reads { F.read_faults files.new ≡ F.read_faults files.old }
+    ensures reads { F.read_faults environment.new.files.now ≡ F.read_faults environment.old.files.now }
 {
-    let moment = clock.now();
-    match make_unit(alloc, host, me, moment, files, out, consumers) {
-        Ok(()) => drive_peers(alloc, host, peers, files, out, door, consumers),
-        Err(fault) => Err(fault),
-    }
+    let moment = environment.clock.now();
+    make_unit(
+        alloc,
+        host,
+        me,
+        moment,
+        environment.files,
+        environment.out,
+        consumers,
+    )?;
+    drive_peers(alloc, host, peers, environment, consumers)
 }
 
 /// Dials each peer once, one after the other, and answers whether a call of the door failed in a session.
-fn drive_peers<F: Files, S: Sink, D: Door>(
+fn drive_peers<F: Files, S: Sink, C: Clock, D: Door>(
     alloc: Global,
     host: &mut Host,
     peers: &mut Vec<Peer>,
-    files: &mut F,
-    out: &mut S,
-    door: &mut D,
+    environment: &mut Environment<'_, F, S, C, D>,
     consumers: &mut Vec<Box<dyn Consumer>>,
 ) -> Result<bool, ServiceFault>
     requires room { length consumers.old.items ≤ length host.old.fanout.places }
     requires passed { host.old.fanout.passed ≡ length (told_chain host.old.node.core) }
-    ensures drives { Takes (DrivesSession (seen (λ b. consumed b) (λ b. (⟦<dyn Consumer as Consumer>⟧ b.vtable).faults b.value) (λ b. b.vtable)) F.tells) 0 (length peers.old.items) ((scene host.old.node host.old.fanout (outside (F.held files.old) (door_seen (D.sessions door.old) (D.accepts door.old) (D.dials door.old) (D.ends door.old)) (S.taken out.old) consumers.old.items)), peers.old.items) ((scene host.new.node host.new.fanout (outside (F.held files.new) (door_seen (D.sessions door.new) (D.accepts door.new) (D.dials door.new) (D.ends door.new)) (S.taken out.new) consumers.new.items)), peers.new.items) result }
+    ensures drives { Takes (DrivesSession (seen (λ b. consumed b) (λ b. (⟦<dyn Consumer as Consumer>⟧ b.vtable).faults b.value) (λ b. b.vtable)) F.tells) 0 (length peers.old.items) ((scene host.old.node host.old.fanout (outside (F.held environment.old.files.now) (door_seen (D.sessions environment.old.door.now) (D.accepts environment.old.door.now) (D.dials environment.old.door.now) (D.ends environment.old.door.now)) (S.taken environment.old.out.now) consumers.old.items)), peers.old.items) ((scene host.new.node host.new.fanout (outside (F.held environment.new.files.now) (door_seen (D.sessions environment.new.door.now) (D.accepts environment.new.door.now) (D.dials environment.new.door.now) (D.ends environment.new.door.now)) (S.taken environment.new.out.now) consumers.new.items)), peers.new.items) result }
     ensures whole { HaveTaken (seen (λ b. consumed b) (λ b. (⟦<dyn Consumer as Consumer>⟧ b.vtable).faults b.value) (λ b. b.vtable)) host.old.node.core host.old.fanout.passed consumers.old.items → OnOk result (HaveTaken (seen (λ b. consumed b) (λ b. (⟦<dyn Consumer as Consumer>⟧ b.vtable).faults b.value) (λ b. b.vtable)) host.new.node.core host.new.fanout.passed consumers.new.items) }
     ensures room { length consumers.new.items ≤ length host.new.fanout.places }
     ensures passed { OnOk result (host.new.fanout.passed ≡ length (told_chain host.new.node.core)) }
     ensures config { host.new.node.core.config ≡ host.old.node.core.config }
     ensures peers { length peers.new.items ≡ length peers.old.items }
-    ensures dials { OnOk result (D.dials door.new ≡ raised_by (length peers.old.items) (D.dials door.old)) }
-    ensures accepts { D.accepts door.new ≡ D.accepts door.old }
-    ensures appends { IsAppendCounted (F.append_faults files.old) (F.append_faults files.new) result }
-    ensures writes { IsWriteCounted (S.faults out.old) (S.faults out.new) result }
-    ensures link { IfOk result (λ failed. IsDoorCounted failed (D.faults door.old) (D.faults door.new)) }
+    ensures dials { OnOk result (D.dials environment.new.door.now ≡ raised_by (length peers.old.items) (D.dials environment.old.door.now)) }
+    ensures accepts { D.accepts environment.new.door.now ≡ D.accepts environment.old.door.now }
+    ensures lent { loans environment.new.files environment.new.out environment.new.clock environment.new.door ≡ loans environment.old.files environment.old.out environment.old.clock environment.old.door }
+    ensures appends { IsAppendCounted (F.append_faults environment.old.files.now) (F.append_faults environment.new.files.now) result }
+    ensures writes { IsWriteCounted (S.faults environment.old.out.now) (S.faults environment.new.out.now) result }
+    ensures link { IfOk result (λ failed. IsDoorCounted failed (D.faults environment.old.door.now) (D.faults environment.new.door.now)) }
+    ensures clock { C.given environment.new.clock.now ≡ C.given environment.old.clock.now }
 
-    ensures reads { F.read_faults files.new ≡ F.read_faults files.old }
+    ensures reads { F.read_faults environment.new.files.now ≡ F.read_faults environment.old.files.now }
 {
     let mut failed = false;
     for place in 0..peers.len() {
-        match drive_peer(
+        failed |= drive_peer(
             alloc,
             host,
             &mut peers[place],
             place as u64,
-            files,
-            out,
-            door,
+            environment,
             consumers,
-        ) {
-            Ok(one) => failed |= one,
-            Err(fault) => return Err(fault),
-        }
+        )?;
     }
     Ok(failed)
 }
 
 /// Dials a peer, which has this number, and tells of the session. Answers whether a call of the door failed in it.
-fn drive_peer<F: Files, S: Sink, D: Door>(
+fn drive_peer<F: Files, S: Sink, C: Clock, D: Door>(
     alloc: Global,
     host: &mut Host,
     peer: &mut Peer,
     number: u64,
-    files: &mut F,
-    out: &mut S,
-    door: &mut D,
+    environment: &mut Environment<'_, F, S, C, D>,
     consumers: &mut Vec<Box<dyn Consumer>>,
 ) -> Result<bool, ServiceFault>
     requires room { length consumers.old.items ≤ length host.old.fanout.places }
     requires passed { host.old.fanout.passed ≡ length (told_chain host.old.node.core) }
-    ensures drives { DrivesAt (seen (λ b. consumed b) (λ b. (⟦<dyn Consumer as Consumer>⟧ b.vtable).faults b.value) (λ b. b.vtable)) F.tells number (scene host.old.node host.old.fanout (outside (F.held files.old) (door_seen (D.sessions door.old) (D.accepts door.old) (D.dials door.old) (D.ends door.old)) (S.taken out.old) consumers.old.items)) (scene host.new.node host.new.fanout (outside (F.held files.new) (door_seen (D.sessions door.new) (D.accepts door.new) (D.dials door.new) (D.ends door.new)) (S.taken out.new) consumers.new.items)) peer.old peer.new result }
+    ensures drives { DrivesAt (seen (λ b. consumed b) (λ b. (⟦<dyn Consumer as Consumer>⟧ b.vtable).faults b.value) (λ b. b.vtable)) F.tells number (scene host.old.node host.old.fanout (outside (F.held environment.old.files.now) (door_seen (D.sessions environment.old.door.now) (D.accepts environment.old.door.now) (D.dials environment.old.door.now) (D.ends environment.old.door.now)) (S.taken environment.old.out.now) consumers.old.items)) (scene host.new.node host.new.fanout (outside (F.held environment.new.files.now) (door_seen (D.sessions environment.new.door.now) (D.accepts environment.new.door.now) (D.dials environment.new.door.now) (D.ends environment.new.door.now)) (S.taken environment.new.out.now) consumers.new.items)) peer.old peer.new result }
     ensures whole { HaveTaken (seen (λ b. consumed b) (λ b. (⟦<dyn Consumer as Consumer>⟧ b.vtable).faults b.value) (λ b. b.vtable)) host.old.node.core host.old.fanout.passed consumers.old.items → HaveTaken (seen (λ b. consumed b) (λ b. (⟦<dyn Consumer as Consumer>⟧ b.vtable).faults b.value) (λ b. b.vtable)) host.new.node.core host.new.fanout.passed consumers.new.items }
     ensures room { length consumers.new.items ≤ length host.new.fanout.places }
     ensures passed { host.new.fanout.passed ≡ length (told_chain host.new.node.core) }
     ensures config { host.new.node.core.config ≡ host.old.node.core.config }
-    ensures dials { D.dials door.new ≡ raised (D.dials door.old) }
-    ensures accepts { D.accepts door.new ≡ D.accepts door.old }
-    ensures appends { IsAppendCounted (F.append_faults files.old) (F.append_faults files.new) result }
-    ensures writes { IsWriteCounted (S.faults out.old) (S.faults out.new) result }
-    ensures link { IfOk result (λ failed. IsDoorCounted failed (D.faults door.old) (D.faults door.new)) }
+    ensures dials { D.dials environment.new.door.now ≡ raised (D.dials environment.old.door.now) }
+    ensures accepts { D.accepts environment.new.door.now ≡ D.accepts environment.old.door.now }
+    ensures lent { loans environment.new.files environment.new.out environment.new.clock environment.new.door ≡ loans environment.old.files environment.old.out environment.old.clock environment.old.door }
+    ensures appends { IsAppendCounted (F.append_faults environment.old.files.now) (F.append_faults environment.new.files.now) result }
+    ensures writes { IsWriteCounted (S.faults environment.old.out.now) (S.faults environment.new.out.now) result }
+    ensures link { IfOk result (λ failed. IsDoorCounted failed (D.faults environment.old.door.now) (D.faults environment.new.door.now)) }
+    ensures clock { C.given environment.new.clock.now ≡ C.given environment.old.clock.now }
 
-    ensures reads { F.read_faults files.new ≡ F.read_faults files.old }
+    ensures reads { F.read_faults environment.new.files.now ≡ F.read_faults environment.old.files.now }
 {
-    let end = host
-        .node
-        .drive_one(&mut peer.mark, peer.address.as_str(), door, files);
+    let end = host.node.drive_one(
+        &mut peer.mark,
+        peer.address.as_str(),
+        environment.door,
+        environment.files,
+    );
     host.fanout.pass(consumers, host.node.core());
-    tell_end(alloc, &host.node, out, "peer", number, end)
+    tell_end(alloc, &host.node, environment.out, "peer", number, end)
 }

@@ -13,8 +13,8 @@ replay_fed-requires-clause-wanted g c = config_fits c.args.config.now c.requires
 pub replay_fed-requires-clause-room : goal.replay_fed-requires-clause-room
 replay_fed-requires-clause-room g c = room_for _ _ c.requires.none
 
-pub returns-in-Ok-clause-fed : goal.returns-in-Ok-clause-fed
-returns-in-Ok-clause-fed g c = fed_there _ _ _ _ (ap (λ (t : Taken). t.core) c.replayed.ensures.taken) c.replayed.ensures.config _ _ _ _ c.in-Ok.ensures.fed
+pub returns-clause-fed : goal.returns-clause-fed
+returns-clause-fed g c = fed_there _ _ _ _ (ap (λ (t : Taken). t.core) c.replayed.ensures.taken) c.replayed.ensures.config _ _ _ _ c.in_ok-replay.ensures.fed
 
-pub returns-in-Ok-clause-passed : goal.returns-in-Ok-clause-passed
-returns-in-Ok-clause-passed g c = passed_there _ _ _ _ (ap (λ (t : Taken). t.core) c.replayed.ensures.taken) c.replayed.ensures.config _ _ _ _ (nothing_passed _ _ c.requires.none) c.in-Ok.ensures.fed
+pub returns-clause-passed : goal.returns-clause-passed
+returns-clause-passed g c = passed_there _ _ _ _ (ap (λ (t : Taken). t.core) c.replayed.ensures.taken) c.replayed.ensures.config _ _ _ _ (nothing_passed _ _ c.requires.none) c.in_ok-replay.ensures.fed

@@ -6,6 +6,7 @@ use Rattle.hw_service.specs.Steps.{TakesAll}
 use Rattle.hw_service.specs.Run.{HaveTaken}
 use Rattle.hw_service.specs.Turns.{DrivesSession}
 use Rattle.hw_service.specs.Counts.{IsDoorCounted, raised_by}
+use Rattle.hw_service.specs.Loans.{loans}
 use Rattle.hw_service.proofs.turns.drive_peers.Given as goal
 
 abbrev pub invariant-loop-place : goal.invariant-loop-place
@@ -15,16 +16,18 @@ invariant-loop-place g l =
     let s = g.S.Sink in
     let sight = seen (λ b. (goal.Consumer-dyn g (b.vtable, b.value)).consumed b.value) (λ b. (goal.Consumer-dyn g (b.vtable, b.value)).faults b.value) (λ b. b.vtable) in
     record {
-      taken : TakesAll (DrivesSession sight f.tells) 0 l.place (scene l.initial.host.node l.initial.host.fanout (outside (f.held l.initial.files) (door_seen (d.sessions l.initial.door) (d.accepts l.initial.door) (d.dials l.initial.door) (d.ends l.initial.door)) (s.taken l.initial.out) l.initial.consumers.items), l.initial.peers.items) (scene l.host.node l.host.fanout (outside (f.held l.files) (door_seen (d.sessions l.door) (d.accepts l.door) (d.dials l.door) (d.ends l.door)) (s.taken l.out) l.consumers.items), l.peers.items) l.failed;
-      dials : d.dials l.door ≡ raised_by l.place (d.dials l.initial.door);
+      taken : TakesAll (DrivesSession sight f.tells) 0 l.place (scene l.initial.host.node l.initial.host.fanout (outside (f.held l.initial.environment.files.now) (door_seen (d.sessions l.initial.environment.door.now) (d.accepts l.initial.environment.door.now) (d.dials l.initial.environment.door.now) (d.ends l.initial.environment.door.now)) (s.taken l.initial.environment.out.now) l.initial.consumers.items), l.initial.peers.items) (scene l.host.node l.host.fanout (outside (f.held l.environment.files.now) (door_seen (d.sessions l.environment.door.now) (d.accepts l.environment.door.now) (d.dials l.environment.door.now) (d.ends l.environment.door.now)) (s.taken l.environment.out.now) l.consumers.items), l.peers.items) l.failed;
+      dials : d.dials l.environment.door.now ≡ raised_by l.place (d.dials l.initial.environment.door.now);
       whole : HaveTaken sight l.initial.host.node.core l.initial.host.fanout.passed l.initial.consumers.items → HaveTaken sight l.host.node.core l.host.fanout.passed l.consumers.items;
       places : length l.consumers.items ≤ length l.host.fanout.places;
       passed : l.host.fanout.passed ≡ length (told_chain l.host.node.core);
       config : l.host.node.core.config ≡ l.initial.host.node.core.config;
       peers : length l.peers.items ≡ length l.initial.peers.items;
-      accepts : d.accepts l.door ≡ d.accepts l.initial.door;
-      appends : f.append_faults l.files ≡ f.append_faults l.initial.files;
-      writes : s.faults l.out ≡ s.faults l.initial.out;
-      link : IsDoorCounted l.failed (d.faults l.initial.door) (d.faults l.door);
-      reads : f.read_faults l.files ≡ f.read_faults l.initial.files;
+      accepts : d.accepts l.environment.door.now ≡ d.accepts l.initial.environment.door.now;
+      lent : loans l.environment.files l.environment.out l.environment.clock l.environment.door ≡ loans l.initial.environment.files l.initial.environment.out l.initial.environment.clock l.initial.environment.door;
+      appends : f.append_faults l.environment.files.now ≡ f.append_faults l.initial.environment.files.now;
+      writes : s.faults l.environment.out.now ≡ s.faults l.initial.environment.out.now;
+      link : IsDoorCounted l.failed (d.faults l.initial.environment.door.now) (d.faults l.environment.door.now);
+      clock : g.C.Clock.given l.environment.clock.now ≡ g.C.Clock.given l.initial.environment.clock.now;
+      reads : f.read_faults l.environment.files.now ≡ f.read_faults l.initial.environment.files.now;
     }

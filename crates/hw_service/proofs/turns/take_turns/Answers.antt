@@ -1,4 +1,5 @@
 use Rattle.std.proofs.Common.{◌+◌, refl, ◌∙◌, arith}
+use Rattle.std.proofs.lemmas.Result.{err_from_is_err_and}
 use Rattle.hw_service.proofs.StepLaws.{none_taken, one_taken, last_taken}
 use Rattle.hw_service.proofs.CountLaws.{door_then, raised_zero, raised_then}
 use Rattle.hw_service.proofs.turns.take_turns.Goals as goal
@@ -13,6 +14,7 @@ loop-index-init g c = record {
   config = refl;
   peers = refl;
   accepts = refl;
+  lent = refl;
   appends = refl;
   writes = refl;
   link = refl;
@@ -22,7 +24,7 @@ loop-index-init g c = record {
 pub loop-index-preserved : goal.loop-index-preserved
 loop-index-preserved g c =
     let i = c.loop-index.invariant in
-    let e = c.in-Ok.ensures in
+    let e = c.in_ok-failed.ensures in
     record {
       taken = one_taken _ _ _ (c.loop-index._index + 1) _ _ _ _ _ i.taken (omega arith) (e.turn (c.loop-index._index + 1));
       dials = raised_then _ _ _ _ _ _ i.dials i.peers e.dials;
@@ -32,11 +34,14 @@ loop-index-preserved g c =
       config = e.config ∙ i.config;
       peers = e.peers ∙ i.peers;
       accepts = e.accepts ∙ i.accepts;
+      lent = e.lent ∙ i.lent;
       appends = e.appends ∙ i.appends;
       writes = e.writes ∙ i.writes;
       link = door_then _ _ _ _ _ i.link e.link;
       reads = e.reads ∙ i.reads;
     }
 
-pub returns-in-Err-clause-takes : goal.returns-in-Err-clause-takes
-returns-in-Err-clause-takes g c = last_taken _ _ _ _ (c.loop-index._index + 1) _ _ _ _ c.in-Err.fault c.loop-index.invariant.taken (omega arith) (omega arith) (c.in-Err.ensures.turn (c.loop-index._index + 1))
+pub returns-in_err-failed-clause-takes : goal.returns-in_err-failed-clause-takes
+returns-in_err-failed-clause-takes g c =
+    let p = err_from_is_err_and c.from_residual.result c.from_residual.ensures.1 in
+    rw (p.1, p.2) (last_taken _ _ _ _ (c.loop-index._index + 1) _ _ _ _ c.in_err-failed.field-0.0 c.loop-index.invariant.taken (omega arith) (omega arith) (c.in_err-failed.ensures.turn (c.loop-index._index + 1)))
