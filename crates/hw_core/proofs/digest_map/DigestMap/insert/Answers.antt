@@ -1,6 +1,5 @@
-use Rattle.std.proofs.Common.{List, [], ◌∷◌, ◌++◌, length, length-set, set, zip, sym, ap, ◌∙◌, arith}
+use Rattle.std.proofs.Common.{sym, ap, ◌∙◌}
 use Rattle.std.specs.Map.{lookup}
-use Rattle.std.proofs.lemmas.List.Quantifiers.{position-Some}
 use Rattle.hw_types.specs.Graph.{digest_eq}
 use Rattle.hw_core.specs.Entries.{Entries, insert_entry}
 use Rattle.hw_core.proofs.EntryLaws.{found_nowhere, inserted_new, inserted_old}

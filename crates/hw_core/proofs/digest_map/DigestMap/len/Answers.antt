@@ -1,4 +1,4 @@
-use Rattle.std.proofs.Common.{List, length, sym, ap, subst, ◌∙◌, arith}
+use Rattle.std.proofs.Common.{List, length, sym, ap, subst, arith}
 use Rattle.std.specs.List.{IsDistinct}
 use Rattle.std.specs.Map.{keys_of}
 use Rattle.std.proofs.lemmas.Slice.Zip.{length-zip, firsts-zip}

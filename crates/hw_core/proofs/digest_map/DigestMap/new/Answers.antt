@@ -1,4 +1,4 @@
-use Rattle.std.proofs.Common.{List, length, zip, sym, ap, subst, ◌∙◌}
+use Rattle.std.proofs.Common.{List, length, sym, ap, subst, ◌∙◌}
 use Rattle.std.specs.List.{IsDistinct}
 use Rattle.hw_names.proofs.NameLaws.{none_distinct}
 use Rattle.hw_types.specs.declared.unit.Digest.{Digest}
