@@ -13,8 +13,8 @@ use crate::held::{Held, are_one};
 use hw_codec::encode_unit;
 use hw_safety::Verdict;
 use hw_types::{Digest, OutOfMemory};
-use indexmap::IndexMap;
 use std::alloc::Global;
+use std::collections::HashMap;
 use std::marker::Model;
 
 /// The first unit of a name, and the first of that name that is another unit.
@@ -37,7 +37,7 @@ impl<'a> Model for Known<'a> {
 }
 
 /// The units of a journal by their names.
-type KnownByName<'a> = IndexMap<Digest, Known<'a>>;
+type KnownByName<'a> = HashMap<Digest, Known<'a>>;
 
 /// Two different units of one name, one of each journal.
 #[derive(Drop)]
@@ -129,7 +129,7 @@ fn note<'a>(known: &mut KnownByName<'a>, unit: &'a Held<'a>) -> Result<(), OutOf
 fn known_units<'a>(alloc: Global, units: &'a [Held<'a>]) -> Result<KnownByName<'a>, OutOfMemory>
     ensures { IfOk result (λ known. AreKnown known.entries units.now) }
 {
-    let mut known = IndexMap::new(alloc);
+    let mut known = HashMap::new(alloc);
     for unit in units {
         note(&mut known, unit)?;
     }

@@ -12,8 +12,8 @@ ghost use Rattle.hw_safety.specs.Pairs.{lower_of};
 use crate::held::{Held, are_one};
 use hw_codec::{encode_unit, unit_is_in_range};
 use hw_types::OutOfMemory;
-use indexmap::IndexMap;
 use std::alloc::Global;
+use std::collections::HashMap;
 use std::marker::Model;
 
 /// Where a unit stands: its creator and its sequence number.
@@ -138,7 +138,7 @@ fn make_fork<'a>(first: &'a Held<'a>, second: Option<&'a Held<'a>>) -> Fork<'a>
 }
 
 /// The forks by their places.
-type Forks<'a> = IndexMap<Place, Fork<'a>>;
+type Forks<'a> = HashMap<Place, Fork<'a>>;
 
 /// The fork of the unit's place, with this unit.
 fn fork_with<'a>(
@@ -235,7 +235,7 @@ impl<'a> Equivocations<'a> {
         ensures validators { IfOk result (λ e. length e.least.items ≡ validators) }
     {
         Ok(Equivocations {
-            forks: IndexMap::new(alloc),
+            forks: HashMap::new(alloc),
             least: Vec::from_elem(alloc, None, validators)?,
         })
     }

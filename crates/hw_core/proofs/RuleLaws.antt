@@ -1,7 +1,7 @@
 -- The rules of dropped units, by name.
 use Rattle.std.proofs.Common.{◌≡◌, inl, inr, Bool, true, false, cond, List, [], ◌∷◌, ◌++◌, Some, sym, ap, subst, ◌∙◌}
 use Rattle.std.specs.Prelude.{Result, Ok, Err, OnOk, OnErr, IfErr}
-use Rattle.indexmap.specs.IndexMap.{insert_entry}
+use Rattle.hw_core.specs.Entries.{insert_entry}
 use Rattle.hw_types.specs.declared.unit.Digest.{Digest}
 use Rattle.hw_types.specs.declared.answers.Rule.{Rule}
 use Rattle.hw_types.specs.Graph.{Node, digest_eq}
@@ -92,13 +92,13 @@ module _ (s : NodeState) (start : List (Waiting PreparedUnit)) (rules : List (Di
     }
 
   -- it settled or was dropped
-  pub noted_either : {U : Type 0} (r : Result U Rule) (later : NodeState) (after : List (Waiting PreparedUnit)) (more : List (Digest × Rule)) → OnOk r (admitted_in later ≡ admitted_in t ++ y ∷ [])
+  pub noted_either : {U : Type 0} (r : Result U Rule) (later : NodeState) (after : List (Waiting PreparedUnit)) (written : List (Digest × Rule)) → OnOk r (admitted_in later ≡ admitted_in t ++ y ∷ [])
       → IfErr r (λ rule. state_rule t.config (graph t.dag) y ≡ Some rule) → OnErr r (later ≡ t) → OnErr r (after ≡ left) → waiting_nodes after ≡ waiting_nodes left
-      → OnOk r (more ≡ noted) → IfErr r (λ rule. more ≡ insert_entry digest_eq noted p.digest rule) → HasNoted s start rules later after more
-  noted_either (Ok u) later after more admitted broken stays unstruck nodes same new = subst (λ (rs : List (Digest × Rule)). HasNoted s start rules later after rs) (sym same) (noted_kept later after admitted nodes)
-  noted_either (Err rule) later after more admitted broken stays unstruck nodes same new =
-      subst (λ (l : NodeState). HasNoted s start rules l after more) (sym stays)
-      (subst (λ (ws : List (Waiting PreparedUnit)). HasNoted s start rules t ws more) (sym unstruck)
+      → OnOk r (written ≡ noted) → IfErr r (λ rule. written ≡ insert_entry digest_eq noted p.digest rule) → HasNoted s start rules later after written
+  noted_either (Ok u) later after written admitted broken stays unstruck nodes same new = subst (λ (rs : List (Digest × Rule)). HasNoted s start rules later after rs) (sym same) (noted_kept later after admitted nodes)
+  noted_either (Err rule) later after written admitted broken stays unstruck nodes same new =
+      subst (λ (l : NodeState). HasNoted s start rules l after written) (sym stays)
+      (subst (λ (ws : List (Waiting PreparedUnit)). HasNoted s start rules t ws written) (sym unstruck)
       (subst (λ (rs : List (Digest × Rule)). HasNoted s start rules t left rs) (sym new) (noted_dropped rule broken)))
 
 -- ---- one run after the other

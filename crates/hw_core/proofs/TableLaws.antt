@@ -1,9 +1,9 @@
 -- The table after a new unit.
-use Rattle.std.proofs.Common.{◌≡◌, ◌≢◌, ◌⊎◌, inl, inr, ℕ, Bool, true, false, cond, List, [], ◌∷◌, ◌++◌, length, Some, None, refl, sym, ap, subst, ◌∙◌}
+use Rattle.std.proofs.Common.{◌≡◌, ◌≢◌, ◌⊎◌, inl, inr, ℕ, Bool, true, false, cond, List, [], ◌∷◌, ◌++◌, length, Option, Some, None, refl, sym, ap, subst, ◌∙◌}
 use Rattle.std.specs.Prelude.{slice_get}
 use Rattle.std.specs.Map.{lookup}
 use Rattle.std.proofs.lemmas.List.Elements.{filter_map-append}
-use Rattle.indexmap.specs.IndexMap.{insert_entry}
+use Rattle.hw_core.specs.Entries.{insert_entry}
 use Rattle.hw_types.specs.declared.unit.Digest.{Digest}
 use Rattle.hw_types.specs.declared.unit.SignedUnit.{SignedUnit}
 use Rattle.hw_types.specs.declared.unit.Vertex.{Vertex}
@@ -18,6 +18,7 @@ use Rattle.hw_types.proofs.UnionLaws.{from_left, from_right}
 use Rattle.hw_types.proofs.EntryLaws.{append_cases}
 use Rattle.hw_types.proofs.WordsLaws.{either, never_both}
 use Rattle.hw_core.specs.Keeps.{IsTable}
+use Rattle.hw_core.proofs.EntryLaws.{inserted_new}
 use Rattle.hw_core.proofs.KeptLaws.{get_append, get_last_or}
 
 module _ (eq : Digest → Digest → Bool) (same : (a b : Digest) → eq a b ≡ true → a ≡ b) (self : (a : Digest) → eq a a ≡ true) where
@@ -46,9 +47,17 @@ get_last (y ∷ ys) x = get_last ys x
 pub unit_in : (s : Setting) (u : SignedUnit) → local_rule s.config s.instance u.unit ≡ None → units_in s (vertex.Unit u ∷ []) ≡ named s u.unit ∷ []
 unit_in s u none = rw none refl
 
+-- a name that no unit of the journal has isn't in the table
+pub name_unknown : (s : Setting) (journal : List Vertex) (names : List (Digest × ℕ)) (name : Digest) → ((x : Node) → Among x (units_in s journal) → x.digest ≢ name) → IsTable s journal names → lookup (digest_eq name) names ≡ None
+name_unknown s journal names name fresh table = go (lookup (digest_eq name) names) refl
+  where
+    go : (o : Option ℕ) → lookup (digest_eq name) names ≡ o → lookup (digest_eq name) names ≡ None
+    go None e = e
+    go (Some n) e = let k = table.known name n e in absurd (fresh (named s k.0.unit) k.3 k.2)
+
 -- a new unit has the last place by its name
 pub table_unit : (s : Setting) (journal : List Vertex) (names : List (Digest × ℕ)) (u : SignedUnit) (name : Digest) → name ≡ s.name u.unit → local_rule s.config s.instance u.unit ≡ None
-    → ((x : Node) → Among x (units_in s journal) → x.digest ≢ name) → IsTable s journal names → IsTable s (journal ++ vertex.Unit u ∷ []) (insert_entry digest_eq names name (length journal))
+    → ((x : Node) → Among x (units_in s journal) → x.digest ≢ name) → IsTable s journal names → IsTable s (journal ++ vertex.Unit u ∷ []) (names ++ (name, length journal) ∷ [])
 table_unit s journal names u name is none fresh table = record {
   placed = λ n w h. placed n w h;
   known = λ d n h. known d n (either (digest_eq d name)) (sym (looked d) ∙ h);
@@ -58,13 +67,15 @@ table_unit s journal names u name is none fresh table = record {
     units : units_in s (journal ++ vertex.Unit u ∷ []) ≡ units_in s journal ++ units_in s (vertex.Unit u ∷ [])
     units = filter_map-append (unit_of_vertex s) journal (vertex.Unit u ∷ [])
 
-    looked : (d : Digest) → lookup (digest_eq d) (insert_entry digest_eq names name (length journal)) ≡ cond (digest_eq d name) (Some (length journal)) (lookup (digest_eq d) names)
-    looked d = lookup_inserted digest_eq digest_same digest_self name (length journal) d names
+    looked : (d : Digest) → lookup (digest_eq d) (names ++ (name, length journal) ∷ []) ≡ cond (digest_eq d name) (Some (length journal)) (lookup (digest_eq d) names)
+    looked d =
+        ap (λ (es : List (Digest × ℕ)). lookup (digest_eq d) es) (sym (inserted_new digest_eq name (length journal) names (name_unknown s journal names name fresh table)))
+        ∙ lookup_inserted digest_eq digest_same digest_self name (length journal) d names
 
     last : Among (named s u.unit) (units_in s (journal ++ vertex.Unit u ∷ []))
     last = subst (λ (xs : List Node). Among (named s u.unit) xs) (sym units) (from_right (named s u.unit) (units_in s journal) (units_in s (vertex.Unit u ∷ [])) (subst (λ (xs : List Node). Among (named s u.unit) xs) (sym (unit_in s u none)) (inl refl)))
 
-    placed : (n : ℕ) (w : SignedUnit) → slice_get (journal ++ vertex.Unit u ∷ []) n ≡ Some (vertex.Unit w) → lookup (digest_eq (s.name w.unit)) (insert_entry digest_eq names name (length journal)) ≡ Some n
+    placed : (n : ℕ) (w : SignedUnit) → slice_get (journal ++ vertex.Unit u ∷ []) n ≡ Some (vertex.Unit w) → lookup (digest_eq (s.name w.unit)) (names ++ (name, length journal) ∷ []) ≡ Some n
     placed n w h = elim (get_last_or journal (vertex.Unit u) n (vertex.Unit w) h) [
       | inl old ↦
           let at = table.placed n w old in

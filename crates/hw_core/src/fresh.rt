@@ -1,7 +1,6 @@
 //! New units: each is made ready, and settles, is dropped or is parked.
 
 ghost use Rattle.std.specs.Prelude.{◌≡◌, ◌+◌, ◌^◌, ◌<◌, ◌≤◌, ◌≢◌, List, length, [], IfOk, IfErr, OnOk, OnErr};
-ghost use Rattle.indexmap.specs.IndexMap.{spare as room_of};
 ghost use Rattle.hw_types.specs.declared.answers.Rule.{Rule as Why};
 ghost use Rattle.hw_types.specs.declared.unit.Digest.{Digest as Name};
 ghost use Rattle.hw_types.specs.declared.unit.Vertex.TheVariants as vertex;
@@ -17,41 +16,40 @@ ghost use Rattle.hw_core.specs.Deliver.{answer_to, IsRefusal};
 ghost use Rattle.hw_core.specs.Units.{IsNewUnit, IsPlaced};
 
 use crate::decided::Decided;
+use crate::digest_map::DigestMap;
 use crate::journal::Journal;
 use crate::missing::missing;
 use crate::settle::settle_new;
-use crate::units::units_at_most;
+use crate::units::{NamedUnit, units_at_most};
 use crate::unmet::is_whole;
 use hw_admit::State;
 use hw_dag::{NoRoom, Prepared};
 use hw_park::Park;
 use hw_types::{Cause, Digest, OutOfMemory, Receipt, Rule, SignedUnit, Vertex};
-use indexmap::IndexMap;
 use std::alloc::Global;
 
 /// Takes the memory that a new unit can want, but for a list of its needs. The unit comes back copied,
 /// with its name and the room that it will need in the graph.
 pub fn ready_unit(
-    names: &mut IndexMap<Digest, u32>,
+    names: &mut DigestMap<u32>,
     journal: &mut Journal,
     park: &Park<Prepared>,
-    dropped: &mut IndexMap<Digest, Rule>,
+    dropped: &mut DigestMap<Rule>,
     state: &mut State,
     decided: &mut Decided,
-    unit: &SignedUnit,
-    name: Digest,
+    named: NamedUnit<'_>,
 ) -> Result<Prepared, OutOfMemory>
     requires node { IsNode journal.old.items park.now state.old }
     requires listed { length decided.old.decisions ≡ length decided.old.detector.found }
-    requires fits { IsFor (length state.old.config.weights) unit.now }
-    ensures signed { IfOk result (λ prepared. prepared.signed ≡ unit.now) }
-    ensures digest { IfOk result (λ prepared. prepared.digest ≡ name) }
+    requires fits { IsFor (length state.old.config.weights) named.unit.now }
+    ensures signed { IfOk result (λ prepared. prepared.signed ≡ named.entry.unit.now) }
+    ensures digest { IfOk result (λ prepared. prepared.digest ≡ named.entry.name) }
     ensures names { names.new.entries ≡ names.old.entries }
     ensures items { journal.new.items ≡ journal.old.items }
     ensures dropped { dropped.new.entries ≡ dropped.old.entries }
-    ensures more { room_of dropped.old ≤ room_of dropped.new }
-    ensures places { OnOk result (length park.now.waiting + 1 ≤ room_of dropped.new) }
-    ensures table { OnOk result (1 ≤ room_of names.new) }
+    ensures more { dropped.old.room ≤ dropped.new.room }
+    ensures places { OnOk result (length park.now.waiting + 1 ≤ dropped.new.room) }
+    ensures table { OnOk result (1 ≤ names.new.room) }
     ensures place { OnOk result (length journal.new.items + 1 ≤ journal.new.capacity) }
     ensures few { OnOk result (length journal.old.items < 2 ^ 32) }
     ensures room { OnOk result (length park.now.waiting + 1 ≤ state.new.spare) }
@@ -62,19 +60,19 @@ pub fn ready_unit(
 {
     // For the prover: recalls that the configuration is lawful.
     let _config = state.config();
-    let units = units_at_most(journal.as_slice(), park, state);
+    let units = units_at_most(park, state);
     let waiting = park.count() + 1;
     decided.reserve(units)?;
     make_room(names, journal, dropped, state, waiting)?;
-    prepare_copy(state, unit, name)
+    prepare_copy(state, named.unit, named.name)
 }
 
 /// Takes the room for one unit more in the table and the journal, and for so many more in the state and
 /// among the dropped.
 fn make_room(
-    names: &mut IndexMap<Digest, u32>,
+    names: &mut DigestMap<u32>,
     journal: &mut Journal,
-    dropped: &mut IndexMap<Digest, Rule>,
+    dropped: &mut DigestMap<Rule>,
     state: &mut State,
     count: u32,
 ) -> Result<(), OutOfMemory>
@@ -82,9 +80,9 @@ fn make_room(
     ensures names { names.new.entries ≡ names.old.entries }
     ensures items { journal.new.items ≡ journal.old.items }
     ensures dropped { dropped.new.entries ≡ dropped.old.entries }
-    ensures more { room_of dropped.old ≤ room_of dropped.new }
-    ensures places { OnOk result (count ≤ room_of dropped.new) }
-    ensures table { OnOk result (1 ≤ room_of names.new) }
+    ensures more { dropped.old.room ≤ dropped.new.room }
+    ensures places { OnOk result (count ≤ dropped.new.room) }
+    ensures table { OnOk result (1 ≤ names.new.room) }
     ensures place { OnOk result (length journal.new.items + 1 ≤ journal.new.capacity) }
     ensures room { OnOk result (count ≤ state.new.spare) }
     ensures unchanged { HasMoreRoom state.old state.new }
@@ -108,7 +106,7 @@ fn prepare_copy(state: &State, unit: &SignedUnit, name: Digest) -> Result<Prepar
     }
 }
 
-/// Lets a copy go for which there was no room. It stands apart, since a function clears the room of all that it may let go.
+/// Lets a copy go for which there was no room. Out of line: the back end zeroes a function's whole frame on entry.
 fn let_go(no_room: NoRoom) -> OutOfMemory {
     drop(no_room);
     OutOfMemory
@@ -120,7 +118,7 @@ pub fn place_unit(
     alloc: Global,
     journal: &[Vertex],
     park: &mut Park<Prepared>,
-    dropped: &mut IndexMap<Digest, Rule>,
+    dropped: &mut DigestMap<Rule>,
     state: &mut State,
     mut prepared: Prepared,
 ) -> Result<Receipt, Cause>
@@ -129,9 +127,9 @@ pub fn place_unit(
     requires new { IsNewUnit state.old.config journal.now prepared.signed prepared.digest }
     requires fits { Fits prepared.signed.unit }
     requires room { length park.old.waiting + 1 ≤ state.old.spare }
-    requires places { length park.old.waiting + 1 ≤ room_of dropped.old }
+    requires places { length park.old.waiting + 1 ≤ dropped.old.room }
     ensures placed { IfOk result (λ receipt. IsPlaced state.old (length park.old.waiting) journal.now prepared.signed state.new park.new dropped.new.entries receipt) }
-    ensures places { length park.new.waiting ≤ room_of dropped.new }
+    ensures places { length park.new.waiting ≤ dropped.new.room }
     ensures refused { IfErr result (λ cause. IsRefusal cause (answer_to state.old.config journal.now (vertex.Unit prepared.signed))) }
     ensures still { OnErr result (state.new ≡ state.old) }
     ensures unparked { OnErr result (park.new ≡ park.old) }
@@ -148,7 +146,7 @@ pub fn place_unit(
 fn settle_unit(
     journal: &[Vertex],
     park: &mut Park<Prepared>,
-    dropped: &mut IndexMap<Digest, Rule>,
+    dropped: &mut DigestMap<Rule>,
     state: &mut State,
     prepared: Prepared,
 ) -> Receipt
@@ -156,11 +154,11 @@ fn settle_unit(
     requires rules { AreRules (setting_of state.old.config) journal.now dropped.old.entries }
     requires new { IsNewUnit state.old.config journal.now prepared.signed prepared.digest }
     requires room { length park.old.waiting + 1 ≤ state.old.spare }
-    requires places { length park.old.waiting + 1 ≤ room_of dropped.old }
+    requires places { length park.old.waiting + 1 ≤ dropped.old.room }
     requires met { missing_of state.old.config (known_in state.old) (graph state.old.dag) (node_prepared prepared) ≡ [] }
     requires resolved { IsResolved state.old.dag prepared }
     ensures placed { IsPlaced state.old (length park.old.waiting) journal.now prepared.signed state.new park.new dropped.new.entries result }
-    ensures places { length park.new.waiting ≤ room_of dropped.new }
+    ensures places { length park.new.waiting ≤ dropped.new.room }
 {
     // The journal stands in the contract alone.
     let _ = journal;

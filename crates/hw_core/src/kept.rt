@@ -15,13 +15,16 @@ ghost use Rattle.hw_core.specs.Deliver.{IsRefusal, IsTaken};
 ghost use Rattle.hw_core.specs.Units.{IsNewUnit};
 
 use crate::decided::Decided;
+use crate::digest_map::DigestMap;
 use crate::endorsements::{add_endorsement, test_endorsement};
 use crate::evidence::{add_evidence, test_evidence};
 use crate::follow::follow;
 use crate::journal::Journal;
 use crate::shown::Shown;
 use crate::start::begin;
-use crate::units::{UnitRefused, add_unit, list_unit, test_local, test_named, unit_back};
+use crate::units::{
+    NamedUnit, UnitRefused, add_unit, list_unit, test_local, test_named, unit_back,
+};
 use hw_admit::{State, StateStart};
 use hw_codec::digest_of;
 use hw_dag::{Prepared, UnitNo};
@@ -29,7 +32,6 @@ use hw_park::Park;
 use hw_types::{
     Cause, Config, Digest, Endorsement, Evidence, OutOfMemory, Receipt, Rule, SignedUnit, Vertex,
 };
-use indexmap::IndexMap;
 use std::alloc::Global;
 use std::marker::Model;
 
@@ -46,11 +48,11 @@ pub(crate) struct Kept {
     instance: Digest,
     journal: Journal,
     /// The place in the journal of each unit, by its name.
-    names: IndexMap<Digest, u32>,
+    names: DigestMap<u32>,
     /// The units that miss something.
     park: Park<Prepared>,
     /// The rule that each dropped unit breaks, by its name.
-    dropped: IndexMap<Digest, Rule>,
+    dropped: DigestMap<Rule>,
     /// The settled units, and what follows from them.
     state: State,
     /// The fork choice of the state.
@@ -79,7 +81,6 @@ impl Drop for Kept {
 
 impl Model for Kept {
     ghost use Rattle.hw_types.specs.Real.{CoreState};
-    ghost use Rattle.indexmap.specs.IndexMap.{spare as room_of};
     ghost use Rattle.hw_core.specs.Keeps.{IsKept};
 
     ghost Value = { CoreState };
@@ -89,7 +90,7 @@ impl Model for Kept {
       journal = c.journal.items;
     } };
 
-    ghost invariant = { λ c. IsKept c.instance c.journal.items c.names.entries c.park c.dropped.entries (room_of c.dropped) c.state c.fork c.decided c.shown };
+    ghost invariant = { λ c. IsKept c.instance c.journal.items c.names.entries c.park c.dropped.entries c.dropped.room c.state c.fork c.decided c.shown };
 }
 
 impl Kept {
@@ -106,8 +107,8 @@ impl Kept {
                 // For the prover: recalls what is said of each graph.
                 let _graph = state.dag();
                 let journal = Journal::new(alloc);
-                let names = IndexMap::new(alloc);
-                let dropped = IndexMap::new(alloc);
+                let names = DigestMap::new(alloc);
+                let dropped = DigestMap::new(alloc);
                 Ok(Kept {
                     instance: start.instance,
                     journal,
@@ -210,7 +211,7 @@ impl Kept {
         ensures local { OnOk result (local_rule self.now.config (instance_of self.now.config) unit.now.unit ≡ None) }
         ensures refused { IfErr result (λ cause. IsRefusal cause (answer_in self.now (vertex.Unit unit.now) true)) }
     {
-        test_local(&self.instance, self.journal.as_slice(), &self.state, unit)
+        test_local(&self.instance, &self.state, unit)
     }
 
     /// The name of a unit that keeps the local rules.
@@ -239,7 +240,6 @@ impl Kept {
         test_named(
             &self.names,
             self.journal.as_slice(),
-            &self.park,
             &self.state,
             unit,
             name,
@@ -263,8 +263,7 @@ impl Kept {
             &mut self.dropped,
             &mut self.state,
             &mut self.decided,
-            &unit,
-            name,
+            NamedUnit { unit: &unit, name },
         );
         // For the prover: recalls what is said of each graph.
         let _graph = self.state.dag();
@@ -296,12 +295,7 @@ impl Kept {
         ensures journal { OnOk result (self.new ≡ after_in self.old (vertex.Endorsement endorsement) true) }
         ensures unchanged { OnErr result (self.new ≡ self.old) }
     {
-        match test_endorsement(
-            self.journal.as_slice(),
-            &self.park,
-            &self.state,
-            &endorsement,
-        ) {
+        match test_endorsement(self.journal.as_slice(), &self.state, &endorsement) {
             Ok(true) => Ok(Receipt::Repeat),
             Ok(false) => self.take_endorsement(endorsement),
             Err(cause) => Err(sent_back(cause, Vertex::Endorsement(endorsement))),
@@ -359,7 +353,6 @@ impl Kept {
             alloc,
             &self.instance,
             self.journal.as_slice(),
-            &self.park,
             &self.state,
             &evidence,
         ) {

@@ -6,6 +6,9 @@ use Rattle.hw_core.proofs.PlaceLaws.{always_ok}
 use Rattle.hw_core.proofs.UnitBoundLaws.{waits_few, settled_few, journal_few}
 use Rattle.hw_core.proofs.fresh.ready_unit.Goals as goal
 
+pub units_at_most-units-requires : goal.units_at_most-units-requires
+units_at_most-units-requires c = (c.args.journal.now.items, c.requires.node)
+
 pub overflow_add-waiting : goal.overflow_add-waiting
 overflow_add-waiting c =
     let count = c.count-waiting.ensures in
@@ -22,7 +25,7 @@ make_room-requires c =
     omega arith
 
 pub prepare_copy-requires : goal.prepare_copy-requires
-prepare_copy-requires c = subst (λ (t : NodeState). IsFor (length t.config.weights) c.args.unit.now) (sym c.make_room.ensures.unchanged.unchanged) c.requires.fits
+prepare_copy-requires c = subst (λ (t : NodeState). IsFor (length t.config.weights) c.args.named.unit.now) (sym c.make_room.ensures.unchanged.unchanged) c.requires.fits
 
 pub returns-clause-places : goal.returns-clause-places
 returns-clause-places c = always_ok c.prepare_copy.result (let room = c.in_ok-make_room.ensures.places in let count = c.count-waiting.ensures in omega arith)

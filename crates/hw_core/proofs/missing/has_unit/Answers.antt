@@ -1,4 +1,4 @@
-use Rattle.std.proofs.Common.{◌≡◌, false, subst, ◌∙◌}
+use Rattle.std.proofs.Common.{◌≡◌, false, subst}
 use Rattle.std.specs.Prelude.{◌↔◌}
 use Rattle.hw_dag.specs.Dag.{UnitGraph}
 use Rattle.hw_dag.specs.Admission.{IsNew}

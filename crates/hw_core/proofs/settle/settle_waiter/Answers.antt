@@ -1,6 +1,6 @@
 use Rattle.std.proofs.Common.{◌≡◌, ◌++◌, ◌∷◌, [], subst, sym}
 use Rattle.std.specs.Prelude.{Some, None, OnOk, IfErr}
-use Rattle.indexmap.specs.IndexMap.{insert_entry}
+use Rattle.hw_core.specs.Entries.{insert_entry}
 use Rattle.hw_types.specs.declared.answers.Rule.{Rule}
 use Rattle.hw_types.specs.declared.unit.Digest.{Digest}
 use Rattle.hw_types.specs.Graph.{Node, digest_eq}

@@ -11,6 +11,6 @@ returns-in-Ok-clause-local c =
     (verdict_kept (local_rule c.config.result.now c.args.instance.now c.args.unit.now.unit) _ c.in-Ok.ensures)
 
 pub returns-in-Err-clause-refused : goal.returns-in-Err-clause-refused
-returns-in-Err-clause-refused c =
-    broken_local c.args.state.now.config c.args.journal.now c.args.unit.now c.in-Err.rule (subst₂ (λ (config : Config) (d : Digest). local_rule config d c.args.unit.now.unit ≡ Some c.in-Err.rule) c.config.ensures.config c.requires
+returns-in-Err-clause-refused c journal =
+    broken_local c.args.state.now.config journal c.args.unit.now c.in-Err.rule (subst₂ (λ (config : Config) (d : Digest). local_rule config d c.args.unit.now.unit ≡ Some c.in-Err.rule) c.config.ensures.config c.requires
     (verdict_broken (local_rule c.config.result.now c.args.instance.now c.args.unit.now.unit) c.in-Err.rule c.in-Err.ensures))

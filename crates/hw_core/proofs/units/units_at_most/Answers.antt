@@ -6,9 +6,9 @@ use Rattle.hw_core.proofs.units.units_at_most.Goals as goal
 
 pub overflow_add-result : goal.overflow_add-result
 overflow_add-result c =
-    let few = waits_few c.args.journal.now c.args.park.now c.args.state.now c.requires in
-    let settled = settled_few c.args.journal.now c.args.park.now c.args.state.now c.requires c.dag.ensures.graph in
-    let most = journal_few c.args.journal.now c.args.park.now c.args.state.now c.requires c.config-config.ensures.lawful in
+    let few = waits_few c.requires.0 c.args.park.now c.args.state.now c.requires.1 in
+    let settled = settled_few c.requires.0 c.args.park.now c.args.state.now c.requires.1 c.dag.ensures.graph in
+    let most = journal_few c.requires.0 c.args.park.now c.args.state.now c.requires.1 c.config-config.ensures.lawful in
     let count = c.count-2.ensures in
     let units = c.count.ensures.count in
     let same = ap (λ (d : UnitGraph). count_of d) c.dag.ensures.dag in
@@ -16,9 +16,9 @@ overflow_add-result c =
 
 pub overflow_add-result-2 : goal.overflow_add-result-2
 overflow_add-result-2 c =
-    let few = waits_few c.args.journal.now c.args.park.now c.args.state.now c.requires in
-    let settled = settled_few c.args.journal.now c.args.park.now c.args.state.now c.requires c.dag.ensures.graph in
-    let most = journal_few c.args.journal.now c.args.park.now c.args.state.now c.requires c.config-config.ensures.lawful in
+    let few = waits_few c.requires.0 c.args.park.now c.args.state.now c.requires.1 in
+    let settled = settled_few c.requires.0 c.args.park.now c.args.state.now c.requires.1 c.dag.ensures.graph in
+    let most = journal_few c.requires.0 c.args.park.now c.args.state.now c.requires.1 c.config-config.ensures.lawful in
     let count = c.count-2.ensures in
     let units = c.count.ensures.count in
     let same = ap (λ (d : UnitGraph). count_of d) c.dag.ensures.dag in

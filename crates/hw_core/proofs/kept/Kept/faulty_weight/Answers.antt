@@ -1,5 +1,4 @@
 use Rattle.std.proofs.Common.{ap, ◌∙◌}
-use Rattle.indexmap.specs.IndexMap.{spare as room_of}
 use Rattle.hw_types.specs.Real.{CoreState, weight_in}
 use Rattle.hw_core.proofs.KeptLaws.{weight_is}
 use Rattle.hw_core.proofs.kept.Kept.faulty_weight.Goals as goal
@@ -7,5 +6,5 @@ use Rattle.hw_core.proofs.kept.Kept.faulty_weight.Goals as goal
 pub returns : goal.returns
 returns c =
     c.faulty_weight.ensures
-    ∙ weight_is c.self.inside.instance c.self.inside.journal.items c.self.inside.names.entries c.self.inside.park c.self.inside.dropped.entries (room_of c.self.inside.dropped) c.self.inside.state c.self.inside.fork c.self.inside.decided c.self.inside.shown c.self.invariant
+    ∙ weight_is c.self.inside.instance c.self.inside.journal.items c.self.inside.names.entries c.self.inside.park c.self.inside.dropped.entries c.self.inside.dropped.room c.self.inside.state c.self.inside.fork c.self.inside.decided c.self.inside.shown c.self.invariant
     ∙ ap (λ (k : CoreState). weight_in k) c.self.view_is

@@ -1,6 +1,5 @@
 use Rattle.std.proofs.Common.{length, ap, ◌∙◌}
 use Rattle.hw_types.specs.declared.config.Config.{Config}
-use Rattle.indexmap.specs.IndexMap.{spare as room_of}
 use Rattle.hw_types.specs.Spelling.{instance_of}
 use Rattle.hw_dag.specs.Admission.{PreparedUnit}
 use Rattle.hw_park.specs.Parked.{Parked}
@@ -18,7 +17,7 @@ invariant_of-result c =
     let same = c.config.ensures.config in
     kept_start start.instance start.park state (e.instance ∙ ap (λ (config : Config). instance_of config) same) c.config.result.now.max_parked (ap (λ (config : Config). config.max_parked) same) e.park
     (length c.args.config.weights) begun.empty begun.unmarked begun.untold
-    c.new-journal.result.items c.new-journal.ensures.items c.new-names.result.entries c.new-names.ensures.empty c.new-dropped.result.entries c.new-dropped.ensures.empty (room_of c.new-dropped.result) start.decided
+    c.new-journal.result.items c.new-journal.ensures.items c.new-names.result.entries c.new-names.ensures.empty c.new-dropped.result.entries c.new-dropped.ensures.empty c.new-dropped.result.room start.decided
     (decided_start c.args.config state start.decided c.new-journal.result.items (length start.park.waiting) begun.config c.dag-graph.ensures.graph begun.empty c.new-journal.ensures.items
     (ap (λ (k : Parked PreparedUnit). length k.waiting) e.park) (e.config ∙ same ∙ begun.config) e.none e.empty e.true_of)
     start.shown (shown_start (record { config = state.config; journal = c.new-journal.result.items }) state start.shown (length c.args.config.weights) begun.validators

@@ -9,7 +9,6 @@ use Rattle.hw_dag.specs.Dag.{UnitGraph, SettledUnit, graph, unit_at, view_at, ob
 use Rattle.hw_dag.proofs.SlotLaws.{slot_of}
 use Rattle.hw_admit.specs.State.{observed_in}
 use Rattle.hw_core.proofs.ReaderLaws.{panorama_is}
-use Rattle.indexmap.specs.IndexMap.{spare as room_of}
 use Rattle.hw_core.proofs.kept.Kept.observation.Goals as goal
 
 pub returns-in-Absent : goal.returns-in-Absent
@@ -19,7 +18,7 @@ returns-in-Absent c =
     refl
     ∙ ap (λ (w : View). obs_of core.state.dag w) (sym (ap (λ (p : List View). view_at p c.args.validator) (sym c.panorama.ensures.panorama) ∙ sym c.get.ensures ∙ c.in-Absent.is))
     ∙ sym (slot_of core.state.dag core.state.panorama c.args.validator)
-    ∙ ap (λ (p : List Obs). slot p c.args.validator) (observed ∙ panorama_is core.instance core.journal.items core.names.entries core.park core.dropped.entries (room_of core.dropped) core.state core.fork core.decided core.shown c.self.invariant)
+    ∙ ap (λ (p : List Obs). slot p c.args.validator) (observed ∙ panorama_is core.instance core.journal.items core.names.entries core.park core.dropped.entries core.dropped.room core.state core.fork core.decided core.shown c.self.invariant)
     ∙ ap (λ (k : CoreState). slot (panorama_in k) c.args.validator) c.self.view_is
 
 pub returns-in-Correct : goal.returns-in-Correct
@@ -31,7 +30,7 @@ returns-in-Correct c =
     ap (λ (d : Digest). obs.Correct d) name
     ∙ ap (λ (w : View). obs_of core.state.dag w) (sym (ap (λ (p : List View). view_at p c.args.validator) (sym c.panorama.ensures.panorama) ∙ sym c.get.ensures ∙ c.in-Correct.is))
     ∙ sym (slot_of core.state.dag core.state.panorama c.args.validator)
-    ∙ ap (λ (p : List Obs). slot p c.args.validator) (observed ∙ panorama_is core.instance core.journal.items core.names.entries core.park core.dropped.entries (room_of core.dropped) core.state core.fork core.decided core.shown c.self.invariant)
+    ∙ ap (λ (p : List Obs). slot p c.args.validator) (observed ∙ panorama_is core.instance core.journal.items core.names.entries core.park core.dropped.entries core.dropped.room core.state core.fork core.decided core.shown c.self.invariant)
     ∙ ap (λ (k : CoreState). slot (panorama_in k) c.args.validator) c.self.view_is
 
 pub returns-in-Faulty : goal.returns-in-Faulty
@@ -41,5 +40,5 @@ returns-in-Faulty c =
     refl
     ∙ ap (λ (w : View). obs_of core.state.dag w) (sym (ap (λ (p : List View). view_at p c.args.validator) (sym c.panorama.ensures.panorama) ∙ sym c.get.ensures ∙ c.in-Faulty.is))
     ∙ sym (slot_of core.state.dag core.state.panorama c.args.validator)
-    ∙ ap (λ (p : List Obs). slot p c.args.validator) (observed ∙ panorama_is core.instance core.journal.items core.names.entries core.park core.dropped.entries (room_of core.dropped) core.state core.fork core.decided core.shown c.self.invariant)
+    ∙ ap (λ (p : List Obs). slot p c.args.validator) (observed ∙ panorama_is core.instance core.journal.items core.names.entries core.park core.dropped.entries core.dropped.room core.state core.fork core.decided core.shown c.self.invariant)
     ∙ ap (λ (k : CoreState). slot (panorama_in k) c.args.validator) c.self.view_is

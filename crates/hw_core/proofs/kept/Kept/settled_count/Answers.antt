@@ -1,6 +1,5 @@
 use Rattle.std.proofs.Common.{List, length, sym, ap, ◌∙◌}
 use Rattle.hw_types.specs.Graph.{Node}
-use Rattle.indexmap.specs.IndexMap.{spare as room_of}
 use Rattle.hw_types.specs.Real.{CoreState, settled_in}
 use Rattle.hw_dag.specs.Dag.{UnitGraph, count_of}
 use Rattle.hw_core.proofs.CountLaws.{graph_length}
@@ -12,5 +11,5 @@ returns c =
     c.count.ensures.count
     ∙ ap (λ (d : UnitGraph). count_of d) c.dag.ensures.dag
     ∙ sym (graph_length c.self.inside.state.dag c.dag.ensures.graph)
-    ∙ ap (λ (xs : List Node). length xs) (settled_is c.self.inside.instance c.self.inside.journal.items c.self.inside.names.entries c.self.inside.park c.self.inside.dropped.entries (room_of c.self.inside.dropped) c.self.inside.state c.self.inside.fork c.self.inside.decided c.self.inside.shown c.self.invariant)
+    ∙ ap (λ (xs : List Node). length xs) (settled_is c.self.inside.instance c.self.inside.journal.items c.self.inside.names.entries c.self.inside.park c.self.inside.dropped.entries c.self.inside.dropped.room c.self.inside.state c.self.inside.fork c.self.inside.decided c.self.inside.shown c.self.invariant)
     ∙ ap (λ (k : CoreState). length (settled_in k)) c.self.view_is

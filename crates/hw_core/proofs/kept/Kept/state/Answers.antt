@@ -1,5 +1,4 @@
 use Rattle.std.proofs.Common.{ap, subst, ◌∙◌}
-use Rattle.indexmap.specs.IndexMap.{spare as room_of}
 use Rattle.hw_types.specs.Real.{CoreState, panorama_in}
 use Rattle.hw_core.specs.Deliver.{HasCome}
 use Rattle.hw_core.specs.Order.{order_in}
@@ -11,7 +10,7 @@ pub returns-clause-panorama : goal.returns-clause-panorama
 returns-clause-panorama c =
     let core = c.self.inside in
     c.panorama-panorama.ensures.observed
-    ∙ panorama_is core.instance core.journal.items core.names.entries core.park core.dropped.entries (room_of core.dropped) core.state core.fork core.decided core.shown c.self.invariant
+    ∙ panorama_is core.instance core.journal.items core.names.entries core.park core.dropped.entries core.dropped.room core.state core.fork core.decided core.shown c.self.invariant
     ∙ ap (λ (k : CoreState). panorama_in k) c.self.view_is
 
 pub returns-clause-order : goal.returns-clause-order

@@ -1,6 +1,5 @@
 use Rattle.std.proofs.Common.{cond, ◌≡◌, ℕ, ◌<◌, Some, ◌∙◌, List, length, refl, sym, ap, subst, arith}
 use Rattle.std.specs.Prelude.{Option, None, is_some, IfSome, IfNone}
-use Rattle.indexmap.specs.IndexMap.{spare as room_of}
 use Rattle.hw_types.specs.declared.answers.Decision.{Decision}
 use Rattle.hw_horizon.specs.Search.{start_of}
 use Rattle.hw_types.specs.Real.{CoreState}
@@ -18,7 +17,7 @@ pub block-block-requires : goal.block-block-requires
 block-block-requires c =
     let core = c.self.inside in
     let within = subst (λ (k : CoreState). c.args.index < length (decided_in k)) (sym c.self.view_is) c.requires in
-    let same = ap (λ (ds : List Decision). length ds) (decisions_is core.instance core.journal.items core.names.entries core.park core.dropped.entries (room_of core.dropped) core.state core.fork core.decided core.shown c.self.invariant) in
+    let same = ap (λ (ds : List Decision). length ds) (decisions_is core.instance core.journal.items core.names.entries core.park core.dropped.entries core.dropped.room core.state core.fork core.decided core.shown c.self.invariant) in
     let listed = ap (λ (ds : List Decision). length ds) c.self.invariant.decided_is.told.listed in
     let many = mapped_length core.state.dag core.decided.detector.found in
     omega arith
@@ -26,7 +25,7 @@ block-block-requires c =
 pub get-decision-requires : goal.get-decision-requires
 get-decision-requires c =
     let core = c.self.inside in
-    subst (λ (ds : List Decision). c.args.index < length ds) (sym (decisions_is core.instance core.journal.items core.names.entries core.park core.dropped.entries (room_of core.dropped) core.state core.fork core.decided core.shown c.self.invariant)) (subst (λ (k : CoreState). c.args.index < length (decided_in k)) (sym c.self.view_is) c.requires)
+    subst (λ (ds : List Decision). c.args.index < length ds) (sym (decisions_is core.instance core.journal.items core.names.entries core.park core.dropped.entries core.dropped.room core.state core.fork core.decided core.shown c.self.invariant)) (subst (λ (k : CoreState). c.args.index < length (decided_in k)) (sym c.self.view_is) c.requires)
 
 pub show_once-requires-clause-known : goal.show_once-requires-clause-known
 show_once-requires-clause-known c =
@@ -54,8 +53,8 @@ invariant_of-self c =
     let f = c.block-block.ensures in
     let told = c.get-decision.result.now in
     let answer = answer_to core.journal.items core.park core.state c.self.invariant.node core.decided (length core.park.waiting) c.self.invariant.decided_is c.args.index told (sym c.get-decision.ensures) f.0 f.1 c.dag-dag.ensures.graph c.panorama-panorama.ensures.observed in
-    kept_with core.instance core.journal.items core.names.entries core.park core.dropped.entries (room_of core.dropped) core.state core.fork core.decided core.shown c.self.invariant
-    core.journal.items core.names.entries core.park core.dropped.entries (room_of core.dropped) core.state core.fork core.decided c.show_once.new.self refl c.self.invariant.table c.self.invariant.rules_are c.self.invariant.places c.self.invariant.fit
+    kept_with core.instance core.journal.items core.names.entries core.park core.dropped.entries core.dropped.room core.state core.fork core.decided core.shown c.self.invariant
+    core.journal.items core.names.entries core.park core.dropped.entries core.dropped.room core.state core.fork core.decided c.show_once.new.self refl c.self.invariant.table c.self.invariant.rules_are c.self.invariant.places c.self.invariant.fit
     c.self.invariant.pairs c.self.invariant.node c.self.invariant.fork_is c.self.invariant.decided_is
     (record {
       search = c.show_once.ensures.search;

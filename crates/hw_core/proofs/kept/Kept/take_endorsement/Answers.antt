@@ -1,5 +1,4 @@
 use Rattle.std.proofs.Common.{◌+◌, List, length, refl, sym, subst, arith}
-use Rattle.indexmap.specs.IndexMap.{spare as room_of}
 use Rattle.hw_types.specs.declared.unit.Vertex.{Vertex}
 use Rattle.hw_types.specs.declared.unit.Vertex.TheVariants as vertex
 use Rattle.hw_types.specs.Real.{CoreState, setting_of}
@@ -22,7 +21,7 @@ follow-self-inside-requires-clause-told c =
     let e = c.in-Ok.ensures in
     let node = subst (λ (vs : List Vertex). IsNode vs done.park done.state) e.journal c.add_endorsement-added.ensures.node in
     let few = room_less core.decided (length (graph done.state.dag) + length done.park.waiting) (length (graph core.state.dag) + length core.park.waiting) e.room c.self.invariant.decided_is.room in
-    follow_told core.instance core.journal.items core.names.entries core.park core.dropped.entries (room_of core.dropped) core.state core.fork core.decided core.shown c.self.invariant
+    follow_told core.instance core.journal.items core.names.entries core.park core.dropped.entries core.dropped.room core.state core.fork core.decided core.shown c.self.invariant
     (vertex.Endorsement c.args.endorsement) done.state done.park core.decided node c.add_endorsement-added.ensures.config e.grows c.dag-before.ensures.graph c.dag-after.ensures.graph (no_room_more core.decided) few
 
 pub follow-self-inside-requires-clause-room : goal.follow-self-inside-requires-clause-room
@@ -42,11 +41,11 @@ invariant_of-self c =
     let node = subst (λ (vs : List Vertex). IsNode vs done.park done.state) e.journal c.add_endorsement-added.ensures.node in
     let few = room_less core.decided (length (graph done.state.dag) + length done.park.waiting) (length (graph core.state.dag) + length core.park.waiting) e.room c.self.invariant.decided_is.room in
     let followed = subst (λ (vs : List Vertex). HasFollowed done.state (length vs) core.decided run.new.decided run.result) c.as_slice.ensures.value run.ensures.followed in
-    kept_followed core.instance core.journal.items core.names.entries core.park core.dropped.entries (room_of core.dropped) core.state core.fork core.decided core.shown c.self.invariant
+    kept_followed core.instance core.journal.items core.names.entries core.park core.dropped.entries core.dropped.room core.state core.fork core.decided core.shown c.self.invariant
     v done.state done.park core.decided node c.add_endorsement-added.ensures.config e.grows c.dag-before.ensures.graph c.dag-after.ensures.graph (no_room_more core.decided) few
-    done.journal.items e.journal core.names.entries done.dropped.entries (room_of done.dropped)
+    done.journal.items e.journal core.names.entries done.dropped.entries done.dropped.room
     (table_other (setting_of core.state.config) core.journal.items core.names.entries v refl (λ u is. absurd cc) c.self.invariant.table)
     (subst (λ (vs : List Vertex). AreRules (setting_of core.state.config) vs done.dropped.entries) e.journal c.add_endorsement-added.ensures.rules) c.add_endorsement-added.ensures.places
-    (fit_more core.instance core.journal.items core.names.entries core.park core.dropped.entries (room_of core.dropped) core.state core.fork core.decided core.shown c.self.invariant v tt)
-    (pairs_more core.instance core.journal.items core.names.entries core.park core.dropped.entries (room_of core.dropped) core.state core.fork core.decided core.shown c.self.invariant v (λ e is. absurd cc))
+    (fit_more core.instance core.journal.items core.names.entries core.park core.dropped.entries core.dropped.room core.state core.fork core.decided core.shown c.self.invariant v tt)
+    (pairs_more core.instance core.journal.items core.names.entries core.park core.dropped.entries core.dropped.room core.state core.fork core.decided core.shown c.self.invariant v (λ e is. absurd cc))
     run.new.decided run.result followed run.new.shown run.ensures.shown run.new.state run.ensures.state

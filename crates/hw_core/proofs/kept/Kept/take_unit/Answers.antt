@@ -1,5 +1,5 @@
-use Rattle.std.proofs.Common.{◌≡◌, ◌+◌, ℕ, List, [], ◌∷◌, ◌++◌, true, Ok, length, sym, ap, subst, ◌∙◌}
-use Rattle.indexmap.specs.IndexMap.{insert_entry, spare as room_of}
+use Rattle.std.proofs.Common.{◌≡◌, ◌+◌, ℕ, List, [], ◌∷◌, ◌++◌, true, None, Ok, length, sym, ap, subst, ◌∙◌}
+use Rattle.std.specs.Map.{lookup}
 use Rattle.hw_types.specs.declared.unit.Digest.{Digest}
 use Rattle.hw_types.specs.declared.unit.Vertex.{Vertex}
 use Rattle.hw_types.specs.declared.unit.Vertex.TheVariants as vertex
@@ -13,7 +13,7 @@ use Rattle.hw_core.specs.Units.{IsNewUnit}
 use Rattle.hw_core.proofs.DecidedLaws.{mapped_length, room_less}
 use Rattle.hw_core.proofs.KeptLaws.{fit_more, pairs_more}
 use Rattle.hw_core.proofs.FollowLaws.{follow_told, follow_room, kept_followed, kept_quiet, kept_roomy}
-use Rattle.hw_core.proofs.TableLaws.{table_unit}
+use Rattle.hw_core.proofs.TableLaws.{name_unknown, table_unit}
 use Rattle.hw_core.proofs.kept.Kept.take_unit.Goals as goal
 
 pub add_unit-added-requires-clause-listed : goal.add_unit-added-requires-clause-listed
@@ -24,13 +24,20 @@ add_unit-added-requires-clause-listed c =
 pub add_unit-added-requires-clause-new : goal.add_unit-added-requires-clause-new
 add_unit-added-requires-clause-new c = subst (λ (k : CoreState). IsNewUnit k.config k.journal c.args.unit c.args.name) (sym c.self.view_is) c.requires.new
 
+pub list_unit-requires-clause-fresh : goal.list_unit-requires-clause-fresh
+list_unit-requires-clause-fresh c =
+    let core = c.self.inside in
+    let new = subst (λ (k : CoreState). IsNewUnit k.config k.journal c.args.unit c.args.name) (sym c.self.view_is) c.requires.new in
+    subst (λ (es : List (Digest × ℕ)). lookup (digest_eq c.args.name) es ≡ None) (sym c.add_unit-added.ensures.names)
+    (name_unknown (setting_of core.state.config) core.journal.items core.names.entries c.args.name new.fresh c.self.invariant.table)
+
 pub follow-self-inside-requires-clause-told : goal.follow-self-inside-requires-clause-told
 follow-self-inside-requires-clause-told c =
     let core = c.self.inside in
     let done = c.add_unit-added.new in
     let placed = c.in-Ok.ensures.placed in
     let few = room_less done.decided (length (graph done.state.dag) + length done.park.waiting) (length (graph core.state.dag) + (length core.park.waiting + 1)) placed.room c.in-Ok.ensures.blocks in
-    follow_told core.instance core.journal.items core.names.entries core.park core.dropped.entries (room_of core.dropped) core.state core.fork core.decided core.shown c.self.invariant
+    follow_told core.instance core.journal.items core.names.entries core.park core.dropped.entries core.dropped.room core.state core.fork core.decided core.shown c.self.invariant
     (vertex.Unit c.args.unit) done.state done.park done.decided placed.node placed.config placed.grows c.add_unit-added.ensures.graph c.dag-graph.ensures.graph c.add_unit-added.ensures.decided few
 
 pub follow-self-inside-requires-clause-room : goal.follow-self-inside-requires-clause-room
@@ -39,7 +46,7 @@ follow-self-inside-requires-clause-room c =
     let done = c.add_unit-added.new in
     let placed = c.in-Ok.ensures.placed in
     let few = room_less done.decided (length (graph done.state.dag) + length done.park.waiting) (length (graph core.state.dag) + (length core.park.waiting + 1)) placed.room c.in-Ok.ensures.blocks in
-    follow_room core.instance core.journal.items core.names.entries core.park core.dropped.entries (room_of core.dropped) core.state core.fork core.decided core.shown c.self.invariant
+    follow_room core.instance core.journal.items core.names.entries core.park core.dropped.entries core.dropped.room core.state core.fork core.decided core.shown c.self.invariant
     (vertex.Unit c.args.unit) done.state done.park done.decided placed.node placed.config placed.grows c.add_unit-added.ensures.graph c.dag-graph.ensures.graph c.add_unit-added.ensures.decided few
 
 pub invariant_of-self : goal.invariant_of-self
@@ -53,19 +60,19 @@ invariant_of-self c =
     let setting = setting_of core.state.config in
     let before = c.add_unit-added.ensures.items in
     let journal = c.list_unit.ensures.journal ∙ ap (λ (vs : List Vertex). vs ++ vertex.Unit u ∷ []) before in
-    let entries = c.list_unit.ensures.names ∙ ap (λ (es : List (Digest × ℕ)). insert_entry digest_eq es c.args.name (length done.journal.items)) c.add_unit-added.ensures.names
-    ∙ ap (λ (vs : List Vertex). insert_entry digest_eq core.names.entries c.args.name (length vs)) before in
+    let entries = c.list_unit.ensures.names ∙ ap (λ (es : List (Digest × ℕ)). es ++ (c.args.name, length done.journal.items) ∷ []) c.add_unit-added.ensures.names
+    ∙ ap (λ (vs : List Vertex). core.names.entries ++ (c.args.name, length vs) ∷ []) before in
     let new = subst (λ (k : CoreState). IsNewUnit k.config k.journal u c.args.name) (sym c.self.view_is) c.requires.new in
     let table = subst (λ (es : List (Digest × ℕ)). IsTable setting (core.journal.items ++ vertex.Unit u ∷ []) es) (sym entries)
     (table_unit setting core.journal.items core.names.entries u c.args.name new.name_is new.local new.fresh c.self.invariant.table) in
     let run = c.follow-self-inside in
     let few = room_less done.decided (length (graph done.state.dag) + length done.park.waiting) (length (graph core.state.dag) + (length core.park.waiting + 1)) placed.room e.blocks in
     let followed = subst (λ (vs : List Vertex). HasFollowed done.state (length vs) done.decided run.new.decided run.result) c.as_slice.ensures.value run.ensures.followed in
-    kept_followed core.instance core.journal.items core.names.entries core.park core.dropped.entries (room_of core.dropped) core.state core.fork core.decided core.shown c.self.invariant
+    kept_followed core.instance core.journal.items core.names.entries core.park core.dropped.entries core.dropped.room core.state core.fork core.decided core.shown c.self.invariant
     (vertex.Unit u) done.state done.park done.decided placed.node placed.config placed.grows c.add_unit-added.ensures.graph c.dag-graph.ensures.graph c.add_unit-added.ensures.decided few
-    listed.journal.items journal listed.names.entries done.dropped.entries (room_of done.dropped) table placed.rules_are c.add_unit-added.ensures.places
-    (fit_more core.instance core.journal.items core.names.entries core.park core.dropped.entries (room_of core.dropped) core.state core.fork core.decided core.shown c.self.invariant (vertex.Unit u) c.requires.fits)
-    (pairs_more core.instance core.journal.items core.names.entries core.park core.dropped.entries (room_of core.dropped) core.state core.fork core.decided core.shown c.self.invariant (vertex.Unit u) (λ e is. absurd cc))
+    listed.journal.items journal listed.names.entries done.dropped.entries done.dropped.room table placed.rules_are c.add_unit-added.ensures.places
+    (fit_more core.instance core.journal.items core.names.entries core.park core.dropped.entries core.dropped.room core.state core.fork core.decided core.shown c.self.invariant (vertex.Unit u) c.requires.fits)
+    (pairs_more core.instance core.journal.items core.names.entries core.park core.dropped.entries core.dropped.room core.state core.fork core.decided core.shown c.self.invariant (vertex.Unit u) (λ e is. absurd cc))
     run.new.decided run.result followed run.new.shown run.ensures.shown run.new.state run.ensures.state
 
 pub invariant_of-self-in_default : goal.invariant_of-self-in_default
@@ -79,18 +86,18 @@ invariant_of-self-in_default c =
     let setting = setting_of core.state.config in
     let before = c.add_unit-added.ensures.items in
     let journal = c.list_unit.ensures.journal ∙ ap (λ (vs : List Vertex). vs ++ vertex.Unit u ∷ []) before in
-    let entries = c.list_unit.ensures.names ∙ ap (λ (es : List (Digest × ℕ)). insert_entry digest_eq es c.args.name (length done.journal.items)) c.add_unit-added.ensures.names
-    ∙ ap (λ (vs : List Vertex). insert_entry digest_eq core.names.entries c.args.name (length vs)) before in
+    let entries = c.list_unit.ensures.names ∙ ap (λ (es : List (Digest × ℕ)). es ++ (c.args.name, length done.journal.items) ∷ []) c.add_unit-added.ensures.names
+    ∙ ap (λ (vs : List Vertex). core.names.entries ++ (c.args.name, length vs) ∷ []) before in
     let new = subst (λ (k : CoreState). IsNewUnit k.config k.journal u c.args.name) (sym c.self.view_is) c.requires.new in
     let table = subst (λ (es : List (Digest × ℕ)). IsTable setting (core.journal.items ++ vertex.Unit u ∷ []) es) (sym entries)
     (table_unit setting core.journal.items core.names.entries u c.args.name new.name_is new.local new.fresh c.self.invariant.table) in
     let few = room_less done.decided (length (graph done.state.dag) + length done.park.waiting) (length (graph core.state.dag) + (length core.park.waiting + 1)) placed.room e.blocks in
-    kept_quiet core.instance core.journal.items core.names.entries core.park core.dropped.entries (room_of core.dropped) core.state core.fork core.decided core.shown c.self.invariant
+    kept_quiet core.instance core.journal.items core.names.entries core.park core.dropped.entries core.dropped.room core.state core.fork core.decided core.shown c.self.invariant
     (vertex.Unit u) done.state done.park done.decided placed.node placed.config placed.grows c.add_unit-added.ensures.graph c.dag-graph.ensures.graph c.add_unit-added.ensures.decided few
     (placed.still c.in_default.not-Admitted)
-    listed.journal.items journal listed.names.entries done.dropped.entries (room_of done.dropped) table placed.rules_are c.add_unit-added.ensures.places
-    (fit_more core.instance core.journal.items core.names.entries core.park core.dropped.entries (room_of core.dropped) core.state core.fork core.decided core.shown c.self.invariant (vertex.Unit u) c.requires.fits)
-    (pairs_more core.instance core.journal.items core.names.entries core.park core.dropped.entries (room_of core.dropped) core.state core.fork core.decided core.shown c.self.invariant (vertex.Unit u) (λ e is. absurd cc))
+    listed.journal.items journal listed.names.entries done.dropped.entries done.dropped.room table placed.rules_are c.add_unit-added.ensures.places
+    (fit_more core.instance core.journal.items core.names.entries core.park core.dropped.entries core.dropped.room core.state core.fork core.decided core.shown c.self.invariant (vertex.Unit u) c.requires.fits)
+    (pairs_more core.instance core.journal.items core.names.entries core.park core.dropped.entries core.dropped.room core.state core.fork core.decided core.shown c.self.invariant (vertex.Unit u) (λ e is. absurd cc))
     c.forget.new.self c.forget.ensures
 
 pub invariant_of-self-in-Err : goal.invariant_of-self-in-Err
@@ -98,9 +105,9 @@ invariant_of-self-in-Err c =
     let core = c.self.inside in
     let done = c.add_unit-added.new in
     let e = c.in-Err.ensures in
-    kept_roomy core.instance core.journal.items core.names.entries core.park core.dropped.entries (room_of core.dropped) core.state core.fork core.decided core.shown c.self.invariant
+    kept_roomy core.instance core.journal.items core.names.entries core.park core.dropped.entries core.dropped.room core.state core.fork core.decided core.shown c.self.invariant
     done.state done.decided c.add_unit-added.ensures.graph c.dag-graph.ensures.graph e.still c.add_unit-added.ensures.decided
-    done.journal.items c.add_unit-added.ensures.items done.names.entries c.add_unit-added.ensures.names done.park e.unparked done.dropped.entries e.undropped (room_of done.dropped) c.add_unit-added.ensures.places
+    done.journal.items c.add_unit-added.ensures.items done.names.entries c.add_unit-added.ensures.names done.park e.unparked done.dropped.entries e.undropped done.dropped.room c.add_unit-added.ensures.places
 
 pub returns-after-receipt-clause-accepted : goal.returns-after-receipt-clause-accepted
 returns-after-receipt-clause-accepted c = subst (λ (k : CoreState). answer_in k (vertex.Unit c.args.unit) true ≡ Ok c.in-Ok.receipt) c.self.view_is c.in-Ok.ensures.placed.answer
