@@ -1,7 +1,8 @@
 //! Finds the two archives: `libhw_c.a`, which is proved, and the kit's `liblibc_c.a`, by which it has memory.
 //!
 //! `HIGHWAY_LIB_DIR` and `RATTLE_C_DIR` name their folders. Else the first is where `rt lib` writes, and the second is
-//! the folder `c` beside the page that `rt doc` prints.
+//! the folder `c` beside the page that `rt doc` prints. An archive for a first look, of which nothing is proved, is
+//! taken only where `HIGHWAY_LIB_DIR` names its folder, and each build says so.
 
 use std::env;
 use std::path::{Path, PathBuf};
@@ -40,6 +41,9 @@ fn link(folder: &Path, name: &str, how: &str) {
 fn main() {
     let library = named("HIGHWAY_LIB_DIR").unwrap_or_else(written);
     link(&library, "hw_c", "run `rt lib` in crates/hw_c, or set HIGHWAY_LIB_DIR");
+    if library.join("NOTHING_IS_PROVED").exists() {
+        println!("cargo:warning=nothing is proved of the archive in {}", library.display());
+    }
     let memory = named("RATTLE_C_DIR").or_else(of_the_kit).unwrap_or_default();
     link(&memory, "libc_c", "set RATTLE_C_DIR to the folder `c` of the kit");
 }

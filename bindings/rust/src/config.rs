@@ -3,6 +3,18 @@
 use crate::{Error, sys};
 
 /// Who leads which round.
+///
+/// ```
+/// use highway::{Error, Leaders, Limit, Settings};
+///
+/// // Validator 0 leads two rounds of three.
+/// let told = Settings { leaders: Leaders::Table(vec![0, 0, 1]), ..Settings::of_weights(vec![1, 1]) };
+/// assert!(told.to_bytes().is_ok());
+/// let drawn = Settings { leaders: Leaders::Drawn([7; 32]), ..told.clone() };
+/// assert!(drawn.to_bytes().is_ok());
+/// let of_nobody = Settings { leaders: Leaders::Table(vec![2]), ..told };
+/// assert_eq!(of_nobody.to_bytes(), Err(Error::Config(Limit::LeaderTable)));
+/// ```
 #[derive(Clone, Debug, PartialEq, Eq)]
 pub enum Leaders {
     /// Validators by round, again from the first after the last: 1 to 4,096 entries.
@@ -49,6 +61,13 @@ pub struct Settings {
 impl Settings {
     /// Settings of validators with these weights, to be changed as a host wants: no fault tolerance, one level,
     /// rounds of 1,024 milliseconds, leaders drawn by a key of zeros, as much room as 256 validators may have, no end.
+    ///
+    /// ```
+    /// use highway::Settings;
+    ///
+    /// let settings = Settings::of_weights(vec![4, 3, 3]);
+    /// assert_eq!((settings.fault_tolerance, settings.levels, settings.end), (0, 1, None));
+    /// ```
     pub fn of_weights(weights: Vec<u64>) -> Settings {
         Settings {
             weights,
@@ -69,6 +88,15 @@ impl Settings {
     ///
     /// [`Error::Config`] names the first limit that it breaks, and [`Error::TooLong`] is for more than 1,024 weights
     /// or 4,096 entries of a table.
+    ///
+    /// ```
+    /// use highway::{Core, Error, Limit, Settings};
+    ///
+    /// let bytes = Settings::of_weights(vec![4, 3, 3]).to_bytes()?;
+    /// assert!(Core::new(&bytes).is_ok());
+    /// assert_eq!(Settings::of_weights(vec![4, 0]).to_bytes(), Err(Error::Config(Limit::ZeroWeight(1))));
+    /// # Ok::<(), Error>(())
+    /// ```
     pub fn to_bytes(&self) -> Result<Vec<u8>, Error> {
         let (table, key): (&[u32], _) = match &self.leaders {
             Leaders::Table(entries) => (entries, None),

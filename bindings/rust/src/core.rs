@@ -23,6 +23,17 @@ pub struct Core {
 }
 
 /// What became of a vertex that was accepted.
+///
+/// ```
+/// # use highway::{Core, Error, Leaders, Receipt, Settings};
+/// # let leaders = Leaders::Table(vec![0]);
+/// # let settings = Settings { leaders, min_exponent: 2, ..Settings::of_weights(vec![1]) };
+/// # let mut core = Core::new(&settings.to_bytes()?)?;
+/// let vertex = core.next_unit(0, 0, b"a block")?.expect("validator 0 leads").signed(&[7; 32])?;
+/// assert_eq!(core.deliver(&vertex, true)?, Receipt::Admitted { settled: 1 });
+/// assert_eq!(core.deliver(&vertex, true)?, Receipt::Repeat);
+/// # Ok::<(), Error>(())
+/// ```
 #[derive(Clone, Copy, Debug, PartialEq, Eq)]
 pub enum Receipt {
     /// It went last in the journal.
@@ -42,6 +53,18 @@ pub enum Receipt {
 }
 
 /// Why a vertex was refused: the error, and whether the peer that sent it may be blamed.
+///
+/// ```
+/// # use highway::{Core, Error, Leaders, Settings};
+/// # let leaders = Leaders::Table(vec![0]);
+/// # let settings = Settings { leaders, min_exponent: 2, ..Settings::of_weights(vec![1]) };
+/// # let mut core = Core::new(&settings.to_bytes()?)?;
+/// let vertex = core.next_unit(0, 0, b"a block")?.expect("validator 0 leads").signed(&[7; 32])?;
+/// let refusal = core.deliver(&vertex, false).unwrap_err();
+/// assert_eq!(refusal.error, Error::BadSignature);
+/// assert_eq!(refusal.to_string(), "refused: bad signature");
+/// # Ok::<(), Error>(())
+/// ```
 #[derive(Clone, Copy, Debug, PartialEq, Eq)]
 pub struct Refusal {
     /// Why.
@@ -50,6 +73,13 @@ pub struct Refusal {
 
 impl Refusal {
     /// Whether no honest peer sends such a vertex. What the node hasn't room or memory for is nobody's fault.
+    ///
+    /// ```
+    /// use highway::{Error, Refusal};
+    ///
+    /// assert!(Refusal { error: Error::BadSignature }.is_fault_of_sender());
+    /// assert!(!Refusal { error: Error::RecordsFull }.is_fault_of_sender());
+    /// ```
     pub fn is_fault_of_sender(&self) -> bool {
         !matches!(self.error, Error::OutOfMemory | Error::RecordsFull | Error::ParkFull)
     }
@@ -74,6 +104,20 @@ impl From<Refusal> for Error {
 }
 
 /// A final block.
+///
+/// ```
+/// # use highway::{Core, Error, Leaders, Settings};
+/// # let leaders = Leaders::Table(vec![0]);
+/// # let settings = Settings { leaders, min_exponent: 2, ..Settings::of_weights(vec![1]) };
+/// # let mut core = Core::new(&settings.to_bytes()?)?;
+/// # for now in 0..32 {
+/// #     let Some(plan) = core.next_unit(0, now, b"a block")? else { continue };
+/// #     core.deliver(&plan.signed(&[0; 32])?, true)?;
+/// # }
+/// let decision = core.decision(0).expect("a final block");
+/// assert_eq!((decision.height, decision.level, decision.quorum), (0, 1, 1));
+/// # Ok::<(), Error>(())
+/// ```
 #[derive(Clone, Copy, Debug, PartialEq, Eq)]
 pub struct Decision {
     /// Its digest.
@@ -89,6 +133,21 @@ pub struct Decision {
 }
 
 /// How much a node has of what.
+///
+/// ```
+/// # use highway::{Core, Error, Leaders, Settings};
+/// # let leaders = Leaders::Table(vec![0]);
+/// # let settings = Settings { leaders, min_exponent: 2, ..Settings::of_weights(vec![1]) };
+/// # let mut core = Core::new(&settings.to_bytes()?)?;
+/// # for now in 0..32 {
+/// #     let Some(plan) = core.next_unit(0, now, b"a block")? else { continue };
+/// #     core.deliver(&plan.signed(&[0; 32])?, true)?;
+/// # }
+/// let summary = core.summary()?;
+/// assert_eq!(summary.journal, u64::from(summary.settled + summary.parked + summary.dropped));
+/// assert!(!summary.is_exceeded && summary.faulty_weight == 0);
+/// # Ok::<(), Error>(())
+/// ```
 #[derive(Clone, Copy, Debug, PartialEq, Eq)]
 pub struct Summary {
     /// The vertices of its journal.
@@ -110,6 +169,19 @@ pub struct Summary {
 }
 
 /// What a node observes of a validator.
+///
+/// ```
+/// # use highway::{Core, Error, Leaders, Observation, Settings};
+/// # let leaders = Leaders::Table(vec![0]);
+/// # let settings = Settings { leaders, min_exponent: 2, ..Settings::of_weights(vec![1]) };
+/// # let mut core = Core::new(&settings.to_bytes()?)?;
+/// # for now in 0..32 {
+/// #     let Some(plan) = core.next_unit(0, now, b"a block")? else { continue };
+/// #     core.deliver(&plan.signed(&[0; 32])?, true)?;
+/// # }
+/// assert!(matches!(core.observation(0)?, Observation::Correct(_)));
+/// # Ok::<(), Error>(())
+/// ```
 #[derive(Clone, Copy, Debug, PartialEq, Eq)]
 pub enum Observation {
     /// No unit of it is known.
@@ -121,6 +193,20 @@ pub enum Observation {
 }
 
 /// What became of a unit.
+///
+/// ```
+/// # use highway::{Core, Error, Leaders, Place, Settings};
+/// # let leaders = Leaders::Table(vec![0]);
+/// # let settings = Settings { leaders, min_exponent: 2, ..Settings::of_weights(vec![1]) };
+/// # let mut core = Core::new(&settings.to_bytes()?)?;
+/// # for now in 0..32 {
+/// #     let Some(plan) = core.next_unit(0, now, b"a block")? else { continue };
+/// #     core.deliver(&plan.signed(&[0; 32])?, true)?;
+/// # }
+/// let block = core.decision(0).expect("a final block").block;
+/// assert!(matches!(core.place(block)?, Place::Settled(_)));
+/// # Ok::<(), Error>(())
+/// ```
 #[derive(Clone, Copy, Debug, PartialEq, Eq)]
 pub enum Place {
     /// The journal has no such unit.
@@ -134,6 +220,24 @@ pub enum Place {
 }
 
 /// The journal of a node, entry by entry, as bytes: with its verdicts this is what a host keeps.
+///
+/// ```
+/// # use highway::{Core, Error, Leaders, Settings};
+/// # let leaders = Leaders::Table(vec![0]);
+/// # let settings = Settings { leaders, min_exponent: 2, ..Settings::of_weights(vec![1]) };
+/// # let mut core = Core::new(&settings.to_bytes()?)?;
+/// # for now in 0..32 {
+/// #     let Some(plan) = core.next_unit(0, now, b"a block")? else { continue };
+/// #     core.deliver(&plan.signed(&[0; 32])?, true)?;
+/// # }
+/// let stored: Vec<Vec<u8>> = core.journal_from(0).collect::<Result<_, _>>()?;
+/// let mut again = Core::new(&settings.to_bytes()?)?;
+/// for vertex in &stored {
+///     again.deliver(vertex, true)?;
+/// }
+/// assert_eq!(again.summary(), core.summary());
+/// # Ok::<(), Error>(())
+/// ```
 #[derive(Debug)]
 pub struct Journal<'a> {
     core: &'a Core,
@@ -156,6 +260,21 @@ impl Iterator for Journal<'_> {
 impl FusedIterator for Journal<'_> {}
 
 /// The final blocks of a node, by moment and then by height.
+///
+/// ```
+/// # use highway::{Core, Error, Leaders, Settings};
+/// # let leaders = Leaders::Table(vec![0]);
+/// # let settings = Settings { leaders, min_exponent: 2, ..Settings::of_weights(vec![1]) };
+/// # let mut core = Core::new(&settings.to_bytes()?)?;
+/// # for now in 0..32 {
+/// #     let Some(plan) = core.next_unit(0, now, b"a block")? else { continue };
+/// #     core.deliver(&plan.signed(&[0; 32])?, true)?;
+/// # }
+/// let heights: Vec<u64> = core.decisions_from(0).map(|decision| decision.height).collect();
+/// assert!(heights.len() > 1);
+/// assert!(heights.iter().copied().eq(0..heights.len() as u64));
+/// # Ok::<(), Error>(())
+/// ```
 #[derive(Debug)]
 pub struct Decisions<'a> {
     core: &'a Core,
@@ -189,6 +308,16 @@ impl Core {
     /// # Errors
     ///
     /// [`Error::Bytes`] where they spell none, and [`Error::Config`] where it breaks a limit.
+    ///
+    /// ```
+    /// use highway::{BytesFault, Core, Error, Settings};
+    ///
+    /// let core = Core::new(&Settings::of_weights(vec![1]).to_bytes()?)?;
+    /// assert_eq!(core.summary()?.journal, 0);
+    /// let none = Core::new(b"").unwrap_err();
+    /// assert_eq!(none, Error::Bytes { fault: BytesFault::Truncated, at: 0 });
+    /// # Ok::<(), Error>(())
+    /// ```
     pub fn new(config: &[u8]) -> Result<Core, Error> {
         Ok(Core { handle: sys::Handle::new(config)? })
     }
@@ -219,6 +348,16 @@ impl Core {
     /// # Errors
     ///
     /// None is known; the library's answer is handed on.
+    ///
+    /// ```
+    /// # use highway::{Core, Error, Leaders, Settings};
+    /// # let leaders = Leaders::Table(vec![0]);
+    /// # let settings = Settings { leaders, min_exponent: 2, ..Settings::of_weights(vec![1]) };
+    /// # let mut core = Core::new(&settings.to_bytes()?)?;
+    /// let summary = core.summary()?;
+    /// assert_eq!((summary.journal, summary.decided, summary.fork), (0, 0, None));
+    /// # Ok::<(), Error>(())
+    /// ```
     pub fn summary(&self) -> Result<Summary, Error> {
         let summary = self.handle.summary()?;
         Ok(Summary {
@@ -238,6 +377,18 @@ impl Core {
     /// # Errors
     ///
     /// As [`Core::summary`].
+    ///
+    /// ```
+    /// # use highway::{Core, Error, Leaders, Settings};
+    /// # let leaders = Leaders::Table(vec![0]);
+    /// # let settings = Settings { leaders, min_exponent: 2, ..Settings::of_weights(vec![1]) };
+    /// # let mut core = Core::new(&settings.to_bytes()?)?;
+    /// assert_eq!(core.fork()?, None);
+    /// let plan = core.next_unit(0, 0, b"a block")?.expect("validator 0 leads");
+    /// core.deliver(&plan.signed(&[7; 32])?, true)?;
+    /// assert_eq!(core.fork()?, Some(plan.digest()));
+    /// # Ok::<(), Error>(())
+    /// ```
     pub fn fork(&self) -> Result<Option<Digest>, Error> {
         Ok(self.summary()?.fork)
     }
@@ -247,11 +398,37 @@ impl Core {
     /// # Errors
     ///
     /// [`Error::Nothing`] where the journal has none there.
+    ///
+    /// ```
+    /// # use highway::{Core, Error, Leaders, Settings};
+    /// # let leaders = Leaders::Table(vec![0]);
+    /// # let settings = Settings { leaders, min_exponent: 2, ..Settings::of_weights(vec![1]) };
+    /// # let mut core = Core::new(&settings.to_bytes()?)?;
+    /// let vertex = core.next_unit(0, 0, b"a block")?.expect("validator 0 leads").signed(&[7; 32])?;
+    /// core.deliver(&vertex, true)?;
+    /// assert_eq!(core.entry(0)?, vertex);
+    /// assert_eq!(core.entry(1), Err(Error::Nothing));
+    /// # Ok::<(), Error>(())
+    /// ```
     pub fn entry(&self, place: u64) -> Result<Vec<u8>, Error> {
         self.handle.journal(place)
     }
 
     /// The entries of the journal, from that place on.
+    ///
+    /// ```
+    /// # use highway::{Core, Error, Leaders, Settings};
+    /// # let leaders = Leaders::Table(vec![0]);
+    /// # let settings = Settings { leaders, min_exponent: 2, ..Settings::of_weights(vec![1]) };
+    /// # let mut core = Core::new(&settings.to_bytes()?)?;
+    /// # for now in 0..32 {
+    /// #     let Some(plan) = core.next_unit(0, now, b"a block")? else { continue };
+    /// #     core.deliver(&plan.signed(&[0; 32])?, true)?;
+    /// # }
+    /// let new = core.journal_from(2);
+    /// assert_eq!(new.count() as u64, core.summary()?.journal - 2);
+    /// # Ok::<(), Error>(())
+    /// ```
     pub fn journal_from(&self, place: u64) -> Journal<'_> {
         let end = self.handle.summary().map_or(0, |summary| summary.journal);
         Journal { core: self, place, end }
@@ -262,6 +439,16 @@ impl Core {
     /// # Errors
     ///
     /// [`Error::OutOfRange`] where there is no such validator.
+    ///
+    /// ```
+    /// # use highway::{Core, Error, Leaders, Observation, Settings};
+    /// # let leaders = Leaders::Table(vec![0]);
+    /// # let settings = Settings { leaders, min_exponent: 2, ..Settings::of_weights(vec![1]) };
+    /// # let mut core = Core::new(&settings.to_bytes()?)?;
+    /// assert_eq!(core.observation(0)?, Observation::Absent);
+    /// assert_eq!(core.observation(1), Err(Error::OutOfRange));
+    /// # Ok::<(), Error>(())
+    /// ```
     pub fn observation(&self, validator: u32) -> Result<Observation, Error> {
         let observed = self.handle.observation(validator)?;
         Ok(match observed.kind {
@@ -276,6 +463,15 @@ impl Core {
     /// # Errors
     ///
     /// As [`Core::summary`].
+    ///
+    /// ```
+    /// # use highway::{Core, Digest, Error, Leaders, Place, Settings};
+    /// # let leaders = Leaders::Table(vec![0]);
+    /// # let settings = Settings { leaders, min_exponent: 2, ..Settings::of_weights(vec![1]) };
+    /// # let mut core = Core::new(&settings.to_bytes()?)?;
+    /// assert_eq!(core.place(Digest([0; 32]))?, Place::Unknown);
+    /// # Ok::<(), Error>(())
+    /// ```
     pub fn place(&self, unit: Digest) -> Result<Place, Error> {
         let placed = self.handle.place(&unit.0)?;
         Ok(match placed.kind {
@@ -287,6 +483,21 @@ impl Core {
     }
 
     /// The final block of that place, where there are so many.
+    ///
+    /// ```
+    /// # use highway::{Core, Error, Leaders, Settings};
+    /// # let leaders = Leaders::Table(vec![0]);
+    /// # let settings = Settings { leaders, min_exponent: 2, ..Settings::of_weights(vec![1]) };
+    /// # let mut core = Core::new(&settings.to_bytes()?)?;
+    /// # for now in 0..32 {
+    /// #     let Some(plan) = core.next_unit(0, now, b"a block")? else { continue };
+    /// #     core.deliver(&plan.signed(&[0; 32])?, true)?;
+    /// # }
+    /// let last = core.summary()?.decided - 1;
+    /// assert_eq!(core.decision(last).map(|decision| decision.height), Some(last));
+    /// assert_eq!(core.decision(last + 1), None);
+    /// # Ok::<(), Error>(())
+    /// ```
     pub fn decision(&self, index: u64) -> Option<Decision> {
         let decided = self.handle.decision(index).ok()?;
         Some(Decision {
@@ -299,6 +510,23 @@ impl Core {
     }
 
     /// The final blocks from that place on.
+    ///
+    /// ```
+    /// # use highway::{Core, Error, Leaders, Settings};
+    /// # let leaders = Leaders::Table(vec![0]);
+    /// # let settings = Settings { leaders, min_exponent: 2, ..Settings::of_weights(vec![1]) };
+    /// # let mut core = Core::new(&settings.to_bytes()?)?;
+    /// # for now in 0..32 {
+    /// #     let Some(plan) = core.next_unit(0, now, b"a block")? else { continue };
+    /// #     core.deliver(&plan.signed(&[0; 32])?, true)?;
+    /// # }
+    /// let told = 1;
+    /// for decision in core.decisions_from(told) {
+    ///     println!("final at {}: {}", decision.height, decision.block);
+    /// }
+    /// assert_eq!(core.decisions_from(told).count() as u64, core.summary()?.decided - told);
+    /// # Ok::<(), Error>(())
+    /// ```
     pub fn decisions_from(&self, index: u64) -> Decisions<'_> {
         Decisions { core: self, index }
     }
@@ -309,6 +537,24 @@ impl Core {
     /// # Errors
     ///
     /// [`Error::OutOfMemory`] alone.
+    ///
+    /// ```
+    /// # use highway::{Core, Error, Leaders, Need, Settings};
+    /// # let leaders = Leaders::Table(vec![0]);
+    /// # let settings = Settings { leaders, min_exponent: 2, ..Settings::of_weights(vec![1]) };
+    /// # let mut core = Core::new(&settings.to_bytes()?)?;
+    /// # for now in 0..32 {
+    /// #     let Some(plan) = core.next_unit(0, now, b"a block")? else { continue };
+    /// #     core.deliver(&plan.signed(&[0; 32])?, true)?;
+    /// # }
+    /// # let mut late = Core::new(&settings.to_bytes()?)?;
+    /// # late.deliver(&core.entry(1)?, true)?;
+    /// // The second unit came first, so it waits for the first.
+    /// assert!(matches!(late.unmet(256)?.as_slice(), [Need::Unit(_)]));
+    /// late.deliver(&core.entry(0)?, true)?;
+    /// assert!(late.unmet(256)?.is_empty());
+    /// # Ok::<(), Error>(())
+    /// ```
     pub fn unmet(&self, most: usize) -> Result<Vec<Need>, Error> {
         Ok(self.handle.unmet(most)?.iter().map(Need::of_sys).collect())
     }
@@ -319,6 +565,26 @@ impl Core {
     /// # Errors
     ///
     /// [`Error::OutOfMemory`] alone.
+    ///
+    /// ```
+    /// # use highway::{Core, Error, Leaders, Settings};
+    /// # let leaders = Leaders::Table(vec![0]);
+    /// # let settings = Settings { leaders, min_exponent: 2, ..Settings::of_weights(vec![1]) };
+    /// # let mut core = Core::new(&settings.to_bytes()?)?;
+    /// # for now in 0..32 {
+    /// #     let Some(plan) = core.next_unit(0, now, b"a block")? else { continue };
+    /// #     core.deliver(&plan.signed(&[0; 32])?, true)?;
+    /// # }
+    /// # let mut late = Core::new(&settings.to_bytes()?)?;
+    /// # late.deliver(&core.entry(1)?, true)?;
+    /// for need in late.unmet(256)? {
+    ///     for vertex in core.for_need(need)? {
+    ///         late.deliver(&vertex, true)?;
+    ///     }
+    /// }
+    /// assert_eq!(late.summary()?.settled, 2);
+    /// # Ok::<(), Error>(())
+    /// ```
     pub fn for_need(&self, need: Need) -> Result<Vec<Vec<u8>>, Error> {
         let missing = need.to_sys();
         let mut vertices = Vec::new();
@@ -338,6 +604,19 @@ impl Core {
     ///
     /// [`Error::OutOfRange`] where there is no such validator, the moment is 2^63 or later, or the value has more than
     /// 4,096 bytes.
+    ///
+    /// ```
+    /// # use highway::{Core, Error, Leaders, PlanKind, Settings};
+    /// # let leaders = Leaders::Table(vec![0]);
+    /// # let settings = Settings { leaders, min_exponent: 2, ..Settings::of_weights(vec![1]) };
+    /// # let mut core = Core::new(&settings.to_bytes()?)?;
+    /// let plan = core.next_unit(0, 0, b"a block")?.expect("validator 0 leads");
+    /// assert_eq!(plan.kind(), PlanKind::Propose);
+    /// core.deliver(&plan.signed(&[7; 32])?, true)?;
+    /// assert_eq!(core.next_unit(0, 0, b"another")?, None);
+    /// assert_eq!(core.next_unit(1, 0, b""), Err(Error::OutOfRange));
+    /// # Ok::<(), Error>(())
+    /// ```
     pub fn next_unit(&self, validator: u32, now: u64, value: &[u8]) -> Result<Option<Plan>, Error> {
         match self.handle.next_unit(validator, now, value) {
             Ok((planned, unit)) => Ok(Some(Plan::of_sys(&planned, unit))),
@@ -351,6 +630,22 @@ impl Core {
     /// # Errors
     ///
     /// [`Error::OtherInstance`] where the two are of different configurations.
+    ///
+    /// ```
+    /// # use highway::{Core, Error, Leaders, Settings, Verdict};
+    /// # let leaders = Leaders::Table(vec![0]);
+    /// # let settings = Settings { leaders, min_exponent: 2, ..Settings::of_weights(vec![1]) };
+    /// # let mut core = Core::new(&settings.to_bytes()?)?;
+    /// # for now in 0..32 {
+    /// #     let Some(plan) = core.next_unit(0, now, b"a block")? else { continue };
+    /// #     core.deliver(&plan.signed(&[0; 32])?, true)?;
+    /// # }
+    /// let other = Core::new(&settings.to_bytes()?)?;
+    /// let (verdict, text) = core.audit(&other)?;
+    /// assert_eq!(verdict, Verdict::Agree { common: 0 });
+    /// assert_eq!(text, "agree 0\n");
+    /// # Ok::<(), Error>(())
+    /// ```
     pub fn audit(&self, other: &Core) -> Result<(Verdict, String), Error> {
         if std::ptr::eq(self, other) {
             // One handle is never given twice; and a node is in no conflict with itself.
@@ -367,6 +662,21 @@ impl Core {
     ///
     /// [`Error::OutOfRange`] where there is no such block, and [`Error::TooLong`] where it would have more vertices
     /// than a journal may have.
+    ///
+    /// ```
+    /// # use highway::{Core, Error, Leaders, Settings};
+    /// # let leaders = Leaders::Table(vec![0]);
+    /// # let settings = Settings { leaders, min_exponent: 2, ..Settings::of_weights(vec![1]) };
+    /// # let mut core = Core::new(&settings.to_bytes()?)?;
+    /// # for now in 0..32 {
+    /// #     let Some(plan) = core.next_unit(0, now, b"a block")? else { continue };
+    /// #     core.deliver(&plan.signed(&[0; 32])?, true)?;
+    /// # }
+    /// let certificate = core.certificate(0)?.expect("the block stands");
+    /// assert!(certificate.as_bytes().starts_with(b"HWCT"));
+    /// assert_eq!(core.certificate(1 << 40), Err(Error::OutOfRange));
+    /// # Ok::<(), Error>(())
+    /// ```
     pub fn certificate(&self, index: u64) -> Result<Option<Certificate>, Error> {
         match self.handle.certificate(index) {
             Ok(bytes) => Ok(Some(Certificate::from_bytes(bytes))),

@@ -1,10 +1,19 @@
 //! Why a call gives no answer.
 
+use crate::status::*;
 use crate::sys;
 use crate::{Digest, Rule};
 use std::fmt;
 
 /// Why a call gives no answer. After an error nothing has changed.
+///
+/// ```
+/// use highway::{Core, Error};
+///
+/// let error = Core::new(b"").unwrap_err();
+/// assert!(matches!(error, Error::Bytes { at: 0, .. }));
+/// assert_eq!(error.to_string(), "bad bytes: truncated at 0");
+/// ```
 #[derive(Clone, Copy, Debug, PartialEq, Eq)]
 #[non_exhaustive]
 pub enum Error {
@@ -44,6 +53,13 @@ pub enum Error {
 }
 
 /// What is wrong with bytes.
+///
+/// ```
+/// use highway::{BytesFault, Error, Signatures};
+///
+/// let error = Signatures::of(&[255]).unwrap_err();
+/// assert_eq!(error, Error::Bytes { fault: BytesFault::BadTag, at: 0 });
+/// ```
 #[derive(Clone, Copy, Debug, PartialEq, Eq)]
 pub enum BytesFault {
     /// The field doesn't fit in the bytes that are left.
@@ -59,6 +75,13 @@ pub enum BytesFault {
 }
 
 /// A limit of configurations.
+///
+/// ```
+/// use highway::{Error, Limit, Settings};
+///
+/// let heavy = Settings { fault_tolerance: 3, ..Settings::of_weights(vec![1, 1, 1]) };
+/// assert_eq!(heavy.to_bytes(), Err(Error::Config(Limit::Threshold)));
+/// ```
 #[derive(Clone, Copy, Debug, PartialEq, Eq)]
 pub enum Limit {
     /// There are 1 to 1,024 validators.
@@ -82,6 +105,12 @@ pub enum Limit {
 }
 
 /// Why two units show no equivocation.
+///
+/// ```
+/// use highway::{Error, PairFault};
+///
+/// assert_eq!(Error::Pair(PairFault::Same).to_string(), "no pair: equal units");
+/// ```
 #[derive(Clone, Copy, Debug, PartialEq, Eq)]
 pub enum PairFault {
     /// The creators differ, or are no validators.
@@ -95,6 +124,13 @@ pub enum PairFault {
 }
 
 /// Why bytes are no certificate.
+///
+/// ```
+/// use highway::{Certificate, CertificateFault, Error};
+///
+/// let none = Certificate::from_bytes(b"no certificate".to_vec());
+/// assert_eq!(none.check(&[]), Err(Error::Certificate(CertificateFault::BadMagic)));
+/// ```
 #[derive(Clone, Copy, Debug, PartialEq, Eq)]
 pub enum CertificateFault {
     /// They don't begin with `HWCT`.
@@ -123,6 +159,17 @@ const BYTES: [BytesFault; 5] = [
 
 const PAIRS: [PairFault; 4] = [PairFault::Creator, PairFault::Sequence, PairFault::Instance, PairFault::Same];
 
+// The first and the last status of those to which the number of what is wrong was added.
+const LAST_BYTES: u32 = BAD_BYTES + 4;
+const FIRST_LIMIT: u32 = BAD_CONFIG + 1;
+const LAST_LIMIT: u32 = BAD_CONFIG + 9;
+const LAST_PAIR: u32 = BAD_PAIR + 3;
+const FIRST_RULE: u32 = LOCAL_RULE + 1;
+const LAST_RULE: u32 = LOCAL_RULE + 19;
+const LAST_CERTIFICATE: u32 = BAD_CERTIFICATE + 4;
+const LAST_CERTIFIED_CONFIG: u32 = BAD_CERTIFIED_CONFIG + 4;
+const LAST_CERTIFIED_VERTEX: u32 = BAD_CERTIFIED_VERTEX + 4;
+
 fn limit(number: u32, at: u64) -> Limit {
     match number {
         1 => Limit::Validators,
@@ -150,31 +197,37 @@ fn certificate_fault(number: u32, at: u64) -> CertificateFault {
 impl Error {
     /// What the status of a call says, with what stands behind it.
     pub(crate) fn check(status: u32, answer: &sys::Answer) -> Result<(), Error> {
-        if status == 0 { Ok(()) } else { Err(Error::of(status, answer)) }
+        if status == OK { Ok(()) } else { Err(Error::of(status, answer)) }
     }
 
     /// The error of a status that isn't 0.
     pub(crate) fn of(status: u32, answer: &sys::Answer) -> Error {
         let at = answer.at;
+        let bytes = |first: u32| BYTES[(status - first) as usize];
         match status {
-            1 => Error::OutOfMemory,
-            2 => Error::Nothing,
-            3 => Error::OutOfRange,
-            6 => Error::TooLong,
-            7 => Error::OtherInstance,
-            0x100..=0x104 => Error::Bytes { fault: BYTES[(status - 0x100) as usize], at },
-            0x201..=0x209 => Error::Config(limit(status - 0x200, at)),
-            0x300 => Error::BadSignature,
-            0x310..=0x313 => Error::Pair(PAIRS[(status - 0x310) as usize]),
-            0x320 => Error::Clash(Digest(answer.digest)),
-            0x321 => Error::RecordsFull,
-            0x322 => Error::ParkFull,
-            0x401..=0x413 => Error::Local(Rule::of(status - 0x400)),
-            0x500..=0x504 => Error::Certificate(certificate_fault(status - 0x500, at)),
-            0x510..=0x514 => Error::Certificate(CertificateFault::Config(BYTES[(status - 0x510) as usize], at)),
-            0x520..=0x524 => Error::Certificate(CertificateFault::Vertex(BYTES[(status - 0x520) as usize], at)),
+            OUT_OF_MEMORY => Error::OutOfMemory,
+            NONE => Error::Nothing,
+            OUT_OF_RANGE => Error::OutOfRange,
+            TOO_LONG => Error::TooLong,
+            OTHER_INSTANCE => Error::OtherInstance,
+            BAD_BYTES..=LAST_BYTES => Error::Bytes { fault: bytes(BAD_BYTES), at },
+            FIRST_LIMIT..=LAST_LIMIT => Error::Config(limit(status - BAD_CONFIG, at)),
+            BAD_SIGNATURE => Error::BadSignature,
+            BAD_PAIR..=LAST_PAIR => Error::Pair(PAIRS[(status - BAD_PAIR) as usize]),
+            CLASH => Error::Clash(Digest(answer.digest)),
+            RECORDS_FULL => Error::RecordsFull,
+            PARK_FULL => Error::ParkFull,
+            FIRST_RULE..=LAST_RULE => Error::Local(Rule::of(status - LOCAL_RULE)),
+            BAD_CERTIFICATE..=LAST_CERTIFICATE => Error::Certificate(certificate_fault(status - BAD_CERTIFICATE, at)),
+            BAD_CERTIFIED_CONFIG..=LAST_CERTIFIED_CONFIG => {
+                Error::Certificate(CertificateFault::Config(bytes(BAD_CERTIFIED_CONFIG), at))
+            }
+            BAD_CERTIFIED_VERTEX..=LAST_CERTIFIED_VERTEX => {
+                Error::Certificate(CertificateFault::Vertex(bytes(BAD_CERTIFIED_VERTEX), at))
+            }
             // A `Core` holds a node from its start to its drop, so no handle is empty or full where it mustn't be.
-            other => unreachable!("hw_c answers no status {other:#x} here"),
+            EMPTY | FULL => unreachable!("a core always holds a node"),
+            other => unreachable!("hw_c answers no status {other:#x}"),
         }
     }
 }

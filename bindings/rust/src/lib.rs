@@ -23,6 +23,7 @@
 //! # Ok(())
 //! # }
 //! ```
+#![deny(missing_docs, missing_debug_implementations, unsafe_code)]
 
 mod config;
 mod core;
@@ -31,6 +32,7 @@ mod light;
 mod need;
 mod rule;
 mod signatures;
+mod status;
 mod step;
 #[allow(unsafe_code)]
 mod sys;
@@ -47,6 +49,13 @@ pub use step::{Plan, PlanKind};
 use std::fmt;
 
 /// The name of a unit, or of an instance: its SHA-256 digest. It is printed as 64 hexadecimal digits.
+///
+/// ```
+/// use highway::Digest;
+///
+/// let digest = Digest([0xab; 32]);
+/// assert_eq!(digest.to_string(), "ab".repeat(32));
+/// ```
 #[derive(Clone, Copy, PartialEq, Eq, PartialOrd, Ord, Hash)]
 pub struct Digest(pub [u8; 32]);
 

@@ -3,6 +3,20 @@
 use crate::{Digest, Error, Signatures, sys};
 
 /// What the journals of two nodes say of each other.
+///
+/// ```
+/// # use highway::{Core, Error, Leaders, Settings, Verdict};
+/// # let leaders = Leaders::Table(vec![0]);
+/// # let settings = Settings { leaders, min_exponent: 2, ..Settings::of_weights(vec![1]) };
+/// # let mut core = Core::new(&settings.to_bytes()?)?;
+/// # for now in 0..32 {
+/// #     let Some(plan) = core.next_unit(0, now, b"a block")? else { continue };
+/// #     core.deliver(&plan.signed(&[0; 32])?, true)?;
+/// # }
+/// let (verdict, _) = core.audit(&core)?;
+/// assert_eq!(verdict, Verdict::Agree { common: core.summary()?.decided });
+/// # Ok::<(), Error>(())
+/// ```
 #[derive(Clone, Debug, PartialEq, Eq)]
 pub enum Verdict {
     /// The one chain of final blocks begins the other.
@@ -44,12 +58,46 @@ impl Verdict {
 }
 
 /// A light certificate: a block, and the few vertices that make it stand, as bytes.
+///
+/// ```
+/// # use highway::{Certificate, Core, Error, Judgement, Leaders, Settings};
+/// # let leaders = Leaders::Table(vec![0]);
+/// # let settings = Settings { leaders, min_exponent: 2, ..Settings::of_weights(vec![1]) };
+/// # let mut core = Core::new(&settings.to_bytes()?)?;
+/// # for now in 0..32 {
+/// #     let Some(plan) = core.next_unit(0, now, b"a block")? else { continue };
+/// #     core.deliver(&plan.signed(&[0; 32])?, true)?;
+/// # }
+/// let made = core.certificate(0)?.expect("the block stands");
+/// let read = Certificate::from_bytes(made.as_bytes().to_vec());
+/// let verdicts: Vec<bool> = read.signatures().map(|signed| signed.is_ok()).collect();
+/// assert!(matches!(read.check(&verdicts)?, Judgement::Yes { .. }));
+/// # Ok::<(), Error>(())
+/// ```
 #[derive(Clone, Debug, PartialEq, Eq)]
 pub struct Certificate {
     bytes: Vec<u8>,
 }
 
 /// What a certificate is answered.
+///
+/// ```
+/// # use highway::{Core, Error, Judgement, Leaders, Settings};
+/// # let leaders = Leaders::Table(vec![0]);
+/// # let settings = Settings { leaders, min_exponent: 2, ..Settings::of_weights(vec![1]) };
+/// # let mut core = Core::new(&settings.to_bytes()?)?;
+/// # for now in 0..32 {
+/// #     let Some(plan) = core.next_unit(0, now, b"a block")? else { continue };
+/// #     core.deliver(&plan.signed(&[0; 32])?, true)?;
+/// # }
+/// let certificate = core.certificate(0)?.expect("the block stands");
+/// let count = certificate.signatures().count();
+/// match certificate.check(&vec![true; count])? {
+///     Judgement::Yes { block, instance } => println!("{block} stands in the instance {instance}"),
+///     other => panic!("{other:?}"),
+/// }
+/// # Ok::<(), Error>(())
+/// ```
 #[derive(Clone, Copy, Debug, PartialEq, Eq)]
 pub enum Judgement {
     /// The block stands: another node of this instance that decided another block at its height is in a conflict with
@@ -72,16 +120,45 @@ pub enum Judgement {
 
 impl Certificate {
     /// What may be a certificate: the bytes are read by each call.
+    ///
+    /// ```
+    /// use highway::Certificate;
+    ///
+    /// let certificate = Certificate::from_bytes(b"from a peer".to_vec());
+    /// assert!(certificate.check(&[]).is_err());
+    /// ```
     pub fn from_bytes(bytes: Vec<u8>) -> Certificate {
         Certificate { bytes }
     }
 
     /// Its bytes.
+    ///
+    /// ```
+    /// use highway::Certificate;
+    ///
+    /// assert_eq!(Certificate::from_bytes(vec![1, 2]).as_bytes(), [1, 2]);
+    /// ```
     pub fn as_bytes(&self) -> &[u8] {
         &self.bytes
     }
 
     /// Who signed what, vertex by vertex, up to the first error.
+    ///
+    /// ```
+    /// # use highway::{Core, Error, Leaders, Settings};
+    /// # let leaders = Leaders::Table(vec![0]);
+    /// # let settings = Settings { leaders, min_exponent: 2, ..Settings::of_weights(vec![1]) };
+    /// # let mut core = Core::new(&settings.to_bytes()?)?;
+    /// # for now in 0..32 {
+    /// #     let Some(plan) = core.next_unit(0, now, b"a block")? else { continue };
+    /// #     core.deliver(&plan.signed(&[0; 32])?, true)?;
+    /// # }
+    /// let certificate = core.certificate(0)?.expect("the block stands");
+    /// for signed in certificate.signatures() {
+    ///     assert!(signed?.all(|_is_endorsement, one| one.validator == 0 && one.signature == [0; 32]));
+    /// }
+    /// # Ok::<(), Error>(())
+    /// ```
     pub fn signatures(&self) -> impl Iterator<Item = Result<Signatures, Error>> + '_ {
         (0..).map_while(|place| match sys::certified(&self.bytes, place) {
             Ok(signed) => Some(Ok(Signatures::of_sys(&signed))),
@@ -96,6 +173,24 @@ impl Certificate {
     ///
     /// [`Error::Certificate`] where the bytes are none, and [`Error::OutOfRange`] where the verdicts are more or less
     /// than the vertices.
+    ///
+    /// ```
+    /// # use highway::{Core, Error, Judgement, Leaders, Settings};
+    /// # let leaders = Leaders::Table(vec![0]);
+    /// # let settings = Settings { leaders, min_exponent: 2, ..Settings::of_weights(vec![1]) };
+    /// # let mut core = Core::new(&settings.to_bytes()?)?;
+    /// # for now in 0..32 {
+    /// #     let Some(plan) = core.next_unit(0, now, b"a block")? else { continue };
+    /// #     core.deliver(&plan.signed(&[0; 32])?, true)?;
+    /// # }
+    /// let certificate = core.certificate(0)?.expect("the block stands");
+    /// let mut verdicts = vec![true; certificate.signatures().count()];
+    /// assert!(matches!(certificate.check(&verdicts)?, Judgement::Yes { .. }));
+    /// verdicts[0] = false;
+    /// assert_eq!(certificate.check(&verdicts)?, Judgement::Refused(0, Error::BadSignature));
+    /// assert_eq!(certificate.check(&[]), Err(Error::OutOfRange));
+    /// # Ok::<(), Error>(())
+    /// ```
     pub fn check(&self, verdicts: &[bool]) -> Result<Judgement, Error> {
         let judged = sys::check(&self.bytes, verdicts)?;
         let refused = || Error::of(judged.status, &sys::Answer::default());

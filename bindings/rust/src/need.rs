@@ -3,6 +3,14 @@
 use crate::{Digest, sys};
 
 /// What a parked unit waits for: what a node asks its peers for.
+///
+/// ```
+/// use highway::{Core, Digest, Need, Settings};
+///
+/// let core = Core::new(&Settings::of_weights(vec![1]).to_bytes()?)?;
+/// assert!(core.for_need(Need::Unit(Digest([0; 32])))?.is_empty());
+/// # Ok::<(), highway::Error>(())
+/// ```
 #[derive(Clone, Copy, Debug, PartialEq, Eq, Hash)]
 pub enum Need {
     /// The unit of this digest has to settle.

@@ -4,8 +4,15 @@ use std::fmt;
 
 macro_rules! rules {
     ($($(#[$doc:meta])* $name:ident = $number:literal, $text:literal;)*) => {
-        /// A rule that a unit keeps, in the order in which they are tested, numbered from 1. The first eight read the unit and the
-        /// configuration alone, the others read the units below it too.
+        /// A rule that a unit keeps, in the order in which they are tested, numbered from 1. The first eight read the
+        /// unit and the configuration alone, the others read the units below it too.
+        ///
+        /// ```
+        /// use highway::Rule;
+        ///
+        /// let rule = Rule::NotLeader;
+        /// assert_eq!((rule as u32, rule.to_string().as_str()), (15, "not the leader"));
+        /// ```
         #[derive(Clone, Copy, Debug, PartialEq, Eq, PartialOrd, Ord, Hash)]
         pub enum Rule { $($(#[$doc])* $name = $number,)* }
 

@@ -3,6 +3,17 @@
 use crate::{Digest, Error, sys};
 
 /// A validator's signature of the digest of a unit.
+///
+/// ```
+/// # use highway::{Core, Error, Leaders, Settings, Signatures};
+/// # let leaders = Leaders::Table(vec![0]);
+/// # let settings = Settings { leaders, min_exponent: 2, ..Settings::of_weights(vec![1]) };
+/// # let mut core = Core::new(&settings.to_bytes()?)?;
+/// let plan = core.next_unit(0, 0, b"a block")?.expect("validator 0 leads");
+/// let Signatures::Unit(one) = Signatures::of(&plan.signed(&[7; 32])?)? else { panic!("it is a unit") };
+/// assert_eq!((one.validator, one.unit, one.signature), (0, plan.digest(), [7; 32]));
+/// # Ok::<(), Error>(())
+/// ```
 #[derive(Clone, Copy, Debug, PartialEq, Eq)]
 pub struct Signature {
     /// Who signed.
@@ -14,6 +25,21 @@ pub struct Signature {
 }
 
 /// What a host judges by its own scheme before it delivers a vertex.
+///
+/// ```
+/// # use highway::{Core, Error, Leaders, Settings, Signatures};
+/// # let leaders = Leaders::Table(vec![0]);
+/// # let settings = Settings { leaders, min_exponent: 2, ..Settings::of_weights(vec![1]) };
+/// # let mut core = Core::new(&settings.to_bytes()?)?;
+/// let vertex = core.next_unit(0, 0, b"a block")?.expect("validator 0 leads").signed(&[7; 32])?;
+/// let verdict = match Signatures::of(&vertex)? {
+///     Signatures::Unit(one) => one.signature == [7; 32],
+///     Signatures::Evidence(left, right) => left.signature == [7; 32] && right.signature == [7; 32],
+///     Signatures::Endorsement(one) => one.signature == [8; 32],
+/// };
+/// core.deliver(&vertex, verdict)?;
+/// # Ok::<(), Error>(())
+/// ```
 #[derive(Clone, Copy, Debug, PartialEq, Eq)]
 pub enum Signatures {
     /// The creator signed the unit.
@@ -34,6 +60,12 @@ impl Signatures {
     /// # Errors
     ///
     /// [`Error::Bytes`] where the bytes spell no vertex.
+    ///
+    /// ```
+    /// use highway::{Error, Signatures};
+    ///
+    /// assert!(matches!(Signatures::of(b"no vertex"), Err(Error::Bytes { .. })));
+    /// ```
     pub fn of(vertex: &[u8]) -> Result<Signatures, Error> {
         sys::signed(vertex).map(|signed| Signatures::of_sys(&signed))
     }

@@ -43,7 +43,8 @@ record!(Judged { kind: u32, status: u32, number: u32, weight: u64, block: [u8; 3
 
 #[allow(clippy::too_many_arguments)]
 mod exports {
-    use super::{Answer, Audited, Decided, Judged, Missing, Observed, Placed, Planned, RawHandle, Settings, Signed, Summary};
+    use super::{Answer, Audited, Decided, Judged, Missing, Observed, Placed, Planned};
+    use super::{RawHandle, Settings, Signed, Summary};
 
     unsafe extern "C" {
         pub fn hw_config(
@@ -53,7 +54,9 @@ mod exports {
         pub fn hw_core_new(config: *const u8, len: usize, answer: *mut Answer, core: *mut RawHandle) -> u32;
         pub fn hw_core_free(core: *mut RawHandle) -> u32;
         pub fn hw_signed(vertex: *const u8, len: usize, signed: *mut Signed, answer: *mut Answer) -> u32;
-        pub fn hw_deliver(core: *mut RawHandle, vertex: *const u8, len: usize, verdict: bool, answer: *mut Answer) -> u32;
+        pub fn hw_deliver(
+            core: *mut RawHandle, vertex: *const u8, len: usize, verdict: bool, answer: *mut Answer,
+        ) -> u32;
         pub fn hw_journal(core: *mut RawHandle, place: u64, buf: *mut u8, room: usize, len: *mut usize) -> u32;
         pub fn hw_summary(core: *mut RawHandle, summary: *mut Summary) -> u32;
         pub fn hw_observation(core: *mut RawHandle, validator: u32, observed: *mut Observed) -> u32;
@@ -71,7 +74,9 @@ mod exports {
             unit: *const u8, unit_len: usize, signature: *const [u8; 32], buf: *mut u8, room: usize, len: *mut usize,
             answer: *mut Answer,
         ) -> u32;
-        pub fn hw_audit(left: *mut RawHandle, right: *mut RawHandle, audited: *mut Audited, buf: *mut u8, room: usize) -> u32;
+        pub fn hw_audit(
+            left: *mut RawHandle, right: *mut RawHandle, audited: *mut Audited, buf: *mut u8, room: usize,
+        ) -> u32;
         pub fn hw_certificate(core: *mut RawHandle, index: u64, buf: *mut u8, room: usize, len: *mut usize) -> u32;
         pub fn hw_certified(
             certificate: *const u8, len: usize, place: usize, signed: *mut Signed, answer: *mut Answer,
@@ -133,8 +138,10 @@ impl Handle {
     }
 
     pub fn journal(&self, place: u64) -> Result<Vec<u8>, Error> {
-        // SAFETY: no other call of this node is running, since a handle isn't `Sync`; the rest are borrows.
-        bytes_of(|buf, len| said(unsafe { exports::hw_journal(self.place.get(), place, buf.as_mut_ptr(), buf.len(), len) }))
+        bytes_of(|buf, len| {
+            // SAFETY: no other call of this node is running, since a handle isn't `Sync`; the rest are borrows.
+            said(unsafe { exports::hw_journal(self.place.get(), place, buf.as_mut_ptr(), buf.len(), len) })
+        })
     }
 
     pub fn summary(&self) -> Result<Summary, Error> {
@@ -166,7 +173,9 @@ impl Handle {
     }
 
     pub fn unmet(&self, most: usize) -> Result<Vec<Missing>, Error> {
-        let (mut list, mut count) = (vec![Missing::default(); most], 0);
+        let (mut list, mut count) = (Vec::new(), 0);
+        list.try_reserve_exact(most).map_err(|_| Error::OutOfMemory)?;
+        list.resize(most, Missing::default());
         // SAFETY: as in `journal`.
         said(unsafe { exports::hw_unmet(self.place.get(), list.as_mut_ptr(), list.len(), &mut count) })?;
         list.truncate(count);

@@ -6,7 +6,7 @@ use highway::{
     BytesFault, Certificate, CertificateFault, Core, Error, Judgement, Leaders, Limit, Need, Observation, Place,
     Receipt, Settings, Signatures, Verdict,
 };
-use log::read_log;
+use log::{Entry, read_log};
 
 const LOGS: &[u8] = include_bytes!("data/logs.bin");
 
@@ -76,6 +76,7 @@ fn what_is_missing_is_asked_for() {
         }
     }
     assert!(late.unmet(256).unwrap().is_empty());
+    assert_eq!(late.unmet(usize::MAX), Err(Error::OutOfMemory));
     assert_eq!(late.fork(), cores[0].fork());
     assert_eq!(late.for_need(Need::Evidence(0)), Ok(vec![]));
 }
@@ -130,9 +131,9 @@ fn bytes_and_configurations_are_judged() {
 }
 
 /// Delivers entries of a log, some of which are refused.
-fn deliver_all(core: &mut Core, entries: &[(bool, Vec<u8>)]) {
-    for (verdict, vertex) in entries {
-        let _ = core.deliver(vertex, *verdict);
+fn deliver_all(core: &mut Core, entries: &[Entry]) {
+    for entry in entries {
+        let _ = core.deliver(&entry.vertex, entry.verdict);
     }
 }
 

@@ -1,9 +1,19 @@
 //! Logs of version 1, as the program writes them.
 
-/// A configuration, and each vertex with the verdict on it.
+/// A vertex, the verdict on it, and where its entry begins in the log.
+#[derive(Clone)]
+pub struct Entry {
+    // One of the two tests that read logs has no use for it.
+    #[allow(dead_code)]
+    pub at: usize,
+    pub verdict: bool,
+    pub vertex: Vec<u8>,
+}
+
+/// A configuration, and the entries behind it.
 pub struct Log {
     pub config: Vec<u8>,
-    pub entries: Vec<(bool, Vec<u8>)>,
+    pub entries: Vec<Entry>,
 }
 
 /// The log that the bytes are.
@@ -13,9 +23,9 @@ pub fn read_log(bytes: &[u8]) -> Log {
     let mut at = 9 + number(5);
     let mut log = Log { config: bytes[9..at].to_vec(), entries: Vec::new() };
     while at < bytes.len() {
-        let length = number(at + 2);
-        log.entries.push((bytes[at + 1] == 1, bytes[at + 6..at + 6 + length].to_vec()));
-        at += 6 + length;
+        let end = at + 6 + number(at + 2);
+        log.entries.push(Entry { at, verdict: bytes[at + 1] == 1, vertex: bytes[at + 6..end].to_vec() });
+        at = end;
     }
     log
 }
