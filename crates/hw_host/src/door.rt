@@ -35,13 +35,13 @@ const LONGEST_PAUSE: u64 = 5_000;
 /// for all of this is given a tenth of it the next time, until a session with it ends well. Where it lets a
 /// call wait for all of that too, it isn't dialled for 19 times as long, and each dial of it fails at once.
 ///
-/// On a peer that came, the reads and writes of a session wait 2 seconds in all. Where that is used up it hung,
-/// unless it answered four times in each second of that, or carried 65,536 bytes. Then its address, without the
-/// port, is suspect for 19 times as long: who comes from there is served after all others that wait and said
-/// something, and is waited for 20 milliseconds in a session, and as long again after each of its answers. 64
-/// addresses are kept. An honest peer of such an address goes on where its link answers in 20 milliseconds. One
-/// whose link is slower is starved while somebody else hangs there each time, but for the session that comes first
-/// when the 19 times are over. Who comes from many addresses is no suspect before each of them hung.
+/// On a peer that came, the reads and writes of a session wait 2 seconds in all. It hung where they waited longer
+/// than half a second for each of its answers, and a second for each 65,536 bytes that it sent, or took while they
+/// waited. Then its address, without the port, is suspect for 19 times as long as they waited: who comes from there is
+/// served after all others that wait and said something, and is waited for 20 milliseconds in a session, and as long
+/// again for each answer. 64 addresses are kept. An honest peer of such an address goes on where its link answers in 20
+/// milliseconds. One whose link is slower is starved while somebody else hangs there each time, but for the session
+/// that comes first when the 19 times are over. Who comes from many addresses is no suspect before each of them hung.
 ///
 /// What is written is held and goes out in pieces of 65,536 bytes, at the next `read`, or at `hang_up`. A
 /// call that sends what is held and fails is the one that counts.
@@ -270,14 +270,10 @@ impl<'a, R: Net + Voice> HostDoor<'a, R> {
         }
     }
 
-    /// What a call answers that failed by this error, which is told. A peer that let the call wait too long is given
-    /// less time from now on.
+    /// What a call answers that failed by this error, which is told. A peer that was dialled and let the call
+    /// wait too long is given less time from now on.
     fn fault(&mut self, error: io::Error) -> IoFault
-        ensures { self.new ≡ record self.old {
-          hung = self.new.hung;
-          suspects = self.new.suspects;
-          complaints = self.new.complaints;
-        } }
+        ensures { self.new ≡ record self.old { hung = self.new.hung; complaints = self.new.complaints } }
     {
         if error.kind() == ErrorKind::TimedOut {
             self.note_hung();
@@ -293,30 +289,13 @@ impl<'a, R: Net + Voice> HostDoor<'a, R> {
         }
     }
 
-    /// Keeps that the peer was too slow.
+    /// Keeps that the peer hung, if it was dialled.
     fn note_hung(&mut self)
-        ensures { self.new ≡ record self.old { hung = self.new.hung; suspects = self.new.suspects } }
+        ensures { self.new ≡ record self.old { hung = self.new.hung } }
     {
-        let Ok(now) = Instant::now(&self.runtime) else {
-            return
-        };
-        match self.peer.dialled {
-            Some(dialled) => {
-                let taken = now.duration_since(dialled);
-                self.hung.note(self.peer.called(), now, taken);
-            }
-            None => self.note_suspect(now),
-        }
-    }
-
-    /// Keeps that the peer hung, if it came and did.
-    fn note_suspect(&mut self, now: Instant)
-        ensures { self.new ≡ record self.old { suspects = self.new.suspects } }
-    {
-        if let (Some(address), Some(session)) = (self.peer.came_from, &self.session) {
-            if session.has_hung() {
-                self.suspects.note(address, now, session.blocked());
-            }
+        if let (Some(dialled), Ok(now)) = (self.peer.dialled, Instant::now(&self.runtime)) {
+            let taken = now.duration_since(dialled);
+            self.hung.note(self.peer.called(), now, taken);
         }
     }
 
@@ -326,7 +305,21 @@ impl<'a, R: Net + Voice> HostDoor<'a, R> {
         ensures numbers { self.new.numbers ≡ self.old.numbers }
     {
         self.part();
+        self.note_suspect();
         self.session = None;
+    }
+
+    /// Keeps that the peer hung, if it came and did, however the session ended.
+    fn note_suspect(&mut self)
+        ensures { self.new ≡ record self.old { suspects = self.new.suspects } }
+    {
+        if let (Some(address), Some(session)) = (self.peer.came_from, &self.session) {
+            if session.has_hung() {
+                if let Ok(now) = Instant::now(&self.runtime) {
+                    self.suspects.note(address, now, session.blocked());
+                }
+            }
+        }
     }
 
     /// Parts from a peer in whose session no call failed: sends what is held, and lets the peer end too.
@@ -341,14 +334,11 @@ impl<'a, R: Net + Voice> HostDoor<'a, R> {
             self.fault(error);
             return;
         }
-        let outcome = match &mut self.session {
-            Some(session) => session.part(&self.runtime),
-            None => Ok(()),
-        };
+        if let Some(session) = &mut self.session {
+            session.part(&self.runtime);
+        }
         if self.peer.dialled.is_some() {
             self.hung.forgive(self.peer.called());
-        } else if is_too_slow(&outcome) {
-            self.note_hung();
         }
     }
 }
@@ -416,14 +406,6 @@ fn resting() -> io::Error {
         ErrorKind::ResourceBusy,
         "it hung again, and isn't dialled for a while",
     )
-}
-
-/// Whether a call took too long.
-fn is_too_slow(outcome: &io::Result<()>) -> bool {
-    match outcome {
-        Ok(()) => false,
-        Err(error) => error.kind() == ErrorKind::TimedOut,
-    }
 }
 
 /// The next peer that says something.

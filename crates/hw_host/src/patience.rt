@@ -25,8 +25,8 @@ const GUEST_MILLISECONDS: u64 = 2_000;
 /// a busy one; and who comes each time to hang delays the others by no more.
 const SUSPECT_MILLISECONDS: u64 = 20;
 
-/// A peer that came and answers as fast as this doesn't hang, however far away it is.
-const ANSWER_MILLISECONDS: u64 = 250;
+/// A peer that came and answers as fast as this doesn't hang: the other side of the earth answers in 300.
+const ANSWER_MILLISECONDS: u64 = 500;
 
 /// How much time a peer is given.
 #[derive(Clone, Copy, Debug, PartialEq, Eq)]

@@ -18,8 +18,11 @@ const PARTING_MILLISECONDS: u64 = 500;
 /// How many pieces of what the peer is still sending are read at most.
 const PARTING_READS: usize = 64;
 
-/// A write that takes less than so many milliseconds didn't wait for the peer, but for the system to take it.
-const WAITED_MILLISECONDS: u64 = 1;
+/// A read that takes less than so many microseconds didn't wait for the peer's answer: its bytes were there before.
+const READ_MICROSECONDS: u64 = 50;
+
+/// A write that takes less than so many microseconds didn't wait for the peer, but for the system to take it.
+const WRITE_MICROSECONDS: u64 = 1_000;
 
 /// A session with a peer.
 #[derive(Drop)]
@@ -80,7 +83,7 @@ impl<S: OpenStream + Read + Write + Drop> Session<S> {
         self.blocked
     }
 
-    /// Whether that is longer than the peer earned by what it did.
+    /// Whether that is longer than the peer earned by its answers, and by the bytes that were carried.
     pub(crate) fn has_hung(&self) -> bool {
         has_hung(milliseconds(self.blocked), self.answers, self.carried)
     }
@@ -112,30 +115,30 @@ impl<S: OpenStream + Read + Write + Drop> Session<S> {
     {
         let began = self.set_wait(clock)?;
         let outcome = self.stream.read(buf);
-        self.count_blocked(clock, began);
+        let taken = self.count_blocked(clock, began);
         match outcome {
             Ok(count) => {
-                self.count_read(count as u64);
+                self.count_read(count as u64, taken);
                 Ok(count)
             }
             Err(error) => Err(self.failed(error)),
         }
     }
 
-    /// Counts bytes that came.
-    fn count_read(&mut self, count: u64) {
+    /// Counts bytes that came in a read that took so long, or the peer's end. What was there before is no answer.
+    fn count_read(&mut self, count: u64, taken: Duration) {
         self.moved = self.moved.saturating_add(count);
         self.carried = self.carried.saturating_add(count);
-        if self.is_answer_due && count > 0 {
+        if self.is_answer_due && taken >= Duration::from_micros(READ_MICROSECONDS) {
             self.answers = self.answers.saturating_add(1);
-            self.is_answer_due = false;
         }
+        self.is_answer_due = false;
     }
 
     /// Counts bytes that went in a write that took so long.
     fn count_written(&mut self, count: u64, taken: Duration) {
         self.moved = self.moved.saturating_add(count);
-        if milliseconds(taken) >= WAITED_MILLISECONDS {
+        if taken >= Duration::from_micros(WRITE_MICROSECONDS) {
             self.carried = self.carried.saturating_add(count);
         }
         self.is_answer_due = true;
@@ -226,38 +229,43 @@ impl<S: OpenStream + Read + Write + Drop> Session<S> {
     }
 
     /// Ends what is written and reads on for a bounded while, unless a call failed: a stream that is closed
-    /// with bytes unread is reset, and the peer may lose what it was sent last. It is an error where the peer
-    /// didn't end too.
-    pub(crate) fn part(&mut self, clock: &impl time::Clock) -> io::Result<()> {
-        if self.has_failed {
-            return Ok(());
+    /// with bytes unread is reset, and the peer may lose what it was sent last.
+    pub(crate) fn part(&mut self, clock: &impl time::Clock) {
+        if self.has_failed || self.stream.shutdown(Shutdown::Write).is_err() {
+            return;
         }
-        self.stream.shutdown(Shutdown::Write)?;
-        let began = Instant::now(clock)?;
+        let Ok(began) = Instant::now(clock) else {
+            return
+        };
         for _ in 0..PARTING_READS {
-            if !self.is_still_sending(clock, began)? {
+            if !self.is_still_sending(clock, began) {
                 break;
             }
         }
-        Ok(())
     }
 
     /// Whether a byte of the peer comes in what is left of the while that began then.
-    fn is_still_sending(&mut self, clock: &impl time::Clock, began: Instant) -> io::Result<bool> {
+    fn is_still_sending(&mut self, clock: &impl time::Clock, began: Instant) -> bool {
         let mut rest = [0; 4096];
-        let now = Instant::now(clock)?;
-        let taken = milliseconds(now.duration_since(began));
-        let left = PARTING_MILLISECONDS.saturating_sub(taken);
-        let wait = match self.patience.next_wait(self.progress(now)) {
-            Some(wait) if left > 0 => wait.min(left),
-            _ => return Err(ErrorKind::TimedOut.into()),
+        let Ok(now) = Instant::now(clock) else {
+            return false
         };
-        set_waits(&self.stream, wait)?;
+        let left = PARTING_MILLISECONDS.saturating_sub(milliseconds(now.duration_since(began)));
+        let wait = match self.patience.next_wait(self.progress(now)) {
+            Some(wait) => wait.min(left),
+            None => 0,
+        };
+        if wait == 0 || set_waits(&self.stream, wait).is_err() {
+            return false;
+        }
         let outcome = self.stream.read(&mut rest);
-        self.count_blocked(clock, now);
+        let taken = self.count_blocked(clock, now);
         match outcome {
-            Ok(count) => Ok(count > 0),
-            Err(error) => Err(self.failed(error)),
+            Ok(count) => {
+                self.count_read(count as u64, taken);
+                count > 0
+            }
+            Err(_) => false,
         }
     }
 }

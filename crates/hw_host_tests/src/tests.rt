@@ -328,8 +328,8 @@ fn a_trickling_peer_is_given_up(rt: HostRuntime) -> Result<(), Fail> {
 }
 
 /// A peer that comes to this address and says this.
-fn come<R: Net>(rt: R, address: &str, said: &[u8]) -> io::Result<R::Stream> {
-    let mut peer = TcpStream::connect(&rt, address)?;
+fn come<R: Net>(rt: &R, address: &str, said: &[u8]) -> io::Result<R::Stream> {
+    let mut peer = TcpStream::connect(rt, address)?;
     peer.write_all(said)?;
     Ok(peer)
 }
