@@ -1,0 +1,94 @@
+"""Tests of three_validators.py, in which a fake program plays the nodes. Run by `python3 -m unittest` here."""
+
+import contextlib
+import io
+import socket
+import tempfile
+import unittest
+from pathlib import Path
+from unittest import mock
+
+import three_validators
+from fake_program import await_files, fake_program
+from three_validators import DATA
+
+SIGNED = DATA / "signed.hwlg"
+# A node's log is torn where a mark says so; a mend takes the mark away.
+NODE = f"copy({str(SIGNED)!r}, words[2]); time.sleep(60)"
+REPLAY = """if os.path.exists('is-torn'):
+    print('input', words[0] + ': torn at 99')
+    sys.exit(2)
+print('units 4 parked 0')
+print('faulty -')
+print('final 1')
+"""
+WELL = {"serve": NODE, "run": NODE, "replay": REPLAY, "audit": "print('agree 1')",
+        "mend": "os.remove('is-torn'); copy(words[0], words[1]); print('1 of 2 entries')"}
+LOGS = [f"*/{name}.log" for name in ("hub", "v0", "v1", "v2")]
+
+
+class Networks(unittest.TestCase):
+    def setUp(self):
+        folder = tempfile.TemporaryDirectory()
+        self.addCleanup(folder.cleanup)
+        self.room = Path(folder.name)
+
+    def network(self, **commands):
+        """Four nodes that run and have a log."""
+        nodes = three_validators.network(self.room, [str(fake_program(self.room, **WELL | commands))], 1)
+        for node in nodes:
+            node.start()
+            self.addCleanup(node.running.wait)
+            self.addCleanup(node.running.kill)
+        await_files(self.room, *LOGS)
+        return nodes
+
+    def agree(self, nodes):
+        out = io.StringIO()
+        with contextlib.redirect_stdout(out):
+            return three_validators.agree(nodes), out.getvalue()
+
+    def test_a_torn_log_is_mended_when_its_node_is_killed(self):
+        _, node, *_ = self.network()
+        (node.folder / "is-torn").touch()
+        self.assertEqual(node.kill(), "input v0.log: torn at 99; 1 of 2 entries")
+        self.assertEqual((node.mended, node.mend()), (1, "whole"))
+
+    def test_a_node_that_ended_is_started_again(self):
+        hub = self.network()[0]
+        first = hub.running
+        hub.watch()
+        self.assertIs(hub.running, first)
+        first.kill()
+        first.wait()
+        hub.watch()
+        self.addCleanup(hub.running.wait)
+        self.addCleanup(hub.running.kill)
+        self.assertEqual((hub.starts, hub.ends), (2, [-9]))
+
+    def test_logs_that_agree(self):
+        nodes = self.network()
+        three_validators.stop(nodes)
+        is_well, said = self.agree(nodes)
+        self.assertTrue(is_well, said)
+        self.assertEqual((said.count("1 final blocks\n"), said.count("agree 1\n")), (4, 6))
+
+    def test_logs_that_do_not(self):
+        for name, commands in {"faulty": {"replay": REPLAY.replace("'faulty -'", "'faulty 2'")},
+                               "nothing final": {"replay": REPLAY.replace("final", "fork")},
+                               "status": {"replay": REPLAY + "sys.exit(8)"}, "no report": {"replay": "pass"},
+                               "audit": {"audit": "print('conflict'); sys.exit(3)"}}.items():
+            with self.subTest(name=name):
+                self.setUp()
+                program = [str(fake_program(self.room, **WELL | commands))]
+                self.assertFalse(self.agree(three_validators.network(self.room, program, 1))[0])
+
+    def test_a_port_that_is_taken_is_passed_over(self):
+        with socket.create_server(("127.0.0.1", 0)) as door:
+            taken = door.getsockname()[1]
+            with mock.patch.object(three_validators.random, "randrange", side_effect=[taken, 1]):
+                self.assertEqual(three_validators.steady_port(), 1)
+
+
+if __name__ == "__main__":
+    unittest.main()
