@@ -1,12 +1,12 @@
 -- What units need, unit by unit.
-use Rattle.std.proofs.Common.{◌≡◌, ℕ, zero, suc, ◌+◌, ◌<◌, inl, inr, Bool, true, false, cond, List, [], ◌∷◌, ◌++◌, length, take, get_or, refl, ap, subst, ◌∙◌, arith}
+use Rattle.std.proofs.Common.{◌≡◌, ℕ, zero, suc, ◌+◌, ◌<◌, inl, inr, Bool, true, false, List, [], ◌∷◌, ◌++◌, length, take, get_or, refl, ap, subst, ◌∙◌, arith}
 use Rattle.std.specs.Prelude.{◌||◌}
 use Rattle.std.specs.List.{list_any}
-use Rattle.indexmap.specs.IndexSet.{insert_key}
 use Rattle.hw_types.specs.declared.unit.Digest.{Digest}
 use Rattle.hw_types.specs.Graph.{Node, digest_eq, is_faulty_mark, slot}
 use Rattle.hw_types.specs.Below.{Among}
-use Rattle.hw_types.proofs.PastLaws.{some_of, any_of}
+use Rattle.hw_types.proofs.Equal.{digest_eq_exact}
+use Rattle.hw_types.proofs.PastLaws.{or_cases, or_left, some_of, any_of}
 use Rattle.hw_types.proofs.StableLaws.{both_ways}
 use Rattle.hw_types.proofs.EntryLaws.{among_map}
 use Rattle.hw_dag.specs.declared.numbers.UnitNo.{UnitNo}
@@ -56,21 +56,21 @@ any_more dag numbers p i d lt =
     or_false true = refl
     or_false false = refl
 
--- a set with one more digest
-pub with_digest : (eq : Digest → Digest → Bool) → ((d e : Digest) → eq d e ≡ true → d ≡ e) → (ks : List Digest) (k d : Digest) → list_any (digest_eq d) (insert_key eq ks k) ≡ (list_any (digest_eq d) ks || digest_eq d k)
-with_digest eq exact ks k d = go (list_any (eq k) ks) refl
+-- a digest that is there already
+pub digest_there : (ks : List Digest) (k d : Digest) → list_any (digest_eq k) ks ≡ true → list_any (digest_eq d) ks ≡ (list_any (digest_eq d) ks || digest_eq d k)
+digest_there ks k d there = both_ways (list_any (digest_eq d) ks) (list_any (digest_eq d) ks || digest_eq d k)
+    (λ t. or_left (list_any (digest_eq d) ks) (digest_eq d k) t)
+    (λ t. elim (or_cases (list_any (digest_eq d) ks) (digest_eq d k) t) [
+      | inl u ↦ u
+      | inr u ↦
+          (let x = some_of (digest_eq k) ks there in
+          any_of (digest_eq d) x.0 ks x.1 (subst (λ (e : Digest). digest_eq d e ≡ true) ((digest_eq_exact k x.0).0 x.2) u))
+    ])
+
+-- one digest more
+pub digest_last : (ks : List Digest) (k d : Digest) → list_any (digest_eq d) (ks ++ k ∷ []) ≡ (list_any (digest_eq d) ks || digest_eq d k)
+digest_last ks k d = any_append (digest_eq d) ks (k ∷ []) ∙ ap (λ (b : Bool). list_any (digest_eq d) ks || b) (or_false (digest_eq d k))
   where
-    go : (b : Bool) → list_any (eq k) ks ≡ b → list_any (digest_eq d) (cond b ks (ks ++ k ∷ [])) ≡ (list_any (digest_eq d) ks || digest_eq d k)
-    go true e = both_ways (list_any (digest_eq d) ks) (list_any (digest_eq d) ks || digest_eq d k)
-        (λ t. Rattle.hw_types.proofs.PastLaws.or_left (list_any (digest_eq d) ks) (digest_eq d k) t)
-        (λ t. elim (Rattle.hw_types.proofs.PastLaws.or_cases (list_any (digest_eq d) ks) (digest_eq d k) t) [
-          | inl u ↦ u
-          | inr u ↦
-              (let x = some_of (eq k) ks e in
-              any_of (digest_eq d) x.0 ks x.1 (subst (λ (y : Digest). digest_eq d y ≡ true) (exact k x.0 x.2) u))
-        ])
-    go false e = any_append (digest_eq d) ks (k ∷ []) ∙ ap (λ (b : Bool). list_any (digest_eq d) ks || b) (or_false (digest_eq d k))
-      where
-        or_false : (b : Bool) → (b || false) ≡ b
-        or_false true = refl
-        or_false false = refl
+    or_false : (b : Bool) → (b || false) ≡ b
+    or_false true = refl
+    or_false false = refl

@@ -1,6 +1,6 @@
 -- What is answered where a certificate is asked for, and what a certificate that was made shows.
 -- Source: ours.
-use Rattle.std.specs.Prelude.{◌≡◌, ◌≢◌, ◌⊎◌, true, Bool, ℕ, ◌<◌, ◌≤◌, List, length, map, filter, None}
+use Rattle.std.specs.Prelude.{◌≡◌, ◌≢◌, ◌⊎◌, true, ℕ, ◌<◌, ◌≤◌, List, length, map, filter, None}
 use Rattle.hw_types.specs.declared.unit.Digest.{Digest}
 use Rattle.hw_types.specs.declared.unit.Vertex.{Vertex}
 use Rattle.hw_types.specs.declared.config.Config.{Config}

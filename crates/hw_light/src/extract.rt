@@ -13,9 +13,9 @@ use crate::certificate::VertexList;
 use crate::needed::{is_marked_by, listed_by};
 use hw_core::Core;
 use hw_dag::{Dag, UnitNo};
+use hw_names::NameTable;
 use hw_needs::evidence_of;
 use hw_types::{Digest, OutOfMemory, Vertex};
-use indexmap::IndexSet;
 use std::alloc::Global;
 
 /// The vertices for these units: evidence against each validator that they mark, in rising order; the
@@ -113,11 +113,11 @@ fn put_endorsements(
 /// Puts the journal's endorsements of these digests last, in its order.
 fn put_endorsements_of(
     core: &Core,
-    listed: &IndexSet<Digest>,
+    listed: &NameTable,
     vertices: &mut VertexList,
 ) -> Result<(), OutOfMemory>
-    ensures put { OnOk result (vertices.new ≡ vertices.old ++ filter (is_endorsement_of (λ d. list_any (digest_eq d) listed.now.keys)) core.now.journal) }
-    ensures fits { OnOk result (All VertexFits (filter (is_endorsement_of (λ d. list_any (digest_eq d) listed.now.keys)) core.now.journal)) }
+    ensures put { OnOk result (vertices.new ≡ vertices.old ++ filter (is_endorsement_of (λ d. list_any (digest_eq d) listed.now.names)) core.now.journal) }
+    ensures fits { OnOk result (All VertexFits (filter (is_endorsement_of (λ d. list_any (digest_eq d) listed.now.names)) core.now.journal)) }
 {
     for place in 0..core.journal_count() {
         put_if_listed(core.journal_at(place), listed, vertices)?;
@@ -128,15 +128,15 @@ fn put_endorsements_of(
 /// Puts the vertex last where it is an endorsement of one of these digests.
 fn put_if_listed(
     vertex: &Vertex,
-    listed: &IndexSet<Digest>,
+    listed: &NameTable,
     vertices: &mut VertexList,
 ) -> Result<(), OutOfMemory>
     requires { VertexFits vertex.now }
-    ensures put { OnOk result (vertices.new ≡ vertices.old ++ (if is_endorsement_of (λ d. list_any (digest_eq d) listed.now.keys) vertex.now then vertex.now ∷ [] else [])) }
-    ensures fits { OnOk result (All VertexFits (if is_endorsement_of (λ d. list_any (digest_eq d) listed.now.keys) vertex.now then vertex.now ∷ [] else [])) }
+    ensures put { OnOk result (vertices.new ≡ vertices.old ++ (if is_endorsement_of (λ d. list_any (digest_eq d) listed.now.names) vertex.now then vertex.now ∷ [] else [])) }
+    ensures fits { OnOk result (All VertexFits (if is_endorsement_of (λ d. list_any (digest_eq d) listed.now.names) vertex.now then vertex.now ∷ [] else [])) }
 {
     match vertex {
-        Vertex::Endorsement(endorsement) if listed.contains(&endorsement.unit) => {
+        Vertex::Endorsement(endorsement) if listed.find(&endorsement.unit).is_some() => {
             vertices.push(Vertex::Endorsement(*endorsement))
         }
         _ => Ok(()),

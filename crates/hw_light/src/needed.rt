@@ -10,8 +10,8 @@ ghost use Rattle.hw_dag.specs.Dag.{count_of, node_at};
 ghost use Rattle.hw_light.specs.Under.{AreKnown, nodes_at};
 
 use hw_dag::{Dag, UnitNo, View};
+use hw_names::NameTable;
 use hw_types::{Digest, OutOfMemory};
-use indexmap::IndexSet;
 use std::alloc::Global;
 
 /// Whether one of these units marks the validator as faulty.
@@ -43,11 +43,11 @@ pub(crate) fn listed_by(
     alloc: Global,
     dag: &Dag,
     numbers: &[UnitNo],
-) -> Result<IndexSet<Digest>, OutOfMemory>
+) -> Result<NameTable, OutOfMemory>
     requires { AreKnown dag.now numbers.now }
-    ensures { IfOk result (λ listed. (d : Name) → list_any (digest_eq d) listed.keys ≡ is_listed_by (nodes_at dag.now numbers.now) d) }
+    ensures { IfOk result (λ listed. (d : Name) → list_any (digest_eq d) listed.names ≡ is_listed_by (nodes_at dag.now numbers.now) d) }
 {
-    let mut listed = IndexSet::new(alloc);
+    let mut listed = NameTable::new(alloc);
     for number in numbers {
         add_listed(
             &mut listed,
@@ -58,8 +58,8 @@ pub(crate) fn listed_by(
 }
 
 /// Puts each of the digests into the set.
-fn add_listed(listed: &mut IndexSet<Digest>, digests: &[Digest]) -> Result<(), OutOfMemory>
-    ensures { OnOk result ((d : Name) → list_any (digest_eq d) listed.new.keys ≡ (list_any (digest_eq d) listed.old.keys || has_digest digests.now d)) }
+fn add_listed(listed: &mut NameTable, digests: &[Digest]) -> Result<(), OutOfMemory>
+    ensures { OnOk result ((d : Name) → list_any (digest_eq d) listed.new.names ≡ (list_any (digest_eq d) listed.old.names || has_digest digests.now d)) }
 {
     for digest in digests {
         add_digest(listed, *digest)?;
@@ -68,9 +68,13 @@ fn add_listed(listed: &mut IndexSet<Digest>, digests: &[Digest]) -> Result<(), O
 }
 
 /// Puts the digest into the set.
-fn add_digest(listed: &mut IndexSet<Digest>, digest: Digest) -> Result<(), OutOfMemory>
-    ensures { OnOk result ((d : Name) → list_any (digest_eq d) listed.new.keys ≡ (list_any (digest_eq d) listed.old.keys || digest_eq d digest)) }
+fn add_digest(listed: &mut NameTable, digest: Digest) -> Result<(), OutOfMemory>
+    ensures { OnOk result ((d : Name) → list_any (digest_eq d) listed.new.names ≡ (list_any (digest_eq d) listed.old.names || digest_eq d digest)) }
 {
-    listed.insert(digest)?;
+    if listed.find(&digest).is_some() {
+        return Ok(());
+    }
+    listed.reserve(1)?;
+    listed.push(digest);
     Ok(())
 }

@@ -14,13 +14,13 @@ use Rattle.hw_light.proofs.extract.put_endorsements.Goals as goal
 pub returns-clause-put : goal.returns-clause-put
 returns-clause-put c =
     let units = nodes_at c.args.dag.now c.args.numbers.now in
-    let same = same_endorsements (λ (d : Digest). list_any (digest_eq d) c.in_ok-listed.listed.keys) (is_listed_by units) c.in_ok-listed.ensures c.args.core.now.journal in
+    let same = same_endorsements (λ (d : Digest). list_any (digest_eq d) c.in_ok-listed.listed.names) (is_listed_by units) c.in_ok-listed.ensures c.args.core.now.journal in
     IfOk-weaker c.put_endorsements_of.result _ (λ done. c.put_endorsements_of.new.vertices ≡ c.args.vertices.now ++ endorsement_part c.args.core.now units)
     (λ done e. e ∙ ap (λ (vs : List Vertex). c.args.vertices.now ++ vs) same) c.put_endorsements_of.ensures.put
 
 pub returns-clause-fits : goal.returns-clause-fits
 returns-clause-fits c =
     let units = nodes_at c.args.dag.now c.args.numbers.now in
-    let same = same_endorsements (λ (d : Digest). list_any (digest_eq d) c.in_ok-listed.listed.keys) (is_listed_by units) c.in_ok-listed.ensures c.args.core.now.journal in
+    let same = same_endorsements (λ (d : Digest). list_any (digest_eq d) c.in_ok-listed.listed.names) (is_listed_by units) c.in_ok-listed.ensures c.args.core.now.journal in
     IfOk-weaker c.put_endorsements_of.result _ (λ done. All VertexFits (endorsement_part c.args.core.now units))
     (λ done fit. subst (λ (vs : List Vertex). All VertexFits vs) same fit) c.put_endorsements_of.ensures.fits

@@ -12,7 +12,7 @@ use Rattle.hw_light.proofs.extract.put_endorsements_of.Goals as goal
 pub loop-place-preserved : goal.loop-place-preserved
 loop-place-preserved c =
     let journal = c.args.core.now.journal in
-    let test : Vertex → Bool = is_endorsement_of (λ (d : Digest). list_any (digest_eq d) c.args.listed.now.keys) in
+    let test : Vertex → Bool = is_endorsement_of (λ (d : Digest). list_any (digest_eq d) c.args.listed.now.names) in
     let n = c.loop-place.place in
     let i = c.loop-place.invariant in
     let v = c.journal_at.result.now in

@@ -8,6 +8,6 @@ use Rattle.hw_light.proofs.extract.put_endorsements_of.Given as goal
 
 abbrev pub invariant-loop-place : goal.invariant-loop-place
 invariant-loop-place l = record {
-  put : l.vertices ≡ l.initial.vertices ++ filter (is_endorsement_of (λ d. list_any (digest_eq d) l.listed.keys)) (take l.place l.core.journal);
-  fits : All VertexFits (filter (is_endorsement_of (λ d. list_any (digest_eq d) l.listed.keys)) (take l.place l.core.journal));
+  put : l.vertices ≡ l.initial.vertices ++ filter (is_endorsement_of (λ d. list_any (digest_eq d) l.listed.names)) (take l.place l.core.journal);
+  fits : All VertexFits (filter (is_endorsement_of (λ d. list_any (digest_eq d) l.listed.names)) (take l.place l.core.journal));
 }

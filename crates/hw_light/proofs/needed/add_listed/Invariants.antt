@@ -7,4 +7,4 @@ use Rattle.hw_types.specs.Rules.{has_digest}
 use Rattle.hw_light.proofs.needed.add_listed.Given as goal
 
 abbrev pub invariant-loop-digest : goal.invariant-loop-digest
-invariant-loop-digest l = (d : Digest) → list_any (digest_eq d) l.listed.keys ≡ (list_any (digest_eq d) l.initial.listed.keys || has_digest (take l.digest-index l.digests) d)
+invariant-loop-digest l = (d : Digest) → list_any (digest_eq d) l.listed.names ≡ (list_any (digest_eq d) l.initial.listed.names || has_digest (take l.digest-index l.digests) d)

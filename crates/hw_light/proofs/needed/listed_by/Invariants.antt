@@ -7,4 +7,4 @@ use Rattle.hw_light.specs.Under.{nodes_at}
 use Rattle.hw_light.proofs.needed.listed_by.Given as goal
 
 abbrev pub invariant-loop-number : goal.invariant-loop-number
-invariant-loop-number l = (d : Digest) → list_any (digest_eq d) l.listed.keys ≡ is_listed_by (nodes_at l.dag (take l.number-index l.numbers)) d
+invariant-loop-number l = (d : Digest) → list_any (digest_eq d) l.listed.names ≡ is_listed_by (nodes_at l.dag (take l.number-index l.numbers)) d
