@@ -108,10 +108,16 @@ class Tries(InFolder):
         self.assertRegex(said, "at the end +hub +4 units, 0 parked, 3 final\n")
         self.assertEqual(list(self.folder.glob("highway-*")), [])
 
-    def test_a_hub_that_stays_behind(self):
-        status, said = self.main("1", replay=MISSES.replace("starts['hub'] > starts['v1']", "starts['hub'] > 1"))
-        self.assertEqual(status, 1)
-        self.assertEqual(len(list(self.folder.glob("highway-*"))), 1)
+    def test_what_is_not_well_at_the_end(self):
+        after, end = Holds(4, 3, 1), Holds(9, 0, 2)
+        for case, (last, is_well, do_agree) in enumerate((
+                (end, True, True), (Holds(9, 1, 2), False, True), (Holds(9, 0, 1), False, True), (end, False, False))):
+            with self.subTest(case=case), mock.patch.object(tempfile, "tempdir", str(self.folder)):
+                found = mock.Mock(return_value=([after, after], [end, last]))
+                with mock.patch.multiple(hub_losses, hurt=found, agree=lambda _, answer=do_agree: answer):
+                    with contextlib.redirect_stdout(io.StringIO()):
+                        self.assertEqual(hub_losses.main(["program", "1"]) == 0, is_well)
+        self.assertEqual(len(list(self.folder.glob("highway-*"))), 3)
 
     def test_a_loss_that_is_no_number(self):
         with contextlib.redirect_stderr(io.StringIO()), self.assertRaises(SystemExit):

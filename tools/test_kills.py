@@ -74,6 +74,31 @@ class Faults(unittest.TestCase):
             self.assertEqual(kills.units_of(read_log(file.name)), {})
 
 
+class Told(unittest.TestCase):
+    """What is said of nodes that were stopped."""
+
+    def told(self, *ends, log="signed.hwlg"):
+        node, out = mock.Mock(folder=DATA, log=log, ends=list(ends)), io.StringIO()
+        node.name = "v1"
+        with mock.patch.object(kills, "agree", return_value=True), contextlib.redirect_stdout(out):
+            return kills.told([node]), out.getvalue()
+
+    def test_ends_of_a_run(self):
+        self.assertEqual(self.told(-9, 0, 6, -9), (True, ""))
+
+    def test_other_ends_are_counted(self):
+        self.assertEqual(self.told(5, -9, 127, 5),
+                         (False, "v1 ended with status 5, 2 times\nv1 ended with status 127, 1 times\n"))
+
+    def test_a_log_that_is_not_there(self):
+        self.assertEqual(self.told(log="none.log"), (False, "v1: no such file or directory\n"))
+
+    def test_how_a_node_ended_is_noted(self):
+        node = mock.Mock(ends=[])
+        node.running.poll.side_effect = [None, 6]
+        self.assertEqual([kills.has_ended(node), kills.has_ended(node), node.ends], [False, True, [6]])
+
+
 @unittest.skipUnless(shutil.which("cc"), "there is no C compiler")
 class Library(unittest.TestCase):
     """What is loaded into a node, tried on a small writer."""
@@ -114,21 +139,21 @@ class Tries(unittest.TestCase):
         self.addCleanup(folder.cleanup)
         self.folder = Path(folder.name)
 
-    def main(self, count, seconds=8, **commands):
+    def main(self, count, **commands):
         program, out = fake_program(self.folder, **WELL | commands), io.StringIO()
         settle, logs = kills.settle, [f"highway-*/{name}/{name}.log" for name in ("hub", "v0", "v1", "v2")]
 
         def settle_once_all_wrote(nodes, _):
-            with mock.patch.object(kills.time, "sleep", lambda _: await_files(self.folder, *logs * (seconds > 1))):
+            with mock.patch.object(kills.time, "sleep", lambda _: await_files(self.folder, *logs)):
                 settle(nodes, 0)
 
         with mock.patch.multiple(kills, APPENDS=(1,), PAUSES=(0.4,), settle=settle_once_all_wrote):
             with mock.patch.object(tempfile, "tempdir", str(self.folder)), contextlib.redirect_stdout(out):
-                status = kills.main([str(program), "--kills", str(count), "--seconds", str(seconds)])
+                status = kills.main([str(program), "--kills", str(count), "--seconds", "8"])
         return status, out.getvalue()
 
     def test_nothing_is_lost(self):
-        status, said = self.main(4)
+        status, said = self.main(3)
         self.assertEqual(status, 0, said)
         self.assertRegex(said, r"\d kills, \d of them in an append; \d logs were torn and mended\n")
         self.assertEqual(said.count("agree 1\n"), 6)
@@ -139,16 +164,6 @@ class Tries(unittest.TestCase):
         self.assertEqual(status, 1)
         self.assertIn("faulty 0", said)
         self.assertEqual(len(list(self.folder.glob("highway-*"))), 1)
-
-    def test_an_end_that_is_no_end_of_a_run(self):
-        status, said = self.main(1, run=NODE.replace("time.sleep(60)", "sys.exit(5 * (words[3] == '2'))"))
-        self.assertEqual(status, 1)
-        self.assertRegex(said, "v2 ended with status 5, [0-9] times\n")
-
-    def test_a_program_that_does_not_run(self):
-        status, said = self.main(1, 0.3, serve="sys.exit(127)", run="sys.exit(127)", replay="sys.exit(127)")
-        self.assertEqual(status, 1)
-        self.assertRegex(said, "v0 ended with status 127, [0-9]+ times\nv0: no such file")
 
     def test_a_log_that_cannot_be_mended_ends_the_trial(self):
         with self.assertRaisesRegex(SystemExit, "replay of its log ended with status 2: bad event at 9"):

@@ -22,9 +22,37 @@ print('units 4 parked 0')
 print('faulty -')
 print('final 1')
 """
-WELL = {"serve": NODE, "run": NODE, "replay": REPLAY, "audit": "print('agree 1')",
+WELL = {"serve": NODE, "run": NODE, "replay": REPLAY,
         "mend": "os.remove('is-torn'); copy(words[0], words[1]); print('1 of 2 entries')"}
 LOGS = [f"*/{name}.log" for name in ("hub", "v0", "v1", "v2")]
+
+
+class Agreements(unittest.TestCase):
+    """What is said of logs that are replayed and audited."""
+
+    def agree(self, **answers):
+        nodes, out = [], io.StringIO()
+        for name in ("hub", "v0", "v1"):
+            said = {"replay": ("units 4\nfaulty -\nfinal 1\n", 0), "audit": ("agree 1\n", 0)}
+            node = mock.Mock(starts=1, mended=0, folder=Path("room"), log="a.log")
+            node.name = name
+            node.call.side_effect = lambda command, *_, said=said | (answers if name == "v1" else {}): said[command]
+            nodes.append(node)
+        with contextlib.redirect_stdout(out):
+            return three_validators.agree(nodes[::-1]), out.getvalue()
+
+    def test_logs_that_agree(self):
+        is_well, said = self.agree()
+        self.assertTrue(is_well)
+        self.assertIn("hub: started 1 times, log mended 0 times; units 4; faulty -; 1 final blocks\n", said)
+        self.assertEqual((said.count("1 final blocks\n"), said.count("agree 1\n")), (3, 3))
+
+    def test_logs_that_do_not(self):
+        for answers in ({"replay": ("units 4\nfaulty 2\nfinal 1\n", 0)}, {"replay": ("units 4\nfaulty -\n", 0)},
+                        {"replay": ("units 4\nfaulty -\nfinal 1\n", 8)}, {"replay": ("", 127)},
+                        {"audit": ("conflict\n", 3)}):
+            with self.subTest(answers=answers):
+                self.assertFalse(self.agree(**answers)[0])
 
 
 class Networks(unittest.TestCase):
@@ -43,11 +71,6 @@ class Networks(unittest.TestCase):
         await_files(self.room, *LOGS)
         return nodes
 
-    def agree(self, nodes):
-        out = io.StringIO()
-        with contextlib.redirect_stdout(out):
-            return three_validators.agree(nodes), out.getvalue()
-
     def test_a_torn_log_is_mended_when_its_node_is_killed(self):
         _, node, *_ = self.network()
         (node.folder / "is-torn").touch()
@@ -65,23 +88,6 @@ class Networks(unittest.TestCase):
         self.addCleanup(hub.running.wait)
         self.addCleanup(hub.running.kill)
         self.assertEqual((hub.starts, hub.ends), (2, [-9]))
-
-    def test_logs_that_agree(self):
-        nodes = self.network()
-        three_validators.stop(nodes)
-        is_well, said = self.agree(nodes)
-        self.assertTrue(is_well, said)
-        self.assertEqual((said.count("1 final blocks\n"), said.count("agree 1\n")), (4, 6))
-
-    def test_logs_that_do_not(self):
-        for name, commands in {"faulty": {"replay": REPLAY.replace("'faulty -'", "'faulty 2'")},
-                               "nothing final": {"replay": REPLAY.replace("final", "fork")},
-                               "status": {"replay": REPLAY + "sys.exit(8)"}, "no report": {"replay": "pass"},
-                               "audit": {"audit": "print('conflict'); sys.exit(3)"}}.items():
-            with self.subTest(name=name):
-                self.setUp()
-                program = [str(fake_program(self.room, **WELL | commands))]
-                self.assertFalse(self.agree(three_validators.network(self.room, program, 1))[0])
 
     def test_a_port_that_is_taken_is_passed_over(self):
         with socket.create_server(("127.0.0.1", 0)) as door:
