@@ -1,6 +1,6 @@
 -- The last units behind a log's entries, and nodes that deliveries reach.
 use Rattle.std.proofs.Common.{◌≡◌, ℕ, Bool, true, false, cond, List, [], ◌∷◌, ◌++◌, Option, Some, None, Result, Ok, Err, inl, inr, refl, sym, ap, subst, ◌∙◌}
-use Rattle.std.specs.Prelude.{fold, IfOk}
+use Rattle.std.specs.Prelude.{fold, IfOk, if◌then◌else◌}
 use Rattle.std.proofs.lemmas.List.Sums.{fold_push}
 use Rattle.hw_types.specs.declared.unit.Vertex.{Vertex}
 use Rattle.hw_types.specs.declared.config.Config.{Config}
@@ -19,8 +19,9 @@ use Rattle.hw_log.specs.Reader.{Reading, left_of, Opens}
 use Rattle.hw_log.proofs.EntryLaws.{entries_next}
 use Rattle.hw_log.proofs.MoreLaws.{next_at-lasts, header_of-lasts}
 use Rattle.hw_replay.specs.declared.replay.Replay.{Replay}
-use Rattle.hw_replay.specs.Taken.{Taken}
-use Rattle.hw_replay.specs.Replay.{GrowsByOne}
+use Rattle.hw_replay.specs.Taken.{Taken, nothing_taken}
+use Rattle.hw_replay.specs.Replay.{is_wanted, taken_in, GrowsByOne}
+use Rattle.hw_replay.specs.Midway.{midway, midway_in, said_begun, file_begun}
 use Rattle.hw_replay.specs.Ends.{lasts_said, lasts_of_file, lasts_ahead, IsReached}
 use Rattle.hw_replay.specs.Steps.{IsBegun}
 
@@ -50,6 +51,17 @@ lasts_begun wanted (Some bytes) unread reader r opens begun =
     ap (lasts_said bytes) (behind_header bytes reader.config (left_of reader unread) opens)
     ∙ ap (λ lasts. Some (lasts_behind lasts (entries_of (left_of reader unread)).given)) (sym (header_of-lasts bytes (reader.config, left_of reader unread) opens))
     ∙ ap (λ (q : Reading). Some (lasts_behind q.lasts (entries_of (left_of q unread)).given)) (sym begun.reader_is)
+
+-- ---- a replay behind the header
+
+-- nothing is taken, and all entries are to come
+pub midway_begun : (wanted : Option Config) (file : Option (List ℕ)) (unread : List ℕ) (reader : Reading) (r : Replay) → Opens file unread (Ok reader) → IsBegun r reader wanted → file_begun wanted file ≡ Some (midway_in r unread)
+midway_begun wanted None unread reader r opens begun = absurd opens
+midway_begun wanted (Some bytes) unread reader r opens begun =
+    ap (said_begun wanted) (behind_header bytes reader.config (left_of reader unread) opens)
+    ∙ ap (λ b. if b then Some (midway (nothing_taken reader.config) (entries_of (left_of reader unread))) else None) begun.is_wanted
+    ∙ ap (λ (t : Taken). Some (midway t (entries_of (left_of reader unread)))) (sym begun.empty)
+    ∙ ap (λ (q : Reading). Some (midway (taken_in r) (entries_of (left_of q unread)))) (sym begun.reader_is)
 
 -- ---- nodes that are reached
 

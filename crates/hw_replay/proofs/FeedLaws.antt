@@ -13,9 +13,8 @@ use Rattle.hw_io.specs.Consumers.{Consumed}
 use Rattle.hw_replay.specs.Taken.{Taken, nothing_taken}
 use Rattle.hw_log.specs.Lasts.{LastUnits}
 use Rattle.hw_replay.specs.declared.fault.StartFault.{StartFault}
-use Rattle.hw_replay.specs.declared.replay.Replay.{Replay}
-use Rattle.hw_replay.specs.Replay as of_replay
-use Rattle.hw_replay.specs.Replay.{GrowsByOne, Leads, taken_in, ahead_in}
+use Rattle.hw_replay.specs.Replay.{GrowsByOne, Leads}
+use Rattle.hw_replay.specs.Midway.{Midway, midway, file_begun, ComesTo}
 use Rattle.hw_replay.specs.Ends.{LeadsLasts}
 use Rattle.hw_fanout.specs.State.{FanoutState}
 use Rattle.hw_fanout.specs.Chain.{told_chain}
@@ -23,7 +22,8 @@ use Rattle.hw_fanout.specs.Told.{HasTaken}
 use Rattle.hw_fanout.specs.Laws.{node_with}
 use Rattle.hw_fanout.proofs.GrowLaws.{only_grows, stays_taken}
 use Rattle.hw_fanout.specs.Fates.{Sight}
-use Rattle.hw_replay.specs.Feed.{Moment, moment, first_moment, IsPassed, ArePassed, AreFed, AreFedUntil, file_replayed}
+use Rattle.hw_replay.specs.Feed.{Moment, moment, first_moment, IsPassed, ArePassed, AreFed, AreFedUntil, AreFedTo, file_replayed}
+use Rattle.hw_replay.proofs.MidwayLaws.{midway_leads}
 
 not_true : false ≡ true → ⊥
 not_true e = cc
@@ -103,18 +103,19 @@ fed_first sight core old before last empty fed =
     let Q : CoreState → Type 0 = λ c. AreFed sight (moment c old before) last in
     subst P (sym (fed_config sight (moment core old before) last fed)) (subst Q empty fed)
 
--- what a file's bytes leave of a node is ahead of the replay that has begun
-file_ahead : (wanted : Option Config) (file : Option (List ℕ)) (unread : List ℕ) (r : Replay) → of_replay.Begins wanted file unread (Ok r) → file_replayed wanted file ≡ ahead_in r unread
-file_ahead wanted (Some bytes) unread r begins = begins
-file_ahead wanted None unread r begins = absurd begins
-
-pub fed_until : {B K : Type 0} (sight : Sight B K) (tells : Bool) (wanted : Option Config) (file : Option (List ℕ)) (unread : List ℕ) (r : Replay) (old new : List B) (before after : FanoutState)
-    → (IsTrue tells → of_replay.Begins wanted file unread (Ok r)) → taken_in r ≡ nothing_taken r.core.config
-    → AreFedUntil sight tells (ahead_in r unread) (λ (core : CoreState). moment r.core old before) new after
-    → AreFedUntil sight tells (file_replayed wanted file) (λ (core : CoreState). first_moment core.config old before) new after
-fed_until sight tells wanted file unread r old new before after begins empty u = record {
+-- the replay that began is the one of the file
+pub fed_to : {B K : Type 0} (sight : Sight B K) (tells : Bool) (whole : Option Midway) (begun : Midway) (core : CoreState) (old new : List B) (before after : FanoutState)
+    → (IsTrue tells → whole ≡ Some begun) → core ≡ (nothing_taken core.config).core
+    → AreFedTo sight tells (Some begun) (λ (c : CoreState). moment core old before) new after
+    → AreFedTo sight tells whole (λ (c : CoreState). first_moment c.config old before) new after
+fed_to sight tells whole begun core old new before after begins empty u = record {
   taken = u.taken;
   rest = u.rest;
-  leads = λ t. file_ahead wanted file unread r (begins t) ∙ u.leads t;
-  fed = fed_first sight r.core old before (moment u.taken.core new after) (ap (λ (t : Taken). t.core) empty) u.fed;
+  came = λ t. subst (λ (m : Option Midway). ComesTo m (midway u.taken u.rest)) (sym (begins t)) (u.came t);
+  fed = fed_first sight core old before (moment u.taken.core new after) empty u.fed;
 }
+
+-- and there the whole file's replay leads on
+pub fed_until : {B K : Type 0} (sight : Sight B K) (tells : Bool) (wanted : Option Config) (file : Option (List ℕ)) (first : CoreState → Moment B) (new : List B) (after : FanoutState)
+    → AreFedTo sight tells (file_begun wanted file) first new after → AreFedUntil sight tells (file_replayed wanted file) first new after
+fed_until sight tells wanted file first new after u = record { taken = u.taken; rest = u.rest; leads = λ t. midway_leads wanted file (midway u.taken u.rest) (u.came t); fed = u.fed }

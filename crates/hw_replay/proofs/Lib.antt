@@ -6,5 +6,6 @@ pub mod SignedLaws
 pub mod EntryLaws
 pub mod DeliveredLaws
 pub mod EndLaws
+pub mod MidwayLaws
 pub mod FeedLaws
 pub mod LineLaws

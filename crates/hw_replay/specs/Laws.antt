@@ -8,8 +8,10 @@ use Rattle.hw_types.specs.Culprits.{signed_in}
 use Rattle.hw_core.specs.Promises.{delivered}
 use Rattle.hw_log.specs.declared.entry.LogEntry.{LogEntry}
 use Rattle.hw_log.specs.Log.{log_of}
-use Rattle.hw_replay.specs.Taken.{Taken}
+use Rattle.hw_replay.specs.Taken.{Taken, rest_taken}
 use Rattle.hw_replay.specs.Replay.{is_wanted, replay_of}
+use Rattle.hw_replay.specs.Midway.{Midway, file_begun, ComesTo}
+use Rattle.hw_replay.specs.Feed.{file_replayed}
 
 -- the entries of a log, as deliveries
 abbrev pub deliveries_of : List LogEntry → List (Vertex × Bool)
@@ -31,3 +33,7 @@ pub record IsReplayed (wanted : Option Config) (bytes : List ℕ) (t : Taken) : 
 -- A replay that isn't stopped leaves that node.
 abbrev pub ReplayDelivers : Type 0
 ReplayDelivers = (wanted : Option Config) (bytes : List ℕ) (t : Taken) → replay_of wanted bytes ≡ Ok t → IsReplayed wanted bytes t
+
+-- Wherever a replay came to, what the entries that are still to come leave of what was taken is what the whole file leaves.
+abbrev pub MidwayLeads : Type 0
+MidwayLeads = (wanted : Option Config) (file : Option (List ℕ)) (now : Midway) → ComesTo (file_begun wanted file) now → file_replayed wanted file ≡ rest_taken now.taken now.entries

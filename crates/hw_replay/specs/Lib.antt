@@ -3,6 +3,7 @@ pub mod Replay
 pub mod Causes
 pub mod Faults
 pub mod Steps
+pub mod Midway
 pub mod Ends
 pub mod Laws
 pub mod Feed

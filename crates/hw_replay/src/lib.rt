@@ -12,6 +12,6 @@ mod replay;
 
 pub use fault::StartFault;
 pub use feed::replay_fed;
-pub use laws::a_replay_delivers;
+pub use laws::{a_replay_delivers, a_replay_is_led_on};
 pub use lines::put_drops;
 pub use replay::{Replay, Replayed, replay_log};

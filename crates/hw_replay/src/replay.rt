@@ -14,6 +14,7 @@ ghost use Rattle.hw_replay.specs.Taken.{nothing_taken, entry_taken, spelling_of,
 ghost use Rattle.hw_replay.specs.Replay.{is_wanted, taken_in, ahead_in, Begins, Leads, TakesAll, GrowsByOne, Replays};
 ghost use Rattle.hw_replay.specs.Causes.{HasReplayCause, IsReplayAbout};
 ghost use Rattle.hw_replay.specs.Steps.{HasRoom, IsBegun, IsStop, IsOfEntry, repeats_in};
+ghost use Rattle.hw_replay.specs.Midway.{midway_in, file_begun, LeadsNext};
 ghost use Rattle.hw_replay.specs.Ends.{lasts_of_file, lasts_ahead, LeadsLasts, IsReached};
 
 use crate::fault::{StartFault, fault_of};
@@ -62,6 +63,8 @@ impl Replay {
     ) -> Result<Replay, StartFault>
         requires { IfSome wanted (λ config. ConfigFits config.now) }
         ensures said { IsTrue F.tells → Begins (option_copied wanted.entry) (F.held files.old name.now) (F.unread files.new) result }
+        // It stands behind the header, with nothing taken and all entries to come.
+        ensures midway { IsTrue F.tells → IfOk result (λ r. file_begun (option_copied wanted.entry) (F.held files.old name.now) ≡ Some (midway_in r (F.unread files.new))) }
         ensures empty { IfOk result (λ r. taken_in r ≡ nothing_taken r.core.config) }
         ensures room { IfOk result (λ r. HasRoom r (F.allowance files.new)) }
         ensures lasts { IsTrue F.tells → IfOk result (λ r. lasts_of_file (F.held files.old name.now) ≡ Some (lasts_ahead r (F.unread files.new))) }
@@ -85,6 +88,8 @@ impl Replay {
         requires { HasRoom self.old (F.allowance files.old) }
         // What will have been taken at the end of the log stays what it is.
         ensures said { IsTrue F.tells → Leads (ahead_in self.old (F.unread files.old)) (ahead_in self.new (F.unread files.new)) (taken_in self.new) result }
+        // What it took is the next entry of what was to come.
+        ensures next { IsTrue F.tells → LeadsNext (midway_in self.old (F.unread files.old)) (midway_in self.new (F.unread files.new)) result }
         ensures grows { GrowsByOne self.old.core self.new.core }
         ensures end { IfOk result (λ more. more ≡ false → self.new.core ≡ self.old.core) }
         ensures room { IfOk result (λ more. IsTrue more → HasRoom self.new (F.allowance files.new)) }

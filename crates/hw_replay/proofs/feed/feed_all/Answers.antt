@@ -7,12 +7,14 @@ use Rattle.hw_replay.specs.Replay.{taken_in}
 use Rattle.hw_fanout.specs.Chain.{told_chain}
 use Rattle.hw_fanout.specs.Told.{HasTaken}
 use Rattle.hw_replay.proofs.FeedLaws.{fed_none, fed_more, grown_journal, grown_config, still_told, all_still, leads_on, lasts_on}
+use Rattle.hw_replay.proofs.MidwayLaws.{read_none, read_more, next_on}
 use Rattle.hw_replay.proofs.feed.feed_all.Goals as goal
 
 pub entries-init : goal.entries-init
 entries-init g c = record {
   ahead = λ tells. refl;
   lasts = λ tells. refl;
+  read = λ tells. read_none _;
   reached = λ is. is;
   config = refl;
   room = c.requires.replay;
@@ -36,6 +38,7 @@ entries-preserved g c =
     record {
       ahead = λ tells. leads_on _ _ _ _ c.if-branch.true (c.in_ok-step.ensures.said tells) ∙ c.entries.invariant.ahead tells;
       lasts = λ tells. lasts_on _ _ _ _ c.if-branch.true (c.in_ok-step.ensures.lasts tells) ∙ c.entries.invariant.lasts tells;
+      read = λ tells. read_more _ _ _ (c.entries.invariant.read tells) (next_on _ _ _ c.if-branch.true (c.in_ok-step.ensures.next tells));
       reached = λ is. c.step.ensures.reached (c.entries.invariant.reached is);
       config = grown_config _ _ c.step.ensures.grows ∙ c.entries.invariant.config;
       room = c.in_ok-step.ensures.room c.if-branch.true;
@@ -56,12 +59,12 @@ pub returns-in_err-step-clause-whole : goal.returns-in_err-step-clause-whole
 returns-in_err-step-clause-whole g c = λ first.
     all_still (λ b. (goal.Consumer-dyn g (b.vtable, b.value)).consumed b.value) _ _ _ _ c.step.ensures.grows (omega (arith, c.entries.invariant.passed)) (c.entries.invariant.whole first)
 
-pub returns-in_err-step-clause-stopped : goal.returns-in_err-step-clause-stopped
-returns-in_err-step-clause-stopped g c =
+pub returns-in_err-step-clause-part : goal.returns-in_err-step-clause-part
+returns-in_err-step-clause-part g c =
     let p = err_from_is_err_and c.from_residual.result c.from_residual.ensures.1 in
     rw p.1 (record {
       taken = taken_in c.entries.replay;
       rest = entries_of (left_of c.entries.replay.reader (g.F.Files.unread c.entries.files));
-      leads = λ tells. sym (c.entries.invariant.ahead tells);
+      came = λ tells. c.entries.invariant.read tells;
       fed = c.entries.invariant.fed;
     })

@@ -9,12 +9,14 @@ use Rattle.hw_fanout.specs.Fates.{seen}
 use Rattle.hw_fanout.specs.Chain.{told_chain}
 use Rattle.hw_fanout.specs.Told.{HasTaken}
 use Rattle.hw_replay.specs.Feed.{moment, AreFed}
+use Rattle.hw_replay.specs.Midway.{midway_in, HasRead}
 use Rattle.hw_replay.proofs.feed.feed_all.Given as goal
 
 abbrev pub invariant-entries : goal.invariant-entries
 invariant-entries g l = record {
   ahead : IsTrue g.F.Files.tells → ahead_in l.replay (g.F.Files.unread l.files) ≡ ahead_in l.initial.replay (g.F.Files.unread l.initial.files);
   lasts : IsTrue g.F.Files.tells → lasts_ahead l.replay (g.F.Files.unread l.files) ≡ lasts_ahead l.initial.replay (g.F.Files.unread l.initial.files);
+  read : IsTrue g.F.Files.tells → HasRead (midway_in l.initial.replay (g.F.Files.unread l.initial.files)) (midway_in l.replay (g.F.Files.unread l.files));
   reached : IsReached l.initial.replay.core → IsReached l.replay.core;
   config : l.replay.core.config ≡ l.initial.replay.core.config;
   room : HasRoom l.replay (g.F.Files.allowance l.files);

@@ -6,7 +6,7 @@ use Rattle.hw_replay.proofs.BeginLaws.{replays_not}
 use Rattle.hw_replay.proofs.CauseLaws.{about_carries, cause_carries}
 use Rattle.hw_replay.proofs.EndLaws.{no_ok}
 use Rattle.hw_fanout.specs.Chain.{told_chain}
-use Rattle.hw_replay.proofs.FeedLaws.{none_told, fed_first, fed_until}
+use Rattle.hw_replay.proofs.FeedLaws.{none_told, fed_first, fed_to, fed_until}
 use Rattle.hw_replay.proofs.feed.replay_fed.Goals as goal
 
 pub feed_all-requires-clause-passed : goal.feed_all-requires-clause-passed
@@ -46,7 +46,12 @@ returns-in_err-feed_all-clause-whole g c =
 pub returns-in_err-feed_all-clause-stopped : goal.returns-in_err-feed_all-clause-stopped
 returns-in_err-feed_all-clause-stopped g c =
     let p = err_from_is_err_and c.from_residual-in_err-feed_all.result c.from_residual-in_err-feed_all.ensures.1 in
-    rw p.1 (inr (fed_until _ _ _ _ _ _ _ _ _ _ (λ tells. c.in_ok-replay.ensures.said tells) c.in_ok-replay.ensures.empty c.in_err-feed_all.ensures.stopped))
+    rw p.1 (inr (fed_until _ _ _ _ _ _ _ (fed_to _ _ _ _ _ _ _ _ _ c.in_ok-replay.ensures.midway (ap (λ (t : Taken). t.core) c.in_ok-replay.ensures.empty) c.in_err-feed_all.ensures.part)))
+
+pub returns-in_err-feed_all-clause-part : goal.returns-in_err-feed_all-clause-part
+returns-in_err-feed_all-clause-part g c =
+    let p = err_from_is_err_and c.from_residual-in_err-feed_all.result c.from_residual-in_err-feed_all.ensures.1 in
+    rw p.1 (inr (fed_to _ _ _ _ _ _ _ _ _ c.in_ok-replay.ensures.midway (ap (λ (t : Taken). t.core) c.in_ok-replay.ensures.empty) c.in_err-feed_all.ensures.part))
 
 pub returns-in_err-feed_all-clause-cause : goal.returns-in_err-feed_all-clause-cause
 returns-in_err-feed_all-clause-cause g c =

@@ -1,6 +1,6 @@
 use Rattle.std.proofs.lemmas.Result.{err_from_is_err_and}
 use Rattle.hw_replay.proofs.BeginLaws.{begins_ok, begins_other, begins_not}
-use Rattle.hw_replay.proofs.EndLaws.{lasts_begun, reached_behind}
+use Rattle.hw_replay.proofs.EndLaws.{lasts_begun, midway_begun, reached_behind}
 use Rattle.hw_replay.proofs.replay.Replay.begin.Goals as goal
 
 pub returns-in_err-begun-in-Ok-clause-said : goal.returns-in_err-begun-in-Ok-clause-said
@@ -19,3 +19,6 @@ returns-in_ok-begun-in-Ok-clause-lasts g c = λ tells. lasts_begun _ _ _ _ _ (c.
 
 pub returns-in_ok-begun-in-Ok-clause-reached : goal.returns-in_ok-begun-in-Ok-clause-reached
 returns-in_ok-begun-in-Ok-clause-reached g c = reached_behind _ _ _ c.in_ok-begun-in-Ok.ensures.begun
+
+pub returns-in_ok-begun-in-Ok-clause-midway : goal.returns-in_ok-begun-in-Ok-clause-midway
+returns-in_ok-begun-in-Ok-clause-midway g c = λ tells. midway_begun _ _ _ _ _ (c.in-Ok.ensures.said tells) c.in_ok-begun-in-Ok.ensures.begun

@@ -2,6 +2,7 @@ use Rattle.std.proofs.Common.{sym, ◌∙◌}
 use Rattle.std.proofs.lemmas.Result.{err_from_is_err_and}
 use Rattle.hw_replay.proofs.AheadLaws.{ahead_entry, ahead_end, stops_at_entry, stops_at_error}
 use Rattle.hw_replay.proofs.EndLaws.{lasts_lead, lasts_end}
+use Rattle.hw_replay.proofs.MidwayLaws.{takes_next}
 use Rattle.hw_replay.proofs.replay.Replay.step.Goals as goal
 
 pub returns-in_err-take-in-Ok-Some-clause-said : goal.returns-in_err-take-in-Ok-Some-clause-said
@@ -34,3 +35,8 @@ returns-in-Ok-None-clause-lasts g c = λ tells.
     let is = rw c.in-Ok-None.field-0-is at (c.in-Ok-None.ensures.said tells) in
     let same = rw c.in-Ok-None.field-0-is at c.in-Ok-None.ensures.lasts in
     lasts_end _ _ is ∙ sym same
+
+pub returns-in_ok-take-in-Ok-Some-clause-next : goal.returns-in_ok-take-in-Ok-Some-clause-next
+returns-in_ok-take-in-Ok-Some-clause-next g c = λ tells.
+    let is = rw c.in-Ok-Some.field-0-is at (c.in-Ok-Some.ensures.said tells) in
+    rw c.in_ok-take-in-Ok-Some.ensures.reader (takes_next _ _ _ _ _ is c.in_ok-take-in-Ok-Some.ensures.taken)

@@ -1,0 +1,2 @@
+pub mod ClusterMembers
+pub mod LightMembers
