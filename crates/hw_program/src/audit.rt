@@ -130,10 +130,7 @@ pub fn or_no_memory(part: Result<Ended, OutOfMemory>) -> Result<Ended, RunFault>
     ensures ended { IfOk result (λ e. part ≡ Ok e) }
     ensures fault { IfErr result (λ fault. fault ≡ RunFaults.OutOfMemory) }
 {
-    match part {
-        Ok(ended) => Ok(ended),
-        Err(OutOfMemory) => Err(RunFault::OutOfMemory),
-    }
+    Ok(part?)
 }
 
 /// Replays the log under this word, if it is of the node's configuration.

@@ -40,11 +40,10 @@ pub fn certified<F: Files>(
     ensures about { IsTrue F.tells → IfErr result (λ fault. fault ≡ RunFaults.Read → Rose (F.faults_about files.old log.now) (F.faults_about files.new log.now) ⊎ Rose (F.faults_about files.old new.now) (F.faults_about files.new new.now)) }
     ensures files { IsTrue F.tells → IsCertified log.now block.now new.now (status_of result) (F.held files.old) (F.held files.new) }
 {
-    match is_there(files, new) {
-        Ok(true) => Ok(there(alloc, new)?),
-        Ok(false) => certify_absent(alloc, files, log, block, new),
-        Err(fault) => Err(fault),
+    if is_there(files, new)? {
+        return Ok(there(alloc, new)?);
     }
+    certify_absent(alloc, files, log, block, new)
 }
 
 /// Whether there is a file under this word.

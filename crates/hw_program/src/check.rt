@@ -56,10 +56,9 @@ pub fn checked<F: Files>(
     ensures files { SameFiles (F.held files.old) (F.held files.new) }
     ensures appends { F.append_faults files.new ≡ F.append_faults files.old }
 {
-    match certificate_in(alloc, files, file) {
-        Ok(Ok(certificate)) => check(alloc, files, file, &certificate, keys, log),
-        Ok(Err(ended)) => Ok(ended),
-        Err(fault) => Err(fault),
+    match certificate_in(alloc, files, file)? {
+        Ok(certificate) => check(alloc, files, file, &certificate, keys, log),
+        Err(ended) => Ok(ended),
     }
 }
 
@@ -169,10 +168,9 @@ fn check_lawful<F: Files>(
     ensures files { SameFiles (F.held files.old) (F.held files.new) }
     ensures appends { F.append_faults files.new ≡ F.append_faults files.old }
 {
-    match keys_in(alloc, files, keys, certificate.config.weights.len() as u32) {
-        Ok(Ok(keys)) => check_with(alloc, files, file, certificate, &keys, log),
-        Ok(Err(ended)) => Ok(ended),
-        Err(fault) => Err(fault),
+    match keys_in(alloc, files, keys, certificate.config.weights.len() as u32)? {
+        Ok(keys) => check_with(alloc, files, file, certificate, &keys, log),
+        Err(ended) => Ok(ended),
     }
 }
 

@@ -20,7 +20,6 @@ use hw_explain::report;
 use hw_fanout::Fanout;
 use hw_io::{Consumer, Files};
 use hw_replay::{Replay, put_drops, replay_fed};
-use hw_types::OutOfMemory;
 use std::alloc::Global;
 
 /// Replays the log under this word, with the consumers as they were handed in, and says how the run ends.
@@ -41,10 +40,8 @@ pub fn replay<F: Files>(
     ensures appends { F.append_faults files.new ≡ F.append_faults files.old }
 {
     let mut fanout = Fanout::new(alloc);
-    match fanout.reserve(consumers.len()) {
-        Ok(()) => replay_told(alloc, files, log, &mut fanout, consumers),
-        Err(OutOfMemory) => Err(RunFault::OutOfMemory),
-    }
+    fanout.reserve(consumers.len())?;
+    replay_told(alloc, files, log, &mut fanout, consumers)
 }
 
 /// The same, where there is room for the consumers.

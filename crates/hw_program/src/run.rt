@@ -27,6 +27,7 @@ use crate::services::{NodeCommand, service_of};
 use crate::words::Words;
 use crate::work::work;
 use hw_io::{Clock, Consumer, Door, Files, Sink};
+use hw_service::Environment;
 use std::alloc::Global;
 
 /// Runs the command that the words ask for, and answers the exit status.
@@ -158,9 +159,23 @@ fn run_node<F: Files, S: Sink, C: Clock, D: Door>(
             me,
             turns,
             peers,
-        } => run_turns(
-            alloc, *sources, *me, *turns, peers, files, out, clock, door, consumers,
-        ),
+        } => {
+            let mut environment = Environment {
+                files,
+                out,
+                clock,
+                door,
+            };
+            run_turns(
+                alloc,
+                *sources,
+                *me,
+                *turns,
+                peers,
+                &mut environment,
+                consumers,
+            )
+        }
         NodeCommand::Host {
             sources,
             sessions,

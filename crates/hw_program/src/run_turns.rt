@@ -1,15 +1,16 @@
 //! `run`: a validator that takes turns, and then reports.
 
-ghost use Rattle.std.specs.Prelude.{◌≤◌, map, string_bytes, IfOk};
+ghost use Rattle.std.specs.Prelude.{◌≡◌, ◌≤◌, map, string_bytes, IfOk};
 ghost use Rattle.hw_fanout.specs.Fates.{seen};
 ghost use Rattle.hw_service.specs.Scene.{door_seen};
 ghost use Rattle.hw_service.specs.Begin.{names_of};
+ghost use Rattle.hw_service.specs.Loans.{loans};
 ghost use Rattle.hw_program.specs.Services.{Run};
 ghost use Rattle.hw_program.specs.Served.{around, counts, output, AreNew, RunsNode};
 
 use crate::ends::end_run;
 use hw_io::{Clock, Consumer, Door, Files, Sink};
-use hw_service::{Peer, ServiceFault, Sources, run};
+use hw_service::{Environment, Peer, ServiceFault, Sources, run};
 use hw_types::OutOfMemory;
 use std::alloc::Global;
 
@@ -21,26 +22,35 @@ pub fn run_turns<F: Files, S: Sink, C: Clock, D: Door>(
     me: u32,
     turns: u64,
     addresses: &[String],
-    files: &mut F,
-    out: &mut S,
-    clock: &mut C,
-    door: &mut D,
+    environment: &mut Environment<'_, '_, '_, '_, F, S, C, D>,
     consumers: &mut Vec<Box<dyn Consumer>>,
 ) -> u8
     // It asks for nothing. With a `requires` the proof is for whatever consumers the caller has.
     requires { 0 ≤ turns }
     ensures runs { RunsNode (seen (λ b. consumed b) (λ b. (⟦<dyn Consumer as Consumer>⟧ b.vtable).faults b.value) (λ b. b.vtable)) F.tells (Run (names_of sources.entry) me turns (map string_bytes addresses.now)) result
-        (around (F.held files.old) (door_seen (D.sessions door.old) (D.accepts door.old) (D.dials door.old) (D.ends door.old)) (C.given clock.old) (output (S.taken out.old) (S.faults out.old) (S.wants out.old)) (counts (F.read_faults files.old) (F.append_faults files.old) (F.faults_about files.old) (D.faults door.old)) consumers.old.items)
-        (around (F.held files.new) (door_seen (D.sessions door.new) (D.accepts door.new) (D.dials door.new) (D.ends door.new)) (C.given clock.new) (output (S.taken out.new) (S.faults out.new) (S.wants out.new)) (counts (F.read_faults files.new) (F.append_faults files.new) (F.faults_about files.new) (D.faults door.new)) consumers.new.items) }
+        (around (F.held environment.old.files.now) (door_seen (D.sessions environment.old.door.now) (D.accepts environment.old.door.now) (D.dials environment.old.door.now) (D.ends environment.old.door.now)) (C.given environment.old.clock.now) (output (S.taken environment.old.out.now) (S.faults environment.old.out.now) (S.wants environment.old.out.now)) (counts (F.read_faults environment.old.files.now) (F.append_faults environment.old.files.now) (F.faults_about environment.old.files.now) (D.faults environment.old.door.now)) consumers.old.items)
+        (around (F.held environment.new.files.now) (door_seen (D.sessions environment.new.door.now) (D.accepts environment.new.door.now) (D.dials environment.new.door.now) (D.ends environment.new.door.now)) (C.given environment.new.clock.now) (output (S.taken environment.new.out.now) (S.faults environment.new.out.now) (S.wants environment.new.out.now)) (counts (F.read_faults environment.new.files.now) (F.append_faults environment.new.files.now) (F.faults_about environment.new.files.now) (D.faults environment.new.door.now)) consumers.new.items) }
+    ensures lent { loans environment.new.files environment.new.out environment.new.clock environment.new.door ≡ loans environment.old.files environment.old.out environment.old.clock environment.old.door }
 {
     match peers_of(alloc, addresses) {
         Ok(mut peers) => {
             let came_to = run(
-                alloc, sources, me, turns, &mut peers, files, out, clock, door, consumers,
+                alloc,
+                sources,
+                me,
+                turns,
+                &mut peers,
+                environment,
+                consumers,
             );
-            end_run(alloc, sources, came_to, out)
+            end_run(alloc, sources, came_to, environment.out)
         }
-        Err(OutOfMemory) => end_run(alloc, sources, Err(ServiceFault::OutOfMemory), out),
+        Err(OutOfMemory) => end_run(
+            alloc,
+            sources,
+            Err(ServiceFault::OutOfMemory),
+            environment.out,
+        ),
     }
 }
 

@@ -129,14 +129,12 @@ fn serve_of<'w>(
 ) -> Option<NodeCommand<'w>>
     ensures { asked_service result ≡ option_map (Serve (names_of sources.entry) address.now) (sessions_of (number_below 65537 sessions.now) (map string_bytes rest.now)) }
 {
-    match sessions_of(sessions, rest) {
-        Some(sessions) => Some(NodeCommand::Serve {
-            sources,
-            address,
-            sessions,
-        }),
-        None => None,
-    }
+    let sessions = sessions_of(sessions, rest)?;
+    Some(NodeCommand::Serve {
+        sources,
+        address,
+        sessions,
+    })
 }
 
 /// To meet so many peers that come to an address.
@@ -148,14 +146,12 @@ fn host_of<'w>(
 ) -> Option<NodeCommand<'w>>
     ensures { asked_service result ≡ option_map (Host (names_of sources.entry) address.now) (sessions_of (number_below 65537 sessions.now) (map string_bytes rest.now)) }
 {
-    match sessions_of(sessions, rest) {
-        Some(sessions) => Some(NodeCommand::Host {
-            sources,
-            address,
-            sessions,
-        }),
-        None => None,
-    }
+    let sessions = sessions_of(sessions, rest)?;
+    Some(NodeCommand::Host {
+        sources,
+        address,
+        sessions,
+    })
 }
 
 /// So many sessions, and no word behind.

@@ -49,10 +49,8 @@ pub fn host<F: Files, S: Sink, D: Door>(
     ensures writes { IsWriteCounted (S.faults out.old) (S.faults out.new) result }
     ensures link { IfOk result (λ served. IsDoorCounted served.link_failed (D.faults door.old) (D.faults door.new)) }
 {
-    match begin_node(alloc, sources, files, consumers) {
-        Ok(mut host) => host_begun(alloc, &mut host, sessions, files, out, door, consumers),
-        Err(fault) => Err(fault),
-    }
+    let mut host = begin_node(alloc, sources, files, consumers)?;
+    host_begun(alloc, &mut host, sessions, files, out, door, consumers)
 }
 
 /// Lets so many peers meet a node that has begun, and then reports.
@@ -79,16 +77,12 @@ fn host_begun<F: Files, S: Sink, D: Door>(
 
     ensures reads { F.read_faults files.new ≡ F.read_faults files.old }
 {
-    match host_sessions(alloc, host, sessions, files, out, door, consumers) {
-        Ok(link_failed) => match close_host(alloc, host, out, consumers) {
-            Ok(limits) => Ok(Served {
-                limits,
-                link_failed,
-            }),
-            Err(fault) => Err(fault),
-        },
-        Err(fault) => Err(fault),
-    }
+    let link_failed = host_sessions(alloc, host, sessions, files, out, door, consumers)?;
+    let limits = close_host(alloc, host, out, consumers)?;
+    Ok(Served {
+        limits,
+        link_failed,
+    })
 }
 
 /// Lets so many peers meet the node, one after the other, and answers whether a call of the door failed in a
@@ -120,10 +114,7 @@ fn host_sessions<F: Files, S: Sink, D: Door>(
 {
     let mut failed = false;
     for index in 0..sessions {
-        match host_session(alloc, host, index + 1, files, out, door, consumers) {
-            Ok(one) => failed |= one,
-            Err(fault) => return Err(fault),
-        }
+        failed |= host_session(alloc, host, index + 1, files, out, door, consumers)?;
     }
     Ok(failed)
 }

@@ -46,10 +46,8 @@ pub fn meet<F: Files, S: Sink, D: Door>(
     ensures writes { IsWriteCounted (S.faults out.old) (S.faults out.new) result }
     ensures link { IfOk result (λ served. IsDoorCounted served.link_failed (D.faults door.old) (D.faults door.new)) }
 {
-    match begin_node(alloc, sources, files, consumers) {
-        Ok(mut host) => meet_begun(alloc, &mut host, address, files, out, door, consumers),
-        Err(fault) => Err(fault),
-    }
+    let mut host = begin_node(alloc, sources, files, consumers)?;
+    meet_begun(alloc, &mut host, address, files, out, door, consumers)
 }
 
 /// Lets a node that has begun dial the peer and meet it, and then reports.
@@ -76,16 +74,12 @@ fn meet_begun<F: Files, S: Sink, D: Door>(
 
     ensures reads { F.read_faults files.new ≡ F.read_faults files.old }
 {
-    match meet_peer(alloc, host, address, files, out, door, consumers) {
-        Ok(link_failed) => match close_host(alloc, host, out, consumers) {
-            Ok(limits) => Ok(Served {
-                limits,
-                link_failed,
-            }),
-            Err(fault) => Err(fault),
-        },
-        Err(fault) => Err(fault),
-    }
+    let link_failed = meet_peer(alloc, host, address, files, out, door, consumers)?;
+    let limits = close_host(alloc, host, out, consumers)?;
+    Ok(Served {
+        limits,
+        link_failed,
+    })
 }
 
 /// Dials the peer at this address, meets it and tells of that, and answers whether a call of the door failed in the

@@ -34,10 +34,7 @@ impl<'a, F: Files> Taker for NodeTaker<'a, F> {
     }
 
     fn take(&mut self, vertex: Vertex) -> Result<Receipt, TakeFault> {
-        match self.node.accept(self.files, vertex) {
-            Ok(receipt) => Ok(receipt),
-            Err(fault) => Err(take_fault(fault)),
-        }
+        self.node.accept(self.files, vertex).map_err(take_fault)
     }
 }
 

@@ -40,7 +40,7 @@ pub fn run<F: Files, S: Sink, C: Clock, D: Door>(
     me: u32,
     turns: u64,
     peers: &mut Vec<Peer>,
-    environment: &mut Environment<'_, F, S, C, D>,
+    environment: &mut Environment<'_, '_, '_, '_, F, S, C, D>,
     consumers: &mut Vec<Box<dyn Consumer>>,
 ) -> Result<Served, ServiceFault>
     ensures runs { RunsTurns (seen (λ b. consumed b) (λ b. (⟦<dyn Consumer as Consumer>⟧ b.vtable).faults b.value) (λ b. b.vtable)) F.tells (names_of sources.entry) me turns
@@ -69,7 +69,7 @@ fn run_begun<F: Files, S: Sink, C: Clock, D: Door>(
     me: u32,
     turns: u64,
     peers: &mut Vec<Peer>,
-    environment: &mut Environment<'_, F, S, C, D>,
+    environment: &mut Environment<'_, '_, '_, '_, F, S, C, D>,
     consumers: &mut Vec<Box<dyn Consumer>>,
 ) -> Result<Served, ServiceFault>
     requires me { me < length host.old.node.core.config.weights }
@@ -104,7 +104,7 @@ fn take_turns<F: Files, S: Sink, C: Clock, D: Door>(
     me: u32,
     turns: u64,
     peers: &mut Vec<Peer>,
-    environment: &mut Environment<'_, F, S, C, D>,
+    environment: &mut Environment<'_, '_, '_, '_, F, S, C, D>,
     consumers: &mut Vec<Box<dyn Consumer>>,
 ) -> Result<bool, ServiceFault>
     requires me { me < length host.old.node.core.config.weights }
@@ -141,7 +141,7 @@ fn take_turn<F: Files, S: Sink, C: Clock, D: Door>(
     host: &mut Host,
     me: u32,
     peers: &mut Vec<Peer>,
-    environment: &mut Environment<'_, F, S, C, D>,
+    environment: &mut Environment<'_, '_, '_, '_, F, S, C, D>,
     consumers: &mut Vec<Box<dyn Consumer>>,
 ) -> Result<bool, ServiceFault>
     requires me { me < length host.old.node.core.config.weights }
@@ -182,7 +182,7 @@ fn drive_peers<F: Files, S: Sink, C: Clock, D: Door>(
     alloc: Global,
     host: &mut Host,
     peers: &mut Vec<Peer>,
-    environment: &mut Environment<'_, F, S, C, D>,
+    environment: &mut Environment<'_, '_, '_, '_, F, S, C, D>,
     consumers: &mut Vec<Box<dyn Consumer>>,
 ) -> Result<bool, ServiceFault>
     requires room { length consumers.old.items ≤ length host.old.fanout.places }
@@ -223,7 +223,7 @@ fn drive_peer<F: Files, S: Sink, C: Clock, D: Door>(
     host: &mut Host,
     peer: &mut Peer,
     number: u64,
-    environment: &mut Environment<'_, F, S, C, D>,
+    environment: &mut Environment<'_, '_, '_, '_, F, S, C, D>,
     consumers: &mut Vec<Box<dyn Consumer>>,
 ) -> Result<bool, ServiceFault>
     requires room { length consumers.old.items ≤ length host.old.fanout.places }

@@ -7,7 +7,7 @@ use hw_case_words::Answer;
 use hw_io::Consumer;
 use hw_replay::StartFault;
 use hw_reunion::{host, meet};
-use hw_service::{Peer, Served, ServiceFault, Sources, run, serve};
+use hw_service::{Environment, Peer, Served, ServiceFault, Sources, run, serve};
 use std::alloc::Global;
 
 /// The files of a node.
@@ -89,16 +89,19 @@ fn take_turns(
 {
     let Outside { files, out, door } = outside;
     let count = turns.clock.moments.len() as u64;
+    let mut environment = Environment {
+        files,
+        out,
+        clock: &mut turns.clock,
+        door,
+    };
     run(
         alloc,
         SOURCES,
         turns.me,
         count,
         &mut turns.peers,
-        files,
-        out,
-        &mut turns.clock,
-        door,
+        &mut environment,
         consumers,
     )
 }

@@ -4,9 +4,9 @@ use Rattle.hw_program.proofs.FaultLaws.{input_status}
 use Rattle.hw_program.proofs.CertifyLaws.{same_files, there_not_done}
 use Rattle.hw_program.proofs.certify.certified.Goals as goal
 
-pub returns-in_ok-there-in-Ok-true-clause-status : goal.returns-in_ok-there-in-Ok-true-clause-status
-returns-in_ok-there-in-Ok-true-clause-status g c = inr (inr (inl (ap (λ (e : Ended). e.status) c.in_ok-there-in-Ok-true.ensures ∙ input_status c.args.new.now (codes "exists"))))
+pub returns-then-branch-clause-status : goal.returns-then-branch-clause-status
+returns-then-branch-clause-status g c = inr (inr (inl (ap (λ (e : Ended). e.status) c.in_ok-there.ensures ∙ input_status c.args.new.now (codes "exists"))))
 
-pub returns-in_ok-there-in-Ok-true-clause-files : goal.returns-in_ok-there-in-Ok-true-clause-files
-returns-in_ok-there-in-Ok-true-clause-files g c = λ tells.
-    same_files (g.F.Files.held c.args.files.now) c.args.log.now c.args.block.now c.args.new.now _ _ (there_not_done c.args.new.now (Ok c.in_ok-there-in-Ok-true.field-0) c.in_ok-there-in-Ok-true.ensures) c.in-Ok-true.ensures.files
+pub returns-then-branch-clause-files : goal.returns-then-branch-clause-files
+returns-then-branch-clause-files g c = λ tells.
+    same_files (g.F.Files.held c.args.files.now) c.args.log.now c.args.block.now c.args.new.now _ _ (there_not_done c.args.new.now (Ok c.in_ok-there.field-0) c.in_ok-there.ensures) c.in_ok-is_there.ensures.files

@@ -18,7 +18,7 @@ returns-in-Ok g c =
     record {
       runs = record {
         came_to = c.run-came_to.result;
-        between = record { taken = s.taken c.run-came_to.new.out; faults = s.faults c.run-came_to.new.out; wants = s.wants c.run-came_to.new.out };
+        between = record { taken = s.taken c.run-came_to.new.environment.out.now; faults = s.faults c.run-came_to.new.environment.out.now; wants = s.wants c.run-came_to.new.environment.out.now };
         runs = runs;
         ends = c.end_run.ensures;
         writes = e.writes;
@@ -30,6 +30,7 @@ returns-in-Ok g c =
         finished = asked_finished (seen (λ b. (goal.Consumer-dyn g (b.vtable, b.value)).consumed b.value) (λ b. (goal.Consumer-dyn g (b.vtable, b.value)).faults b.value) (λ b. b.vtable)) (Run (names_of c.args.sources) c.args.me c.args.turns (map string_bytes c.args.addresses.now)) g.F.Files.tells _ _ _ _ c.run-came_to.result runs;
         fit = asked_midway (seen (λ b. (goal.Consumer-dyn g (b.vtable, b.value)).consumed b.value) (λ b. (goal.Consumer-dyn g (b.vtable, b.value)).faults b.value) (λ b. b.vtable)) (Run (names_of c.args.sources) c.args.me c.args.turns (map string_bytes c.args.addresses.now)) g.F.Files.tells _ _ _ _ c.run-came_to.result runs;
       };
+      lent = e.lent;
     }
 
 -- no memory for the peers: nothing but the line for that is written
@@ -39,7 +40,7 @@ returns-in-Err g c =
     record {
       runs = record {
         came_to = Err fault.OutOfMemory;
-        between = record { taken = s.taken c.args.out.now; faults = s.faults c.args.out.now; wants = s.wants c.args.out.now };
+        between = record { taken = s.taken c.args.environment.now.out.now; faults = s.faults c.args.environment.now.out.now; wants = s.wants c.args.environment.now.out.now };
         runs = inr (record { memory = refl; stays = record { files = λ name. refl; door = refl; written = refl; consumers = refl }; clock = refl });
         ends = c.end_run-in-Err.ensures;
         writes = refl;
@@ -51,4 +52,5 @@ returns-in-Err g c =
         finished = λ h. tt;
         fit = λ t may. tt;
       };
+      lent = refl;
     }

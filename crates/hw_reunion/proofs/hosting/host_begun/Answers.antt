@@ -1,12 +1,13 @@
 use Rattle.std.proofs.Common.{inl, inr, refl}
+use Rattle.std.proofs.lemmas.Result.{err_from_is_err_and}
 use Rattle.hw_service.specs.declared.ended.Served.{Served}
 use Rattle.hw_service.proofs.RunLaws.{output_appends, output_unread, taken_at}
 use Rattle.hw_reunion.proofs.hosting.host_begun.Goals as goal
 
-pub returns-in-Ok-close_host-clause-proceeds : goal.returns-in-Ok-close_host-clause-proceeds
-returns-in-Ok-close_host-clause-proceeds g c =
-    let e = c.in-Ok.ensures in
-    let k = c.in-Ok-close_host.ensures in
+pub returns-clause-proceeds : goal.returns-clause-proceeds
+returns-clause-proceeds g c =
+    let e = c.in_ok-link_failed.ensures in
+    let k = c.in_ok-limits.ensures in
     let taken = λ (b : _). (goal.Consumer-dyn g (b.vtable, b.value)).consumed b.value in
     record {
       last = _;
@@ -16,14 +17,22 @@ returns-in-Ok-close_host-clause-proceeds g c =
       whole = λ so. k.whole _ (taken_at taken _ _ _ _ e.passed (e.whole so));
     }
 
-pub returns-in-Err-close_host-clause-proceeds : goal.returns-in-Err-close_host-clause-proceeds
-returns-in-Err-close_host-clause-proceeds g c = inr (record { last = _; failed = c.in-Ok.link_failed; steps = c.in-Ok.ensures.takes; reports = c.in-Err-close_host.ensures.reports _ _ })
+pub returns-in_err-limits-clause-proceeds : goal.returns-in_err-limits-clause-proceeds
+returns-in_err-limits-clause-proceeds g c =
+    let p = err_from_is_err_and c.from_residual-in_err-limits.result c.from_residual-in_err-limits.ensures.1 in
+    rw (p.1, p.2) (inr (record { last = _; failed = c.in_ok-link_failed.link_failed; steps = c.in_ok-link_failed.ensures.takes; reports = c.in_err-limits.ensures.reports _ _ }))
 
-pub returns-in-Err-close_host-clause-appends : goal.returns-in-Err-close_host-clause-appends
-returns-in-Err-close_host-clause-appends g c = output_appends Served c.in-Err-close_host.fault _ _ c.in-Err-close_host.ensures.fault c.in-Ok.ensures.appends
+pub returns-in_err-limits-clause-appends : goal.returns-in_err-limits-clause-appends
+returns-in_err-limits-clause-appends g c =
+    let p = err_from_is_err_and c.from_residual-in_err-limits.result c.from_residual-in_err-limits.ensures.1 in
+    rw (p.1, p.2) (output_appends Served c.in_err-limits.field-0.0 _ _ c.in_err-limits.ensures.fault c.in_ok-link_failed.ensures.appends)
 
-pub returns-in-Err-close_host-clause-no_read : goal.returns-in-Err-close_host-clause-no_read
-returns-in-Err-close_host-clause-no_read g c = output_unread c.in-Err-close_host.fault c.in-Err-close_host.ensures.fault
+pub returns-in_err-limits-clause-no_read : goal.returns-in_err-limits-clause-no_read
+returns-in_err-limits-clause-no_read g c =
+    let p = err_from_is_err_and c.from_residual-in_err-limits.result c.from_residual-in_err-limits.ensures.1 in
+    rw (p.1, p.2) (output_unread c.in_err-limits.field-0.0 c.in_err-limits.ensures.fault)
 
-pub returns-in-Err-clause-proceeds : goal.returns-in-Err-clause-proceeds
-returns-in-Err-clause-proceeds g c = inl (record { last = _; steps = c.in-Err.ensures.takes; left = refl })
+pub returns-in_err-link_failed-clause-proceeds : goal.returns-in_err-link_failed-clause-proceeds
+returns-in_err-link_failed-clause-proceeds g c =
+    let p = err_from_is_err_and c.from_residual.result c.from_residual.ensures.1 in
+    rw (p.1, p.2) (inl (record { last = _; steps = c.in_err-link_failed.ensures.takes; left = refl }))

@@ -1,4 +1,5 @@
 use Rattle.std.proofs.Common.{refl, ◌∙◌, arith}
+use Rattle.std.proofs.lemmas.Result.{err_from_is_err_and}
 use Rattle.hw_service.proofs.StepLaws.{none_taken, one_taken, last_taken}
 use Rattle.hw_service.proofs.CountLaws.{door_then, raised_none, raised_more}
 use Rattle.hw_reunion.proofs.hosting.host_sessions.Goals as goal
@@ -20,7 +21,7 @@ loop-index-init g c = record {
 pub loop-index-preserved : goal.loop-index-preserved
 loop-index-preserved g c =
     let i = c.loop-index.invariant in
-    let e = c.in-Ok.ensures in
+    let e = c.in_ok-failed.ensures in
     record {
       taken = one_taken _ _ _ _ _ _ _ _ _ i.taken (omega arith) e.hosts;
       whole = λ so. e.whole (i.whole so);
@@ -34,5 +35,7 @@ loop-index-preserved g c =
       reads = e.reads ∙ i.reads;
     }
 
-pub returns-in-Err-clause-takes : goal.returns-in-Err-clause-takes
-returns-in-Err-clause-takes g c = last_taken _ _ _ _ _ _ _ _ _ c.in-Err.fault c.loop-index.invariant.taken (omega arith) (omega arith) c.in-Err.ensures.hosts
+pub returns-in_err-failed-clause-takes : goal.returns-in_err-failed-clause-takes
+returns-in_err-failed-clause-takes g c =
+    let p = err_from_is_err_and c.from_residual.result c.from_residual.ensures.1 in
+    rw (p.1, p.2) (last_taken _ _ _ _ _ _ _ _ _ c.in_err-failed.field-0.0 c.loop-index.invariant.taken (omega arith) (omega arith) c.in_err-failed.ensures.hosts)
