@@ -8,7 +8,7 @@ use std::net::{Net, Shutdown, TcpListener, TcpStream};
 use std::os::unix;
 use std::test::Fail;
 use std::time::{Duration, Instant};
-use std::{fs, rt};
+use std::{fs, io, rt};
 
 type Count = Result<usize, IoFault>;
 
@@ -324,6 +324,115 @@ fn a_trickling_peer_is_given_up(rt: HostRuntime) -> Result<(), Fail> {
     let accepted = done(door.accept());
     let count = trickle(&rt, &mut peer, &mut door);
     assert!(rt; accepted == Ok(0) && 5 <= count && count <= 40);
+    Ok(())
+}
+
+/// A peer that comes to this address and says this.
+fn come<R: Net>(rt: &R, address: &str, said: &[u8]) -> io::Result<R::Stream> {
+    let mut peer = TcpStream::connect(rt, address)?;
+    peer.write_all(said)?;
+    Ok(peer)
+}
+
+/// What the next peer says first to a door.
+fn word_of<D: Door>(door: &mut D) -> Option<u8> {
+    let mut word = [0];
+    match (door.accept(), door.read(&mut word)) {
+        (Ok(()), Ok(1)) => Some(word[0]),
+        _ => None,
+    }
+}
+
+/// For how many milliseconds the next peer holds a door, which says two bytes and no more.
+fn milliseconds_held<R: Voice, D: Door>(rt: R, door: &mut D) -> u64 {
+    let first = word_of(door);
+    let began = Instant::now(&rt);
+    match (first, began, door.read(&mut [0]), door.read(&mut [0])) {
+        (Some(b'a'), Ok(began), Ok(1), Err(IoFault::Failed)) => milliseconds_since(rt, began),
+        _ => u64::MAX,
+    }
+}
+
+fn milliseconds_since<R: Voice>(rt: R, began: Instant) -> u64 {
+    match began.elapsed(&rt) {
+        Ok(taken) => u64::try_from(taken.as_millis()).unwrap_or(u64::MAX),
+        Err(_) => u64::MAX,
+    }
+}
+
+#[test]
+fn a_stranger_that_hangs_is_let_go(rt: HostRuntime) -> Result<(), Fail> {
+    let mut door = HostDoor::new(&rt, "127.0.0.1:0");
+    let address = address_of(&rt, &door)?;
+    let _stranger = come(&rt, address.as_str(), b"ab")?;
+    let _peer = come(&rt, address.as_str(), b"p")?;
+    let held = milliseconds_held(&rt, &mut door);
+    let next = word_of(&mut door);
+    assert!(rt; 1_500 <= held && held <= 4_500 && next == Some(b'p'));
+    Ok(())
+}
+
+#[test]
+fn a_stranger_that_hangs_again_has_a_hundredth(rt: HostRuntime) -> Result<(), Fail> {
+    let mut door = HostDoor::new(&rt, "127.0.0.1:0");
+    let address = address_of(&rt, &door)?;
+    let _stranger = come(&rt, address.as_str(), b"ab")?;
+    let _again = come(&rt, address.as_str(), b"ab")?;
+    let first = milliseconds_held(&rt, &mut door);
+    let second = milliseconds_held(&rt, &mut door);
+    assert!(rt; 1_500 <= first && first <= 4_500 && second <= 1_000);
+    Ok(())
+}
+
+/// The other address of a door that listens at each of its machine.
+fn elsewhere_of<R: Net + Voice>(rt: R, door: &HostDoor<R>) -> Result<String, AllocError> {
+    let port = door.port().unwrap_or(0);
+    format!(in rt.alloc(); "[::1]:{port}")
+}
+
+#[test]
+fn a_stranger_that_hung_goes_behind_others(rt: HostRuntime) -> Result<(), Fail> {
+    let mut door = HostDoor::new(&rt, "[::]:0");
+    // Without IPv6 a machine has no second address to come from.
+    if door.port().is_none() {
+        return Ok(());
+    }
+    let (here, elsewhere) = (address_of(&rt, &door)?, elsewhere_of(&rt, &door)?);
+    let _stranger = come(&rt, elsewhere.as_str(), b"ab")?;
+    let held = milliseconds_held(&rt, &mut door);
+    let _again = come(&rt, elsewhere.as_str(), b"s")?;
+    let _peer = come(&rt, here.as_str(), b"p")?;
+    let words = [word_of(&mut door), word_of(&mut door)];
+    assert!(rt; held <= 4_500 && words == [Some(b'p'), Some(b's')]);
+    Ok(())
+}
+
+/// For how many milliseconds the next peer holds a door, which says a byte and reads nothing.
+fn milliseconds_unread<R: Voice, D: Door>(rt: R, door: &mut D) -> u64 {
+    let word = word_of(door);
+    let began = Instant::now(&rt);
+    let mut has_failed = false;
+    for _ in 0..65_536 {
+        if door.write(&[0; 1024]).is_err() {
+            has_failed = true;
+            break;
+        }
+    }
+    match (word, began) {
+        (Some(b'a'), Ok(began)) if has_failed => milliseconds_since(rt, began),
+        _ => u64::MAX,
+    }
+}
+
+#[test]
+fn a_stranger_that_reads_nothing_is_let_go(rt: HostRuntime) -> Result<(), Fail> {
+    let mut door = HostDoor::new(&rt, "127.0.0.1:0");
+    let address = address_of(&rt, &door)?;
+    let _stranger = come(&rt, address.as_str(), b"a")?;
+    let _again = come(&rt, address.as_str(), b"a")?;
+    let first = milliseconds_unread(&rt, &mut door);
+    let second = milliseconds_unread(&rt, &mut door);
+    assert!(rt; 1_500 <= first && first <= 4_500 && second <= 1_000);
     Ok(())
 }
 
