@@ -18,9 +18,6 @@ const PARTING_MILLISECONDS: u64 = 500;
 /// How many pieces of what the peer is still sending are read at most.
 const PARTING_READS: usize = 64;
 
-/// A read that takes less than so many microseconds didn't wait for the peer's answer: its bytes were there before.
-const READ_MICROSECONDS: u64 = 50;
-
 /// A write that takes less than so many microseconds didn't wait for the peer, but for the system to take it.
 const WRITE_MICROSECONDS: u64 = 1_000;
 
@@ -113,26 +110,37 @@ impl<S: OpenStream + Read + Write + Drop> Session<S> {
     pub(crate) fn read(&mut self, clock: &impl time::Clock, buf: &mut [u8]) -> io::Result<usize>
         ensures { ReadsAtMost result buf.new }
     {
+        if self.is_answer_due && self.has_bytes()? {
+            self.is_answer_due = false;
+        }
         let began = self.set_wait(clock)?;
         let outcome = self.stream.read(buf);
-        let taken = self.count_blocked(clock, began);
+        self.count_blocked(clock, began);
         match outcome {
             Ok(count) => {
-                self.count_read(count as u64, taken);
+                self.count_read(count as u64);
                 Ok(count)
             }
             Err(error) => Err(self.failed(error)),
         }
     }
 
-    /// Counts bytes that came in a read that took so long, or the peer's end. What was there before is no answer.
-    fn count_read(&mut self, count: u64, taken: Duration) {
+    /// Whether there are bytes to be read now, so that they are no answer that is waited for.
+    fn has_bytes(&self) -> io::Result<bool> {
+        self.stream.set_nonblocking(true)?;
+        let outcome = self.stream.peek(&mut [0]);
+        self.stream.set_nonblocking(false)?;
+        Ok(outcome.is_ok())
+    }
+
+    /// Counts bytes that came, or the peer's end.
+    fn count_read(&mut self, count: u64) {
         self.moved = self.moved.saturating_add(count);
         self.carried = self.carried.saturating_add(count);
-        if self.is_answer_due && taken >= Duration::from_micros(READ_MICROSECONDS) {
+        if self.is_answer_due {
             self.answers = self.answers.saturating_add(1);
+            self.is_answer_due = false;
         }
-        self.is_answer_due = false;
     }
 
     /// Counts bytes that went in a write that took so long.
@@ -259,10 +267,10 @@ impl<S: OpenStream + Read + Write + Drop> Session<S> {
             return false;
         }
         let outcome = self.stream.read(&mut rest);
-        let taken = self.count_blocked(clock, now);
+        self.count_blocked(clock, now);
         match outcome {
             Ok(count) => {
-                self.count_read(count as u64, taken);
+                self.count_read(count as u64);
                 count > 0
             }
             Err(_) => false,
