@@ -23,7 +23,7 @@ blocked_time Tenth answers moved = session_time Tenth moved
 blocked_time Guest answers moved = 2000
 blocked_time Suspect answers moved = min (20 * (1 + answers)) 2000
 
--- what a peer earns that answered so often, and to or from which so many bytes were carried: half a second for each
--- answer, and a second for each 65,536 bytes
+-- what a peer earns that answered so often, and from which so many bytes came: half a second for each answer, and a
+-- second for each 65,536 bytes
 abbrev pub earned_time : ℕ → ℕ → ℕ
-earned_time answers carried = answers * 500 + carried / 65536 * 1000
+earned_time answers received = answers * 500 + received / 65536 * 1000

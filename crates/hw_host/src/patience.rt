@@ -124,9 +124,9 @@ fn left_of(time: u64, taken: u64) -> Option<u64>
 }
 
 /// Whether a peer that came hung: the node was blocked on it for more milliseconds than it earned by its answers and
-/// by the bytes that were carried.
-pub(crate) fn has_hung(blocked: u64, answers: u32, carried: u64) -> bool
-    ensures { IsTrue result ↔ (earned_time answers carried < blocked) }
+/// by the bytes that came.
+pub(crate) fn has_hung(blocked: u64, answers: u32, received: u64) -> bool
+    ensures { IsTrue result ↔ (earned_time answers received < blocked) }
 {
-    u64::from(answers) * ANSWER_MILLISECONDS + carried / BYTES_A_SECOND * 1_000 < blocked
+    u64::from(answers) * ANSWER_MILLISECONDS + received / BYTES_A_SECOND * 1_000 < blocked
 }

@@ -18,12 +18,6 @@ const PARTING_MILLISECONDS: u64 = 500;
 /// How many pieces of what the peer is still sending are read at most.
 const PARTING_READS: usize = 64;
 
-/// A read that takes less than so many microseconds didn't wait for the peer's answer: its bytes were there before.
-const READ_MICROSECONDS: u64 = 50;
-
-/// A write that takes less than so many microseconds didn't wait for the peer, but for the system to take it.
-const WRITE_MICROSECONDS: u64 = 1_000;
-
 /// A session with a peer.
 #[derive(Drop)]
 pub(crate) struct Session<S> {
@@ -34,8 +28,8 @@ pub(crate) struct Session<S> {
     wait: u64,
     /// How many bytes went either way.
     moved: u64,
-    /// How many of these came, or went in writes that waited for the peer.
-    carried: u64,
+    /// How many of these came.
+    received: u64,
     /// For how long the node was blocked on the peer.
     blocked: Duration,
     /// How often the peer answered what was sent to it.
@@ -64,7 +58,7 @@ impl<S: OpenStream + Read + Write + Drop> Session<S> {
             patience,
             wait: 0,
             moved: 0,
-            carried: 0,
+            received: 0,
             blocked: Duration::ZERO,
             answers: 0,
             is_answer_due: false,
@@ -83,9 +77,9 @@ impl<S: OpenStream + Read + Write + Drop> Session<S> {
         self.blocked
     }
 
-    /// Whether that is longer than the peer earned by its answers, and by the bytes that were carried.
+    /// Whether that is longer than the peer earned by its answers, and by the bytes that came.
     pub(crate) fn has_hung(&self) -> bool {
-        has_hung(milliseconds(self.blocked), self.answers, self.carried)
+        has_hung(milliseconds(self.blocked), self.answers, self.received)
     }
 
     /// Whether nothing is held.
@@ -113,45 +107,50 @@ impl<S: OpenStream + Read + Write + Drop> Session<S> {
     pub(crate) fn read(&mut self, clock: &impl time::Clock, buf: &mut [u8]) -> io::Result<usize>
         ensures { ReadsAtMost result buf.new }
     {
+        if self.is_answer_due && self.has_bytes()? {
+            self.is_answer_due = false;
+        }
         let began = self.set_wait(clock)?;
         let outcome = self.stream.read(buf);
-        let taken = self.count_blocked(clock, began);
+        self.count_blocked(clock, began);
         match outcome {
             Ok(count) => {
-                self.count_read(count as u64, taken);
+                self.count_read(count as u64);
                 Ok(count)
             }
             Err(error) => Err(self.failed(error)),
         }
     }
 
-    /// Counts bytes that came in a read that took so long, or the peer's end. What was there before is no answer.
-    fn count_read(&mut self, count: u64, taken: Duration) {
-        self.moved = self.moved.saturating_add(count);
-        self.carried = self.carried.saturating_add(count);
-        if self.is_answer_due && taken >= Duration::from_micros(READ_MICROSECONDS) {
-            self.answers = self.answers.saturating_add(1);
-        }
-        self.is_answer_due = false;
+    /// Whether there are bytes to be read now, so that they are no answer that is waited for.
+    fn has_bytes(&self) -> io::Result<bool> {
+        self.stream.set_nonblocking(true)?;
+        let outcome = self.stream.peek(&mut [0]);
+        self.stream.set_nonblocking(false)?;
+        Ok(outcome.is_ok())
     }
 
-    /// Counts bytes that went in a write that took so long.
-    fn count_written(&mut self, count: u64, taken: Duration) {
+    /// Counts bytes that came, or the peer's end.
+    fn count_read(&mut self, count: u64) {
         self.moved = self.moved.saturating_add(count);
-        if taken >= Duration::from_micros(WRITE_MICROSECONDS) {
-            self.carried = self.carried.saturating_add(count);
+        self.received = self.received.saturating_add(count);
+        if self.is_answer_due {
+            self.answers = self.answers.saturating_add(1);
+            self.is_answer_due = false;
         }
+    }
+
+    /// Counts bytes that went. A peer earns nothing by them: the system takes millions of them before the peer reads one.
+    fn count_written(&mut self, count: u64) {
+        self.moved = self.moved.saturating_add(count);
         self.is_answer_due = true;
     }
 
-    /// Counts how long a call took that began then, and answers it.
-    fn count_blocked(&mut self, clock: &impl time::Clock, began: Instant) -> Duration {
-        let taken = match began.elapsed(clock) {
-            Ok(taken) => taken,
-            Err(_) => Duration::ZERO,
-        };
-        self.blocked = self.blocked.saturating_add(taken);
-        taken
+    /// Counts how long a call took that began then.
+    fn count_blocked(&mut self, clock: &impl time::Clock, began: Instant) {
+        if let Ok(taken) = began.elapsed(clock) {
+            self.blocked = self.blocked.saturating_add(taken);
+        }
     }
 
     /// Sends what is held. After an error nothing is held any more.
@@ -181,10 +180,10 @@ impl<S: OpenStream + Read + Write + Drop> Session<S> {
             Some(rest) => self.stream.write(rest),
             None => Ok(0),
         };
-        let taken = self.count_blocked(clock, began);
+        self.count_blocked(clock, began);
         match outcome {
             Ok(count) if count > 0 => {
-                self.count_written(count as u64, taken);
+                self.count_written(count as u64);
                 Ok(count)
             }
             Ok(_) => Err(self.failed(ErrorKind::WriteZero.into())),
@@ -259,10 +258,10 @@ impl<S: OpenStream + Read + Write + Drop> Session<S> {
             return false;
         }
         let outcome = self.stream.read(&mut rest);
-        let taken = self.count_blocked(clock, now);
+        self.count_blocked(clock, now);
         match outcome {
             Ok(count) => {
-                self.count_read(count as u64, taken);
+                self.count_read(count as u64);
                 count > 0
             }
             Err(_) => false,
