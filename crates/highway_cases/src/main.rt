@@ -56,14 +56,22 @@ mod outside;
 mod planned;
 mod short;
 
+use hw_case_words::Answer;
 use std::io;
 
 fn main(rt: HostRuntime) -> io::Result<()> {
     for line in rt.lines(rt.alloc()) {
-        let Ok(text) = cases::answer(&rt, line?.as_str()) else {
-            return Err(io::ErrorKind::OutOfMemory.into());
-        };
-        println!(rt; "{text}")?;
+        answer(rt, line?.as_str())?;
     }
     Ok(())
+}
+
+/// Answers a line.
+fn answer(rt: HostRuntime, line: &str) -> io::Result<()> {
+    let mut answer = Answer::new(rt.alloc());
+    cases::tell(rt, &mut answer, line);
+    match answer.finish() {
+        Some(text) => println!(rt; "{text}"),
+        None => Err(io::ErrorKind::InvalidInput.into()),
+    }
 }

@@ -1,20 +1,9 @@
 //! A run of a node, over files, a door and a clock in memory.
 
-use crate::outside::{files_of, number, words_of};
+use crate::cases::put_file;
+use crate::outside::{files_of, plan, run_among, words_of};
+use hw_case_words::{Answer, number};
 use hw_io::{Clock, MemDoor, MemFiles, MemSink};
-use hw_program::highway;
-use hw_types::OutOfMemory;
-use std::alloc::{AllocError, Global};
-use std::rt;
-
-/// What a node finds outside.
-#[derive(Clone, Copy)]
-pub struct Around<'c> {
-    pub files: &'c str,
-    pub failures: &'c str,
-    pub moments: &'c str,
-    pub sessions: &'c str,
-}
 
 /// A clock that gives these moments in turn, and then the last one again.
 #[derive(Drop)]
@@ -39,100 +28,107 @@ impl Clock for Moments {
     }
 }
 
+/// What a node finds outside.
+#[derive(Drop)]
+struct Outside {
+    files: MemFiles,
+    out: MemSink,
+    door: MemDoor,
+}
+
 /// The status, what was written, the log then, and what the node wrote in each session.
-pub fn node_run(
-    rt: &(impl rt::Files + AllocGlobal),
-    around: &Around,
-    command: &[&str],
-) -> Result<String, OutOfMemory> {
-    let alloc = rt.alloc();
-    let mut files = files_of(rt, usize::MAX, around.files, "-")?;
-    let mut out = MemSink::new(alloc);
-    let mut door = MemDoor::new(alloc);
-    if plan_all(alloc, &mut files, &mut out, &mut door, around).is_err() {
-        return Err(OutOfMemory);
-    }
-    let words = words_of(alloc, command)?;
-    let moments = moments_of(alloc, around.moments)?;
-    let mut clock = Moments { moments, next: 0 };
-    let mut consumers = Vec::new(alloc);
-    let status = highway(
-        alloc,
+pub fn node_run(rt: HostRuntime, answer: &mut Answer, names: &str, words: &[&str]) {
+    let [failures, moments, sessions, command @ ..] = words else {
+        return answer.refuse();
+    };
+    let mut outside = Outside {
+        files: files_of(rt, answer, names, "", "-"),
+        out: MemSink::new(answer.alloc()),
+        door: MemDoor::new(answer.alloc()),
+    };
+    plan_all(answer, &mut outside, failures);
+    expect_all(answer, &mut outside.door, sessions);
+    run_in(answer, &mut outside, moments, command);
+    put_log(answer, &outside.files, command);
+    put_sessions(answer, &outside.door);
+}
+
+/// Lets the node run, and tells the status and what was written.
+fn run_in(answer: &mut Answer, outside: &mut Outside, moments: &str, command: &[&str]) {
+    let Outside { files, out, door } = outside;
+    let words = words_of(answer, command);
+    let mut clock = clock_of(answer, moments);
+    let mut consumers = Vec::new(answer.alloc());
+    let status = run_among(
+        answer.alloc(),
         &words,
-        &mut files,
-        &mut out,
+        files,
+        out,
         &mut clock,
-        &mut door,
+        door,
         &mut consumers,
     );
-    let mut text = format!(in alloc; "{status}\n")?;
-    text.push_str(String::from_utf8_lossy(alloc, out.taken())?.as_str())?;
-    tell_log(&mut text, &files, command)?;
-    tell_sessions(&mut text, &door)?;
-    Ok(text)
+    answer.fill("#\n", &[status]);
+    answer.utf8(out.taken());
 }
 
-/// Plans the calls that fail, and expects the peers.
-fn plan_all(
-    alloc: Global,
-    files: &mut MemFiles,
-    out: &mut MemSink,
-    door: &mut MemDoor,
-    around: &Around,
-) -> Result<(), AllocError> {
-    for failure in around.failures.split(',') {
-        match failure.split_once(':') {
-            Some(("files", call)) => files.fail_at(number(call) as u64, 0)?,
-            Some(("out", call)) => out.fail_at(number(call) as u64)?,
-            Some(("door", call)) => door.fail_at(number(call) as u64)?,
-            _ => {}
+/// Plans the calls that fail.
+fn plan_all(answer: &mut Answer, outside: &mut Outside, failures: &str) {
+    for failure in failures.split(',') {
+        if let Some((kind, call)) = failure.split_once(':') {
+            fail(answer, outside, kind, number(call));
         }
     }
-    if around.sessions != "-" {
-        for session in around.sessions.split(',') {
-            door.expect(bytes_of(alloc, session)?.as_slice())?;
+}
+
+/// Plans that this call of that kind fails.
+fn fail(answer: &mut Answer, outside: &mut Outside, kind: &str, call: u64) {
+    match kind {
+        "files" => plan(answer, &mut outside.files, call, 0),
+        "out" => {
+            let planned = outside.out.fail_at(call);
+            answer.keep(planned);
+        }
+        _ => {
+            let planned = outside.door.fail_at(call);
+            answer.keep(planned);
         }
     }
-    Ok(())
 }
 
-/// The bytes of a hexadecimal text, none where it is no such text.
-fn bytes_of(alloc: Global, text: &str) -> Result<Vec<u8>, AllocError> {
-    match hex::decode(alloc, text) {
-        Ok(bytes) => Ok(bytes),
-        Err(_) => Ok(Vec::new(alloc)),
+/// Expects the peers, none for a dash.
+fn expect_all(answer: &mut Answer, door: &mut MemDoor, sessions: &str) {
+    if sessions != "-" {
+        for session in sessions.split(',') {
+            let said = answer.bytes(session);
+            let expected = door.expect(said.as_slice());
+            answer.keep(expected);
+        }
     }
 }
 
-/// The moments of the clock.
-fn moments_of(alloc: Global, words: &str) -> Result<Vec<u64>, OutOfMemory> {
-    let mut moments = Vec::new(alloc);
+/// The clock of these moments.
+fn clock_of(answer: &mut Answer, words: &str) -> Moments {
+    let mut moments = Vec::new(answer.alloc());
     for word in words.split(',') {
-        moments.push(number(word) as u64)?;
+        answer.push_to(&mut moments, number(word));
     }
-    Ok(moments)
+    Moments { moments, next: 0 }
 }
 
 /// Tells the bytes of the node's log, which is the fourth word of the command line.
-fn tell_log(text: &mut String, files: &MemFiles, command: &[&str]) -> Result<(), OutOfMemory> {
-    text.push_str("log ")?;
-    match command.get(3).and_then(|log| files.file(log)) {
-        Some(bytes) => tell_bytes(text, bytes),
-        None => Ok(text.push('-')?),
+fn put_log(answer: &mut Answer, files: &MemFiles, command: &[&str]) {
+    answer.put("log ");
+    match command {
+        [_, _, _, log, ..] => put_file(answer, files, log),
+        _ => answer.put("-"),
     }
 }
 
 /// Tells what the node wrote in each session.
-fn tell_sessions(text: &mut String, door: &MemDoor) -> Result<(), OutOfMemory> {
+fn put_sessions(answer: &mut Answer, door: &MemDoor) {
     for session in door.sessions() {
-        text.push_str("\nwrote ")?;
-        tell_bytes(text, session.written())?;
+        answer.put("\nwrote ");
+        answer.hex(session.written());
     }
-    Ok(())
-}
-
-fn tell_bytes(text: &mut String, bytes: &[u8]) -> Result<(), OutOfMemory> {
-    let alloc = *text.allocator();
-    text.push_str(hex::encode(alloc, bytes)?.as_str())?;
-    Ok(())
 }

@@ -1,56 +1,60 @@
 //! The outside of one run.
 
-use crate::planned::Planned;
+ghost use Rattle.std.specs.Prelude.{◌≤◌, length};
+
+use hw_case_words::{Answer, number};
 use hw_host::HostFiles;
-use hw_io::{Consumer, Files, IoFault, MemFiles, MemSink, SetClock, Sink, SureDoor};
+use hw_io::{Clock, Consumer, Door, Files, IoFault, MemFiles, MemSink, SetClock, Sink, SureDoor};
 use hw_program::{Words, highway};
-use hw_types::OutOfMemory;
 use std::alloc::Global;
-use std::rt;
 
-/// Files in memory with these of the real ones, changed at places.
+/// Files in memory with these of the real ones, changed at places. A read gives at most so many bytes as the word says, or
+/// as many as there is room for.
 pub fn files_of(
-    rt: &(impl rt::Files + AllocGlobal),
-    piece: usize,
+    rt: HostRuntime,
+    answer: &mut Answer,
     names: &str,
+    piece: &str,
     patches: &str,
-) -> Result<MemFiles, OutOfMemory> {
-    let mut files = MemFiles::in_pieces(rt.alloc(), piece);
+) -> MemFiles {
+    let mut files = MemFiles::in_pieces(answer.alloc(), most(piece));
     for pair in names.split(',') {
-        if let Some((name, file)) = pair.split_once('=') {
-            put_file(rt, &mut files, name, file, patches)?;
-        }
+        put_pair(rt, answer, &mut files, pair, patches);
     }
-    Ok(files)
+    files
 }
 
-/// Puts a real file under this name.
-fn put_file(
-    rt: &(impl rt::Files + AllocGlobal),
-    files: &mut MemFiles,
-    name: &str,
-    file: &str,
-    patches: &str,
-) -> Result<(), OutOfMemory> {
-    let mut bytes = Vec::new(rt.alloc());
-    let mut real = HostFiles::new(rt);
-    let (file, length) = first_bytes(file);
-    if real.begin(file).is_err() || read_all(&mut real, &mut bytes).is_err() {
-        return Err(OutOfMemory);
-    }
-    bytes.truncate(length);
-    patch(bytes.as_mut_slice(), patches);
-    match files.put(name, bytes.as_slice()) {
-        Ok(()) => Ok(()),
-        Err(_) => Err(OutOfMemory),
+/// The number that the word spells, or the greatest.
+fn most(word: &str) -> usize {
+    word.parse().unwrap_or(usize::MAX)
+}
+
+/// Puts a real file under the name before it.
+fn put_pair(rt: HostRuntime, answer: &mut Answer, files: &mut MemFiles, pair: &str, patches: &str) {
+    if let Some((name, file)) = pair.split_once('=') {
+        let mut bytes = Vec::new(answer.alloc());
+        read(rt, answer, &mut bytes, file);
+        patch(bytes.as_mut_slice(), patches);
+        let put = files.put(name, bytes.as_slice());
+        answer.keep(put);
     }
 }
 
-/// The file that a word names, and how many of its bytes are meant.
-fn first_bytes(word: &str) -> (&str, usize) {
+/// The bytes of the real file that a word names, as many as it says.
+fn read(rt: HostRuntime, answer: &mut Answer, bytes: &mut Vec<u8>, word: &str) {
     match word.split_once('@') {
-        Some((file, length)) => (file, number(length)),
-        None => (word, usize::MAX),
+        Some((file, length)) => {
+            read_file(rt, answer, bytes, file);
+            bytes.truncate(number(length) as usize);
+        }
+        None => read_file(rt, answer, bytes, word),
+    }
+}
+
+fn read_file(rt: HostRuntime, answer: &mut Answer, bytes: &mut Vec<u8>, name: &str) {
+    let mut real = HostFiles::new(&rt);
+    if real.begin(name).is_err() || read_all(&mut real, bytes).is_err() {
+        answer.refuse();
     }
 }
 
@@ -68,84 +72,93 @@ fn read_all(files: &mut impl Files, bytes: &mut Vec<u8>) -> Result<(), IoFault> 
 fn patch(bytes: &mut [u8], patches: &str) {
     for word in patches.split(',') {
         if let Some((place, byte)) = word.split_once(':') {
-            if let Some(old) = bytes.get_mut(number(place)) {
+            if let Some(old) = bytes.get_mut(number(place) as usize) {
                 *old = byte.parse().unwrap_or(0);
             }
         }
     }
 }
 
-/// The number that the word spells, or 0.
-pub fn number(word: &str) -> usize {
-    word.parse().unwrap_or(0)
-}
-
-/// Plans the call of the files that is to fail, if one is, and how many bytes it writes if it is an append.
-pub fn fail_call(files: &mut MemFiles, call: Option<u64>, left: usize) -> Result<(), OutOfMemory> {
-    match call {
-        None => Ok(()),
-        Some(call) => match files.fail_at(call, left) {
-            Ok(()) => Ok(()),
-            Err(_) => Err(OutOfMemory),
-        },
+/// Plans the call of the files that the word says is to fail, if it says one, and how many bytes it writes if it is an append.
+pub fn fail_call(answer: &mut Answer, files: &mut MemFiles, call: &str, left: usize) {
+    if let Ok(call) = call.parse() {
+        plan(answer, files, call, left);
     }
 }
 
-/// An output that takes at most so many bytes at once, and of which a write fails, if one is to.
-pub fn sink_of(alloc: Global, take: usize, write: Option<u64>) -> Result<MemSink, OutOfMemory> {
-    let mut out = MemSink::in_pieces(alloc, take);
-    match write {
-        None => Ok(out),
-        Some(write) => match out.fail_at(write) {
-            Ok(()) => Ok(out),
-            Err(_) => Err(OutOfMemory),
-        },
+/// Plans that this call of the files fails.
+pub fn plan(answer: &mut Answer, files: &mut MemFiles, call: u64, left: usize) {
+    let planned = files.fail_at(call, left);
+    answer.keep(planned);
+}
+
+/// Plans the write that the word says is to fail, if it says one.
+pub fn fail_write(answer: &mut Answer, out: &mut MemSink, write: &str) {
+    if let Ok(write) = write.parse() {
+        let planned = out.fail_at(write);
+        answer.keep(planned);
     }
 }
 
-/// Runs the program with these words, and no consumers.
+/// The status of the program with these words, and no consumers.
 pub fn run<S: Sink>(
-    alloc: Global,
+    answer: &mut Answer,
     files: &mut MemFiles,
     out: &mut S,
     command: &[&str],
-) -> Result<u8, OutOfMemory> {
-    let (status, _) = run_fed(alloc, files, out, &[], command)?;
-    Ok(status)
+) -> u64 {
+    let mut consumers = Vec::new(answer.alloc());
+    run_with(answer, files, out, &mut consumers, command)
 }
 
-/// Runs the program with these words and a consumer for each of the plans, and answers how many are left too.
-pub fn run_fed<S: Sink>(
-    alloc: Global,
+/// The same with these consumers.
+pub fn run_with<S: Sink>(
+    answer: &mut Answer,
     files: &mut MemFiles,
     out: &mut S,
-    plans: &[&str],
+    consumers: &mut Vec<Box<dyn Consumer>>,
     command: &[&str],
-) -> Result<(u8, usize), OutOfMemory> {
-    let words = words_of(alloc, command)?;
-    let mut clock = SetClock::new(Vec::new(alloc));
-    let mut door = SureDoor::new(alloc);
-    let mut consumers: Vec<Box<dyn Consumer>> = Vec::new(alloc);
-    for plan in plans {
-        consumers.push(Box::new(alloc, Planned::new(alloc, plan)?)?)?;
-    }
-    let status = highway(
-        alloc,
+) -> u64
+    // It asks for nothing. With a `requires` the proof is for whatever consumers the caller has.
+    requires { 0 ≤ length consumers.old.items }
+{
+    let words = words_of(answer, command);
+    let mut clock = SetClock::new(Vec::new(answer.alloc()));
+    let mut door = SureDoor::new(answer.alloc());
+    run_among(
+        answer.alloc(),
         &words,
         files,
         out,
         &mut clock,
         &mut door,
-        &mut consumers,
-    );
-    Ok((status, consumers.len()))
+        consumers,
+    )
+}
+
+/// The status of the program with these words and this outside.
+pub fn run_among<S: Sink, C: Clock, D: Door>(
+    alloc: Global,
+    words: &Words,
+    files: &mut MemFiles,
+    out: &mut S,
+    clock: &mut C,
+    door: &mut D,
+    consumers: &mut Vec<Box<dyn Consumer>>,
+) -> u64
+    // It asks for nothing, as above.
+    requires { 0 ≤ length consumers.old.items }
+{
+    u64::from(highway(alloc, words, files, out, clock, door, consumers))
 }
 
 /// The words of a command line.
-pub fn words_of(alloc: Global, command: &[&str]) -> Result<Words, OutOfMemory> {
-    let mut words = Words::new(alloc);
+pub fn words_of(answer: &mut Answer, command: &[&str]) -> Words {
+    let mut words = Words::new(answer.alloc());
     for word in command {
-        words.push(word)?;
+        if words.push(word).is_err() {
+            answer.refuse();
+        }
     }
-    Ok(words)
+    words
 }

@@ -3,30 +3,30 @@
 ghost use Rattle.std.specs.Prelude.{None};
 ghost use Rattle.hw_io.specs.Faults.{HasCause};
 
+use hw_case_words::Answer;
 use hw_io::{Consumer, IoFault};
-use hw_types::OutOfMemory;
-use std::alloc::Global;
 
 /// A consumer that takes the calls of its plan, in order, and at which each other call fails.
 #[derive(Drop)]
 pub struct Planned {
-    calls: Vec<String>,
+    plan: String,
     next: usize,
     faults: u64,
 }
 
 impl Planned {
     /// The consumer of this plan.
-    pub fn new(alloc: Global, plan: &str) -> Result<Planned, OutOfMemory> {
-        let mut calls = Vec::new(alloc);
-        for call in plan.split(',') {
-            calls.push(String::from_str(alloc, call)?)?;
-        }
-        Ok(Planned {
-            calls,
+    pub fn new(answer: &mut Answer, plan: &str) -> Planned {
+        Planned {
+            plan: answer.copy(plan),
             next: 0,
             faults: 0,
-        })
+        }
+    }
+
+    /// The next call of the plan, nothing behind the last one.
+    fn next_call(&self) -> &str {
+        self.plan.as_str().split(',').nth(self.next).unwrap_or("")
     }
 
     /// Takes a call, if it is the next one of the plan.
@@ -48,18 +48,12 @@ impl Consumer for Planned {
     ghost faults = { λ consumer. consumer.faults };
 
     fn take(&mut self, height: u64, value: &[u8]) -> Result<(), IoFault> {
-        let is_next = match self.calls.get(self.next) {
-            Some(call) => is_take(call.as_str(), height, value),
-            None => false,
-        };
+        let is_next = is_take(self.next_call(), height, value);
         self.answer(is_next)
     }
 
     fn finish(&mut self) -> Result<(), IoFault> {
-        let is_next = match self.calls.get(self.next) {
-            Some(call) => call.as_str() == "finish",
-            None => false,
-        };
+        let is_next = self.next_call() == "finish";
         self.answer(is_next)
     }
 }

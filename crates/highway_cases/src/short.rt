@@ -24,8 +24,8 @@ impl ShortSink {
     }
 
     /// How many bytes were taken.
-    pub fn taken_count(&self) -> usize {
-        self.bytes.len()
+    pub fn taken_count(&self) -> u64 {
+        self.bytes.len() as u64
     }
 }
 

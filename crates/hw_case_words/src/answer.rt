@@ -54,6 +54,35 @@ impl Answer {
         self.keep(put);
     }
 
+    /// Puts the text last, with the numbers in turn in the places of its `#`.
+    pub fn fill(&mut self, text: &str, numbers: &[u64]) {
+        let mut left = text;
+        for number in numbers {
+            left = self.fill_one(left, *number);
+        }
+        self.put(left);
+    }
+
+    /// Puts the text before its first `#` last, and the number: the text behind that is left.
+    fn fill_one<'a>(&mut self, text: &'a str, number: u64) -> &'a str {
+        match text.split_once('#') {
+            Some((before, left)) => {
+                self.put(before);
+                self.number(number);
+                left
+            }
+            None => text,
+        }
+    }
+
+    /// Puts the bytes last as a text.
+    pub fn utf8(&mut self, bytes: &[u8]) {
+        match String::from_utf8_lossy(self.alloc, bytes) {
+            Ok(text) => self.put(text.as_str()),
+            Err(_) => self.refuse(),
+        }
+    }
+
     /// Puts the bytes last as hexadecimal digits.
     pub fn hex(&mut self, bytes: &[u8]) {
         match hex::encode(self.alloc, bytes) {
@@ -107,6 +136,13 @@ impl Answer {
                 }
                 Vec::new(self.alloc)
             }
+        }
+    }
+
+    /// Puts the item last in the vector.
+    pub fn push_to<T: Drop>(&mut self, items: &mut Vec<T>, item: T) {
+        if items.push(item).is_err() {
+            self.refuse();
         }
     }
 
