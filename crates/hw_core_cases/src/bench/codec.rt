@@ -94,7 +94,7 @@ fn first_of_name(alloc: Global, unit: &WireUnit) -> u64 {
         return 0;
     }
     match digest_of(alloc, unit) {
-        Ok(Digest([first, ..])) => first as u64,
+        Ok(name) => u64::from(name.0[0]),
         Err(_) => 0,
     }
 }
