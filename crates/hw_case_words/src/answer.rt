@@ -1,8 +1,7 @@
 //! The answer to a line, as it is made.
 
-use crate::words::word_of;
 use hex::FromHexError;
-use hw_types::{Digest, OutOfMemory};
+use hw_types::{Digest, Items, OutOfMemory};
 use std::alloc::{AllocError, Global};
 use std::fmt::{Debug, Display};
 
@@ -75,10 +74,36 @@ impl Answer {
         }
     }
 
+    /// The text with the number in the place of its `#`; none where there is no memory for it.
+    pub fn filled(&mut self, text: &str, number: u64) -> String {
+        let mut part = Answer::new(self.alloc);
+        part.fill(text, &[number]);
+        match part.finish() {
+            Some(text) => text,
+            None => {
+                self.refuse();
+                String::new(self.alloc)
+            }
+        }
+    }
+
+    /// Puts `true` or `false` last.
+    pub fn truth(&mut self, is_so: bool) {
+        self.put(if is_so { "true" } else { "false" });
+    }
+
     /// Puts the bytes last as a text.
     pub fn utf8(&mut self, bytes: &[u8]) {
         match String::from_utf8_lossy(self.alloc, bytes) {
             Ok(text) => self.put(text.as_str()),
+            Err(_) => self.refuse(),
+        }
+    }
+
+    /// Puts the bytes last as a text, without the white space at its end.
+    pub fn utf8_line(&mut self, bytes: &[u8]) {
+        match String::from_utf8_lossy(self.alloc, bytes) {
+            Ok(text) => self.put(text.as_str().trim_end()),
             Err(_) => self.refuse(),
         }
     }
@@ -101,18 +126,24 @@ impl Answer {
 
     /// Puts the word last that the digest stands for.
     pub fn name(&mut self, name: &Digest) {
-        match word_of(self.alloc, name) {
-            Some(word) => self.put(word.as_str()),
-            None => self.refuse(),
+        for byte in name.0.as_slice() {
+            if *byte != 0 {
+                self.character(*byte);
+            }
         }
     }
 
     /// Puts each byte last as the character that it is in ASCII.
     pub fn characters(&mut self, bytes: &[u8]) {
         for byte in bytes {
-            let put = self.text.push(char::from(*byte));
-            self.keep(put);
+            self.character(*byte);
         }
+    }
+
+    /// Puts the character last that the byte is in ASCII.
+    pub fn character(&mut self, byte: u8) {
+        let put = self.text.push(char::from(byte));
+        self.keep(put);
     }
 
     /// The words of the line, with this between them; none where there is no memory for them.
@@ -139,6 +170,24 @@ impl Answer {
         }
     }
 
+    /// A list of these items; none where there is no memory for it.
+    pub fn list<T: Copy>(&mut self, items: &[T]) -> Items<T> {
+        match Vec::from_slice(self.alloc, items) {
+            Ok(items) => Items::from_vec(items),
+            Err(_) => {
+                self.refuse();
+                Items::new(self.alloc)
+            }
+        }
+    }
+
+    /// Puts the item last in the list.
+    pub fn push<T: Drop>(&mut self, list: &mut Items<T>, item: T) {
+        if list.push(item).is_err() {
+            self.refuse();
+        }
+    }
+
     /// Puts the item last in the vector.
     pub fn push_to<T: Drop>(&mut self, items: &mut Vec<T>, item: T) {
         if items.push(item).is_err() {
@@ -160,6 +209,13 @@ impl Answer {
     /// The answer is refused where this was.
     pub fn keep(&mut self, written: Result<(), AllocError>) {
         if written.is_err() {
+            self.refuse();
+        }
+    }
+
+    /// The answer is refused where this other one was, of which nothing else is told.
+    pub fn join(&mut self, unheard: Answer) {
+        if unheard.is_refused {
             self.refuse();
         }
     }

@@ -1,50 +1,51 @@
 //! The configuration of a line that begins a case.
 
+use crate::answer::Answer;
 use crate::words::{after, number_of};
 use hw_types::{Config, IndexList, Leaders, WeightList};
-use std::alloc::Global;
 
 /// The configuration that the words tell: `weights` with its numbers, and `ftt`, `levels`, `exponents`, `leaders`,
-/// `records`, `parked` and `end` with theirs, where they are there. None for want of memory.
-pub fn config_of(alloc: Global, words: &[&str]) -> Option<Config> {
+/// `records`, `parked` and `end` with theirs, where they are there.
+pub fn config_of(answer: &mut Answer, words: &[&str]) -> Config {
     let (min_exponent, max_exponent) = exponents_of(words);
-    Some(Config {
-        weights: weights_of(alloc, words)?,
+    Config {
+        weights: weights_of(answer, after(words, "weights")),
         ftt: number_of(words, "ftt"),
         levels: levels_of(words),
         min_exponent,
         max_exponent,
-        leaders: Leaders::Table(leaders_of(alloc, words)?),
+        leaders: Leaders::Table(leaders_of(answer, after(words, "leaders"))),
         max_records: limit_of(words, "records", 100_000),
         max_parked: limit_of(words, "parked", 16_384),
         end: end_of(words),
-    })
+    }
 }
 
-fn weights_of(alloc: Global, words: &[&str]) -> Option<WeightList> {
-    let mut weights = WeightList::new(alloc);
-    for word in after(words, "weights") {
+/// The numbers up to the first word that is none.
+fn weights_of(answer: &mut Answer, words: &[&str]) -> WeightList {
+    let mut weights = WeightList::new(answer.alloc());
+    for word in words {
         let Ok(weight) = word.parse::<u64>() else {
             break;
         };
-        weights.push(weight).ok()?;
+        answer.push(&mut weights, weight);
     }
-    Some(weights)
+    weights
 }
 
-/// The leaders by round; validator 0 alone where none are told.
-fn leaders_of(alloc: Global, words: &[&str]) -> Option<IndexList> {
-    let mut leaders = IndexList::new(alloc);
-    for word in after(words, "leaders") {
+/// The leaders by round, up to the first word that is no number; validator 0 alone where none are told.
+fn leaders_of(answer: &mut Answer, words: &[&str]) -> IndexList {
+    let mut leaders = IndexList::new(answer.alloc());
+    for word in words {
         let Ok(leader) = word.parse::<u32>() else {
             break;
         };
-        leaders.push(leader).ok()?;
+        answer.push(&mut leaders, leader);
     }
     if leaders.len() == 0 {
-        leaders.push(0).ok()?;
+        answer.push(&mut leaders, 0);
     }
-    Some(leaders)
+    leaders
 }
 
 fn levels_of(words: &[&str]) -> u8 {

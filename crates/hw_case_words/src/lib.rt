@@ -8,5 +8,7 @@ mod words;
 
 pub use answer::Answer;
 pub use config::config_of;
-pub use unit::{own_observation, told_number, unit_of};
-pub use words::{after, byte, is_key, named, number, number_of, small, with_line_feeds, word_of};
+pub use unit::{own_observation, plain_unit, signed, told_number, unit_of};
+pub use words::{
+    after, byte, lines_of, named, number, number_of, small, until_key, with_line_feeds,
+};

@@ -1,32 +1,58 @@
 //! The unit of a line.
 
+use crate::answer::Answer;
 use crate::words::{after, number_of};
 use hw_types::{Bytes, Digest, DigestList, Obs, ObsList, Signature, SignedUnit, WireUnit};
-use std::alloc::Global;
 
 /// The unit that the words tell, with this panorama, this list and this number. It is of another instance where they
-/// say `foreign`, and has the bytes of the word behind `block` as its value, where that is there. None for want of
-/// memory.
+/// say `foreign`, and has the bytes of the word behind `block` as its value, where that is there.
 pub fn unit_of(
-    alloc: Global,
+    answer: &mut Answer,
     words: &[&str],
     instance: Digest,
     panorama: ObsList,
     endorsed: DigestList,
     seq: u64,
-) -> Option<SignedUnit> {
-    Some(SignedUnit {
-        unit: WireUnit {
-            instance: instance_of(words, instance),
-            creator: creator_of(words),
-            seq,
-            time: number_of(words, "at"),
-            exponent: exponent_of(words),
-            panorama,
-            value: value_of(alloc, words)?,
-            endorsed,
-        },
+) -> SignedUnit {
+    signed(WireUnit {
+        instance: instance_of(words, instance),
+        creator: creator_of(words),
+        seq,
+        time: number_of(words, "at"),
+        exponent: exponent_of(words),
+        panorama,
+        value: value_of(answer, words),
+        endorsed,
+    })
+}
+
+/// The unit under a signature of zeros.
+pub fn signed(unit: WireUnit) -> SignedUnit {
+    SignedUnit {
+        unit,
         signature: Signature([0; 32]),
+    }
+}
+
+/// A unit in a round of exponent 4 that endorses none, under a signature of zeros.
+pub fn plain_unit(
+    instance: Digest,
+    creator: u32,
+    seq: u64,
+    time: u64,
+    panorama: ObsList,
+    value: Option<Bytes>,
+    endorsed: DigestList,
+) -> SignedUnit {
+    signed(WireUnit {
+        instance,
+        creator,
+        seq,
+        time,
+        exponent: 4,
+        panorama,
+        value,
+        endorsed,
     })
 }
 
@@ -69,16 +95,10 @@ fn instance_of(words: &[&str], instance: Digest) -> Digest {
     instance
 }
 
-/// The value of the unit, if it has one. None for want of memory.
-fn value_of(alloc: Global, words: &[&str]) -> Option<Option<Bytes>> {
+/// The value of the unit, if it has one.
+fn value_of(answer: &mut Answer, words: &[&str]) -> Option<Bytes> {
     match after(words, "block") {
-        [word, ..] => Some(Some(bytes_of(alloc, word)?)),
-        [] => Some(None),
+        [word, ..] => Some(answer.list(word.as_bytes())),
+        [] => None,
     }
-}
-
-fn bytes_of(alloc: Global, word: &str) -> Option<Bytes> {
-    let mut bytes = Bytes::new(alloc);
-    bytes.extend(word.as_bytes()).ok()?;
-    Some(bytes)
 }

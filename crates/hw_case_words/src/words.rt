@@ -1,5 +1,6 @@
 //! Lists of words, and words as names.
 
+use crate::answer::Answer;
 use hw_types::Digest;
 use std::alloc::Global;
 
@@ -45,6 +46,16 @@ pub fn is_key(word: &str) -> bool {
     matches!(word, "block" | "endorsed" | "exp" | "number" | "foreign")
 }
 
+/// The words up to such a one.
+pub fn until_key<'a, 'b>(words: &'a [&'b str]) -> &'a [&'b str] {
+    for (place, word) in words.iter().enumerate() {
+        if is_key(word) {
+            return &words[..place];
+        }
+    }
+    words
+}
+
 /// A word of up to 32 bytes as a digest.
 pub fn named(word: &str) -> Digest {
     let mut bytes = [0; 32];
@@ -54,15 +65,13 @@ pub fn named(word: &str) -> Digest {
     Digest(bytes)
 }
 
-/// The word that such a digest stands for, None for want of memory.
-pub fn word_of(alloc: Global, name: &Digest) -> Option<String> {
-    let mut word = String::new(alloc);
-    for byte in name.0 {
-        if byte != 0 {
-            word.push(char::from(byte)).ok()?;
-        }
+/// The text with line feeds where it has this sign.
+pub fn lines_of(answer: &mut Answer, text: &str, sign: u8) -> Vec<u8> {
+    let mut bytes = Vec::new(answer.alloc());
+    for byte in text.bytes() {
+        answer.push_to(&mut bytes, if byte == sign { b'\n' } else { byte });
     }
-    Some(word)
+    bytes
 }
 
 /// The text with line feeds where it has `/`, None for want of memory.

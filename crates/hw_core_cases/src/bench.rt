@@ -9,64 +9,71 @@
 
 mod codec;
 
-use self::codec::{Sample, sample_of};
+use self::codec::{Sample, Work, sample_of};
 use hw_case_words::{Answer, small};
-use std::io;
 use std::time::CpuClock;
 
 /// Answers a line.
 pub fn tell(rt: HostRuntime, answer: &mut Answer, line: &str) {
-    match sample_of(answer.alloc()) {
-        Ok(sample) => tell_of(rt, answer, &sample, line),
-        Err(_) => answer.refuse(),
-    }
-}
-
-/// Answers a line of this sample.
-fn tell_of(rt: HostRuntime, answer: &mut Answer, sample: &Sample, line: &str) {
+    let sample = sample_of(answer);
     match line.strip_prefix("measure ") {
-        Some(rounds) => measure(rt, answer, sample, small(rounds)),
-        None if line == "once" => once(answer, sample),
+        Some(rounds) => measure(rt, answer, &sample, small(rounds)),
+        None if line == "once" => once(answer, &sample),
         None => answer.refuse(),
     }
 }
 
 fn once(answer: &mut Answer, sample: &Sample) {
-    let _ = sample.read(answer.alloc(), 1);
-    let _ = sample.write(answer.alloc(), 1);
-    let _ = sample.name(answer.alloc(), 1);
-}
-
-fn measure(rt: HostRuntime, answer: &mut Answer, sample: &Sample, rounds: u32) {
-    if measured(rt, answer, sample, rounds).is_err() {
-        answer.refuse();
-    }
+    let _ = sample.go(answer.alloc(), Work::Read, 1);
+    let _ = sample.go(answer.alloc(), Work::Write, 1);
+    let _ = sample.go(answer.alloc(), Work::Name, 1);
 }
 
 /// Goes so many rounds of each, and puts the three rates.
-fn measured(rt: HostRuntime, answer: &mut Answer, sample: &Sample, rounds: u32) -> io::Result<()> {
-    let start = rt.thread_cpu_time()?.as_micros();
-    let times = sample.read(answer.alloc(), rounds).unwrap_or(0);
-    let read = rt.thread_cpu_time()?.as_micros();
-    let lens = sample.write(answer.alloc(), rounds).unwrap_or(0);
-    let written = rt.thread_cpu_time()?.as_micros();
-    let names = sample.name(answer.alloc(), rounds).unwrap_or(0);
-    let named = rt.thread_cpu_time()?.as_micros();
-    answer.put("checksum ");
-    answer.number(times ^ lens ^ names);
-    put_rate(answer, "\nread ", rate(rounds, start, read));
-    put_rate(answer, "written ", rate(rounds, read, written));
-    put_rate(answer, "named ", rate(rounds, written, named));
-    Ok(())
+fn measure(rt: HostRuntime, answer: &mut Answer, sample: &Sample, rounds: u32) {
+    let read = time_of(rt, answer, sample, Work::Read, rounds);
+    let written = time_of(rt, answer, sample, Work::Write, rounds);
+    let named = time_of(rt, answer, sample, Work::Name, rounds);
+    answer.fill("checksum #\n", &[read.sum ^ written.sum ^ named.sum]);
+    put_rate(answer, "read ", rounds, read.micros);
+    put_rate(answer, "written ", rounds, written.micros);
+    put_rate(answer, "named ", rounds, named.micros);
 }
 
-fn put_rate(answer: &mut Answer, what: &str, rate: u128) {
+/// What came of some rounds, and how long they took.
+#[derive(Clone, Copy)]
+struct Timed {
+    sum: u64,
+    micros: u128,
+}
+
+fn time_of(
+    rt: HostRuntime,
+    answer: &mut Answer,
+    sample: &Sample,
+    work: Work,
+    rounds: u32,
+) -> Timed {
+    let start = moment(rt, answer);
+    let sum = sample.go(answer.alloc(), work, rounds);
+    let micros = moment(rt, answer).saturating_sub(start);
+    Timed { sum, micros }
+}
+
+/// The processor time of this thread in microseconds.
+fn moment(rt: HostRuntime, answer: &mut Answer) -> u128 {
+    match rt.thread_cpu_time() {
+        Ok(time) => time.as_micros(),
+        Err(_) => {
+            answer.refuse();
+            0
+        }
+    }
+}
+
+/// How many rounds a second are gone in so many microseconds.
+fn put_rate(answer: &mut Answer, what: &str, rounds: u32, micros: u128) {
     answer.put(what);
-    answer.show(&rate);
+    answer.show(&(rounds as u128 * 1_000_000 / micros.max(1)));
     answer.put(" units a second\n");
-}
-
-/// How many rounds a second, between two moments in microseconds.
-fn rate(rounds: u32, from: u128, to: u128) -> u128 {
-    u128::from(rounds) * 1_000_000 / to.saturating_sub(from).max(1)
 }

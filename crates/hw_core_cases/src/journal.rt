@@ -54,5 +54,6 @@ mod summits;
 mod units;
 mod wanted;
 
+pub use self::chains::panorama_of;
 pub use self::lines::tell;
 pub use self::names::Node;

@@ -17,19 +17,13 @@ mod cases;
 
 use hw_case_words::Answer;
 
-/// Answers a line.
+/// Answers a line: the line again, and what its script prints.
 pub fn tell(rt: HostRuntime, answer: &mut Answer, line: &str) {
-    match cases::answer(&rt, line) {
-        Ok(text) => put(answer, line, text.as_str()),
-        Err(_) => answer.refuse(),
-    }
-}
-
-/// Puts the line again, and what its script prints.
-fn put(answer: &mut Answer, line: &str, text: &str) {
     answer.put("> ");
     answer.put(line);
     answer.put("\n");
-    answer.put(text);
+    if let Some((kind, word)) = line.split_once(' ') {
+        cases::tell(rt, answer, kind, word);
+    }
     answer.put("\n");
 }

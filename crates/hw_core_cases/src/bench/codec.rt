@@ -1,78 +1,100 @@
 //! A unit with 100 observations, that is read, written and named.
 
-use hw_codec::{CodecError, decode_unit, digest_of, encode_unit, fits};
-use hw_types::{Digest, DigestList, Obs, ObsList, OutOfMemory, WireUnit};
+use hw_case_words::{Answer, plain_unit};
+use hw_codec::{decode_unit, digest_of, encode_unit, fits};
+use hw_types::{Bytes, Digest, DigestList, Obs, ObsList, SignedUnit, WireUnit};
 use std::alloc::Global;
 
 const OBSERVATIONS: u8 = 100;
 
+/// What is done to a unit.
+#[derive(Clone, Copy)]
+pub enum Work {
+    Read,
+    Write,
+    Name,
+}
+
 /// A unit, and its bytes.
 #[derive(Drop)]
 pub struct Sample {
-    unit: WireUnit,
-    bytes: Vec<u8>,
+    signed: SignedUnit,
+    bytes: Bytes,
 }
 
 /// A unit that cites one unit of each validator.
-pub fn sample_of(alloc: Global) -> Result<Sample, OutOfMemory> {
-    let unit = unit_of(alloc)?;
-    let bytes = spelling(alloc, &unit)?;
-    Ok(Sample { unit, bytes })
+pub fn sample_of(answer: &mut Answer) -> Sample {
+    let signed = unit_of(answer);
+    let bytes = spelling(answer, &signed.unit);
+    Sample { signed, bytes }
 }
 
-fn unit_of(alloc: Global) -> Result<WireUnit, OutOfMemory> {
-    let mut panorama = ObsList::new(alloc);
+fn unit_of(answer: &mut Answer) -> SignedUnit {
+    let mut seen = Vec::new(answer.alloc());
     for validator in 0..OBSERVATIONS {
-        panorama.push(Obs::Correct(Digest([validator; 32])))?;
+        answer.push_to(&mut seen, Obs::Correct(Digest([validator; 32])));
     }
-    Ok(WireUnit {
-        instance: Digest([0; 32]),
-        creator: 0,
-        seq: 1,
-        time: 1_000,
-        exponent: 4,
-        panorama,
-        value: None,
-        endorsed: DigestList::new(alloc),
-    })
+    let endorsed = DigestList::new(answer.alloc());
+    let panorama = ObsList::from_vec(seen);
+    plain_unit(Digest([0; 32]), 0, 1, 1_000, panorama, None, endorsed)
 }
 
-fn spelling(alloc: Global, unit: &WireUnit) -> Result<Vec<u8>, OutOfMemory> {
-    if !fits(unit) {
-        return Err(OutOfMemory);
+fn spelling(answer: &mut Answer, unit: &WireUnit) -> Bytes {
+    if fits(unit) {
+        if let Ok(bytes) = encode_unit(answer.alloc(), unit) {
+            return bytes;
+        }
     }
-    Ok(encode_unit(alloc, unit)?.into_vec())
+    answer.refuse();
+    Bytes::new(answer.alloc())
 }
 
 impl Sample {
-    /// Reads the bytes so many times: the sum of the times.
-    pub fn read(&self, alloc: Global, rounds: u32) -> Result<u64, CodecError> {
+    /// Does it so many times: the sum of what comes of it.
+    pub fn go(&self, alloc: Global, work: Work, rounds: u32) -> u64 {
         let mut sum = 0u64;
         for _ in 0..rounds {
-            sum = sum.wrapping_add(decode_unit(alloc, self.bytes.as_slice())?.time);
+            sum = sum.wrapping_add(self.done(alloc, work));
         }
-        Ok(sum)
+        sum
     }
 
-    /// Writes the unit so many times: the sum of the lengths.
-    pub fn write(&self, alloc: Global, rounds: u32) -> Result<u64, OutOfMemory> {
-        let mut sum = 0u64;
-        for _ in 0..rounds {
-            if fits(&self.unit) {
-                sum = sum.wrapping_add(encode_unit(alloc, &self.unit)?.len() as u64);
-            }
+    /// What comes of it once.
+    fn done(&self, alloc: Global, work: Work) -> u64 {
+        match work {
+            Work::Read => time_read(alloc, self.bytes.as_slice()),
+            Work::Write => length_written(alloc, &self.signed.unit),
+            Work::Name => first_of_name(alloc, &self.signed.unit),
         }
-        Ok(sum)
     }
+}
 
-    /// Names the unit so many times: the sum of the first bytes of its name.
-    pub fn name(&self, alloc: Global, rounds: u32) -> Result<u64, OutOfMemory> {
-        let mut sum = 0u64;
-        for _ in 0..rounds {
-            if fits(&self.unit) {
-                sum = sum.wrapping_add(u64::from(digest_of(alloc, &self.unit)?.0[0]));
-            }
-        }
-        Ok(sum)
+/// The time of the unit that these bytes spell.
+fn time_read(alloc: Global, bytes: &[u8]) -> u64 {
+    match decode_unit(alloc, bytes) {
+        Ok(unit) => unit.time,
+        Err(_) => 0,
+    }
+}
+
+/// How many bytes spell the unit.
+fn length_written(alloc: Global, unit: &WireUnit) -> u64 {
+    if !fits(unit) {
+        return 0;
+    }
+    match encode_unit(alloc, unit) {
+        Ok(bytes) => bytes.len() as u64,
+        Err(_) => 0,
+    }
+}
+
+/// The first byte of the unit's name.
+fn first_of_name(alloc: Global, unit: &WireUnit) -> u64 {
+    if !fits(unit) {
+        return 0;
+    }
+    match digest_of(alloc, unit) {
+        Ok(name) => u64::from(name.0[0]),
+        Err(_) => 0,
     }
 }

@@ -2,18 +2,10 @@
 
 use hw_admit::{State, StateStart};
 use hw_case_words::{Answer, config_of};
-use hw_types::Config;
 
 /// Begins a state with the configuration that the words tell. Where there is none, why.
 pub fn weights(answer: &mut Answer, held: &mut Option<State>, words: &[&str]) {
-    match config_of(answer.alloc(), words) {
-        Some(config) => began(answer, held, config),
-        None => answer.refuse(),
-    }
-}
-
-/// The same with this configuration.
-fn began(answer: &mut Answer, held: &mut Option<State>, config: Config) {
+    let config = config_of(answer, words);
     match State::new(answer.alloc(), config) {
         Ok(state) => {
             *held = Some(state);

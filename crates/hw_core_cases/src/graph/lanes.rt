@@ -7,11 +7,11 @@ ghost use Rattle.hw_dag.specs.Dag.{count_of, node_at, unit_at, seq_of};
 use crate::graph::settling::{Outcome, settle};
 use crate::graph::units::INSTANCE;
 use crate::graph::views::put_name;
+use crate::journal::panorama_of;
 use hw_admit::State;
-use hw_case_words::{Answer, named, number, small};
+use hw_case_words::{Answer, named, number, plain_unit, small};
 use hw_dag::{Dag, Marks, Steps, UnitNo};
-use hw_types::{Bytes, Digest, DigestList, Obs, ObsList, Signature, SignedUnit, WireUnit};
-use std::alloc::Global;
+use hw_types::{Bytes, Digest, DigestList, Obs, SignedUnit};
 use std::marker::Brand;
 use std::sync::ledger::{Blank, Ledger};
 
@@ -20,65 +20,53 @@ pub fn chain(answer: &mut Answer, state: &mut State, words: &[&str]) {
     let [length] = words else {
         return answer.refuse();
     };
-    let mut admitted: u32 = 0;
+    let mut admitted: u64 = 0;
     for height in 0..small(length) {
-        match add_block(answer.alloc(), state, height) {
+        match add_block(answer, state, height) {
             Some(Outcome::Admitted(_)) => admitted = admitted.saturating_add(1),
             Some(_) => {}
             None => answer.refuse(),
         }
     }
-    answer.put("admitted ");
-    answer.number(u64::from(admitted));
+    answer.fill("admitted #", &[admitted]);
 }
 
 /// Admits the block of this height.
-fn add_block(alloc: Global, state: &mut State, height: u32) -> Option<Outcome> {
-    let name = name_at(alloc, height)?;
-    let unit = block_at(alloc, state.dag().validators(), height)?;
+fn add_block(answer: &mut Answer, state: &mut State, height: u32) -> Option<Outcome> {
+    let name = name_at(answer, height);
+    let unit = block_at(answer, state.dag().validators(), height);
     settle(state, name, unit)
 }
 
 /// The name of the block of this height.
-fn name_at(alloc: Global, height: u32) -> Option<Digest> {
-    match format!(in alloc; "n{height}") {
-        Ok(name) => Some(named(name.as_str())),
-        Err(_) => None,
-    }
+fn name_at(answer: &mut Answer, height: u32) -> Digest {
+    let name = answer.filled("n#", height as u64);
+    named(name.as_str())
 }
 
 /// The block of this height.
-fn block_at(alloc: Global, validators: u32, height: u32) -> Option<SignedUnit> {
-    Some(SignedUnit {
-        unit: WireUnit {
-            instance: INSTANCE,
-            creator: 0,
-            seq: u64::from(height),
-            time: u64::from(height) * 64,
-            exponent: 4,
-            panorama: before(alloc, validators, height)?,
-            value: Some(Bytes::new(alloc)),
-            endorsed: DigestList::new(alloc),
-        },
-        signature: Signature([0; 32]),
-    })
+fn block_at(answer: &mut Answer, validators: u32, height: u32) -> SignedUnit {
+    let before = observed_before(answer, height);
+    let panorama = panorama_of(answer, validators as usize, before);
+    let alloc = answer.alloc();
+    let (number, time) = (height as u64, height as u64 * 64);
+    plain_unit(
+        INSTANCE,
+        0,
+        number,
+        time,
+        panorama,
+        Some(Bytes::new(alloc)),
+        DigestList::new(alloc),
+    )
 }
 
-/// The block before in the first slot.
-fn before(alloc: Global, validators: u32, height: u32) -> Option<ObsList> {
-    let mut panorama = ObsList::new(alloc);
-    panorama.push(observed_before(alloc, height)?).ok()?;
-    for _ in 1..validators {
-        panorama.push(Obs::Absent).ok()?;
-    }
-    Some(panorama)
-}
-
-fn observed_before(alloc: Global, height: u32) -> Option<Obs> {
+fn observed_before(answer: &mut Answer, height: u32) -> Obs {
     if height == 0 {
-        return Some(Obs::Absent);
+        Obs::Absent
+    } else {
+        Obs::Correct(name_at(answer, height - 1))
     }
-    Some(Obs::Correct(name_at(alloc, height - 1)?))
 }
 
 /// The unit of this number on the lane of the named one, and its own number.
@@ -142,7 +130,7 @@ fn chain_at<L: Ledger>(dag: &Dag, block: UnitNo, height: u64, blank: Blank) -> O
 /// Whether the one unit is on the lane of the other.
 pub fn on_lane(answer: &mut Answer, dag: &Dag, low: &str, high: &str) {
     match (dag.find(&named(low)), dag.find(&named(high))) {
-        (Some(low), Some(high)) => answer.show(&dag.on_lane(low, high)),
+        (Some(low), Some(high)) => answer.truth(dag.on_lane(low, high)),
         _ => answer.refuse(),
     }
 }
@@ -154,7 +142,7 @@ pub fn sees(answer: &mut Answer, dag: &Dag, high: &str, low: &str) {
         return answer.refuse();
     }
     match (dag.find(&named(high)), dag.find(&named(low))) {
-        (Some(high), Some(low)) => answer.show(&dag.sees(high, low, &mut marks)),
+        (Some(high), Some(low)) => answer.truth(dag.sees(high, low, &mut marks)),
         _ => answer.refuse(),
     }
 }

@@ -20,12 +20,10 @@ use std::alloc::Global;
 /// The naive fork of a unit with this panorama and this endorsed list.
 pub fn naive_fork(answer: &mut Answer, state: &State, words: &[&str]) {
     let panorama = panorama_of(answer.alloc(), state.dag(), words);
-    let endorsed = names(answer.alloc(), after(words, "endorsed"));
-    match (panorama, endorsed) {
-        (Some(panorama), Some(endorsed)) => {
-            put_fork_over(answer, state, &panorama, endorsed.as_slice());
-        }
-        _ => answer.refuse(),
+    let endorsed = names(answer, after(words, "endorsed"));
+    match panorama {
+        Some(panorama) => put_fork_over(answer, state, &panorama, endorsed.as_slice()),
+        None => answer.refuse(),
     }
 }
 
@@ -66,7 +64,7 @@ fn put_naive(answer: &mut Answer, dag: &Dag, fork: Option<NaiveFork>) {
         (fork.right, fork.left)
     };
     answer.put("naive fork of ");
-    answer.number(u64::from(fork.creator));
+    answer.number(fork.creator as u64);
     put_name(answer, dag, ": ", low);
     put_name(answer, dag, " ", high);
 }

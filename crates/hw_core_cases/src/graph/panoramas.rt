@@ -120,7 +120,7 @@ pub fn put_fork(answer: &mut Answer, dag: &Dag, fork: Option<UnitNo>) {
 /// Whether the panorama of these words is consistent.
 pub fn consistency(answer: &mut Answer, dag: &Dag, words: &[&str]) {
     match panorama_of(answer.alloc(), dag, words) {
-        Some(panorama) => answer.show(&consistent(dag, &panorama)),
+        Some(panorama) => answer.truth(consistent(dag, &panorama)),
         None => answer.refuse(),
     }
 }
@@ -153,7 +153,7 @@ pub fn at_most_of(answer: &mut Answer, dag: &Dag, words: &[&str]) {
     let left = panorama_of(answer.alloc(), dag, first_half(words));
     let right = panorama_of(answer.alloc(), dag, second_half(words));
     match (left, right) {
-        (Some(left), Some(right)) => answer.show(&at_most(dag, &left, &right)),
+        (Some(left), Some(right)) => answer.truth(at_most(dag, &left, &right)),
         _ => answer.refuse(),
     }
 }

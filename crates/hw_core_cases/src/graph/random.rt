@@ -8,12 +8,9 @@ use crate::graph::plain::Plain;
 use crate::graph::settling::{Outcome, settle};
 use crate::graph::units::{INSTANCE, next_number};
 use hw_admit::State;
-use hw_case_words::{Answer, number, small};
-use hw_dag::{Dag, Panorama, UnitNo, View};
-use hw_types::{
-    Bytes, Config, Digest, DigestList, IndexList, Leaders, Obs, ObsList, Signature, SignedUnit,
-    WeightList, WireUnit,
-};
+use hw_case_words::{Answer, number, plain_unit, small};
+use hw_dag::{Dag, Panorama, Unit, UnitNo, View};
+use hw_types::{Bytes, Config, Digest, DigestList, IndexList, Leaders, Obs, ObsList, SignedUnit};
 use std::alloc::Global;
 
 /// Ties are wanted, so the weights are small.
@@ -47,7 +44,7 @@ pub fn random(answer: &mut Answer, held: &mut Option<State>, words: &[&str]) {
     let mut lots = Lots {
         state: number(seed),
     };
-    *held = grown(answer.alloc(), &mut lots, small(units));
+    *held = grown(answer, &mut lots, small(units));
     match held {
         Some(state) => compared(answer, state, &mut lots, small(panoramas)),
         None => answer.refuse(),
@@ -55,64 +52,67 @@ pub fn random(answer: &mut Answer, held: &mut Option<State>, words: &[&str]) {
 }
 
 /// The state of so many units.
-fn grown(alloc: Global, lots: &mut Lots, units: u32) -> Option<State> {
-    let config = config_of(alloc, lots, units)?;
-    let mut state = State::new(alloc, config).ok()?;
-    match grow(alloc, &mut state, lots, units) {
-        Some(()) => Some(state),
-        None => None,
+fn grown(answer: &mut Answer, lots: &mut Lots, units: u32) -> Option<State> {
+    let config = config_of(answer, lots, units);
+    let mut state = State::new(answer.alloc(), config).ok()?;
+    if grow(answer, &mut state, lots, units) {
+        Some(state)
+    } else {
+        None
     }
 }
 
 /// Each unit has a round of its own, whose leader is drawn.
-fn config_of(alloc: Global, lots: &mut Lots, units: u32) -> Option<Config> {
-    let mut leaders = IndexList::new(alloc);
-    for _ in 0..units {
-        leaders.push(lots.below(5)).ok()?;
-    }
-    Some(Config {
-        weights: WeightList::from_vec(Vec::from_slice(alloc, &WEIGHTS).ok()?),
+fn config_of(answer: &mut Answer, lots: &mut Lots, units: u32) -> Config {
+    Config {
+        weights: answer.list(&WEIGHTS),
         ftt: 0,
         levels: 1,
         min_exponent: 4,
         max_exponent: 8,
-        leaders: Leaders::Table(leaders),
+        leaders: Leaders::Table(leaders_of(answer, lots, units)),
         max_records: 100_000,
         max_parked: 10,
         end: None,
-    })
+    }
 }
 
-/// Admits so many units.
-fn grow(alloc: Global, state: &mut State, lots: &mut Lots, units: u32) -> Option<()> {
+fn leaders_of(answer: &mut Answer, lots: &mut Lots, units: u32) -> IndexList {
+    let mut leaders = IndexList::new(answer.alloc());
+    for _ in 0..units {
+        answer.push(&mut leaders, lots.below(5));
+    }
+    leaders
+}
+
+/// Admits so many units, and answers whether all were admitted.
+fn grow(answer: &mut Answer, state: &mut State, lots: &mut Lots, units: u32) -> bool {
     for number in 0..units {
-        let unit = next_unit(alloc, state, lots, number)?;
-        match settle(state, numbered(number), unit)? {
-            Outcome::Admitted(_) => {}
-            _ => return None,
+        let unit = next_unit(answer, state, lots, number);
+        match settle(state, numbered(number), unit) {
+            Some(Outcome::Admitted(_)) => {}
+            _ => return false,
         }
     }
-    Some(())
+    true
 }
 
 /// A unit of the leader of its round, which has seen one of the last ones and what that has seen. Half of them are blocks.
-fn next_unit(alloc: Global, state: &State, lots: &mut Lots, number: u32) -> Option<SignedUnit> {
+fn next_unit(answer: &mut Answer, state: &State, lots: &mut Lots, number: u32) -> SignedUnit {
     let creator = leader_of(state.config(), number);
-    let panorama = seen_by(alloc, state.dag(), lots, number)?;
+    let panorama = seen_by(answer, state.dag(), lots, number);
     let seq = next_number(state.dag(), own_observation(&panorama, creator));
-    Some(SignedUnit {
-        unit: WireUnit {
-            instance: INSTANCE,
-            creator,
-            seq,
-            time: u64::from(number) * 16,
-            exponent: 4,
-            panorama,
-            value: value_of(alloc, number, lots),
-            endorsed: DigestList::new(alloc),
-        },
-        signature: Signature([0; 32]),
-    })
+    let value = value_of(answer.alloc(), number, lots);
+    let endorsed = DigestList::new(answer.alloc());
+    plain_unit(
+        INSTANCE,
+        creator,
+        seq,
+        number as u64 * 16,
+        panorama,
+        value,
+        endorsed,
+    )
 }
 
 fn leader_of(config: &Config, number: u32) -> u32 {
@@ -141,18 +141,24 @@ fn own_observation(panorama: &ObsList, creator: u32) -> Obs {
 }
 
 /// What one of the last units has seen, and that unit.
-fn seen_by(alloc: Global, dag: &Dag, lots: &mut Lots, number: u32) -> Option<ObsList> {
+fn seen_by(answer: &mut Answer, dag: &Dag, lots: &mut Lots, number: u32) -> ObsList {
     if number == 0 || dag.count() < number {
-        return Some(ObsList::from_vec(Vec::from_slice(alloc, &[Obs::Absent; 5]).ok()?));
+        return ObsList::from_vec(answer.list(&[Obs::Absent; 5]).into_vec());
     }
     let no = UnitNo(number - 1 - lots.below(number.min(8)));
-    let unit = dag.unit(no);
+    seen_with(answer, dag.unit(no))
+}
+
+/// What the unit has seen, and itself.
+fn seen_with(answer: &mut Answer, unit: &Unit) -> ObsList {
     let creator = unit.signed().unit.creator as usize;
-    let mut seen = Vec::from_slice(alloc, unit.signed().unit.panorama.as_slice()).ok()?;
+    let mut seen = answer
+        .list(unit.signed().unit.panorama.as_slice())
+        .into_vec();
     if let Some(own) = seen.get_mut(creator) {
         *own = Obs::Correct(*unit.digest());
     }
-    Some(ObsList::from_vec(seen))
+    ObsList::from_vec(seen)
 }
 
 /// A number as a name.
@@ -178,11 +184,11 @@ fn compared(answer: &mut Answer, state: &State, lots: &mut Lots, panoramas: u32)
         last = fork;
     }
     let often = panoramas / 4 < changes;
-    let put = write!(
-        answer.text,
-        "{same} of {panoramas} are the same, changes often {often}"
+    answer.fill(
+        "# of # are the same, changes often ",
+        &[same as u64, panoramas as u64],
     );
-    answer.keep(put);
+    answer.truth(often);
 }
 
 /// The fork choice of a random panorama, and whether the plain one is the same.

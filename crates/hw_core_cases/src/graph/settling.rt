@@ -13,7 +13,7 @@ use hw_dag::{Prepared, UnitNo};
 use hw_types::{Digest, Obs, Rule, SignedUnit};
 
 /// What became of a unit.
-#[derive(Clone, Copy, Debug)]
+#[derive(Clone, Copy)]
 pub enum Outcome {
     /// It is settled, with this number.
     Admitted(UnitNo),
@@ -27,18 +27,28 @@ pub enum Outcome {
 
 /// What becomes of the unit that the words tell.
 pub fn unit(answer: &mut Answer, state: &mut State, words: &[&str]) {
-    match (words, wire_unit(answer.alloc(), state.dag(), words)) {
-        ([name, ..], Some(unit)) => put_outcome(answer, settle(state, named(name), unit)),
-        _ => answer.refuse(),
-    }
+    let [name, ..] = words else {
+        return answer.refuse();
+    };
+    let unit = wire_unit(answer, state.dag(), words);
+    put_outcome(answer, settle(state, named(name), unit));
 }
 
 /// What became of a unit.
 pub fn put_outcome(answer: &mut Answer, outcome: Option<Outcome>) {
     match outcome {
-        Some(outcome) => answer.debug(&outcome),
+        Some(Outcome::Admitted(no)) => answer.fill("Admitted(UnitNo(#))", &[no.0 as u64]),
+        Some(Outcome::Broken(rule)) => put_broken(answer, rule),
+        Some(Outcome::Repeat) => answer.put("Repeat"),
+        Some(Outcome::Waits) => answer.put("Waits"),
         None => answer.refuse(),
     }
+}
+
+fn put_broken(answer: &mut Answer, rule: Rule) {
+    answer.put("Broken(");
+    answer.debug(&rule);
+    answer.put(")");
 }
 
 /// Judges the unit where it has what it needs, and admits it where it keeps all rules.
@@ -149,7 +159,7 @@ pub fn endorse(answer: &mut Answer, state: &mut State, words: &[&str]) {
         endorsed_by(answer, state, &name, small(word));
     }
     answer.put("endorsed ");
-    answer.show(&state.endorsed(&name));
+    answer.truth(state.endorsed(&name));
 }
 
 /// Adds one endorsement. Whether it was known before is asked first.
@@ -160,8 +170,10 @@ fn endorsed_by(answer: &mut Answer, state: &mut State, name: &Digest, endorser: 
     let is_told = state.is_told(name, endorser);
     match state.endorse(name, endorser) {
         Ok(added) => {
-            let put = write!(answer.text, "{added:?} known {is_told} ");
-            answer.keep(put);
+            answer.debug(&added);
+            answer.put(" known ");
+            answer.truth(is_told);
+            answer.put(" ");
         }
         Err(_) => answer.refuse(),
     }

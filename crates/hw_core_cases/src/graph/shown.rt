@@ -27,7 +27,7 @@ fn put_fault(answer: &mut Answer, state: &State, validator: u32) {
         return;
     }
     answer.put(" ");
-    answer.number(u64::from(validator));
+    answer.number(validator as u64);
     if state.is_marked(validator) {
         answer.put("*");
     }

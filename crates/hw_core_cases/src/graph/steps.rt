@@ -36,10 +36,7 @@ fn settled(answer: &mut Answer, state: &mut State, name: Digest, plan: Plan) {
 /// The unit under the instance that all units of the lines are of.
 fn signed(mut unit: WireUnit) -> SignedUnit {
     unit.instance = INSTANCE;
-    SignedUnit {
-        unit,
-        signature: Signature([0; 32]),
-    }
+    hw_case_words::signed(unit)
 }
 
 /// What the validator may make at the moment that the words tell. None for want of memory, and where there is no such
@@ -66,18 +63,24 @@ fn word_after<'a, 'b>(words: &'a [&'b str], key: &str) -> &'b str {
 
 /// The plan in the words that a line tells a unit by.
 fn put_plan(answer: &mut Answer, plan: &Plan) {
-    let kind = plan.kind;
-    let (seq, creator) = (plan.unit.seq, plan.unit.creator);
-    let (time, exponent) = (plan.unit.time, plan.unit.exponent);
-    let put = write!(
-        answer.text,
-        "{kind:?} number {seq} by {creator} at {time} exp {exponent} cites"
-    );
-    answer.keep(put);
+    answer.debug(&plan.kind);
+    put_numbers(answer, &plan.unit);
     for observation in plan.unit.panorama.as_slice() {
         put_observation(answer, *observation);
     }
     put_rest(answer, &plan.unit);
+}
+
+fn put_numbers(answer: &mut Answer, unit: &WireUnit) {
+    answer.fill(
+        " number # by # at # exp # cites",
+        &[
+            unit.seq,
+            unit.creator as u64,
+            unit.time,
+            unit.exponent as u64,
+        ],
+    );
 }
 
 fn put_observation(answer: &mut Answer, observation: Obs) {

@@ -67,7 +67,7 @@ fn summit_in(
         quorum,
     );
     answer.put("summit ");
-    answer.show(&is_found);
+    answer.truth(is_found);
     put_starts(answer, &horizons, validators);
 }
 
@@ -110,7 +110,7 @@ fn put_starts(answer: &mut Answer, horizons: &Horizons, validators: u32) {
 fn put_start(answer: &mut Answer, level: u32, validator: u32, start: u64) {
     if level == 0 {
         answer.put(" ");
-        answer.number(u64::from(validator));
+        answer.number(validator as u64);
         answer.put(":");
     } else {
         answer.put(",");

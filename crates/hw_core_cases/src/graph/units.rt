@@ -1,9 +1,8 @@
 //! Units as lines tell them. The digest of a unit is its name.
 
-use hw_case_words::{after, is_key, named, own_observation, told_number, unit_of};
+use hw_case_words::{Answer, after, named, own_observation, told_number, unit_of, until_key};
 use hw_dag::Dag;
 use hw_types::{Digest, DigestList, Obs, ObsList, SignedUnit};
-use std::alloc::Global;
 
 /// The instance of all units.
 pub const INSTANCE: Digest = Digest([0; 32]);
@@ -18,38 +17,32 @@ pub fn observed(word: &str) -> Obs {
 }
 
 /// What these words say of each validator.
-fn observations(alloc: Global, words: &[&str]) -> Option<ObsList> {
-    let mut list = ObsList::new(alloc);
-    for word in words {
-        if is_key(word) {
-            break;
-        }
-        list.push(observed(word)).ok()?;
+fn observations(answer: &mut Answer, words: &[&str]) -> ObsList {
+    let mut list = Vec::new(answer.alloc());
+    for word in until_key(words) {
+        answer.push_to(&mut list, observed(word));
     }
-    Some(list)
+    ObsList::from_vec(list)
 }
 
 /// The digests that these words stand for.
-pub fn names(alloc: Global, words: &[&str]) -> Option<DigestList> {
-    let mut list = DigestList::new(alloc);
-    for word in words {
-        if is_key(word) {
-            break;
-        }
-        list.push(named(word)).ok()?;
+pub fn names(answer: &mut Answer, words: &[&str]) -> DigestList {
+    let mut list = DigestList::new(answer.alloc());
+    for word in until_key(words) {
+        answer.push(&mut list, named(word));
     }
-    Some(list)
+    list
 }
 
 /// The unit that the words tell. Its number is that after the unit that it cites of its creator, unless they tell one.
-pub fn wire_unit(alloc: Global, dag: &Dag, words: &[&str]) -> Option<SignedUnit> {
-    let panorama = observations(alloc, after(words, "cites"))?;
+pub fn wire_unit(answer: &mut Answer, dag: &Dag, words: &[&str]) -> SignedUnit {
+    let panorama = observations(answer, after(words, "cites"));
     let seq = match told_number(words) {
         Some(number) => number,
         None => next_number(dag, own_observation(&panorama, words)),
     };
-    let endorsed = names(alloc, after(words, "endorsed"))?;
-    unit_of(alloc, words, INSTANCE, panorama, endorsed, seq)
+    let endorsed = names(answer, after(words, "endorsed"));
+    unit_of(answer, words, INSTANCE, panorama, endorsed, seq)
 }
 
 /// The number after that of the observed unit.

@@ -2,11 +2,9 @@
 
 use crate::journal::outcome::{Outcome, delivery};
 use crate::journal::units::digest_in_format;
-use hw_case_words::{Answer, small};
+use hw_case_words::{Answer, plain_unit, small};
 use hw_core::Core;
-use hw_types::{
-    Bytes, Digest, DigestList, Obs, ObsList, Receipt, Signature, SignedUnit, Vertex, WireUnit,
-};
+use hw_types::{Bytes, Digest, DigestList, Obs, ObsList, Receipt, SignedUnit, Vertex};
 use std::alloc::Global;
 
 /// How many deliveries ended how.
@@ -35,18 +33,18 @@ pub fn chain(answer: &mut Answer, instance: Digest, core: &mut Core, words: &[&s
 
 /// What became of so many units, as a line.
 fn told(answer: &mut Answer, count: &str, sums: Sums) {
-    let Sums {
-        admitted,
-        settled,
-        parked,
-        missing,
-        other,
-    } = sums;
-    let put = write!(
-        answer.text,
-        "chain {count} admitted {admitted} settled {settled} parked {parked} missing {missing} other {other}\n"
+    answer.put("chain ");
+    answer.put(count);
+    answer.fill(
+        " admitted # settled # parked # missing # other #\n",
+        &[
+            sums.admitted as u64,
+            sums.settled as u64,
+            sums.parked as u64,
+            sums.missing as u64,
+            sums.other as u64,
+        ],
     );
-    answer.keep(put);
 }
 
 /// Delivers the units, the first one first.
@@ -99,25 +97,16 @@ fn units_of(
     let mut own = Obs::Absent;
     for number in 0..count {
         let panorama = panorama_of(answer, validators, own);
-        own = put_unit(answer, instance, number, panorama, &mut units);
+        let unit = unit_at(answer.alloc(), instance, number, panorama);
+        own = observed(answer, &unit);
+        answer.push_to(&mut units, unit);
     }
     units
 }
 
-/// Puts the unit of this number last, and answers what the next one observes of validator 0.
-fn put_unit(
-    answer: &mut Answer,
-    instance: Digest,
-    number: u32,
-    panorama: ObsList,
-    units: &mut Vec<SignedUnit>,
-) -> Obs {
-    let unit = unit_at(answer.alloc(), instance, number, panorama);
-    let name = digest_in_format(answer.alloc(), &unit.unit);
-    if units.push(unit).is_err() {
-        answer.refuse();
-    }
-    match name {
+/// What the next unit observes of validator 0.
+fn observed(answer: &mut Answer, unit: &SignedUnit) -> Obs {
+    match digest_in_format(answer.alloc(), &unit.unit) {
         Some(name) => Obs::Correct(name),
         None => {
             answer.refuse();
@@ -133,31 +122,17 @@ fn unit_at(alloc: Global, instance: Digest, number: u32, panorama: ObsList) -> S
     } else {
         None
     };
-    SignedUnit {
-        unit: WireUnit {
-            instance,
-            creator: 0,
-            seq: u64::from(number),
-            time: u64::from(number) * 16,
-            exponent: 4,
-            panorama,
-            value,
-            endorsed: DigestList::new(alloc),
-        },
-        signature: Signature([0; 32]),
-    }
+    let (seq, time) = (number as u64, number as u64 * 16);
+    let endorsed = DigestList::new(alloc);
+    plain_unit(instance, 0, seq, time, panorama, value, endorsed)
 }
 
 /// This observation of validator 0, and of the others none.
-fn panorama_of(answer: &mut Answer, validators: usize, own: Obs) -> ObsList {
-    let mut panorama = ObsList::new(answer.alloc());
-    if panorama.push(own).is_err() {
-        answer.refuse();
-    }
+pub fn panorama_of(answer: &mut Answer, validators: usize, own: Obs) -> ObsList {
+    let mut panorama = Vec::new(answer.alloc());
+    answer.push_to(&mut panorama, own);
     for _ in 1..validators {
-        if panorama.push(Obs::Absent).is_err() {
-            answer.refuse();
-        }
+        answer.push_to(&mut panorama, Obs::Absent);
     }
-    panorama
+    ObsList::from_vec(panorama)
 }

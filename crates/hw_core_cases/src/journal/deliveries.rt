@@ -36,8 +36,10 @@ pub fn endorse(answer: &mut Answer, node: &mut Node, words: &[&str]) {
 
 fn endorsed_by(answer: &mut Answer, core: &mut Core, name: &str, unit: Digest, words: &[&str]) {
     for word in words {
-        let put = write!(answer.text, "endorse {name} {word}");
-        answer.keep(put);
+        answer.put("endorse ");
+        answer.put(name);
+        answer.put(" ");
+        answer.put(word);
         endorsed(answer, core, unit, small(word));
     }
 }

@@ -33,14 +33,7 @@ fn repeated(answer: &mut Answer, line: &str) {
 
 /// Begins a node with the configuration that the words tell. Where there is none, why.
 fn began(answer: &mut Answer, nodes: &mut Vec<Node>, words: &[&str]) {
-    match config_of(answer.alloc(), words) {
-        Some(config) => began_with(answer, nodes, config),
-        None => answer.refuse(),
-    }
-}
-
-/// The same with this configuration.
-fn began_with(answer: &mut Answer, nodes: &mut Vec<Node>, config: Config) {
+    let config = config_of(answer, words);
     match instance_in_limits(answer.alloc(), &config) {
         Some(instance) => began_in(answer, nodes, config, instance),
         None => answer.refuse(),
@@ -61,14 +54,15 @@ fn began_in(answer: &mut Answer, nodes: &mut Vec<Node>, config: Config, instance
 
 /// The node is asked from now on.
 fn begins(answer: &mut Answer, nodes: &mut Vec<Node>, core: Core, instance: Digest) {
-    let node = Node {
-        core,
-        instance,
-        names: Vec::new(answer.alloc()),
-    };
-    if nodes.push(node).is_err() {
-        answer.refuse();
-    }
+    let names = Vec::new(answer.alloc());
+    answer.push_to(
+        nodes,
+        Node {
+            core,
+            instance,
+            names,
+        },
+    );
     answer.put("began\n");
 }
 

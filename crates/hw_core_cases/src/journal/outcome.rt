@@ -101,7 +101,7 @@ fn receipt_text(answer: &mut Answer, receipt: Receipt) {
 /// A word, and a number behind it.
 pub fn counted(answer: &mut Answer, word: &str, number: u32) {
     answer.put(word);
-    answer.number(u64::from(number));
+    answer.number(number as u64);
 }
 
 fn refused_text(answer: &mut Answer, cause: Cause) {
@@ -129,7 +129,7 @@ fn cause_word(cause: Cause) -> &'static str {
 
 /// A word, and the rule's number and name.
 pub fn rule_text(answer: &mut Answer, word: &str, rule: Rule) {
-    counted(answer, word, u32::from(rule as u8) + 1);
+    counted(answer, word, rule as u32 + 1);
     answer.put(" ");
     answer.put(rule_name(rule));
 }

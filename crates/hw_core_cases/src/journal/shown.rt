@@ -102,26 +102,23 @@ fn finals(answer: &mut Answer, core: &Core, names: &[Named]) {
 }
 
 fn final_line(answer: &mut Answer, names: &[Named], decision: &Decision) {
-    let (height, block) = (decision.height, word_of(names, &decision.block));
-    let (level, quorum, at) = (decision.level, decision.quorum, decision.at);
-    let put = write!(
-        answer.text,
-        "final {height} {block} level {level} quorum {quorum} at {at}\n"
+    answer.fill("final # ", &[decision.height]);
+    answer.put(word_of(names, &decision.block));
+    answer.fill(
+        " level # quorum # at #\n",
+        &[decision.level as u64, decision.quorum, decision.at],
     );
-    answer.keep(put);
 }
 
 /// How many units there are of each kind, and the faulty weight.
 fn counts(answer: &mut Answer, core: &Core) {
-    let (settled, parked, dropped) = (
-        core.settled_count(),
-        core.parked_count(),
-        core.dropped_count(),
+    answer.fill(
+        "settled # parked # dropped # faulty weight #\n",
+        &[
+            core.settled_count() as u64,
+            core.parked_count() as u64,
+            core.dropped_count() as u64,
+            core.faulty_weight(),
+        ],
     );
-    let weight = core.faulty_weight();
-    let put = write!(
-        answer.text,
-        "settled {settled} parked {parked} dropped {dropped} faulty weight {weight}\n"
-    );
-    answer.keep(put);
 }

@@ -8,16 +8,21 @@ use hw_types::Bytes;
 /// Whether the decided block of each of these places, counted from 0, has a summit now.
 pub fn summit(answer: &mut Answer, core: &mut Core, words: &[&str]) {
     for word in words {
-        let put = write!(answer.text, "summit {word} ");
-        answer.keep(put);
+        put_asked(answer, "summit ", word);
+        answer.put(" ");
         told(answer, core, number(word));
         answer.put("\n");
     }
 }
 
+fn put_asked(answer: &mut Answer, kind: &str, word: &str) {
+    answer.put(kind);
+    answer.put(word);
+}
+
 fn told(answer: &mut Answer, core: &mut Core, index: u64) {
     if index < core.decision_count() {
-        answer.show(&core.summit_now(index));
+        answer.truth(core.summit_now(index));
     } else {
         answer.put("undecided");
     }
@@ -34,8 +39,7 @@ pub fn starts(answer: &mut Answer, core: &mut Core, words: &[&str]) {
 }
 
 fn shown_starts(answer: &mut Answer, core: &Core, word: &str) {
-    let put = write!(answer.text, "starts {word}");
-    answer.keep(put);
+    put_asked(answer, "starts ", word);
     for validator in 0..core.state().config().weights.len() {
         put_start(answer, core, small(word), validator);
     }
@@ -50,8 +54,8 @@ fn put_start(answer: &mut Answer, core: &Core, level: u32, validator: usize) {
 }
 
 fn block_starts(answer: &mut Answer, core: &mut Core, word: &str, place: &str) {
-    let put = write!(answer.text, "starts {word} of {place}");
-    answer.keep(put);
+    put_asked(answer, "starts ", word);
+    put_asked(answer, " of ", place);
     let validators = core.state().config().weights.len();
     for validator in 0..validators {
         put_start_of(answer, core, number(place), small(word), validator);
@@ -86,8 +90,8 @@ fn told_start(answer: &mut Answer, start: Option<u64>) {
 /// The lines of the decided blocks of these places, which are there right after the vertex that decided them.
 pub fn explain(answer: &mut Answer, core: &mut Core, words: &[&str]) {
     for word in words {
-        let put = write!(answer.text, "explain {word} ");
-        answer.keep(put);
+        put_asked(answer, "explain ", word);
+        answer.put(" ");
         match explain_line(answer.alloc(), core, number(word)) {
             Ok(line) => put_line(answer, line),
             Err(_) => answer.refuse(),

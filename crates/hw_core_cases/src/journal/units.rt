@@ -1,18 +1,18 @@
 //! Units and evidence as lines define them.
 
 use crate::journal::names::{Named, digest_named, unit_named, with_digest};
-use hw_case_words::{Answer, after, is_key, own_observation, told_number, unit_of};
+use hw_case_words::{Answer, after, own_observation, told_number, unit_of, until_key};
 use hw_codec::{digest_of, fits};
 use hw_types::{Digest, DigestList, Evidence, Obs, ObsList, SignedUnit, Vertex, WireUnit};
 use std::alloc::Global;
 
 /// Defines the unit that the words tell.
 pub fn unit(answer: &mut Answer, instance: Digest, names: &mut Vec<Named>, words: &[&str]) {
-    let unit = told_unit(answer.alloc(), instance, names.as_slice(), words);
-    match (words, unit) {
-        ([name, ..], Some(unit)) => define_unit(answer, names, name, unit),
-        _ => answer.refuse(),
-    }
+    let [name, ..] = words else {
+        return answer.refuse();
+    };
+    let unit = told_unit(answer, instance, names.as_slice(), words);
+    define_unit(answer, names, name, unit);
 }
 
 /// Puts in the unit under this name.
@@ -44,14 +44,14 @@ fn define(
     vertex: Vertex,
 ) {
     let name = answer.copy(name);
-    let named = Named {
-        name,
-        digest,
-        vertex,
-    };
-    if names.push(named).is_err() {
-        answer.refuse();
-    }
+    answer.push_to(
+        names,
+        Named {
+            name,
+            digest,
+            vertex,
+        },
+    );
 }
 
 /// The evidence of the two units of these names.
@@ -77,53 +77,56 @@ pub fn digest_in_format(alloc: Global, unit: &WireUnit) -> Option<Digest> {
 }
 
 /// The unit that the words tell. Its number is that after the unit that it cites of its creator, unless they tell one.
-fn told_unit(
-    alloc: Global,
-    instance: Digest,
-    names: &[Named],
-    words: &[&str],
-) -> Option<SignedUnit> {
-    let panorama = observations(alloc, names, after(words, "cites"))?;
+fn told_unit(answer: &mut Answer, instance: Digest, names: &[Named], words: &[&str]) -> SignedUnit {
+    let panorama = observations(answer, names, after(words, "cites"));
     let seq = match told_number(words) {
         Some(number) => number,
         None => next_number(names, own_observation(&panorama, words)),
     };
-    let endorsed = digests(alloc, names, after(words, "endorsed"))?;
-    unit_of(alloc, words, instance, panorama, endorsed, seq)
+    let endorsed = digests(answer, names, after(words, "endorsed"));
+    unit_of(answer, words, instance, panorama, endorsed, seq)
 }
 
 /// What these words say of each validator.
-fn observations(alloc: Global, names: &[Named], words: &[&str]) -> Option<ObsList> {
-    let mut list = ObsList::new(alloc);
-    for word in words {
-        if is_key(word) {
-            break;
-        }
-        list.push(observed(names, word)?).ok()?;
+fn observations(answer: &mut Answer, names: &[Named], words: &[&str]) -> ObsList {
+    let mut list = Vec::new(answer.alloc());
+    for word in until_key(words) {
+        let observed = observed(answer, names, word);
+        answer.push_to(&mut list, observed);
     }
-    Some(list)
+    ObsList::from_vec(list)
 }
 
 /// What a word says of one validator.
-fn observed(names: &[Named], word: &str) -> Option<Obs> {
+fn observed(answer: &mut Answer, names: &[Named], word: &str) -> Obs {
     match word {
-        "-" => Some(Obs::Absent),
-        "!" => Some(Obs::Faulty),
-        name => Some(Obs::Correct(digest_named(names, name)?)),
+        "-" => Obs::Absent,
+        "!" => Obs::Faulty,
+        name => Obs::Correct(digest_of_word(answer, names, name)),
+    }
+}
+
+/// The digest of the unit of this name.
+fn digest_of_word(answer: &mut Answer, names: &[Named], name: &str) -> Digest {
+    match digest_named(names, name) {
+        Some(digest) => digest,
+        None => {
+            answer.refuse();
+            Digest([0; 32])
+        }
     }
 }
 
 /// The digests of the units of these names, in rising order.
-fn digests(alloc: Global, names: &[Named], words: &[&str]) -> Option<DigestList> {
-    let mut list = Vec::new(alloc);
-    for word in words {
-        if is_key(word) {
-            break;
-        }
-        list.push(digest_named(names, word)?).ok()?;
+fn digests(answer: &mut Answer, names: &[Named], words: &[&str]) -> DigestList {
+    let mut list = Vec::new(answer.alloc());
+    for word in until_key(words) {
+        let digest = digest_of_word(answer, names, word);
+        answer.push_to(&mut list, digest);
     }
-    list.sort().ok()?;
-    Some(DigestList::from_vec(list))
+    let sorted = list.sort();
+    answer.keep(sorted);
+    DigestList::from_vec(list)
 }
 
 /// The number after that of the observed unit.

@@ -5,37 +5,29 @@ ghost use Rattle.hw_types.specs.Limits.{config_fault};
 
 use hw_case_words::{Answer, byte, number, small};
 use hw_rounds::LeaderTable;
-use hw_types::{Config, IndexList, Items, Leaders, OutOfMemory, WeightList};
+use hw_types::{Config, IndexList, Items, Leaders, WeightList};
 
 /// The numbers of words `COUNTxNUMBER` joined by `+`.
 fn numbers_of(answer: &mut Answer, word: &str) -> WeightList {
     let mut numbers = Items::new(answer.alloc());
     for part in word.split('+') {
         if let Some((count, of)) = part.split_once('x') {
-            if put_times(&mut numbers, small(count), number(of)).is_err() {
-                answer.refuse();
-            }
+            put_times(answer, &mut numbers, small(count), number(of));
         }
     }
     numbers
 }
 
-fn put_times(numbers: &mut WeightList, count: u32, of: u64) -> Result<(), OutOfMemory> {
+fn put_times(answer: &mut Answer, numbers: &mut WeightList, count: u32, of: u64) {
     for _ in 0..count {
-        numbers.push(of)?;
+        answer.push(numbers, of);
     }
-    Ok(())
 }
 
 fn entries_of(answer: &mut Answer, numbers: &WeightList) -> IndexList {
     let mut entries = Items::new(answer.alloc());
     for of in numbers.as_slice() {
-        if entries
-            .push(u32::try_from(*of).unwrap_or(u32::MAX))
-            .is_err()
-        {
-            answer.refuse();
-        }
+        answer.push(&mut entries, u32::try_from(*of).unwrap_or(u32::MAX));
     }
     entries
 }
@@ -104,7 +96,7 @@ fn led_in(answer: &mut Answer, config: &Config, count: u64)
 
 fn leaders_text(answer: &mut Answer, table: &LeaderTable, count: u64) {
     for place in 0..count.min(1_000) {
-        answer.number(u64::from(table.leader(16 * place)));
+        answer.number(table.leader(16 * place) as u64);
         answer.put(" ");
     }
 }

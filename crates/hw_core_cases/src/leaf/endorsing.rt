@@ -40,7 +40,7 @@ fn step(answer: &mut Answer, told: &mut Endorsements, validators: u32, word: &st
     ensures { told.new.weights ≡ told.old.weights }
 {
     match word.split_once(':') {
-        Some(("q", unit)) => answer.show(&told.endorsed(&unit_of(unit))),
+        Some(("q", unit)) => answer.truth(told.endorsed(&unit_of(unit))),
         Some((kind, pair)) => pair_step(answer, told, validators, kind, pair),
         None => answer.put("no step"),
     }
@@ -58,7 +58,7 @@ fn pair_step(answer: &mut Answer, told: &mut Endorsements, validators: u32, kind
     if kind == "a" {
         answer.put(added(told, validators, &unit, endorser));
     } else {
-        answer.show(&has(told, validators, &unit, endorser));
+        answer.truth(has(told, validators, &unit, endorser));
     }
 }
 
@@ -73,13 +73,8 @@ fn walk(answer: &mut Answer, told: &mut Endorsements, validators: u32, steps: &[
 
 /// An instance of so many validators of weight 1.
 fn equals(answer: &mut Answer, validators: u32) -> Config {
-    match format!(in answer.alloc(); "{validators}x1") {
-        Ok(weights) => config_of(answer, weights.as_str(), "1x0"),
-        Err(_) => {
-            answer.refuse();
-            config_of(answer, "", "")
-        }
-    }
+    let weights = answer.filled("#x1", validators as u64);
+    config_of(answer, weights.as_str(), "1x0")
 }
 
 pub fn endorsed(answer: &mut Answer, validators: u32, steps: &[&str]) {
@@ -132,7 +127,7 @@ fn endorsers_in(answer: &mut Answer, config: &Config)
     match (Endorsements::new(answer.alloc(), config), validators) {
         (Ok(mut told), Ok(validators)) => {
             let before = count(&mut told, validators, &Digest([7; 32]));
-            answer.number(u64::from(before));
+            answer.number(before as u64);
         }
         _ => answer.refuse(),
     }

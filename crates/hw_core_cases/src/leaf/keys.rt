@@ -3,7 +3,7 @@
 ghost use Rattle.std.specs.Prelude.{◌≡◌, ◌<◌, length};
 ghost use Rattle.hw_types.specs.Spelling.{VertexFits};
 
-use hw_case_words::{Answer, small, with_line_feeds};
+use hw_case_words::{Answer, lines_of, small};
 use hw_codec::decode_vertex;
 use hw_keys::{Keys, KeysFault};
 use hw_types::{Digest, Signature, Vertex};
@@ -13,10 +13,8 @@ pub fn keyed(answer: &mut Answer, kind: &str, words: &[&str]) {
     let [validators, text, words @ ..] = words else {
         return answer.refuse();
     };
-    match with_line_feeds(answer.alloc(), text) {
-        Some(text) => read(answer, kind, text.as_slice(), small(validators), words),
-        None => answer.refuse(),
-    }
+    let text = lines_of(answer, text, b'/');
+    read(answer, kind, text.as_slice(), small(validators), words);
 }
 
 /// What the keys of this text answer.
@@ -97,7 +95,7 @@ fn told_verdict(answer: &mut Answer, keys: &Keys, vertex: &Vertex)
     requires { VertexFits vertex.now }
 {
     match keys.verdict(vertex) {
-        Ok(verdict) => answer.show(&verdict),
+        Ok(verdict) => answer.truth(verdict),
         Err(_) => answer.refuse(),
     }
 }

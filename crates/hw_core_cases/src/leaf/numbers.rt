@@ -1,11 +1,9 @@
 //! Quorums, rounds, jumps and pairs.
 
-use hw_case_words::{Answer, byte, number, small};
+use hw_case_words::{Answer, byte, number, plain_unit, small};
 use hw_dag::{jump, pointer_count};
 use hw_rounds::{changes_lawfully, check_pair, round_id, witness_time};
-use hw_types::{
-    Digest, DigestList, Evidence, MAX_TOTAL, ObsList, Signature, SignedUnit, WireUnit, quorum,
-};
+use hw_types::{Digest, DigestList, Evidence, MAX_TOTAL, ObsList, SignedUnit, quorum};
 
 const NOT_ALLOWED: &str = "not allowed";
 
@@ -38,8 +36,7 @@ pub fn change_text(answer: &mut Answer, before: u64, words: &[&str]) {
     if first > 40 || then > 40 {
         return answer.put(NOT_ALLOWED);
     }
-    let is_lawful = changes_lawfully(before, first as u8, number(time), then as u8);
-    answer.show(&is_lawful);
+    answer.truth(changes_lawfully(before, first as u8, number(time), then as u8));
 }
 
 pub fn way_text(answer: &mut Answer, from: u64, to: u64) {
@@ -52,7 +49,7 @@ pub fn way_text(answer: &mut Answer, from: u64, to: u64) {
 }
 
 pub fn pointers_text(answer: &mut Answer, of: u64) {
-    answer.number(u64::from(pointer_count(of)));
+    answer.number(pointer_count(of) as u64);
 }
 
 /// The unit of `instance,creator,number,time`.
@@ -67,19 +64,16 @@ fn unit_of(answer: &mut Answer, word: &str) -> SignedUnit {
         ),
         _ => (0, 0, 0, 0),
     };
-    SignedUnit {
-        unit: WireUnit {
-            instance: Digest([instance; 32]),
-            creator,
-            seq,
-            time,
-            exponent: 4,
-            panorama: ObsList::new(answer.alloc()),
-            value: None,
-            endorsed: DigestList::new(answer.alloc()),
-        },
-        signature: Signature([0; 32]),
-    }
+    let alloc = answer.alloc();
+    plain_unit(
+        Digest([instance; 32]),
+        creator,
+        seq,
+        time,
+        ObsList::new(alloc),
+        None,
+        DigestList::new(alloc),
+    )
 }
 
 pub fn pair_text(answer: &mut Answer, validators: u32, left: &str, right: &str) {

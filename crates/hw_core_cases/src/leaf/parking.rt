@@ -17,9 +17,7 @@ fn need_of(word: &str) -> Need {
 fn needs_of(answer: &mut Answer, words: &str) -> Vec<Need> {
     let mut needs = Vec::new(answer.alloc());
     for word in words.split(',') {
-        if needs.push(need_of(word)).is_err() {
-            answer.refuse();
-        }
+        answer.push_to(&mut needs, need_of(word));
     }
     needs
 }
@@ -47,7 +45,7 @@ fn step(answer: &mut Answer, park: &mut Park<u32>, word: &str) {
         }
         Some((_, item)) => park_item(answer, park, item),
         None if word == "n" => next_text(answer, park),
-        None => answer.show(&park.count()),
+        None => answer.number(park.count() as u64),
     }
 }
 
@@ -64,7 +62,7 @@ fn park_item(answer: &mut Answer, park: &mut Park<u32>, word: &str) {
 
 fn next_text(answer: &mut Answer, park: &mut Park<u32>) {
     match park.next_ready() {
-        Some(item) => answer.number(u64::from(item)),
+        Some(item) => answer.number(item as u64),
         None => answer.put("none"),
     }
 }
@@ -141,9 +139,9 @@ fn parks_text(answer: &mut Answer, park: &mut Park<u32>, count: u32) {
     let first = in_order(park, count, 2, 6);
     let late = park.next_ready();
     let left = park.count();
-    let put = write!(
-        answer.text,
-        "parked {parked} then {early:?} in order {first} then {late:?} left {left}"
-    );
-    answer.keep(put);
+    answer.fill("parked # then ", &[parked as u64]);
+    answer.debug(&early);
+    answer.fill(" in order # then ", &[first as u64]);
+    answer.debug(&late);
+    answer.fill(" left #", &[left as u64]);
 }

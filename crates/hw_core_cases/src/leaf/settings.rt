@@ -29,7 +29,7 @@ fn fault_text(answer: &mut Answer, fault: SettingsFault) {
         SettingsFault::Form => answer.put("config form"),
         SettingsFault::Fault(ConfigFault::ZeroWeight(validator)) => {
             answer.put("config zero weight ");
-            answer.number(u64::from(validator));
+            answer.number(validator as u64);
         }
         SettingsFault::Fault(fault) => {
             answer.put("config ");
@@ -52,13 +52,15 @@ fn config_text(answer: &mut Answer, config: &Config) {
 }
 
 fn rounds_text(answer: &mut Answer, config: &Config) {
-    let (ftt, levels) = (config.ftt, config.levels);
-    let (least, greatest) = (config.min_exponent, config.max_exponent);
-    let put = write!(
-        answer.text,
-        " threshold {ftt} levels {levels} exponents {least} {greatest} "
+    answer.fill(
+        " threshold # levels # exponents # # ",
+        &[
+            config.ftt,
+            config.levels as u64,
+            config.min_exponent as u64,
+            config.max_exponent as u64,
+        ],
     );
-    answer.keep(put);
 }
 
 fn leaders_text(answer: &mut Answer, leaders: &Leaders) {
@@ -75,15 +77,16 @@ fn table_text(answer: &mut Answer, entries: &[u32]) {
     answer.put("leaders");
     for entry in entries {
         answer.put(" ");
-        answer.number(u64::from(*entry));
+        answer.number(*entry as u64);
     }
 }
 
 /// What is kept, and the last block's height.
 fn room_text(answer: &mut Answer, config: &Config) {
-    let (records, parked) = (config.max_records, config.max_parked);
-    let put = write!(answer.text, " records {records} parked {parked}");
-    answer.keep(put);
+    answer.fill(
+        " records # parked #",
+        &[config.max_records as u64, config.max_parked as u64],
+    );
     if let Some(end) = config.end {
         answer.put(" end ");
         answer.number(end);

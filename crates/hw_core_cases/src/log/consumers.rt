@@ -7,17 +7,23 @@ use hw_io::{Consumer, ListConsumer, TakenBlock};
 /// What a consumer answers to the steps, and what it took.
 pub fn consumer_text(answer: &mut Answer, calls: &str, steps: &str) {
     let mut consumer = ListConsumer::new(answer.alloc());
+    plan(answer, &mut consumer, calls);
+    walk(answer, &mut consumer, steps);
+    put_blocks(answer, consumer.blocks());
+    answer.fill(
+        "finishes # faults #",
+        &[consumer.finishes(), consumer.faults()],
+    );
+}
+
+/// Plans the calls that fail.
+fn plan(answer: &mut Answer, consumer: &mut ListConsumer, calls: &str) {
     for call in calls.split(',') {
         if let Ok(call) = call.parse() {
             let planned = consumer.fail_at(call);
             answer.keep(planned);
         }
     }
-    walk(answer, &mut consumer, steps);
-    put_blocks(answer, consumer.blocks());
-    let (finishes, faults) = (consumer.finishes(), consumer.faults());
-    let put = write!(answer.text, "finishes {finishes} faults {faults}");
-    answer.keep(put);
 }
 
 /// Takes the steps, and puts down what is answered to each.

@@ -22,17 +22,11 @@ pub fn asked(outcome: Result<bool, IoFault>) -> Count {
 /// The answer in a word: a number, `failed` or `memory`.
 pub fn put_count(answer: &mut Answer, count: Count) {
     match count {
-        Ok(count) => answer.show(&count),
+        Ok(count) => answer.number(count as u64),
         Err(IoFault::Failed) => answer.put("failed"),
         Err(IoFault::OutOfMemory) => answer.put("memory"),
     }
     answer.put(" ");
-}
-
-pub fn put_counts(answer: &mut Answer, counts: &[Count]) {
-    for count in counts {
-        put_count(answer, *count);
-    }
 }
 
 /// The bytes of a file, or that there is none.

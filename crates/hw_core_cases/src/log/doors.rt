@@ -7,35 +7,50 @@ use hw_io::{Door, DoorNumbers, MemDoor, MemSession, SureDoor};
 /// What a door answers to the steps, and what it tells then.
 pub fn door_text(answer: &mut Answer, piece: &str, calls: &str, peers: &str, steps: &str) {
     let mut door = MemDoor::in_pieces(answer.alloc(), number(piece) as usize);
+    plan(answer, &mut door, calls);
+    expect(answer, &mut door, peers);
+    walk(answer, &mut door, steps);
+    put_sessions(answer, door.sessions());
+    put_numbers(answer, door.numbers());
+}
+
+/// Plans the calls that fail.
+fn plan(answer: &mut Answer, door: &mut MemDoor, calls: &str) {
     for call in calls.split(',') {
         if let Ok(call) = call.parse() {
             let planned = door.fail_at(call);
             answer.keep(planned);
         }
     }
+}
+
+/// Tells of the peers.
+fn expect(answer: &mut Answer, door: &mut MemDoor, peers: &str) {
     for peer in peers.split(',') {
         if peer != "-" {
             let expected = door.expect(peer.as_bytes());
             answer.keep(expected);
         }
     }
-    walk(answer, &mut door, steps);
-    put_sessions(answer, door.sessions());
-    put_numbers(answer, door.numbers());
 }
 
 /// The same of a sure door.
 pub fn sure_text(answer: &mut Answer, peers: &str, steps: &str) {
     let mut door = SureDoor::new(answer.alloc());
+    expect_surely(answer, &mut door, peers);
+    walk(answer, &mut door, steps);
+    put_sessions(answer, door.sessions());
+    put_numbers(answer, door.numbers());
+}
+
+/// Tells of the peers.
+fn expect_surely(answer: &mut Answer, door: &mut SureDoor, peers: &str) {
     for peer in peers.split(',') {
         if peer != "-" {
             let expected = door.expect(peer.as_bytes());
             answer.keep(expected);
         }
     }
-    walk(answer, &mut door, steps);
-    put_sessions(answer, door.sessions());
-    put_numbers(answer, door.numbers());
 }
 
 /// Takes the steps, and puts down what is answered to each.
@@ -76,15 +91,8 @@ fn put_sessions(answer: &mut Answer, sessions: &[MemSession]) {
 }
 
 fn put_numbers(answer: &mut Answer, numbers: DoorNumbers) {
-    let DoorNumbers {
-        accepts,
-        dials,
-        ends,
-        faults,
-    } = numbers;
-    let put = write!(
-        answer.text,
-        "accepts {accepts} dials {dials} ends {ends} faults {faults}"
+    answer.fill(
+        "accepts # dials # ends # faults #",
+        &[numbers.accepts, numbers.dials, numbers.ends, numbers.faults],
     );
-    answer.keep(put);
 }

@@ -1,33 +1,34 @@
 //! Files in memory, and a buffer over them.
 
-use crate::log::counts::{Count, asked, done, put_counts, put_file};
+ghost use Rattle.std.specs.Prelude.{◌≤◌};
+
+use crate::log::counts::{Count, asked, done, put_count, put_file};
 use hw_case_words::Answer;
 use hw_io::{Files, MemFiles, ReadBuffer, SureFiles};
 
 /// Reads a file before it is there, makes it by two appends, and reads it to its end.
-fn exchange<F: Files>(files: &mut F, buf: &mut [u8]) -> [Count; 9] {
-    [
-        files.read(buf),
-        asked(files.exists("log")),
-        done(files.begin("log")),
-        done(files.append("log", b"abc")),
-        done(files.append("log", b"de")),
-        asked(files.exists("log")),
-        done(files.begin("log")),
-        files.read(buf),
-        files.read(buf),
-    ]
-}
+const EXCHANGE: [&str; 9] = [
+    "read", "exists", "begin", "abc", "de", "exists", "begin", "read", "read",
+];
 
 /// One call of each kind, of files with a log of three bytes.
-fn calls<F: Files>(files: &mut F) -> [Count; 4] {
-    let mut buf = [0; 4];
-    [
-        asked(files.exists("log")),
-        done(files.begin("log")),
-        files.read(&mut buf),
-        done(files.append("log", b"def")),
-    ]
+const CALLS: [&str; 4] = ["exists", "begin", "read", "def"];
+
+/// Makes the calls of these steps, and puts down what is answered to each.
+fn walk<F: Files>(answer: &mut Answer, files: &mut F, buf: &mut [u8], steps: &[&str]) {
+    for step in steps {
+        put_count(answer, take_step(files, buf, step));
+    }
+}
+
+/// What the call of this step is answered. A step of no kind is appended.
+fn take_step<F: Files>(files: &mut F, buf: &mut [u8], step: &str) -> Count {
+    match step {
+        "read" => files.read(buf),
+        "exists" => asked(files.exists("log")),
+        "begin" => done(files.begin("log")),
+        bytes => done(files.append("log", bytes.as_bytes())),
+    }
 }
 
 /// An exchange with files of this kind, or, for a number, four calls of which the one of that number fails.
@@ -42,8 +43,7 @@ pub fn files_text(answer: &mut Answer, kind: &str) {
 /// Puts down the answers of an exchange, and what was read in it.
 fn put_exchange<F: Files>(answer: &mut Answer, files: &mut F) {
     let mut buf = [0; 8];
-    let counts = exchange(files, &mut buf);
-    put_counts(answer, counts.as_slice());
+    walk(answer, files, &mut buf, &EXCHANGE);
     answer.put("read ");
     answer.hex(buf.as_slice());
     answer.put(" held ");
@@ -53,17 +53,17 @@ fn memory_text(answer: &mut Answer) {
     let mut files = MemFiles::new(answer.alloc());
     put_exchange(answer, &mut files);
     put_file(answer, files.file("log"));
-    let (calls, reads, appends) = (files.calls(), files.read_faults(), files.append_faults());
-    let put = write!(answer.text, " calls {calls} faults {reads} {appends}");
-    answer.keep(put);
+    answer.fill(
+        " calls # faults # #",
+        &[files.calls(), files.read_faults(), files.append_faults()],
+    );
 }
 
 fn sure_text(answer: &mut Answer) {
     let mut files = SureFiles::new(answer.alloc());
     put_exchange(answer, &mut files);
     put_file(answer, files.file("log"));
-    answer.put(" faults ");
-    answer.show(&files.read_faults());
+    answer.fill(" faults #", &[files.read_faults()]);
 }
 
 fn planned_text(answer: &mut Answer, call: u64) {
@@ -72,30 +72,27 @@ fn planned_text(answer: &mut Answer, call: u64) {
     answer.keep(put);
     let planned = files.fail_at(call, 2);
     answer.keep(planned);
-    let counts = calls(&mut files);
-    put_counts(answer, counts.as_slice());
+    walk(answer, &mut files, &mut [0; 4], &CALLS);
     answer.put("held ");
     put_file(answer, files.file("log"));
 }
 
-/// Asks for four bytes and then for all, each until it succeeds, and takes three of the first.
-fn ask(files: &mut MemFiles, buffer: &mut ReadBuffer) -> [Count; 4] {
-    let first = buffer.available(files, 4);
-    let again = buffer.available(files, 4);
-    match again {
-        Ok(count) => {
-            if count >= 4 {
-                buffer.consume(3);
-            }
+/// Asks for so many bytes.
+fn ask(answer: &mut Answer, files: &mut MemFiles, buffer: &mut ReadBuffer, count: usize)
+    requires { count ≤ 100000 }
+{
+    put_count(answer, buffer.available(files, count));
+}
+
+/// Asks for four bytes, and takes three of them.
+fn take_three(answer: &mut Answer, files: &mut MemFiles, buffer: &mut ReadBuffer) {
+    let count = buffer.available(files, 4);
+    if let Ok(count) = count {
+        if count >= 4 {
+            buffer.consume(3);
         }
-        Err(_) => {}
     }
-    [
-        first,
-        again,
-        buffer.available(files, 100_000),
-        buffer.available(files, 100_000),
-    ]
+    put_count(answer, count);
 }
 
 /// A buffer over files in such pieces, whose second read fails.
@@ -111,11 +108,14 @@ pub fn buffered(answer: &mut Answer, piece: usize) {
 /// What a buffer over these files answers, and what is left in it.
 fn buffer_text(answer: &mut Answer, files: &mut MemFiles) {
     answer.put("begun ");
-    answer.show(&files.begin("log").is_ok());
+    answer.truth(files.begin("log").is_ok());
     answer.put(" ");
     let mut buffer = ReadBuffer::new(answer.alloc());
-    let counts = ask(files, &mut buffer);
-    put_counts(answer, counts.as_slice());
+    // Each is asked for until it succeeds.
+    ask(answer, files, &mut buffer, 4);
+    take_three(answer, files, &mut buffer);
+    ask(answer, files, &mut buffer, 100_000);
+    ask(answer, files, &mut buffer, 100_000);
     answer.put("left ");
     answer.hex(buffer.as_slice());
 }

@@ -131,9 +131,18 @@ pub fn counted(answer: &mut Answer, piece: &str, call: &str, patches: &str, part
 /// How many entries the log has, and the faults counted.
 fn count_text(answer: &mut Answer, files: &mut MemFiles) {
     let count = count(answer.alloc(), files, "LOG");
-    let (reads, appends) = (files.read_faults(), files.append_faults());
-    let put = write!(answer.text, "{count:?} faults {reads} {appends}");
-    answer.keep(put);
+    put_count(answer, count);
+    put_faults(answer, files);
+}
+
+/// How many entries there are, or the error.
+fn put_count(answer: &mut Answer, count: Result<usize, LogError>) {
+    answer.debug(&count);
+}
+
+/// The faults counted.
+fn put_faults(answer: &mut Answer, files: &MemFiles) {
+    answer.fill(" faults # #", &[files.read_faults(), files.append_faults()]);
 }
 
 /// Copies the log entry by entry into a log of this version, and puts down the places of the entries.
@@ -209,9 +218,7 @@ pub fn copied(answer: &mut Answer, piece: &str, call: &str, left: &str, parts: &
     copy_places(answer, &mut files, 1);
     answer.put(" copied ");
     copy_text(answer, &files, log.as_slice());
-    let (reads, appends) = (files.read_faults(), files.append_faults());
-    let put = write!(answer.text, " faults {reads} {appends}");
-    answer.keep(put);
+    put_faults(answer, &files);
 }
 
 /// How much of the log was copied.
@@ -219,9 +226,8 @@ fn copy_text(answer: &mut Answer, files: &MemFiles, log: &[u8]) {
     match files.file("COPY") {
         None => answer.put("no copy"),
         Some(copy) => {
-            let (length, whole, begins) = (copy.len(), log.len(), log.starts_with(copy));
-            let put = write!(answer.text, "{length} of {whole} {begins}");
-            answer.keep(put);
+            answer.fill("# of # ", &[copy.len() as u64, log.len() as u64]);
+            answer.truth(log.starts_with(copy));
         }
     }
 }
@@ -244,8 +250,9 @@ pub fn cuts(answer: &mut Answer, parts: &str) {
     for length in 0..=log.len() {
         let count = count_of(answer, 100, None, &log.as_slice()[..length]);
         if count != last {
-            let put = write!(answer.text, "{length} {count:?} ");
-            answer.keep(put);
+            answer.fill("# ", &[length as u64]);
+            put_count(answer, count);
+            answer.put(" ");
             last = count;
         }
     }
@@ -258,8 +265,7 @@ pub fn faults(answer: &mut Answer, parts: &str) {
     let _ = count(answer.alloc(), &mut files, "LOG");
     let calls = files.calls();
     let faults = read_faults(answer, calls, log.as_slice());
-    let put = write!(answer.text, "calls {calls} read faults {faults}");
-    answer.keep(put);
+    answer.fill("calls # read faults #", &[calls, faults]);
 }
 
 /// How many of the calls of a reading, each failing alone, end it as a read fault.
@@ -278,7 +284,7 @@ pub fn missing(answer: &mut Answer, parts: &str) {
     let log = log_of(answer, parts);
     let mut files = files_of(answer, 100, None, 0, log.as_slice());
     let count = count(answer.alloc(), &mut files, "other");
-    answer.debug(&count);
+    put_count(answer, count);
 }
 
 /// A log in both versions: each is read, and copied as itself and as the other.
@@ -305,5 +311,5 @@ fn copy_is(answer: &mut Answer, log: &[u8], version: u8, wanted: &[u8])
     let mut files = files_of(answer, 100, None, 0, log);
     copy_places(answer, &mut files, version);
     answer.put(" ");
-    answer.show(&(files.file("COPY") == Some(wanted)));
+    answer.truth(files.file("COPY") == Some(wanted));
 }

@@ -29,9 +29,10 @@ pub fn rewritten(answer: &mut Answer, command: &str, call: &str, left: &str, new
 
 /// The faults counted, and what the new file holds.
 fn files_text(answer: &mut Answer, files: &MemFiles) {
-    let (reads, appends) = (files.read_faults(), files.append_faults());
-    let put = write!(answer.text, " faults {reads} {appends} ");
-    answer.keep(put);
+    answer.fill(
+        " faults # # ",
+        &[files.read_faults(), files.append_faults()],
+    );
     match files.file("NEW") {
         Some(bytes) => answer.hex(bytes),
         None => answer.put("-"),
@@ -41,8 +42,8 @@ fn files_text(answer: &mut Answer, files: &MemFiles) {
 /// How many runs end with a failed append, and how many with neither that nor a failed read, where each call
 /// of the files fails in turn.
 pub fn failed_in_turn(answer: &mut Answer, command: &str, log: &str) {
-    let mut appends = 0u32;
-    let mut others = 0u32;
+    let mut appends = 0u64;
+    let mut others = 0u64;
     for call in 0..MOST_CALLS {
         match failed_at(answer, command, log, call) {
             None => break,
@@ -53,8 +54,7 @@ pub fn failed_in_turn(answer: &mut Answer, command: &str, log: &str) {
             Some(_) => others = others.saturating_add(1),
         }
     }
-    let put = write!(answer.text, "appends {appends} others {others}");
-    answer.keep(put);
+    answer.fill("appends # others #", &[appends, others]);
 }
 
 /// What a run answers whose call of this number fails, None where it doesn't come to that call.

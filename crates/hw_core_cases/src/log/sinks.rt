@@ -49,7 +49,13 @@ pub fn clock_text(answer: &mut Answer, moments: &str) {
     }
 }
 
+/// What stands before each moment.
+const BETWEEN: [&str; 4] = ["[", ", ", ", ", ", "];
+
 fn told_text(answer: &mut Answer, clock: &mut SetClock) {
-    let told = [clock.now(), clock.now(), clock.now(), clock.now()];
-    answer.debug(&told);
+    for between in BETWEEN.as_slice() {
+        answer.put(between);
+        answer.number(clock.now());
+    }
+    answer.put("]");
 }

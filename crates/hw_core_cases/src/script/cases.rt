@@ -1,62 +1,45 @@
 //! The lines.
 
+use hw_case_words::{Answer, lines_of};
 use hw_host::HostFiles;
 use hw_io::{Files, IoFault};
 use hw_script::{ScriptError, run_script};
-use hw_types::{Bytes, OutOfMemory};
-use std::alloc::Global;
-use std::rt;
 
-/// What the script of a line prints.
-pub fn answer(rt: &(impl rt::Files + AllocGlobal), line: &str) -> Result<String, OutOfMemory> {
-    let Some((kind, rest)) = line.split_once(' ') else {
-        return Ok(String::new(rt.alloc()));
-    };
-    let mut text = Vec::new(rt.alloc());
-    if kind == "file" {
-        read(rt, &mut text, rest)?;
+/// What the script of this word prints.
+pub fn tell(rt: HostRuntime, answer: &mut Answer, kind: &str, word: &str) {
+    let text = if kind == "file" {
+        read(rt, answer, word)
     } else {
-        put_lines(&mut text, rest)?;
-    }
-    printed(rt.alloc(), run_script(rt.alloc(), text.as_slice()))
+        lines_of(answer, word, b'|')
+    };
+    run(answer, text.as_slice());
 }
 
 /// The output, or the number of the line that is outside the grammar.
-fn printed(alloc: Global, ended: Result<Bytes, ScriptError>) -> Result<String, OutOfMemory> {
-    match ended {
-        Ok(output) => Ok(String::from_utf8_lossy(alloc, output.as_slice())?),
-        Err(ScriptError::Line(number)) => Ok(format!(in alloc; "line {number}\n")?),
-        Err(ScriptError::OutOfMemory) => Err(OutOfMemory),
+fn run(answer: &mut Answer, text: &[u8]) {
+    match run_script(answer.alloc(), text) {
+        Ok(output) => answer.utf8(output.as_slice()),
+        Err(ScriptError::Line(number)) => answer.fill("line #\n", &[number as u64]),
+        Err(ScriptError::OutOfMemory) => answer.refuse(),
     }
 }
 
 /// The bytes of a file.
-fn read(
-    rt: &(impl rt::Files + AllocGlobal),
-    text: &mut Vec<u8>,
-    name: &str,
-) -> Result<(), OutOfMemory> {
-    let mut files = HostFiles::new(rt);
-    if files.begin(name).is_err() || read_all(&mut files, text).is_err() {
-        return Err(OutOfMemory);
+fn read(rt: HostRuntime, answer: &mut Answer, name: &str) -> Vec<u8> {
+    let mut bytes = Vec::new(answer.alloc());
+    let mut files = HostFiles::new(&rt);
+    if files.begin(name).is_err() || read_all(&mut files, &mut bytes).is_err() {
+        answer.refuse();
     }
-    Ok(())
+    bytes
 }
 
 /// At most a hundred pieces of the file that is begun.
-fn read_all(files: &mut impl Files, text: &mut Vec<u8>) -> Result<(), IoFault> {
+fn read_all(files: &mut impl Files, bytes: &mut Vec<u8>) -> Result<(), IoFault> {
     let mut piece = [0u8; 4_096];
     for _ in 0..100 {
         let count = files.read(&mut piece)?;
-        text.extend_from_slice(&piece[..count])?;
-    }
-    Ok(())
-}
-
-/// The bytes of the lines.
-fn put_lines(text: &mut Vec<u8>, lines: &str) -> Result<(), OutOfMemory> {
-    for byte in lines.bytes() {
-        text.push(if byte == b'|' { b'\n' } else { byte })?;
+        bytes.extend_from_slice(&piece[..count])?;
     }
     Ok(())
 }
