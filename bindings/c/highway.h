@@ -58,7 +58,7 @@ typedef struct {
   uint8_t levels, min_exponent, max_exponent, is_drawn, has_end, key[32];
 } hw_settings;
 
-/* Who signed a vertex: 0 a unit, by its creator; 1 evidence, by the creator of each unit; 2 an endorsement of a unit. */
+/* Who signed a vertex: 0 a unit, by its creator; 1 evidence, by the units' creator; 2 an endorsement of a unit. */
 typedef struct { uint32_t validator; uint8_t unit[32], signature[32]; } hw_signer;
 typedef struct { uint32_t kind; hw_signer first, second; } hw_signatures;
 

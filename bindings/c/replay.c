@@ -30,6 +30,7 @@ static uint32_t replay(const uint8_t *log, size_t size, uint64_t *delivered, uin
   if (hw_core_new(log + 9, at - 9, &answer, &core) != HW_FULL) return HW_EMPTY;
   while (at + 6 <= size) {
     uint32_t length = number_at(log + at + 2);
+    if (length > size - at - 6) break; /* The last entry is torn. */
     hw_deliver(&core, log + at + 6, length, log[at + 1] == 1, &answer);
     at += 6 + length;
     ++*delivered;
@@ -51,7 +52,8 @@ int main(int count, char **words) {
   if (count < 2) return fprintf(stderr, "replay LOG [TIMES]\n"), 2;
   size_t size;
   uint8_t *log = file_of(words[1], &size);
-  if (!log || size < 9 || memcmp(log, "HWLG\1", 5) || size < 9 + number_at(log + 5)) return fprintf(stderr, "no log of version 1\n"), 2;
+  if (!log || size < 9 || memcmp(log, "HWLG\1", 5) || size - 9 < number_at(log + 5))
+    return fprintf(stderr, "no log of version 1\n"), 2;
   uint64_t delivered = 0, final = 0;
   for (int times = count > 2 ? atoi(words[2]) : 1; times > 0; times--) {
     uint32_t status = replay(log, size, &delivered, &final);

@@ -650,7 +650,7 @@ impl Core {
         if std::ptr::eq(self, other) {
             // One handle is never given twice; and a node is in no conflict with itself.
             let common = self.summary()?.decided;
-            return Ok((Verdict::Agree { common }, String::new()));
+            return Ok((Verdict::Agree { common }, format!("agree {common}\n")));
         }
         let (audited, text) = self.handle.audit(&other.handle)?;
         Ok((Verdict::of_sys(&audited), String::from_utf8_lossy(&text).into_owned()))

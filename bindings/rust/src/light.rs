@@ -108,9 +108,9 @@ pub enum Judgement {
         /// The digest of the configuration.
         instance: Digest,
     },
-    /// The configuration breaks a limit.
+    /// The configuration breaks a limit. Which validator has no weight isn't told: the number in the error is 0.
     Config(Error),
-    /// The vertex of this number is refused.
+    /// The vertex of this number is refused. A digest in the error is all zeros.
     Refused(u32, Error),
     /// The faulty validators have this weight, which exceeds the fault tolerance.
     Exceeded(u64),
@@ -142,10 +142,10 @@ impl Certificate {
         &self.bytes
     }
 
-    /// Who signed what, vertex by vertex, up to the first error.
+    /// Who signed what, vertex by vertex, up to the first error, which is the last that is told.
     ///
     /// ```
-    /// # use highway::{Core, Error, Leaders, Settings};
+    /// # use highway::{Certificate, Core, Error, Leaders, Settings};
     /// # let leaders = Leaders::Table(vec![0]);
     /// # let settings = Settings { leaders, min_exponent: 2, ..Settings::of_weights(vec![1]) };
     /// # let mut core = Core::new(&settings.to_bytes()?)?;
@@ -157,13 +157,24 @@ impl Certificate {
     /// for signed in certificate.signatures() {
     ///     assert!(signed?.all(|_is_endorsement, one| one.validator == 0 && one.signature == [0; 32]));
     /// }
+    /// let none = Certificate::from_bytes(b"from a peer".to_vec());
+    /// assert_eq!(none.signatures().count(), 1);
     /// # Ok::<(), Error>(())
     /// ```
     pub fn signatures(&self) -> impl Iterator<Item = Result<Signatures, Error>> + '_ {
-        (0..).map_while(|place| match sys::certified(&self.bytes, place) {
-            Ok(signed) => Some(Ok(Signatures::of_sys(&signed))),
-            Err(Error::Nothing) => None,
-            Err(error) => Some(Err(error)),
+        let mut has_failed = false;
+        (0..).map_while(move |place| {
+            if has_failed {
+                return None;
+            }
+            match sys::certified(&self.bytes, place) {
+                Ok(signed) => Some(Ok(Signatures::of_sys(&signed))),
+                Err(Error::Nothing) => None,
+                Err(error) => {
+                    has_failed = true;
+                    Some(Err(error))
+                }
+            }
         })
     }
 

@@ -99,7 +99,9 @@ fn a_block_is_certified() {
     assert_eq!(certificate.check(&wrong), Ok(Judgement::Refused(0, Error::BadSignature)));
     assert_eq!(certificate.check(&verdicts[1..]), Err(Error::OutOfRange));
     let none = Certificate::from_bytes(b"HWCX".to_vec());
-    assert_eq!(none.check(&[]), Err(Error::Certificate(CertificateFault::BadMagic)));
+    let fault = Error::Certificate(CertificateFault::BadMagic);
+    assert_eq!(none.check(&[]), Err(fault));
+    assert_eq!(none.signatures().collect::<Vec<_>>(), [Err(fault)]);
 }
 
 #[test]
@@ -108,7 +110,8 @@ fn two_nodes_are_audited() {
     run(&mut left, 32);
     run(&mut right, 16);
     assert!(matches!(left[0].audit(&right[0]).unwrap().0, Verdict::Agree { common } if common > 0));
-    assert!(matches!(left[0].audit(&left[0]).unwrap().0, Verdict::Agree { .. }));
+    // A node is beside itself as it is beside another that received the same.
+    assert_eq!(left[0].audit(&left[0]), left[0].audit(&left[1]));
     let other = Core::new(&Settings::of_weights(vec![1]).to_bytes().unwrap()).unwrap();
     assert_eq!(left[0].audit(&other).unwrap_err(), Error::OtherInstance);
 }
