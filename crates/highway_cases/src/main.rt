@@ -10,13 +10,14 @@
 //! | `node FILES FAILURES MOMENTS SESSIONS WORDS` | there are a clock and peers: the status and what was written, the log then, and what the node wrote in each session, in hexadecimal digits |
 //! | `fed FILES PLANS WORDS` | there are consumers: the status, what was written, and how many consumers are left |
 //!
-//! FILES are `-` or pairs `NAME=file` with commas between: the name that the program sees, and the file of `data/`
-//! that it finds under it, or its first bytes, as `torn.hwlg@60`. A read gives at most PIECE bytes, and a write takes at most TAKE. CALL and WRITE are the
-//! numbers of the calls of the files and of the output that fail, or `-`. PATCHES are `-` or bytes put at places of
-//! each file, as `74:2,75:2`. PLANS are the plans of the consumers, with semicolons between: a plan is the calls that its
-//! consumer takes, with commas between, `HEIGHT:VALUE` and `finish`, or `-` for none; each other call fails. FAILURES are
-//! the calls that fail, counted from 0, with commas between: `files:CALL`, `out:CALL` and `door:CALL`; or `-`. MOMENTS are the moments of the clock, with
-//! commas between. SESSIONS are what the peer of each session says, as hexadecimal digits with commas between, or `-`. WORDS are the command line.
+//! FILES are `-` or pairs `NAME=file` with commas between: the name that the program sees, and the file of `data/` that
+//! it finds under it, or its first bytes, as `torn.hwlg@60`. A read gives at most PIECE bytes, and a write takes at
+//! most TAKE. CALL and WRITE are the numbers of the calls of the files and of the output that fail, or `-`. PATCHES are
+//! `-` or bytes put at places of each file, as `74:2,75:2`. PLANS are the plans of the consumers, with semicolons
+//! between: a plan is the calls that its consumer takes, with commas between, `HEIGHT:VALUE` and `finish`, or `-` for
+//! none; each other call fails. FAILURES are the calls that fail, counted from 0, with commas between: `files:CALL`,
+//! `out:CALL` and `door:CALL`; or `-`. MOMENTS are the moments of the clock, with commas between. SESSIONS are what the
+//! peer of each session says, as hexadecimal digits with commas between, or `-`. WORDS are the command line.
 //!
 //! Covered:
 //!

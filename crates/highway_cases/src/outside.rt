@@ -8,8 +8,8 @@ use hw_io::{Clock, Consumer, Door, Files, IoFault, MemFiles, MemSink, SetClock, 
 use hw_program::{Words, highway};
 use std::alloc::Global;
 
-/// Files in memory with these of the real ones, changed at places. A read gives at most so many bytes as the word says, or
-/// as many as there is room for.
+/// Files in memory with these of the real ones, changed at places. A read gives at most so many bytes as the word says,
+/// or as many as there is room for.
 pub fn files_of(
     rt: HostRuntime,
     answer: &mut Answer,
@@ -79,7 +79,8 @@ fn patch(bytes: &mut [u8], patches: &str) {
     }
 }
 
-/// Plans the call of the files that the word says is to fail, if it says one, and how many bytes it writes if it is an append.
+/// Plans the call of the files that the word says is to fail, if it says one, and how many bytes it writes if it is an
+/// append.
 pub fn fail_call(answer: &mut Answer, files: &mut MemFiles, call: &str, left: usize) {
     if let Ok(call) = call.parse() {
         plan(answer, files, call, left);

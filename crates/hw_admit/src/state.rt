@@ -38,7 +38,8 @@ const UNITS_AHEAD: u32 = 64;
 
 /// The state of one node.
 ///
-/// Its `drop` is written out: a derived one is proved again, with those of all parts, in each crate that lets a state go.
+/// Its `drop` is written out: a derived one is proved again, with those of all parts, in each crate that lets a state
+/// go.
 pub struct State {
     config: Config,
     leaders: LeaderTable,

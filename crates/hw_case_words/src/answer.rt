@@ -5,8 +5,8 @@ use hw_types::{Digest, Items, OutOfMemory};
 use std::alloc::{AllocError, Global};
 use std::fmt::{Debug, Display};
 
-/// An answer in the making. Where memory ended, or a line isn't of the language, it is refused, which shows at its end alone: so
-/// nothing that writes an answer has to ask.
+/// An answer in the making. Where memory ended, or a line isn't of the language, it is refused, which shows at its end
+/// alone: so nothing that writes an answer has to ask.
 #[derive(Drop)]
 pub struct Answer {
     alloc: Global,

@@ -1,4 +1,5 @@
-//! Configurations and units as the lines of worked cases tell them, and the answers to lines, for the programs that run such lines.
+//! Configurations and units as the lines of worked cases tell them, and the answers to lines, for the programs that run
+//! such lines.
 #![tactic(auto)]
 
 mod answer;

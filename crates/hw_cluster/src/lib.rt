@@ -7,8 +7,8 @@
 //! whatever is forged, no node equivocates; and while the validators that are no nodes weigh no more than the
 //! threshold, the nodes decide one chain.
 //!
-//! [`simulate`] lets the words of a number choose the actions. [`generate`] gives a node large valid input that a number
-//! makes.
+//! [`simulate`] lets the words of a number choose the actions. [`generate`] gives a node large valid input that a
+//! number makes.
 #![tactic(auto)]
 
 mod acts;

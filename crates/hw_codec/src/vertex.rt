@@ -26,8 +26,8 @@ pub(crate) fn read_vertex(alloc: Global, reader: &mut Reader<'_>) -> Result<Vert
     }
 }
 
-/// What stands behind the kind of an evidence. It stands apart, since a function clears the room of all that it may hold,
-/// and mostly a vertex is a unit.
+/// What stands behind the kind of an evidence. It stands apart, since a function clears the room of all that it may
+/// hold, and mostly a vertex is a unit.
 fn read_evidence(alloc: Global, reader: &mut Reader<'_>) -> Result<Vertex, CodecError>
     ensures { Gives (λ vertex. (vertex, reader.new)) result (vertex_behind 0 2 reader.old) }
 {

@@ -83,8 +83,8 @@ impl Dag {
         Prepared::new(*self.units.allocator(), self.validators, unit, digest)
     }
 
-    /// Makes room for at least `count` more units, with their names and pointers. What is in the graph stays, and the room
-    /// never shrinks.
+    /// Makes room for at least `count` more units, with their names and pointers. What is in the graph stays, and the
+    /// room never shrinks.
     pub fn reserve(&mut self, count: u32) -> Result<(), OutOfMemory>
         requires { count_of self.old + count + 1 < 2 ^ 32 }
         ensures room { OnOk result (count ≤ self.new.spare) }

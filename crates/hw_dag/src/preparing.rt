@@ -17,8 +17,8 @@ pub struct NoRoom {
     pub unit: SignedUnit,
 }
 
-/// A unit with its name, and room for what it observes in numbers. The unit stands in a box: it is large, and moved from
-/// call to call.
+/// A unit with its name, and room for what it observes in numbers. The unit stands in a box: it is large, and moved
+/// from call to call.
 #[derive(Drop)]
 pub struct Prepared {
     digest: Digest,

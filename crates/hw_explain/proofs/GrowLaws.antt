@@ -11,7 +11,7 @@ use Rattle.hw_types.specs.Votes.{height_of}
 use Rattle.hw_types.specs.Journal.{Setting, received_of}
 use Rattle.hw_types.specs.Decisions.{received_at, IsRecord}
 use Rattle.hw_types.proofs.EntryLaws.{append_cases}
-use Rattle.hw_safety.specs.Decided.{Moment, moment_of, moment, least_level, stood_at, fresh_at, decision_of, decision_at, decided_in, decisions_of}
+use Rattle.hw_safety.specs.Decided.{Moment, moment_of, moment, least_level, stood_at, fresh_at, decision_of, decision_at, newly_decided, decisions_of}
 use Rattle.hw_safety.proofs.DecidedLaws.{decisions_are}
 use Rattle.hw_safety.proofs.HeightLaws.{one_block_each}
 use Rattle.hw_core.proofs.EndLaws.{all_at}
@@ -70,8 +70,8 @@ same_fresh s journal more at m within =
 abbrev decided_by : Setting → ℕ → Moment → List Node → List Decision
 decided_by s at m fresh = flat_map (decision_at s.config m at fresh) (range_with_len 0 (length m.settled + 1))
 
-same_decided : (s : Setting) (journal more : List Vertex) (at : ℕ) → at ≤ length journal → decided_in s (journal ++ more) at ≡ decided_in s journal at
-unfolding decided_in
+same_decided : (s : Setting) (journal more : List Vertex) (at : ℕ) → at ≤ length journal → newly_decided s (journal ++ more) at ≡ newly_decided s journal at
+unfolding newly_decided
 same_decided s journal more at within =
     ap (decided_by s at (moment s (journal ++ more) at)) (same_fresh s journal more at (moment s (journal ++ more) at) within)
     ∙ ap (λ m. decided_by s at m (fresh_at s journal at m)) (same_moment s journal more at within)
@@ -79,18 +79,18 @@ same_decided s journal more at within =
 -- ---- decisions
 
 -- a vertex more decides what it decides
-pub decisions_more : (s : Setting) (journal : List Vertex) (v : Vertex) → decisions_of s (journal ++ v ∷ []) ≡ decisions_of s journal ++ decided_in s (journal ++ v ∷ []) (length (journal ++ v ∷ []))
+pub decisions_more : (s : Setting) (journal : List Vertex) (v : Vertex) → decisions_of s (journal ++ v ∷ []) ≡ decisions_of s journal ++ newly_decided s (journal ++ v ∷ []) (length (journal ++ v ∷ []))
 unfolding decisions_of
 decisions_more s journal v =
     let whole = journal ++ v ∷ [] in
     let count : length whole + 1 ≡ length journal + 1 + 1 = omega (arith, length-append journal (v ∷ [])) in
     let last : 0 + (length journal + 1) ≡ length whole = omega (arith, length-append journal (v ∷ [])) in
-    ap (λ n. flat_map (decided_in s whole) (range_with_len 0 n)) count
-    ∙ ap (flat_map (decided_in s whole)) (range_add 0 (length journal + 1) 1)
-    ∙ flat_on (decided_in s whole) (range_with_len 0 (length journal + 1)) (range_with_len (0 + (length journal + 1)) 1)
-    ∙ ap (λ xs. xs ++ flat_map (decided_in s whole) (range_with_len (0 + (length journal + 1)) 1))
-    (flat_same (decided_in s whole) (decided_in s journal) 0 (length journal + 1) (λ i below. same_decided s journal (v ∷ []) i (omega arith)))
-    ∙ ap (λ xs. decisions_of s journal ++ xs) (append-nil (decided_in s whole (0 + (length journal + 1))) ∙ ap (decided_in s whole) last)
+    ap (λ n. flat_map (newly_decided s whole) (range_with_len 0 n)) count
+    ∙ ap (flat_map (newly_decided s whole)) (range_add 0 (length journal + 1) 1)
+    ∙ flat_on (newly_decided s whole) (range_with_len 0 (length journal + 1)) (range_with_len (0 + (length journal + 1)) 1)
+    ∙ ap (λ xs. xs ++ flat_map (newly_decided s whole) (range_with_len (0 + (length journal + 1)) 1))
+    (flat_same (newly_decided s whole) (newly_decided s journal) 0 (length journal + 1) (λ i below. same_decided s journal (v ∷ []) i (omega arith)))
+    ∙ ap (λ xs. decisions_of s journal ++ xs) (append-nil (newly_decided s whole (0 + (length journal + 1))) ∙ ap (newly_decided s whole) last)
 
 -- ---- moments of decisions
 
@@ -103,8 +103,8 @@ in_flat {A} {B} f (x ∷ xs) y m = go (append_cases y (f x) (flat_map f xs) m) (
     go (inr there) later = later there
 
 -- what is decided at a moment says so
-pub at_moment : (s : Setting) (journal : List Vertex) (at : ℕ) (d : Decision) → Among d (decided_in s journal at) → d.at ≡ at
-unfolding decided_in
+pub at_moment : (s : Setting) (journal : List Vertex) (at : ℕ) (d : Decision) → Among d (newly_decided s journal at) → d.at ≡ at
+unfolding newly_decided
 at_moment s journal at d m =
     let w = in_flat (decision_at s.config (moment s journal at) at (fresh_at s journal at (moment s journal at))) (range_with_len 0 (length (moment s journal at).settled + 1)) d m in
     go w.0 (find (λ b. height_of s.config.weights (moment s journal at).settled b == w.0) (fresh_at s journal at (moment s journal at))) w.1

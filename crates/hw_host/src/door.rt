@@ -443,8 +443,8 @@ fn let_in<R: Net + Voice>(
     Ok(())
 }
 
-/// The stream of the next peer that came, which doesn't block, and from where it came. Where somebody waits already, it doesn't wait
-/// for one to come, and answers none where none came.
+/// The stream of the next peer that came, which doesn't block, and from where it came. Where somebody waits already, it
+/// doesn't wait for one to come, and answers none where none came.
 fn accepted<R: Net>(
     listener: &Option<R::Listener>,
     is_somebody_waiting: bool,

@@ -140,7 +140,8 @@ impl<S: OpenStream + Read + Write + Drop> Session<S> {
         }
     }
 
-    /// Counts bytes that went. A peer earns nothing by them: the system takes millions of them before the peer reads one.
+    /// Counts bytes that went. A peer earns nothing by them: the system takes millions of them before the peer reads
+    /// one.
     fn count_written(&mut self, count: u64) {
         self.moved = self.moved.saturating_add(count);
         self.is_answer_due = true;

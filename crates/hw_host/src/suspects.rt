@@ -1,5 +1,5 @@
 //! Addresses from which peers came that hung.
-ghost use Rattle.std.specs.Prelude.{◌≡◌, ◌+◌, ◌*◌, IfSome};
+ghost use Rattle.std.specs.Prelude.{◌≡◌, ◌+◌, ◌*◌, max, IfSome};
 ghost use Rattle.std.specs.Duration.{as_nanos};
 ghost use Rattle.std.specs.Time.{instant_nanos};
 
@@ -11,10 +11,13 @@ use std::time::{Duration, Instant};
 /// How many addresses are kept at most. Where one more comes, the one that was kept first goes.
 const KEPT: usize = 64;
 
-/// How often the time for which a peer blocked the node must pass until its address isn't suspect any more. So
-/// peers of one address that always hang take a twentieth of the node's time, and the short sessions of suspects;
-/// and an honest peer that hung once has all its time again, whoever else comes from there.
+/// How often the time for which a peer blocked the node must pass until that is paid. So peers of one address that
+/// always hang take a twentieth of the node's time, and the short sessions of suspects.
 const REST: u32 = 19;
+
+/// How much an address may owe before it is suspect, in milliseconds: what half a second of hanging costs. A peer
+/// hangs so long now and then where the machine, and not the peer, is too slow; one that means to hang has it once.
+const GRACE_MILLISECONDS: u64 = 9_500;
 
 /// The addresses from which peers came that hung.
 #[derive(Drop)]
@@ -22,11 +25,11 @@ pub(crate) struct Suspects {
     suspects: Vec<Suspect>,
 }
 
-/// An address, and until when it is suspect.
+/// An address, and when all that its peers blocked is paid.
 #[derive(Clone, Copy)]
 struct Suspect {
     address: IpAddr,
-    until: Instant,
+    paid: Instant,
 }
 
 impl Suspects {
@@ -39,12 +42,17 @@ impl Suspects {
 
     /// Whether the address is suspect now.
     pub(crate) fn has(&self, address: IpAddr, now: Instant) -> bool {
+        is_suspect(now, self.paid(address, now))
+    }
+
+    /// When the address owes nothing any more.
+    fn paid(&self, address: IpAddr, now: Instant) -> Instant {
         match place_of(self.suspects.as_slice(), address) {
             Some(place) => match self.suspects.get(place) {
-                Some(suspect) => now < suspect.until,
-                None => false,
+                Some(suspect) => suspect.paid,
+                None => now,
             },
-            None => false,
+            None => now,
         }
     }
 
@@ -60,20 +68,18 @@ impl Suspects {
     /// Keeps that a peer from this address hung, on which the node was blocked for so long until now. Where there
     /// is no memory for it, that is forgotten.
     pub(crate) fn note(&mut self, address: IpAddr, now: Instant, blocked: Duration) {
-        let Some(until) = suspect_until(now, blocked) else {
+        let Some(paid) = paid_after(now, self.paid(address, now), blocked) else {
             return
         };
         match place_of(self.suspects.as_slice(), address) {
-            Some(place) => self.prolong(place, until),
-            None => self.keep(Suspect { address, until }),
+            Some(place) => self.prolong(place, paid),
+            None => self.keep(Suspect { address, paid }),
         }
     }
 
-    fn prolong(&mut self, place: usize, until: Instant) {
+    fn prolong(&mut self, place: usize, paid: Instant) {
         if let Some(suspect) = self.suspects.get_mut(place) {
-            if suspect.until < until {
-                suspect.until = until;
-            }
+            suspect.paid = paid;
         }
     }
 
@@ -95,9 +101,16 @@ fn place_of(suspects: &[Suspect], address: IpAddr) -> Option<usize> {
     None
 }
 
-/// Until when an address is suspect on whose peer the node was blocked for so long until now.
-fn suspect_until(now: Instant, blocked: Duration) -> Option<Instant>
-    ensures { IfSome result (λ until. instant_nanos until ≡ instant_nanos now + as_nanos blocked * 19) }
+/// Whether an address is suspect that owes nothing from `paid` on.
+fn is_suspect(now: Instant, paid: Instant) -> bool {
+    paid.duration_since(now) > Duration::from_millis(GRACE_MILLISECONDS)
+}
+
+/// When an address owes nothing any more on whose peer the node was blocked for so long until now, and that would
+/// have owed nothing from `paid` on.
+fn paid_after(now: Instant, paid: Instant, blocked: Duration) -> Option<Instant>
+    ensures { IfSome result (λ after. instant_nanos after ≡ max (instant_nanos now) (instant_nanos paid) + as_nanos blocked * 19) }
 {
-    now.checked_add(blocked.checked_mul(REST)?)
+    let from = if now < paid { paid } else { now };
+    from.checked_add(blocked.checked_mul(REST)?)
 }

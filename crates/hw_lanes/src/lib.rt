@@ -1,5 +1,5 @@
-//! SHA-256 (FIPS 180-4) of many parts of a buffer, four at a time: each is in one lane of vectors of 128 bits, which every
-//! x86-64 processor has.
+//! SHA-256 (FIPS 180-4) of many parts of a buffer, four at a time: each is in one lane of vectors of 128 bits, which
+//! every x86-64 processor has.
 //!
 //! Each digest is the one that `sha2` specifies. A lane that is done with its part takes the next one, so that parts of
 //! unlike lengths may stand in any order. No memory is taken. Fewer than four parts go to `sha2`, one after the other.

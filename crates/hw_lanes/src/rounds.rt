@@ -85,8 +85,8 @@ pub(crate) fn early_rounds(w: &[u32x4; 16], v: [u32x4; 8], t: usize) -> [u32x4; 
     early_round(w, v, t + 7)
 }
 
-/// Eight late rounds, from round `t` on. Where `t` is a multiple of eight, the place of each word is one that the compiler
-/// knows.
+/// Eight late rounds, from round `t` on. Where `t` is a multiple of eight, the place of each word is one that the
+/// compiler knows.
 #[inline(always)]
 pub(crate) fn late_rounds(w: &mut [u32x4; 16], v: [u32x4; 8], t: usize) -> [u32x4; 8]
     requires from { 16 ≤ t }

@@ -39,7 +39,8 @@ pub(crate) fn ch(x: u32x4, y: u32x4, z: u32x4) -> u32x4
     z ^ (x & (y ^ z))
 }
 
-/// What two of the three bits are. From one round to the next `x ^ y` becomes `y ^ z`, so that the compiler works it out once.
+/// What two of the three bits are. From one round to the next `x ^ y` becomes `y ^ z`, so that the compiler works it
+/// out once.
 #[inline(always)]
 pub(crate) fn maj(x: u32x4, y: u32x4, z: u32x4) -> u32x4
     ensures { (j : ℕ) → j < 4

@@ -30,10 +30,12 @@ struct Ahead {
     digests: Vec<[u8; 32]>,
 }
 
-/// Bytes that were read of a log and are not yet used, in front of the file that is begun, as a [`ReadBuffer`] holds them.
+/// Bytes that were read of a log and are not yet used, in front of the file that is begun, as a [`ReadBuffer`] holds
+/// them.
 ///
-/// Where a name is asked for, those of the entries behind it are worked out with it, as far as they are held: four side by
-/// side take about half the time. They are a function of the bytes that are held, so that nothing else depends on them.
+/// Where a name is asked for, those of the entries behind it are worked out with it, as far as they are held: four side
+/// by side take about half the time. They are a function of the bytes that are held, so that nothing else depends on
+/// them.
 #[derive(Drop)]
 pub(crate) struct NamingBuffer {
     alloc: Global,
@@ -137,7 +139,8 @@ impl NamingBuffer {
         }
     }
 
-    /// The digest of this part of the bytes that are held, where it was worked out ahead. Another part is next after it.
+    /// The digest of this part of the bytes that are held, where it was worked out ahead. Another part is next after
+    /// it.
     fn known(&mut self, part: Part) -> Option<[u8; 32]>
         ensures digest { IfSome result (λ digest. digest ≡ sha256 (part_of self.old part)) }
         ensures same { self.new ≡ self.old }
@@ -194,8 +197,8 @@ fn digests_from(alloc: Global, bytes: &[u8], first: Part) -> Result<Ahead, OutOf
     Ok(Ahead { parts, digests })
 }
 
-/// This part of the bytes, behind which an entry ends with a signature, and the spellings of the units in the entries that
-/// follow, as many as are wanted at once.
+/// This part of the bytes, behind which an entry ends with a signature, and the spellings of the units in the entries
+/// that follow, as many as are wanted at once.
 fn parts_from(alloc: Global, bytes: &[u8], first: Part) -> Result<Vec<Part>, OutOfMemory>
     requires { IsWithin (length bytes.now) first }
     ensures { IfOk result (λ parts. All (IsWithin (length bytes.now)) parts.items) }

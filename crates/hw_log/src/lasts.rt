@@ -141,8 +141,8 @@ impl Lasts {
         }
     }
 
-    /// The part of these bytes that spells the unit of the vertex, where they hold the whole of it: in version 1, of a vertex
-    /// that is a unit.
+    /// The part of these bytes that spells the unit of the vertex, where they hold the whole of it: in version 1, of a
+    /// vertex that is a unit.
     pub(crate) fn unit_in(&self, vertex: &Vertex, bytes: &[u8]) -> Option<Part>
         requires { vertex_in self.now bytes.now ≡ Ok vertex.now }
         ensures { IfSome result (NamesUnit vertex.now bytes.now) }
@@ -155,8 +155,8 @@ impl Lasts {
     }
 }
 
-/// That this unit becomes its creator's last one. It stands apart, since a function clears the room of all that it may hold,
-/// and in version 1 none is kept.
+/// That this unit becomes its creator's last one. It stands apart, since a function clears the room of all that it may
+/// hold, and in version 1 none is kept.
 fn noted_of(alloc: Global, unit: &WireUnit) -> Result<Noted, OutOfMemory>
     requires { Fits unit.now }
     ensures { IfOk result (λ noted. noted ≡ Some (record { creator = unit.now.creator; last = last_of unit.now })) }

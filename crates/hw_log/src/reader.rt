@@ -52,8 +52,8 @@ struct ReadVertex {
     name: Option<Digest>,
 }
 
-/// A vertex that is spelled, and where in the bytes its unit's spelling stands, where it is a unit, its name is wanted and
-/// the bytes hold the whole unit.
+/// A vertex that is spelled, and where in the bytes its unit's spelling stands, where it is a unit, its name is wanted
+/// and the bytes hold the whole unit.
 #[derive(Drop)]
 struct SpelledVertex {
     vertex: Box<Vertex>,
@@ -442,8 +442,8 @@ fn decoded_config(alloc: Global, bytes: &[u8]) -> Result<Config, LogError>
     }
 }
 
-/// Lets a vertex go for which there was no memory. It stands apart, since a function clears the room of all that it may let
-/// go.
+/// Lets a vertex go for which there was no memory. It stands apart, since a function clears the room of all that it may
+/// let go.
 fn let_go(refused: AllocFailed<Vertex>) -> LogError
     ensures { result ≡ OutOfMemory }
 {

@@ -4,7 +4,7 @@ ghost use Rattle.std.specs.Prelude.{◌≡◌};
 ghost use Rattle.hw_names.specs.Hidden.{owns_table, shares_table, table_coded};
 ghost use Rattle.hw_names.specs.Names.{Names};
 
-use crate::loose::Loose;
+use crate::unboxed::Unboxed;
 use crate::table::Table;
 use std::alloc::Global;
 use std::marker::Model;
@@ -27,16 +27,16 @@ impl HiddenTable {
     pub(crate) fn hide(table: Box<Table>) -> HiddenTable
         ensures { result.table ≡ table.value }
     {
-        HiddenTable::of(Loose::of(table))
+        HiddenTable::of(Unboxed::of(table))
     }
 
     /// The same pointer, to bytes.
-    fn of(table: Loose<Table>) -> HiddenTable
+    fn of(table: Unboxed<Table>) -> HiddenTable
         ensures { result.table ≡ table.value }
     {
-        let Loose { at, alloc } = table;
+        let Unboxed { pointer, alloc } = table;
         HiddenTable {
-            at: at as *mut u8,
+            at: pointer as *mut u8,
             alloc,
         }
     }

@@ -21,8 +21,8 @@ pub fn a_migrated_log_reads_the_same()
     ensures { ReadsTheSame }
 {}
 
-/// With files that can be read, a request about a certificate is answered: by the top call's clause on what is complete,
-/// where nothing of the outside fails the status is this one, or that of want of memory.
+/// With files that can be read, a request about a certificate is answered: by the top call's clause on what is
+/// complete, where nothing of the outside fails the status is this one, or that of want of memory.
 pub fn certificates_are_answered()
     ensures asked { LogIsAnswered }
     ensures checked { CheckIsAnswered }

@@ -63,18 +63,22 @@ pub fn work<F: Files, S: Sink>(
     ensures write_fault { result ≡ 5 → Rose (S.faults out.old) (S.faults out.new) ⊎ Rose (F.append_faults files.old) (F.append_faults files.new) }
     ensures unwritten { IsTrue F.tells → result ≡ 5 → IsDone (run_of words.now (F.held files.old)).status ⊎ Rose (F.append_faults files.old) (F.append_faults files.new) }
 
-    // A read or an append that failed is told: with each other status its count is what it was, unless the output found no memory.
+    // A read or an append that failed is told: with each other status its count is what it was, unless the output found
+    // no memory.
     ensures reads { result ≢ 4 → (F.read_faults files.new ≡ F.read_faults files.old) ⊎ ((result ≡ 7) × Rose (S.wants out.old) (S.wants out.new)) }
     ensures appended { result ≢ 5 → (F.append_faults files.new ≡ F.append_faults files.old) ⊎ ((result ≡ 7) × Rose (S.wants out.old) (S.wants out.new)) }
 
-    // Where no count rose, the answer is the one that the words and the bytes have, or want of memory. Where it is allowed to write a log anew, that is done.
+    // Where no count rose, the answer is the one that the words and the bytes have, or want of memory. Where it is
+    // allowed to write a log anew, that is done.
     ensures complete { IsTrue F.tells → (Rose (F.read_faults files.old) (F.read_faults files.new) → ⊥) → (Rose (S.faults out.old) (S.faults out.new) → ⊥) → OnlyReads (request_of words.now) ⊎ (Rose (F.append_faults files.old) (F.append_faults files.new) → ⊥) → (result ≡ (run_of words.now (F.held files.old)).status) ⊎ (result ≡ 7) }
     ensures allowed { IsTrue F.tells → IsAllowed (request_of words.now) (F.held files.old) → (Rose (F.read_faults files.old) (F.read_faults files.new) → ⊥) → (Rose (S.faults out.old) (S.faults out.new) → ⊥) → (Rose (F.append_faults files.old) (F.append_faults files.new) → ⊥) → (result ≡ 0) ⊎ (result ≡ 7) }
 
-    // Where two logs, a log and a certificate, or the eras of two nodes report conflicting final blocks, the audit names culprits, each by two signed units, and they weigh more than the threshold.
+    // Where two logs, a log and a certificate, or the eras of two nodes report conflicting final blocks, the audit
+    // names culprits, each by two signed units, and they weigh more than the threshold.
     ensures conflict { IsTrue F.tells → result ≡ 3 → ReportsConflict words.now (F.held files.old) (run_of words.now (F.held files.old)).text ⊎ ContradictsCertificate words.now (F.held files.old) (run_of words.now (F.held files.old)).text ⊎ ReportsEraConflict words.now (F.held files.old) (run_of words.now (F.held files.old)).text }
 
-    // Where a check has one of these statuses, the certificate's vertices alone make its block stand, and by the keys each is signed.
+    // Where a check has one of these statuses, the certificate's vertices alone make its block stand, and by the keys
+    // each is signed.
     ensures certified { IsTrue F.tells → IsShown result → IfChecks (ShowsCertificate (F.held files.old)) (request_of words.now) }
 
     // What is written with each status. Behind a report the text names the consumers that were dropped.

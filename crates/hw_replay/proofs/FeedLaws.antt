@@ -7,7 +7,7 @@ use Rattle.hw_types.specs.Settled.{settled_of}
 use Rattle.hw_types.specs.Closure.{closure, closure_after}
 use Rattle.hw_types.specs.Journal.{received_of}
 use Rattle.hw_types.specs.ByName.{by_name}
-use Rattle.hw_safety.specs.Decided.{decisions_of, decided_in, fresh_at, moment_of}
+use Rattle.hw_safety.specs.Decided.{decisions_of, newly_decided, fresh_at, moment_of}
 use Rattle.hw_safety.specs.Chain.{Begins}
 use Rattle.hw_io.specs.Consumers.{Consumed}
 use Rattle.hw_replay.specs.Taken.{Taken, nothing_taken}
@@ -82,7 +82,7 @@ lasts_on before after lasts false e h = absurd (not_true e)
 
 -- it has decided nothing
 pub none_told : (config : Config) → told_chain (nothing_taken config).core ≡ []
-unfolding told_chain decisions_of decided_in fresh_at moment_of settled_of closure closure_after received_of by_name
+unfolding told_chain decisions_of newly_decided fresh_at moment_of settled_of closure closure_after received_of by_name
 none_told config = refl
 
 -- ---- a whole replay

@@ -45,7 +45,8 @@ pub fn replay_fed<F: Files>(
     ensures fed { IfOk result (λ r. AreFed (seen (λ b. consumed b) (λ b. faults b) (λ b. b.vtable)) (first_moment r.core.config consumers.old.items fanout.old) (moment r.core consumers.new.items fanout.new)) }
     ensures whole { All (λ b. HasTaken [] 0 (consumed b)) consumers.old.items → IfOk result (λ r. All (λ b. HasTaken (told_chain r.core) (length (told_chain r.core)) (consumed b)) consumers.new.items) }
     ensures stopped { IfErr result (λ e. AreFedSome (seen (λ b. consumed b) (λ b. faults b) (λ b. b.vtable)) F.tells (file_replayed (option_copied wanted.entry) (F.held files.old name.now)) consumers.old.items consumers.new.items fanout.old fanout.new) }
-    // A replay that stops passes on what the first of the log's entries decide, up to where it came, and nothing of what stands behind.
+    // A replay that stops passes on what the first of the log's entries decide, up to where it came, and nothing of
+    // what stands behind.
     ensures part { IfErr result (λ e. AreFedPart (seen (λ b. consumed b) (λ b. faults b) (λ b. b.vtable)) F.tells (file_begun (option_copied wanted.entry) (F.held files.old name.now)) consumers.old.items consumers.new.items fanout.old fanout.new) }
     ensures room { length consumers.new.items ≤ length fanout.new.places }
 

@@ -126,8 +126,8 @@ impl Replay {
         }
     }
 
-    /// Delivers an entry, and counts it where it is refused or came again. Where its verdict is right, a unit whose name is
-    /// known goes by that name, and isn't hashed again.
+    /// Delivers an entry, and counts it where it is refused or came again. Where its verdict is right, a unit whose
+    /// name is known goes by that name, and isn't hashed again.
     fn take(&mut self, named: NamedEntry) -> Result<(), StartFault>
         requires fits { VertexFits (box_value named.vertex) }
         requires name { IfSome named.name (IsNameOf (box_value named.vertex)) }
@@ -171,8 +171,8 @@ impl Replay {
         }
     }
 
-    /// Takes the unit of an entry at that byte, whose verdict is right, by its name. Its answer is small; only a refused
-    /// unit is made a vertex again.
+    /// Takes the unit of an entry at that byte, whose verdict is right, by its name. Its answer is small; only a
+    /// refused unit is made a vertex again.
     #[tactic(auto, using(crate::proofs::TakeLaws::grows_accepted, crate::proofs::TakeLaws::stop_is_of_entry, crate::proofs::EndLaws::reached_after))]
     fn take_unit(&mut self, at: u64, unit: SignedUnit, name: Digest) -> Result<(), StartFault>
         requires fits { Fits unit.unit }

@@ -12,8 +12,8 @@ use hw_types::OutOfMemory;
 pub enum RewriteFault {
     /// The file that was to be made is there already.
     Exists,
-    /// The log's first error; or `ReadFault`, where a read of either file failed, `WriteFault`, where an append to the new one
-    /// failed, or want of memory.
+    /// The log's first error; or `ReadFault`, where a read of either file failed, `WriteFault`, where an append to the
+    /// new one failed, or want of memory.
     Log(LogError),
 }
 

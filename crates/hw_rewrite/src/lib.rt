@@ -1,7 +1,7 @@
 //! A log written anew, into a file that isn't there yet: without its torn end, or in version 2.
 //!
-//! No vertex is delivered to a node: a log above its own limits, and one with units that break rules, are written whole.
-//! The log is read to its end before the first byte is written.
+//! No vertex is delivered to a node: a log above its own limits, and one with units that break rules, are written
+//! whole. The log is read to its end before the first byte is written.
 #![tactic(auto)]
 
 mod fault;

@@ -22,8 +22,8 @@ use std::alloc::Global;
 /// Writes a log of either version into a new file in version 2, with the same configuration and entries, and answers
 /// how many entries these are.
 ///
-/// The log's first error is the answer, a torn entry included. That the new file is there already is tested first. After a
-/// failed append the new file is missing, or holds a part of what was to be written, from its first byte on.
+/// The log's first error is the answer, a torn entry included. That the new file is there already is tested first.
+/// After a failed append the new file is missing, or holds a part of what was to be written, from its first byte on.
 pub fn migrate<F: Files>(
     alloc: Global,
     files: &mut F,

@@ -1,10 +1,11 @@
 //! Laws of sessions and of runs of a node.
 //!
-//! A session is a life of the node's log, from which it starts again without a second unit of one number: the first of the
-//! peer's vertices reach the node, its log stays that of its journal, and what goes out stands there. A node that is given
-//! up where an append fails or there is no memory starts again from its log, mended where that is torn.
+//! A session is a life of the node's log, from which it starts again without a second unit of one number: the first of
+//! the peer's vertices reach the node, its log stays that of its journal, and what goes out stands there. A node that
+//! is given up where an append fails or there is no memory starts again from its log, mended where that is torn.
 //!
-//! A session that nothing outside disturbs, with a peer that sends what is due, ends as both said, or for want of memory.
+//! A session that nothing outside disturbs, with a peer that sends what is due, ends as both said, or for want of
+//! memory.
 //!
 //! A run that comes to its report says itself that each consumer that is left took the whole decided chain. Of one that
 //! a fault, a clash or want of memory ends, and of a replay that stops, each took a prefix of it.

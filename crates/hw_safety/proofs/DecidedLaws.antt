@@ -12,7 +12,7 @@ use Rattle.hw_types.specs.Settled.{settled_of, panorama_of, faulty_weight}
 use Rattle.hw_types.specs.Journal.{Setting}
 use Rattle.hw_types.specs.Decisions.{received_at, StoodAt, IsRecord, ComesBefore, AreDecisions}
 use Rattle.hw_safety.specs.Pruned.{or_zero, has_summit}
-use Rattle.hw_safety.specs.Decided.{quorum_at, moment_of, moment, least_level, stood_at, decided_at, fresh_at, decision_of, decision_at, decided_in, decisions_of, OneBlockEach}
+use Rattle.hw_safety.specs.Decided.{quorum_at, moment_of, moment, least_level, stood_at, decided_at, fresh_at, decision_of, decision_at, newly_decided, decisions_of, OneBlockEach}
 use Rattle.hw_types.proofs.ClosureLaws.{Among-filter, filter-Among}
 use Rattle.hw_types.proofs.PastLaws.{some_of, any_of}
 use Rattle.hw_types.proofs.StableLaws.{find_one, found_one}
@@ -248,8 +248,8 @@ module _ (s : Setting) (journal : List Vertex) where
           let tall : height_of s.config.weights (S at) b ≡ height = eqb-true _ _ f.1 in
           (record { block = b; is_fresh = fresh_is at b f.0; same = ap (λ k. decision_of s.config (moment s journal at) at k b) tall ∙ h }, ap (λ (c : Decision). c.height) (sym h))
 
-  decided_from : (at : ℕ) (d : Decision) → Among d (decided_in s journal at) → ComesFrom at d
-  unfolding decided_in
+  decided_from : (at : ℕ) (d : Decision) → Among d (newly_decided s journal at) → ComesFrom at d
+  unfolding newly_decided
   decided_from at d m =
       let p = among_flat (decision_at s.config (moment s journal at) at (fresh at)) 0 _ d m in
       (decision_from at p.0 d p.3).0
@@ -277,7 +277,7 @@ module _ (s : Setting) (journal : List Vertex) where
 
   all_from : (d : Decision) → Among d (decisions_of s journal) → (at : ℕ) × (at ≤ length journal) × ComesFrom at d
   unfolding decisions_of
-  all_from d m = let p = among_flat (decided_in s journal) 0 (length journal + 1) d m in let high = p.2 in (p.0, omega arith, decided_from p.0 d p.3)
+  all_from d m = let p = among_flat (newly_decided s journal) 0 (length journal + 1) d m in let high = p.2 in (p.0, omega arith, decided_from p.0 d p.3)
 
   -- ---- in order
 
@@ -292,8 +292,8 @@ module _ (s : Setting) (journal : List Vertex) where
       go None = tt
       go (Some b) = (λ y m. absurd m, tt)
 
-  rising_in : (at : ℕ) → IsOrdered ComesBefore (decided_in s journal at)
-  unfolding decided_in
+  rising_in : (at : ℕ) → IsOrdered ComesBefore (newly_decided s journal at)
+  unfolding newly_decided
   rising_in at = later_flat (decision_at s.config (moment s journal at) at (fresh at)) ComesBefore (one_height at)
       (λ i j x y lt m n.
       let a = decision_from at i x m in let b = decision_from at j y n in
@@ -302,7 +302,7 @@ module _ (s : Setting) (journal : List Vertex) where
 
   in_order : IsOrdered ComesBefore (decisions_of s journal)
   unfolding decisions_of
-  in_order = later_flat (decided_in s journal) ComesBefore rising_in
+  in_order = later_flat (newly_decided s journal) ComesBefore rising_in
       (λ i j x y lt m n.
       let a = at_is i x (decided_from i x m) in let b = at_is j y (decided_from j y n) in
       inl (omega arith)) 0 (length journal + 1)
@@ -310,7 +310,7 @@ module _ (s : Setting) (journal : List Vertex) where
   -- ---- none is left out
 
   complete : OneBlockEach s journal → (block : Node) (level quorum at : ℕ) → StoodAt s journal block level quorum at → (d : Decision) × Among d (decisions_of s journal) × (d.block ≡ block.digest)
-  unfolding decisions_of decided_in moment_of
+  unfolding decisions_of newly_decided moment_of
   complete one block level quorum at t =
       let m = stood_decided block level quorum at t in
       let f = decided_first block m.0 m.1 in
@@ -338,7 +338,7 @@ module _ (s : Setting) (journal : List Vertex) where
       let short = height_bound s.config.weights (S m.0) b in
       let d : Decision = decision_of s.config (moment s journal m.0) m.0 height c in (
         d,
-        flat_among (decided_in s journal) 0 (length journal + 1) m.0 d (omega arith) (omega arith)
+        flat_among (newly_decided s journal) 0 (length journal + 1) m.0 d (omega arith) (omega arith)
             (flat_among (decision_at s.config (moment s journal m.0) m.0 (fresh m.0)) 0 (length (S m.0) + 1) height d (omega arith) (omega arith)
             (subst (λ o. Among d (elim o as (λ z. List Decision) [ None ↦ [] | Some z ↦ decision_of s.config (moment s journal m.0) m.0 height z ∷ [] ])) (sym found.1) (inl refl))),
         observes ∙ sym same,

@@ -75,14 +75,14 @@ as_list (Some x) = x ∷ []
 abbrev pub decision_at : Config → Moment → ℕ → List Node → ℕ → List Decision
 decision_at config m at fresh height = elim (find (λ b. height_of config.weights m.settled b == height) fresh) [ None ↦ [] | Some b ↦ decision_of config m at height b ∷ [] ]
 
--- by height
-unfoldable pub decided_in : Setting → List Vertex → ℕ → List Decision
-decided_in s journal at =
+-- the records of the blocks that are fresh at a moment, by height
+unfoldable pub newly_decided : Setting → List Vertex → ℕ → List Decision
+newly_decided s journal at =
     let m = moment s journal at in let fresh = fresh_at s journal at m in flat_map (decision_at s.config m at fresh) (range_with_len 0 (length m.settled + 1))
 
 -- The blocks that a journal decides, by moment and then by height.
 unfoldable pub decisions_of : Setting → List Vertex → List Decision
-decisions_of s journal = flat_map (decided_in s journal) (range_with_len 0 (length journal + 1))
+decisions_of s journal = flat_map (newly_decided s journal) (range_with_len 0 (length journal + 1))
 
 -- Two blocks of one height that stand at one moment are one: accountable safety gives it.
 abbrev pub OneBlockEach : Setting → List Vertex → Type 0

@@ -143,7 +143,7 @@ unfolding unfold_answers Rattle.hw_types.specs.Step.step Rattle.hw_types.specs.S
 unfold_steps = Unit {0}
 
 unfoldable pub unfold_decisions : Type 0
-unfolding unfold_answers Rattle.hw_safety.specs.Pruned.least_from Rattle.hw_safety.specs.Pruned.begun Rattle.hw_safety.specs.Pruned.start_in Rattle.hw_safety.specs.Pruned.choose Rattle.hw_safety.specs.Pruned.left_after Rattle.hw_safety.specs.Pruned.settle Rattle.hw_safety.specs.Pruned.seen_in Rattle.hw_safety.specs.Pruned.pruned Rattle.hw_safety.specs.Decided.decisions_of Rattle.hw_safety.specs.Decided.decided_in Rattle.hw_safety.specs.Decided.fresh_at Rattle.hw_safety.specs.Decided.decided_at Rattle.hw_safety.specs.Decided.least_level Rattle.hw_safety.specs.Decided.moment_of
+unfolding unfold_answers Rattle.hw_safety.specs.Pruned.least_from Rattle.hw_safety.specs.Pruned.begun Rattle.hw_safety.specs.Pruned.start_in Rattle.hw_safety.specs.Pruned.choose Rattle.hw_safety.specs.Pruned.left_after Rattle.hw_safety.specs.Pruned.settle Rattle.hw_safety.specs.Pruned.seen_in Rattle.hw_safety.specs.Pruned.pruned Rattle.hw_safety.specs.Decided.decisions_of Rattle.hw_safety.specs.Decided.newly_decided Rattle.hw_safety.specs.Decided.fresh_at Rattle.hw_safety.specs.Decided.decided_at Rattle.hw_safety.specs.Decided.least_level Rattle.hw_safety.specs.Decided.moment_of
 unfold_decisions = Unit {0}
 
 unfoldable pub unfold_reading : Type 0

@@ -10,7 +10,7 @@ use Rattle.hw_types.specs.Below.{Among}
 use Rattle.hw_types.specs.Settled.{Received}
 use Rattle.hw_types.specs.Journal.{is_accepted}
 use Rattle.hw_types.specs.Real.{CoreState, setting_of, received_in, answer_in, after_in}
-use Rattle.hw_safety.specs.Decided.{decisions_of, decided_in as decided_at}
+use Rattle.hw_safety.specs.Decided.{decisions_of, newly_decided as decided_at}
 use Rattle.hw_safety.proofs.DetectorLaws.{nothing_at_first}
 use Rattle.hw_core.specs.Decided.{decided_in}
 use Rattle.hw_core.proofs.DecidedLaws.{decided_is}

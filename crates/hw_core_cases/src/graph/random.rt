@@ -97,7 +97,8 @@ fn grow(answer: &mut Answer, state: &mut State, lots: &mut Lots, units: u32) -> 
     true
 }
 
-/// A unit of the leader of its round, which has seen one of the last ones and what that has seen. Half of them are blocks.
+/// A unit of the leader of its round, which has seen one of the last ones and what that has seen. Half of them are
+/// blocks.
 fn next_unit(answer: &mut Answer, state: &State, lots: &mut Lots, number: u32) -> SignedUnit {
     let creator = leader_of(state.config(), number);
     let panorama = seen_by(answer, state.dag(), lots, number);

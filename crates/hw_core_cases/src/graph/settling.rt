@@ -21,7 +21,8 @@ pub enum Outcome {
     Broken(Rule),
     /// A unit of this name is settled.
     Repeat,
-    /// It needs a unit that isn't settled, or the fault of a validator that isn't faulty, or a majority that isn't there.
+    /// It needs a unit that isn't settled, or the fault of a validator that isn't faulty, or a majority that isn't
+    /// there.
     Waits,
 }
 

@@ -36,7 +36,8 @@ pub fn session_text(
     }
 }
 
-/// What takes a peer's vertices into this node behind those that it has, and gives those of the last words a false verdict.
+/// What takes a peer's vertices into this node behind those that it has, and gives those of the last words a false
+/// verdict.
 fn taker_of(answer: &mut Answer, mut core: Core, has: &str, refused: &str) -> MemTaker {
     deliver_all(answer, &mut core, has);
     MemTaker::new(core, vertices(answer, refused))

@@ -33,7 +33,8 @@ fn replayed(
     told(alloc, consumers.len(), &fanout)
 }
 
-/// How many are left, and the lines of those that were dropped, where consumers of these plans are fed while the log is replayed.
+/// How many are left, and the lines of those that were dropped, where consumers of these plans are fed while the log is
+/// replayed.
 pub fn fed(alloc: Global, log: &str, plans: &[&str]) -> Result<String, OutOfMemory> {
     let mut consumers: Vec<Box<dyn Consumer>> = Vec::new(alloc);
     for plan in plans {

@@ -27,8 +27,8 @@ pub fn made(answer: &mut Answer, nodes: &mut Vec<Core>, certificate: &Certificat
     }
 }
 
-/// Begins a node of the certificate's configuration, where there is one, in the place of all others. What is said of it is no part
-/// of the answer.
+/// Begins a node of the certificate's configuration, where there is one, in the place of all others. What is said of it
+/// is no part of the answer.
 fn begin_taker(answer: &mut Answer, nodes: &mut Vec<Core>, certificate: &Certificate) {
     let mut unheard = Answer::new(answer.alloc());
     nodes.clear();

@@ -39,11 +39,11 @@ use Rattle.std_heap.proofs.GlobalAllocator.TheImpl.Met as allocator
 use Rattle.std_alloc.specs.contracts.boxed.Box as Box
 use Rattle.std_heap.specs.contracts.Global as Heap
 use Rattle.hw_names.proofs.Boxed.{heap, no_drop, pair_out}
-use Rattle.hw_names.specs.contracts.loose.Loose as Loose
-use Rattle.hw_names.specs.contracts.loose.Loose.of as F
-use Rattle.hw_names.specs.contracts.loose.Loose.of.Key.{name as #self}
-use Rattle.hw_names.proofs.loose.Loose.of.Statement.{statement}
-use Rattle.hw_names.proofs.loose.Loose.of.Code as code
+use Rattle.hw_names.specs.contracts.unboxed.Unboxed as Unboxed
+use Rattle.hw_names.specs.contracts.unboxed.Unboxed.of as F
+use Rattle.hw_names.specs.contracts.unboxed.Unboxed.of.Key.{name as #self}
+use Rattle.hw_names.proofs.unboxed.Unboxed.of.Statement.{statement}
+use Rattle.hw_names.proofs.unboxed.Unboxed.of.Code as code
 
 pub of_spec : {M : Type 1} → statement M
 of_spec {M} 𝓤 𝓛 𝓜 𝓡 wired X LX dx glue =
@@ -51,7 +51,7 @@ of_spec {M} 𝓤 𝓛 𝓜 𝓡 wired X LX dx glue =
     let γ = 𝓡.env in let 𝓣 = tables 𝓤 𝓛.H 𝓜 𝓡 γ in let C = 𝓣.C in let Λ = 𝓣.Λ in
     let inst = bounded (a_type ∷ []) (X, tt) (dcons dx dnil) in let fn : Fn = inst_fn inst code.function in
     let En = F.ended X dx in let c = F.clauses X dx 𝓛 𝓜.mem 𝓡.returns in
-    let BoxRow : RattleType = Box.the_row (R E) Heap.the_row g in let LooseRow : RattleType = Loose.the_row (R E) in
+    let BoxRow : RattleType = Box.the_row (R E) Heap.the_row g in let UnboxedRow : RattleType = Unboxed.the_row (R E) in
     let stays : Stays En.signature.params En.kept = (stay_dropped (plain (λ _. BoxRow)) no, tt) in
     let Opening = triple_of 𝓛 (Opened.signature X Z g d dd dx) (Opened.spec X Z g d dd dx 𝓛 𝓜.mem 𝓡.returns) in
     let heap_met = allocator.passed γ (code.calls-std_heap::GlobalAllocator::allocate γ wired) (code.calls-std_heap::GlobalAllocator::deallocate γ wired)
@@ -79,13 +79,13 @@ of_spec {M} 𝓤 𝓛 𝓜 𝓡 wired X LX dx glue =
     in_a_block ! r.0 (λ p. box_owns (token heap a) (R E) p x) (fst∗ 𝓤 (never 𝓤) (sem 𝓛 (token heap a (bare (τ E)) null_ptr))) (λ b' o' there.
     move ! (1 ∷ []) $ split ! $ move ! (1 ∷ []) $ rewrite ! 0 (λ (s : Z.Denot). ‵ ((Tuple (RawPtr ∷ P E ∷ [])).own_val (r.0, s) (u ∷ []))) same refl $
     pair_out ! E r.0 a u (λ hw split_told fits'.
-    let made_word = word E hw b' o' in let made_typed = box_typed E hw b' o' fits' in let made : LooseRow.Denot = record { at = block_ptr b' o'; alloc = a; value = x } in
+    let made_word = word E hw b' o' in let made_typed = box_typed E hw b' o' fits' in let made : UnboxedRow.Denot = record { pointer = block_ptr b' o'; alloc = a; value = x } in
     lands_as ! (split_told ∙ (λ i. vstruct (vcons (ptr_val (there i)) (vcons hw vnil)))) refl made_typed $
     sets ! (of_opd ! (get_in ! (fld ! refl (stop !)) (sub ! 0 refl (whole_of !)))) refl (tt, tt) $
     sets ! (of_opd ! (get_in ! (fld ! refl (stop !)) (sub ! 1 refl (whole_of !)))) refl fits' $
     sets ! (agg ! (and_then ! (get ! refl) (and_then ! (get ! refl) (no_more !)))) refl made_typed $ returns ! (look_at ! 0 refl) $ free_all ! refl $
     -- [the handle; the tokens; the value with the right to free its block]
-    move ! (2 ∷ []) $ fsplit ! $ move ! (0 ∷ 1 ∷ 2 ∷ []) $ box_in E ! (record { ptr = block_ptr b' o'; alloc = a; value = x }) b' o' x refl refl $ use1 𝓛 (‵ (LooseRow.own_val made (made_word ∷ []))) (id⊢ 𝓤 _) $
+    move ! (2 ∷ []) $ fsplit ! $ move ! (0 ∷ 1 ∷ 2 ∷ []) $ box_in E ! (record { ptr = block_ptr b' o'; alloc = a; value = x }) b' o' x refl refl $ use1 𝓛 (‵ (UnboxedRow.own_val made (made_word ∷ []))) (id⊢ 𝓤 _) $
     move ! (1 ∷ []) $ split3 ! $ move ! (0 ∷ 2 ∷ []) $ join ! $
     use0 𝓛 (raw (fact 𝓤 (made.value ≡ x))) (fact_i 𝓤 (made.value ≡ x) (emp 𝓤) refl) $ nothing ! $ nothing ! $ fjoin ! $
     -- [nothing of the box; the fact; the token; a token; what is left of it]
