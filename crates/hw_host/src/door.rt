@@ -37,11 +37,12 @@ const LONGEST_PAUSE: u64 = 5_000;
 ///
 /// On a peer that came, the reads and writes of a session wait 2 seconds in all. It hung where they waited longer
 /// than half a second for each of its answers, and a second for each 65,536 bytes that it sent, or took while they
-/// waited. Then its address, without the port, is suspect for 19 times as long as they waited: who comes from there is
-/// served after all others that wait and said something, and is waited for 20 milliseconds in a session, and as long
-/// again for each answer. 64 addresses are kept. An honest peer of such an address goes on where its link answers in 20
-/// milliseconds. One whose link is slower is starved while somebody else hangs there each time, but for the session
-/// that comes first when the 19 times are over. Who comes from many addresses is no suspect before each of them hung.
+/// waited. Then its address, without the port, owes 19 times as long as they waited, which it pays by the time that
+/// passes. Where it owes more than 19 seconds it is suspect: who comes from there is served after all others that wait
+/// and said something, and is waited for 20 milliseconds in a session, and as long again for each answer. 64 addresses
+/// are kept. An honest peer of such an address goes on where its link answers in 20 milliseconds. One whose link is
+/// slower is starved while somebody else hangs there each time, but for the session that comes first when enough is
+/// paid. Who comes from many addresses is no suspect before each of them hung.
 ///
 /// What is written is held and goes out in pieces of 65,536 bytes, at the next `read`, or at `hang_up`. A
 /// call that sends what is held and fails is the one that counts.

@@ -15,9 +15,9 @@ const KEPT: usize = 64;
 /// always hang take a twentieth of the node's time, and the short sessions of suspects.
 const REST: u32 = 19;
 
-/// How much an address may owe before it is suspect, in milliseconds: what half a second of hanging costs. A peer
-/// hangs so long now and then where the machine, and not the peer, is too slow; one that means to hang has it once.
-const GRACE_MILLISECONDS: u64 = 9_500;
+/// How much an address may owe before it is suspect, in milliseconds: what a second of hanging costs. A peer hangs
+/// for a moment now and then where the machine, and not the peer, is slow; who means to hang has that second once.
+const GRACE_MILLISECONDS: u64 = 19_000;
 
 /// The addresses from which peers came that hung.
 #[derive(Drop)]
