@@ -4,8 +4,8 @@ ghost use Rattle.std.specs.Prelude.{◌≡◌};
 ghost use Rattle.hw_names.specs.Hidden.{owns_table, shares_table, table_coded};
 ghost use Rattle.hw_names.specs.Names.{Names};
 
-use crate::unboxed::Unboxed;
 use crate::table::Table;
+use crate::unboxed::Unboxed;
 use std::alloc::Global;
 use std::marker::Model;
 
