@@ -1,8 +1,10 @@
 #!/usr/bin/env bash
 # What a delivery costs through the crate for Rust beside one inside the program, in instructions that valgrind counts:
 # bindings_cost.sh PROGRAM LOG. The program replays the log once; the crate delivers it once. Both read it from a file.
-# From each count that of the same with no entry is taken, which leaves the deliveries. What fails is named, with what
-# it said, and the status is 1 then, or 2 where the words or a tool aren't as they should be.
+# From each count that of the same with no entry is taken, which leaves the deliveries. Of a log of version 1 the
+# program hashes four units at a time; of the same in version 2 one at a time, as the crate does: it is asked for both.
+# What fails is named, with what it said, and the status is 1 then, or 2 where the words or a tool aren't as they should
+# be.
 set -euo pipefail
 
 stop() {
@@ -31,6 +33,12 @@ if log[:5] != b"HWLG\1":
     sys.exit("bindings_cost: a log of version 1 is wanted")
 open(sys.argv[2], "wb").write(log[: 9 + int.from_bytes(log[5:9], "big")])
 P
+for it in log none; do
+    from=$log
+    [ $it = log ] || from=$work/none.hwlg
+    (cd "$work" && "$program" migrate "$from" "$it.short.hwlg" >out 2>&1) ||
+        stop 1 "no log of version 2: $(tail -n 2 "$work/out")"
+done
 (cd bindings/rust && cargo --offline build --quiet --release --example measure) || stop 1 "the crate isn't built"
 
 # Sets `counted` to the instructions of a run.
@@ -43,16 +51,24 @@ count() {
     stop 1 "status $status, and instructions counted: '$counted', of: valgrind $*"
 }
 
-# Sets `cost` to what a run takes more over the log than over one with no entry.
+# Sets `cost` to what a run over the first log takes more than one over the second, which has no entry.
 deliveries() {
-    count "$@" "$log"
+    local full=$1 none=$2
+    shift 2
+    count "$@" "$full"
     cost=$counted
-    count "$@" "$work/none.hwlg"
+    count "$@" "$none"
     cost=$((cost - counted))
     [ $cost -gt 0 ] || stop 1 "the deliveries cost nothing, so $log has none: $*"
 }
 
-deliveries "$crate"
+deliveries "$log" "$work/none.hwlg" "$crate"
 through=$cost
-deliveries "$program" replay
-echo "through the crate $through, inside the program $cost: $(python3 -c "print('%.3f' % ($through / $cost))")"
+deliveries "$log" "$work/none.hwlg" "$program" replay
+four=$cost
+deliveries "$work/log.short.hwlg" "$work/none.short.hwlg" "$program" replay
+one=$cost
+times() { python3 -c "print('%.3f' % ($through / $1))"; }
+echo "through the crate $through"
+echo "inside the program, four hashed at a time, $four: $(times $four)"
+echo "inside the program, one hashed at a time, $one: $(times $one)"

@@ -11,10 +11,15 @@ sys.dont_write_bytecode = True
 SCRIPT = os.path.join(os.path.dirname(os.path.abspath(__file__)), "bindings_cost.sh")
 NEEDED = "bash dirname mktemp realpath rm sed tail".split()
 LOG = b"HWLG\1" + (3).to_bytes(4, "big") + b"abc" + b"an entry"
-# Over a log with entries it counts 1,000 for the crate and 900 for the program, and over none 100 and 200.
-VALGRIND = """case "$3" in *measure) full=1000 none=100 ;; *) full=900 none=200 ;; esac
-for log; do :; done
-case "$log" in *none.hwlg) count=$none ;; *) count=$full ;; esac
+# Over a log with entries it counts 1,000 for the crate, 900 for the program, and 1,200 for it in version 2; over none
+# 100, 200 and 300.
+VALGRIND = """for log; do :; done
+case "$3$log" in
+*measure*) full=1000 none=100 ;;
+*short.hwlg) full=1200 none=300 ;;
+*) full=900 none=200 ;;
+esac
+case "$log" in *none.*) count=$none ;; *) count=$full ;; esac
 echo a report
 echo "==1== Collected : $count" >&2
 """
@@ -54,7 +59,13 @@ class Costs(unittest.TestCase):
     def test_counts_without_entries_are_taken_off(self):
         ran = self.ran()
         self.assertEqual((ran.returncode, ran.stderr), (0, ""))
-        self.assertEqual(ran.stdout, "through the crate 900, inside the program 700: 1.286\n")
+        said = ["through the crate 900", "inside the program, four hashed at a time, 700: 1.286"]
+        said.append("inside the program, one hashed at a time, 900: 1.000")
+        self.assertEqual(ran.stdout.splitlines(), said)
+
+    def test_a_log_that_is_not_migrated_is_named(self):
+        self.tool("../program", 'echo "append fault"; exit 5\n')
+        self.stopped(1, "no log of version 2: append fault")
 
     def test_a_run_that_fails_is_named_with_what_it_said(self):
         self.tool("valgrind", 'echo "panicked at the log" >&2; exit 101\n')
