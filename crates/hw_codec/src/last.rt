@@ -2,7 +2,7 @@
 
 ghost use Rattle.std.specs.Prelude.{◌≡◌, ◌≤◌, ◌<◌, length, get_or, IfOk};
 ghost use Rattle.std.specs.Option.{option_copied};
-ghost use Rattle.hw_types.specs.Spelling.{Fits};
+ghost use Rattle.hw_types.specs.Spelling.{Fits, digest_of};
 ghost use Rattle.hw_types.specs.declared.unit.Obs.TheVariants.{Absent};
 ghost use Rattle.hw_codec.specs.Last.{last_of, last_by, goes_on, due};
 ghost use Rattle.hw_codec.specs.Compact.{base_of};
@@ -38,12 +38,27 @@ impl Last {
         requires { Fits unit.now }
         ensures { IfOk result (λ last. last ≡ last_of unit.now) }
     {
-        let name = digest_of(alloc, unit)?;
+        Last::named(unit, digest_of(alloc, unit)?)
+    }
+
+    /// What is kept of this unit, whose name is known already.
+    pub fn named(unit: &WireUnit, name: Digest) -> Result<Last, OutOfMemory>
+        requires fits { Fits unit.now }
+        requires name { name ≡ digest_of unit.now }
+        ensures { IfOk result (λ last. last ≡ last_of unit.now) }
+    {
         Ok(Last {
             instance: unit.instance,
             name,
             panorama: unit.panorama.copy()?,
         })
+    }
+
+    /// The name of the unit.
+    pub fn name(&self) -> Digest
+        ensures { result ≡ self.now.name }
+    {
+        self.name
     }
 
     /// The instance of the unit.

@@ -3,7 +3,8 @@
 ghost use Rattle.std.specs.Prelude.{◌≡◌, ◌⊎◌, ◌<◌, ◌++◌, List, length, slice_index_or, [], Ok, Err, IfOk, IfErr};
 ghost use Rattle.std.specs.Prelude.{ℕ};
 ghost use Rattle.sha2.specs.Sha256.{sha256};
-ghost use Rattle.hw_types.specs.Spelling.{Fits, VertexFits};
+ghost use Rattle.hw_types.specs.Spelling.{Fits, VertexFits, digest_of};
+ghost use Rattle.hw_types.specs.declared.unit.Vertex.TheVariants as vertex;
 ghost use Rattle.hw_keys.specs.Keys.{IsTextOf, IsFaultOf, HasNoFault};
 ghost use Rattle.hw_keys.specs.Signed.{unit_signature, endorsement_signature, endorsed_digest, is_signed, is_endorsed, verdict_of};
 
@@ -97,16 +98,26 @@ impl Keys {
         }
     }
 
+    /// Whether the unit of this name is signed by its creator. It isn't hashed again.
+    #[tactic(auto, unfolding(crate::specs::Signed::verdict_of))]
+    pub fn has_signed(&self, signed: &SignedUnit, name: &Digest) -> bool
+        requires { name.now ≡ digest_of signed.now.unit }
+        ensures signed { result ≡ is_signed self.now signed.now }
+        ensures verdict { result ≡ verdict_of self.now (vertex.Unit signed.now) }
+    {
+        match self.keys.get(signed.unit.creator as usize) {
+            None => false,
+            Some(key) => signed.signature.0 == unit_signature(key, name).0,
+        }
+    }
+
     /// Whether the unit is signed by its creator.
     fn is_signed(&self, signed: &SignedUnit) -> Result<bool, OutOfMemory>
         requires { Fits signed.now.unit }
         ensures { IfOk result (λ answer. answer ≡ is_signed self.now signed.now) }
     {
-        let digest = digest_of(*self.keys.allocator(), &signed.unit)?;
-        match self.keys.get(signed.unit.creator as usize) {
-            None => Ok(false),
-            Some(key) => Ok(signed.signature.0 == unit_signature(key, &digest).0),
-        }
+        let name = digest_of(*self.keys.allocator(), &signed.unit)?;
+        Ok(self.has_signed(signed, &name))
     }
 
     /// Whether the endorsement is signed by its endorser.

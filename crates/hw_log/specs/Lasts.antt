@@ -1,6 +1,8 @@
 -- The last unit of each validator, as a log goes on.
 use Rattle.std.specs.Prelude.{◌≡◌, ◌⊎◌, ℕ, ◌==◌, nat_lt, if◌then◌else◌, List, [], length, set, replicate, Option, Some, None, Result}
+use Rattle.std.specs.Option.{option_map}
 use Rattle.hw_types.specs.declared.answers.CodecError.{CodecError}
+use Rattle.hw_types.specs.declared.unit.Digest.{Digest}
 use Rattle.hw_types.specs.declared.unit.Vertex.{Vertex}
 use Rattle.hw_types.specs.declared.unit.Vertex.TheVariants as vertex
 use Rattle.hw_types.specs.Spelling.{vertex_bytes}
@@ -31,6 +33,10 @@ abbrev pub noted_in : LastUnits → Vertex → Option Kept
 noted_in lasts (vertex.Unit s) = if nat_lt s.unit.creator (length lasts.units) then Some (record { creator = s.unit.creator; last = last_of s.unit }) else None
 noted_in lasts (vertex.Evidence e) = None
 noted_in lasts (vertex.Endorsement e) = None
+
+-- the name of the unit that becomes its creator's last one, if any
+abbrev pub noted_name : Option Kept → Option Digest
+noted_name noted = option_map (λ (kept : Kept). kept.last.name) noted
 
 -- with that unit
 abbrev pub with_noted : LastUnits → Option Kept → LastUnits

@@ -11,8 +11,8 @@ pub struct LogEntry {
     pub vertex: Vertex,
 }
 
-/// An entry of a log, and the name of its unit where it is known from the log's bytes. Its vertex stands in a box: it
-/// is large, and moved from call to call.
+/// An entry of a log, and the name of its unit where that was worked out when the entry was read. Its vertex stands in
+/// a box: it is large, and moved from call to call.
 #[derive(Drop)]
 pub struct NamedEntry {
     /// The place in the file of the entry's first byte.

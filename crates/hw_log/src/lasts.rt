@@ -1,17 +1,17 @@
 //! The last unit of each validator, as a log goes on.
 
 ghost use Rattle.std.specs.Prelude.{◌≡◌, Some, None, Ok, set, replicate, IfOk, IfErr, IfSome};
-ghost use Rattle.hw_types.specs.Spelling.{Fits, VertexFits};
+ghost use Rattle.hw_types.specs.Spelling.{Fits, VertexFits, digest_of};
 ghost use Rattle.hw_codec.specs.Decoded.{IsErrorOf};
 ghost use Rattle.hw_codec.specs.Last.{last_of};
-ghost use Rattle.hw_log.specs.Named.{NamesUnit};
-ghost use Rattle.hw_log.specs.Lasts.{IsVersion, no_lasts, noted_in, with_noted, vertex_bytes_in, vertex_in};
+ghost use Rattle.hw_log.specs.Named.{IsNameOf, NamesUnit};
+ghost use Rattle.hw_log.specs.Lasts.{IsVersion, no_lasts, noted_in, noted_name, with_noted, vertex_bytes_in, vertex_in};
 
 use crate::head::FULL;
 use crate::name::unit_in;
 use hw_codec::{Last, decode_vertex, decode_vertex_after, encode_vertex, encode_vertex_after};
 use hw_lanes::Part;
-use hw_types::{Bytes, CodecError, OutOfMemory, Vertex, WireUnit};
+use hw_types::{Bytes, CodecError, Digest, OutOfMemory, Vertex, WireUnit};
 use std::alloc::Global;
 use std::marker::Model;
 
@@ -56,6 +56,18 @@ impl Model for Noted {
     ghost Value = { Option Kept };
 
     ghost view = { λ n. option_map (λ k. record { creator = k.creator; last = k.last }) n.kept };
+}
+
+impl Noted {
+    /// The name of the unit that becomes its creator's last one, if one does.
+    pub fn name(&self) -> Option<Digest>
+        ensures { result ≡ noted_name self.now }
+    {
+        match &self.kept {
+            Some(kept) => Some(kept.last.name()),
+            None => None,
+        }
+    }
 }
 
 impl Lasts {
@@ -103,6 +115,24 @@ impl Lasts {
                 noted_of(self.alloc, &signed.unit)
             }
             Vertex::Evidence(_) | Vertex::Endorsement(_) => Ok(Noted { kept: None }),
+        }
+    }
+
+    /// What this vertex changes, as [`prepare`](Lasts::prepare) answers it. It is a unit of this name, and isn't
+    /// hashed again.
+    pub fn prepare_named(&self, vertex: &Vertex, name: Digest) -> Result<Noted, OutOfMemory>
+        requires fits { VertexFits vertex.now }
+        requires name { IsNameOf vertex.now name }
+        ensures { IfOk result (λ noted. noted ≡ noted_in self.now vertex.now) }
+    {
+        match vertex {
+            Vertex::Unit(signed) => {
+                if signed.unit.creator as usize >= self.units.len() {
+                    return Ok(Noted { kept: None });
+                }
+                noted_by(&signed.unit, name)
+            }
+            Vertex::Evidence(_) | Vertex::Endorsement(_) => self.prepare(vertex),
         }
     }
 
@@ -162,6 +192,19 @@ fn noted_of(alloc: Global, unit: &WireUnit) -> Result<Noted, OutOfMemory>
     ensures { IfOk result (λ noted. noted ≡ Some (record { creator = unit.now.creator; last = last_of unit.now })) }
 {
     let last = Last::of(alloc, unit)?;
+    let creator = unit.creator;
+    Ok(Noted {
+        kept: Some(KeptUnit { creator, last }),
+    })
+}
+
+/// The same of a unit whose name is known already.
+fn noted_by(unit: &WireUnit, name: Digest) -> Result<Noted, OutOfMemory>
+    requires fits { Fits unit.now }
+    requires name { name ≡ digest_of unit.now }
+    ensures { IfOk result (λ noted. noted ≡ Some (record { creator = unit.now.creator; last = last_of unit.now })) }
+{
+    let last = Last::named(unit, name)?;
     let creator = unit.creator;
     Ok(Noted {
         kept: Some(KeptUnit { creator, last }),

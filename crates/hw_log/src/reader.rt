@@ -6,7 +6,7 @@ ghost use Rattle.hw_types.specs.Limits.{config_fault};
 ghost use Rattle.hw_types.specs.Reading.{config_of};
 ghost use Rattle.hw_types.specs.Spelling.{ConfigFits, VertexFits};
 ghost use Rattle.hw_log.specs.declared.error.LogError.TheVariants.{Torn, BadConfig, BadVertex, OutOfMemory};
-ghost use Rattle.hw_log.specs.Lasts.{IsVersion, lasts_after, vertex_in};
+ghost use Rattle.hw_log.specs.Lasts.{IsVersion, lasts_after, noted_in, noted_name, vertex_in};
 ghost use Rattle.hw_log.specs.Log.{rest_at, bytes_at, decoded, front_of, checked_config, header_of, head_at, body_at, entry_at, next_at};
 ghost use Rattle.hw_log.specs.Causes.{Fails, IsOutside, IsOfBytes, Gives, HasReadCause, IsReadAbout};
 ghost use Rattle.hw_log.specs.Named.{IsNameOf, NamesUnit, entry_in, unnamed};
@@ -155,8 +155,9 @@ impl LogReader {
         }
     }
 
-    /// The next entry as `next` answers it, and with it the name of its unit, where the verdict is right and the
-    /// log is of version 1: there an entry's bytes hold the whole unit, and its name is worked out from them.
+    /// The next entry as `next` answers it, and with it the name of its unit, where that is known. In version 1 an
+    /// entry's bytes hold the whole unit, and its name is worked out from them where the verdict is right. In version 2
+    /// it is that of a validator's unit, which is kept for the next one.
     #[tactic(auto, unfolding(crate::specs::Log::next_at))]
     pub fn next_named<F: Files>(&mut self, files: &mut F) -> Result<Option<NamedEntry>, LogError>
         requires { PlacesFit self.old (F.allowance files.old) }
@@ -166,6 +167,9 @@ impl LogReader {
             (next_at (left_of self.old (F.unread files.old))) }
         ensures entry { IfOk result (λ named. IfSome named (λ n. (n.at ≡ self.old.place) × VertexFits (box_value n.vertex))) }
         ensures name { IfOk result (λ named. IfSome named (λ n. IfSome n.name (IsNameOf (box_value n.vertex)))) }
+        // A unit that becomes its creator's last one comes with its name.
+        ensures noted { IfOk result (λ named. IfSome named (λ n.
+            IfSome (noted_name (noted_in self.old.lasts (box_value n.vertex))) (λ name. n.name ≡ Some name))) }
         ensures lasts { IfOk result (λ named. self.new.lasts ≡ lasts_with self.old.lasts (entry_in named)) }
         ensures config { self.new.config ≡ self.old.config }
         ensures places { PlacesFit self.new (F.allowance files.new) }
@@ -208,13 +212,15 @@ impl LogReader {
         }
     }
 
-    /// The entry that begins at the reader's place, with its unit's name if it is wanted.
-    #[tactic(auto, unfolding(crate::specs::Log::entry_at))]
+    /// The entry that begins at the reader's place, with its unit's name if it is wanted, or if the unit becomes its
+    /// creator's last one.
+    #[tactic(auto, using(crate::proofs::NameLaws::handed_names, crate::proofs::NameLaws::handed_first), unfolding(crate::specs::Log::entry_at))]
     fn entry<F: Files>(&mut self, files: &mut F, named: bool) -> Result<NamedEntry, LogError>
         requires { PlacesFit self.old (F.allowance files.old) }
         ensures said { IsTrue F.tells → Gives (λ read. (unnamed read, left_of self.new (F.unread files.new))) result (entry_at (left_of self.old (F.unread files.old))) }
         ensures entry { IfOk result (λ read. (read.at ≡ self.old.place) × VertexFits (box_value read.vertex)) }
         ensures name { IfOk result (λ read. IfSome read.name (IsNameOf (box_value read.vertex))) }
+        ensures noted { IfOk result (λ read. IfSome (noted_name (noted_in self.old.lasts (box_value read.vertex))) (λ name. read.name ≡ Some name)) }
         ensures lasts { IfOk result (λ read. self.new.lasts ≡ lasts_after self.old.lasts (box_value read.vertex)) }
         ensures place { OnOk result (self.old.place < self.new.place) }
         ensures config { self.new.config ≡ self.old.config }
@@ -229,13 +235,13 @@ impl LogReader {
         let at = self.place;
         let head = self.head(files)?;
         let read = self.body(files, at, head.length, named && head.verdict)?;
-        self.keep(&read.vertex)?;
+        let noted = self.keep(&read.vertex)?;
         let ReadVertex { vertex, name } = read;
         Ok(NamedEntry {
             at,
             verdict: head.verdict,
             vertex,
-            name,
+            name: noted.or(name),
         })
     }
 
@@ -299,16 +305,18 @@ impl LogReader {
         Ok(ReadVertex { vertex, name })
     }
 
-    /// Goes behind an entry with this vertex.
-    fn keep(&mut self, vertex: &Vertex) -> Result<(), LogError>
+    /// Goes behind an entry with this vertex, and answers the name of the unit that becomes its creator's last one.
+    fn keep(&mut self, vertex: &Vertex) -> Result<Option<Digest>, LogError>
         requires { VertexFits vertex.now }
+        ensures name { IfOk result (λ name. name ≡ noted_name (noted_in self.old.lasts vertex.now)) }
         ensures kept { OnOk result (self.new ≡ record self.old { lasts = lasts_after self.old.lasts vertex.now }) }
         ensures same { OnErr result (self.new ≡ self.old) }
         ensures error { IfErr result (λ e. e ≡ OutOfMemory) }
     {
         let noted = self.lasts.prepare(vertex)?;
+        let name = noted.name();
         self.lasts.note(noted);
-        Ok(())
+        Ok(name)
     }
 }
 

@@ -1,28 +1,31 @@
 //! A peer's vertex.
 
-ghost use Rattle.std.specs.Prelude.{◌≡◌, IsTrue, IfOk, IfSome};
+ghost use Rattle.std.specs.Prelude.{◌≡◌, true, IsTrue, IfOk, IfSome};
 ghost use Rattle.std.specs.Option.{option_copied};
-ghost use Rattle.hw_types.specs.Spelling.{VertexFits, Fits};
+ghost use Rattle.hw_types.specs.Spelling.{VertexFits, Fits, digest_of};
 ghost use Rattle.hw_types.specs.declared.answers.Cause.TheVariants as cause;
+ghost use Rattle.hw_types.specs.declared.unit.Vertex.TheVariants as Vertices;
 ghost use Rattle.hw_replay.specs.Taken.{spelling_of};
 ghost use Rattle.hw_keys.specs.Signed.{verdict_of};
+ghost use Rattle.hw_log.specs.Named.{IsNameOf};
 ghost use Rattle.hw_session.specs.Entry.{IsEntryOf};
 ghost use Rattle.hw_session.specs.Accept.{clash_units, Accepts, WritesAccepted, Keeps, WritesReceipt, Counts, IsAcceptCounted, accept_fault};
 
-use crate::entry::{NewEntry, new_entry, put_entry};
+use crate::entry::{NewEntry, named_entry, new_entry, put_entry};
 use crate::fault::AcceptFault;
 use crate::node::{ClashUnits, Node};
-use hw_codec::encode_unit;
-use hw_core::{Core, Refused};
+use hw_codec::{digest_of, encode_unit};
+use hw_core::{Core, Refused, UnitRefused};
 use hw_io::Files;
 use hw_log::LogError;
 use hw_types::{Bytes, Cause, Digest, OutOfMemory, Receipt, SignedUnit, Vertex};
 use std::alloc::Global;
 
-/// The verdict on a peer's vertex, and its entry in the log.
+/// The verdict on a peer's vertex, its name where it is a unit, and its entry in the log.
 #[derive(Drop)]
 struct Judged {
     verdict: bool,
+    name: Option<Digest>,
     entry: NewEntry,
 }
 
@@ -55,18 +58,32 @@ impl Node {
         }
     }
 
-    /// The verdict on a vertex, and its entry.
+    /// The verdict on a vertex, its name where it is a unit, and its entry. A unit is hashed once for all three.
     fn judged(&self, vertex: &Vertex) -> Result<Judged, OutOfMemory>
         requires { VertexFits vertex.now }
         ensures verdict { IfOk result (λ j. j.verdict ≡ verdict_of self.now.keys vertex.now) }
+        ensures name { IfOk result (λ j. IfSome j.name (IsNameOf vertex.now)) }
         ensures entry { IfOk result (λ j. IsEntryOf self.now.lasts vertex.now j.entry) }
     {
-        let verdict = self.keys.verdict(vertex)?;
-        let entry = new_entry(self.alloc, &self.lasts, vertex)?;
-        Ok(Judged { verdict, entry })
+        match vertex {
+            Vertex::Unit(signed) => {
+                let name = digest_of(self.alloc, &signed.unit)?;
+                Ok(Judged {
+                    verdict: self.keys.has_signed(signed, &name),
+                    name: Some(name),
+                    entry: named_entry(self.alloc, &self.lasts, vertex, name)?,
+                })
+            }
+            Vertex::Evidence(_) | Vertex::Endorsement(_) => Ok(Judged {
+                verdict: self.keys.verdict(vertex)?,
+                name: None,
+                entry: new_entry(self.alloc, &self.lasts, vertex)?,
+            }),
+        }
     }
 
-    /// Delivers a vertex with its verdict, and then appends the entry of an accepted one.
+    /// Delivers a vertex with its verdict, and then appends the entry of an accepted one. A unit whose verdict is right
+    /// goes by its name, and isn't hashed again.
     fn take<F: Files>(
         &mut self,
         files: &mut F,
@@ -75,6 +92,7 @@ impl Node {
     ) -> Result<Receipt, AcceptFault>
         requires fits { VertexFits vertex }
         requires verdict { judged.verdict ≡ verdict_of self.old.keys vertex }
+        requires name { IfSome judged.name (IsNameOf vertex) }
         requires entry { IsEntryOf self.old.lasts vertex judged.entry }
         ensures accepted { Accepts self.old vertex self.new result }
         ensures log { IsTrue F.tells → WritesAccepted self.old vertex self.new (F.held files.old) (F.held files.new) result }
@@ -84,8 +102,90 @@ impl Node {
         ensures allowance { F.allowance files.new ≡ F.allowance files.old }
         ensures reads { F.read_faults files.new ≡ F.read_faults files.old }
     {
-        match self.core.deliver(vertex, judged.verdict) {
-            Ok(receipt) => self.keep(files, receipt, judged.entry),
+        let Judged {
+            verdict,
+            name,
+            entry,
+        } = judged;
+        match name {
+            Some(name) if verdict => self.take_named(files, vertex, name, entry),
+            Some(_) | None => self.take_any(files, vertex, verdict, entry),
+        }
+    }
+
+    /// Takes a vertex whose verdict is right, and which is a unit of this name.
+    fn take_named<F: Files>(
+        &mut self,
+        files: &mut F,
+        vertex: Vertex,
+        name: Digest,
+        entry: NewEntry,
+    ) -> Result<Receipt, AcceptFault>
+        requires fits { VertexFits vertex }
+        requires verdict { true ≡ verdict_of self.old.keys vertex }
+        requires name { IsNameOf vertex name }
+        requires entry { IsEntryOf self.old.lasts vertex entry }
+        ensures accepted { Accepts self.old vertex self.new result }
+        ensures log { IsTrue F.tells → WritesAccepted self.old vertex self.new (F.held files.old) (F.held files.new) result }
+        ensures cause { IsAcceptCounted (F.append_faults files.old) (F.append_faults files.new) result }
+
+        ensures begun { F.begun files.new ≡ F.begun files.old }
+        ensures allowance { F.allowance files.new ≡ F.allowance files.old }
+        ensures reads { F.read_faults files.new ≡ F.read_faults files.old }
+    {
+        match vertex {
+            Vertex::Unit(unit) => self.take_unit(files, unit, name, entry),
+            other => self.take_any(files, other, true, entry),
+        }
+    }
+
+    /// Delivers a unit of this name whose verdict is right, and then appends the entry of an accepted one.
+    fn take_unit<F: Files>(
+        &mut self,
+        files: &mut F,
+        unit: SignedUnit,
+        name: Digest,
+        entry: NewEntry,
+    ) -> Result<Receipt, AcceptFault>
+        requires fits { Fits unit.unit }
+        requires verdict { true ≡ verdict_of self.old.keys (Vertices.Unit unit) }
+        requires name { name ≡ digest_of unit.unit }
+        requires entry { IsEntryOf self.old.lasts (Vertices.Unit unit) entry }
+        ensures accepted { Accepts self.old (Vertices.Unit unit) self.new result }
+        ensures log { IsTrue F.tells → WritesAccepted self.old (Vertices.Unit unit) self.new (F.held files.old) (F.held files.new) result }
+        ensures cause { IsAcceptCounted (F.append_faults files.old) (F.append_faults files.new) result }
+
+        ensures begun { F.begun files.new ≡ F.begun files.old }
+        ensures allowance { F.allowance files.new ≡ F.allowance files.old }
+        ensures reads { F.read_faults files.new ≡ F.read_faults files.old }
+    {
+        match self.core.deliver_named(unit, name) {
+            Ok(receipt) => self.keep(files, receipt, entry),
+            Err(refused) => self.refuse_unit(refused),
+        }
+    }
+
+    /// Delivers a vertex with its verdict, and then appends the entry of an accepted one.
+    fn take_any<F: Files>(
+        &mut self,
+        files: &mut F,
+        vertex: Vertex,
+        verdict: bool,
+        entry: NewEntry,
+    ) -> Result<Receipt, AcceptFault>
+        requires fits { VertexFits vertex }
+        requires verdict { verdict ≡ verdict_of self.old.keys vertex }
+        requires entry { IsEntryOf self.old.lasts vertex entry }
+        ensures accepted { Accepts self.old vertex self.new result }
+        ensures log { IsTrue F.tells → WritesAccepted self.old vertex self.new (F.held files.old) (F.held files.new) result }
+        ensures cause { IsAcceptCounted (F.append_faults files.old) (F.append_faults files.new) result }
+
+        ensures begun { F.begun files.new ≡ F.begun files.old }
+        ensures allowance { F.allowance files.new ≡ F.allowance files.old }
+        ensures reads { F.read_faults files.new ≡ F.read_faults files.old }
+    {
+        match self.core.deliver(vertex, verdict) {
+            Ok(receipt) => self.keep(files, receipt, entry),
             Err(refused) => self.refuse(refused),
         }
     }
@@ -117,6 +217,16 @@ impl Node {
                 }
             }
         }
+    }
+
+    /// Counts a refused unit, and keeps a clash.
+    fn refuse_unit(&mut self, refused: UnitRefused) -> Result<Receipt, AcceptFault>
+        requires { VertexFits (Vertices.Unit refused.unit) }
+        ensures { Counts self.old (Vertices.Unit refused.unit) refused.cause self.new result }
+    {
+        let UnitRefused { cause, unit } = refused;
+        let vertex = Vertex::Unit(unit);
+        self.refuse(Refused { cause, vertex })
     }
 
     /// Counts a refused vertex, and keeps a clash.

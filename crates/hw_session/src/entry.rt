@@ -5,11 +5,12 @@ ghost use Rattle.hw_types.specs.Spelling.{VertexFits};
 ghost use Rattle.hw_io.specs.Files.{Appended};
 ghost use Rattle.hw_log.specs.Causes.{HasAppendCause};
 ghost use Rattle.hw_log.specs.Lasts.{with_noted};
+ghost use Rattle.hw_log.specs.Named.{IsNameOf};
 ghost use Rattle.hw_session.specs.Entry.{IsEntryOf};
 
 use hw_io::Files;
 use hw_log::{Lasts, LogError, Noted, append_entry, entry_bytes};
-use hw_types::{Bytes, OutOfMemory, Vertex};
+use hw_types::{Bytes, Digest, OutOfMemory, Vertex};
 use std::alloc::Global;
 
 /// What is to be appended of a vertex, and what it changes of the last units.
@@ -27,6 +28,22 @@ pub fn new_entry(alloc: Global, lasts: &Lasts, vertex: &Vertex) -> Result<NewEnt
 {
     let bytes = entry_bytes(alloc, lasts, true, vertex)?;
     let noted = lasts.prepare(vertex)?;
+    Ok(NewEntry { bytes, noted })
+}
+
+/// The same entry of a unit of this name, which isn't hashed again.
+pub fn named_entry(
+    alloc: Global,
+    lasts: &Lasts,
+    vertex: &Vertex,
+    name: Digest,
+) -> Result<NewEntry, OutOfMemory>
+    requires fits { VertexFits vertex.now }
+    requires name { IsNameOf vertex.now name }
+    ensures { IfOk result (IsEntryOf lasts.now vertex.now) }
+{
+    let bytes = entry_bytes(alloc, lasts, true, vertex)?;
+    let noted = lasts.prepare_named(vertex, name)?;
     Ok(NewEntry { bytes, noted })
 }
 

@@ -7,7 +7,7 @@ ghost use Rattle.hw_session.specs.Entry.{IsEntryOf};
 ghost use Rattle.hw_session.specs.Restart.{KeepsLine};
 ghost use Rattle.hw_session.specs.Make.{planned_by, own_unit, own_vertex, Makes, WritesOwn, IsMakeCounted, IsAStep, IsOfOwn, Refuses, PutsOwn, fault_of_append};
 
-use crate::entry::{NewEntry, new_entry, put_entry};
+use crate::entry::{NewEntry, named_entry, put_entry};
 use crate::fault::MakeFault;
 use crate::node::Node;
 use hw_codec::digest_of;
@@ -98,7 +98,7 @@ impl Node {
             unit: plan.unit.copy()?,
             signature,
         });
-        let entry = new_entry(self.alloc, &self.lasts, &vertex)?;
+        let entry = named_entry(self.alloc, &self.lasts, &vertex, name)?;
         match vertex {
             Vertex::Unit(unit) => Ok(OwnUnit { unit, name, entry }),
             // It was made as a unit.
