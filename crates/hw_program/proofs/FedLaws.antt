@@ -1,5 +1,5 @@
 -- What the consumers of a replay were told, from the node that has received nothing on.
-use Rattle.std.proofs.Common.{◌≡◌, ℕ, Bool, List, [], ◌∷◌, ◌++◌, length, map, take, cond, is_none, Option, Some, None, Result, refl, sym, ap, subst, ◌∙◌, inl, inr}
+use Rattle.std.proofs.Common.{◌≡◌, ℕ, Bool, List, [], ◌∷◌, ◌++◌, length, map, take, cond, is_none, Option, Some, None, refl, sym, ap, subst, ◌∙◌, inl, inr}
 use Rattle.std.specs.Prelude.{All, filter, drop}
 use Rattle.std.specs.Option.{option_map}
 use Rattle.std.proofs.Math.Seq.{take-length, drop-append_seam}
@@ -8,8 +8,7 @@ use Rattle.hw_types.specs.declared.config.Config.{Config}
 use Rattle.hw_types.specs.Real.{CoreState}
 use Rattle.hw_safety.specs.Chain.{Begins}
 use Rattle.hw_io.specs.Consumers.{Consumed, after_finish}
-use Rattle.hw_replay.specs.declared.fault.StartFault.{StartFault}
-use Rattle.hw_replay.specs.Taken.{Taken}
+use Rattle.hw_replay.specs.Midway.{midway, file_begun}
 use Rattle.hw_fanout.specs.declared.ending.Ending.{Ending}
 use Rattle.hw_fanout.specs.State.{FanoutState}
 use Rattle.hw_fanout.specs.Chain.{told_chain}
@@ -17,8 +16,9 @@ use Rattle.hw_fanout.specs.Fates.{Sight, Fate, is_left, answer_of, AreServed}
 use Rattle.hw_fanout.specs.Told.{blocks_between, with_more, StopsAt, IsTold, IsFinished}
 use Rattle.hw_fanout.specs.Laws.{node_with}
 use Rattle.hw_fanout.proofs.GrowLaws.{only_grows}
-use Rattle.hw_replay.specs.Feed.{Moment, moment, first_moment, IsPassed, ArePassed, AreFed, AreFedSome}
+use Rattle.hw_replay.specs.Feed.{Moment, moment, first_moment, IsPassed, ArePassed, AreFed, AreFedPart}
 use Rattle.hw_replay.proofs.FeedLaws.{none_told}
+use Rattle.hw_replay.proofs.MidwayLaws.{midway_leads}
 use Rattle.hw_program.specs.Fed.{first_kept, HasGot, HaveGot, AreToldAll, AreCutOff}
 
 -- ---- those that are left
@@ -130,11 +130,16 @@ module _ {B K : Type 0} (sight : Sight B K) where
         took = λ nothing. finished_got (told_chain core) fed new kept last finished (fed_got core.config old (moment core fed kept) from_first nothing);
       }
 
-  pub told_some : (tells : Bool) (whole : Result Taken StartFault) (old new : List B) (before kept : FanoutState) → before ≡ first_kept old → AreFedSome sight tells whole old new before kept → AreCutOff sight tells whole old new
-  told_some tells whole old new before kept is some =
-      let P : FanoutState → Type 0 = λ k. AreFedSome sight tells whole old new k kept in
+  pub told_some : (tells : Bool) (log : Option (List ℕ)) (old new : List B) (before kept : FanoutState) → before ≡ first_kept old → AreFedPart sight tells (file_begun None log) old new before kept → AreCutOff sight tells log old new
+  told_some tells log old new before kept is some =
+      let P : FanoutState → Type 0 = λ k. AreFedPart sight tells (file_begun None log) old new k kept in
       go (subst P is some)
     where
-      go : AreFedSome sight tells whole old new (first_kept old) kept → AreCutOff sight tells whole old new
+      go : AreFedPart sight tells (file_begun None log) old new (first_kept old) kept → AreCutOff sight tells log old new
       go (inl none) = inl none.0
-      go (inr u) = inr (record { kept = kept; until = u; took = λ nothing. fed_got u.taken.core.config old (moment u.taken.core new kept) u.fed nothing })
+      go (inr u) = inr (record {
+        kept = kept;
+        part = u;
+        leads = λ t. midway_leads None log (midway u.taken u.rest) (u.came t);
+        took = λ nothing. fed_got u.taken.core.config old (moment u.taken.core new kept) u.fed nothing;
+      })

@@ -69,7 +69,7 @@ module _ {B K : Type 0} (sight : Sight B K) (tells : Bool) (held : Held) (name :
 
   pub reported_told : (result : Result Ended RunFault) (drops : List Dropped) (text : List ℕ) → AreToldOf sight tells (file_replayed None (held name)) old new drops
       → IfOk result (λ e. e ≡ record { status = 0; text = text }) → IfErr result (λ f. f ≡ OutOfMemory)
-      → IsReplayTold sight tells (file_replayed None (held name)) (status_of result) old new
+      → IsReplayTold sight tells (held name) (status_of result) old new
   reported_told (Ok e) drops text told is none =
       let zero : e.status ≡ 0 = ap (λ (x : Ended). x.status) is in
       record { all = λ h. (drops, told); some = λ h. absurd (omega (arith, h, zero)); any = inr (drops, told) }
@@ -95,9 +95,9 @@ module _ {B K : Type 0} (sight : Sight B K) (tells : Bool) (held : Held) (name :
       }
   stopped_text fault (Err f) stops is = tt
 
-  pub stopped_told : (fault : StartFault) (result : Result Ended RunFault) (before now : ℕ) → AreCutOff sight tells (file_replayed None (held name)) old new
+  pub stopped_told : (fault : StartFault) (result : Result Ended RunFault) (before now : ℕ) → AreCutOff sight tells (held name) old new
       → IfOk result (λ e. (e ≡ stopped_ended name fault) × IsReadEnd e.status × (IsOutside fault → ⊥)) → IsReadCounted before now result
-      → IsReplayTold sight tells (file_replayed None (held name)) (status_of result) old new
+      → IsReplayTold sight tells (held name) (status_of result) old new
   stopped_told fault (Ok e) before now cut is counted =
       record { all = λ h. absurd (never h); some = λ h. cut; any = inl cut }
     where
@@ -112,5 +112,5 @@ module _ {B K : Type 0} (sight : Sight B K) (tells : Bool) (held : Held) (name :
   stopped_told fault (Err Append) before now cut is counted = absurd counted
 
   -- no memory before the first byte was read
-  pub untold : (status : ℕ) → status ≡ 7 → new ≡ old → IsReplayTold sight tells (file_replayed None (held name)) status old new
+  pub untold : (status : ℕ) → status ≡ 7 → new ≡ old → IsReplayTold sight tells (held name) status old new
   untold status seven same = record { all = λ h. absurd (omega (arith, h, seven)); some = λ h. inl same; any = inl (inl same) }

@@ -2,11 +2,7 @@
 use Rattle.std.proofs.Common.{◌≡◌, ℕ, List, Bool, true, false, Option, Some, None, refl, sym, ap, subst, ◌∙◌, inl, inr, arith}
 use Rattle.std.specs.Prelude.{◌⊎◌, ◌==◌, ◌||◌, if◌then◌else◌}
 use Rattle.std.specs.Io.KnownBytes.{Appends}
-use Rattle.hw_replay.specs.declared.fault.StartFault.{StartFault}
-use Rattle.hw_replay.specs.Taken.{Taken}
-use Rattle.std.specs.Prelude.{Result}
 use Rattle.hw_fanout.specs.Fates.{Sight}
-use Rattle.hw_replay.specs.Feed.{file_replayed}
 use Rattle.hw_program.specs.declared.ended.Ended.{Ended}
 use Rattle.hw_program.specs.Commands.{Request, Replay, Explain, Audit, Script, Mend, Migrate, Certify, Check, Gen, Sim, Eras, EraAudit}
 use Rattle.hw_program.specs.Program.{Held}
@@ -28,9 +24,9 @@ kept_five status text result old new three (inr (inl cut)) five = go (status == 
     go false true is other e = absurd (three (grind (arith, other)))
     go false false is other e = inr (sym e ∙ five)
 
-told_after : {B K : Type 0} (sight : Sight B K) (tells : Bool) (whole : Result Taken StartFault) (status result : ℕ) (old new : List B) → IsKept status result → (result ≡ 5 → (status ≡ 0) ⊎ (status ≡ 5))
-    → IsReplayTold sight tells whole status old new → IsReplayTold sight tells whole result old new
-told_after sight tells whole status result old new kept five t = record {
+told_after : {B K : Type 0} (sight : Sight B K) (tells : Bool) (log : Option (List ℕ)) (status result : ℕ) (old new : List B) → IsKept status result → (result ≡ 5 → (status ≡ 0) ⊎ (status ≡ 5))
+    → IsReplayTold sight tells log status old new → IsReplayTold sight tells log result old new
+told_after sight tells log status result old new kept five t = record {
   all = λ h. t.all (elim h [ inl zero ↦ inl (kept 0 zero (λ h. omega (arith, h)) (λ h. omega (arith, h))) | inr is ↦ five is ]);
   some = λ h. t.some (elim h [
     | inl two ↦ inl (kept 2 two (λ h. omega (arith, h)) (λ h. omega (arith, h)))
@@ -51,7 +47,7 @@ read_end_three n (inr (inr (inr e))) three = omega (arith, e, three)
 pub memory_consumers : {B K : Type 0} (sight : Sight B K) (tells : Bool) (held : Held) (old new : List B) (request : Option Request) (status result : ℕ) → result ≡ 7
     → ConsumersAfter sight tells request held status old new → ConsumersAfter sight tells request held result old new
 memory_consumers sight tells held old new (Some (Replay log)) status result seven c =
-    told_after sight tells (file_replayed None (held log)) status result old new (without_memory status result seven) (λ five. absurd (omega (arith, five, seven))) c
+    told_after sight tells (held log) status result old new (without_memory status result seven) (λ five. absurd (omega (arith, five, seven))) c
 memory_consumers sight tells held old new request status result seven c = c
 
 module _ {B K : Type 0} (sight : Sight B K) (tells : Bool) (held : Held) (o n : Output) (old new : List B) where
@@ -59,13 +55,13 @@ module _ {B K : Type 0} (sight : Sight B K) (tells : Bool) (held : Held) (o n : 
   pub fault_consumers : (request : Option Request) (status : ℕ) (text : List ℕ) (result : ℕ) → (status ≡ 3 → ⊥) → Finishes status text result o n
       → ConsumersAfter sight tells request held status old new → ConsumersAfter sight tells request held result old new
   fault_consumers (Some (Replay log)) status text result three fin c =
-      told_after sight tells (file_replayed None (held log)) status result old new (finished status text result o n fin) (kept_five status text result o n three fin) c
+      told_after sight tells (held log) status result old new (finished status text result o n fin) (kept_five status text result o n three fin) c
   fault_consumers request status text result three fin c = c
 
   pub end_consumers : (request : Option Request) (e : Ended) (result : ℕ) → IsEndOf request e → Finishes e.status e.text result o n
       → ConsumersAfter sight tells request held e.status old new → ConsumersAfter sight tells request held result old new
   end_consumers (Some (Replay log)) e result end fin c =
-      told_after sight tells (file_replayed None (held log)) e.status result old new (finished e.status e.text result o n fin) (kept_five e.status e.text result o n (read_end_three e.status end) fin) c
+      told_after sight tells (held log) e.status result old new (finished e.status e.text result o n fin) (kept_five e.status e.text result o n (read_end_three e.status end) fin) c
   end_consumers request e result end fin c = c
 
   -- ---- the text

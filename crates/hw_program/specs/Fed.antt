@@ -5,13 +5,14 @@ use Rattle.std.specs.List.{range_with_len}
 use Rattle.hw_types.specs.Real.{CoreState}
 use Rattle.hw_io.specs.Consumers.{Consumed}
 use Rattle.hw_replay.specs.declared.fault.StartFault.{StartFault}
-use Rattle.hw_replay.specs.Taken.{Taken}
+use Rattle.hw_replay.specs.Taken.{Taken, rest_taken}
+use Rattle.hw_replay.specs.Midway.{file_begun}
 use Rattle.hw_fanout.specs.declared.ending.Dropped.{Dropped}
 use Rattle.hw_fanout.specs.State.{FanoutState}
 use Rattle.hw_fanout.specs.Chain.{told_chain}
 use Rattle.hw_fanout.specs.Fates.{Sight, AreServed}
 use Rattle.hw_fanout.specs.Told.{IsFinished}
-use Rattle.hw_replay.specs.Feed.{moment, first_moment, AreFed, AreFedUntil, file_replayed}
+use Rattle.hw_replay.specs.Feed.{moment, first_moment, AreFed, AreFedTo, file_replayed}
 use Rattle.hw_replay.specs.Lines.{drop_lines}
 use Rattle.hw_program.specs.declared.ended.Ended.{Ended}
 use Rattle.hw_program.specs.Commands.{Word, Request, Replay, request_of}
@@ -42,12 +43,14 @@ pub record AreToldAll {B K : Type 0} (sight : Sight B K) (core : CoreState) (old
   -- handed in with nothing taken, each one left took the whole decided chain and was finished once
   pub took : HaveGot sight [] 0 old → HaveGot sight (told_chain core) 1 new
 
--- They were told the blocks up to a node over which the replay leads, and not that none follows.
-pub record AreToldSome {B K : Type 0} (sight : Sight B K) (tells : Bool) (whole : Result Taken StartFault) (old new : List B) : Type 0 where
+-- They were told the blocks up to the node that the first of this log's entries left, and not that none follows.
+pub record AreToldSome {B K : Type 0} (sight : Sight B K) (tells : Bool) (log : Option (List ℕ)) (old new : List B) : Type 0 where
   pub kept : FanoutState
-  pub until : AreFedUntil sight tells whole (λ (core : CoreState). first_moment core.config old (first_kept old)) new kept
+  pub part : AreFedTo sight tells (file_begun None log) (λ (core : CoreState). first_moment core.config old (first_kept old)) new kept
+  -- the entries that were still to come would leave of it what the whole log leaves
+  pub leads : IsTrue tells → file_replayed None log ≡ rest_taken part.taken part.rest
   -- handed in with nothing taken, each one left took what that node had decided, and wasn't finished
-  pub took : HaveGot sight [] 0 old → HaveGot sight (told_chain until.taken.core) 0 new
+  pub took : HaveGot sight [] 0 old → HaveGot sight (told_chain part.taken.core) 0 new
 
 -- ---- a replay, by what the file's bytes leave of a node
 
@@ -58,14 +61,14 @@ pub record AreToldOf {B K : Type 0} (sight : Sight B K) (tells : Bool) (whole : 
   pub told : AreToldAll sight taken.core old new drops
 
 -- it ended before its report: they are as they were handed in, or were told some
-abbrev pub AreCutOff : {B K : Type 0} → Sight B K → Bool → Result Taken StartFault → List B → List B → Type 0
-AreCutOff sight tells whole old new = (new ≡ old) ⊎ AreToldSome sight tells whole old new
+abbrev pub AreCutOff : {B K : Type 0} → Sight B K → Bool → Option (List ℕ) → List B → List B → Type 0
+AreCutOff sight tells log old new = (new ≡ old) ⊎ AreToldSome sight tells log old new
 
 -- By the status: 0 and 5 come only behind the report, 2, 4, 8 and 9 only before it, and want of memory at any moment.
-pub record IsReplayTold {B K : Type 0} (sight : Sight B K) (tells : Bool) (whole : Result Taken StartFault) (status : ℕ) (old new : List B) : Type 0 where
-  pub all : (status ≡ 0) ⊎ (status ≡ 5) → (drops : List Dropped) × AreToldOf sight tells whole old new drops
-  pub some : (status ≡ 2) ⊎ (status ≡ 4) ⊎ (status ≡ 8) ⊎ (status ≡ 9) → AreCutOff sight tells whole old new
-  pub any : AreCutOff sight tells whole old new ⊎ ((drops : List Dropped) × AreToldOf sight tells whole old new drops)
+pub record IsReplayTold {B K : Type 0} (sight : Sight B K) (tells : Bool) (log : Option (List ℕ)) (status : ℕ) (old new : List B) : Type 0 where
+  pub all : (status ≡ 0) ⊎ (status ≡ 5) → (drops : List Dropped) × AreToldOf sight tells (file_replayed None log) old new drops
+  pub some : (status ≡ 2) ⊎ (status ≡ 4) ⊎ (status ≡ 8) ⊎ (status ≡ 9) → AreCutOff sight tells log old new
+  pub any : AreCutOff sight tells log old new ⊎ ((drops : List Dropped) × AreToldOf sight tells (file_replayed None log) old new drops)
 
 -- a report, and then the lines of the consumers that were dropped
 pub record IsReport {B K : Type 0} (sight : Sight B K) (tells : Bool) (whole : Result Taken StartFault) (report : List ℕ) (old new : List B) (text : List ℕ) : Type 0 where
@@ -87,7 +90,7 @@ CallsNone request = Unit {0}
 
 -- what a run that ends with this status leaves of the consumers
 abbrev pub ConsumersAfter : {B K : Type 0} → Sight B K → Bool → Option Request → Held → ℕ → List B → List B → Type 0
-ConsumersAfter sight tells (Some (Replay log)) held status old new = IsReplayTold sight tells (file_replayed None (held log)) status old new
+ConsumersAfter sight tells (Some (Replay log)) held status old new = IsReplayTold sight tells (held log) status old new
 ConsumersAfter sight tells request held status old new = new ≡ old
 
 -- the text of a run, of which the bytes say this much

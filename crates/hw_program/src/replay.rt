@@ -31,7 +31,7 @@ pub fn replay<F: Files>(
 ) -> Result<Ended, RunFault>
     ensures said { IsTrue F.tells → IfOk result (λ e. e.status ≡ (ended (replay_said (F.held files.old) log.now)).status) }
     ensures text { IsTrue F.tells → IfOk result (λ e. IsReplayText (seen (λ b. consumed b) (λ b. faults b) (λ b. b.vtable)) F.tells (file_replayed None (F.held files.old log.now)) (ended (replay_said (F.held files.old) log.now)) consumers.old.items consumers.new.items e.text) }
-    ensures told { IsReplayTold (seen (λ b. consumed b) (λ b. faults b) (λ b. b.vtable)) F.tells (file_replayed None (F.held files.old log.now)) (status_of result) consumers.old.items consumers.new.items }
+    ensures told { IsReplayTold (seen (λ b. consumed b) (λ b. faults b) (λ b. b.vtable)) F.tells (F.held files.old log.now) (status_of result) consumers.old.items consumers.new.items }
     ensures status { IfOk result (λ e. IsReadEnd e.status) }
     ensures fault { HasReadFault (F.read_faults files.old) (F.read_faults files.new) result }
     ensures about { IsTrue F.tells → IfErr result (λ fault. fault ≡ RunFaults.Read → Rose (F.faults_about files.old log.now) (F.faults_about files.new log.now)) }
@@ -55,7 +55,7 @@ fn replay_told<F: Files>(
     requires { fanout.old ≡ first_kept consumers.old.items }
     ensures said { IsTrue F.tells → IfOk result (λ e. e.status ≡ (ended (replay_said (F.held files.old) log.now)).status) }
     ensures text { IsTrue F.tells → IfOk result (λ e. IsReplayText (seen (λ b. consumed b) (λ b. faults b) (λ b. b.vtable)) F.tells (file_replayed None (F.held files.old log.now)) (ended (replay_said (F.held files.old) log.now)) consumers.old.items consumers.new.items e.text) }
-    ensures told { IsReplayTold (seen (λ b. consumed b) (λ b. faults b) (λ b. b.vtable)) F.tells (file_replayed None (F.held files.old log.now)) (status_of result) consumers.old.items consumers.new.items }
+    ensures told { IsReplayTold (seen (λ b. consumed b) (λ b. faults b) (λ b. b.vtable)) F.tells (F.held files.old log.now) (status_of result) consumers.old.items consumers.new.items }
     ensures status { IfOk result (λ e. IsReadEnd e.status) }
     ensures fault { HasReadFault (F.read_faults files.old) (F.read_faults files.new) result }
     ensures about { IsTrue F.tells → IfErr result (λ fault. fault ≡ RunFaults.Read → Rose (F.faults_about files.old log.now) (F.faults_about files.new log.now)) }

@@ -11,7 +11,7 @@ use Rattle.hw_fanout.proofs.TellingLaws.{all_whole}
 use Rattle.hw_replay.specs.Feed.{Moment, moment, first_moment, IsPassed, ArePassed, AreFed}
 use Rattle.hw_service.specs.Scene.{none_told}
 use Rattle.hw_service.proofs.GrowLaws.{HasGrown, still_told, still_taken}
-use Rattle.hw_run_laws.specs.Prefixes.{HaveNothing, StoppedReplays}
+use Rattle.hw_run_laws.specs.Prefixes.{HaveNothing, StoppedReplays, StoppedParts}
 
 module _ {B K : Type 0} (sight : Sight B K) where
   -- no more blocks were passed than there are, and each consumer that is left has taken those
@@ -60,4 +60,9 @@ module _ {B K : Type 0} (sight : Sight B K) where
   pub stopped : StoppedReplays sight
   stopped tells whole old new after (inl none) h = inl (subst (HaveNothing sight) (sym none.0) h)
   stopped tells whole old new after (inr some) h =
+      inr (some, (good_fed (first_moment some.taken.core.config old (none_told old)) (moment some.taken.core new after) some.fed (good_first _ old h)).taken)
+
+  pub stopped_part : StoppedParts sight
+  stopped_part tells begun old new after (inl none) h = inl (subst (HaveNothing sight) (sym none.0) h)
+  stopped_part tells begun old new after (inr some) h =
       inr (some, (good_fed (first_moment some.taken.core.config old (none_told old)) (moment some.taken.core new after) some.fed (good_first _ old h)).taken)

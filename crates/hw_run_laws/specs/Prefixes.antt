@@ -7,7 +7,8 @@ use Rattle.hw_fanout.specs.Fates.{Sight}
 use Rattle.hw_fanout.specs.Told.{HasTaken}
 use Rattle.hw_replay.specs.declared.fault.StartFault.{StartFault}
 use Rattle.hw_replay.specs.Taken.{Taken}
-use Rattle.hw_replay.specs.Feed.{first_moment, AreFedUntil, AreFedSome}
+use Rattle.hw_replay.specs.Midway.{Midway}
+use Rattle.hw_replay.specs.Feed.{first_moment, AreFedUntil, AreFedSome, AreFedTo, AreFedPart}
 use Rattle.hw_service.specs.declared.fault.ServiceFault.{ServiceFault}
 use Rattle.hw_service.specs.Scene.{Outside, Scene, none_told}
 use Rattle.hw_service.specs.Begin.{Names}
@@ -26,6 +27,13 @@ abbrev pub StoppedReplays : {B K : Type 0} → Sight B K → Type 0
 StoppedReplays {B} sight = (tells : Bool) (whole : Result Taken StartFault) (old new : List B) (after : FanoutState) → AreFedSome sight tells whole old new (none_told old) after → HaveNothing sight old
     → HaveNothing sight new
     ⊎ ((until : AreFedUntil sight tells whole (λ (core : CoreState). first_moment core.config old (none_told old)) new after) × HaveTaken sight until.taken.core after.passed new)
+
+-- Of a replay that read the first of its log's entries and stopped, each consumer that is left has taken nothing, or
+-- else the first blocks of what those entries decide, and nothing of what stands behind them.
+abbrev pub StoppedParts : {B K : Type 0} → Sight B K → Type 0
+StoppedParts {B} sight = (tells : Bool) (begun : Option Midway) (old new : List B) (after : FanoutState) → AreFedPart sight tells begun old new (none_told old) after → HaveNothing sight old
+    → HaveNothing sight new
+    ⊎ ((part : AreFedTo sight tells begun (λ (core : CoreState). first_moment core.config old (none_told old)) new after) × HaveTaken sight part.taken.core after.passed new)
 
 -- Of a run that began and was cut short, each consumer that is left has taken the first blocks of what the node had decided where it stopped.
 abbrev pub TookUntil : {B K X : Type 0} → Sight B K → StepOver B X → ℕ → ℕ → Scene B → Outside B → X → X → ServiceFault → Type 0

@@ -4,12 +4,13 @@ ghost use Rattle.hw_fanout.specs.Fates.{Sight};
 ghost use Rattle.hw_run_laws.specs.Calls.{CallsKeepOneLine, AttemptsKeepOneLine, AttemptsSayNoNew, CallsKeepApart, CutLogIsMended};
 ghost use Rattle.hw_run_laws.specs.Complete.{ServesAreComplete, DrivesAreComplete};
 ghost use Rattle.hw_run_laws.specs.Restart.{ServedIsALife, DrivenIsALife, ServesIsALife, DrivesIsALife, ServesKeepsLog, DrivesKeepsLog, ServesLeavesLog, DrivesLeavesLog, MakeLeavesLog, ServedSaysOfLog, DrivenSaysOfLog, ServesSaysOfLog, DrivesSaysOfLog};
-ghost use Rattle.hw_run_laws.specs.Prefixes.{StoppedReplays, CutServices, CutTurns, CutHosts, CutCalls};
+ghost use Rattle.hw_run_laws.specs.Prefixes.{StoppedReplays, StoppedParts, CutServices, CutTurns, CutHosts, CutCalls};
 
 /// Consumers that had taken nothing, and are left where a replay or a run stops, have taken the first blocks of the
 /// chain that its node had decided by then, in order and each once.
 pub fn cut_runs_leave_prefixes<B, K>()
     ensures replays { (sight : Sight B K) → StoppedReplays sight }
+    ensures parts { (sight : Sight B K) → StoppedParts sight }
     ensures services { (sight : Sight B K) → CutServices sight }
     ensures turns { (sight : Sight B K) → CutTurns sight }
     ensures hosts { (sight : Sight B K) → CutHosts sight }

@@ -12,7 +12,8 @@ use Rattle.hw_replay.specs.declared.fault.StartFault.{StartFault}
 use Rattle.hw_replay.specs.declared.fault.StartFault.TheVariants as start
 use Rattle.hw_fanout.specs.State.{FanoutState}
 use Rattle.hw_fanout.specs.Fates.{Sight}
-use Rattle.hw_replay.specs.Feed.{moment, AreFed, AreFedSome, file_replayed}
+use Rattle.hw_replay.specs.Midway.{file_begun}
+use Rattle.hw_replay.specs.Feed.{moment, AreFed, AreFedSome, AreFedPart, file_replayed}
 use Rattle.hw_session.specs.Start.{Starts, StartsLog}
 use Rattle.hw_service.specs.declared.begin.Sources.{Sources}
 use Rattle.hw_service.specs.declared.fault.ServiceFault.{ServiceFault}
@@ -96,7 +97,8 @@ pub record StaysAs {B : Type 0} (before after : Outside B) : Type 0 where
   pub written : after.written ≡ before.written
   pub consumers : after.consumers ≡ before.consumers
 
--- Settings and keys were read, and the log gave no node. The consumers were told what was decided after each entry so far.
+-- Settings and keys were read, and the log gave no node. The consumers were told what was decided after each entry
+-- so far: after the first ones of the log, and after none that stands behind.
 pub record StartFails {B K : Type 0} (sight : Sight B K) (tells : Bool) (names : Names) (me : Option ℕ) (before after : Outside B) (e : StartFault) : Type 0 where
   pub config : Config
   pub keys : List (List ℕ)
@@ -105,6 +107,7 @@ pub record StartFails {B K : Type 0} (sight : Sight B K) (tells : Bool) (names :
   pub log : IsTrue tells → StartsLog config names.log before.files after.files (before.files names.log) (Err e)
   pub kept : FanoutState
   pub fed : AreFedSome sight tells (file_replayed (Some config) (before.files names.log)) before.consumers after.consumers (none_told before.consumers) kept
+  pub part : AreFedPart sight tells (file_begun (Some config) (before.files names.log)) before.consumers after.consumers (none_told before.consumers) kept
   pub door : after.door ≡ before.door
   pub written : after.written ≡ before.written
 

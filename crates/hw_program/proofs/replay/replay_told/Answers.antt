@@ -3,7 +3,6 @@ use Rattle.std.proofs.lemmas.List.FromFn.{length-range_with_len}
 use Rattle.hw_replay.specs.Replay.{taken_in}
 use Rattle.hw_fanout.specs.State.{FanoutState}
 use Rattle.hw_fanout.specs.Fates.{seen}
-use Rattle.hw_replay.specs.Feed.{file_replayed}
 use Rattle.hw_program.proofs.FedLaws.{told_all, told_some}
 use Rattle.hw_program.proofs.ToldLaws.{of_replay, reported_text, reported_told, stopped_text, stopped_told}
 use Rattle.hw_program.proofs.replay.replay_told.Goals as goal
@@ -43,8 +42,8 @@ returns-in-Err-clause-told g c =
     let held = g.F.Files.held c.args.files.now in
     stopped_told (seen (λ b. (goal.Consumer-dyn g (b.vtable, b.value)).consumed b.value) (λ b. (goal.Consumer-dyn g (b.vtable, b.value)).faults b.value) (λ b. b.vtable)) g.F.Files.tells held c.args.log.now
     c.args.consumers.now.items c.replay_fed.new.consumers.items c.in-Err.fault c.stopped.result _ _
-    (told_some (seen (λ b. (goal.Consumer-dyn g (b.vtable, b.value)).consumed b.value) (λ b. (goal.Consumer-dyn g (b.vtable, b.value)).faults b.value) (λ b. b.vtable)) g.F.Files.tells (file_replayed None (held c.args.log.now))
-    c.args.consumers.now.items c.replay_fed.new.consumers.items c.args.fanout.now c.replay_fed.new.fanout c.requires c.in-Err.ensures.stopped) c.stopped.ensures.said (c.stopped.ensures.cause _ _ c.in-Err.ensures.cause.counted)
+    (told_some (seen (λ b. (goal.Consumer-dyn g (b.vtable, b.value)).consumed b.value) (λ b. (goal.Consumer-dyn g (b.vtable, b.value)).faults b.value) (λ b. b.vtable)) g.F.Files.tells (held c.args.log.now)
+    c.args.consumers.now.items c.replay_fed.new.consumers.items c.args.fanout.now c.replay_fed.new.fanout c.requires c.in-Err.ensures.part) c.stopped.ensures.said (c.stopped.ensures.cause _ _ c.in-Err.ensures.cause.counted)
 
 pub returns-in-Err-clause-fault : goal.returns-in-Err-clause-fault
 returns-in-Err-clause-fault g c = record { later = c.in-Err.ensures.cause.later; counted = c.stopped.ensures.cause _ _ c.in-Err.ensures.cause.counted }

@@ -1,9 +1,12 @@
-use Rattle.hw_run_laws.proofs.PassedLaws.{stopped}
+use Rattle.hw_run_laws.proofs.PassedLaws.{stopped, stopped_part}
 use Rattle.hw_run_laws.proofs.StepLaws.{cut_services, cut_turns, cut_hosts, cut_calls}
 use Rattle.hw_run_laws.proofs.laws.cut_runs_leave_prefixes.Goals as goal
 
 pub returns-clause-replays : goal.returns-clause-replays
 returns-clause-replays g c = stopped
+
+pub returns-clause-parts : goal.returns-clause-parts
+returns-clause-parts g c = stopped_part
 
 pub returns-clause-services : goal.returns-clause-services
 returns-clause-services g c = cut_services
