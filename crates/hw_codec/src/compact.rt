@@ -325,14 +325,19 @@ fn change_in(creator: u32, slot: u32, before: Obs, now: Obs) -> Option<Change>
 
 /// How many bytes the compact form has.
 fn compact_len(changes: &Items<Change>, unit: &WireUnit) -> usize {
-    let items = changes.as_slice().iter();
-    let changes = items.fold(4, |sum: usize, change| {
-        sum.saturating_add(change.obs.len()).saturating_add(4)
-    });
-    changes
+    changes_len(changes.as_slice())
         .saturating_add(54)
         .saturating_add(value_len(&unit.value))
         .saturating_add(list_len(unit.endorsed.as_slice()))
+}
+
+/// How many bytes the changes have with their count.
+fn changes_len(changes: &[Change]) -> usize {
+    let mut len: usize = 4;
+    for change in changes {
+        len = len.saturating_add(change.obs.len()).saturating_add(4);
+    }
+    len
 }
 
 /// Writes a unit in the compact form, with these changes.

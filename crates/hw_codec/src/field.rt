@@ -82,8 +82,11 @@ pub(crate) fn read_list<F: Field>(
 
 /// How many bytes a list has with its count.
 pub(crate) fn list_len<F: Field>(list: &[F]) -> usize {
-    list.iter()
-        .fold(4, |sum: usize, item| sum.saturating_add(item.len()))
+    let mut len: usize = 4;
+    for item in list {
+        len = len.saturating_add(item.len());
+    }
+    len
 }
 
 /// Writes how many items there are, and each of them.

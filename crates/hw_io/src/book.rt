@@ -149,10 +149,21 @@ impl SessionBook {
         self.hang_up();
         self.sessions.reserve(1)?;
         let alloc = *self.sessions.allocator();
-        let said = self.coming.pop_front().unwrap_or(Vec::new(alloc));
+        let said = self.next_said();
         self.sessions.push(MemSession::new(alloc, address, said))?;
         self.is_open = true;
         Ok(())
+    }
+
+    /// What the next peer says: nothing, where nobody told of it.
+    fn next_said(&mut self) -> Vec<u8>
+        ensures sessions { self.new.sessions ≡ self.old.sessions }
+        ensures open { self.new.is_open ≡ self.old.is_open }
+    {
+        match self.coming.pop_front() {
+            Some(said) => said,
+            None => Vec::new(*self.sessions.allocator()),
+        }
     }
 
     /// Adds a session in which the call failed that was to begin it.

@@ -85,15 +85,33 @@ impl ReadBuffer {
         ensures begun { F.begun files.new ≡ F.begun files.old }
         ensures appends { F.append_faults files.new ≡ F.append_faults files.old }
     {
-        let held = self.end - self.start;
-        if held < n {
-            make_room(&mut self.bytes, self.start, self.end, n)?;
-            self.start = 0;
-            let filled = fill(files, self.bytes.as_mut_slice(), held, n);
-            self.end = filled.end;
-            filled.outcome?;
+        if self.end - self.start < n {
+            self.read_more(files, n)?;
         }
         Ok(self.end - self.start)
+    }
+
+    /// Reads of the file until `n` bytes are held, or it is at its end.
+    fn read_more<F: Files>(&mut self, files: &mut F, n: usize) -> Result<(), IoFault>
+        requires fewer { length self.old ≤ n }
+        requires most { n ≤ MOST_AT_ONCE }
+        ensures end { IsTrue F.tells → OnOk result (length self.new < n → F.unread files.new ≡ []) }
+        ensures held { StartsWith self.new self.old }
+        ensures left { IsTrue F.tells → self.new ++ F.unread files.new ≡ self.old ++ F.unread files.old }
+        ensures allowance { F.allowance files.new + length self.new ≡ F.allowance files.old + length self.old }
+        ensures cause { HasCause (F.read_faults files.old) (F.read_faults files.new) result }
+        ensures about { IsCountedAbout (F.begun files.old) (F.faults_about files.old) (F.faults_about files.new) result }
+
+        ensures files { SameFiles (F.held files.old) (F.held files.new) }
+        ensures begun { F.begun files.new ≡ F.begun files.old }
+        ensures appends { F.append_faults files.new ≡ F.append_faults files.old }
+    {
+        let held = self.end - self.start;
+        make_room(&mut self.bytes, self.start, self.end, n)?;
+        self.start = 0;
+        let filled = fill(files, self.bytes.as_mut_slice(), held, n);
+        self.end = filled.end;
+        filled.outcome
     }
 }
 

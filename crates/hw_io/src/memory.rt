@@ -122,10 +122,11 @@ impl MemFiles {
     {
         let call = self.calls;
         self.calls = call.saturating_add(1);
-        self.planned
-            .iter()
-            .find(|planned| planned.call == call)
-            .map(|planned| planned.written)
+        let mut planned = self.planned.iter();
+        match planned.find(|planned| planned.call == call) {
+            Some(planned) => Some(planned.written),
+            None => None,
+        }
     }
 
     fn count_read_fault(&mut self)
@@ -140,6 +141,60 @@ impl MemFiles {
         ensures raised { self.new ≡ record self.old { append_faults = raised self.old.append_faults } }
     {
         self.append_faults = self.append_faults.saturating_add(1);
+    }
+
+    /// Fails a call about the file of this name, and counts it where there is memory to keep the name.
+    fn fail_about<T>(&mut self, name: &str) -> Result<T, IoFault>
+        ensures fails { IsErr result }
+        ensures cause { HasCause (mem_read_faults self.old) (mem_read_faults self.new) result }
+        ensures about { IsCountedAbout (Some name.now) (mem_faults_about self.old) (mem_faults_about self.new) result }
+        ensures others { OnlyAbout (Some name.now) (mem_faults_about self.old) (mem_faults_about self.new) }
+        ensures files { self.new.shelf.files ≡ self.old.shelf.files }
+        ensures reading { self.new.shelf.reading ≡ self.old.shelf.reading }
+        ensures calls { self.new.calls ≡ self.old.calls }
+        ensures planned { self.new.planned ≡ self.old.planned }
+        ensures appends { self.new.append_faults ≡ self.old.append_faults }
+    {
+        self.shelf.blame(name)?;
+        self.count_read_fault();
+        Err(IoFault::Failed)
+    }
+
+    /// Fails a read, and counts it for the file that was begun, where there is memory to keep the name.
+    fn fail_read<T>(&mut self) -> Result<T, IoFault>
+        ensures fails { IsErr result }
+        ensures cause { HasCause (mem_read_faults self.old) (mem_read_faults self.new) result }
+        ensures about { IsCountedAbout (mem_begun self.old) (mem_faults_about self.old) (mem_faults_about self.new) result }
+        ensures others { OnlyAbout (mem_begun self.old) (mem_faults_about self.old) (mem_faults_about self.new) }
+        ensures files { self.new.shelf.files ≡ self.old.shelf.files }
+        ensures reading { self.new.shelf.reading ≡ self.old.shelf.reading }
+        ensures calls { self.new.calls ≡ self.old.calls }
+        ensures planned { self.new.planned ≡ self.old.planned }
+        ensures appends { self.new.append_faults ≡ self.old.append_faults }
+    {
+        self.shelf.blame_begun()?;
+        self.count_read_fault();
+        Err(IoFault::Failed)
+    }
+
+    /// Puts only the first bytes at the end of the file, and counts that as an append that failed.
+    fn fail_append(&mut self, name: &str, bytes: &[u8], written: usize) -> Result<(), IoFault>
+        ensures fails { IsErr result }
+        ensures cut { CutAt written (mem_held self.old name.now) (mem_held self.new name.now) bytes.now result }
+        ensures bytes { Appended (mem_held self.old) (mem_held self.new) name.now bytes.now result }
+        ensures cause { HasCause (mem_append_faults self.old) (mem_append_faults self.new) result }
+        ensures begun { mem_begun self.new ≡ mem_begun self.old }
+        ensures unread { mem_begun self.old ≢ Some name.now → mem_unread self.new ≡ mem_unread self.old }
+        ensures reading { self.new.shelf.reading ≡ self.old.shelf.reading }
+        ensures blamed { self.new.shelf.blamed ≡ self.old.shelf.blamed }
+        ensures calls { self.new.calls ≡ self.old.calls }
+        ensures planned { self.new.planned ≡ self.old.planned }
+        ensures reads { self.new.read_faults ≡ self.old.read_faults }
+    {
+        let written = written.min(bytes.len());
+        self.shelf.append(name, &bytes[..written])?;
+        self.count_append_fault();
+        Err(IoFault::Failed)
     }
 }
 
@@ -175,9 +230,7 @@ impl Files for MemFiles {
         ensures appends { mem_append_faults self.new ≡ mem_append_faults self.old }
     {
         if self.next_call().is_some() {
-            self.shelf.blame(name)?;
-            self.count_read_fault();
-            return Err(IoFault::Failed);
+            return self.fail_about(name);
         }
         Ok(self.shelf.has(name))
     }
@@ -198,14 +251,10 @@ impl Files for MemFiles {
     {
         if self.next_call().is_some() {
             self.shelf.close();
-            self.shelf.blame(name)?;
-            self.count_read_fault();
-            return Err(IoFault::Failed);
+            return self.fail_about(name);
         }
         if !self.shelf.begin(name) {
-            self.shelf.blame(name)?;
-            self.count_read_fault();
-            return Err(IoFault::Failed);
+            return self.fail_about(name);
         }
         Ok(())
     }
@@ -227,17 +276,11 @@ impl Files for MemFiles {
         ensures appends { mem_append_faults self.new ≡ mem_append_faults self.old }
     {
         if self.next_call().is_some() {
-            self.shelf.blame_begun()?;
-            self.count_read_fault();
-            return Err(IoFault::Failed);
+            return self.fail_read();
         }
         match self.shelf.read(buf) {
             Ok(count) => Ok(count),
-            Err(_) => {
-                self.shelf.blame_begun()?;
-                self.count_read_fault();
-                Err(IoFault::Failed)
-            }
+            Err(_) => self.fail_read(),
         }
     }
 
@@ -256,12 +299,7 @@ impl Files for MemFiles {
         ensures about { mem_faults_about self.new ≡ mem_faults_about self.old }
     {
         match self.next_call() {
-            Some(written) => {
-                let written = written.min(bytes.len());
-                self.shelf.append(name, &bytes[..written])?;
-                self.count_append_fault();
-                Err(IoFault::Failed)
-            }
+            Some(written) => self.fail_append(name, bytes, written),
             None => {
                 self.shelf.append(name, bytes)?;
                 Ok(())

@@ -1,5 +1,5 @@
 //! Files in memory, of which one at a time is read. It fails only where the rules of `Files` say so.
-ghost use Rattle.std.specs.Prelude.{◌≡◌, ◌≢◌, ◌↔◌, ◌+◌, ◌-◌, ◌^◌, ◌<◌, ◌≤◌, ◌⊎◌, [], ◌++◌, Some, None, IfSome, IfNone, length, take, drop, vec_len, IsTrue, IsSome, IsNone, IsErr, OnErr, OnOk, IfErr};
+ghost use Rattle.std.specs.Prelude.{◌≡◌, ◌≢◌, ◌↔◌, ◌+◌, ◌-◌, ◌^◌, ◌<◌, ◌≤◌, ◌⊎◌, [], ◌++◌, Some, None, IfSome, IfNone, length, take, drop, vec_len, IsTrue, IsSome, IsNone, IsErr, OnErr, OnOk, IfOk, IfErr};
 ghost use Rattle.std.specs.Bool.{OnTrue, OnFalse};
 ghost use Rattle.std.specs.Option.{ForSome, option_copied};
 ghost use Rattle.std.specs.Io.KnownBytes.{ReadConsumes};
@@ -67,10 +67,10 @@ impl Shelf {
     pub(crate) fn file(&self, name: &str) -> Option<&[u8]>
         ensures { option_copied result ≡ held_in self.now.files.items name.now }
     {
-        self.files
-            .iter()
-            .find(|file| file.name.as_slice() == name.as_bytes())
-            .map(|file| file.bytes.as_slice())
+        match self.place_of(name) {
+            Some(place) => Some(self.files[place].bytes.as_slice()),
+            None => None,
+        }
     }
 
     /// Begins the file of that name, or none where there is none.
@@ -139,9 +139,10 @@ impl Shelf {
         ensures { option_copied result ≡ begun_in self.now.files.items self.now.reading }
     {
         let reading = self.reading?;
-        self.files
-            .get(reading.place)
-            .map(|file| file.name.as_slice())
+        match self.files.get(reading.place) {
+            Some(file) => Some(file.name.as_slice()),
+            None => None,
+        }
     }
 
     /// Keeps one more name of a file about which a call failed.
@@ -205,14 +206,20 @@ impl Shelf {
         ensures reading { self.new.reading ≡ self.old.reading }
         ensures blamed { self.new.blamed ≡ self.old.blamed }
     {
-        let alloc = *self.files.allocator();
-        let file = StoredFile {
-            name: Vec::from_slice(alloc, name.as_bytes())?,
-            bytes: Vec::from_slice(alloc, bytes)?,
-        };
+        let file = stored(*self.files.allocator(), name, bytes)?;
         self.files.push(file)?;
         Ok(())
     }
+}
+
+/// A file of this name with these bytes.
+fn stored(alloc: Global, name: &str, bytes: &[u8]) -> Result<StoredFile, AllocError>
+    ensures named { IfOk result (λ file. file.name.items ≡ name.now) }
+    ensures holds { IfOk result (λ file. file.bytes.items ≡ bytes.now) }
+{
+    let name = Vec::from_slice(alloc, name.as_bytes())?;
+    let bytes = Vec::from_slice(alloc, bytes)?;
+    Ok(StoredFile { name, bytes })
 }
 
 /// Copies the bytes behind those that were given, at most `piece` of them, and answers how many.

@@ -64,6 +64,34 @@ impl SureFiles {
     {
         self.read_faults = self.read_faults.saturating_add(1);
     }
+
+    /// Fails a call about the file of this name, and counts it where there is memory to keep the name.
+    fn fail_about<T>(&mut self, name: &str) -> Result<T, IoFault>
+        ensures fails { IsErr result }
+        ensures cause { HasCause (sure_read_faults self.old) (sure_read_faults self.new) result }
+        ensures about { IsCountedAbout (Some name.now) (sure_faults_about self.old) (sure_faults_about self.new) result }
+        ensures others { OnlyAbout (Some name.now) (sure_faults_about self.old) (sure_faults_about self.new) }
+        ensures files { self.new.shelf.files ≡ self.old.shelf.files }
+        ensures reading { self.new.shelf.reading ≡ self.old.shelf.reading }
+    {
+        self.shelf.blame(name)?;
+        self.count_read_fault();
+        Err(IoFault::Failed)
+    }
+
+    /// Fails a read, and counts it for the file that was begun, where there is memory to keep the name.
+    fn fail_read<T>(&mut self) -> Result<T, IoFault>
+        ensures fails { IsErr result }
+        ensures cause { HasCause (sure_read_faults self.old) (sure_read_faults self.new) result }
+        ensures about { IsCountedAbout (sure_begun self.old) (sure_faults_about self.old) (sure_faults_about self.new) result }
+        ensures others { OnlyAbout (sure_begun self.old) (sure_faults_about self.old) (sure_faults_about self.new) }
+        ensures files { self.new.shelf.files ≡ self.old.shelf.files }
+        ensures reading { self.new.shelf.reading ≡ self.old.shelf.reading }
+    {
+        self.shelf.blame_begun()?;
+        self.count_read_fault();
+        Err(IoFault::Failed)
+    }
 }
 
 impl Files for SureFiles {
@@ -104,9 +132,7 @@ impl Files for SureFiles {
         ensures files { SameFiles (sure_held self.old) (sure_held self.new) }
     {
         if !self.shelf.begin(name) {
-            self.shelf.blame(name)?;
-            self.count_read_fault();
-            return Err(IoFault::Failed);
+            return self.fail_about(name);
         }
         Ok(())
     }
@@ -127,11 +153,7 @@ impl Files for SureFiles {
     {
         match self.shelf.read(buf) {
             Ok(count) => Ok(count),
-            Err(_) => {
-                self.shelf.blame_begun()?;
-                self.count_read_fault();
-                Err(IoFault::Failed)
-            }
+            Err(_) => self.fail_read(),
         }
     }
 
