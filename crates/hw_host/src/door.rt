@@ -11,6 +11,7 @@ use crate::session::Session;
 use crate::suspects::Suspects;
 use crate::waiting::{Visitor, WaitingRoom};
 use hw_io::{Door, DoorNumbers, IoFault};
+use std::alloc::Global;
 use std::io;
 use std::io::ErrorKind;
 use std::net::{IpAddr, Net, OpenListener, OpenStream, TcpListener, TcpStream, ToSocketAddrs};
@@ -86,6 +87,22 @@ impl Peer {
         }
     }
 
+    fn who_came(alloc: Global, address: IpAddr) -> Peer {
+        Peer {
+            name: format!(in alloc; "{address}").ok(),
+            dialled: None,
+            came_from: Some(address),
+        }
+    }
+
+    fn who_is_dialled(alloc: Global, address: &str, now: Instant) -> Peer {
+        Peer {
+            name: String::from_str(alloc, address).ok(),
+            dialled: Some(now),
+            came_from: None,
+        }
+    }
+
     fn called(&self) -> &str {
         match &self.name {
             Some(name) => name.as_str(),
@@ -137,7 +154,10 @@ impl<'a, R: Net + Voice> HostDoor<'a, R> {
     /// The port at which it listens, which the system chose where the address had port 0.
     pub fn port(&self) -> Option<u16> {
         match &self.listener {
-            Some(listener) => listener.local_addr().ok().map(|address| address.port()),
+            Some(listener) => match listener.local_addr() {
+                Ok(address) => Some(address.port()),
+                Err(_) => None,
+            },
             None => None,
         }
     }
@@ -164,11 +184,7 @@ impl<'a, R: Net + Voice> HostDoor<'a, R> {
         )?;
         let alloc = self.runtime.alloc();
         let address = visitor.address;
-        self.peer = Peer {
-            name: format!(in alloc; "{address}").ok(),
-            dialled: None,
-            came_from: Some(address),
-        };
+        self.peer = Peer::who_came(alloc, address);
         let now = Instant::now(&self.runtime)?;
         let patience = self.suspects.patience(address, now);
         self.session = Some(Session::new(alloc, &self.runtime, visitor.stream, patience)?);
@@ -183,11 +199,7 @@ impl<'a, R: Net + Voice> HostDoor<'a, R> {
         self.leave();
         let alloc = self.runtime.alloc();
         let now = Instant::now(&self.runtime)?;
-        self.peer = Peer {
-            name: String::from_str(alloc, address).ok(),
-            dialled: Some(now),
-            came_from: None,
-        };
+        self.peer = Peer::who_is_dialled(alloc, address, now);
         let Some(patience) = self.hung.patience(address, now) else {
             return Err(resting());
         };

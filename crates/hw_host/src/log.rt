@@ -41,8 +41,8 @@ impl LogFile {
     pub fn new(alloc: Global, name: &str) -> Result<LogFile, AllocError>
         ensures name { IfOk result (λ log. string_bytes log.name ≡ name.now) }
     {
-        let lock_name = format!(in alloc; "{name}{LOCK_SUFFIX}")?;
-        let part_name = format!(in alloc; "{name}{PART_SUFFIX}")?;
+        let lock_name = beside(alloc, name, LOCK_SUFFIX)?;
+        let part_name = beside(alloc, name, PART_SUFFIX)?;
         let name = String::from_str(alloc, name)?;
         Ok(LogFile {
             name,
@@ -175,13 +175,29 @@ impl LogState {
 
     /// Whether there is no log, and this process found none.
     fn has_none<R: rt::Files<File = File>>(&self, runtime: &R, name: &str) -> bool {
-        if self.file.is_some() || self.length.is_some_and(|known| known > 0) {
+        if self.file.is_some() || self.has_bytes() {
             return false;
         }
         // A link that leads nowhere is there: what it names is made in its place.
         match fs::symlink_metadata(runtime, name) {
             Ok(_) => false,
             Err(error) => error.kind() == ErrorKind::NotFound,
+        }
+    }
+
+    /// Whether the log was found with bytes in it, or left so.
+    fn has_bytes(&self) -> bool {
+        match self.length {
+            Some(known) => known > 0,
+            None => false,
+        }
+    }
+
+    /// Whether the log was found or left with another length than this.
+    fn differs(&self, length: u64) -> bool {
+        match self.length {
+            Some(known) => known != length,
+            None => false,
         }
     }
 
@@ -221,7 +237,7 @@ impl LogState {
         if length == 0 {
             self.folder = folder_of(runtime, name).ok();
         }
-        if self.length.is_some_and(|known| known != length) {
+        if self.differs(length) {
             return Err(io::Error::other("another process wrote to it"));
         }
         self.unsynced = true;
@@ -249,6 +265,11 @@ impl LogState {
         self.unsynced = outcome.is_err();
         self.lose_on(outcome)
     }
+}
+
+/// The name of a file beside the log of that name.
+fn beside(alloc: Global, name: &str, suffix: &str) -> Result<String, AllocError> {
+    format!(in alloc; "{name}{suffix}")
 }
 
 /// The file of that name, open to append to it, and made where it is missing. This process alone has it.

@@ -52,9 +52,10 @@ impl<S: OpenStream + Read + Write + Drop> Session<S> {
     ) -> io::Result<Session<S>> {
         stream.set_nonblocking(false)?;
         stream.set_nodelay(true)?;
+        let began = Instant::now(clock)?;
         Ok(Session {
             stream,
-            began: Instant::now(clock)?,
+            began,
             patience,
             wait: 0,
             moved: 0,
