@@ -1,8 +1,7 @@
 -- What a node knows that reads frame by frame.
-use Rattle.std.proofs.Common.{◌≡◌, ℕ, ◌+◌, ◌≤◌, List, [], ◌∷◌, ◌++◌, length, sym, ap, subst, arith, length-append}
+use Rattle.std.proofs.Common.{◌≡◌, ℕ, ◌+◌, ◌≤◌, List, [], ◌∷◌, ◌++◌, length, sym, subst, length-append}
 use Rattle.std.proofs.lemmas.List.{append_assoc, take_all}
 use Rattle.hw_types.specs.declared.answers.Frame.{Frame}
-use Rattle.hw_link.specs.declared.end.SessionEnd.{SessionEnd}
 use Rattle.hw_link.specs.Frames.{Placed, rest_at, frames_of, byte_limit}
 use Rattle.hw_link.specs.Talk.{Reaction, Talk, talk_over}
 use Rattle.hw_link.specs.UnderWay.{UnderWay, HasHeard, placed_behind, TalkBegins, FrameLeadsOn, FrameEnds, NoFrameEnds, ReadsFrameByFrame}

@@ -1,9 +1,8 @@
 -- What a read of a link says.
-use Rattle.std.proofs.Common.{◌≡◌, ℕ, ◌+◌, ◌<◌, ◌≤◌, Bool, true, false, cond, inl, inr, List, [], ◌∷◌, ◌++◌, length, Option, Result, Ok, Err, refl, sym, ap, subst, ◌∙◌, arith, length-append}
+use Rattle.std.proofs.Common.{◌≡◌, ℕ, ◌+◌, ◌<◌, ◌≤◌, Bool, true, false, cond, inl, inr, List, [], ◌++◌, length, Option, Result, Ok, Err, refl, sym, ap, subst, ◌∙◌, arith, length-append}
 use Rattle.std.specs.Prelude.{nat_le, ◌==◌}
 use Rattle.std.specs.Int.{w32, from_be_bytes}
 use Rattle.std.proofs.lemmas.Bool.{leb-false, cases_lt}
-use Rattle.std.proofs.lemmas.List.{append-nil}
 use Rattle.hw_io.specs.declared.outside.IoFault.{IoFault}
 use Rattle.hw_io.specs.declared.outside.IoFault.TheVariants.{Failed, OutOfMemory as NoMemory}
 use Rattle.hw_io.specs.Doors.{Session}
@@ -14,9 +13,9 @@ use Rattle.hw_link.specs.declared.read.Heard.{Heard}
 use Rattle.hw_link.specs.Frames.{rest_at, byte_limit, cut_end}
 use Rattle.hw_link.specs.UnderWay.{EndsIn, IsRefused}
 use Rattle.hw_link.specs.Links.{after_part, end_of_fault, has_failed, is_link_fault, IsLinkCounted}
-use Rattle.hw_link.specs.Heard.{Says, IsEndCounted, Hears, IsHeard, IsLength, IsFrontOf, IsFront, IsDecoded}
+use Rattle.hw_link.specs.Heard.{IsEndCounted, Hears, IsHeard, IsLength, IsFrontOf, IsFront, IsDecoded}
 use Rattle.hw_link.proofs.FrameReadLaws.{frame_is_read, bad_body, bad_length, refused_ends}
-use Rattle.hw_link.proofs.LinkLaws.{after_parts, after_nothing}
+use Rattle.hw_link.proofs.LinkLaws.{after_parts}
 
 -- a fault is the same whatever the value would be
 pub failed_alike : (A B : Type 0) (fault : IoFault) → has_failed {T = A} (Err fault) ≡ has_failed {T = B} (Err fault)

@@ -1,11 +1,10 @@
 -- What was heard of a peer.
 -- Source: ours.
-use Rattle.std.specs.Prelude.{◌≡◌, ℕ, ◌+◌, ◌≤◌, ◌⊎◌, IsTrue, false, List, [], ◌∷◌, ◌++◌, length, Option, Result, Ok, Err, MatchResult}
+use Rattle.std.specs.Prelude.{◌≡◌, ℕ, ◌+◌, ◌≤◌, ◌⊎◌, IsTrue, false, List, [], ◌++◌, length, Option, Result, Ok, Err, MatchResult}
 use Rattle.std.specs.Int.{w32, from_be_bytes}
 use Rattle.hw_io.specs.Doors.{Session}
 use Rattle.hw_io.specs.Faults.{raised}
 use Rattle.hw_types.specs.Limits.{is_within}
-use Rattle.hw_types.specs.declared.answers.Frame.{Frame}
 use Rattle.hw_types.specs.declared.answers.CodecError.{CodecError}
 use Rattle.hw_types.specs.Reading.{frame_of}
 use Rattle.hw_link.specs.declared.end.SessionEnd.{SessionEnd}

@@ -1,6 +1,6 @@
 -- What was sent to a peer.
 -- Source: ours.
-use Rattle.std.specs.Prelude.{◌≡◌, ℕ, List, [], take, Option, Result, Ok, Err, OnOk, IfErr}
+use Rattle.std.specs.Prelude.{◌≡◌, ℕ, List, [], Option, Result, OnOk, IfErr}
 use Rattle.hw_io.specs.Doors.{Session}
 use Rattle.hw_io.specs.declared.outside.IoFault.{IoFault}
 use Rattle.hw_link.specs.declared.end.SessionEnd.{SessionEnd}

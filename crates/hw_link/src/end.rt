@@ -7,6 +7,7 @@ ghost use Rattle.hw_link.specs.Links.{end_of_fault};
 
 use hw_io::IoFault;
 use hw_types::OutOfMemory;
+use std::alloc::AllocError;
 
 /// How many bytes are read in one session: 268,435,456.
 pub const BYTE_LIMIT: u64 = 268_435_456;
@@ -42,13 +43,22 @@ impl From<OutOfMemory> for SessionEnd {
     }
 }
 
-/// How a session ends by this fault of the door.
-pub(crate) fn end_of_fault(fault: IoFault) -> SessionEnd
-    ensures { result ≡ end_of_fault fault }
-{
-    match fault {
-        IoFault::Failed => SessionEnd::LinkFault,
-        IoFault::OutOfMemory => SessionEnd::OutOfMemory,
+impl From<AllocError> for SessionEnd {
+    ghost from_gives = { λ _ e. e ≡ end.OutOfMemory };
+
+    fn from(_error: AllocError) -> SessionEnd {
+        SessionEnd::OutOfMemory
+    }
+}
+
+impl From<IoFault> for SessionEnd {
+    ghost from_gives = { λ fault e. e ≡ end_of_fault fault };
+
+    fn from(fault: IoFault) -> SessionEnd {
+        match fault {
+            IoFault::Failed => SessionEnd::LinkFault,
+            IoFault::OutOfMemory => SessionEnd::OutOfMemory,
+        }
     }
 }
 

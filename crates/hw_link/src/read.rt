@@ -5,7 +5,7 @@ ghost use Rattle.hw_types.specs.Spelling.{FrameFits};
 ghost use Rattle.hw_link.specs.Links.{IsLinkCounted};
 ghost use Rattle.hw_link.specs.Heard.{Hears, IsLength, IsFrontOf, IsHeard, IsFront, IsDecoded};
 
-use crate::end::{BYTE_LIMIT, SessionEnd, cut_end, end_of_fault};
+use crate::end::{BYTE_LIMIT, SessionEnd, cut_end};
 use crate::fill::fill;
 use hw_codec::decode_frame;
 use hw_io::Door;
@@ -70,15 +70,11 @@ fn read_front<D: Door>(door: &mut D, place: u64) -> Result<[u8; 4], SessionEnd>
     let mut front = [0; FRONT];
     let room = room_behind(place, FRONT);
     let filled = fill(door, &mut front, room);
-    match filled.outcome {
-        Err(fault) => Err(end_of_fault(fault)),
-        Ok(()) => {
-            if filled.end < FRONT {
-                return Err(cut_end(place, filled.end));
-            }
-            checked_front(place, front)
-        }
+    filled.outcome?;
+    if filled.end < FRONT {
+        return Err(cut_end(place, filled.end));
     }
+    checked_front(place, front)
 }
 
 /// The length of a frame, if it is one that a frame may have.
@@ -114,21 +110,13 @@ fn read_body<D: Door>(
 {
     let length = u32::from_be_bytes(front) as usize;
     let room = room_behind(place + FRONT as u64, length);
-    match vec![in alloc; 0; room] {
-        Ok(mut body) => {
-            let filled = fill(door, body.as_mut_slice(), room);
-            match filled.outcome {
-                Err(fault) => Err(end_of_fault(fault)),
-                Ok(()) => {
-                    if filled.end < length {
-                        return Err(cut_end(place, FRONT + filled.end));
-                    }
-                    decoded(alloc, place, body.as_slice())
-                }
-            }
-        }
-        Err(_) => Err(SessionEnd::OutOfMemory),
+    let mut body = vec![in alloc; 0; room]?;
+    let filled = fill(door, body.as_mut_slice(), room);
+    filled.outcome?;
+    if filled.end < length {
+        return Err(cut_end(place, FRONT + filled.end));
     }
+    decoded(alloc, place, body.as_slice())
 }
 
 /// The frame that begins at this place and has these bytes behind its length.

@@ -7,7 +7,7 @@ ghost use Rattle.hw_link.specs.Frames.{framed};
 ghost use Rattle.hw_link.specs.Links.{IsLinkCounted};
 ghost use Rattle.hw_link.specs.Sent.{Sends, SendsPart};
 
-use crate::end::{SessionEnd, end_of_fault};
+use crate::end::SessionEnd;
 use hw_codec::{encode_frame, frame_is_in_range};
 use hw_io::{Door, IoFault};
 use hw_types::{Bytes, Frame, OutOfMemory};
@@ -25,13 +25,9 @@ pub fn send_frame<D: Door>(alloc: Global, door: &mut D, frame: &Frame) -> Result
     ensures accepts { D.accepts door.new ≡ D.accepts door.old }
     ensures dials { D.dials door.new ≡ D.dials door.old }
 {
-    match framed(alloc, frame) {
-        Ok(bytes) => match send_all(door, bytes.as_slice()) {
-            Ok(()) => Ok(()),
-            Err(fault) => Err(end_of_fault(fault)),
-        },
-        Err(_) => Err(SessionEnd::OutOfMemory),
-    }
+    let bytes = framed(alloc, frame)?;
+    send_all(door, bytes.as_slice())?;
+    Ok(())
 }
 
 /// A frame behind its length.
