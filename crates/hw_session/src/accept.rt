@@ -52,10 +52,8 @@ impl Node {
         ensures allowance { F.allowance files.new ≡ F.allowance files.old }
         ensures reads { F.read_faults files.new ≡ F.read_faults files.old }
     {
-        match self.judged(&vertex) {
-            Ok(judged) => self.take(files, vertex, judged),
-            Err(OutOfMemory) => Err(AcceptFault::OutOfMemory),
-        }
+        let judged = self.judged(&vertex)?;
+        self.take(files, vertex, judged)
     }
 
     /// The verdict on a vertex, its name where it is a unit, and its entry. A unit is hashed once for all three.
@@ -211,10 +209,8 @@ impl Node {
                 Ok(receipt)
             }
             Receipt::Admitted { .. } | Receipt::Parked { .. } | Receipt::Dropped(_) => {
-                match put_entry(&mut self.lasts, files, self.log.as_str(), entry) {
-                    Ok(()) => Ok(receipt),
-                    Err(error) => Err(accept_fault(error)),
-                }
+                put_entry(&mut self.lasts, files, self.log.as_str(), entry)?;
+                Ok(receipt)
             }
         }
     }
@@ -266,14 +262,10 @@ impl Node {
         requires { VertexFits vertex.now }
         ensures { Counts self.old vertex.now (cause.Clash known) self.new result }
     {
-        match clash_units(self.alloc, &self.core, &known, vertex) {
-            Ok(clash) => {
-                self.refused = self.refused.saturating_add(1);
-                self.clash = Some(clash);
-                Err(AcceptFault::Refused(Cause::Clash { known }))
-            }
-            Err(OutOfMemory) => Err(AcceptFault::OutOfMemory),
-        }
+        let clash = clash_units(self.alloc, &self.core, &known, vertex)?;
+        self.refused = self.refused.saturating_add(1);
+        self.clash = Some(clash);
+        Err(AcceptFault::Refused(Cause::Clash { known }))
     }
 }
 
@@ -315,11 +307,13 @@ fn spelling_of(alloc: Global, unit: Option<&SignedUnit>) -> Result<Bytes, OutOfM
 }
 
 /// What a failed append is answered as.
-fn accept_fault(error: LogError) -> AcceptFault
-    ensures { result ≡ accept_fault error }
-{
-    match error {
-        LogError::WriteFault => AcceptFault::AppendFault,
-        _ => AcceptFault::OutOfMemory,
+impl From<LogError> for AcceptFault {
+    ghost from_gives = { λ error e. e ≡ accept_fault error };
+
+    fn from(error: LogError) -> AcceptFault {
+        match error {
+            LogError::WriteFault => AcceptFault::AppendFault,
+            _ => AcceptFault::OutOfMemory,
+        }
     }
 }

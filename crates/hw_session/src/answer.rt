@@ -47,10 +47,8 @@ pub fn answer_have<D: Door>(
     ensures dials { D.dials door.new ≡ D.dials door.old }
 {
     let next = place + part_length(core.journal_count(), place);
-    match send_part(alloc, core, door, place, next) {
-        Ok(()) => say(alloc, door, Frame::Have(next)),
-        Err(end) => Err(end),
-    }
+    send_part(alloc, core, door, place, next)?;
+    say(alloc, door, Frame::Have(next))
 }
 
 /// How many vertices of a journal of this length are sent from this place on.
@@ -81,10 +79,7 @@ fn send_part<D: Door>(
     ensures dials { D.dials door.new ≡ D.dials door.old }
 {
     for at in place..next {
-        match send_vertex(alloc, door, core.journal_at(at)) {
-            Ok(()) => {}
-            Err(end) => return Err(end),
-        }
+        send_vertex(alloc, door, core.journal_at(at))?;
     }
     Ok(())
 }
@@ -105,10 +100,8 @@ pub fn answer_want<D: Door>(
     ensures accepts { D.accepts door.new ≡ D.accepts door.old }
     ensures dials { D.dials door.new ≡ D.dials door.old }
 {
-    match send_wanted(alloc, core, door, needs) {
-        Ok(()) => say(alloc, door, Frame::Have(core.journal_count())),
-        Err(end) => Err(end),
-    }
+    send_wanted(alloc, core, door, needs)?;
+    say(alloc, door, Frame::Have(core.journal_count()))
 }
 
 /// Sends for each need in order what there is. A peer may ask for evidence against one validator in each of its
@@ -151,10 +144,7 @@ fn send_each<D: Door>(
     ensures dials { D.dials door.new ≡ D.dials door.old }
 {
     for need in needs {
-        match send_for(alloc, core, pairs, door, need) {
-            Ok(()) => {}
-            Err(end) => return Err(end),
-        }
+        send_for(alloc, core, pairs, door, need)?;
     }
     Ok(())
 }
@@ -178,10 +168,8 @@ fn send_for<D: Door>(
     ensures accepts { D.accepts door.new ≡ D.accepts door.old }
     ensures dials { D.dials door.new ≡ D.dials door.old }
 {
-    match vertices_with(alloc, core, pairs, need) {
-        Ok(vertices) => send_found(alloc, door, need, vertices.as_slice()),
-        Err(OutOfMemory) => Err(SessionEnd::OutOfMemory),
-    }
+    let vertices = vertices_with(alloc, core, pairs, need)?;
+    send_found(alloc, door, need, vertices.as_slice())
 }
 
 /// Sends these vertices of a need, or the need as missing where there is none.
@@ -225,10 +213,7 @@ fn send_vertices<D: Door>(
     ensures dials { D.dials door.new ≡ D.dials door.old }
 {
     for vertex in vertices {
-        match send_vertex(alloc, door, vertex) {
-            Ok(()) => {}
-            Err(end) => return Err(end),
-        }
+        send_vertex(alloc, door, vertex)?;
     }
     Ok(())
 }
@@ -245,10 +230,7 @@ pub fn send_vertex<D: Door>(alloc: Global, door: &mut D, vertex: &Vertex) -> Res
     ensures accepts { D.accepts door.new ≡ D.accepts door.old }
     ensures dials { D.dials door.new ≡ D.dials door.old }
 {
-    match vertex.copy() {
-        Ok(copy) => say(alloc, door, Frame::Vertex(copy)),
-        Err(OutOfMemory) => Err(SessionEnd::OutOfMemory),
-    }
+    say(alloc, door, Frame::Vertex(vertex.copy()?))
 }
 
 /// What is wanted of a peer whose vertex had this receipt: where it is parked, which is then the journal's

@@ -21,7 +21,6 @@ use crate::answer::send_vertex;
 use crate::fault::AcceptFault;
 use crate::node::Node;
 use crate::say::say;
-use crate::serve::end_of_fault;
 use crate::stage::{Onward, PeerMark, Stage};
 use hw_io::{Door, Files};
 use hw_link::{BYTE_LIMIT, SessionEnd, read_frame};
@@ -74,7 +73,7 @@ impl Node {
                 door.hang_up();
                 end
             }
-            Err(fault) => end_of_fault(fault),
+            Err(fault) => SessionEnd::from(fault),
         }
     }
 
@@ -113,10 +112,8 @@ impl Node {
         ensures accepts { D.accepts door.new ≡ D.accepts door.old }
         ensures dials { D.dials door.new ≡ D.dials door.old }
     {
-        match self.instance() {
-            Ok(instance) => say(self.alloc, door, Frame::Hello(instance)),
-            Err(OutOfMemory) => Err(SessionEnd::OutOfMemory),
-        }
+        let instance = self.instance()?;
+        say(self.alloc, door, Frame::Hello(instance))
     }
 
     /// Handles the frames of a peer to which it said Hello, up to the end of the session.
@@ -177,16 +174,12 @@ impl Node {
         ensures allowance { F.allowance files.new ≡ F.allowance files.old }
         ensures reads { F.read_faults files.new ≡ F.read_faults files.old }
     {
-        match read_frame(self.alloc, door, place) {
-            Ok(heard) => match self.drive_frame(mark, door, files, place, stage, heard.frame) {
-                Ok(stage) => Ok(Onward {
-                    place: heard.next,
-                    stage,
-                }),
-                Err(end) => Err(end),
-            },
-            Err(end) => Err(end),
-        }
+        let heard = read_frame(self.alloc, door, place)?;
+        let stage = self.drive_frame(mark, door, files, place, stage, heard.frame)?;
+        Ok(Onward {
+            place: heard.next,
+            stage,
+        })
     }
 
     /// Handles the frame that begins at this place of the session, waiting for this. What is waited for then.
@@ -283,15 +276,11 @@ impl Node {
         ensures accepts { D.accepts door.new ≡ D.accepts door.old }
         ensures dials { D.dials door.new ≡ D.dials door.old }
     {
-        match self.instance() {
-            Ok(own) => {
-                if instance == own {
-                    self.push(mark, door, self.to_push(mark))
-                } else {
-                    Err(SessionEnd::WrongInstance)
-                }
-            }
-            Err(OutOfMemory) => Err(SessionEnd::OutOfMemory),
+        let own = self.instance()?;
+        if instance == own {
+            self.push(mark, door, self.to_push(mark))
+        } else {
+            Err(SessionEnd::WrongInstance)
         }
     }
 
@@ -319,10 +308,8 @@ impl Node {
         if left == 0 || mark.pushed >= self.core.journal_count() {
             return self.pull(mark, door, MOST_AGAIN);
         }
-        match send_vertex(self.alloc, door, self.core.journal_at(mark.pushed)) {
-            Ok(()) => Ok(Stage::Pushing(left - 1)),
-            Err(end) => Err(end),
-        }
+        send_vertex(self.alloc, door, self.core.journal_at(mark.pushed))?;
+        Ok(Stage::Pushing(left - 1))
     }
 
     /// Handles the Want for the vertex that was pushed.
@@ -367,10 +354,8 @@ impl Node {
         ensures accepts { D.accepts door.new ≡ D.accepts door.old }
         ensures dials { D.dials door.new ≡ D.dials door.old }
     {
-        match say(self.alloc, door, Frame::Have(mark.pulled)) {
-            Ok(()) => Ok(Stage::Pulling(again)),
-            Err(end) => Err(end),
-        }
+        say(self.alloc, door, Frame::Have(mark.pulled))?;
+        Ok(Stage::Pulling(again))
     }
 
     /// Handles a vertex of the peer's journal, or the place up to which it has told.
@@ -441,10 +426,8 @@ impl Node {
         ensures accepts { D.accepts door.new ≡ D.accepts door.old }
         ensures dials { D.dials door.new ≡ D.dials door.old }
     {
-        match self.unmet() {
-            Ok(needs) => self.want_these(mark, door, needs),
-            Err(OutOfMemory) => Err(SessionEnd::OutOfMemory),
-        }
+        let needs = self.unmet()?;
+        self.want_these(mark, door, needs)
     }
 
     /// Wants these needs, which are what parked units miss first, and says Done where there are none.
@@ -468,10 +451,8 @@ impl Node {
         if needs.len() == 0 {
             return self.leave(mark, door);
         }
-        match say(self.alloc, door, Frame::Want(needs)) {
-            Ok(()) => Ok(Stage::Wanting),
-            Err(end) => Err(end),
-        }
+        say(self.alloc, door, Frame::Want(needs))?;
+        Ok(Stage::Wanting)
     }
 
     /// The first 64 needs that parked units miss.
@@ -528,10 +509,8 @@ impl Node {
         ensures accepts { D.accepts door.new ≡ D.accepts door.old }
         ensures dials { D.dials door.new ≡ D.dials door.old }
     {
-        match say(self.alloc, door, Frame::Done) {
-            Ok(()) => Ok(Stage::Leaving),
-            Err(end) => Err(end),
-        }
+        say(self.alloc, door, Frame::Done)?;
+        Ok(Stage::Leaving)
     }
 
     /// Takes a vertex of the peer, and goes on to wait for this. A clash ends the session.

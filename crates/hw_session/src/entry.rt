@@ -64,11 +64,7 @@ pub fn put_entry<F: Files>(
     ensures allowance { F.allowance files.new ≡ F.allowance files.old }
     ensures reads { F.read_faults files.new ≡ F.read_faults files.old }
 {
-    match append_entry(files, log, &entry.bytes) {
-        Ok(()) => {
-            lasts.note(entry.noted);
-            Ok(())
-        }
-        Err(error) => Err(error),
-    }
+    append_entry(files, log, &entry.bytes)?;
+    lasts.note(entry.noted);
+    Ok(())
 }

@@ -2,6 +2,7 @@
 
 ghost use Rattle.std.specs.Prelude.{◌≡◌};
 ghost use Rattle.hw_session.specs.declared.fault.MakeFault.TheVariants as fault;
+ghost use Rattle.hw_session.specs.declared.fault.AcceptFault.TheVariants as accept;
 
 use hw_types::{Cause, OutOfMemory};
 
@@ -35,4 +36,12 @@ pub enum AcceptFault {
     AppendFault,
     /// There was no memory. Where it was the append's, the same holds as after `AppendFault`.
     OutOfMemory,
+}
+
+impl From<OutOfMemory> for AcceptFault {
+    ghost from_gives = { λ _ e. e ≡ accept.OutOfMemory };
+
+    fn from(_error: OutOfMemory) -> AcceptFault {
+        AcceptFault::OutOfMemory
+    }
 }

@@ -45,10 +45,9 @@ impl Node {
         ensures allowance { F.allowance files.new ≡ F.allowance files.old }
         ensures reads { F.read_faults files.new ≡ F.read_faults files.old }
     {
-        match next_unit(self.alloc, self.core.state(), me, now, value) {
-            Ok(Some(plan)) => self.make_planned(files, plan),
-            Ok(None) => Ok(None),
-            Err(OutOfMemory) => Err(MakeFault::OutOfMemory),
+        match next_unit(self.alloc, self.core.state(), me, now, value)? {
+            Some(plan) => self.make_planned(files, plan),
+            None => Ok(None),
         }
     }
 }
@@ -78,10 +77,8 @@ impl Node {
         ensures allowance { F.allowance files.new ≡ F.allowance files.old }
         ensures reads { F.read_faults files.new ≡ F.read_faults files.old }
     {
-        match self.own_unit(&plan) {
-            Ok(own) => self.take_own(files, plan, own),
-            Err(OutOfMemory) => Err(MakeFault::OutOfMemory),
-        }
+        let own = self.own_unit(&plan)?;
+        self.take_own(files, plan, own)
     }
 
     /// The unit of a plan, signed by its creator, its name and its entry.
@@ -168,18 +165,18 @@ fn put_own<F: Files>(
     ensures allowance { F.allowance files.new ≡ F.allowance files.old }
     ensures reads { F.read_faults files.new ≡ F.read_faults files.old }
 {
-    match put_entry(lasts, files, log, entry) {
-        Ok(()) => Ok(Some(plan)),
-        Err(error) => Err(fault_of_append(error)),
-    }
+    put_entry(lasts, files, log, entry)?;
+    Ok(Some(plan))
 }
 
 /// What a failed append is answered as.
-fn fault_of_append(error: LogError) -> MakeFault
-    ensures { result ≡ fault_of_append error }
-{
-    match error {
-        LogError::WriteFault => MakeFault::AppendFault,
-        _ => MakeFault::OutOfMemory,
+impl From<LogError> for MakeFault {
+    ghost from_gives = { λ error e. e ≡ fault_of_append error };
+
+    fn from(error: LogError) -> MakeFault {
+        match error {
+            LogError::WriteFault => MakeFault::AppendFault,
+            _ => MakeFault::OutOfMemory,
+        }
     }
 }

@@ -6,7 +6,7 @@ ghost use Rattle.hw_types.specs.declared.unit.Vertex.{Vertex};
 ghost use Rattle.hw_types.specs.declared.answers.Frame.TheVariants as frame;
 ghost use Rattle.hw_io.specs.Faults.{raised};
 ghost use Rattle.hw_link.specs.Frames.{framed};
-ghost use Rattle.hw_link.specs.Links.{IsLinkCounted, end_of_fault};
+ghost use Rattle.hw_link.specs.Links.{IsLinkCounted};
 ghost use Rattle.hw_link.specs.Sent.{Sends};
 ghost use Rattle.hw_session.specs.Serving.{answer_to_vertex, is_clash, serve_first, serve_frame, serve_vertex, serve_step, wanted_by};
 ghost use Rattle.hw_session.specs.Handling.{Reacts, Answers, hello_of, StandsLast, Quits, Handles, IsLogCounted, IsLogEnd, IsLinkEnd};
@@ -17,7 +17,7 @@ use crate::fault::AcceptFault;
 use crate::node::Node;
 use crate::say::say;
 use hw_codec::instance_of;
-use hw_io::{Door, Files, IoFault};
+use hw_io::{Door, Files};
 use hw_link::{BYTE_LIMIT, SessionEnd, read_frame};
 use hw_types::{Cause, Digest, Frame, NeedList, OutOfMemory, Receipt, Vertex};
 
@@ -54,7 +54,7 @@ impl Node {
                 door.hang_up();
                 end
             }
-            Err(fault) => end_of_fault(fault),
+            Err(fault) => SessionEnd::from(fault),
         }
     }
 
@@ -104,13 +104,9 @@ impl Node {
         ensures allowance { F.allowance files.new ≡ F.allowance files.old }
         ensures reads { F.read_faults files.new ≡ F.read_faults files.old }
     {
-        match read_frame(self.alloc, door, place) {
-            Ok(heard) => match self.answer(door, files, place, heard.frame) {
-                Ok(()) => Ok(heard.next),
-                Err(end) => Err(end),
-            },
-            Err(end) => Err(end),
-        }
+        let heard = read_frame(self.alloc, door, place)?;
+        self.answer(door, files, place, heard.frame)?;
+        Ok(heard.next)
     }
 
     /// Answers the frame that begins at this place of the session.
@@ -170,15 +166,11 @@ impl Node {
         ensures accepts { D.accepts door.new ≡ D.accepts door.old }
         ensures dials { D.dials door.new ≡ D.dials door.old }
     {
-        match self.instance() {
-            Ok(own) => {
-                if instance == own {
-                    say(self.alloc, door, Frame::Hello(own))
-                } else {
-                    Err(SessionEnd::WrongInstance)
-                }
-            }
-            Err(OutOfMemory) => Err(SessionEnd::OutOfMemory),
+        let own = self.instance()?;
+        if instance == own {
+            say(self.alloc, door, Frame::Hello(own))
+        } else {
+            Err(SessionEnd::WrongInstance)
         }
     }
 
@@ -232,10 +224,8 @@ impl Node {
         ensures accepts { D.accepts door.new ≡ D.accepts door.old }
         ensures dials { D.dials door.new ≡ D.dials door.old }
     {
-        match say(self.alloc, door, Frame::Done) {
-            Ok(()) => Err(SessionEnd::Done),
-            Err(end) => Err(end),
-        }
+        say(self.alloc, door, Frame::Done)?;
+        Err(SessionEnd::Done)
     }
 
     /// Takes a vertex, and answers it with a Want. A clash ends the session without an answer.
@@ -297,10 +287,8 @@ impl Node {
         ensures accepts { D.accepts door.new ≡ D.accepts door.old }
         ensures dials { D.dials door.new ≡ D.dials door.old }
     {
-        match wanted(self.alloc, &self.core, receipt) {
-            Ok(needs) => say(self.alloc, door, Frame::Want(needs)),
-            Err(OutOfMemory) => Err(SessionEnd::OutOfMemory),
-        }
+        let needs = wanted(self.alloc, &self.core, receipt)?;
+        say(self.alloc, door, Frame::Want(needs))
     }
 }
 
@@ -319,23 +307,5 @@ pub(crate) fn hello_of(frame: &Frame) -> Option<Digest>
 pub(crate) fn is_clash(cause: &Cause) -> bool
     ensures { result ≡ is_clash cause.now }
 {
-    match cause {
-        Cause::Clash { .. } => true,
-        Cause::BadSignature
-        | Cause::Local(_)
-        | Cause::Pair(_)
-        | Cause::RecordsFull
-        | Cause::ParkFull
-        | Cause::OutOfMemory => false,
-    }
-}
-
-/// How a session ends by this fault of the door.
-pub(crate) fn end_of_fault(fault: IoFault) -> SessionEnd
-    ensures { result ≡ end_of_fault fault }
-{
-    match fault {
-        IoFault::Failed => SessionEnd::LinkFault,
-        IoFault::OutOfMemory => SessionEnd::OutOfMemory,
-    }
+    matches!(cause, Cause::Clash { .. })
 }

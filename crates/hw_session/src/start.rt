@@ -112,13 +112,8 @@ impl Node {
 
         ensures reads { F.read_faults files.new ≡ F.read_faults files.old }
     {
-        match put_header(alloc, files, log, &config) {
-            Ok(()) => match new_node(alloc, log, config, keys) {
-                Ok(node) => Ok(node),
-                Err(OutOfMemory) => Err(StartFault::OutOfMemory),
-            },
-            Err(fault) => Err(fault),
-        }
+        put_header(alloc, files, log, &config)?;
+        Ok(new_node(alloc, log, config, keys)?)
     }
 }
 
@@ -142,10 +137,8 @@ fn go_on<F: Files>(
     ensures appends { F.append_faults files.new ≡ F.append_faults files.old }
 {
     let name = name_of(alloc, log)?;
-    match replay_log(alloc, files, log, Some(config)) {
-        Ok(replay) => Ok(Node::replayed(alloc, name, config, keys, replay)),
-        Err(fault) => Err(fault),
-    }
+    let replay = replay_log(alloc, files, log, Some(config))?;
+    Ok(Node::replayed(alloc, name, config, keys, replay))
 }
 
 /// A node that has received nothing, whose log has this name and the version of new ones.
@@ -204,10 +197,7 @@ fn put_header<F: Files>(
 fn name_of(alloc: Global, log: &str) -> Result<String, OutOfMemory>
     ensures { IfOk result (λ name. string_bytes name ≡ log.now) }
 {
-    match String::from_str(alloc, log) {
-        Ok(name) => Ok(name),
-        Err(_) => Err(OutOfMemory),
-    }
+    Ok(String::from_str(alloc, log)?)
 }
 
 /// What a failed `exists` is answered as.

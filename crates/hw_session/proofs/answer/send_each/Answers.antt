@@ -1,5 +1,6 @@
 use Rattle.std.proofs.Common.{[], get_or, Ok, Err, refl, ◌∙◌}
 use Rattle.std.proofs.lemmas.Option.{slice_get-get_or}
+use Rattle.std.proofs.lemmas.Result.{err_from_is_err_and}
 use Rattle.hw_types.specs.declared.unit.Digest.{Digest}
 use Rattle.hw_types.specs.declared.unit.Need.{Need}
 use Rattle.hw_types.specs.declared.unit.Need.TheVariants as need
@@ -21,21 +22,23 @@ loop-need-init g c = record {
 abbrev no_need : Need
 no_need = let zero : Digest = record { 0 = [] } in need.Unit zero
 
-pub returns-in-Err-clause-sent : goal.returns-in-Err-clause-sent
-returns-in-Err-clause-sent g c =
+pub returns-in_err-send_for-clause-sent : goal.returns-in_err-send_for-clause-sent
+returns-in_err-send_for-clause-sent g c =
     let l = c.loop-need in
     let x : Need = get_or c.args.needs.now l.need-index no_need in
     let core = c.args.core.now in
-    sends_broken (sent_for_all core) (needs_join core) c.args.needs.now (g.D.Door.sessions c.args.door.now) (g.D.Door.sessions l.door) (g.D.Door.sessions c.send_for.new.door) l.need-index l.invariant.sent x c.in-Err.end
+    let p = err_from_is_err_and c.from_residual.result c.from_residual.ensures.1 in
+    rw (p.1, p.2)
+    (sends_broken (sent_for_all core) (needs_join core) c.args.needs.now (g.D.Door.sessions c.args.door.now) (g.D.Door.sessions l.door) (g.D.Door.sessions c.send_for.new.door) l.need-index l.invariant.sent x c.in_err-send_for.field-0.0
     (slice_get-get_or c.args.needs.now l.need-index no_need c.loop-need-test.true)
-    (sends_need core x (g.D.Door.sessions l.door) (g.D.Door.sessions c.send_for.new.door) (Err c.in-Err.end) c.in-Err.ensures.sent)
+    (sends_need core x (g.D.Door.sessions l.door) (g.D.Door.sessions c.send_for.new.door) (Err c.in_err-send_for.field-0.0) c.in_err-send_for.ensures.sent))
 
 pub loop-need-preserved : goal.loop-need-preserved
 loop-need-preserved g c =
     let l = c.loop-need in
     let x : Need = get_or c.args.needs.now l.need-index no_need in
     let core = c.args.core.now in
-    let e = c.in-Ok.ensures in
+    let e = c.in_ok-send_for.ensures in
     record {
       sent =
           sends_next (sent_for_all core) (needs_join core) c.args.needs.now (g.D.Door.sessions c.args.door.now) (g.D.Door.sessions l.door) (g.D.Door.sessions c.send_for.new.door) l.need-index l.invariant.sent x

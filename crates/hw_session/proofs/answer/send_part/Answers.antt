@@ -1,4 +1,5 @@
 use Rattle.std.proofs.Common.{◌<◌, ◌-◌, length, map, refl, sym, arith, ◌∙◌}
+use Rattle.std.proofs.lemmas.Result.{err_from_is_err_and}
 use Rattle.hw_types.specs.declared.answers.Frame.TheVariants as frame
 use Rattle.hw_session.specs.Serving.{part_from}
 use Rattle.hw_session.proofs.SendLaws.{sends_start, part_next, part_broken, part_within}
@@ -24,17 +25,19 @@ journal_at-requires g c =
     let there = part_within c.args.core.now.journal c.args.place (c.loop-at.at - c.args.place) less in
     omega (arith, there, start)
 
-pub returns-in-Err-clause-sent : goal.returns-in-Err-clause-sent
-returns-in-Err-clause-sent g c =
+pub returns-in_err-send_vertex-clause-sent : goal.returns-in_err-send_vertex-clause-sent
+returns-in_err-send_vertex-clause-sent g c =
     let below = c.loop-at-test.true in
     let part = c.requires.part in
-    part_broken c.args.core.now.journal c.args.place c.loop-at.at (g.D.Door.sessions c.args.door.now) (g.D.Door.sessions c.loop-at.door) c.loop-at.invariant.sent c.journal_at.result.now (g.D.Door.sessions c.send_vertex.new.door)
-    c.loop-at.invariant.start (omega (arith, below, part)) (sym c.journal_at.ensures.vertex) c.in-Err.end c.in-Err.ensures.sent
+    let p = err_from_is_err_and c.from_residual.result c.from_residual.ensures.1 in
+    rw (p.1, p.2)
+    (part_broken c.args.core.now.journal c.args.place c.loop-at.at (g.D.Door.sessions c.args.door.now) (g.D.Door.sessions c.loop-at.door) c.loop-at.invariant.sent c.journal_at.result.now (g.D.Door.sessions c.send_vertex.new.door)
+    c.loop-at.invariant.start (omega (arith, below, part)) (sym c.journal_at.ensures.vertex) c.in_err-send_vertex.field-0.0 c.in_err-send_vertex.ensures.sent)
 
 pub loop-at-preserved : goal.loop-at-preserved
 loop-at-preserved g c =
     let l = c.loop-at in
-    let e = c.in-Ok.ensures in
+    let e = c.in_ok-send_vertex.ensures in
     let below = c.loop-at-test.true in
     let part = c.requires.part in
     let start = l.invariant.start in

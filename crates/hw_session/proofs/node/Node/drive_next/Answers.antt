@@ -1,14 +1,19 @@
 use Rattle.std.proofs.Common.{inr}
+use Rattle.std.proofs.lemmas.Result.{err_from_is_err_and}
 use Rattle.hw_session.specs.declared.stage.Onward.{Onward}
 use Rattle.hw_session.proofs.DriveLaws.{handles_whole, handles_end}
 use Rattle.hw_session.proofs.ServingLaws.{heard_unlogged}
 use Rattle.hw_session.proofs.node.Node.drive_next.Goals as goal
 
-pub returns-in-Ok-drive_frame-clause-driven : goal.returns-in-Ok-drive_frame-clause-driven
-returns-in-Ok-drive_frame-clause-driven g c = inr (handles_whole _ c.args.place _ _ _ _ _ _ _ _ _ _ _ c.in-Ok.heard c.in-Ok.ensures.heard c.in-Ok-drive_frame.ensures.ends c.in-Ok-drive_frame.stage c.in-Ok-drive_frame.ensures.reacts)
+pub returns-in_err-heard-clause-appends : goal.returns-in_err-heard-clause-appends
+returns-in_err-heard-clause-appends g c =
+    let p = err_from_is_err_and c.from_residual.result c.from_residual.ensures.1 in
+    rw (p.1, p.2) (heard_unlogged Onward c.args.place (g.F.Files.append_faults c.args.files.now) _ _ _ _ c.in_err-heard.field-0.0 c.in_err-heard.ensures.heard)
 
-pub returns-in-Err-drive_frame-clause-driven : goal.returns-in-Err-drive_frame-clause-driven
-returns-in-Err-drive_frame-clause-driven g c = inr (handles_end _ c.args.place _ _ _ _ _ _ _ _ _ _ _ c.in-Ok.heard c.in-Ok.ensures.heard c.in-Err-drive_frame.ensures.ends c.in-Err-drive_frame.end c.in-Err-drive_frame.ensures.reacts)
+pub returns-in_err-stage-clause-driven : goal.returns-in_err-stage-clause-driven
+returns-in_err-stage-clause-driven g c =
+    let p = err_from_is_err_and c.from_residual-in_err-stage.result c.from_residual-in_err-stage.ensures.1 in
+    rw (p.1, p.2) (inr (handles_end _ c.args.place _ _ _ _ _ _ _ _ _ _ _ c.in_ok-heard.heard c.in_ok-heard.ensures.heard c.in_err-stage.ensures.ends c.in_err-stage.field-0.0 c.in_err-stage.ensures.reacts))
 
-pub returns-in-Err-clause-appends : goal.returns-in-Err-clause-appends
-returns-in-Err-clause-appends g c = heard_unlogged Onward c.args.place (g.F.Files.append_faults c.args.files.now) _ _ _ _ c.in-Err.end c.in-Err.ensures.heard
+pub returns-clause-driven : goal.returns-clause-driven
+returns-clause-driven g c = inr (handles_whole _ c.args.place _ _ _ _ _ _ _ _ _ _ _ c.in_ok-heard.heard c.in_ok-heard.ensures.heard c.in_ok-stage.ensures.ends c.in_ok-stage.stage c.in_ok-stage.ensures.reacts)

@@ -8,10 +8,10 @@ returns-in-Ok-clause-driven g c =
     inl (drives_dialled _ _ _ _ _ _ _ _ _ _ _ _ _ _ _ _ c.drive-end.result c.in-Ok.ensures.sessions c.in-Ok.ensures.ends c.drive-end.ensures.driven c.hang_up.ensures.sessions c.hang_up.ensures.ends)
 
 pub returns-in-Err-clause-driven : goal.returns-in-Err-clause-driven
-returns-in-Err-clause-driven g c = rw c.end_of_fault.ensures (drives_nobody _ _ _ _ _ _ _ _ _ c.in-Err.ensures.ends c.in-Err.fault c.in-Err.ensures.sessions)
+returns-in-Err-clause-driven g c = rw c.from.ensures (drives_nobody _ _ _ _ _ _ _ _ _ c.in-Err.ensures.ends c.in-Err.fault c.in-Err.ensures.sessions)
 
 pub returns-in-Err-clause-link : goal.returns-in-Err-clause-link
-returns-in-Err-clause-link g c = rw c.end_of_fault.ensures (fault_counted _ _ c.in-Err.fault c.in-Err.ensures.cause)
+returns-in-Err-clause-link g c = rw c.from.ensures (fault_counted _ _ c.in-Err.fault c.in-Err.ensures.cause)
 
 pub returns-in-Err-clause-appends : goal.returns-in-Err-clause-appends
-returns-in-Err-clause-appends g c = rw c.end_of_fault.ensures (fault_unlogged _ c.in-Err.fault)
+returns-in-Err-clause-appends g c = rw c.from.ensures (fault_unlogged _ c.in-Err.fault)

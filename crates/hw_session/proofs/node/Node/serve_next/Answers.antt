@@ -1,16 +1,23 @@
 use Rattle.std.proofs.Common.{ℕ, inl, inr, refl}
+use Rattle.std.proofs.lemmas.Result.{err_from_is_err_and}
 use Rattle.hw_session.proofs.NextLaws.{handles_whole, handles_end}
 use Rattle.hw_session.proofs.ServingLaws.{heard_unlogged}
 use Rattle.hw_session.proofs.node.Node.serve_next.Goals as goal
 
-pub returns-in-Err-clause-served : goal.returns-in-Err-clause-served
-returns-in-Err-clause-served g c = inl (record { how = c.in-Err.end; is = refl; state = refl; files = λ t name. refl; heard = c.in-Err.ensures.heard })
+pub returns-in_err-heard-clause-served : goal.returns-in_err-heard-clause-served
+returns-in_err-heard-clause-served g c =
+    let p = err_from_is_err_and c.from_residual.result c.from_residual.ensures.1 in
+    rw (p.1, p.2) (inl (record { how = c.in_err-heard.field-0.0; is = refl; state = refl; files = λ t name. refl; heard = c.in_err-heard.ensures.heard }))
 
-pub returns-in-Ok-answer-clause-served : goal.returns-in-Ok-answer-clause-served
-returns-in-Ok-answer-clause-served g c = inr (handles_whole _ c.args.place _ _ _ _ _ _ _ _ _ _ c.in-Ok.heard c.in-Ok.ensures.heard c.in-Ok-answer.ensures.ends c.in-Ok-answer.ensures.reacts)
+pub returns-in_err-heard-clause-appends : goal.returns-in_err-heard-clause-appends
+returns-in_err-heard-clause-appends g c =
+    let p = err_from_is_err_and c.from_residual.result c.from_residual.ensures.1 in
+    rw (p.1, p.2) (heard_unlogged ℕ c.args.place (g.F.Files.append_faults c.args.files.now) _ _ _ _ c.in_err-heard.field-0.0 c.in_err-heard.ensures.heard)
 
-pub returns-in-Err-answer-clause-served : goal.returns-in-Err-answer-clause-served
-returns-in-Err-answer-clause-served g c = inr (handles_end _ c.args.place _ _ _ _ _ _ _ _ _ _ c.in-Ok.heard c.in-Ok.ensures.heard c.in-Err-answer.ensures.ends c.in-Err-answer.end c.in-Err-answer.ensures.reacts)
+pub returns-in_err-answer-clause-served : goal.returns-in_err-answer-clause-served
+returns-in_err-answer-clause-served g c =
+    let p = err_from_is_err_and c.from_residual-in_err-answer.result c.from_residual-in_err-answer.ensures.1 in
+    rw (p.1, p.2) (inr (handles_end _ c.args.place _ _ _ _ _ _ _ _ _ _ c.in_ok-heard.heard c.in_ok-heard.ensures.heard c.in_err-answer.ensures.ends c.in_err-answer.field-0.0 c.in_err-answer.ensures.reacts))
 
-pub returns-in-Err-clause-appends : goal.returns-in-Err-clause-appends
-returns-in-Err-clause-appends g c = heard_unlogged ℕ c.args.place (g.F.Files.append_faults c.args.files.now) _ _ _ _ c.in-Err.end c.in-Err.ensures.heard
+pub returns-clause-served : goal.returns-clause-served
+returns-clause-served g c = inr (handles_whole _ c.args.place _ _ _ _ _ _ _ _ _ _ c.in_ok-heard.heard c.in_ok-heard.ensures.heard c.in_ok-answer.ensures.ends c.in_ok-answer.ensures.reacts)
