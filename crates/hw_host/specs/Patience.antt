@@ -1,5 +1,5 @@
 -- How long a peer is waited for, in milliseconds.
-use Rattle.std.specs.Prelude.{ℕ, ◌+◌, ◌*◌, ◌/◌, min}
+use Rattle.std.specs.Prelude.{ℕ, ◌+◌, ◌*◌, ◌/◌, ◌<◌, min}
 use Rattle.hw_host.specs.declared.patience.Patience.{Patience}
 use Rattle.hw_host.specs.declared.patience.Patience.TheVariants.{Full, Tenth, Guest, Suspect}
 
@@ -27,3 +27,7 @@ blocked_time Suspect answers moved = min (20 * (1 + answers)) 2000
 -- second for each 65,536 bytes
 abbrev pub earned_time : ℕ → ℕ → ℕ
 earned_time answers received = answers * 500 + received / 65536 * 1000
+
+-- an address that owes until `paid` owes more than 19 seconds now, both in nanoseconds: what a second of hanging costs
+abbrev pub OwesTooMuch : ℕ → ℕ → Type 0
+OwesTooMuch now paid = now + 19000000000 < paid

@@ -153,13 +153,8 @@ impl<'a, R: Net + Voice> HostDoor<'a, R> {
 
     /// The port at which it listens, which the system chose where the address had port 0.
     pub fn port(&self) -> Option<u16> {
-        match &self.listener {
-            Some(listener) => match listener.local_addr() {
-                Ok(address) => Some(address.port()),
-                Err(_) => None,
-            },
-            None => None,
-        }
+        let listener = self.listener.as_ref()?;
+        Some(listener.local_addr().ok()?.port())
     }
 
     /// The numbers so far.

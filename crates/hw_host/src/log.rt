@@ -175,29 +175,13 @@ impl LogState {
 
     /// Whether there is no log, and this process found none.
     fn has_none<R: rt::Files<File = File>>(&self, runtime: &R, name: &str) -> bool {
-        if self.file.is_some() || self.has_bytes() {
+        if self.file.is_some() || matches!(self.length, Some(known) if known > 0) {
             return false;
         }
         // A link that leads nowhere is there: what it names is made in its place.
         match fs::symlink_metadata(runtime, name) {
             Ok(_) => false,
             Err(error) => error.kind() == ErrorKind::NotFound,
-        }
-    }
-
-    /// Whether the log was found with bytes in it, or left so.
-    fn has_bytes(&self) -> bool {
-        match self.length {
-            Some(known) => known > 0,
-            None => false,
-        }
-    }
-
-    /// Whether the log was found or left with another length than this.
-    fn differs(&self, length: u64) -> bool {
-        match self.length {
-            Some(known) => known != length,
-            None => false,
         }
     }
 
@@ -237,7 +221,7 @@ impl LogState {
         if length == 0 {
             self.folder = folder_of(runtime, name).ok();
         }
-        if self.differs(length) {
+        if matches!(self.length, Some(known) if known != length) {
             return Err(io::Error::other("another process wrote to it"));
         }
         self.unsynced = true;

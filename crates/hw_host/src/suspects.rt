@@ -1,7 +1,8 @@
 //! Addresses from which peers came that hung.
-ghost use Rattle.std.specs.Prelude.{◌≡◌, ◌+◌, ◌*◌, max, IfSome};
+ghost use Rattle.std.specs.Prelude.{◌≡◌, ◌↔◌, ◌+◌, ◌*◌, max, IsTrue, IfSome};
 ghost use Rattle.std.specs.Duration.{as_nanos};
 ghost use Rattle.std.specs.Time.{instant_nanos};
+ghost use Rattle.hw_host.specs.Patience.{OwesTooMuch};
 
 use crate::patience::Patience;
 use std::alloc::Global;
@@ -102,7 +103,9 @@ fn place_of(suspects: &[Suspect], address: IpAddr) -> Option<usize> {
 }
 
 /// Whether an address is suspect that owes nothing from `paid` on.
-fn is_suspect(now: Instant, paid: Instant) -> bool {
+fn is_suspect(now: Instant, paid: Instant) -> bool
+    ensures { IsTrue result ↔ OwesTooMuch (instant_nanos now) (instant_nanos paid) }
+{
     paid.duration_since(now) > Duration::from_millis(GRACE_MILLISECONDS)
 }
 

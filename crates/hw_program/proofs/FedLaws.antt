@@ -8,6 +8,7 @@ use Rattle.hw_types.specs.declared.config.Config.{Config}
 use Rattle.hw_types.specs.Real.{CoreState}
 use Rattle.hw_safety.specs.Chain.{Begins}
 use Rattle.hw_io.specs.Consumers.{Consumed, after_finish}
+use Rattle.hw_replay.specs.declared.fault.StartFault.{StartFault}
 use Rattle.hw_replay.specs.Midway.{midway, file_begun}
 use Rattle.hw_fanout.specs.declared.ending.Ending.{Ending}
 use Rattle.hw_fanout.specs.State.{FanoutState}
@@ -130,13 +131,13 @@ module _ {B K : Type 0} (sight : Sight B K) where
         took = λ nothing. finished_got (told_chain core) fed new kept last finished (fed_got core.config old (moment core fed kept) from_first nothing);
       }
 
-  pub told_some : (tells : Bool) (log : Option (List ℕ)) (old new : List B) (before kept : FanoutState) → before ≡ first_kept old → AreFedPart sight tells (file_begun None log) old new before kept → AreCutOff sight tells log old new
-  told_some tells log old new before kept is some =
-      let P : FanoutState → Type 0 = λ k. AreFedPart sight tells (file_begun None log) old new k kept in
+  pub told_some : (tells : Bool) (log : Option (List ℕ)) (e : StartFault) (old new : List B) (before kept : FanoutState) → before ≡ first_kept old → AreFedPart sight tells (file_begun None log) e old new before kept → AreCutOff sight tells log e old new
+  told_some tells log e old new before kept is some =
+      let P : FanoutState → Type 0 = λ k. AreFedPart sight tells (file_begun None log) e old new k kept in
       go (subst P is some)
     where
-      go : AreFedPart sight tells (file_begun None log) old new (first_kept old) kept → AreCutOff sight tells log old new
-      go (inl none) = inl none.0
+      go : AreFedPart sight tells (file_begun None log) e old new (first_kept old) kept → AreCutOff sight tells log e old new
+      go (inl u) = inl (record { none = u.none; same = u.consumers })
       go (inr u) = inr (record {
         kept = kept;
         part = u;

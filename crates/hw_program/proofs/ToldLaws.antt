@@ -1,5 +1,5 @@
 -- How a replay with consumers ends: its status, its text, and what the consumers were told.
-use Rattle.std.proofs.Common.{◌≡◌, ℕ, Bool, List, ◌++◌, Option, Some, None, Result, Ok, Err, IfOk, IfErr, sym, ap, ◌∙◌, inl, inr, arith}
+use Rattle.std.proofs.Common.{◌≡◌, ℕ, Bool, List, ◌++◌, Option, Some, None, Result, Ok, Err, IfOk, IfErr, refl, sym, ap, ◌∙◌, inl, inr, arith}
 use Rattle.std.specs.Prelude.{◌⊎◌, IsTrue}
 use Rattle.hw_log.specs.declared.error.LogError.TheVariants as log
 use Rattle.hw_replay.specs.declared.fault.StartFault.{StartFault}
@@ -95,11 +95,11 @@ module _ {B K : Type 0} (sight : Sight B K) (tells : Bool) (held : Held) (name :
       }
   stopped_text fault (Err f) stops is = tt
 
-  pub stopped_told : (fault : StartFault) (result : Result Ended RunFault) (before now : ℕ) → AreCutOff sight tells (held name) old new
+  pub stopped_told : (fault : StartFault) (result : Result Ended RunFault) (before now : ℕ) → AreCutOff sight tells (held name) fault old new
       → IfOk result (λ e. (e ≡ stopped_ended name fault) × IsReadEnd e.status × (IsOutside fault → ⊥)) → IsReadCounted before now result
       → IsReplayTold sight tells (held name) (status_of result) old new
   stopped_told fault (Ok e) before now cut is counted =
-      record { all = λ h. absurd (never h); some = λ h. cut; any = inl cut }
+      record { all = λ h. absurd (never h); some = λ h. (fault, λ out. absurd (is.2 out), cut); any = inl (fault, cut) }
     where
       five : IsReadEnd e.status → e.status ≡ 5 → ⊥
       five end is-five = omega (arith, end, is-five)
@@ -107,10 +107,10 @@ module _ {B K : Type 0} (sight : Sight B K) (tells : Bool) (held : Held) (name :
       never : (e.status ≡ 0) ⊎ (e.status ≡ 5) → ⊥
       never (inl zero) = stopped_other name fault (sym (ap (λ (x : Ended). x.status) is.0) ∙ zero)
       never (inr is-five) = five is.1 is-five
-  stopped_told fault (Err Read) before now cut is counted = record { all = λ h. absurd (omega (arith, h)); some = λ h. cut; any = inl cut }
-  stopped_told fault (Err OutOfMemory) before now cut is counted = record { all = λ h. absurd (omega (arith, h)); some = λ h. cut; any = inl cut }
+  stopped_told fault (Err Read) before now cut is counted = record { all = λ h. absurd (omega (arith, h)); some = λ h. (fault, λ out. refl, cut); any = inl (fault, cut) }
+  stopped_told fault (Err OutOfMemory) before now cut is counted = record { all = λ h. absurd (omega (arith, h)); some = λ h. absurd (omega (arith, h)); any = inl (fault, cut) }
   stopped_told fault (Err Append) before now cut is counted = absurd counted
 
   -- no memory before the first byte was read
   pub untold : (status : ℕ) → status ≡ 7 → new ≡ old → IsReplayTold sight tells (held name) status old new
-  untold status seven same = record { all = λ h. absurd (omega (arith, h, seven)); some = λ h. inl same; any = inl (inl same) }
+  untold status seven same = record { all = λ h. absurd (omega (arith, h, seven)); some = λ h. absurd (omega (arith, h, seven)); any = inl (start.OutOfMemory, inl (record { none = λ t. inl tt; same = same })) }

@@ -28,12 +28,15 @@ told_after : {B K : Type 0} (sight : Sight B K) (tells : Bool) (log : Option (Li
     → IsReplayTold sight tells log status old new → IsReplayTold sight tells log result old new
 told_after sight tells log status result old new kept five t = record {
   all = λ h. t.all (elim h [ inl zero ↦ inl (kept 0 zero (λ h. omega (arith, h)) (λ h. omega (arith, h))) | inr is ↦ five is ]);
-  some = λ h. t.some (elim h [
-    | inl two ↦ inl (kept 2 two (λ h. omega (arith, h)) (λ h. omega (arith, h)))
-    | inr (inl four) ↦ inr (inl (kept 4 four (λ h. omega (arith, h)) (λ h. omega (arith, h))))
-    | inr (inr (inl eight)) ↦ inr (inr (inl (kept 8 eight (λ h. omega (arith, h)) (λ h. omega (arith, h)))))
-    | inr (inr (inr nine)) ↦ inr (inr (inr (kept 9 nine (λ h. omega (arith, h)) (λ h. omega (arith, h)))))
-  ]);
+  some = λ h.
+      let same : status ≡ result = elim h [
+        | inl two ↦ kept 2 two (λ h. omega (arith, h)) (λ h. omega (arith, h)) ∙ sym two
+        | inr (inl four) ↦ kept 4 four (λ h. omega (arith, h)) (λ h. omega (arith, h)) ∙ sym four
+        | inr (inr (inl eight)) ↦ kept 8 eight (λ h. omega (arith, h)) (λ h. omega (arith, h)) ∙ sym eight
+        | inr (inr (inr nine)) ↦ kept 9 nine (λ h. omega (arith, h)) (λ h. omega (arith, h)) ∙ sym nine
+      ] in
+      let cut = t.some (subst (λ n. (n ≡ 2) ⊎ (n ≡ 4) ⊎ (n ≡ 8) ⊎ (n ≡ 9)) (sym same) h) in
+      (cut.0, λ out. sym same ∙ cut.1 out, cut.2);
   any = t.any;
 }
 

@@ -6,6 +6,7 @@ use Rattle.hw_types.specs.Real.{CoreState}
 use Rattle.hw_io.specs.Consumers.{Consumed}
 use Rattle.hw_replay.specs.declared.fault.StartFault.{StartFault}
 use Rattle.hw_replay.specs.Taken.{Taken, rest_taken}
+use Rattle.hw_replay.specs.Replay.{IsOutside}
 use Rattle.hw_replay.specs.Midway.{file_begun}
 use Rattle.hw_fanout.specs.declared.ending.Dropped.{Dropped}
 use Rattle.hw_fanout.specs.State.{FanoutState}
@@ -43,10 +44,10 @@ pub record AreToldAll {B K : Type 0} (sight : Sight B K) (core : CoreState) (old
   -- handed in with nothing taken, each one left took the whole decided chain and was finished once
   pub took : HaveGot sight [] 0 old → HaveGot sight (told_chain core) 1 new
 
--- They were told the blocks up to the node that the first of this log's entries left, and not that none follows.
-pub record AreToldSome {B K : Type 0} (sight : Sight B K) (tells : Bool) (log : Option (List ℕ)) (old new : List B) : Type 0 where
+-- They were told the blocks up to the node that the log's entries before the one that stopped it so left, and not that none follows.
+pub record AreToldSome {B K : Type 0} (sight : Sight B K) (tells : Bool) (log : Option (List ℕ)) (e : StartFault) (old new : List B) : Type 0 where
   pub kept : FanoutState
-  pub part : AreFedTo sight tells (file_begun None log) (λ (core : CoreState). first_moment core.config old (first_kept old)) new kept
+  pub part : AreFedTo sight tells (file_begun None log) e (λ (core : CoreState). first_moment core.config old (first_kept old)) new kept
   -- the entries that were still to come would leave of it what the whole log leaves
   pub leads : IsTrue tells → file_replayed None log ≡ rest_taken part.taken part.rest
   -- handed in with nothing taken, each one left took what that node had decided, and wasn't finished
@@ -60,15 +61,21 @@ pub record AreToldOf {B K : Type 0} (sight : Sight B K) (tells : Bool) (whole : 
   pub leaves : IsTrue tells → whole ≡ Ok taken
   pub told : AreToldAll sight taken.core old new drops
 
--- it ended before its report: they are as they were handed in, or were told some
-abbrev pub AreCutOff : {B K : Type 0} → Sight B K → Bool → Option (List ℕ) → List B → List B → Type 0
-AreCutOff sight tells log old new = (new ≡ old) ⊎ AreToldSome sight tells log old new
+-- they are as they were handed in, since the log has no header, unless it was the outside that stopped it so
+pub record AreToldNone {B : Type 0} (tells : Bool) (log : Option (List ℕ)) (e : StartFault) (old new : List B) : Type 0 where
+  pub none : IsTrue tells → IsOutside e ⊎ (file_begun None log ≡ None)
+  pub same : new ≡ old
 
--- By the status: 0 and 5 come only behind the report, 2, 4, 8 and 9 only before it, and want of memory at any moment.
+-- it stopped so before its report: they were told none, or some
+abbrev pub AreCutOff : {B K : Type 0} → Sight B K → Bool → Option (List ℕ) → StartFault → List B → List B → Type 0
+AreCutOff sight tells log e old new = AreToldNone tells log e old new ⊎ AreToldSome sight tells log e old new
+
+-- By the status: 0 and 5 come only behind the report, 2, 4, 8 and 9 only before it, and want of memory at any moment. With 2, 8 and 9 it is
+-- the log that stopped it, and not the outside.
 pub record IsReplayTold {B K : Type 0} (sight : Sight B K) (tells : Bool) (log : Option (List ℕ)) (status : ℕ) (old new : List B) : Type 0 where
   pub all : (status ≡ 0) ⊎ (status ≡ 5) → (drops : List Dropped) × AreToldOf sight tells (file_replayed None log) old new drops
-  pub some : (status ≡ 2) ⊎ (status ≡ 4) ⊎ (status ≡ 8) ⊎ (status ≡ 9) → AreCutOff sight tells log old new
-  pub any : AreCutOff sight tells log old new ⊎ ((drops : List Dropped) × AreToldOf sight tells (file_replayed None log) old new drops)
+  pub some : (status ≡ 2) ⊎ (status ≡ 4) ⊎ (status ≡ 8) ⊎ (status ≡ 9) → (e : StartFault) × (IsOutside e → status ≡ 4) × AreCutOff sight tells log e old new
+  pub any : ((e : StartFault) × AreCutOff sight tells log e old new) ⊎ ((drops : List Dropped) × AreToldOf sight tells (file_replayed None log) old new drops)
 
 -- a report, and then the lines of the consumers that were dropped
 pub record IsReport {B K : Type 0} (sight : Sight B K) (tells : Bool) (whole : Result Taken StartFault) (report : List ℕ) (old new : List B) (text : List ℕ) : Type 0 where

@@ -1,5 +1,5 @@
 -- The last units behind a log's entries, and nodes that deliveries reach.
-use Rattle.std.proofs.Common.{◌≡◌, ℕ, Bool, true, false, cond, List, [], ◌∷◌, ◌++◌, Option, Some, None, Result, Ok, Err, inl, inr, refl, sym, ap, subst, ◌∙◌}
+use Rattle.std.proofs.Common.{◌≡◌, ◌⊎◌, ℕ, Bool, true, false, cond, List, [], ◌∷◌, ◌++◌, Option, Some, None, Result, Ok, Err, inl, inr, refl, sym, ap, subst, ◌∙◌}
 use Rattle.std.specs.Prelude.{fold, IfOk, if◌then◌else◌}
 use Rattle.std.proofs.lemmas.List.Sums.{fold_push}
 use Rattle.hw_types.specs.declared.unit.Vertex.{Vertex}
@@ -18,12 +18,16 @@ use Rattle.hw_log.specs.Log.{◌>>=◌, Left, header_of, next_at, with_next, ent
 use Rattle.hw_log.specs.Reader.{Reading, left_of, Opens}
 use Rattle.hw_log.proofs.EntryLaws.{entries_next}
 use Rattle.hw_log.proofs.MoreLaws.{next_at-lasts, header_of-lasts}
+use Rattle.hw_replay.specs.declared.fault.StartFault.{StartFault}
+use Rattle.hw_replay.specs.declared.fault.StartFault.TheVariants as fault
 use Rattle.hw_replay.specs.declared.replay.Replay.{Replay}
+use Rattle.hw_replay.specs.Faults.{fault_of}
 use Rattle.hw_replay.specs.Taken.{Taken, nothing_taken}
-use Rattle.hw_replay.specs.Replay.{is_wanted, taken_in, GrowsByOne}
+use Rattle.hw_replay.specs.Replay.{is_wanted, taken_in, IsOutside, GrowsByOne}
 use Rattle.hw_replay.specs.Midway.{midway, midway_in, said_begun, file_begun}
 use Rattle.hw_replay.specs.Ends.{lasts_said, lasts_of_file, lasts_ahead, IsReached}
 use Rattle.hw_replay.specs.Steps.{IsBegun}
+use Rattle.hw_replay.proofs.CauseLaws.{is_outside}
 
 -- ---- last units
 
@@ -62,6 +66,20 @@ midway_begun wanted (Some bytes) unread reader r opens begun =
     ∙ ap (λ b. if b then Some (midway (nothing_taken reader.config) (entries_of (left_of reader unread))) else None) begun.is_wanted
     ∙ ap (λ (t : Taken). Some (midway t (entries_of (left_of reader unread)))) (sym begun.empty)
     ∙ ap (λ (q : Reading). Some (midway (taken_in r) (entries_of (left_of q unread)))) (sym begun.reader_is)
+
+-- and where none begins
+pub unbegun_other : (wanted : Option Config) (file : Option (List ℕ)) (unread : List ℕ) (reader : Reading) (e : StartFault) → Opens file unread (Ok reader)
+    → (e ≡ fault.OutOfMemory) ⊎ ((e ≡ fault.OtherConfig) × (is_wanted wanted reader.config ≡ false)) → IsOutside e ⊎ (file_begun wanted file ≡ None)
+unbegun_other wanted file unread reader e opens (inl want) = inl (subst IsOutside (sym want) tt)
+unbegun_other wanted None unread reader e opens (inr other) = inr refl
+unbegun_other wanted (Some bytes) unread reader e opens (inr other) =
+    inr (ap (said_begun wanted) (behind_header bytes reader.config (left_of reader unread) opens)
+    ∙ ap (λ b. if b then Some (midway (nothing_taken reader.config) (entries_of (left_of reader unread))) else None) other.1)
+
+pub unbegun : (wanted : Option Config) (file : Option (List ℕ)) (unread : List ℕ) (e : LogError) → Opens file unread (Err e) → IsOutside (fault_of e) ⊎ (file_begun wanted file ≡ None)
+unbegun wanted None unread e out = inr refl
+unbegun wanted (Some bytes) unread e (inl out) = inl (is_outside e out)
+unbegun wanted (Some bytes) unread e (inr is) = inr (ap (said_begun wanted) (ap (λ h. h >>= λ header. Ok (header.0, entries_of header.1)) is))
 
 -- ---- nodes that are reached
 

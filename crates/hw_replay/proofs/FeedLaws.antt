@@ -104,18 +104,19 @@ fed_first sight core old before last empty fed =
     subst P (sym (fed_config sight (moment core old before) last fed)) (subst Q empty fed)
 
 -- the replay that began is the one of the file
-pub fed_to : {B K : Type 0} (sight : Sight B K) (tells : Bool) (whole : Option Midway) (begun : Midway) (core : CoreState) (old new : List B) (before after : FanoutState)
+pub fed_to : {B K : Type 0} (sight : Sight B K) (tells : Bool) (whole : Option Midway) (begun : Midway) (e : StartFault) (core : CoreState) (old new : List B) (before after : FanoutState)
     → (IsTrue tells → whole ≡ Some begun) → core ≡ (nothing_taken core.config).core
-    → AreFedTo sight tells (Some begun) (λ (c : CoreState). moment core old before) new after
-    → AreFedTo sight tells whole (λ (c : CoreState). first_moment c.config old before) new after
-fed_to sight tells whole begun core old new before after begins empty u = record {
+    → AreFedTo sight tells (Some begun) e (λ (c : CoreState). moment core old before) new after
+    → AreFedTo sight tells whole e (λ (c : CoreState). first_moment c.config old before) new after
+fed_to sight tells whole begun e core old new before after begins empty u = record {
   taken = u.taken;
   rest = u.rest;
   came = λ t. subst (λ (m : Option Midway). ComesTo m (midway u.taken u.rest)) (sym (begins t)) (u.came t);
+  stops = u.stops;
   fed = fed_first sight core old before (moment u.taken.core new after) empty u.fed;
 }
 
 -- and there the whole file's replay leads on
-pub fed_until : {B K : Type 0} (sight : Sight B K) (tells : Bool) (wanted : Option Config) (file : Option (List ℕ)) (first : CoreState → Moment B) (new : List B) (after : FanoutState)
-    → AreFedTo sight tells (file_begun wanted file) first new after → AreFedUntil sight tells (file_replayed wanted file) first new after
-fed_until sight tells wanted file first new after u = record { taken = u.taken; rest = u.rest; leads = λ t. midway_leads wanted file (midway u.taken u.rest) (u.came t); fed = u.fed }
+pub fed_until : {B K : Type 0} (sight : Sight B K) (tells : Bool) (wanted : Option Config) (file : Option (List ℕ)) (e : StartFault) (first : CoreState → Moment B) (new : List B) (after : FanoutState)
+    → AreFedTo sight tells (file_begun wanted file) e first new after → AreFedUntil sight tells (file_replayed wanted file) first new after
+fed_until sight tells wanted file e first new after u = record { taken = u.taken; rest = u.rest; leads = λ t. midway_leads wanted file (midway u.taken u.rest) (u.came t); fed = u.fed }

@@ -1,5 +1,5 @@
 -- Where a replay came to, one entry after the other.
-use Rattle.std.proofs.Common.{◌≡◌, ℕ, Bool, true, false, cond, List, [], ◌∷◌, ◌++◌, Option, Some, None, Result, Ok, Err, refl, sym, ap, ◌∙◌, append_assoc}
+use Rattle.std.proofs.Common.{◌≡◌, ℕ, Bool, true, false, cond, List, [], ◌∷◌, ◌++◌, Option, Some, None, Result, Ok, Err, refl, sym, ap, ◌∙◌, inl, inr, append_assoc}
 use Rattle.hw_types.specs.declared.config.Config.{Config}
 use Rattle.hw_log.specs.declared.entry.LogEntry.{LogEntry}
 use Rattle.hw_log.specs.declared.error.LogError.{LogError}
@@ -10,7 +10,13 @@ use Rattle.hw_replay.specs.declared.fault.StartFault.{StartFault}
 use Rattle.hw_replay.specs.declared.fault.StartFault.TheVariants as fault
 use Rattle.hw_replay.specs.Taken.{◌>>=◌, Taken, nothing_taken, entry_taken, entries_taken, or_fault, rest_taken}
 use Rattle.hw_replay.specs.Replay.{is_wanted, said_replayed, replay_of}
-use Rattle.hw_replay.specs.Midway.{Midway, midway, said_begun, file_begun, HasRead, ComesTo, TakesNext, LeadsNext}
+use Rattle.hw_log.specs.Causes as of_log
+use Rattle.hw_replay.specs.Faults.{fault_of}
+use Rattle.hw_replay.specs.Replay.{Stops}
+use Rattle.hw_replay.specs.Steps.{IsStop}
+use Rattle.hw_replay.proofs.CauseLaws.{is_outside}
+use Rattle.hw_replay.proofs.AheadLaws.{wants, stops_by}
+use Rattle.hw_replay.specs.Midway.{Midway, midway, said_begun, file_begun, HasRead, ComesTo, TakesNext, LeadsNext, next_taken}
 use Rattle.hw_replay.specs.Laws.{MidwayLeads}
 
 -- ---- entry by entry
@@ -25,6 +31,20 @@ takes_next t u r rest e is took = record {
   next = entries_next r ∙ ap (λ n. with_next n entries_of) is;
   took = took;
 }
+
+-- what comes next leaves this
+next_at_is : (t : Taken) (r : Left) (n : Result (Option LogEntry × Left) LogError) → next_at r ≡ n → next_taken (midway t (entries_of r)) ≡ next_taken (midway t (with_next n entries_of))
+next_at_is t r n is = ap (λ (entries : Entries). next_taken (midway t entries)) (entries_next r ∙ ap (λ m. with_next m entries_of) is)
+
+-- an entry that isn't taken is the one that stops it
+pub stops_next : (t : Taken) (r rest : Left) (e : LogEntry) (f : StartFault) → next_at r ≡ Ok (Some e, rest) → IsStop f (entry_taken t e) → Stops f (next_taken (midway t (entries_of r)))
+stops_next t r rest e f is (inl want) = wants f (next_taken (midway t (entries_of r))) want
+stops_next t r rest e f is (inr stop) = inr (next_at_is t r (Ok (Some e, rest)) is ∙ stop)
+
+-- and so is the log's error
+pub errs_next : (t : Taken) (r : Left) (e : LogError) → of_log.Fails e (next_at r) → Stops (fault_of e) (next_taken (midway t (entries_of r)))
+errs_next t r e (inl out) = inl (is_outside e out)
+errs_next t r e (inr is) = stops_by e (next_taken (midway t (entries_of r))) (next_at_is t r (Err e) is)
 
 pub next_on : (old new : Midway) (more : Bool) → more ≡ true → LeadsNext old new (Ok more) → TakesNext old new
 next_on old new true e h = h

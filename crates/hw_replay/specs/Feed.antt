@@ -9,8 +9,8 @@ use Rattle.hw_log.specs.Log.{Entries}
 use Rattle.hw_replay.specs.declared.fault.StartFault.{StartFault}
 use Rattle.hw_replay.specs.declared.fault.StartFault.TheVariants as fault
 use Rattle.hw_replay.specs.Taken.{Taken, nothing_taken, rest_taken}
-use Rattle.hw_replay.specs.Replay.{replay_of}
-use Rattle.hw_replay.specs.Midway.{Midway, midway, ComesTo}
+use Rattle.hw_replay.specs.Replay.{replay_of, IsOutside, Stops}
+use Rattle.hw_replay.specs.Midway.{Midway, midway, next_taken, ComesTo}
 use Rattle.hw_fanout.specs.State.{FanoutState}
 use Rattle.hw_fanout.specs.Chain.{told_chain}
 use Rattle.hw_fanout.specs.Fates.{Sight, AreServed}
@@ -69,15 +69,23 @@ AreFedSome sight tells whole old new before after =
 
 -- ---- and which of the log's entries were read by then
 
--- The consumers were fed up to the node that the first of the log's entries left, which is where the replay came to. The rest was still to come.
-pub record AreFedTo {B K : Type 0} (sight : Sight B K) (tells : Bool) (begun : Option Midway) (first : CoreState → Moment B) (consumers : List B) (kept : FanoutState) : Type 0 where
+-- The consumers were fed up to the node that the first of the log's entries left, which is where the replay came to. The rest was still to
+-- come, and its first entry is what stopped the replay so, or the log's error in its place, unless it was the outside.
+pub record AreFedTo {B K : Type 0} (sight : Sight B K) (tells : Bool) (begun : Option Midway) (e : StartFault) (first : CoreState → Moment B) (consumers : List B) (kept : FanoutState) : Type 0 where
   pub taken : Taken
   pub rest : Entries
   pub came : IsTrue tells → ComesTo begun (midway taken rest)
+  pub stops : IsTrue tells → Stops e (next_taken (midway taken rest))
   pub fed : AreFed sight (first taken.core) (moment taken.core consumers kept)
 
--- It stopped before the first entry, and they were passed nothing; or it stopped behind the first entries.
-abbrev pub AreFedPart : {B K : Type 0} → Sight B K → Bool → Option Midway → List B → List B → FanoutState → FanoutState → Type 0
-AreFedPart sight tells begun old new before after =
-    ((new ≡ old) × (after ≡ before))
-    ⊎ AreFedTo sight tells begun (λ (core : CoreState). first_moment core.config old before) new after
+-- They were passed nothing. No replay began, unless it was the outside that stopped it.
+pub record AreFedNone {B : Type 0} (tells : Bool) (begun : Option Midway) (e : StartFault) (old new : List B) (before after : FanoutState) : Type 0 where
+  pub none : IsTrue tells → IsOutside e ⊎ (begun ≡ None)
+  pub consumers : new ≡ old
+  pub kept : after ≡ before
+
+-- It stopped before the first entry, or behind the first entries.
+abbrev pub AreFedPart : {B K : Type 0} → Sight B K → Bool → Option Midway → StartFault → List B → List B → FanoutState → FanoutState → Type 0
+AreFedPart sight tells begun e old new before after =
+    AreFedNone tells begun e old new before after
+    ⊎ AreFedTo sight tells begun e (λ (core : CoreState). first_moment core.config old before) new after

@@ -8,8 +8,8 @@ use Rattle.hw_log.specs.Log.{Entries, entries_of, log_of}
 use Rattle.hw_log.specs.Reader.{left_of, behind_given}
 use Rattle.hw_replay.specs.declared.fault.StartFault.{StartFault}
 use Rattle.hw_replay.specs.declared.replay.Replay.{Replay}
-use Rattle.hw_replay.specs.Taken.{Taken, nothing_taken, entry_taken, entries_taken}
-use Rattle.hw_replay.specs.Replay.{is_wanted, taken_in}
+use Rattle.hw_replay.specs.Taken.{Taken, nothing_taken, entry_taken, entries_taken, or_fault}
+use Rattle.hw_replay.specs.Replay.{is_wanted, taken_in, Stops}
 
 -- what was taken so far, and the entries that are still to come
 pub record Midway : Type 0 where
@@ -52,8 +52,18 @@ pub record TakesNext (old new : Midway) : Type 0 where
   pub next : old.entries ≡ behind_given (entry ∷ []) new.entries
   pub took : entry_taken old.taken entry ≡ Ok new.taken
 
--- So it is where an entry was taken. At the end and at a stop there is none.
+-- what the first of these entries leaves, or the log's error where there is none
+abbrev pub first_taken : Taken → List LogEntry → Option LogError → Result Taken StartFault
+first_taken t [] error = or_fault t error
+first_taken t (e ∷ es) error = entry_taken t e
+
+-- what the next entry leaves
+abbrev pub next_taken : Midway → Result Taken StartFault
+next_taken now = first_taken now.taken now.entries.given now.entries.fault
+
+-- So it is where an entry was taken. At the end there is none. At a stop it is the next entry that stops it, or the log's
+-- error in its place, unless it is the outside.
 abbrev pub LeadsNext : Midway → Midway → Result Bool StartFault → Type 0
 LeadsNext old new (Ok true) = TakesNext old new
 LeadsNext old new (Ok false) = Unit {0}
-LeadsNext old new (Err e) = Unit {0}
+LeadsNext old new (Err e) = Stops e (next_taken old)

@@ -11,7 +11,7 @@ ghost use Rattle.hw_types.specs.declared.answers.Cause.TheVariants as Causes;
 ghost use Rattle.hw_types.specs.declared.unit.Vertex.TheVariants as Vertices;
 ghost use Rattle.hw_replay.specs.declared.fault.StartFault.TheVariants as Faults;
 ghost use Rattle.hw_replay.specs.Taken.{nothing_taken, entry_taken, spelling_of, stop_of, clash_with};
-ghost use Rattle.hw_replay.specs.Replay.{is_wanted, taken_in, ahead_in, Begins, Leads, TakesAll, GrowsByOne, Replays};
+ghost use Rattle.hw_replay.specs.Replay.{is_wanted, taken_in, ahead_in, IsOutside, Begins, Leads, TakesAll, GrowsByOne, Replays};
 ghost use Rattle.hw_replay.specs.Causes.{HasReplayCause, IsReplayAbout};
 ghost use Rattle.hw_replay.specs.Steps.{HasRoom, IsBegun, IsStop, IsOfEntry, repeats_in};
 ghost use Rattle.hw_replay.specs.Midway.{midway_in, file_begun, LeadsNext};
@@ -65,6 +65,8 @@ impl Replay {
         ensures said { IsTrue F.tells → Begins (option_copied wanted.entry) (F.held files.old name.now) (F.unread files.new) result }
         // It stands behind the header, with nothing taken and all entries to come.
         ensures midway { IsTrue F.tells → IfOk result (λ r. file_begun (option_copied wanted.entry) (F.held files.old name.now) ≡ Some (midway_in r (F.unread files.new))) }
+        // No replay begins where the log has no header or isn't the wanted one, unless it is the outside that fails.
+        ensures unbegun { IsTrue F.tells → IfErr result (λ e. IsOutside e ⊎ (file_begun (option_copied wanted.entry) (F.held files.old name.now) ≡ None)) }
         ensures empty { IfOk result (λ r. taken_in r ≡ nothing_taken r.core.config) }
         ensures room { IfOk result (λ r. HasRoom r (F.allowance files.new)) }
         ensures lasts { IsTrue F.tells → IfOk result (λ r. lasts_of_file (F.held files.old name.now) ≡ Some (lasts_ahead r (F.unread files.new))) }
@@ -88,7 +90,7 @@ impl Replay {
         requires { HasRoom self.old (F.allowance files.old) }
         // What will have been taken at the end of the log stays what it is.
         ensures said { IsTrue F.tells → Leads (ahead_in self.old (F.unread files.old)) (ahead_in self.new (F.unread files.new)) (taken_in self.new) result }
-        // What it took is the next entry of what was to come.
+        // What it took is the next entry of what was to come, and so is what stopped it.
         ensures next { IsTrue F.tells → LeadsNext (midway_in self.old (F.unread files.old)) (midway_in self.new (F.unread files.new)) result }
         ensures grows { GrowsByOne self.old.core self.new.core }
         ensures end { IfOk result (λ more. more ≡ false → self.new.core ≡ self.old.core) }

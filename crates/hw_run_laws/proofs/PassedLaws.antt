@@ -63,6 +63,6 @@ module _ {B K : Type 0} (sight : Sight B K) where
       inr (some, (good_fed (first_moment some.taken.core.config old (none_told old)) (moment some.taken.core new after) some.fed (good_first _ old h)).taken)
 
   pub stopped_part : StoppedParts sight
-  stopped_part tells begun old new after (inl none) h = inl (subst (HaveNothing sight) (sym none.0) h)
-  stopped_part tells begun old new after (inr some) h =
+  stopped_part tells begun e old new after (inl none) h = inl (none.none, subst (HaveNothing sight) (sym none.consumers) h)
+  stopped_part tells begun e old new after (inr some) h =
       inr (some, (good_fed (first_moment some.taken.core.config old (none_told old)) (moment some.taken.core new after) some.fed (good_first _ old h)).taken)

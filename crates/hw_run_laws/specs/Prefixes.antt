@@ -1,12 +1,13 @@
 -- What the consumers that are left took of a replay or a run that was cut short: the statements.
 -- Source: ours.
-use Rattle.std.specs.Prelude.{◌⊎◌, ℕ, Bool, List, [], All, Option, Some, None, Result}
+use Rattle.std.specs.Prelude.{◌≡◌, ◌⊎◌, ℕ, Bool, IsTrue, List, [], All, Option, Some, None, Result}
 use Rattle.hw_types.specs.Real.{CoreState}
 use Rattle.hw_fanout.specs.State.{FanoutState}
 use Rattle.hw_fanout.specs.Fates.{Sight}
 use Rattle.hw_fanout.specs.Told.{HasTaken}
 use Rattle.hw_replay.specs.declared.fault.StartFault.{StartFault}
 use Rattle.hw_replay.specs.Taken.{Taken}
+use Rattle.hw_replay.specs.Replay.{IsOutside}
 use Rattle.hw_replay.specs.Midway.{Midway}
 use Rattle.hw_replay.specs.Feed.{first_moment, AreFedUntil, AreFedSome, AreFedTo, AreFedPart}
 use Rattle.hw_service.specs.declared.fault.ServiceFault.{ServiceFault}
@@ -28,12 +29,12 @@ StoppedReplays {B} sight = (tells : Bool) (whole : Result Taken StartFault) (old
     → HaveNothing sight new
     ⊎ ((until : AreFedUntil sight tells whole (λ (core : CoreState). first_moment core.config old (none_told old)) new after) × HaveTaken sight until.taken.core after.passed new)
 
--- Of a replay that read the first of its log's entries and stopped, each consumer that is left has taken nothing, or
--- else the first blocks of what those entries decide, and nothing of what stands behind them.
+-- Of a replay that its log stopped, each consumer that is left has taken nothing, since the log has no header, or
+-- else the first blocks of what its entries before the bad one decide, and nothing of what stands behind them.
 abbrev pub StoppedParts : {B K : Type 0} → Sight B K → Type 0
-StoppedParts {B} sight = (tells : Bool) (begun : Option Midway) (old new : List B) (after : FanoutState) → AreFedPart sight tells begun old new (none_told old) after → HaveNothing sight old
-    → HaveNothing sight new
-    ⊎ ((part : AreFedTo sight tells begun (λ (core : CoreState). first_moment core.config old (none_told old)) new after) × HaveTaken sight part.taken.core after.passed new)
+StoppedParts {B} sight = (tells : Bool) (begun : Option Midway) (e : StartFault) (old new : List B) (after : FanoutState) → AreFedPart sight tells begun e old new (none_told old) after → HaveNothing sight old
+    → ((IsTrue tells → IsOutside e ⊎ (begun ≡ None)) × HaveNothing sight new)
+    ⊎ ((part : AreFedTo sight tells begun e (λ (core : CoreState). first_moment core.config old (none_told old)) new after) × HaveTaken sight part.taken.core after.passed new)
 
 -- Of a run that began and was cut short, each consumer that is left has taken the first blocks of what the node had decided where it stopped.
 abbrev pub TookUntil : {B K X : Type 0} → Sight B K → StepOver B X → ℕ → ℕ → Scene B → Outside B → X → X → ServiceFault → Type 0

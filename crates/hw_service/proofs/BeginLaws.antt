@@ -52,8 +52,8 @@ fed_from sight core consumers kept last is fed = subst (λ (k : FanoutState). Ar
 pub some_from : {B K : Type 0} (sight : Sight B K) (tells : Bool) (whole : Result Taken StartFault) (old new : List B) (before after : FanoutState) → before ≡ none_told old → AreFedSome sight tells whole old new before after → AreFedSome sight tells whole old new (none_told old) after
 some_from sight tells whole old new before after is fed = subst (λ (k : FanoutState). AreFedSome sight tells whole old new k after) is fed
 
-pub part_from : {B K : Type 0} (sight : Sight B K) (tells : Bool) (first : Option Midway) (old new : List B) (before after : FanoutState) → before ≡ none_told old → AreFedPart sight tells first old new before after → AreFedPart sight tells first old new (none_told old) after
-part_from sight tells first old new before after is fed = subst (λ (k : FanoutState). AreFedPart sight tells first old new k after) is fed
+pub part_from : {B K : Type 0} (sight : Sight B K) (tells : Bool) (first : Option Midway) (e : StartFault) (old new : List B) (before after : FanoutState) → before ≡ none_told old → AreFedPart sight tells first e old new before after → AreFedPart sight tells first e old new (none_told old) after
+part_from sight tells first e old new before after is fed = subst (λ (k : FanoutState). AreFedPart sight tells first e old new k after) is fed
 
 -- ---- what was passed
 
@@ -121,7 +121,7 @@ module _ {B K : Type 0} (sight : Sight B K) (tells : Bool) (names : Names) (me :
 
   pub begins_not : (e : StartFault) (kept : FanoutState) → (IsTrue tells → Starts config keys names.log (mid names.log) (Err e)) → (IsTrue tells → StartsLog config names.log mid new (mid names.log) (Err e))
       → AreFedSome sight tells (file_replayed (Some config) (mid names.log)) before after (none_told before) kept
-      → AreFedPart sight tells (file_begun (Some config) (mid names.log)) before after (none_told before) kept
+      → AreFedPart sight tells (file_begun (Some config) (mid names.log)) e before after (none_told before) kept
       → BeginsNot sight tells names me (outside old door written before) (outside new door written after) (fault_of_start e)
   begins_not e kept starts log fed part =
       let f = fun_same old mid same in
@@ -136,7 +136,7 @@ module _ {B K : Type 0} (sight : Sight B K) (tells : Bool) (names : Names) (me :
           log = subst (λ (g : List ℕ → Option (List ℕ)). IsTrue tells → StartsLog config names.log g new (g names.log) (Err e)) f log;
           kept = kept;
           fed = subst (λ (g : List ℕ → Option (List ℕ)). AreFedSome sight tells (file_replayed (Some config) (g names.log)) before after (none_told before) kept) f fed;
-          part = subst (λ (g : List ℕ → Option (List ℕ)). AreFedPart sight tells (file_begun (Some config) (g names.log)) before after (none_told before) kept) f part;
+          part = subst (λ (g : List ℕ → Option (List ℕ)). AreFedPart sight tells (file_begun (Some config) (g names.log)) e before after (none_told before) kept) f part;
           door = refl;
           written = refl;
         },

@@ -98,7 +98,7 @@ pub record StaysAs {B : Type 0} (before after : Outside B) : Type 0 where
   pub consumers : after.consumers ≡ before.consumers
 
 -- Settings and keys were read, and the log gave no node. The consumers were told what was decided after each entry
--- so far: after the first ones of the log, and after none that stands behind.
+-- before the one that stopped it, and after none that stands behind.
 pub record StartFails {B K : Type 0} (sight : Sight B K) (tells : Bool) (names : Names) (me : Option ℕ) (before after : Outside B) (e : StartFault) : Type 0 where
   pub config : Config
   pub keys : List (List ℕ)
@@ -107,7 +107,7 @@ pub record StartFails {B K : Type 0} (sight : Sight B K) (tells : Bool) (names :
   pub log : IsTrue tells → StartsLog config names.log before.files after.files (before.files names.log) (Err e)
   pub kept : FanoutState
   pub fed : AreFedSome sight tells (file_replayed (Some config) (before.files names.log)) before.consumers after.consumers (none_told before.consumers) kept
-  pub part : AreFedPart sight tells (file_begun (Some config) (before.files names.log)) before.consumers after.consumers (none_told before.consumers) kept
+  pub part : AreFedPart sight tells (file_begun (Some config) (before.files names.log)) e before.consumers after.consumers (none_told before.consumers) kept
   pub door : after.door ≡ before.door
   pub written : after.written ≡ before.written
 

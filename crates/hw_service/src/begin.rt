@@ -207,7 +207,7 @@ fn start_fed<F: Files>(
     ensures whole { All (λ b. HasTaken [] 0 (consumed b)) consumers.old.items → IfOk result (λ node. All (λ b. HasTaken (told_chain node.core) (length (told_chain node.core)) (consumed b)) consumers.new.items) }
     ensures passed { IfOk result (λ node. fanout.new.passed ≡ length (told_chain node.core)) }
     ensures stopped { IfErr result (λ e. AreFedSome (seen (λ b. consumed b) (λ b. faults b) (λ b. b.vtable)) F.tells (file_replayed (Some config) (F.held files.old log.now)) consumers.old.items consumers.new.items fanout.old fanout.new) }
-    ensures part { IfErr result (λ e. AreFedPart (seen (λ b. consumed b) (λ b. faults b) (λ b. b.vtable)) F.tells (file_begun (Some config) (F.held files.old log.now)) consumers.old.items consumers.new.items fanout.old fanout.new) }
+    ensures part { IfErr result (λ e. AreFedPart (seen (λ b. consumed b) (λ b. faults b) (λ b. b.vtable)) F.tells (file_begun (Some config) (F.held files.old log.now)) e consumers.old.items consumers.new.items fanout.old fanout.new) }
     ensures room { length consumers.new.items ≤ length fanout.new.places }
     ensures cause { HasStartCause (F.read_faults files.old) (F.read_faults files.new) (F.append_faults files.old) (F.append_faults files.new) result }
     ensures about { IsTrue F.tells → IfErr result (IsReadOfLog log.now (F.faults_about files.old) (F.faults_about files.new)) }
@@ -238,7 +238,7 @@ fn go_on_fed<F: Files>(
     ensures whole { All (λ b. HasTaken [] 0 (consumed b)) consumers.old.items → IfOk result (λ node. All (λ b. HasTaken (told_chain node.core) (length (told_chain node.core)) (consumed b)) consumers.new.items) }
     ensures passed { IfOk result (λ node. fanout.new.passed ≡ length (told_chain node.core)) }
     ensures stopped { IfErr result (λ e. AreFedSome (seen (λ b. consumed b) (λ b. faults b) (λ b. b.vtable)) F.tells (file_replayed (Some config.now) (F.held files.old log.now)) consumers.old.items consumers.new.items fanout.old fanout.new) }
-    ensures part { IfErr result (λ e. AreFedPart (seen (λ b. consumed b) (λ b. faults b) (λ b. b.vtable)) F.tells (file_begun (Some config.now) (F.held files.old log.now)) consumers.old.items consumers.new.items fanout.old fanout.new) }
+    ensures part { IfErr result (λ e. AreFedPart (seen (λ b. consumed b) (λ b. faults b) (λ b. b.vtable)) F.tells (file_begun (Some config.now) (F.held files.old log.now)) e consumers.old.items consumers.new.items fanout.old fanout.new) }
     ensures room { length consumers.new.items ≤ length fanout.new.places }
     ensures cause { HasReplayCause (F.read_faults files.old) (F.read_faults files.new) result }
     ensures about { IsTrue F.tells → IsReplayAbout (Some log.now) (F.faults_about files.old) (F.faults_about files.new) result }

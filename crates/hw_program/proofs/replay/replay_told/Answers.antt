@@ -42,7 +42,7 @@ returns-in-Err-clause-told g c =
     let held = g.F.Files.held c.args.files.now in
     stopped_told (seen (λ b. (goal.Consumer-dyn g (b.vtable, b.value)).consumed b.value) (λ b. (goal.Consumer-dyn g (b.vtable, b.value)).faults b.value) (λ b. b.vtable)) g.F.Files.tells held c.args.log.now
     c.args.consumers.now.items c.replay_fed.new.consumers.items c.in-Err.fault c.stopped.result _ _
-    (told_some (seen (λ b. (goal.Consumer-dyn g (b.vtable, b.value)).consumed b.value) (λ b. (goal.Consumer-dyn g (b.vtable, b.value)).faults b.value) (λ b. b.vtable)) g.F.Files.tells (held c.args.log.now)
+    (told_some (seen (λ b. (goal.Consumer-dyn g (b.vtable, b.value)).consumed b.value) (λ b. (goal.Consumer-dyn g (b.vtable, b.value)).faults b.value) (λ b. b.vtable)) g.F.Files.tells (held c.args.log.now) c.in-Err.fault
     c.args.consumers.now.items c.replay_fed.new.consumers.items c.args.fanout.now c.replay_fed.new.fanout c.requires c.in-Err.ensures.part) c.stopped.ensures.said (c.stopped.ensures.cause _ _ c.in-Err.ensures.cause.counted)
 
 pub returns-in-Err-clause-fault : goal.returns-in-Err-clause-fault

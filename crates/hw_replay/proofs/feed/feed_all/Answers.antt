@@ -62,9 +62,10 @@ returns-in_err-step-clause-whole g c = λ first.
 pub returns-in_err-step-clause-part : goal.returns-in_err-step-clause-part
 returns-in_err-step-clause-part g c =
     let p = err_from_is_err_and c.from_residual.result c.from_residual.ensures.1 in
-    rw p.1 (record {
+    rw (p.1, p.2) (record {
       taken = taken_in c.entries.replay;
       rest = entries_of (left_of c.entries.replay.reader (g.F.Files.unread c.entries.files));
       came = λ tells. c.entries.invariant.read tells;
+      stops = λ tells. c.in_err-step.ensures.next tells;
       fed = c.entries.invariant.fed;
     })

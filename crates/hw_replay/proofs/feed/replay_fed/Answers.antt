@@ -46,12 +46,12 @@ returns-in_err-feed_all-clause-whole g c =
 pub returns-in_err-feed_all-clause-stopped : goal.returns-in_err-feed_all-clause-stopped
 returns-in_err-feed_all-clause-stopped g c =
     let p = err_from_is_err_and c.from_residual-in_err-feed_all.result c.from_residual-in_err-feed_all.ensures.1 in
-    rw p.1 (inr (fed_until _ _ _ _ _ _ _ (fed_to _ _ _ _ _ _ _ _ _ c.in_ok-replay.ensures.midway (ap (λ (t : Taken). t.core) c.in_ok-replay.ensures.empty) c.in_err-feed_all.ensures.part)))
+    rw p.1 (inr (fed_until _ _ _ _ _ _ _ _ (fed_to _ _ _ _ _ _ _ _ _ _ c.in_ok-replay.ensures.midway (ap (λ (t : Taken). t.core) c.in_ok-replay.ensures.empty) c.in_err-feed_all.ensures.part)))
 
 pub returns-in_err-feed_all-clause-part : goal.returns-in_err-feed_all-clause-part
 returns-in_err-feed_all-clause-part g c =
     let p = err_from_is_err_and c.from_residual-in_err-feed_all.result c.from_residual-in_err-feed_all.ensures.1 in
-    rw p.1 (inr (fed_to _ _ _ _ _ _ _ _ _ c.in_ok-replay.ensures.midway (ap (λ (t : Taken). t.core) c.in_ok-replay.ensures.empty) c.in_err-feed_all.ensures.part))
+    rw (p.1, p.2) (inr (fed_to _ _ _ _ _ _ _ _ _ _ c.in_ok-replay.ensures.midway (ap (λ (t : Taken). t.core) c.in_ok-replay.ensures.empty) c.in_err-feed_all.ensures.part))
 
 pub returns-in_err-feed_all-clause-cause : goal.returns-in_err-feed_all-clause-cause
 returns-in_err-feed_all-clause-cause g c =

@@ -13,4 +13,4 @@ returns-in-Err-clause-begins_not g c = λ door written.
     let e = c.in-Err.ensures in
     rw c.fault_of_start.ensures (begins_not _ _ _ _ _ _ _ c.in_ok-config.ensures.files door written _ _ _ _ c.in_ok-config.ensures.read c.in-Err.fault _ e.said e.log
     (some_from _ _ _ _ _ _ _ (told_none _ _ _ c.in_ok-fanout.ensures (omega (arith, c.len.ensures))) e.stopped)
-    (part_from _ _ _ _ _ _ _ (told_none _ _ _ c.in_ok-fanout.ensures (omega (arith, c.len.ensures))) e.part))
+    (part_from _ _ _ _ _ _ _ _ (told_none _ _ _ c.in_ok-fanout.ensures (omega (arith, c.len.ensures))) e.part))

@@ -2,7 +2,7 @@ use Rattle.std.proofs.Common.{sym, ◌∙◌}
 use Rattle.std.proofs.lemmas.Result.{err_from_is_err_and}
 use Rattle.hw_replay.proofs.AheadLaws.{ahead_entry, ahead_end, stops_at_entry, stops_at_error}
 use Rattle.hw_replay.proofs.EndLaws.{lasts_lead, lasts_end}
-use Rattle.hw_replay.proofs.MidwayLaws.{takes_next}
+use Rattle.hw_replay.proofs.MidwayLaws.{takes_next, stops_next, errs_next}
 use Rattle.hw_replay.proofs.replay.Replay.step.Goals as goal
 
 pub returns-in_err-take-in-Ok-Some-clause-said : goal.returns-in_err-take-in-Ok-Some-clause-said
@@ -40,3 +40,13 @@ pub returns-in_ok-take-in-Ok-Some-clause-next : goal.returns-in_ok-take-in-Ok-So
 returns-in_ok-take-in-Ok-Some-clause-next g c = λ tells.
     let is = rw c.in-Ok-Some.field-0-is at (c.in-Ok-Some.ensures.said tells) in
     rw c.in_ok-take-in-Ok-Some.ensures.reader (takes_next _ _ _ _ _ is c.in_ok-take-in-Ok-Some.ensures.taken)
+
+pub returns-in_err-take-in-Ok-Some-clause-next : goal.returns-in_err-take-in-Ok-Some-clause-next
+returns-in_err-take-in-Ok-Some-clause-next g c =
+    let p = err_from_is_err_and c.from_residual.result c.from_residual.ensures.1 in
+    λ tells.
+    let is = rw c.in-Ok-Some.field-0-is at (c.in-Ok-Some.ensures.said tells) in
+    rw (p.1, p.2) (stops_next _ _ _ _ _ is c.in_err-take-in-Ok-Some.ensures.stopped)
+
+pub returns-in-Err-clause-next : goal.returns-in-Err-clause-next
+returns-in-Err-clause-next g c = λ tells. rw c.fault_of.ensures (errs_next _ _ _ (c.in-Err.ensures.said tells))
