@@ -24,7 +24,7 @@ use Rattle.hw_program.specs.declared.ended.Ended.{Ended}
 use Rattle.hw_program.specs.Program.{Held}
 use Rattle.hw_program.specs.Texts.{usage_line, read_fault_line, input_ended, clash_ended}
 use Rattle.hw_program.specs.Run.{Output, WritesLine, IsStatus, IsWorkedStatus, IsServiceStatus}
-use Rattle.hw_program.specs.Services.{Service, Serve, Run, Host, Meet, names_in}
+use Rattle.hw_program.specs.Services.{Service, Serve, Run, Host, Meet, names_in, maker_in}
 use Rattle.hw_program.specs.Served.{service_stopped, Tells, EndsBy, RunsAsAsked, Around, RunsNode, MayBegin, IsMidway, CanRun, IsRunEnd, AsksNoValidator}
 use Rattle.hw_program.proofs.ServedLaws.{ends_status, one_config, told_kept, log_fault_status, IsPlainFault, asked_plain, IsStepFault, session_fault, host_fault, meet_fault, turn_fault, part_fault}
 
@@ -211,8 +211,8 @@ module _ {B K : Type 0} (sight : Sight B K) (tells : Bool) (s : Service) (status
   pub node_read_fault : status ≡ 4 → Rose old.counts.reads new.counts.reads
   node_read_fault at = subst (λ (c : Result Served ServiceFault). IsReadCounted old.counts.reads new.counts.reads c) (read_at at) r.reads
 
-  pub node_about : IsTrue tells → status ≡ 4 → IsAbout (names_in s) old.counts.about new.counts.about
-  node_about t at = subst (λ (c : Result Served ServiceFault). IfErr c (λ e. e ≡ fault.Read → IsAbout (names_in s) old.counts.about new.counts.about)) (read_at at) (r.about t) refl
+  pub node_about : IsTrue tells → status ≡ 4 → IsAbout (names_in s) (maker_in s) old.whole.files old.counts.about new.counts.about
+  node_about t at = subst (λ (c : Result Served ServiceFault). IfErr c (λ e. e ≡ fault.Read → IsAbout (names_in s) (maker_in s) old.whole.files old.counts.about new.counts.about)) (read_at at) (r.about t) refl
 
 -- ---- a run that may begin
 

@@ -175,7 +175,7 @@ pub record RunsNode {B K : Type 0} (sight : Sight B K) (tells : Bool) (s : Servi
   pub writes : IsWriteCounted old.output.faults between.faults came_to
   pub reads : IsReadCounted old.counts.reads new.counts.reads came_to
   pub appends : IsAppendCounted old.counts.appends new.counts.appends came_to
-  pub about : IsTrue tells → IfErr came_to (λ e. e ≡ fault.Read → IsAbout (names_in s) old.counts.about new.counts.about)
+  pub about : IsTrue tells → IfErr came_to (λ e. e ≡ fault.Read → IsAbout (names_in s) (maker_in s) old.whole.files old.counts.about new.counts.about)
   pub link : IfOk came_to (λ (served : Served). IsDoorCounted served.link_failed old.counts.link new.counts.link)
   -- behind a report
   pub calls : OnOk came_to (CallsDoor s old.whole.door new.whole.door)

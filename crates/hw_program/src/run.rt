@@ -7,7 +7,7 @@ ghost use Rattle.hw_fanout.specs.Fates.{seen};
 ghost use Rattle.hw_service.specs.Scene.{door_seen};
 ghost use Rattle.hw_service.specs.Begun.{IsAbout};
 ghost use Rattle.hw_program.specs.Commands.{request_of, OnlyReads, UsesFilesAlone};
-ghost use Rattle.hw_program.specs.Services.{service_of, names_in, IsWorkedOut, IsNoCommand, UsesNoClock};
+ghost use Rattle.hw_program.specs.Services.{service_of, names_in, IsWorkedOut, IsNoCommand, UsesNoClock, maker_in};
 ghost use Rattle.hw_program.specs.Serving.{service};
 ghost use Rattle.hw_program.specs.Served.{around, counts, output, RunsNode, CanRun, IsRunEnd, AsksNoValidator, OnlyLogChanges};
 ghost use Rattle.hw_program.specs.Texts.{usage_line, read_fault_line, append_fault_line};
@@ -122,7 +122,7 @@ pub fn highway<F: Files, S: Sink, C: Clock, D: Door>(
     // 6 comes only where a call of the door failed in it. A read that failed was about a file that it begins from, and
     // a count of reads or of appends that rose is told, where there is memory.
     ensures link { result ≡ 6 → IsSome (service_of words.now) × Rose (D.faults door.old) (D.faults door.new) }
-    ensures node_about { IsTrue F.tells → result ≡ 4 → IfSome (service_of words.now) (λ s. IsAbout (names_in s) (F.faults_about files.old) (F.faults_about files.new)) }
+    ensures node_about { IsTrue F.tells → result ≡ 4 → IfSome (service_of words.now) (λ s. IsAbout (names_in s) (maker_in s) (F.held files.old) (F.faults_about files.old) (F.faults_about files.new)) }
     ensures node_reads { IsSome (service_of words.now) → result ≢ 4 → (F.read_faults files.new ≡ F.read_faults files.old) ⊎ (result ≡ 7) }
     ensures node_appended { IsSome (service_of words.now) → result ≢ 5 → (F.append_faults files.new ≡ F.append_faults files.old) ⊎ (result ≡ 7) }
 

@@ -32,7 +32,7 @@ pub(crate) fn begin_node<F: Files>(
     ensures room { IfOk result (λ h. length consumers.new.items ≤ length h.fanout.places) }
     ensures reads { IsReadCounted (F.read_faults files.old) (F.read_faults files.new) result }
     ensures appends { IsAppendCounted (F.append_faults files.old) (F.append_faults files.new) result }
-    ensures about { IsTrue F.tells → IfErr result (λ e. e ≡ fault.Read → IsAbout (names_of sources.entry) (F.faults_about files.old) (F.faults_about files.new)) }
+    ensures about { IsTrue F.tells → IfErr result (λ e. e ≡ fault.Read → IsAbout (names_of sources.entry) None (F.held files.old) (F.faults_about files.old) (F.faults_about files.new)) }
 {
     begin_host(alloc, sources, None, files, consumers)
 }

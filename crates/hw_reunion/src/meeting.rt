@@ -1,6 +1,6 @@
 //! A node that dials a peer, and meets it.
 
-ghost use Rattle.std.specs.Prelude.{◌≡◌, ◌≢◌, ◌≤◌, length, IsTrue, IfOk, IfErr, OnOk};
+ghost use Rattle.std.specs.Prelude.{◌≡◌, ◌≢◌, ◌≤◌, length, IsTrue, IfOk, IfErr, OnOk, None};
 ghost use Rattle.hw_io.specs.Faults.{raised};
 ghost use Rattle.hw_fanout.specs.Fates.{seen};
 ghost use Rattle.hw_fanout.specs.Chain.{told_chain};
@@ -41,7 +41,7 @@ pub fn meet<F: Files, S: Sink, D: Door>(
 
     // Which counts rise.
     ensures reads { IsReadCounted (F.read_faults files.old) (F.read_faults files.new) result }
-    ensures about { IsTrue F.tells → IfErr result (λ e. e ≡ fault.Read → IsAbout (names_of sources.entry) (F.faults_about files.old) (F.faults_about files.new)) }
+    ensures about { IsTrue F.tells → IfErr result (λ e. e ≡ fault.Read → IsAbout (names_of sources.entry) None (F.held files.old) (F.faults_about files.old) (F.faults_about files.new)) }
     ensures appends { IsAppendCounted (F.append_faults files.old) (F.append_faults files.new) result }
     ensures writes { IsWriteCounted (S.faults out.old) (S.faults out.new) result }
     ensures link { IfOk result (λ served. IsDoorCounted served.link_failed (D.faults door.old) (D.faults door.new)) }

@@ -1,6 +1,7 @@
 -- The parts of a node's beginning.
 -- Source: ours.
-use Rattle.std.specs.Prelude.{◌≡◌, ◌⊎◌, ℕ, Bool, IsTrue, List, Option, Some, Result, Err}
+use Rattle.std.specs.Prelude.{◌≡◌, ◌⊎◌, ℕ, Bool, true, IsTrue, List, Option, Some, Result, Ok, Err}
+use Rattle.hw_types.specs.declared.config.Config.{Config}
 use Rattle.hw_io.specs.declared.outside.IoFault.{IoFault}
 use Rattle.hw_io.specs.declared.outside.IoFault.TheVariants as io
 use Rattle.hw_io.specs.Faults.{Rose}
@@ -9,7 +10,7 @@ use Rattle.hw_replay.specs.declared.fault.StartFault.{StartFault}
 use Rattle.hw_replay.specs.declared.fault.StartFault.TheVariants as start
 use Rattle.hw_service.specs.declared.fault.ServiceFault.{ServiceFault}
 use Rattle.hw_service.specs.declared.fault.ServiceFault.TheVariants as fault
-use Rattle.hw_service.specs.Begin.{Names, file_settings, HoldsFault}
+use Rattle.hw_service.specs.Begin.{Names, file_settings, HoldsFault, IsValidator, Reads}
 
 -- a file couldn't be read
 abbrev pub IsOfFile : ServiceFault → Type 0
@@ -32,11 +33,17 @@ abbrev pub fault_of_look : IoFault → StartFault
 fault_of_look io.Failed = start.Log log.ReadFault
 fault_of_look io.OutOfMemory = start.OutOfMemory
 
--- a failed call was about one of these files, and was counted for it
-abbrev pub IsAbout : Names → (List ℕ → ℕ) → (List ℕ → ℕ) → Type 0
-IsAbout names before now = Rose (before names.config) (now names.config) ⊎ Rose (before names.keys) (now names.keys) ⊎ Rose (before names.log) (now names.log)
+-- A failed call was about one of these files, and was counted for it. It was about the keys only where the settings say a configuration of
+-- which the validator is one, and about the log only where the keys are those of its validators too.
+abbrev pub IsAbout : Names → Option ℕ → (List ℕ → Option (List ℕ)) → (List ℕ → ℕ) → (List ℕ → ℕ) → Type 0
+IsAbout names me files before now =
+    Rose (before names.config) (now names.config)
+    ⊎ ((config : Config) × (file_settings (files names.config) ≡ Some (Ok config)) × IsValidator me config × Rose (before names.keys) (now names.keys))
+    ⊎ ((config : Config) × (keys : List (List ℕ)) × Reads true names me files config keys × Rose (before names.log) (now names.log))
 
 -- a failed read was about the settings or the keys, and nothing else is counted for a file
-abbrev pub IsReadOf : {T : Type 0} → Names → (List ℕ → ℕ) → (List ℕ → ℕ) → Result T ServiceFault → Type 0
-IsReadOf names before now (Err fault.Read) = Rose (before names.config) (now names.config) ⊎ Rose (before names.keys) (now names.keys)
-IsReadOf names before now _ = now ≡ before
+abbrev pub IsReadOf : {T : Type 0} → Names → Option ℕ → (List ℕ → Option (List ℕ)) → (List ℕ → ℕ) → (List ℕ → ℕ) → Result T ServiceFault → Type 0
+IsReadOf names me files before now (Err fault.Read) =
+    Rose (before names.config) (now names.config)
+    ⊎ ((config : Config) × (file_settings (files names.config) ≡ Some (Ok config)) × IsValidator me config × Rose (before names.keys) (now names.keys))
+IsReadOf names me files before now _ = now ≡ before

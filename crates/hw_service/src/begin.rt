@@ -64,7 +64,7 @@ pub fn begin_host<F: Files>(
     ensures validator { IfOk result (λ h. IsValidator me h.node.core.config) }
     ensures reads { IsReadCounted (F.read_faults files.old) (F.read_faults files.new) result }
     ensures appends { IsAppendCounted (F.append_faults files.old) (F.append_faults files.new) result }
-    ensures about { IsTrue F.tells → IfErr result (λ e. e ≡ fault.Read → IsAbout (names_of sources.entry) (F.faults_about files.old) (F.faults_about files.new)) }
+    ensures about { IsTrue F.tells → IfErr result (λ e. e ≡ fault.Read → IsAbout (names_of sources.entry) me (F.held files.old) (F.faults_about files.old) (F.faults_about files.new)) }
 {
     let (config, keys) = read_sources(alloc, sources, me, files)?;
     let mut fanout = fanout_for(alloc, consumers.len())?;
@@ -93,7 +93,7 @@ fn read_sources<F: Files>(
     ensures lawful { IfOk result (λ r. (config_fault r.0 ≡ None) × (length r.1 ≡ length r.0.weights)) }
     ensures fault { IfErr result (ReadsNot F.tells (names_of sources.entry) me (F.held files.old)) }
     ensures reads { IsReadCounted (F.read_faults files.old) (F.read_faults files.new) result }
-    ensures about { IsTrue F.tells → IsReadOf (names_of sources.entry) (F.faults_about files.old) (F.faults_about files.new) result }
+    ensures about { IsTrue F.tells → IsReadOf (names_of sources.entry) me (F.held files.old) (F.faults_about files.old) (F.faults_about files.new) result }
 
     ensures files { SameFiles (F.held files.old) (F.held files.new) }
     ensures appends { F.append_faults files.new ≡ F.append_faults files.old }

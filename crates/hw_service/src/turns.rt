@@ -53,7 +53,7 @@ pub fn run<F: Files, S: Sink, C: Clock, D: Door>(
 
     // Which counts rise.
     ensures reads { IsReadCounted (F.read_faults environment.old.files.now) (F.read_faults environment.new.files.now) result }
-    ensures about { IsTrue F.tells → IfErr result (λ e. e ≡ fault.Read → IsAbout (names_of sources.entry) (F.faults_about environment.old.files.now) (F.faults_about environment.new.files.now)) }
+    ensures about { IsTrue F.tells → IfErr result (λ e. e ≡ fault.Read → IsAbout (names_of sources.entry) (Some me) (F.held environment.old.files.now) (F.faults_about environment.old.files.now) (F.faults_about environment.new.files.now)) }
     ensures appends { IsAppendCounted (F.append_faults environment.old.files.now) (F.append_faults environment.new.files.now) result }
     ensures writes { IsWriteCounted (S.faults environment.old.out.now) (S.faults environment.new.out.now) result }
     ensures link { IfOk result (λ served. IsDoorCounted served.link_failed (D.faults environment.old.door.now) (D.faults environment.new.door.now)) }
