@@ -20,3 +20,9 @@ returns-in-Err-clause-log g c = λ tells. writes_not c.args.config c.args.log.no
 
 pub returns-in-Err-clause-room : goal.returns-in-Err-clause-room
 returns-in-Err-clause-room g c = room_for _ _ c.requires.none
+
+pub returns-in-Ok-true-clause-stopped : goal.returns-in-Ok-true-clause-stopped
+returns-in-Ok-true-clause-stopped g c = rw (c.in-Ok-true.ensures.files c.args.log.now) at c.go_on_fed.ensures.stopped
+
+pub returns-in-Ok-true-clause-part : goal.returns-in-Ok-true-clause-part
+returns-in-Ok-true-clause-part g c = rw (c.in-Ok-true.ensures.files c.args.log.now) at c.go_on_fed.ensures.part
