@@ -1,9 +1,7 @@
 //! What a summary tells of each validator, as bytes.
 
-ghost use Rattle.std.specs.Prelude.{◌≡◌, ◌<◌, ◌^◌, ◌++◌, ◌==◌, length, OnOk, Ok, Err, if◌then◌else◌};
-ghost use Rattle.std.specs.Int.{w64};
-ghost use Rattle.hw_types.specs.declared.answers.CodecError.TheVariants.{OutOfRange};
-ghost use Rattle.hw_types.specs.Reading.{Gives, number_at, many_at, counted_at};
+ghost use Rattle.std.specs.Prelude.{◌≡◌, ◌<◌, ◌^◌, ◌++◌, length, OnOk};
+ghost use Rattle.hw_types.specs.Reading.{Gives, many_at, counted_at};
 ghost use Rattle.hw_types.specs.Spelling.{counted};
 ghost use Rattle.hw_meeting.specs.Frames.{part_bytes, unit_count_at, part_behind, part_at};
 
