@@ -10,8 +10,8 @@ use crate::reader::Reader;
 use hw_types::{CodecError, Digest, Items, OutOfMemory};
 use std::alloc::Global;
 
-/// An item of a list.
-pub(crate) trait Field: Copy {
+/// An item of a list: how its bytes are read and written.
+pub trait Field: Copy {
     ghost use Rattle.std.specs.Prelude.{ℕ, List};
     ghost use Rattle.hw_types.specs.Reading.{Rest, Read};
 
@@ -26,7 +26,7 @@ pub(crate) trait Field: Copy {
     /// The fewest bytes that one has.
     const LEAST: usize;
 
-    /// Reads one.
+    /// Reads one. The error is that of the first field that is refused, with its place, or `OutOfMemory`.
     fn read(reader: &mut Reader<'_>) -> Result<Self, CodecError>
         ensures { Gives (λ item. (item, reader.new)) result (at reader.old) };
 
@@ -67,9 +67,12 @@ fn many<F: Field>(
     Ok(list)
 }
 
-/// Reads a count that is at most the limit, and so many items.
+/// Reads a count of four bytes that is at most the limit, and so many items.
+///
+/// Where the count is above, `TooLong` has its place; other errors are those of a field. Room is made for no
+/// more items than the bytes that are left can hold.
 #[tactic(auto, unfolding(hw_types::specs::Reading::counted_at))]
-pub(crate) fn read_list<F: Field>(
+pub fn read_list<F: Field>(
     alloc: Global,
     limit: u32,
     reader: &mut Reader<'_>,
@@ -89,8 +92,10 @@ pub(crate) fn list_len<F: Field>(list: &[F]) -> usize {
     len
 }
 
-/// Writes how many items there are, and each of them.
-pub(crate) fn put_list<F: Field>(list: &[F], out: &mut Vec<u8>) -> Result<(), OutOfMemory>
+/// Writes in four bytes how many items there are, and each of them, behind what stands in `out`.
+///
+/// There are fewer than 2^32.
+pub fn put_list<F: Field>(list: &[F], out: &mut Vec<u8>) -> Result<(), OutOfMemory>
     requires { length list.now < 2 ^ 32 }
     ensures { OnOk result (out.new.items ≡ out.old.items ++ counted F.spelling list.now) }
 {

@@ -6,6 +6,8 @@
 //! goes over the bytes once, and makes no room for more than the bytes that are left can hold.
 //! Either may want memory in place of any answer.
 //!
+//! [`Reader`] takes one field after the other, and a [`Field`] is an item of a list; other formats use both.
+//!
 //! The laws say that no spelling begins another of its kind, that equal spellings are of equal
 //! values, and that reading gives back what was spelled, whatever follows.
 #![tactic(auto)]
@@ -28,6 +30,7 @@ pub use decoding::{decode_config, decode_frame, decode_unit, decode_vertex};
 pub use encoding::{
     digest_of, encode_config, encode_frame, encode_unit, encode_vertex, instance_of,
 };
+pub use field::{Field, put_list, read_list};
 pub use hw_types::{CodecError, Frame, NeedList};
 pub use last::Last;
 pub use laws::{
@@ -35,4 +38,5 @@ pub use laws::{
     reading_gives_back_what_was_spelled, reading_is_spelling, what_was_read_is_spelled,
 };
 pub use ranges::{config_is_in_range, frame_is_in_range, unit_is_in_range, vertex_is_in_range};
+pub use reader::Reader;
 pub use unit::fits;

@@ -8,8 +8,11 @@ use hw_types::{CodecError, Digest};
 use std::marker::Model;
 
 /// The bytes that aren't read yet, and how many were read before them.
+///
+/// What takes a field answers `Truncated` with the field's place where fewer bytes are left than it has.
+/// Places count bytes, from 0 at the first one. Of a number the highest byte comes first.
 #[derive(Drop)]
-pub(crate) struct Reader<'a> {
+pub struct Reader<'a> {
     place: u64,
     rest: &'a [u8],
 }
@@ -27,7 +30,7 @@ impl<'a> Model for Reader<'a> {
 
 impl<'a> Reader<'a> {
     /// A reader at the first of these bytes, whose place is 0.
-    pub(crate) fn new(bytes: &'a [u8]) -> Reader<'a>
+    pub fn new(bytes: &'a [u8]) -> Reader<'a>
         ensures { result ≡ record { place = 0; bytes = bytes.now } }
     {
         Reader {
@@ -37,7 +40,7 @@ impl<'a> Reader<'a> {
     }
 
     /// The place of the next byte.
-    pub(crate) fn place(&self) -> u64
+    pub fn place(&self) -> u64
         ensures { result ≡ self.now.place }
     {
         self.place
@@ -50,8 +53,8 @@ impl<'a> Reader<'a> {
         self.rest.len()
     }
 
-    /// A field of so many bytes.
-    pub(crate) fn bytes(&mut self, count: usize) -> Result<&'a [u8], CodecError>
+    /// The next bytes, so many.
+    pub fn bytes(&mut self, count: usize) -> Result<&'a [u8], CodecError>
         ensures { Gives (λ bytes. (bytes.now, self.new)) result (bytes_at count self.old) }
     {
         let rest = self.rest;
@@ -64,8 +67,8 @@ impl<'a> Reader<'a> {
         Ok(field)
     }
 
-    /// A field of `N` bytes.
-    pub(crate) fn array<const N: usize>(&mut self) -> Result<[u8; N], CodecError>
+    /// The next `N` bytes.
+    pub fn array<const N: usize>(&mut self) -> Result<[u8; N], CodecError>
         ensures { Gives (λ bytes. (bytes, self.new)) result (bytes_at N self.old) }
     {
         let rest = self.rest;
@@ -78,28 +81,28 @@ impl<'a> Reader<'a> {
     }
 
     /// A number of one byte.
-    pub(crate) fn u8(&mut self) -> Result<u8, CodecError>
+    pub fn u8(&mut self) -> Result<u8, CodecError>
         ensures { Gives (λ n. (n, self.new)) result (number_at w8 self.old) }
     {
         Ok(u8::from_be_bytes(self.array()?))
     }
 
     /// A number of four bytes.
-    pub(crate) fn u32(&mut self) -> Result<u32, CodecError>
+    pub fn u32(&mut self) -> Result<u32, CodecError>
         ensures { Gives (λ n. (n, self.new)) result (number_at w32 self.old) }
     {
         Ok(u32::from_be_bytes(self.array()?))
     }
 
     /// A number of eight bytes.
-    pub(crate) fn u64(&mut self) -> Result<u64, CodecError>
+    pub fn u64(&mut self) -> Result<u64, CodecError>
         ensures { Gives (λ n. (n, self.new)) result (number_at w64 self.old) }
     {
         Ok(u64::from_be_bytes(self.array()?))
     }
 
-    /// A number of four bytes that is at most the limit.
-    pub(crate) fn count(&mut self, limit: u32) -> Result<u32, CodecError>
+    /// A number of four bytes that is at most the limit. Where it is above, `TooLong` has its place.
+    pub fn count(&mut self, limit: u32) -> Result<u32, CodecError>
         ensures { Gives (λ n. (n, self.new)) result (count_at limit self.old) }
     {
         let place = self.place;
@@ -111,14 +114,14 @@ impl<'a> Reader<'a> {
     }
 
     /// A digest of 32 bytes.
-    pub(crate) fn digest(&mut self) -> Result<Digest, CodecError>
+    pub fn digest(&mut self) -> Result<Digest, CodecError>
         ensures { Gives (λ digest. (digest, self.new)) result (digest_at self.old) }
     {
         Ok(Digest(self.array()?))
     }
 
-    /// Tests that no byte is left.
-    pub(crate) fn end(&self) -> Result<(), CodecError>
+    /// Tests that no byte is left. Where one is, `Trailing` has its place.
+    pub fn end(&self) -> Result<(), CodecError>
         ensures { result ≡ (if length self.now.bytes == 0 then Ok tt else Err (CodecError.Trailing self.now.place)) }
     {
         if !self.rest.is_empty() {

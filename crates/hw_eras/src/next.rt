@@ -1,21 +1,17 @@
 //! The configuration of the next era.
 
-ghost use Rattle.std.specs.Prelude.{◌≡◌, [], None, IfOk};
-ghost use Rattle.std.specs.Int.{w64};
+ghost use Rattle.std.specs.Prelude.{◌≡◌, None, IfOk};
 ghost use Rattle.std.specs.Option.{option_map};
 ghost use Rattle.hw_types.specs.Limits.{config_fault};
-ghost use Rattle.hw_types.specs.Reading.{Gives, many_at, number_at, whole};
+ghost use Rattle.hw_types.specs.Reading.{Gives, whole};
 ghost use Rattle.hw_eras.specs.Eras.{weights_at, named_by, drawn_by, if_lawful, next_config};
 
-use crate::reader::Reader;
-use hw_types::{CodecError, Config, Digest, Items, Leaders, OutOfMemory, WeightList};
+use hw_codec::{Reader, read_list};
+use hw_types::{CodecError, Config, Digest, Leaders, OutOfMemory, WeightList};
 use std::alloc::Global;
 
 /// The most weights that a value may name, one for each validator.
 const MAX_WEIGHTS: u32 = 1_024;
-
-/// How many bytes a weight has.
-const WEIGHT_LEN: usize = 8;
 
 /// The configuration of the next era, where the last block of an era has this digest and this value.
 ///
@@ -108,36 +104,10 @@ fn read_value(alloc: Global, value: &[u8]) -> Result<Named, CodecError>
 }
 
 /// Reads how many weights there are, each of them, and a threshold.
-#[tactic(auto, unfolding(hw_types::specs::Reading::counted_at))]
 fn read_named(alloc: Global, reader: &mut Reader<'_>) -> Result<Named, CodecError>
     ensures { Gives (λ named. ((named.weights, named.ftt), reader.new)) result (weights_at reader.old) }
 {
-    let count = reader.count(MAX_WEIGHTS)?;
-    let weights = read_weights(alloc, count, reader)?;
+    let weights = read_list(alloc, MAX_WEIGHTS, reader)?;
     let ftt = reader.u64()?;
     Ok(Named { weights, ftt })
-}
-
-/// Reads so many weights.
-fn read_weights(
-    alloc: Global,
-    count: u32,
-    reader: &mut Reader<'_>,
-) -> Result<WeightList, CodecError>
-    ensures { Gives (λ list. (list, reader.new)) result (many_at (number_at w64) count reader.old) }
-{
-    let mut list = room_for(alloc, count, reader.left())?;
-    for _ in 0..count {
-        list.push(reader.u64()?)?;
-    }
-    Ok(list)
-}
-
-/// An empty list with room for as many weights as are wanted and fit in the bytes that are left.
-fn room_for(alloc: Global, count: u32, left: usize) -> Result<WeightList, OutOfMemory>
-    ensures { IfOk result (λ list. list ≡ []) }
-{
-    let fitting = left / WEIGHT_LEN;
-    let room = Vec::with_capacity(alloc, fitting.min(count as usize))?;
-    Ok(Items::from_vec(room))
 }

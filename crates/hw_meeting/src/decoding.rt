@@ -8,10 +8,9 @@ ghost use Rattle.hw_meeting.specs.declared.frame.MeetingFrame.{MeetingFrame};
 ghost use Rattle.hw_meeting.specs.declared.frame.FrameFault.TheVariants as Faults;
 ghost use Rattle.hw_meeting.specs.Frames.{rise_from, are_validators, SpellsMeeting, MeetingInRange, summary_at, torn_at, meeting_behind, meeting_of, fault_of};
 
-use crate::field::read_list;
 use crate::frame::{FrameFault, MeetingFrame, SummaryList};
-use crate::reader::Reader;
-use hw_codec::decode_vertex;
+use crate::part::read_parts;
+use hw_codec::{Reader, decode_vertex, read_list};
 use hw_types::{CodecError, Digest, IndexList, Vertex};
 use std::alloc::Global;
 
@@ -115,7 +114,7 @@ fn read_summary(
     ensures { Gives (λ parts. (parts, reader.new)) result (summary_at validators reader.old) }
 {
     let place = reader.place();
-    let parts: SummaryList = read_list(alloc, validators, reader)?;
+    let parts = read_parts(alloc, validators, reader)?;
     if parts.len() != validators as usize {
         return Err(CodecError::OutOfRange(place));
     }

@@ -4,9 +4,9 @@ ghost use Rattle.std.specs.Prelude.{◌≡◌, ◌<◌, ◌^◌, ◌++◌, ◌�
 ghost use Rattle.hw_types.specs.Spelling.{vertex_bytes, VertexFits};
 ghost use Rattle.hw_meeting.specs.Frames.{meeting_bytes, SpellsMeeting, IsSaid};
 
-use crate::field::put_list;
 use crate::frame::MeetingFrame;
-use hw_codec::encode_vertex;
+use crate::part::put_parts;
+use hw_codec::{Field, encode_vertex, put_list};
 use hw_types::{Bytes, OutOfMemory, Vertex};
 use std::alloc::Global;
 
@@ -39,7 +39,7 @@ fn put_meeting(
     match frame {
         MeetingFrame::Hello(instance) => {
             out.push(1)?;
-            Ok(out.extend_from_slice(&instance.0)?)
+            instance.put(out)
         }
         MeetingFrame::Vertex(vertex) => {
             out.push(2)?;
@@ -47,11 +47,11 @@ fn put_meeting(
         }
         MeetingFrame::Summary(parts) => {
             out.push(3)?;
-            put_list(parts, out)
+            put_parts(parts.as_slice(), out)
         }
         MeetingFrame::Torn(numbers) => {
             out.push(4)?;
-            put_list(numbers, out)
+            put_list(numbers.as_slice(), out)
         }
         MeetingFrame::Done => Ok(out.push(5)?),
     }

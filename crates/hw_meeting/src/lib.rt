@@ -8,12 +8,11 @@
 mod decoding;
 mod due;
 mod encoding;
-mod field;
 mod frame;
 mod highest;
 mod mark;
 mod marks;
-mod reader;
+mod part;
 mod samples;
 mod summary;
 mod torn;
