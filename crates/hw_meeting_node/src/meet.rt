@@ -14,7 +14,7 @@ ghost use Rattle.hw_meeting_node.specs.Sessions.{CallsPeer, HostsPeer, MeetsNone
 ghost use Rattle.hw_meeting_node.specs.Taking.{vertex_at, TakesThere, TakesPeer, TakesNone, TakesOf, GoesNext};
 ghost use Rattle.hw_meeting_node.specs.declared.meeter.Side.TheVariants as side;
 
-use crate::end::{MeetEnd, end_of_fault, meet_end};
+use crate::end::{MeetEnd, meet_end};
 use crate::frames::{at_done, at_hello, at_summary, at_torn, at_vertex};
 use crate::meeter::{Meeter, Side, Stage, begin, validators};
 use crate::read_meeting;
@@ -67,7 +67,7 @@ pub fn meet_one<D: Door, T: Taker>(
             door.hang_up();
             end
         }
-        Err(fault) => meet_end(end_of_fault(fault), 0),
+        Err(fault) => meet_end(SessionEnd::from(fault), 0),
     }
 }
 
@@ -93,7 +93,7 @@ pub fn host_one<D: Door, T: Taker>(alloc: Global, taker: &mut T, door: &mut D) -
             door.hang_up();
             end
         }
-        Err(fault) => meet_end(end_of_fault(fault), 0),
+        Err(fault) => meet_end(SessionEnd::from(fault), 0),
     }
 }
 
