@@ -13,9 +13,13 @@ use Rattle.hw_link.specs.declared.end.SessionEnd.TheVariants.{EndOfInput, BadFra
 
 -- ---- what is sent
 
+-- bytes behind their length
+abbrev pub behind_length : List ℕ → List ℕ
+behind_length bytes = u32_bytes (length bytes) ++ bytes
+
 -- a frame behind its length
 abbrev pub framed : Frame → List ℕ
-framed f = u32_bytes (length (frame_bytes f)) ++ frame_bytes f
+framed f = behind_length (frame_bytes f)
 
 -- frames, one after the other
 abbrev pub sent_bytes : List Frame → List ℕ
@@ -29,10 +33,14 @@ abbrev pub ◌>>=◌ : {A B : Type 0} → Result A SessionEnd → (A → Result 
 (Ok x) >>= f = f x
 (Err e) >>= f = Err e
 
--- a frame, with the place of its first byte in the session
-pub record Placed : Type 0 where
+-- a frame of some kind, with the place of its first byte in the session
+pub record PlacedOf (F : Type 0) : Type 0 where
   pub at : ℕ
-  pub frame : Frame
+  pub frame : F
+
+-- a frame, with that place
+abbrev pub Placed : Type 0
+Placed = PlacedOf Frame
 
 -- so many bytes are read of a peer in one session
 abbrev pub byte_limit : ℕ
@@ -58,33 +66,51 @@ abbrev pub length_of : Rest → List ℕ → Result ℕ SessionEnd
 length_of r front = let n = from_be_bytes w32 front in if is_within 1 1048576 n then Ok n else Err (BadFrame r.place)
 
 -- the frame of these bytes, or the end where they spell none
-abbrev pub decoded : Rest → Result Frame CodecError → Result Frame SessionEnd
+abbrev pub decoded : {F : Type 0} → Rest → Result F CodecError → Result F SessionEnd
 decoded r (Ok f) = Ok f
 decoded r (Err e) = Err (BadFrame r.place)
 
--- the frame that begins here, and what is left behind it, or how the session ends
-unfoldable pub frame_here : Rest → Result (Placed × Rest) SessionEnd
-frame_here r = do
+-- the frame that begins here, which the bytes behind its length spell in this way, and what is left behind it, or how the session ends
+unfoldable pub frame_by : {F : Type 0} → (List ℕ → Result F CodecError) → Rest → Result (PlacedOf F × Rest) SessionEnd
+frame_by spelled r = do
   front ← front_of 4 r
   n ← length_of r front
   whole ← front_of (4 + n) r
-  frame ← decoded r (frame_of (drop 4 whole))
+  frame ← decoded r (spelled (drop 4 whole))
   Ok (record { at = r.place; frame = frame }, record { place = r.place + (4 + n); bytes = drop (4 + n) r.bytes })
 
--- frames, and how the session ends behind them
-pub record Frames : Type 0 where
-  pub given : List Placed
+-- the frame of a session that begins here
+unfoldable pub frame_here : Rest → Result (Placed × Rest) SessionEnd
+unfolding frame_by
+frame_here r = frame_by frame_of r
+
+-- the bytes behind the length of the frame that begins here, whatever they spell
+abbrev pub body_here : Rest → Result (PlacedOf (List ℕ) × Rest) SessionEnd
+body_here r = frame_by Ok r
+
+-- frames of some kind, and how the session ends behind them
+pub record FramesOf (F : Type 0) : Type 0 where
+  pub given : List (PlacedOf F)
   pub end : SessionEnd
 
+-- frames, and that end
+abbrev pub Frames : Type 0
+Frames = FramesOf Frame
+
 -- a frame before the others, or the end
-abbrev pub with_next : Result (Placed × Rest) SessionEnd → (Rest → Frames) → Frames
+abbrev pub with_next : {F : Type 0} → Result (PlacedOf F × Rest) SessionEnd → (Rest → FramesOf F) → FramesOf F
 with_next (Ok (f, r)) others = record { given = f ∷ (others r).given; end = (others r).end }
 with_next (Err e) others = record { given = []; end = e }
 
+-- the frames from here on, each read in this way, in at most so many steps
+unfoldable pub frames_by : {F : Type 0} → (Rest → Result (PlacedOf F × Rest) SessionEnd) → ℕ → Rest → FramesOf F
+frames_by here zero r = record { given = []; end = cut_end r }
+frames_by here (suc steps) r = with_next (here r) (frames_by here steps)
+
 -- the frames from here on, in at most so many steps
 unfoldable pub frames_in : ℕ → Rest → Frames
-frames_in zero r = record { given = []; end = cut_end r }
-frames_in (suc steps) r = with_next (frame_here r) (frames_in steps)
+unfolding frames_by
+frames_in steps r = frames_by frame_here steps r
 
 -- as many steps as there are bytes are enough, since each frame takes five bytes and more
 abbrev pub frames_from : Rest → Frames

@@ -1,25 +1,37 @@
 -- How far a talk is whose peer is read frame by frame.
 -- Source: ours.
-use Rattle.std.specs.Prelude.{◌≡◌, ℕ, ◌+◌, ◌≤◌, List, [], ◌∷◌, ◌++◌, length, Some, None, Ok, Err}
+use Rattle.std.specs.Prelude.{◌≡◌, ℕ, ◌+◌, ◌≤◌, List, [], ◌∷◌, ◌++◌, length, Some, None, Result, Ok, Err}
 use Rattle.hw_types.specs.Reading.{Rest}
 use Rattle.hw_types.specs.declared.answers.Frame.{Frame}
 use Rattle.hw_link.specs.declared.end.SessionEnd.{SessionEnd}
-use Rattle.hw_link.specs.Frames.{Placed, rest_at, frame_here, frames_from, frames_of, byte_limit}
+use Rattle.hw_link.specs.Frames.{PlacedOf, Placed, rest_at, frame_here, frames_from, frames_of, byte_limit}
 use Rattle.hw_link.specs.Talk.{Reaction, Talk, talk, talk_over}
 
 -- ---- one frame
 
--- these bytes are a frame at this place, whatever comes behind them
+-- these bytes are a frame at this place, of the kind that is read in this way, whatever comes behind them
+abbrev pub HasBy : {F : Type 0} → (Rest → Result (PlacedOf F × Rest) SessionEnd) → ℕ → List ℕ → F → Type 0
+HasBy here place part f = (more : List ℕ) → here (rest_at place (part ++ more)) ≡ Ok (record { at = place; frame = f }, rest_at (place + length part) more)
+
+-- there is no such frame in these bytes, and the session ends so
+abbrev pub EndsBy : {F : Type 0} → (Rest → Result (PlacedOf F × Rest) SessionEnd) → ℕ → List ℕ → SessionEnd → Type 0
+EndsBy here place part e = here (rest_at place part) ≡ Err e
+
+-- whatever comes behind these bytes, there is no such frame in them, and the session ends so
+abbrev pub IsRefusedBy : {F : Type 0} → (Rest → Result (PlacedOf F × Rest) SessionEnd) → ℕ → List ℕ → SessionEnd → Type 0
+IsRefusedBy here place part e = (more : List ℕ) → here (rest_at place (part ++ more)) ≡ Err e
+
+-- these bytes are this frame of a session, whatever comes behind them
 abbrev pub HasFrame : ℕ → List ℕ → Frame → Type 0
-HasFrame place part f = (more : List ℕ) → frame_here (rest_at place (part ++ more)) ≡ Ok (record { at = place; frame = f }, rest_at (place + length part) more)
+HasFrame place part f = HasBy frame_here place part f
 
--- there is no frame in these bytes, and the session ends so
+-- there is none in them, and the session ends so
 abbrev pub EndsIn : ℕ → List ℕ → SessionEnd → Type 0
-EndsIn place part e = frame_here (rest_at place part) ≡ Err e
+EndsIn place part e = EndsBy frame_here place part e
 
--- whatever comes behind these bytes, there is no frame in them, and the session ends so
+-- the same, whatever comes behind them
 abbrev pub IsRefused : ℕ → List ℕ → SessionEnd → Type 0
-IsRefused place part e = (more : List ℕ) → frame_here (rest_at place (part ++ more)) ≡ Err e
+IsRefused place part e = IsRefusedBy frame_here place part e
 
 -- ---- the talk so far
 

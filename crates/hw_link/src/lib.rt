@@ -5,13 +5,15 @@
 //! a talk is by the bytes that were read so far, however the reads are cut.
 #![tactic(auto)]
 
+mod body;
 mod end;
 mod fill;
 mod laws;
 mod read;
 mod send;
 
+pub use body::{FRONT, read_body};
 pub use end::{BYTE_LIMIT, SessionEnd};
 pub use laws::frames_are_read_one_by_one;
 pub use read::{Heard, read_frame};
-pub use send::send_frame;
+pub use send::{send_body, send_frame};

@@ -1,9 +1,9 @@
 //! Sending a frame over a link.
 
-ghost use Rattle.std.specs.Prelude.{◌≡◌, true, IfOk};
-ghost use Rattle.hw_types.specs.Spelling.{FrameFits, frame_bytes};
+ghost use Rattle.std.specs.Prelude.{◌≡◌, ◌<◌, ◌^◌, true, length, IfOk};
+ghost use Rattle.hw_types.specs.Spelling.{FrameFits};
 ghost use Rattle.hw_io.specs.Faults.{HasCause};
-ghost use Rattle.hw_link.specs.Frames.{framed};
+ghost use Rattle.hw_link.specs.Frames.{behind_length, framed};
 ghost use Rattle.hw_link.specs.Links.{IsLinkCounted};
 ghost use Rattle.hw_link.specs.Sent.{Sends, SendsPart};
 
@@ -14,6 +14,7 @@ use hw_types::{Bytes, Frame, OutOfMemory};
 use std::alloc::Global;
 
 /// Sends a frame behind its length. After an error a first part of it was sent.
+#[tactic(auto, using(crate::proofs::LengthLaws::frame_short))]
 pub fn send_frame<D: Door>(alloc: Global, door: &mut D, frame: &Frame) -> Result<(), SessionEnd>
     requires fits { FrameFits frame.now }
     requires open { D.is_open door.old ≡ true }
@@ -25,24 +26,39 @@ pub fn send_frame<D: Door>(alloc: Global, door: &mut D, frame: &Frame) -> Result
     ensures accepts { D.accepts door.new ≡ D.accepts door.old }
     ensures dials { D.dials door.new ≡ D.dials door.old }
 {
-    let bytes = framed(alloc, frame)?;
+    let body = encode_frame(alloc, frame)?;
+    // For the prover: each number is in the range of its type. It does nothing.
+    frame_is_in_range(frame);
+    send_body(alloc, door, body.as_slice())
+}
+
+/// Sends a frame of these bytes, of which there are less than 2^32, behind its length. After an error a first
+/// part of it was sent.
+pub fn send_body<D: Door>(alloc: Global, door: &mut D, body: &[u8]) -> Result<(), SessionEnd>
+    requires short { length body.now < 2 ^ 32 }
+    requires open { D.is_open door.old ≡ true }
+    ensures sent { Sends (behind_length body.now) (D.sessions door.old) (D.sessions door.new) result }
+    ensures cause { IsLinkCounted (D.faults door.old) (D.faults door.new) result }
+
+    ensures open { D.is_open door.new ≡ true }
+    ensures ends { D.ends door.new ≡ D.ends door.old }
+    ensures accepts { D.accepts door.new ≡ D.accepts door.old }
+    ensures dials { D.dials door.new ≡ D.dials door.old }
+{
+    let bytes = behind_length(alloc, body)?;
     send_all(door, bytes.as_slice())?;
     Ok(())
 }
 
-/// A frame behind its length.
-#[tactic(auto, using(crate::proofs::LengthLaws::frame_short))]
-fn framed(alloc: Global, frame: &Frame) -> Result<Bytes, OutOfMemory>
-    requires { FrameFits frame.now }
-    ensures { IfOk result (λ bytes. bytes ≡ framed frame.now) }
+/// Bytes behind their length.
+fn behind_length(alloc: Global, body: &[u8]) -> Result<Bytes, OutOfMemory>
+    requires { length body.now < 2 ^ 32 }
+    ensures { IfOk result (λ bytes. bytes ≡ behind_length body.now) }
 {
-    let body = encode_frame(alloc, frame)?;
-    // For the prover: each number is in the range of its type. It does nothing.
-    frame_is_in_range(frame);
     let length = body.len() as u32;
     let mut bytes = Bytes::new(alloc);
     bytes.extend(&length.to_be_bytes())?;
-    bytes.extend(body.as_slice())?;
+    bytes.extend(body)?;
     Ok(bytes)
 }
 

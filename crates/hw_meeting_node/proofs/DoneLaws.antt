@@ -15,7 +15,7 @@ use Rattle.hw_types.proofs.SettledLaws.{digest_same}
 use Rattle.hw_io.specs.Faults.{raised}
 use Rattle.hw_link.specs.declared.end.SessionEnd.{SessionEnd}
 use Rattle.hw_link.specs.declared.end.SessionEnd.TheVariants as by
-use Rattle.hw_link.specs.Frames.{rest_at, byte_limit, cut_end}
+use Rattle.hw_link.specs.Frames.{rest_at, byte_limit, cut_end, with_next, frames_by}
 use Rattle.hw_types.specs.Reading.{Rest}
 use Rattle.hw_agree.specs.declared.summary.LaneSummary.{LaneSummary}
 use Rattle.hw_meeting.specs.declared.frame.MeetingFrame.{MeetingFrame}
@@ -26,7 +26,7 @@ use Rattle.hw_meeting_node.specs.declared.end.MeetEnd.TheVariants as end
 use Rattle.hw_meeting_node.specs.declared.meeter.Side.{Side}
 use Rattle.hw_meeting_node.specs.declared.meeter.Side.TheVariants.{Caller, Host}
 use Rattle.hw_meeting_node.specs.declared.meeter.Stage.TheVariants as stage
-use Rattle.hw_meeting_node.specs.Talk.{with_next, frames_in, frames_of, Talk, goes_on, ends, with_reaction, talk}
+use Rattle.hw_meeting_node.specs.Talk.{frames_in, frames_of, Talk, goes_on, ends, with_reaction, talk}
 use Rattle.hw_meeting_node.specs.Meeting.{Meeting, begun, told_of, owed_by, all_due, first_word, to_hello, to_summary, to_torn, to_done, answered, greeted, at_greeting, at_telling, at_tearing, at_taking, meet_step, met}
 use Rattle.hw_meeting_node.specs.Sessions.{meet_end, IsOfOutside, EndsAs, IsFinal}
 use Rattle.hw_meeting_node.specs.Laws.{judged, all_words, MeetingsAreDone, MeetingsAreComplete}
@@ -46,7 +46,7 @@ no_done r by.Clash so is = absurd so
 no_done r by.OutOfMemory so is = absurd so
 
 behind_all : (validators steps : ℕ) (r : Rest) → (frames_in validators steps r).end ≡ by.Done → ⊥
-unfolding frames_in
+unfolding frames_by
 behind_all validators zero r is = no_done r (cut_end r) (cut_so r) is
 behind_all validators (suc steps) r is = go (λ rest h. behind_all validators steps rest h) (frame_here validators r) refl is
   where

@@ -15,11 +15,11 @@ use Rattle.hw_types.specs.Spelling.{instance_of}
 use Rattle.hw_types.specs.Real.{answer_in, after_in}
 use Rattle.hw_link.specs.declared.end.SessionEnd.{SessionEnd}
 use Rattle.hw_link.specs.declared.end.SessionEnd.TheVariants as end
-use Rattle.hw_link.specs.Frames.{◌>>=◌, rest_at, byte_limit, cut_end, front_of, length_of}
+use Rattle.hw_link.specs.Frames.{◌>>=◌, rest_at, byte_limit, cut_end, front_of, length_of, decoded, frame_by}
 use Rattle.hw_meeting.specs.declared.frame.MeetingFrame.{MeetingFrame}
 use Rattle.hw_meeting.specs.declared.frame.MeetingFrame.TheVariants as frame
 use Rattle.hw_meeting.specs.Frames.{meeting_of}
-use Rattle.hw_meeting_node.specs.Frames.{Placed, decoded, frame_here, EndsIn}
+use Rattle.hw_meeting_node.specs.Frames.{Placed, frame_here, EndsIn}
 use Rattle.hw_meeting_node.specs.declared.meeter.Side.{Side}
 use Rattle.hw_meeting_node.specs.declared.meeter.Stage.{Stage}
 use Rattle.hw_meeting_node.specs.declared.meeter.Stage.TheVariants as stage
@@ -127,7 +127,7 @@ decoded_so r (Ok f) = tt
 decoded_so r (Err e) = tt
 
 pub here_so : (validators : ℕ) (r : Rest) → EndsSo r (frame_here validators r)
-unfolding frame_here
+unfolding frame_by
 here_so validators r =
     then_so r (front_of 4 r) _ (front_so 4 r) (λ front.
     then_so r (length_of r front) _ (length_so r front) (λ n.

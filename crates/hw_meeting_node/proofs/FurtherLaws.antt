@@ -6,16 +6,15 @@ use Rattle.hw_types.specs.declared.answers.CodecError.{CodecError}
 use Rattle.hw_types.specs.Reading.{Rest}
 use Rattle.hw_link.specs.declared.end.SessionEnd.{SessionEnd}
 use Rattle.hw_link.specs.declared.end.SessionEnd.TheVariants as by
-use Rattle.hw_link.specs.Frames.{◌>>=◌, rest_at, cut_end, front_of, length_of}
-use Rattle.hw_link.proofs.FrameLaws.{bind_ok}
+use Rattle.hw_link.specs.Frames.{◌>>=◌, rest_at, cut_end, front_of, length_of, decoded, frame_by}
+use Rattle.hw_link.proofs.FrameLaws.{bind_ok, chosen, placed, with_whole, with_length}
 use Rattle.hw_meeting.specs.declared.frame.MeetingFrame.{MeetingFrame}
 use Rattle.hw_meeting.specs.Frames.{meeting_of}
-use Rattle.hw_meeting_node.specs.Frames.{Placed, decoded, frame_here, HasFrame, EndsIn}
+use Rattle.hw_meeting_node.specs.Frames.{Placed, frame_here, HasFrame, EndsIn}
 use Rattle.hw_meeting_node.specs.declared.end.MeetEnd.{MeetEnd}
 use Rattle.hw_meeting_node.specs.declared.end.MeetEnd.TheVariants as end
 use Rattle.hw_meeting_node.specs.Sessions.{IsCutEnd, IsReadNoFurther, StopsReading}
 use Rattle.hw_meeting_node.proofs.EndLaws.{IsOfBytes}
-use Rattle.hw_meeting_node.proofs.FrameLaws.{chosen, placed, with_whole, with_length}
 
 -- ---- more bytes behind a frame
 
@@ -45,20 +44,20 @@ module _ (validators place : ℕ) (bytes more : List ℕ) where
 
   -- a frame is read from more bytes too, and those behind it are left
   frame_more : (f : Placed) (rest : Rest) → frame_here validators r ≡ Ok (f, rest) → (g : Placed) × (behind : Rest) × (frame_here validators longer ≡ Ok (g, behind)) × (length more ≤ length behind.bytes)
-  unfolding frame_here
+  unfolding frame_by
   frame_more f rest e =
-      let front = bind_ok (front_of 4 r) (λ front. length_of r front >>= with_length validators r) (f, rest) e in
-      let n = bind_ok (length_of r front.0) (with_length validators r) (f, rest) front.2 in
-      let whole = bind_ok (front_of (4 + n.0) r) (with_whole validators r n.0) (f, rest) n.2 in
-      let frame = bind_ok (decoded r (meeting_of validators (drop 4 whole.0))) (placed r n.0) (f, rest) whole.2 in
+      let front = bind_ok (front_of 4 r) (λ front. length_of r front >>= with_length (meeting_of validators) r) (f, rest) e in
+      let n = bind_ok (length_of r front.0) (with_length (meeting_of validators) r) (f, rest) front.2 in
+      let whole = bind_ok (front_of (4 + n.0) r) (with_whole (meeting_of validators) r n.0) (f, rest) n.2 in
+      let frame = bind_ok (decoded r (meeting_of validators (drop 4 whole.0))) (placed (meeting_of validators) r n.0) (f, rest) whole.2 in
       let first = front_more 4 front.0 front.1 in
       let all = front_more (4 + n.0) whole.0 whole.1 in (
         record { at = place; frame = frame.0 },
         rest_at (place + (4 + n.0)) (drop (4 + n.0) (bytes ++ more)),
-        bind_is (front_of 4 longer) (λ front. length_of longer front >>= with_length validators longer) front.0 _ first.0 (
-            bind_is (length_of longer front.0) (with_length validators longer) n.0 _ (length_more front.0 n.0 n.1) (
-            bind_is (front_of (4 + n.0) longer) (with_whole validators longer n.0) whole.0 _ all.0 (
-            bind_is (decoded longer (meeting_of validators (drop 4 whole.0))) (placed longer n.0) frame.0 _ (decoded_more (meeting_of validators (drop 4 whole.0)) frame.0 frame.1) refl))),
+        bind_is (front_of 4 longer) (λ front. length_of longer front >>= with_length (meeting_of validators) longer) front.0 _ first.0 (
+            bind_is (length_of longer front.0) (with_length (meeting_of validators) longer) n.0 _ (length_more front.0 n.0 n.1) (
+            bind_is (front_of (4 + n.0) longer) (with_whole (meeting_of validators) longer n.0) whole.0 _ all.0 (
+            bind_is (decoded longer (meeting_of validators (drop 4 whole.0))) (placed (meeting_of validators) longer n.0) frame.0 _ (decoded_more (meeting_of validators (drop 4 whole.0)) frame.0 frame.1) refl))),
         let few = all.1 in omega (arith, length-drop (4 + n.0) (bytes ++ more), length-append bytes more),
       )
 

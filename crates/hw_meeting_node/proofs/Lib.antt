@@ -13,6 +13,4 @@ pub mod VertexLaws
 pub mod SameLaws
 pub mod NextLaws
 pub mod ReadLaws
-pub mod FrameReadLaws
-pub mod HearsLaws
 pub mod LengthLaws

@@ -19,20 +19,20 @@ use Rattle.hw_types.specs.Journal.{received_of}
 use Rattle.hw_types.proofs.ClosureLaws.{Among-filter}
 use Rattle.hw_codec.specs.Ranges.{VertexInRange}
 use Rattle.hw_log.proofs.LengthLaws.{vertex_short}
-use Rattle.hw_link.specs.Frames.{rest_at, byte_limit}
+use Rattle.hw_link.specs.Frames.{rest_at, byte_limit, with_next, frames_by}
 use Rattle.hw_link.specs.Heard.{IsLength}
+use Rattle.hw_link.proofs.FrameReadLaws.{frame_by-is_read}
 use Rattle.hw_agree.specs.declared.summary.LaneSummary.{LaneSummary}
 use Rattle.hw_agree.specs.declared.summary.LaneSummary.TheVariants.{Nothing, Line, Tangled}
 use Rattle.hw_agree.specs.Converge.{summaries, part, is_torn, is_due}
 use Rattle.hw_meeting.specs.declared.frame.MeetingFrame.{MeetingFrame}
 use Rattle.hw_meeting.specs.declared.frame.MeetingFrame.TheVariants as frame
-use Rattle.hw_meeting.specs.Frames.{part_bytes, meeting_bytes, IsSaid, are_validators, PartInRange, MeetingInRange}
+use Rattle.hw_meeting.specs.Frames.{part_bytes, meeting_bytes, meeting_of, IsSaid, are_validators, PartInRange, MeetingInRange}
 use Rattle.hw_meeting.proofs.FrameLaws.{meeting_again}
 use Rattle.hw_meeting.proofs.PartLaws.{few_validators}
 use Rattle.hw_meeting.proofs.TornLaws.{passing_are_validators}
 use Rattle.hw_meeting_node.specs.Frames.{framed, sent_bytes, HasFrame}
-use Rattle.hw_meeting_node.proofs.FrameReadLaws.{frame_is_read}
-use Rattle.hw_meeting_node.specs.Talk.{Frames, with_next, frames_in, frames_from}
+use Rattle.hw_meeting_node.specs.Talk.{Frames, frames_from}
 use Rattle.hw_meeting_node.specs.Meeting.{told_of, torn_by, owed_by}
 use Rattle.hw_meeting_node.specs.Laws.{heard_in, all_words}
 use Rattle.hw_meeting_node.proofs.FrameLaws.{frames_next}
@@ -110,13 +110,13 @@ module _ (n : ℕ) (few : n ≤ 1024) where
   one_heard place f good =
       let body = meeting_bytes f in
       let most = small n f few good.1 good.0 in
-      frame_is_read n place (u32_bytes (length body)) body f (is_length (length body) (some_bytes f) most) (sym (from_be_bytes-to_be_bytes_4 (length body) (omega arith))) (meeting_again n (omega arith) f good.0 good.1)
+      frame_by-is_read (meeting_of n) place (u32_bytes (length body)) body f (is_length (length body) (some_bytes f) most) (sym (from_be_bytes-to_be_bytes_4 (length body) (omega arith))) (meeting_again n (omega arith) f good.0 good.1)
 
   abbrev given : Rest → List MeetingFrame
   given r = map (λ f. f.frame) (frames_from n r).given
 
   all_heard : (fs : List MeetingFrame) (place : ℕ) → AllByRecursion IsGood fs → given (rest_at place (sent_bytes fs)) ≡ fs
-  unfolding frames_in
+  unfolding frames_by
   all_heard [] place good = refl
   all_heard (f ∷ fs) place good =
       let r = rest_at place (framed f ++ sent_bytes fs) in

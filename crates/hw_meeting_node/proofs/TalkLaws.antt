@@ -3,10 +3,10 @@ use Rattle.std.proofs.Common.{◌≡◌, ℕ, ◌+◌, ◌≤◌, List, [], ◌+
 use Rattle.std.proofs.lemmas.List.{append_assoc, append-nil, take_all}
 use Rattle.hw_types.specs.Reading.{Rest}
 use Rattle.hw_link.specs.declared.end.SessionEnd.{SessionEnd}
-use Rattle.hw_link.specs.Frames.{rest_at, byte_limit, cut_end}
+use Rattle.hw_link.specs.Frames.{rest_at, byte_limit, cut_end, with_next, frames_by}
 use Rattle.hw_meeting.specs.declared.frame.MeetingFrame.{MeetingFrame}
 use Rattle.hw_meeting_node.specs.Frames.{Placed, frame_here, HasFrame, EndsIn}
-use Rattle.hw_meeting_node.specs.Talk.{with_next, frames_in, frames_from, Reaction, Talk, with_reaction, talk, talk_with, behind_said, talk_from, talk_over, HasHeard, placed_behind}
+use Rattle.hw_meeting_node.specs.Talk.{frames_from, Reaction, Talk, with_reaction, talk, talk_with, behind_said, talk_from, talk_over, HasHeard, placed_behind}
 use Rattle.hw_meeting_node.proofs.FrameLaws.{frames_next}
 
 module _ {S : Type 0} (validators : ℕ) (step : S → Placed → Reaction S) where
@@ -39,7 +39,7 @@ module _ {S : Type 0} (validators : ℕ) (step : S → Placed → Reaction S) wh
 
   -- nothing is left
   nothing : (state : S) (k : ℕ) → talk_from validators step state (rest_at k []) ≡ record { state = state; said = []; end = cut_end (rest_at k []) }
-  unfolding talk frames_in
+  unfolding talk frames_by
   nothing state k = refl
 
   module _ (first : List MeetingFrame) (start : S) where

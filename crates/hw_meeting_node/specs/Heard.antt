@@ -1,40 +1,26 @@
 -- What was heard of a node that is met.
 -- Source: ours.
-use Rattle.std.specs.Prelude.{◌≡◌, ℕ, ◌+◌, ◌≤◌, ◌⊎◌, List, [], ◌++◌, length, Option, Result, Ok, Err, MatchResult}
+use Rattle.std.specs.Prelude.{◌≡◌, ℕ, ◌+◌, ◌⊎◌, List, length, Option, Result, Ok, Err, MatchResult}
 use Rattle.hw_io.specs.Doors.{Session}
-use Rattle.hw_io.specs.Faults.{raised}
 use Rattle.hw_types.specs.declared.answers.CodecError.{CodecError}
 use Rattle.hw_link.specs.declared.end.SessionEnd.{SessionEnd}
-use Rattle.hw_link.specs.declared.end.SessionEnd.TheVariants.{EndOfInput, BadFrame, LinkFault, OutOfMemory}
-use Rattle.hw_link.specs.Frames.{rest_at, byte_limit, cut_end}
-use Rattle.hw_link.specs.Links.{after_part, is_link_fault}
+use Rattle.hw_link.specs.declared.end.SessionEnd.TheVariants.{BadFrame, OutOfMemory}
+use Rattle.hw_link.specs.Heard.{SaysBy, IsEndCountedBy, HearsBy}
 use Rattle.hw_meeting.specs.Frames.{meeting_of}
 use Rattle.hw_meeting_node.specs.declared.read.HeardMeeting.{HeardMeeting}
-use Rattle.hw_meeting_node.specs.Frames.{HasFrame, EndsIn, IsRefused}
+use Rattle.hw_meeting_node.specs.Frames.{frame_here, HasFrame}
 
--- ---- what the bytes at a place are
-
--- It is whole, or the session ends by these bytes. Where a call of the door failed they are cut.
+-- what these bytes say of a frame, where there are so many validators
 abbrev pub Says : {T : Type 0} → ℕ → (ℕ → List ℕ → T → Type 0) → ℕ → List ℕ → Result T SessionEnd → Type 0
-Says validators Whole place part (Ok x) = Whole place part x
-Says validators Whole place part (Err LinkFault) = EndsIn validators place part (cut_end (rest_at place part))
-Says validators Whole place part (Err OutOfMemory) = Unit {0}
-Says validators Whole place part (Err e) = EndsIn validators place part e
+Says validators Whole place part result = SaysBy (frame_here validators) Whole place part result
 
--- The number of ends rose where the peer's bytes ended. A bad frame that is none whatever comes behind it needs no end.
+-- how they count as the session's end
 abbrev pub IsEndCounted : {T : Type 0} → ℕ → ℕ → ℕ → ℕ → List ℕ → Result T SessionEnd → Type 0
-IsEndCounted validators before now place part (Ok x) = now ≡ before
-IsEndCounted validators before now place part (Err EndOfInput) = now ≡ raised before
-IsEndCounted validators before now place part (Err (BadFrame at)) = (now ≡ raised before) ⊎ IsRefused validators place part (BadFrame at)
-IsEndCounted validators before now place part (Err e) = Unit {0}
+IsEndCounted validators before now place part result = IsEndCountedBy (frame_here validators) before now place part result
 
--- A call read a part behind these bytes, which were read before; what both say; and what it changed at the door.
-pub record Hears {T : Type 0} (validators : ℕ) (Whole : ℕ → List ℕ → T → Type 0) (place : ℕ) (before : List ℕ) (old new : Option (List Session)) (ends_old ends_new : ℕ) (result : Result T SessionEnd) : Type 0 where
-  pub part : List ℕ
-  pub within : place + length (before ++ part) ≤ byte_limit
-  pub heard : new ≡ after_part part [] (is_link_fault result) old
-  pub says : Says validators Whole place (before ++ part) result
-  pub ended : IsEndCounted validators ends_old ends_new place (before ++ part) result
+-- what a call heard of a frame
+abbrev pub Hears : {T : Type 0} → ℕ → (ℕ → List ℕ → T → Type 0) → ℕ → List ℕ → Option (List Session) → Option (List Session) → ℕ → ℕ → Result T SessionEnd → Type 0
+Hears validators Whole place before old new ends_old ends_new result = HearsBy (frame_here validators) Whole place before old new ends_old ends_new result
 
 -- a frame, and the place behind it
 abbrev pub IsHeard : ℕ → ℕ → List ℕ → HeardMeeting → Type 0

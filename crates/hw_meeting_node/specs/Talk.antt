@@ -1,28 +1,21 @@
 -- A session of frames of meetings: a node reacts frame by frame.
 -- Source: ours.
-use Rattle.std.specs.Prelude.{◌≡◌, ℕ, zero, suc, ◌≤◌, List, [], ◌∷◌, ◌++◌, length, take, Option, Some, None, Result, Ok, Err}
+use Rattle.std.specs.Prelude.{◌≡◌, ℕ, ◌≤◌, List, [], ◌∷◌, ◌++◌, length, take, Option, Some, None}
 use Rattle.hw_types.specs.Reading.{Rest}
 use Rattle.hw_link.specs.declared.end.SessionEnd.{SessionEnd}
-use Rattle.hw_link.specs.Frames.{rest_at, byte_limit, cut_end}
+use Rattle.hw_link.specs.Frames.{rest_at, byte_limit, FramesOf, frames_by}
 use Rattle.hw_meeting.specs.declared.frame.MeetingFrame.{MeetingFrame}
 use Rattle.hw_meeting_node.specs.Frames.{Placed, frame_here}
 
 -- ---- the frames in a peer's bytes, where there are so many validators
 
 -- frames, and how the session ends behind them
-pub record Frames : Type 0 where
-  pub given : List Placed
-  pub end : SessionEnd
-
--- a frame before the others, or the end
-abbrev pub with_next : Result (Placed × Rest) SessionEnd → (Rest → Frames) → Frames
-with_next (Ok (f, r)) others = record { given = f ∷ (others r).given; end = (others r).end }
-with_next (Err e) others = record { given = []; end = e }
+abbrev pub Frames : Type 0
+Frames = FramesOf MeetingFrame
 
 -- the frames from here on, in at most so many steps
-unfoldable pub frames_in : ℕ → ℕ → Rest → Frames
-frames_in validators zero r = record { given = []; end = cut_end r }
-frames_in validators (suc steps) r = with_next (frame_here validators r) (frames_in validators steps)
+abbrev pub frames_in : ℕ → ℕ → Rest → Frames
+frames_in validators steps r = frames_by (frame_here validators) steps r
 
 -- as many steps as there are bytes are enough, since each frame takes five bytes and more
 abbrev pub frames_from : ℕ → Rest → Frames

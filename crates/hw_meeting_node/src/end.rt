@@ -1,10 +1,8 @@
 //! How a meeting ends.
 
 ghost use Rattle.std.specs.Prelude.{◌≡◌};
-ghost use Rattle.hw_link.specs.Links.{end_of_fault};
 ghost use Rattle.hw_meeting_node.specs.Sessions.{meet_end};
 
-use hw_io::IoFault;
 use hw_link::SessionEnd;
 
 /// How a meeting ends.
@@ -44,15 +42,5 @@ pub(crate) fn meet_end(end: SessionEnd, refused: u64) -> MeetEnd
         SessionEnd::ByteLimit => MeetEnd::ByteLimit,
         SessionEnd::Clash => MeetEnd::Clash,
         SessionEnd::OutOfMemory => MeetEnd::OutOfMemory,
-    }
-}
-
-/// How a session ends by this fault of the door.
-pub(crate) fn end_of_fault(fault: IoFault) -> SessionEnd
-    ensures { result ≡ end_of_fault fault }
-{
-    match fault {
-        IoFault::Failed => SessionEnd::LinkFault,
-        IoFault::OutOfMemory => SessionEnd::OutOfMemory,
     }
 }

@@ -44,16 +44,12 @@ pub(crate) fn at_hello<D: Door>(
     ensures accepts { D.accepts door.new ≡ D.accepts door.old }
     ensures dials { D.dials door.new ≡ D.dials door.old }
 {
-    match instance(alloc, core) {
-        Ok(own) => {
-            if other == own {
-                meeter.stage = Stage::Telling;
-                answer_hello(alloc, core, door, side, &meeter.mine)
-            } else {
-                Err(SessionEnd::WrongInstance)
-            }
-        }
-        Err(OutOfMemory) => Err(SessionEnd::OutOfMemory),
+    let own = instance(alloc, core)?;
+    if other == own {
+        meeter.stage = Stage::Telling;
+        answer_hello(alloc, core, door, side, &meeter.mine)
+    } else {
+        Err(SessionEnd::WrongInstance)
     }
 }
 
@@ -158,20 +154,16 @@ pub(crate) fn at_torn<D: Door>(
     ensures accepts { D.accepts door.new ≡ D.accepts door.old }
     ensures dials { D.dials door.new ≡ D.dials door.old }
 {
-    match owed(
+    let due = owed(
         alloc,
         core,
         meeter.mine.as_slice(),
         meeter.theirs.as_slice(),
         torn,
-    ) {
-        Ok(due) => {
-            meeter.due = due;
-            meeter.stage = Stage::Taking;
-            answer_torn(alloc, core, door, side, meeter)
-        }
-        Err(OutOfMemory) => Err(SessionEnd::OutOfMemory),
-    }
+    )?;
+    meeter.due = due;
+    meeter.stage = Stage::Taking;
+    answer_torn(alloc, core, door, side, meeter)
 }
 
 /// The places of what the node owes the other, for which these validators are torn.
@@ -252,10 +244,10 @@ pub(crate) fn at_done<D: Door>(
 {
     match side {
         Side::Caller => Err(SessionEnd::Done),
-        Side::Host => match say_due(alloc, core, door, meeter.due.as_slice()) {
-            Ok(()) => Err(SessionEnd::Done),
-            Err(end) => Err(end),
-        },
+        Side::Host => {
+            say_due(alloc, core, door, meeter.due.as_slice())?;
+            Err(SessionEnd::Done)
+        }
     }
 }
 

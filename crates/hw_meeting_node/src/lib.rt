@@ -9,8 +9,6 @@
 #![tactic(auto)]
 
 mod end;
-mod fill;
-mod frame_end;
 mod frames;
 mod laws;
 mod meet;

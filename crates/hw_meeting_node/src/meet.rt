@@ -14,7 +14,7 @@ ghost use Rattle.hw_meeting_node.specs.Sessions.{CallsPeer, HostsPeer, MeetsNone
 ghost use Rattle.hw_meeting_node.specs.Taking.{vertex_at, TakesThere, TakesPeer, TakesNone, TakesOf, GoesNext};
 ghost use Rattle.hw_meeting_node.specs.declared.meeter.Side.TheVariants as side;
 
-use crate::end::{MeetEnd, end_of_fault, meet_end};
+use crate::end::{MeetEnd, meet_end};
 use crate::frames::{at_done, at_hello, at_summary, at_torn, at_vertex};
 use crate::meeter::{Meeter, Side, Stage, begin, validators};
 use crate::read_meeting;
@@ -24,7 +24,6 @@ use hw_core::Core;
 use hw_io::Door;
 use hw_link::{BYTE_LIMIT, SessionEnd};
 use hw_meeting::MeetingFrame;
-use hw_types::OutOfMemory;
 use std::alloc::Global;
 
 /// Dials the node at this address and meets it. Then it hangs up.
@@ -67,7 +66,7 @@ pub fn meet_one<D: Door, T: Taker>(
             door.hang_up();
             end
         }
-        Err(fault) => meet_end(end_of_fault(fault), 0),
+        Err(fault) => meet_end(SessionEnd::from(fault), 0),
     }
 }
 
@@ -93,7 +92,7 @@ pub fn host_one<D: Door, T: Taker>(alloc: Global, taker: &mut T, door: &mut D) -
             door.hang_up();
             end
         }
-        Err(fault) => meet_end(end_of_fault(fault), 0),
+        Err(fault) => meet_end(SessionEnd::from(fault), 0),
     }
 }
 
@@ -134,13 +133,9 @@ fn say_first<D: Door>(
     ensures accepts { D.accepts door.new ≡ D.accepts door.old }
     ensures dials { D.dials door.new ≡ D.dials door.old }
 {
-    match begin(alloc, core) {
-        Ok(meeter) => match first_word(alloc, core, door, side) {
-            Ok(()) => Ok(meeter),
-            Err(end) => Err(end),
-        },
-        Err(OutOfMemory) => Err(SessionEnd::OutOfMemory),
-    }
+    let meeter = begin(alloc, core)?;
+    first_word(alloc, core, door, side)?;
+    Ok(meeter)
 }
 
 /// What is said before anything is read: by the caller Hello.
@@ -224,13 +219,9 @@ fn meet_next<D: Door, T: Taker>(
     ensures dials { D.dials door.new ≡ D.dials door.old }
 {
     let count = validators(taker.core());
-    match read_meeting(alloc, door, count, place) {
-        Ok(heard) => match meet_frame(alloc, taker, door, side, meeter, place, heard.frame) {
-            Ok(()) => Ok(heard.next),
-            Err(end) => Err(end),
-        },
-        Err(end) => Err(end),
-    }
+    let heard = read_meeting(alloc, door, count, place)?;
+    meet_frame(alloc, taker, door, side, meeter, place, heard.frame)?;
+    Ok(heard.next)
 }
 
 /// Handles the frame that begins at this place of the session.

@@ -1,23 +1,14 @@
 //! Reading a frame of a node that is met.
 
-ghost use Rattle.std.specs.Prelude.{◌≡◌, ◌+◌, ◌<◌, ◌≤◌, ℕ, [], true, length, IfOk};
-ghost use Rattle.hw_link.specs.Heard.{IsLength, IsFrontOf, IsFront};
+ghost use Rattle.std.specs.Prelude.{◌≡◌, ◌+◌, ◌<◌, ◌≤◌, [], true, length, IfOk};
 ghost use Rattle.hw_link.specs.Links.{IsLinkCounted};
 ghost use Rattle.hw_meeting.specs.Frames.{IsSaid};
 ghost use Rattle.hw_meeting_node.specs.Heard.{Hears, IsHeard, IsDecoded};
 
-use crate::fill::fill;
-use crate::frame_end::{cut_end, end_of_fault};
 use hw_io::Door;
-use hw_link::{BYTE_LIMIT, SessionEnd};
+use hw_link::{BYTE_LIMIT, FRONT, SessionEnd, read_body};
 use hw_meeting::{FrameFault, MeetingFrame, decode_meeting};
 use std::alloc::Global;
-
-/// How many bytes tell the length of a frame.
-const FRONT: usize = 4;
-
-/// A frame has at most so many bytes behind its length.
-const LONGEST: usize = 1_048_576;
 
 /// A frame that was read, and the place in the session behind it.
 #[derive(Drop)]
@@ -48,94 +39,8 @@ pub fn read_meeting<D: Door>(
     ensures accepts { D.accepts door.new ≡ D.accepts door.old }
     ensures dials { D.dials door.new ≡ D.dials door.old }
 {
-    let front = read_front(door, place)?;
-    read_body(alloc, door, validators, place, front)
-}
-
-/// How many of the next `n` bytes may still be read from this place of the session on.
-fn room_behind(place: u64, n: usize) -> usize
-    requires { place ≤ BYTE_LIMIT }
-    ensures most { result ≤ n }
-    ensures within { place + result ≤ BYTE_LIMIT }
-    ensures reached { result < n → place + result ≡ BYTE_LIMIT }
-{
-    n.min((BYTE_LIMIT - place) as usize)
-}
-
-/// Reads the length of the frame that begins at this place.
-fn read_front<D: Door>(door: &mut D, place: u64) -> Result<[u8; 4], SessionEnd>
-    requires place { place ≤ BYTE_LIMIT }
-    requires open { D.is_open door.old ≡ true }
-    ensures heard { (validators : ℕ) → Hears validators IsFrontOf place [] (D.sessions door.old) (D.sessions door.new) (D.ends door.old) (D.ends door.new) result }
-    ensures cause { IsLinkCounted (D.faults door.old) (D.faults door.new) result }
-
-    ensures open { D.is_open door.new ≡ true }
-    ensures accepts { D.accepts door.new ≡ D.accepts door.old }
-    ensures dials { D.dials door.new ≡ D.dials door.old }
-{
-    let mut front = [0; FRONT];
-    let room = room_behind(place, FRONT);
-    let filled = fill(door, &mut front, room);
-    match filled.outcome {
-        Err(fault) => Err(end_of_fault(fault)),
-        Ok(()) => {
-            if filled.end < FRONT {
-                return Err(cut_end(place, filled.end));
-            }
-            checked_front(place, front)
-        }
-    }
-}
-
-/// The length of a frame, if it is one that a frame may have.
-fn checked_front(place: u64, front: [u8; 4]) -> Result<[u8; 4], SessionEnd>
-    ensures { IsFront place front result }
-{
-    let length = u32::from_be_bytes(front) as usize;
-    if length < 1 || length > LONGEST {
-        Err(SessionEnd::BadFrame(place))
-    } else {
-        Ok(front)
-    }
-}
-
-/// Reads the rest of the frame that begins at this place with this length.
-fn read_body<D: Door>(
-    alloc: Global,
-    door: &mut D,
-    validators: u32,
-    place: u64,
-    front: [u8; 4],
-) -> Result<HeardMeeting, SessionEnd>
-    requires place { place + 4 ≤ BYTE_LIMIT }
-    requires front { IsLength front }
-    requires open { D.is_open door.old ≡ true }
-    ensures heard { Hears validators (IsHeard validators) place front (D.sessions door.old) (D.sessions door.new) (D.ends door.old) (D.ends door.new) result }
-    ensures fits { IfOk result (λ h. IsSaid validators h.frame) }
-    ensures next { IfOk result (λ h. (place + 4 < h.next) × (h.next ≤ BYTE_LIMIT)) }
-    ensures cause { IsLinkCounted (D.faults door.old) (D.faults door.new) result }
-
-    ensures open { D.is_open door.new ≡ true }
-    ensures accepts { D.accepts door.new ≡ D.accepts door.old }
-    ensures dials { D.dials door.new ≡ D.dials door.old }
-{
-    let length = u32::from_be_bytes(front) as usize;
-    let room = room_behind(place + FRONT as u64, length);
-    match vec![in alloc; 0; room] {
-        Ok(mut body) => {
-            let filled = fill(door, body.as_mut_slice(), room);
-            match filled.outcome {
-                Err(fault) => Err(end_of_fault(fault)),
-                Ok(()) => {
-                    if filled.end < length {
-                        return Err(cut_end(place, FRONT + filled.end));
-                    }
-                    decoded(alloc, validators, place, body.as_slice())
-                }
-            }
-        }
-        Err(_) => Err(SessionEnd::OutOfMemory),
-    }
+    let body = read_body(alloc, door, place)?;
+    decoded(alloc, validators, place, body.as_slice())
 }
 
 /// The frame that begins at this place and has these bytes behind its length.

@@ -37,10 +37,8 @@ pub(crate) fn say_hello<D: Door>(alloc: Global, core: &Core, door: &mut D) -> Re
     ensures accepts { D.accepts door.new ≡ D.accepts door.old }
     ensures dials { D.dials door.new ≡ D.dials door.old }
 {
-    match instance(alloc, core) {
-        Ok(instance) => send(alloc, core, door, &MeetingFrame::Hello(instance)),
-        Err(OutOfMemory) => Err(SessionEnd::OutOfMemory),
-    }
+    let instance = instance(alloc, core)?;
+    send(alloc, core, door, &MeetingFrame::Hello(instance))
 }
 
 /// Tells what the node has of each validator.
@@ -60,10 +58,8 @@ pub(crate) fn say_summary<D: Door>(
     ensures accepts { D.accepts door.new ≡ D.accepts door.old }
     ensures dials { D.dials door.new ≡ D.dials door.old }
 {
-    match mine.copy() {
-        Ok(parts) => send(alloc, core, door, &MeetingFrame::Summary(parts)),
-        Err(OutOfMemory) => Err(SessionEnd::OutOfMemory),
-    }
+    let parts = mine.copy()?;
+    send(alloc, core, door, &MeetingFrame::Summary(parts))
 }
 
 /// Tells which validators are torn for the node, by what the other tells.
@@ -84,10 +80,8 @@ pub(crate) fn say_torn<D: Door>(
     ensures accepts { D.accepts door.new ≡ D.accepts door.old }
     ensures dials { D.dials door.new ≡ D.dials door.old }
 {
-    match torn_for(alloc, core, mine, theirs) {
-        Ok(torn) => send(alloc, core, door, &MeetingFrame::Torn(torn)),
-        Err(OutOfMemory) => Err(SessionEnd::OutOfMemory),
-    }
+    let torn = torn_for(alloc, core, mine, theirs)?;
+    send(alloc, core, door, &MeetingFrame::Torn(torn))
 }
 
 /// Sends the vertices at these places of the journal, and then Done.
@@ -107,10 +101,8 @@ pub(crate) fn say_due<D: Door>(
     ensures accepts { D.accepts door.new ≡ D.accepts door.old }
     ensures dials { D.dials door.new ≡ D.dials door.old }
 {
-    match send_vertices(alloc, core, door, places) {
-        Ok(()) => send(alloc, core, door, &MeetingFrame::Done),
-        Err(end) => Err(end),
-    }
+    send_vertices(alloc, core, door, places)?;
+    send(alloc, core, door, &MeetingFrame::Done)
 }
 
 /// Sends the vertices at these places of the journal.
@@ -131,10 +123,7 @@ fn send_vertices<D: Door>(
     ensures dials { D.dials door.new ≡ D.dials door.old }
 {
     for place in places {
-        match send_vertex(alloc, core, door, core.journal_at(*place)) {
-            Ok(()) => {}
-            Err(end) => return Err(end),
-        }
+        send_vertex(alloc, core, door, core.journal_at(*place))?;
     }
     Ok(())
 }
@@ -156,10 +145,8 @@ fn send_vertex<D: Door>(
     ensures accepts { D.accepts door.new ≡ D.accepts door.old }
     ensures dials { D.dials door.new ≡ D.dials door.old }
 {
-    match vertex.copy() {
-        Ok(copy) => send(alloc, core, door, &MeetingFrame::Vertex(copy)),
-        Err(OutOfMemory) => Err(SessionEnd::OutOfMemory),
-    }
+    let copy = vertex.copy()?;
+    send(alloc, core, door, &MeetingFrame::Vertex(copy))
 }
 
 /// Sends a frame, which is one among the node's validators.

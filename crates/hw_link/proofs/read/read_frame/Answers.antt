@@ -1,7 +1,16 @@
-use Rattle.hw_link.proofs.HearsLaws.{hears_then}
+use Rattle.std.proofs.Common.{ℕ, List, subst}
+use Rattle.std.proofs.lemmas.Result.{err_from_is_err_and}
+use Rattle.hw_link.specs.Heard.{IsDecoded}
+use Rattle.hw_link.proofs.HearsLaws.{hears_no_frame, hears_frame}
 use Rattle.hw_link.proofs.read.read_frame.Goals as goal
+
+pub returns-in_err-body-clause-heard : goal.returns-in_err-body-clause-heard
+returns-in_err-body-clause-heard g c =
+    let p = err_from_is_err_and c.from_residual.result c.from_residual.ensures.1 in
+    rw (p.1, p.2)
+    (hears_no_frame c.args.place (g.D.Door.sessions c.args.door.now) (g.D.Door.sessions c.read_body.new.door) (g.D.Door.ends c.args.door.now) (g.D.Door.ends c.read_body.new.door) c.in_err-body.field-0.0 c.in_err-body.ensures.heard)
 
 pub returns-clause-heard : goal.returns-clause-heard
 returns-clause-heard g c =
-    hears_then c.args.place c.in_ok-front.front (g.D.Door.sessions c.args.door.now) (g.D.Door.sessions c.read_front.new.door) (g.D.Door.sessions c.read_body.new.door)
-    (g.D.Door.ends c.args.door.now) (g.D.Door.ends c.read_front.new.door) (g.D.Door.ends c.read_body.new.door) c.read_body.result c.in_ok-front.ensures.heard c.read_body.ensures.heard
+    hears_frame c.args.place (g.D.Door.sessions c.args.door.now) (g.D.Door.sessions c.read_body.new.door) (g.D.Door.ends c.args.door.now) (g.D.Door.ends c.read_body.new.door) c.in_ok-body.body c.decoded.result
+    (subst (λ (body : List ℕ). IsDecoded c.args.place body c.decoded.result) c.as_slice.ensures c.decoded.ensures.said) c.in_ok-body.ensures.heard

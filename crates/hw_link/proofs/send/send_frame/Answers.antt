@@ -3,7 +3,7 @@ use Rattle.hw_link.specs.Frames.{framed}
 use Rattle.hw_link.proofs.SentLaws.{sends_none}
 use Rattle.hw_link.proofs.send.send_frame.Goals as goal
 
-pub returns-in_err-bytes-clause-sent : goal.returns-in_err-bytes-clause-sent
-returns-in_err-bytes-clause-sent g c =
+pub returns-in_err-body-clause-sent : goal.returns-in_err-body-clause-sent
+returns-in_err-body-clause-sent g c =
     let p = err_from_is_err_and c.from_residual.result c.from_residual.ensures.1 in
     rw (p.1, p.2) (sends_none (framed c.args.frame.now) (g.D.Door.sessions c.args.door.now))

@@ -1,4 +1,5 @@
 use Rattle.std.proofs.Common.{◌≡◌, Err, false, refl, sym, subst, ◌∙◌}
+use Rattle.std.proofs.lemmas.Result.{err_from_is_err_and}
 use Rattle.hw_types.specs.declared.unit.Digest.{Digest}
 use Rattle.hw_types.specs.Graph.{digest_eq}
 use Rattle.hw_types.specs.Spelling.{instance_of}
@@ -14,11 +15,12 @@ returns-else-eq-clause-reacts g c =
     let core = c.args.core.now in
     let m = meeting_of c.args.meeter.now core in
     let old = g.D.Door.sessions c.args.door.now in
-    let other : digest_eq c.args.other (instance_of core.config) ≡ false = subst (λ (d : Digest). digest_eq c.args.other d ≡ false) c.in-Ok.ensures (sym c.eq.ensures ∙ c.if-eq.false) in
+    let other : digest_eq c.args.other (instance_of core.config) ≡ false = subst (λ (d : Digest). digest_eq c.args.other d ≡ false) c.in_ok-own.ensures (sym c.eq.ensures ∙ c.if-eq.false) in
     subst (λ (r : Reaction Meeting). Reacts {T = Unit {0}} core r m old old (Err end.WrongInstance)) (sym (greeted_by c.args.side m c.args.other false other)) (refl, refl, none_sent old)
 
-pub returns-in-Err-clause-reacts : goal.returns-in-Err-clause-reacts
-returns-in-Err-clause-reacts g c =
+pub returns-in_err-own-clause-reacts : goal.returns-in_err-own-clause-reacts
+returns-in_err-own-clause-reacts g c =
     let core = c.args.core.now in
     let m = meeting_of c.args.meeter.now core in
-    wants_reacts core (greeted c.args.side m c.args.other) m (g.D.Door.sessions c.args.door.now) refl
+    let p = err_from_is_err_and c.from_residual.result c.from_residual.ensures.1 in
+    rw (p.1, p.2) (wants_reacts core (greeted c.args.side m c.args.other) m (g.D.Door.sessions c.args.door.now) refl)

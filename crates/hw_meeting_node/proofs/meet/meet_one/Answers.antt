@@ -10,7 +10,7 @@ pub returns-in-Ok-clause-met : goal.returns-in-Ok-clause-met
 returns-in-Ok-clause-met g c = only_meets _ Caller _ _ _ (Some c.args.address.now) _ _ _ _ _ _ c.meet-end.result (returns-in-Ok-clause-took g c)
 
 pub returns-in-Err-clause-took : goal.returns-in-Err-clause-took
-returns-in-Err-clause-took g c = rw (c.meet_end.ensures, c.end_of_fault.ensures) (meets_nobody g.T.Taker.steps Caller _ _ c.args.taker.now (Some c.args.address.now) _ _ _ _ c.in-Err.fault c.in-Err.ensures.ends c.in-Err.ensures.sessions)
+returns-in-Err-clause-took g c = rw (c.meet_end.ensures, c.from.ensures) (meets_nobody g.T.Taker.steps Caller _ _ c.args.taker.now (Some c.args.address.now) _ _ _ _ c.in-Err.fault c.in-Err.ensures.ends c.in-Err.ensures.sessions)
 
 pub returns-in-Err-clause-met : goal.returns-in-Err-clause-met
 returns-in-Err-clause-met g c = only_meets _ Caller _ _ _ (Some c.args.address.now) _ _ _ _ _ _ c.meet_end.result (returns-in-Err-clause-took g c)

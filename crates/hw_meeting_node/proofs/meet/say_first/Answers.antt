@@ -1,7 +1,10 @@
+use Rattle.std.proofs.lemmas.Result.{err_from_is_err_and}
 use Rattle.hw_meeting_node.specs.declared.meeter.Meeter.{Meeter}
 use Rattle.hw_meeting_node.specs.Meeting.{first_word}
 use Rattle.hw_meeting_node.proofs.SayLaws.{unsaid}
 use Rattle.hw_meeting_node.proofs.meet.say_first.Goals as goal
 
-pub returns-in-Err-clause-sent : goal.returns-in-Err-clause-sent
-returns-in-Err-clause-sent g c = unsaid Meeter (first_word c.args.side c.args.core.now) (g.D.Door.sessions c.args.door.now)
+pub returns-in_err-meeter-clause-sent : goal.returns-in_err-meeter-clause-sent
+returns-in_err-meeter-clause-sent g c =
+    let p = err_from_is_err_and c.from_residual.result c.from_residual.ensures.1 in
+    rw (p.1, p.2) (unsaid Meeter (first_word c.args.side c.args.core.now) (g.D.Door.sessions c.args.door.now))

@@ -1,4 +1,5 @@
 use Rattle.std.proofs.Common.{sym, refl, arith, ◌∙◌}
+use Rattle.std.proofs.lemmas.Result.{err_from_is_err_and}
 use Rattle.hw_meeting_node.proofs.SayLaws.{sends_nothing, sends_next, sends_broken, at_index}
 use Rattle.hw_meeting_node.proofs.say.send_vertices.Goals as goal
 
@@ -12,16 +13,17 @@ loop-place-init g c = record {
   dials = refl;
 }
 
-pub returns-in-Err-clause-sent : goal.returns-in-Err-clause-sent
-returns-in-Err-clause-sent g c =
+pub returns-in_err-send_vertex-clause-sent : goal.returns-in_err-send_vertex-clause-sent
+returns-in_err-send_vertex-clause-sent g c =
     let l = c.loop-place in
-    sends_broken c.args.core.now.journal c.args.places.now (g.D.Door.sessions c.args.door.now) (g.D.Door.sessions l.door) (g.D.Door.sessions c.send_vertex.new.door) l.place-index l.invariant.sent _ c.journal_at.result.now
-    (at_index c.args.places.now l.place-index 0 (omega (arith, c.loop-place-test.true))) (sym c.journal_at.ensures.vertex) c.in-Err.end c.in-Err.ensures.sent
+    let p = err_from_is_err_and c.from_residual.result c.from_residual.ensures.1 in
+    rw (p.1, p.2) (sends_broken c.args.core.now.journal c.args.places.now (g.D.Door.sessions c.args.door.now) (g.D.Door.sessions l.door) (g.D.Door.sessions c.send_vertex.new.door) l.place-index l.invariant.sent _ c.journal_at.result.now
+    (at_index c.args.places.now l.place-index 0 (omega (arith, c.loop-place-test.true))) (sym c.journal_at.ensures.vertex) c.in_err-send_vertex.field-0.0 c.in_err-send_vertex.ensures.sent)
 
 pub loop-place-preserved : goal.loop-place-preserved
 loop-place-preserved g c =
     let l = c.loop-place in
-    let e = c.in-Ok.ensures in
+    let e = c.in_ok-send_vertex.ensures in
     record {
       sent =
           sends_next c.args.core.now.journal c.args.places.now (g.D.Door.sessions c.args.door.now) (g.D.Door.sessions l.door) (g.D.Door.sessions c.send_vertex.new.door) l.place-index l.invariant.sent _ c.journal_at.result.now

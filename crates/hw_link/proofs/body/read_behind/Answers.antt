@@ -1,17 +1,16 @@
-use Rattle.std.proofs.Common.{◌≡◌, ◌+◌, ◌<◌, ℕ, List, [], ◌++◌, length, take, drop, Result, sym, ap, subst, ◌∙◌, arith, length-append}
+use Rattle.std.proofs.Common.{◌≡◌, ◌+◌, ◌<◌, ℕ, List, [], ◌++◌, length, take, drop, Result, Ok, refl, sym, ap, subst, ◌∙◌, arith, length-append}
 use Rattle.std.specs.Int.{w32, from_be_bytes}
 use Rattle.std.proofs.lemmas.List.{length-take-le, take-append-le}
 use Rattle.std.proofs.lemmas.Result.{err_from_is_err_and}
 use Rattle.hw_io.specs.declared.outside.IoFault.{IoFault}
 use Rattle.hw_io.specs.Faults.{HasCause}
-use Rattle.hw_link.specs.Frames.{byte_limit}
+use Rattle.hw_link.specs.Frames.{byte_limit, body_here}
 use Rattle.hw_link.specs.Links.{after_part, has_failed}
-use Rattle.hw_link.specs.declared.read.Heard.{Heard}
-use Rattle.hw_link.specs.Heard.{IsHeard, IsDecoded}
+use Rattle.hw_link.specs.Heard.{HearsBy, IsBody}
 use Rattle.hw_link.proofs.FrameReadLaws.{cut_body}
 use Rattle.hw_link.proofs.LinkLaws.{after_nothing}
-use Rattle.hw_link.proofs.HearsLaws.{hears_cut, hears_fault, hears_nothing, hears_decoded, cut_uncounted, not_at_limit}
-use Rattle.hw_link.proofs.read.read_body.Goals as goal
+use Rattle.hw_link.proofs.HearsLaws.{hears_cut, hears_fault, hears_nothing, hears_whole, cut_uncounted, not_at_limit}
+use Rattle.hw_link.proofs.body.read_behind.Goals as goal
 
 pub returns-in_err-filled-clause-heard : goal.returns-in_err-filled-clause-heard
 returns-in_err-filled-clause-heard g c =
@@ -24,8 +23,8 @@ returns-in_err-filled-clause-heard g c =
     let heard = ap (λ (o : Result (Unit {0}) IoFault). after_part part [] (has_failed o) (g.D.Door.sessions c.args.door.now)) c.in_err-filled.was in
     let p = err_from_is_err_and c.from_residual-in_err-filled.result c.from_residual-in_err-filled.ensures.1 in
     rw (p.1, p.2)
-    (hears_fault IsHeard c.args.place front part (g.D.Door.sessions c.args.door.now) (g.D.Door.sessions f.new.door) (g.D.Door.ends c.args.door.now) (g.D.Door.ends f.new.door)
-    (omega (arith, f.ensures.within, c.room_behind-room.ensures.within, length-append front part, c.requires.front.four)) c.in_err-filled.field-0.0 (f.ensures.heard ∙ heard) (cut_body c.args.place front part c.requires.front few))
+    (hears_fault body_here IsBody c.args.place front part (g.D.Door.sessions c.args.door.now) (g.D.Door.sessions f.new.door) (g.D.Door.ends c.args.door.now) (g.D.Door.ends f.new.door)
+    (omega (arith, f.ensures.within, c.room_behind-room.ensures.within, length-append front part, c.requires.front.four)) c.in_err-filled.field-0.0 (f.ensures.heard ∙ heard) (cut_body Ok c.args.place front part c.requires.front few))
 
 pub returns-then-filled-length-clause-heard : goal.returns-then-filled-length-clause-heard
 returns-then-filled-length-clause-heard g c =
@@ -37,10 +36,10 @@ returns-then-filled-length-clause-heard g c =
     let few : length part < from_be_bytes w32 front = omega (arith, c.if-filled-length.true, c.from_be_bytes-length.ensures) in
     let heard = ap (λ (o : Result (Unit {0}) IoFault). after_part part [] (has_failed o) (g.D.Door.sessions c.args.door.now)) c.in_ok-filled.was in
     rw (c.cut_end.ensures (front ++ part) both)
-    (hears_cut IsHeard c.args.place front part (g.D.Door.sessions c.args.door.now) (g.D.Door.sessions f.new.door) (g.D.Door.ends c.args.door.now) (g.D.Door.ends f.new.door)
+    (hears_cut body_here IsBody c.args.place front part (g.D.Door.sessions c.args.door.now) (g.D.Door.sessions f.new.door) (g.D.Door.ends c.args.door.now) (g.D.Door.ends f.new.door)
     (omega (arith, f.ensures.within, c.room_behind-room.ensures.within, both))
     (f.ensures.heard ∙ heard)
-    (cut_body c.args.place front part c.requires.front few)
+    (cut_body Ok c.args.place front part c.requires.front few)
     (λ (short : c.args.place + length (front ++ part) < byte_limit). rw c.in_ok-filled.was at f.ensures.ended (not_at_limit (c.args.place + 4) f.result.end c.room_behind-room.result c.from_be_bytes-length.result f.ensures.within c.room_behind-room.ensures.reached c.if-filled-length.true (omega (arith, short, both)))))
 
 pub returns-then-filled-length-clause-cause : goal.returns-then-filled-length-clause-cause
@@ -51,7 +50,7 @@ returns-then-filled-length-clause-cause g c =
     let size : length part ≡ f.result.end = length-take-le f.result.end f.new.bytes (omega (arith, f.ensures.within, f.ensures.room)) in
     let both : length (front ++ part) ≡ 4 + f.result.end = length-append front part ∙ ap (λ n. n + length part) c.requires.front.four ∙ ap (λ n. 4 + n) size in
     let cause = subst (λ (o : Result (Unit {0}) IoFault). HasCause (g.D.Door.faults c.args.door.now) (g.D.Door.faults f.new.door) o) c.in_ok-filled.was f.ensures.cause in
-    rw (c.cut_end.ensures (front ++ part) both) (cut_uncounted Heard c.args.place (front ++ part) (g.D.Door.faults c.args.door.now) (g.D.Door.faults f.new.door) cause.failed)
+    rw (c.cut_end.ensures (front ++ part) both) (cut_uncounted (List ℕ) c.args.place (front ++ part) (g.D.Door.faults c.args.door.now) (g.D.Door.faults f.new.door) cause.failed)
 
 pub returns-clause-heard : goal.returns-clause-heard
 returns-clause-heard g c =
@@ -60,21 +59,22 @@ returns-clause-heard g c =
     let part = take f.result.end f.new.bytes in
     let size : length part ≡ f.result.end = length-take-le f.result.end f.new.bytes (omega (arith, f.ensures.within, f.ensures.room)) in
     let whole : c.in_ok-body.body.len ≡ f.result.end = omega (arith, c.in_ok-body.ensures.len, f.ensures.within, c.room_behind-room.ensures.most, c.if-filled-length.false) in
-    let is : c.as_slice.result.now ≡ part =
-    c.as_slice.ensures.value
+    let is : c.from_vec.result ≡ part =
+    c.from_vec.ensures
     ∙ take-append-le c.in_ok-body.body.len f.new.bytes (drop (length f.new.bytes) c.in_ok-body.body.items) (omega (arith, whole, f.ensures.within, f.ensures.room))
     ∙ ap (λ n. take n f.new.bytes) whole in
     let heard = ap (λ (o : Result (Unit {0}) IoFault). after_part part [] (has_failed o) (g.D.Door.sessions c.args.door.now)) c.in_ok-filled.was in
-    hears_decoded c.args.place front part (g.D.Door.sessions c.args.door.now) (g.D.Door.sessions f.new.door) (g.D.Door.ends c.args.door.now) (g.D.Door.ends f.new.door) c.decoded.result
-    (subst (λ (xs : List ℕ). IsDecoded c.args.place xs c.decoded.result) is c.decoded.ensures.said) c.requires.front
-    (omega (arith, size, c.from_be_bytes-length.ensures, f.ensures.within, c.room_behind-room.ensures.most, c.if-filled-length.false))
-    (omega (arith, size, f.ensures.within, c.room_behind-room.ensures.within))
+    let both : length (front ++ part) ≡ 4 + f.result.end = length-append front part ∙ ap (λ n. n + length part) c.requires.front.four ∙ ap (λ n. 4 + n) size in
+    subst (λ (xs : List ℕ). HearsBy body_here IsBody c.args.place front (g.D.Door.sessions c.args.door.now) (g.D.Door.sessions f.new.door) (g.D.Door.ends c.args.door.now) (g.D.Door.ends f.new.door) (Ok xs)) (sym is)
+    (hears_whole body_here IsBody c.args.place front part (g.D.Door.sessions c.args.door.now) (g.D.Door.sessions f.new.door) (g.D.Door.ends c.args.door.now) (g.D.Door.ends f.new.door)
+    (omega (arith, both, f.ensures.within, c.room_behind-room.ensures.within)) part
     (f.ensures.heard ∙ heard)
-    (rw c.in_ok-filled.was at f.ensures.full (omega (arith, c.room_behind-room.ensures.most, c.if-filled-length.false)))
+    (record { front = front; split = refl; is_length = c.requires.front; size = omega (arith, size, c.from_be_bytes-length.ensures, f.ensures.within, c.room_behind-room.ensures.most, c.if-filled-length.false) })
+    (rw c.in_ok-filled.was at f.ensures.full (omega (arith, c.room_behind-room.ensures.most, c.if-filled-length.false))))
 
 pub returns-in_err-body-clause-heard : goal.returns-in_err-body-clause-heard
 returns-in_err-body-clause-heard g c =
     let p = err_from_is_err_and c.from_residual.result c.from_residual.ensures.1 in
     rw (p.1, p.2)
-    (hears_nothing IsHeard c.args.place c.args.front [] (g.D.Door.sessions c.args.door.now) (g.D.Door.sessions c.args.door.now) (g.D.Door.ends c.args.door.now) (g.D.Door.ends c.args.door.now)
+    (hears_nothing body_here IsBody c.args.place c.args.front [] (g.D.Door.sessions c.args.door.now) (g.D.Door.sessions c.args.door.now) (g.D.Door.ends c.args.door.now) (g.D.Door.ends c.args.door.now)
     (omega (arith, length-append c.args.front [], c.requires.front.four, c.requires.place)) (sym (after_nothing (g.D.Door.sessions c.args.door.now))))

@@ -1,0 +1,9 @@
+use Rattle.std.proofs.lemmas.Result.{err_from_is_err_and}
+use Rattle.hw_link.specs.Frames.{behind_length}
+use Rattle.hw_link.proofs.SentLaws.{sends_none}
+use Rattle.hw_link.proofs.send.send_body.Goals as goal
+
+pub returns-in_err-bytes-clause-sent : goal.returns-in_err-bytes-clause-sent
+returns-in_err-bytes-clause-sent g c =
+    let p = err_from_is_err_and c.from_residual.result c.from_residual.ensures.1 in
+    rw (p.1, p.2) (sends_none (behind_length c.args.body.now) (g.D.Door.sessions c.args.door.now))
