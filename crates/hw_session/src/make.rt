@@ -4,6 +4,7 @@ ghost use Rattle.std.specs.Prelude.{◌≡◌, ◌≤◌, ◌<◌, ◌^◌, leng
 ghost use Rattle.hw_types.specs.Spelling.{Fits, digest_of};
 ghost use Rattle.hw_io.specs.Files.{Appended};
 ghost use Rattle.hw_session.specs.Entry.{IsEntryOf};
+ghost use Rattle.hw_session.specs.Outside.{reading};
 ghost use Rattle.hw_session.specs.Restart.{KeepsLine};
 ghost use Rattle.hw_session.specs.Make.{planned_by, own_unit, own_vertex, Makes, WritesOwn, IsMakeCounted, IsAStep, IsOfOwn, Refuses, PutsOwn, fault_of_append};
 
@@ -73,9 +74,7 @@ impl Node {
         ensures log { IsTrue F.tells → WritesOwn self.old (Some plan) self.new (F.held files.old) (F.held files.new) result }
         ensures cause { IsMakeCounted (F.append_faults files.old) (F.append_faults files.new) result }
 
-        ensures begun { F.begun files.new ≡ F.begun files.old }
-        ensures allowance { F.allowance files.new ≡ F.allowance files.old }
-        ensures reads { F.read_faults files.new ≡ F.read_faults files.old }
+        ensures reading { reading (F.begun files.new) (F.allowance files.new) (F.read_faults files.new) ≡ reading (F.begun files.old) (F.allowance files.old) (F.read_faults files.old) }
     {
         let own = self.own_unit(&plan)?;
         self.take_own(files, plan, own)
@@ -120,9 +119,7 @@ impl Node {
         ensures log { IsTrue F.tells → WritesOwn self.old (Some plan) self.new (F.held files.old) (F.held files.new) result }
         ensures cause { IsMakeCounted (F.append_faults files.old) (F.append_faults files.new) result }
 
-        ensures begun { F.begun files.new ≡ F.begun files.old }
-        ensures allowance { F.allowance files.new ≡ F.allowance files.old }
-        ensures reads { F.read_faults files.new ≡ F.read_faults files.old }
+        ensures reading { reading (F.begun files.new) (F.allowance files.new) (F.read_faults files.new) ≡ reading (F.begun files.old) (F.allowance files.old) (F.read_faults files.old) }
     {
         match self.core.deliver_named(own.unit, own.name) {
             Ok(_receipt) => put_own(&mut self.lasts, files, self.log.as_str(), plan, own.entry),
@@ -161,9 +158,7 @@ fn put_own<F: Files>(
     ensures log { IsTrue F.tells → Appended (F.held files.old) (F.held files.new) log.now entry.bytes result }
     ensures cause { IsMakeCounted (F.append_faults files.old) (F.append_faults files.new) result }
 
-    ensures begun { F.begun files.new ≡ F.begun files.old }
-    ensures allowance { F.allowance files.new ≡ F.allowance files.old }
-    ensures reads { F.read_faults files.new ≡ F.read_faults files.old }
+    ensures reading { reading (F.begun files.new) (F.allowance files.new) (F.read_faults files.new) ≡ reading (F.begun files.old) (F.allowance files.old) (F.read_faults files.old) }
 {
     put_entry(lasts, files, log, entry)?;
     Ok(Some(plan))
