@@ -78,7 +78,7 @@ IsOfOther n peers end.WrongInstance = digest_eq peers (instance_of n.core.config
 IsOfOther n peers end.OutOfMemory = Unit {0}
 IsOfOther n peers e = ⊥
 
--- it answered the vertex so, and its log shows that
+-- this was its answer to the vertex, and the log shows it
 pub record Takes (n : NodeState) (v : Vertex) (m : NodeState) (tells : Bool) (held_old held_new : List ℕ → Option (List ℕ)) (answer : Result Receipt AcceptFault) : Type 0 where
   pub accepts : Accepts n v m answer
   pub writes : IsTrue tells → WritesAccepted n v m held_old held_new answer

@@ -62,7 +62,7 @@ struct OwnUnit {
 }
 
 impl Node {
-    /// Makes the unit of a plan.
+    /// Makes the unit of a plan: delivers it to the own node, and then appends its entry to the log.
     fn make_planned<F: Files>(
         &mut self,
         files: &mut F,
@@ -77,7 +77,10 @@ impl Node {
         ensures reading { reading (F.begun files.new) (F.allowance files.new) (F.read_faults files.new) ≡ reading (F.begun files.old) (F.allowance files.old) (F.read_faults files.old) }
     {
         let own = self.own_unit(&plan)?;
-        self.take_own(files, plan, own)
+        match self.core.deliver_named(own.unit, own.name) {
+            Ok(_receipt) => put_own(&mut self.lasts, files, self.log.as_str(), plan, own.entry),
+            Err(refused) => self.refuse_own(refused.cause),
+        }
     }
 
     /// The unit of a plan, signed by its creator, its name and its entry.
@@ -100,30 +103,6 @@ impl Node {
             // It was made as a unit.
             Vertex::Evidence(_evidence) => unreachable!(),
             Vertex::Endorsement(_endorsement) => unreachable!(),
-        }
-    }
-
-    /// Delivers the own unit of a plan, and then appends its entry to the log.
-    fn take_own<F: Files>(
-        &mut self,
-        files: &mut F,
-        plan: Plan,
-        own: OwnUnit,
-    ) -> Result<Option<Plan>, MakeFault>
-        requires planned { IsAStep self.old plan }
-        requires fits { Fits plan.unit }
-        requires unit { own.unit ≡ own_unit self.old plan }
-        requires name { own.name ≡ digest_of plan.unit }
-        requires entry { IsEntryOf self.old.lasts (own_vertex self.old plan) own.entry }
-        ensures made { Makes self.old (Some plan) self.new result }
-        ensures log { IsTrue F.tells → WritesOwn self.old (Some plan) self.new (F.held files.old) (F.held files.new) result }
-        ensures cause { IsMakeCounted (F.append_faults files.old) (F.append_faults files.new) result }
-
-        ensures reading { reading (F.begun files.new) (F.allowance files.new) (F.read_faults files.new) ≡ reading (F.begun files.old) (F.allowance files.old) (F.read_faults files.old) }
-    {
-        match self.core.deliver_named(own.unit, own.name) {
-            Ok(_receipt) => put_own(&mut self.lasts, files, self.log.as_str(), plan, own.entry),
-            Err(refused) => self.refuse_own(refused.cause),
         }
     }
 
