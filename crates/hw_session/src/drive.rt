@@ -24,7 +24,7 @@ use crate::say::say;
 use crate::stage::{Onward, PeerMark, Stage};
 use hw_io::{Door, Files};
 use hw_link::{BYTE_LIMIT, SessionEnd, read_frame};
-use hw_types::{Digest, Frame, Need, NeedList, OutOfMemory, Vertex};
+use hw_types::{Frame, Need, NeedList, OutOfMemory, Vertex};
 
 /// How many vertices are pushed in one session.
 const MOST_PUSHED: u64 = 256;
@@ -223,7 +223,7 @@ impl Node {
         }
     }
 
-    /// Handles the first frame, which is a Hello of the own instance.
+    /// Handles the first frame, which is a Hello of the own instance, and begins to push.
     fn drive_greeting<D: Door>(
         &self,
         mark: PeerMark,
@@ -238,26 +238,12 @@ impl Node {
         ensures door { door_calls (D.is_open door.new) (D.ends door.new) (D.accepts door.new) (D.dials door.new) ≡ door_calls (D.is_open door.old) (D.ends door.old) (D.accepts door.old) (D.dials door.old) }
     {
         match frame {
-            Frame::Hello(instance) => self.drive_hello(mark, door, *instance),
+            Frame::Hello(instance) => {
+                let _own = self.own_instance(*instance)?;
+                self.push(mark, door, self.to_push(mark))
+            }
             _ => Err(SessionEnd::BadFrame(place)),
         }
-    }
-
-    /// Begins to push where the Hello is of the own instance.
-    fn drive_hello<D: Door>(
-        &self,
-        mark: PeerMark,
-        door: &mut D,
-        instance: Digest,
-    ) -> Result<Stage, SessionEnd>
-        requires open { D.is_open door.old ≡ true }
-        ensures answers { AnswersAs self.now mark (drive_greeting (greeting self.now mark) 0 (frame.Hello instance)) (D.sessions door.old) (D.sessions door.new) result }
-        ensures link { IsLinkCounted (D.faults door.old) (D.faults door.new) result }
-
-        ensures door { door_calls (D.is_open door.new) (D.ends door.new) (D.accepts door.new) (D.dials door.new) ≡ door_calls (D.is_open door.old) (D.ends door.old) (D.accepts door.old) (D.dials door.old) }
-    {
-        let _own = self.own_instance(instance)?;
-        self.push(mark, door, self.to_push(mark))
     }
 
     /// How many vertices are pushed in a session.
