@@ -1,6 +1,6 @@
 -- A session that a node drives leaves its configuration as it is.
-use Rattle.std.specs.Prelude.{◌-◌, ◌==◌, IfOk, IfSome}
-use Rattle.std.proofs.Common.{◌≡◌, ◌⊎◌, ℕ, zero, suc, Bool, true, false, cond, List, [], ◌∷◌, ◌++◌, length, take, drop, Option, Some, None, Result, Ok, Err, inl, inr, refl, sym, ap, subst, ◌∙◌}
+use Rattle.std.specs.Prelude.{◌==◌, IfOk, IfSome}
+use Rattle.std.proofs.Common.{◌≡◌, ℕ, zero, suc, Bool, true, false, cond, List, [], ◌∷◌, take, drop, Option, Some, None, Result, Ok, Err, refl, subst, ◌∙◌}
 use Rattle.hw_types.specs.declared.unit.Vertex.{Vertex}
 use Rattle.hw_types.specs.declared.unit.Need.{Need}
 use Rattle.hw_types.specs.declared.answers.Frame.{Frame}

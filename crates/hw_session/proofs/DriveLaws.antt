@@ -1,5 +1,5 @@
 -- What a node that drives did at a frame.
-use Rattle.std.proofs.Common.{◌≡◌, ◌≢◌, ◌≤◌, ℕ, zero, suc, Bool, true, false, cond, List, [], ◌∷◌, length, take, drop, Option, Some, None, Result, Ok, Err, IsTrue, refl, sym, ap, subst, ◌∙◌, arith}
+use Rattle.std.proofs.Common.{◌≡◌, ◌≢◌, ◌≤◌, ℕ, zero, suc, Bool, true, false, cond, List, [], ◌∷◌, length, take, drop, Option, Some, None, Result, Ok, Err, refl, sym, ap, subst, ◌∙◌, arith}
 use Rattle.std.specs.Prelude.{◌-◌, ◌==◌, slice_get}
 use Rattle.hw_core.specs.Readers.{unmet_in}
 use Rattle.hw_types.specs.declared.unit.Digest.{Digest}
@@ -27,10 +27,12 @@ use Rattle.hw_session.specs.declared.stage.Stage.TheVariants as stage
 use Rattle.hw_session.specs.declared.stage.Onward.{Onward}
 use Rattle.hw_session.specs.Node.{NodeState}
 use Rattle.hw_session.specs.Driving.{Driver, waiting, pull, push_first, push, to_push, not_due, want_some, want, with_pushed, with_pulled, after_vertex, drive_vertex, drive_greeting, drive_pushing, drive_told, drive_pulling, drive_wanting, drive_leaving, drive_at, drive_step}
-use Rattle.hw_session.specs.Handling.{Answers, Reacts}
+use Rattle.hw_session.specs.Serving.{is_clash}
+use Rattle.hw_session.specs.Handling.{Answers, Reacts, IsOfOther, Receives}
 use Rattle.hw_session.specs.DriveHandling.{node_part, IsDue, ReactsAs, AnswersAs, HandlesAs}
 use Rattle.hw_session.specs.declared.fault.AcceptFault.TheVariants as fault
-use Rattle.hw_session.specs.Accept.{given_to, taken_by, Accepts, WritesAccepted}
+use Rattle.hw_session.specs.Accept.{given_to, taken_by, Accepts}
+use Rattle.hw_session.specs.Grows.{Logs}
 use Rattle.hw_session.proofs.ReactLaws.{one_sent, none_sent, accepted_logs, refused_logs, append_failed, memory_wanted, stays_reacts}
 use Rattle.hw_session.proofs.NextLaws.{reacts_alike}
 
@@ -72,11 +74,19 @@ wanting_answers n mark r old = record { node = ([], (0, refl), none_sent old); w
 pub bad_answers : (n : NodeState) (mark : PeerMark) (d : Driver) (at : ℕ) (r : Reaction Driver) (old : Option (List Session)) → r ≡ not_due d at → AnswersAs n mark r old old (Err (end.BadFrame at))
 bad_answers n mark d at r old is = subst (λ (x : Reaction Driver). AnswersAs n mark x old old (Err (end.BadFrame at))) (sym is) (record { node = (refl, none_sent old); waits = tt; due = tt })
 
--- the peer's Hello is of another instance
-pub other_answers : (n : NodeState) (mark : PeerMark) (d : Driver) (at : ℕ) (instance : Digest) (old : Option (List Session)) → digest_eq instance (instance_of d.node.core.config) ≡ false → AnswersAs n mark (drive_greeting d at (frame.Hello instance)) old old (Err end.WrongInstance)
-other_answers n mark d at instance old is =
-    let by : drive_greeting d at (frame.Hello instance) ≡ ends d [] end.WrongInstance = ap (λ (b : Bool). cond b (push d (to_push d)) (ends d [] end.WrongInstance)) is in
+-- the peer's Hello is of another instance, or there was no memory to tell
+pub other_answers : (n : NodeState) (mark : PeerMark) (d : Driver) (at : ℕ) (peers : Digest) (old : Option (List Session)) (e : SessionEnd) → IsOfOther d.node peers e → AnswersAs n mark (drive_greeting d at (frame.Hello peers)) old old (Err e)
+other_answers n mark d at peers old end.WrongInstance other =
+    let by : drive_greeting d at (frame.Hello peers) ≡ ends d [] end.WrongInstance = ap (λ (b : Bool). cond b (push d (to_push d)) (ends d [] end.WrongInstance)) other in
     subst (λ (x : Reaction Driver). AnswersAs n mark x old old (Err end.WrongInstance)) (sym by) (record { node = (refl, none_sent old); waits = tt; due = tt })
+other_answers n mark d at peers old end.OutOfMemory other = wanting_answers n mark (drive_greeting d at (frame.Hello peers)) old
+other_answers n mark d at peers old end.Done other = absurd other
+other_answers n mark d at peers old end.EndOfInput other = absurd other
+other_answers n mark d at peers old (end.BadFrame place) other = absurd other
+other_answers n mark d at peers old end.LinkFault other = absurd other
+other_answers n mark d at peers old end.AppendFault other = absurd other
+other_answers n mark d at peers old end.ByteLimit other = absurd other
+other_answers n mark d at peers old end.Clash other = absurd other
 
 -- ---- the next vertex
 
@@ -171,6 +181,16 @@ module _ (d : Driver) (place : ℕ) (m : NodeState) (now : PeerMark) (tells : Bo
 pub nothing_sent : (bytes : List ℕ) (old : Option (List Session)) → Sends {T = Unit {0}} bytes old old (Err end.OutOfMemory)
 nothing_sent bytes old = record { part = []; first = (0, refl); whole = tt; told = none_sent old; error = tt }
 
+-- a refusal ends the session where it is a clash
+after_refusal : (d : Driver) (c : Cause) → after_vertex d (Err c) ≡ cond (is_clash c) (ends d [] end.Clash) (goes_on d [])
+after_refusal d cause.BadSignature = refl
+after_refusal d (cause.Local rule) = refl
+after_refusal d (cause.Pair f) = refl
+after_refusal d (cause.Clash digest) = refl
+after_refusal d cause.RecordsFull = refl
+after_refusal d cause.ParkFull = refl
+after_refusal d cause.OutOfMemory = refl
+
 module _ (s : Stage) (n : NodeState) (mark : PeerMark) (v : Vertex) (m : NodeState) (tells : Bool) (held_old held_new : List ℕ → Option (List ℕ)) (due : (k : NodeState) → IsDue s k mark) where
   abbrev driver : Driver
   driver = record { stage = s; node = n; mark = mark }
@@ -180,44 +200,30 @@ module _ (s : Stage) (n : NodeState) (mark : PeerMark) (v : Vertex) (m : NodeSta
       ap (λ (x : Result Receipt Cause). after_vertex (record { stage = s; node = taken_by n v x; mark = mark }) x) is
       ∙ ap (λ (k : NodeState). after_vertex (record { stage = s; node = k; mark = mark }) a) (sym left)
 
-  pub vertex_goes : (r : Receipt) (sessions : Option (List Session)) → Accepts n v m (Ok r) → (IsTrue tells → WritesAccepted n v m held_old held_new (Ok r))
-      → ReactsAs n (frame.Vertex v) (drive_vertex driver v) m mark tells held_old held_new sessions sessions (Ok s)
-  vertex_goes r sessions a w =
-      subst (λ (x : Reaction Driver). ReactsAs n (frame.Vertex v) x m mark tells held_old held_new sessions sessions (Ok s)) (sym (by_answer (Ok r) a.0 a.1)) (record {
-        node = (refl, record { state = refl; logs = accepted_logs n v m tells held_old held_new r a w; told = none_sent sessions });
+  abbrev Received : Result (Option Receipt) SessionEnd → Type 0
+  Received result = Receives n v m tells held_old held_new result
+
+  abbrev Reacted : Option (List Session) → Result Stage SessionEnd → Type 0
+  Reacted sessions result = ReactsAs n (frame.Vertex v) (drive_vertex driver v) m mark tells held_old held_new sessions sessions result
+
+  -- the session goes on, and nothing was sent
+  went_on : Logs n m tells held_old held_new → (sessions : Option (List Session)) → drive_vertex driver v ≡ goes_on (record { stage = s; node = m; mark = mark }) [] → Reacted sessions (Ok s)
+  went_on logs sessions by =
+      subst (λ (x : Reaction Driver). ReactsAs n (frame.Vertex v) x m mark tells held_old held_new sessions sessions (Ok s)) (sym by) (record {
+        node = (refl, record { state = refl; logs = logs; told = none_sent sessions });
         marks = refl;
         waits = refl;
         due = due m;
       })
 
-  pub clash_ends : (d : Digest) (sessions : Option (List Session)) → Accepts n v m (Err (fault.Refused (cause.Clash d))) → (IsTrue tells → WritesAccepted n v m held_old held_new (Err (fault.Refused (cause.Clash d))))
-      → ReactsAs n (frame.Vertex v) (drive_vertex driver v) m mark tells held_old held_new sessions sessions (Err end.Clash)
-  clash_ends d sessions a w =
-      subst (λ (x : Reaction Driver). ReactsAs n (frame.Vertex v) x m mark tells held_old held_new sessions sessions (Err end.Clash)) (sym (by_answer (Err (cause.Clash d)) a.1 a.2)) (record {
-        node = (refl, record { state = refl; logs = refused_logs n v m tells held_old held_new (cause.Clash d) a w; told = none_sent sessions });
-        marks = refl;
-        waits = tt;
-        due = tt;
-      })
+  by_refusal : (c : Cause) (b : Bool) → is_clash c ≡ b → Accepts n v m (Err (fault.Refused c)) → drive_vertex driver v ≡ cond b (ends (record { stage = s; node = m; mark = mark }) [] end.Clash) (goes_on (record { stage = s; node = m; mark = mark }) [])
+  by_refusal c b is a =
+      by_answer (Err c) a.1 a.2 ∙ after_refusal (record { stage = s; node = m; mark = mark }) c
+      ∙ ap (λ (x : Bool). cond x (ends (record { stage = s; node = m; mark = mark }) [] end.Clash) (goes_on (record { stage = s; node = m; mark = mark }) [])) is
 
-  pub refused_goes : (c : Cause) (sessions : Option (List Session)) → ((d : Digest) → c ≡ cause.Clash d → ⊥) → Accepts n v m (Err (fault.Refused c)) → (IsTrue tells → WritesAccepted n v m held_old held_new (Err (fault.Refused c)))
-      → ReactsAs n (frame.Vertex v) (drive_vertex driver v) m mark tells held_old held_new sessions sessions (Ok s)
-  refused_goes c sessions no_clash a w =
-      subst (λ (x : Reaction Driver). ReactsAs n (frame.Vertex v) x m mark tells held_old held_new sessions sessions (Ok s)) (sym (by_answer (Err c) a.1 a.2 ∙ plain c no_clash)) (record {
-        node = (refl, record { state = refl; logs = refused_logs n v m tells held_old held_new c a w; told = none_sent sessions });
-        marks = refl;
-        waits = refl;
-        due = due m;
-      })
-    where
-      plain : (x : Cause) → ((d : Digest) → x ≡ cause.Clash d → ⊥) → after_vertex (record { stage = s; node = m; mark = mark }) (Err x) ≡ goes_on (record { stage = s; node = m; mark = mark }) []
-      plain cause.BadSignature other = refl
-      plain (cause.Local rule) other = refl
-      plain (cause.Pair f) other = refl
-      plain (cause.Clash d) other = absurd (other d refl)
-      plain cause.RecordsFull other = refl
-      plain cause.ParkFull other = refl
-      plain cause.OutOfMemory other = refl
+  pub vertex_goes : (taken : Option Receipt) (sessions : Option (List Session)) → Received (Ok taken) → Reacted sessions (Ok s)
+  vertex_goes (Some r) sessions got = went_on (accepted_logs n v m tells held_old held_new r got.accepts got.writes) sessions (by_answer (Ok r) got.accepts.0 got.accepts.1)
+  vertex_goes None sessions got = went_on (refused_logs n v m tells held_old held_new got.0 got.2.accepts got.2.writes) sessions (by_refusal got.0 false got.1 got.2.accepts)
 
   -- the marks stay at a vertex
   mark_stays : mark ≡ (drive_vertex driver v).state.mark
@@ -247,13 +253,24 @@ module _ (s : Stage) (n : NodeState) (mark : PeerMark) (v : Vertex) (m : NodeSta
       go (Err cause.ParkFull) k = refl
       go (Err cause.OutOfMemory) k = refl
 
-  pub vertex_cut : (sessions : Option (List Session)) → Accepts n v m (Err fault.AppendFault) → (IsTrue tells → WritesAccepted n v m held_old held_new (Err fault.AppendFault))
-      → ReactsAs n (frame.Vertex v) (drive_vertex driver v) m mark tells held_old held_new sessions sessions (Err end.AppendFault)
-  vertex_cut sessions a w = record { node = append_failed n v m tells held_old held_new sessions (node_part (drive_vertex driver v)) drives_taken a w; marks = mark_stays; waits = tt; due = tt }
-
-  pub vertex_wanting : (sessions : Option (List Session)) → Accepts n v m (Err fault.OutOfMemory) → (IsTrue tells → WritesAccepted n v m held_old held_new (Err fault.OutOfMemory))
-      → ReactsAs n (frame.Vertex v) (drive_vertex driver v) m mark tells held_old held_new sessions sessions (Err end.OutOfMemory)
-  vertex_wanting sessions a w = record { node = memory_wanted n v m tells held_old held_new sessions (node_part (drive_vertex driver v)) drives_taken Stage a w; marks = mark_stays; waits = tt; due = tt }
+  pub vertex_ends : (e : SessionEnd) (sessions : Option (List Session)) → Received (Err e) → Reacted sessions (Err e)
+  vertex_ends end.Clash sessions got =
+      subst (λ (x : Reaction Driver). ReactsAs n (frame.Vertex v) x m mark tells held_old held_new sessions sessions (Err end.Clash)) (sym (by_refusal got.0 true got.1 got.2.accepts)) (record {
+        node = (refl, record { state = refl; logs = refused_logs n v m tells held_old held_new got.0 got.2.accepts got.2.writes; told = none_sent sessions });
+        marks = refl;
+        waits = tt;
+        due = tt;
+      })
+  vertex_ends end.AppendFault sessions got =
+      record { node = append_failed n v m tells held_old held_new sessions (node_part (drive_vertex driver v)) drives_taken got.accepts got.writes; marks = mark_stays; waits = tt; due = tt }
+  vertex_ends end.OutOfMemory sessions got =
+      record { node = memory_wanted n v m tells held_old held_new sessions (node_part (drive_vertex driver v)) drives_taken Stage got.accepts got.writes; marks = mark_stays; waits = tt; due = tt }
+  vertex_ends end.Done sessions got = absurd got
+  vertex_ends end.EndOfInput sessions got = absurd got
+  vertex_ends end.WrongInstance sessions got = absurd got
+  vertex_ends (end.BadFrame at) sessions got = absurd got
+  vertex_ends end.LinkFault sessions got = absurd got
+  vertex_ends end.ByteLimit sessions got = absurd got
 
 -- ---- a node that stays as it is
 

@@ -1,6 +1,6 @@
 -- A frame of a session, and what a node does at it.
 use Rattle.std.specs.Prelude.{◌==◌}
-use Rattle.std.proofs.Common.{◌≡◌, ◌≢◌, ℕ, Bool, true, false, cond, List, [], ◌∷◌, take, Option, Some, None, Result, Ok, Err, refl, sym, ap, subst, ◌∙◌, eq-eqb}
+use Rattle.std.proofs.Common.{◌≡◌, ◌≢◌, ℕ, Bool, true, false, cond, List, [], ◌∷◌, Option, Some, None, Result, Ok, Err, refl, sym, ap, subst, ◌∙◌, eq-eqb}
 use Rattle.std.proofs.lemmas.Bool.{ne_eqb}
 use Rattle.hw_types.specs.declared.unit.Digest.{Digest}
 use Rattle.hw_types.specs.declared.unit.Need.{Need}
@@ -20,7 +20,7 @@ use Rattle.hw_link.specs.Heard.{Hears, IsHeard}
 use Rattle.hw_link.specs.Sent.{Sends}
 use Rattle.hw_session.specs.Node.{NodeState}
 use Rattle.hw_session.specs.Serving.{answer_to_have, answer_to_want, serve_first, serve_frame, serve_step}
-use Rattle.hw_session.specs.Handling.{Reacts, Answers, hello_of, Handles}
+use Rattle.hw_session.specs.Handling.{Reacts, Answers, IsOfOther, hello_of, Handles}
 use Rattle.hw_session.proofs.ReactLaws.{one_sent, none_sent, sends_answers, sends_ends, stays_reacts}
 
 -- ---- a frame that was read, and then answered
@@ -111,17 +111,17 @@ hello_answers n instance old new result is s =
     (sends_answers (goes_on n (frame.Hello (instance_of n.core.config) ∷ [])) old new result refl
     (subst (λ (bytes : List ℕ). Sends {T = Unit {0}} bytes old new result) (one_sent (frame.Hello (instance_of n.core.config))) s))
 
-pub other_instance : (n : NodeState) (instance : Digest) (old : Option (List Session)) → digest_eq instance (instance_of n.core.config) ≡ false → Answers {T = Unit {0}} (serve_first n (frame.Hello instance)) old old (Err end.WrongInstance)
-other_instance n instance old is =
-    subst (λ (r : Reaction NodeState). Answers {T = Unit {0}} r old old (Err end.WrongInstance)) (sym (hello_by n instance false is)) (refl, none_sent old)
-
--- there was no memory for an answer
-pub answer_wants : (r : Reaction NodeState) (old : Option (List Session)) → Answers {T = Unit {0}} r old old (Err end.OutOfMemory)
-answer_wants r old = ([], (0, sym (take_none (sent_bytes r.says))), none_sent old)
-  where
-    take_none : (xs : List ℕ) → take 0 xs ≡ []
-    take_none [] = refl
-    take_none (x ∷ xs) = refl
+-- nothing is answered to a peer of another instance, or without memory
+pub other_ends : (n : NodeState) (peers : Digest) (old : Option (List Session)) (e : SessionEnd) → IsOfOther n peers e → Answers {T = Unit {0}} (serve_first n (frame.Hello peers)) old old (Err e)
+other_ends n peers old end.WrongInstance other = subst (λ (r : Reaction NodeState). Answers {T = Unit {0}} r old old (Err end.WrongInstance)) (sym (hello_by n peers false other)) (refl, none_sent old)
+other_ends n peers old end.OutOfMemory other = ([], (0, refl), none_sent old)
+other_ends n peers old end.Done other = absurd other
+other_ends n peers old end.EndOfInput other = absurd other
+other_ends n peers old (end.BadFrame at) other = absurd other
+other_ends n peers old end.LinkFault other = absurd other
+other_ends n peers old end.AppendFault other = absurd other
+other_ends n peers old end.ByteLimit other = absurd other
+other_ends n peers old end.Clash other = absurd other
 
 -- ---- Done
 

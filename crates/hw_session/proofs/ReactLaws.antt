@@ -25,7 +25,7 @@ use Rattle.hw_session.specs.Make.{entry_for, with_entry}
 use Rattle.hw_session.specs.Accept.{given_to, taken_by, refused_by, IsUnlogged, Accepts, WritesAccepted}
 use Rattle.hw_session.specs.Grows.{GrowsBy, Gains, Logs, LogsAllBut}
 use Rattle.hw_session.specs.Serving.{is_clash, wanted_by, answer_to_vertex, serve_vertex}
-use Rattle.hw_session.specs.Handling.{Took, WasCut, Reacts, Answers, StandsLast, IsLogCounted}
+use Rattle.hw_session.specs.Handling.{Took, WasCut, Reacts, Answers, Receives, StandsLast, IsLogCounted}
 use Rattle.hw_session.proofs.GrowsLaws.{grows_whole, grows_cut, gains_nothing, gains_one, logs_nothing, logs_counts}
 
 -- ---- what was sent is the answer
@@ -100,6 +100,22 @@ stays_answered n v (Err c) = go (is_clash c)
 -- a node that serves stands where the vertex leaves it
 pub serves_taken : (n : NodeState) (v : Vertex) → (serve_vertex n v).state ≡ taken_by n v (given_to n v)
 serves_taken n v = stays_answered (taken_by n v (given_to n v)) v (given_to n v)
+
+-- ---- a refusal
+
+refused_by_clash : (n : NodeState) (v : Vertex) (c : Cause) (b : Bool) → is_clash c ≡ b → answer_to_vertex n v (Err c) ≡ cond b (ends n [] end.Clash) (goes_on n (frame.Want [] ∷ []))
+refused_by_clash n v c b is = ap (λ (x : Bool). cond x (ends n [] end.Clash) (goes_on n (frame.Want [] ∷ []))) is
+
+clash_answers : (n : NodeState) (v : Vertex) (c : Cause) (old : Option (List Session)) → is_clash c ≡ true → Answers {T = Unit {0}} (answer_to_vertex n v (Err c)) old old (Err end.Clash)
+clash_answers n v c old is = subst (λ (r : Reaction NodeState). Answers {T = Unit {0}} r old old (Err end.Clash)) (sym (refused_by_clash n v c true is)) (refl, none_sent old)
+
+refusal_answers : (n : NodeState) (v : Vertex) (c : Cause) (old new : Option (List Session)) (result : Result (Unit {0}) SessionEnd) → is_clash c ≡ false → Sends {T = Unit {0}} (framed (frame.Want [])) old new result
+    → Answers {T = Unit {0}} (answer_to_vertex n v (Err c)) old new result
+refusal_answers n v c old new result is s =
+    subst (λ (r : Reaction NodeState). Answers {T = Unit {0}} r old new result) (sym (refused_by_clash n v c false is))
+    (sends_answers (goes_on n (frame.Want [] ∷ [])) old new result refl (subst (λ (bytes : List ℕ). Sends {T = Unit {0}} bytes old new result) (one_sent (frame.Want [])) s))
+
+-- ---- what a vertex leaves
 
 module _ (n : NodeState) (v : Vertex) (m : NodeState) (tells : Bool) (held_old held_new : List ℕ → Option (List ℕ)) where
   abbrev Writes : Result Receipt AcceptFault → Type 0
@@ -195,12 +211,33 @@ module _ (n : NodeState) (v : Vertex) (m : NodeState) (tells : Bool) (held_old h
       (sends_answers reaction old new result refl (subst (λ (bytes : List ℕ). Sends {T = Unit {0}} bytes old new result) (one_sent (frame.Want (wanted_by m.core r v))) s)))
 
   -- a refusal is answered with a Want of nothing, or ends the session
-  pub refusal_reacts : (c : Cause) (old new : Option (List Session)) (result : Result (Unit {0}) SessionEnd) → Accepts n v m (Err (fault.Refused c)) → Writes (Err (fault.Refused c)) → Answers {T = Unit {0}} (answer_to_vertex m v (Err c)) old new result
+  refusal_reacts : (c : Cause) (old new : Option (List Session)) (result : Result (Unit {0}) SessionEnd) → Accepts n v m (Err (fault.Refused c)) → Writes (Err (fault.Refused c)) → Answers {T = Unit {0}} (answer_to_vertex m v (Err c)) old new result
       → Reacted old new result
   refusal_reacts c old new result a w answers =
       let by : serve_vertex n v ≡ answer_to_vertex m v (Err c) = reaction_by (Err c) a.1 ∙ ap (λ (k : NodeState). answer_to_vertex k v (Err c)) (sym a.2) in
       subst (λ (x : Reaction NodeState). Reacts {T = Unit {0}} n (frame.Vertex v) x m tells held_old held_new old new result) (sym by)
       (answers_reacts (Unit {0}) n (frame.Vertex v) (answer_to_vertex m v (Err c)) m tells held_old held_new old new (sym (stays_answered m v (Err c))) (refused_logs c a w) result answers)
+
+  -- ---- its answer, by what was received
+
+  abbrev Received : Result (Option Receipt) SessionEnd → Type 0
+  Received result = Receives n v m tells held_old held_new result
+
+  -- a refused vertex is answered with a Want of nothing
+  pub refused_reacts : (old new : Option (List Session)) (result : Result (Unit {0}) SessionEnd) → Received (Ok None) → Sends {T = Unit {0}} (framed (frame.Want [])) old new result → Reacted old new result
+  refused_reacts old new result got s = refusal_reacts got.0 old new result got.2.accepts got.2.writes (refusal_answers m v got.0 old new result got.1 s)
+
+  -- or the session ends
+  pub ends_reacts : (old : Option (List Session)) (e : SessionEnd) → Received (Err e) → Reacted old old (Err e)
+  ends_reacts old end.Clash got = refusal_reacts got.0 old old (Err end.Clash) got.2.accepts got.2.writes (clash_answers m v got.0 old got.1)
+  ends_reacts old end.AppendFault got = append_failed old (serve_vertex n v) (serves_taken n v) got.accepts got.writes
+  ends_reacts old end.OutOfMemory got = memory_wanted old (serve_vertex n v) (serves_taken n v) (Unit {0}) got.accepts got.writes
+  ends_reacts old end.Done got = absurd got
+  ends_reacts old end.EndOfInput got = absurd got
+  ends_reacts old end.WrongInstance got = absurd got
+  ends_reacts old (end.BadFrame at) got = absurd got
+  ends_reacts old end.LinkFault got = absurd got
+  ends_reacts old end.ByteLimit got = absurd got
 
   -- a vertex whose receipt wants more went last in the journal
   pub stands_last : (r : Receipt) → Accepts n v m (Ok r) → StandsLast r v m.core.journal
@@ -209,33 +246,7 @@ module _ (n : NodeState) (v : Vertex) (m : NodeState) (tells : Bool) (held_old h
   stands_last (receipt.Dropped rule) a = tt
   stands_last (receipt.Parked k) a = (n.core.journal, ap (λ (x : NodeState). x.core.journal) a.1)
 
--- ---- refusals
-
-refused_by_clash : (n : NodeState) (v : Vertex) (c : Cause) (b : Bool) → is_clash c ≡ b → answer_to_vertex n v (Err c) ≡ cond b (ends n [] end.Clash) (goes_on n (frame.Want [] ∷ []))
-refused_by_clash n v c b is = ap (λ (x : Bool). cond x (ends n [] end.Clash) (goes_on n (frame.Want [] ∷ []))) is
-
-pub clash_answers : (n : NodeState) (v : Vertex) (c : Cause) (old : Option (List Session)) → is_clash c ≡ true → Answers {T = Unit {0}} (answer_to_vertex n v (Err c)) old old (Err end.Clash)
-clash_answers n v c old is = subst (λ (r : Reaction NodeState). Answers {T = Unit {0}} r old old (Err end.Clash)) (sym (refused_by_clash n v c true is)) (refl, none_sent old)
-
-pub refusal_answers : (n : NodeState) (v : Vertex) (c : Cause) (old new : Option (List Session)) (result : Result (Unit {0}) SessionEnd) → is_clash c ≡ false → Sends {T = Unit {0}} (framed (frame.Want [])) old new result
-    → Answers {T = Unit {0}} (answer_to_vertex n v (Err c)) old new result
-refusal_answers n v c old new result is s =
-    subst (λ (r : Reaction NodeState). Answers {T = Unit {0}} r old new result) (sym (refused_by_clash n v c false is))
-    (sends_answers (goes_on n (frame.Want [] ∷ [])) old new result refl (subst (λ (bytes : List ℕ). Sends {T = Unit {0}} bytes old new result) (one_sent (frame.Want [])) s))
-
 -- ---- nothing is appended by an answer
-
-pub answers_unlogged : (r : Reaction NodeState) (old new : Option (List Session)) (result : Result (Unit {0}) SessionEnd) (before now : ℕ) → now ≡ before → Answers {T = Unit {0}} r old new result → IsLogCounted {T = Unit {0}} before now result
-answers_unlogged r old new (Ok x) before now same a = same
-answers_unlogged r old new (Err end.AppendFault) before now same a = absurd a
-answers_unlogged r old new (Err end.Done) before now same a = same
-answers_unlogged r old new (Err end.EndOfInput) before now same a = same
-answers_unlogged r old new (Err end.WrongInstance) before now same a = same
-answers_unlogged r old new (Err (end.BadFrame at)) before now same a = same
-answers_unlogged r old new (Err end.LinkFault) before now same a = same
-answers_unlogged r old new (Err end.ByteLimit) before now same a = same
-answers_unlogged r old new (Err end.Clash) before now same a = same
-answers_unlogged r old new (Err end.OutOfMemory) before now same a = same
 
 pub sends_unlogged : (bytes : List ℕ) (old new : Option (List Session)) (result : Result (Unit {0}) SessionEnd) (before now : ℕ) → now ≡ before → Sends {T = Unit {0}} bytes old new result → IsLogCounted {T = Unit {0}} before now result
 sends_unlogged bytes old new (Ok x) before now same s = same

@@ -7,6 +7,9 @@ use Rattle.hw_types.specs.declared.answers.Frame.{Frame}
 use Rattle.hw_types.specs.declared.answers.Frame.TheVariants as frame
 use Rattle.hw_types.specs.declared.answers.Receipt.{Receipt}
 use Rattle.hw_types.specs.declared.answers.Receipt.TheVariants as receipt
+use Rattle.hw_types.specs.declared.answers.Cause.{Cause}
+use Rattle.hw_types.specs.Graph.{digest_eq}
+use Rattle.hw_types.specs.Spelling.{instance_of}
 use Rattle.hw_io.specs.Doors.{Session}
 use Rattle.hw_io.specs.Faults.{Rose}
 use Rattle.hw_io.specs.Files.{SameFiles}
@@ -18,10 +21,13 @@ use Rattle.hw_link.specs.Talk.{Reaction, IsPrefixOf}
 use Rattle.hw_link.specs.Links.{after_part, IsLinkCounted}
 use Rattle.hw_link.specs.UnderWay.{HasFrame}
 use Rattle.hw_link.specs.Heard.{Hears, IsHeard}
+use Rattle.hw_session.specs.declared.fault.AcceptFault.{AcceptFault}
+use Rattle.hw_session.specs.declared.fault.AcceptFault.TheVariants as fault
 use Rattle.hw_session.specs.Node.{NodeState}
 use Rattle.hw_session.specs.Make.{with_entry}
+use Rattle.hw_session.specs.Accept.{Accepts, WritesAccepted}
 use Rattle.hw_session.specs.Grows.{Logs, LogsAllBut}
-use Rattle.hw_session.specs.Serving.{serve_step}
+use Rattle.hw_session.specs.Serving.{is_clash, serve_step}
 
 -- ---- what it did by a reaction
 
@@ -63,6 +69,30 @@ Answers r old new (Err end.LinkFault) = (part : List ℕ) × IsPrefixOf part (se
 Answers r old new (Err end.AppendFault) = ⊥
 Answers r old new (Err end.OutOfMemory) = (part : List ℕ) × IsPrefixOf part (sent_bytes r.says) × (new ≡ after_part [] part false old)
 Answers r old new (Err e) = (r.end ≡ Some e) × (new ≡ after_part [] (sent_bytes r.says) false old)
+
+-- ---- what it did alike, whether it serves or drives
+
+-- the peer is of another instance, or there was no memory to tell
+abbrev pub IsOfOther : NodeState → Digest → SessionEnd → Type 0
+IsOfOther n peers end.WrongInstance = digest_eq peers (instance_of n.core.config) ≡ false
+IsOfOther n peers end.OutOfMemory = Unit {0}
+IsOfOther n peers e = ⊥
+
+-- this was its answer to the vertex, and the log shows it
+pub record Takes (n : NodeState) (v : Vertex) (m : NodeState) (tells : Bool) (held_old held_new : List ℕ → Option (List ℕ)) (answer : Result Receipt AcceptFault) : Type 0 where
+  pub accepts : Accepts n v m answer
+  pub writes : IsTrue tells → WritesAccepted n v m held_old held_new answer
+
+-- A session goes on with the receipt of an accepted vertex, and with none where it was refused. A clash ends it, and so does a fault of the log.
+abbrev pub Receives : NodeState → Vertex → NodeState → Bool → (List ℕ → Option (List ℕ)) → (List ℕ → Option (List ℕ)) → Result (Option Receipt) SessionEnd → Type 0
+Receives n v m tells held_old held_new (Ok (Some r)) = Takes n v m tells held_old held_new (Ok r)
+Receives n v m tells held_old held_new (Ok None) = (c : Cause) × (is_clash c ≡ false) × Takes n v m tells held_old held_new (Err (fault.Refused c))
+Receives n v m tells held_old held_new (Err end.Clash) = (c : Cause) × (is_clash c ≡ true) × Takes n v m tells held_old held_new (Err (fault.Refused c))
+Receives n v m tells held_old held_new (Err end.AppendFault) = Takes n v m tells held_old held_new (Err fault.AppendFault)
+Receives n v m tells held_old held_new (Err end.OutOfMemory) = Takes n v m tells held_old held_new (Err fault.OutOfMemory)
+Receives n v m tells held_old held_new (Err e) = ⊥
+
+-- ---- frames
 
 -- the instance of a Hello
 abbrev pub hello_of : Frame → Option Digest

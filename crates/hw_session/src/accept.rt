@@ -1,14 +1,17 @@
 //! A peer's vertex.
 
-ghost use Rattle.std.specs.Prelude.{◌≡◌, true, IsTrue, IfOk, IfSome};
+ghost use Rattle.std.specs.Prelude.{◌≡◌, Ok, IsTrue, IfOk, IfErr, IfSome, OnOk, OnErr};
 ghost use Rattle.std.specs.Option.{option_copied};
-ghost use Rattle.hw_types.specs.Spelling.{VertexFits, Fits, digest_of};
+ghost use Rattle.hw_types.specs.Real.{answer_in, after_in};
+ghost use Rattle.hw_types.specs.Spelling.{VertexFits, Fits};
+ghost use Rattle.hw_core.specs.Deliver.{IsRefusal};
 ghost use Rattle.hw_types.specs.declared.answers.Cause.TheVariants as cause;
 ghost use Rattle.hw_types.specs.declared.unit.Vertex.TheVariants as Vertices;
 ghost use Rattle.hw_replay.specs.Taken.{spelling_of};
 ghost use Rattle.hw_keys.specs.Signed.{verdict_of};
 ghost use Rattle.hw_log.specs.Named.{IsNameOf};
 ghost use Rattle.hw_session.specs.Entry.{IsEntryOf};
+ghost use Rattle.hw_session.specs.Outside.{reading};
 ghost use Rattle.hw_session.specs.Accept.{clash_units, Accepts, WritesAccepted, Keeps, WritesReceipt, Counts, IsAcceptCounted, accept_fault};
 
 use crate::entry::{NewEntry, named_entry, new_entry, put_entry};
@@ -53,7 +56,10 @@ impl Node {
         ensures reads { F.read_faults files.new ≡ F.read_faults files.old }
     {
         let judged = self.judged(&vertex)?;
-        self.take(files, vertex, judged)
+        match deliver_judged(&mut self.core, vertex, judged.verdict, judged.name) {
+            Ok(receipt) => self.keep(files, receipt, judged.entry),
+            Err(refused) => self.refuse(refused),
+        }
     }
 
     /// The verdict on a vertex, its name where it is a unit, and its entry. A unit is hashed once for all three.
@@ -80,114 +86,6 @@ impl Node {
         }
     }
 
-    /// Delivers a vertex with its verdict, and then appends the entry of an accepted one. A unit whose verdict is right
-    /// goes by its name, and isn't hashed again.
-    fn take<F: Files>(
-        &mut self,
-        files: &mut F,
-        vertex: Vertex,
-        judged: Judged,
-    ) -> Result<Receipt, AcceptFault>
-        requires fits { VertexFits vertex }
-        requires verdict { judged.verdict ≡ verdict_of self.old.keys vertex }
-        requires name { IfSome judged.name (IsNameOf vertex) }
-        requires entry { IsEntryOf self.old.lasts vertex judged.entry }
-        ensures accepted { Accepts self.old vertex self.new result }
-        ensures log { IsTrue F.tells → WritesAccepted self.old vertex self.new (F.held files.old) (F.held files.new) result }
-        ensures cause { IsAcceptCounted (F.append_faults files.old) (F.append_faults files.new) result }
-
-        ensures begun { F.begun files.new ≡ F.begun files.old }
-        ensures allowance { F.allowance files.new ≡ F.allowance files.old }
-        ensures reads { F.read_faults files.new ≡ F.read_faults files.old }
-    {
-        let Judged {
-            verdict,
-            name,
-            entry,
-        } = judged;
-        match name {
-            Some(name) if verdict => self.take_named(files, vertex, name, entry),
-            Some(_) | None => self.take_any(files, vertex, verdict, entry),
-        }
-    }
-
-    /// Takes a vertex whose verdict is right, and which is a unit of this name.
-    fn take_named<F: Files>(
-        &mut self,
-        files: &mut F,
-        vertex: Vertex,
-        name: Digest,
-        entry: NewEntry,
-    ) -> Result<Receipt, AcceptFault>
-        requires fits { VertexFits vertex }
-        requires verdict { true ≡ verdict_of self.old.keys vertex }
-        requires name { IsNameOf vertex name }
-        requires entry { IsEntryOf self.old.lasts vertex entry }
-        ensures accepted { Accepts self.old vertex self.new result }
-        ensures log { IsTrue F.tells → WritesAccepted self.old vertex self.new (F.held files.old) (F.held files.new) result }
-        ensures cause { IsAcceptCounted (F.append_faults files.old) (F.append_faults files.new) result }
-
-        ensures begun { F.begun files.new ≡ F.begun files.old }
-        ensures allowance { F.allowance files.new ≡ F.allowance files.old }
-        ensures reads { F.read_faults files.new ≡ F.read_faults files.old }
-    {
-        match vertex {
-            Vertex::Unit(unit) => self.take_unit(files, unit, name, entry),
-            other => self.take_any(files, other, true, entry),
-        }
-    }
-
-    /// Delivers a unit of this name whose verdict is right, and then appends the entry of an accepted one.
-    fn take_unit<F: Files>(
-        &mut self,
-        files: &mut F,
-        unit: SignedUnit,
-        name: Digest,
-        entry: NewEntry,
-    ) -> Result<Receipt, AcceptFault>
-        requires fits { Fits unit.unit }
-        requires verdict { true ≡ verdict_of self.old.keys (Vertices.Unit unit) }
-        requires name { name ≡ digest_of unit.unit }
-        requires entry { IsEntryOf self.old.lasts (Vertices.Unit unit) entry }
-        ensures accepted { Accepts self.old (Vertices.Unit unit) self.new result }
-        ensures log { IsTrue F.tells → WritesAccepted self.old (Vertices.Unit unit) self.new (F.held files.old) (F.held files.new) result }
-        ensures cause { IsAcceptCounted (F.append_faults files.old) (F.append_faults files.new) result }
-
-        ensures begun { F.begun files.new ≡ F.begun files.old }
-        ensures allowance { F.allowance files.new ≡ F.allowance files.old }
-        ensures reads { F.read_faults files.new ≡ F.read_faults files.old }
-    {
-        match self.core.deliver_named(unit, name) {
-            Ok(receipt) => self.keep(files, receipt, entry),
-            Err(refused) => self.refuse_unit(refused),
-        }
-    }
-
-    /// Delivers a vertex with its verdict, and then appends the entry of an accepted one.
-    fn take_any<F: Files>(
-        &mut self,
-        files: &mut F,
-        vertex: Vertex,
-        verdict: bool,
-        entry: NewEntry,
-    ) -> Result<Receipt, AcceptFault>
-        requires fits { VertexFits vertex }
-        requires verdict { verdict ≡ verdict_of self.old.keys vertex }
-        requires entry { IsEntryOf self.old.lasts vertex entry }
-        ensures accepted { Accepts self.old vertex self.new result }
-        ensures log { IsTrue F.tells → WritesAccepted self.old vertex self.new (F.held files.old) (F.held files.new) result }
-        ensures cause { IsAcceptCounted (F.append_faults files.old) (F.append_faults files.new) result }
-
-        ensures begun { F.begun files.new ≡ F.begun files.old }
-        ensures allowance { F.allowance files.new ≡ F.allowance files.old }
-        ensures reads { F.read_faults files.new ≡ F.read_faults files.old }
-    {
-        match self.core.deliver(vertex, verdict) {
-            Ok(receipt) => self.keep(files, receipt, entry),
-            Err(refused) => self.refuse(refused),
-        }
-    }
-
     /// Appends the entry of a vertex that has this receipt, unless it came again, which is counted.
     fn keep<F: Files>(
         &mut self,
@@ -199,9 +97,7 @@ impl Node {
         ensures log { IsTrue F.tells → WritesReceipt self.old receipt entry (F.held files.old) (F.held files.new) result }
         ensures cause { IsAcceptCounted (F.append_faults files.old) (F.append_faults files.new) result }
 
-        ensures begun { F.begun files.new ≡ F.begun files.old }
-        ensures allowance { F.allowance files.new ≡ F.allowance files.old }
-        ensures reads { F.read_faults files.new ≡ F.read_faults files.old }
+        ensures reading { reading (F.begun files.new) (F.allowance files.new) (F.read_faults files.new) ≡ reading (F.begun files.old) (F.allowance files.old) (F.read_faults files.old) }
     {
         match receipt {
             Receipt::Repeat => {
@@ -213,16 +109,6 @@ impl Node {
                 Ok(receipt)
             }
         }
-    }
-
-    /// Counts a refused unit, and keeps a clash.
-    fn refuse_unit(&mut self, refused: UnitRefused) -> Result<Receipt, AcceptFault>
-        requires { VertexFits (Vertices.Unit refused.unit) }
-        ensures { Counts self.old (Vertices.Unit refused.unit) refused.cause self.new result }
-    {
-        let UnitRefused { cause, unit } = refused;
-        let vertex = Vertex::Unit(unit);
-        self.refuse(Refused { cause, vertex })
     }
 
     /// Counts a refused vertex, and keeps a clash.
@@ -267,6 +153,42 @@ impl Node {
         self.clash = Some(clash);
         Err(AcceptFault::Refused(Cause::Clash { known }))
     }
+}
+
+/// Delivers a vertex with its verdict. A unit whose verdict is right goes by its name, and isn't hashed again.
+fn deliver_judged(
+    core: &mut Core,
+    vertex: Vertex,
+    verdict: bool,
+    name: Option<Digest>,
+) -> Result<Receipt, Refused>
+    requires fits { VertexFits vertex }
+    requires name { IfSome name (IsNameOf vertex) }
+    ensures accepted { IfOk result (λ receipt. answer_in core.old vertex verdict ≡ Ok receipt) }
+    ensures refused { IfErr result (λ r. IsRefusal r.cause (answer_in core.old vertex verdict)) }
+    ensures returned { IfErr result (λ r. r.vertex ≡ vertex) }
+    ensures journal { OnOk result (core.new ≡ after_in core.old vertex verdict) }
+    ensures unchanged { OnErr result (core.new ≡ core.old) }
+{
+    match vertex {
+        Vertex::Unit(unit) => match name {
+            Some(name) if verdict => match core.deliver_named(unit, name) {
+                Ok(receipt) => Ok(receipt),
+                Err(refused) => Err(refused_vertex(refused)),
+            },
+            Some(_) | None => core.deliver(Vertex::Unit(unit), verdict),
+        },
+        other => core.deliver(other, verdict),
+    }
+}
+
+/// A refused unit as a vertex.
+fn refused_vertex(refused: UnitRefused) -> Refused
+    ensures { result ≡ record { cause = refused.cause; vertex = Vertices.Unit refused.unit } }
+{
+    let UnitRefused { cause, unit } = refused;
+    let vertex = Vertex::Unit(unit);
+    Refused { cause, vertex }
 }
 
 /// The two units of one digest, as they are spelled.

@@ -11,6 +11,7 @@ ghost use Rattle.hw_link.specs.Links.{IsLinkCounted};
 ghost use Rattle.hw_link.specs.Sent.{Sends};
 ghost use Rattle.hw_needs.specs.Needs.{vertices_of};
 ghost use Rattle.hw_needs.specs.Pairs.{ArePairs};
+ghost use Rattle.hw_session.specs.Outside.{door_calls};
 ghost use Rattle.hw_session.specs.Serving.{part_from, answer_to_have, answer_to_want, sent_for, first_missing, wanted_by};
 ghost use Rattle.hw_session.specs.Handling.{StandsLast};
 
@@ -41,10 +42,7 @@ pub fn answer_have<D: Door>(
     ensures sent { Sends (sent_bytes (answer_to_have core.now.journal place)) (D.sessions door.old) (D.sessions door.new) result }
     ensures cause { IsLinkCounted (D.faults door.old) (D.faults door.new) result }
 
-    ensures open { D.is_open door.new ≡ true }
-    ensures ends { D.ends door.new ≡ D.ends door.old }
-    ensures accepts { D.accepts door.new ≡ D.accepts door.old }
-    ensures dials { D.dials door.new ≡ D.dials door.old }
+    ensures door { door_calls (D.is_open door.new) (D.ends door.new) (D.accepts door.new) (D.dials door.new) ≡ door_calls (D.is_open door.old) (D.ends door.old) (D.accepts door.old) (D.dials door.old) }
 {
     let next = place + part_length(core.journal_count(), place);
     send_part(alloc, core, door, place, next)?;
@@ -73,10 +71,7 @@ fn send_part<D: Door>(
     ensures sent { Sends (sent_bytes (map frame.Vertex (part_from core.now.journal place))) (D.sessions door.old) (D.sessions door.new) result }
     ensures cause { IsLinkCounted (D.faults door.old) (D.faults door.new) result }
 
-    ensures open { D.is_open door.new ≡ true }
-    ensures ends { D.ends door.new ≡ D.ends door.old }
-    ensures accepts { D.accepts door.new ≡ D.accepts door.old }
-    ensures dials { D.dials door.new ≡ D.dials door.old }
+    ensures door { door_calls (D.is_open door.new) (D.ends door.new) (D.accepts door.new) (D.dials door.new) ≡ door_calls (D.is_open door.old) (D.ends door.old) (D.accepts door.old) (D.dials door.old) }
 {
     for at in place..next {
         send_vertex(alloc, door, core.journal_at(at))?;
@@ -95,10 +90,7 @@ pub fn answer_want<D: Door>(
     ensures sent { Sends (sent_bytes (answer_to_want core.now needs.now)) (D.sessions door.old) (D.sessions door.new) result }
     ensures cause { IsLinkCounted (D.faults door.old) (D.faults door.new) result }
 
-    ensures open { D.is_open door.new ≡ true }
-    ensures ends { D.ends door.new ≡ D.ends door.old }
-    ensures accepts { D.accepts door.new ≡ D.accepts door.old }
-    ensures dials { D.dials door.new ≡ D.dials door.old }
+    ensures door { door_calls (D.is_open door.new) (D.ends door.new) (D.accepts door.new) (D.dials door.new) ≡ door_calls (D.is_open door.old) (D.ends door.old) (D.accepts door.old) (D.dials door.old) }
 {
     send_wanted(alloc, core, door, needs)?;
     say(alloc, door, Frame::Have(core.journal_count()))
@@ -116,10 +108,7 @@ fn send_wanted<D: Door>(
     ensures sent { Sends (sent_bytes (flat_map (λ need. sent_for need (vertices_of core.now need)) needs.now)) (D.sessions door.old) (D.sessions door.new) result }
     ensures cause { IsLinkCounted (D.faults door.old) (D.faults door.new) result }
 
-    ensures open { D.is_open door.new ≡ true }
-    ensures ends { D.ends door.new ≡ D.ends door.old }
-    ensures accepts { D.accepts door.new ≡ D.accepts door.old }
-    ensures dials { D.dials door.new ≡ D.dials door.old }
+    ensures door { door_calls (D.is_open door.new) (D.ends door.new) (D.accepts door.new) (D.dials door.new) ≡ door_calls (D.is_open door.old) (D.ends door.old) (D.accepts door.old) (D.dials door.old) }
 {
     send_each(alloc, core, &mut KnownPairs::new(alloc), door, needs)
 }
@@ -138,10 +127,7 @@ fn send_each<D: Door>(
     ensures sent { Sends (sent_bytes (flat_map (λ need. sent_for need (vertices_of core.now need)) needs.now)) (D.sessions door.old) (D.sessions door.new) result }
     ensures cause { IsLinkCounted (D.faults door.old) (D.faults door.new) result }
 
-    ensures open { D.is_open door.new ≡ true }
-    ensures ends { D.ends door.new ≡ D.ends door.old }
-    ensures accepts { D.accepts door.new ≡ D.accepts door.old }
-    ensures dials { D.dials door.new ≡ D.dials door.old }
+    ensures door { door_calls (D.is_open door.new) (D.ends door.new) (D.accepts door.new) (D.dials door.new) ≡ door_calls (D.is_open door.old) (D.ends door.old) (D.accepts door.old) (D.dials door.old) }
 {
     for need in needs {
         send_for(alloc, core, pairs, door, need)?;
@@ -163,10 +149,7 @@ fn send_for<D: Door>(
     ensures sent { Sends (sent_bytes (sent_for need.now (vertices_of core.now need.now))) (D.sessions door.old) (D.sessions door.new) result }
     ensures cause { IsLinkCounted (D.faults door.old) (D.faults door.new) result }
 
-    ensures open { D.is_open door.new ≡ true }
-    ensures ends { D.ends door.new ≡ D.ends door.old }
-    ensures accepts { D.accepts door.new ≡ D.accepts door.old }
-    ensures dials { D.dials door.new ≡ D.dials door.old }
+    ensures door { door_calls (D.is_open door.new) (D.ends door.new) (D.accepts door.new) (D.dials door.new) ≡ door_calls (D.is_open door.old) (D.ends door.old) (D.accepts door.old) (D.dials door.old) }
 {
     let vertices = vertices_with(alloc, core, pairs, need)?;
     send_found(alloc, door, need, vertices.as_slice())
@@ -184,10 +167,7 @@ fn send_found<D: Door>(
     ensures sent { Sends (sent_bytes (sent_for need.now vertices.now)) (D.sessions door.old) (D.sessions door.new) result }
     ensures cause { IsLinkCounted (D.faults door.old) (D.faults door.new) result }
 
-    ensures open { D.is_open door.new ≡ true }
-    ensures ends { D.ends door.new ≡ D.ends door.old }
-    ensures accepts { D.accepts door.new ≡ D.accepts door.old }
-    ensures dials { D.dials door.new ≡ D.dials door.old }
+    ensures door { door_calls (D.is_open door.new) (D.ends door.new) (D.accepts door.new) (D.dials door.new) ≡ door_calls (D.is_open door.old) (D.ends door.old) (D.accepts door.old) (D.dials door.old) }
 {
     if vertices.is_empty() {
         say(alloc, door, Frame::Missing(*need))
@@ -207,10 +187,7 @@ fn send_vertices<D: Door>(
     ensures sent { Sends (sent_bytes (map frame.Vertex vertices.now)) (D.sessions door.old) (D.sessions door.new) result }
     ensures cause { IsLinkCounted (D.faults door.old) (D.faults door.new) result }
 
-    ensures open { D.is_open door.new ≡ true }
-    ensures ends { D.ends door.new ≡ D.ends door.old }
-    ensures accepts { D.accepts door.new ≡ D.accepts door.old }
-    ensures dials { D.dials door.new ≡ D.dials door.old }
+    ensures door { door_calls (D.is_open door.new) (D.ends door.new) (D.accepts door.new) (D.dials door.new) ≡ door_calls (D.is_open door.old) (D.ends door.old) (D.accepts door.old) (D.dials door.old) }
 {
     for vertex in vertices {
         send_vertex(alloc, door, vertex)?;
@@ -225,10 +202,7 @@ pub fn send_vertex<D: Door>(alloc: Global, door: &mut D, vertex: &Vertex) -> Res
     ensures sent { Sends (framed (frame.Vertex vertex.now)) (D.sessions door.old) (D.sessions door.new) result }
     ensures cause { IsLinkCounted (D.faults door.old) (D.faults door.new) result }
 
-    ensures open { D.is_open door.new ≡ true }
-    ensures ends { D.ends door.new ≡ D.ends door.old }
-    ensures accepts { D.accepts door.new ≡ D.accepts door.old }
-    ensures dials { D.dials door.new ≡ D.dials door.old }
+    ensures door { door_calls (D.is_open door.new) (D.ends door.new) (D.accepts door.new) (D.dials door.new) ≡ door_calls (D.is_open door.old) (D.ends door.old) (D.accepts door.old) (D.dials door.old) }
 {
     say(alloc, door, Frame::Vertex(vertex.copy()?))
 }

@@ -13,18 +13,18 @@ ghost use Rattle.hw_session.specs.Node.{NodeState};
 ghost use Rattle.hw_io.specs.Doors.{Session};
 ghost use Rattle.hw_core.specs.Readers.{unmet_in};
 ghost use Rattle.hw_session.specs.Driving.{Driver, hello, greeting, leave, want, pull, push, to_push, drive_step, drive_at, drive_greeting, drive_pushing, drive_told, drive_pulling, drive_wanting, drive_vertex};
+ghost use Rattle.hw_session.specs.Outside.{door_calls, reading};
 ghost use Rattle.hw_session.specs.Handling.{Quits, IsLogCounted, IsLogEnd, IsLinkEnd};
 ghost use Rattle.hw_session.specs.DriveHandling.{IsDue, ReactsAs, AnswersAs, HandlesAs};
 ghost use Rattle.hw_session.specs.Drives.{DrivesThere, DrivesPeer, DrivesNone};
 
 use crate::answer::send_vertex;
-use crate::fault::AcceptFault;
 use crate::node::Node;
 use crate::say::say;
 use crate::stage::{Onward, PeerMark, Stage};
 use hw_io::{Door, Files};
 use hw_link::{BYTE_LIMIT, SessionEnd, read_frame};
-use hw_types::{Cause, Digest, Frame, Need, NeedList, OutOfMemory, Vertex};
+use hw_types::{Frame, Need, NeedList, OutOfMemory, Vertex};
 
 /// How many vertices are pushed in one session.
 const MOST_PUSHED: u64 = 256;
@@ -91,9 +91,7 @@ impl Node {
 
         ensures accepts { D.accepts door.new ≡ D.accepts door.old }
         ensures dials { D.dials door.new ≡ D.dials door.old }
-        ensures begun { F.begun files.new ≡ F.begun files.old }
-        ensures allowance { F.allowance files.new ≡ F.allowance files.old }
-        ensures reads { F.read_faults files.new ≡ F.read_faults files.old }
+        ensures reading { reading (F.begun files.new) (F.allowance files.new) (F.read_faults files.new) ≡ reading (F.begun files.old) (F.allowance files.old) (F.read_faults files.old) }
     {
         match self.say_hello(door) {
             Ok(()) => self.drive_frames(mark, door, files),
@@ -107,10 +105,7 @@ impl Node {
         ensures sent { Sends (framed (frame.Hello (instance_of self.now.core.config))) (D.sessions door.old) (D.sessions door.new) result }
         ensures link { IsLinkCounted (D.faults door.old) (D.faults door.new) result }
 
-        ensures open { D.is_open door.new ≡ true }
-        ensures ends { D.ends door.new ≡ D.ends door.old }
-        ensures accepts { D.accepts door.new ≡ D.accepts door.old }
-        ensures dials { D.dials door.new ≡ D.dials door.old }
+        ensures door { door_calls (D.is_open door.new) (D.ends door.new) (D.accepts door.new) (D.dials door.new) ≡ door_calls (D.is_open door.old) (D.ends door.old) (D.accepts door.old) (D.dials door.old) }
     {
         let instance = self.instance()?;
         say(self.alloc, door, Frame::Hello(instance))
@@ -130,9 +125,7 @@ impl Node {
 
         ensures accepts { D.accepts door.new ≡ D.accepts door.old }
         ensures dials { D.dials door.new ≡ D.dials door.old }
-        ensures begun { F.begun files.new ≡ F.begun files.old }
-        ensures allowance { F.allowance files.new ≡ F.allowance files.old }
-        ensures reads { F.read_faults files.new ≡ F.read_faults files.old }
+        ensures reading { reading (F.begun files.new) (F.allowance files.new) (F.read_faults files.new) ≡ reading (F.begun files.old) (F.allowance files.old) (F.read_faults files.old) }
     {
         let mut place = 0;
         let mut stage = Stage::Greeting;
@@ -170,9 +163,7 @@ impl Node {
         ensures open { D.is_open door.new ≡ true }
         ensures accepts { D.accepts door.new ≡ D.accepts door.old }
         ensures dials { D.dials door.new ≡ D.dials door.old }
-        ensures begun { F.begun files.new ≡ F.begun files.old }
-        ensures allowance { F.allowance files.new ≡ F.allowance files.old }
-        ensures reads { F.read_faults files.new ≡ F.read_faults files.old }
+        ensures reading { reading (F.begun files.new) (F.allowance files.new) (F.read_faults files.new) ≡ reading (F.begun files.old) (F.allowance files.old) (F.read_faults files.old) }
     {
         let heard = read_frame(self.alloc, door, place)?;
         let stage = self.drive_frame(mark, door, files, place, stage, heard.frame)?;
@@ -199,13 +190,8 @@ impl Node {
         ensures link { IsLinkCounted (D.faults door.old) (D.faults door.new) result }
         ensures appends { IsLogCounted (F.append_faults files.old) (F.append_faults files.new) result }
 
-        ensures open { D.is_open door.new ≡ true }
-        ensures ends { D.ends door.new ≡ D.ends door.old }
-        ensures accepts { D.accepts door.new ≡ D.accepts door.old }
-        ensures dials { D.dials door.new ≡ D.dials door.old }
-        ensures begun { F.begun files.new ≡ F.begun files.old }
-        ensures allowance { F.allowance files.new ≡ F.allowance files.old }
-        ensures reads { F.read_faults files.new ≡ F.read_faults files.old }
+        ensures door { door_calls (D.is_open door.new) (D.ends door.new) (D.accepts door.new) (D.dials door.new) ≡ door_calls (D.is_open door.old) (D.ends door.old) (D.accepts door.old) (D.dials door.old) }
+        ensures reading { reading (F.begun files.new) (F.allowance files.new) (F.read_faults files.new) ≡ reading (F.begun files.old) (F.allowance files.old) (F.read_faults files.old) }
     {
         match stage {
             Stage::Greeting => {
@@ -237,7 +223,7 @@ impl Node {
         }
     }
 
-    /// Handles the first frame, which is a Hello of the own instance.
+    /// Handles the first frame, which is a Hello of the own instance, and begins to push.
     fn drive_greeting<D: Door>(
         &self,
         mark: PeerMark,
@@ -249,38 +235,14 @@ impl Node {
         ensures answers { AnswersAs self.now mark (drive_greeting (greeting self.now mark) place frame.now) (D.sessions door.old) (D.sessions door.new) result }
         ensures link { IsLinkCounted (D.faults door.old) (D.faults door.new) result }
 
-        ensures open { D.is_open door.new ≡ true }
-        ensures ends { D.ends door.new ≡ D.ends door.old }
-        ensures accepts { D.accepts door.new ≡ D.accepts door.old }
-        ensures dials { D.dials door.new ≡ D.dials door.old }
+        ensures door { door_calls (D.is_open door.new) (D.ends door.new) (D.accepts door.new) (D.dials door.new) ≡ door_calls (D.is_open door.old) (D.ends door.old) (D.accepts door.old) (D.dials door.old) }
     {
         match frame {
-            Frame::Hello(instance) => self.drive_hello(mark, door, *instance),
+            Frame::Hello(instance) => {
+                let _own = self.own_instance(*instance)?;
+                self.push(mark, door, self.to_push(mark))
+            }
             _ => Err(SessionEnd::BadFrame(place)),
-        }
-    }
-
-    /// Begins to push where the Hello is of the own instance.
-    fn drive_hello<D: Door>(
-        &self,
-        mark: PeerMark,
-        door: &mut D,
-        instance: Digest,
-    ) -> Result<Stage, SessionEnd>
-        requires open { D.is_open door.old ≡ true }
-        ensures answers { AnswersAs self.now mark (drive_greeting (greeting self.now mark) 0 (frame.Hello instance)) (D.sessions door.old) (D.sessions door.new) result }
-        ensures link { IsLinkCounted (D.faults door.old) (D.faults door.new) result }
-
-        ensures open { D.is_open door.new ≡ true }
-        ensures ends { D.ends door.new ≡ D.ends door.old }
-        ensures accepts { D.accepts door.new ≡ D.accepts door.old }
-        ensures dials { D.dials door.new ≡ D.dials door.old }
-    {
-        let own = self.instance()?;
-        if instance == own {
-            self.push(mark, door, self.to_push(mark))
-        } else {
-            Err(SessionEnd::WrongInstance)
         }
     }
 
@@ -300,10 +262,7 @@ impl Node {
         ensures answers { AnswersAs self.now mark (push (greeting self.now mark) left) (D.sessions door.old) (D.sessions door.new) result }
         ensures link { IsLinkCounted (D.faults door.old) (D.faults door.new) result }
 
-        ensures open { D.is_open door.new ≡ true }
-        ensures ends { D.ends door.new ≡ D.ends door.old }
-        ensures accepts { D.accepts door.new ≡ D.accepts door.old }
-        ensures dials { D.dials door.new ≡ D.dials door.old }
+        ensures door { door_calls (D.is_open door.new) (D.ends door.new) (D.accepts door.new) (D.dials door.new) ≡ door_calls (D.is_open door.old) (D.ends door.old) (D.accepts door.old) (D.dials door.old) }
     {
         if left == 0 || mark.pushed >= self.core.journal_count() {
             return self.pull(mark, door, MOST_AGAIN);
@@ -327,10 +286,7 @@ impl Node {
         ensures marks { mark.new ≡ (drive_pushing (record { stage = stage.Pushing left; node = self.now; mark = mark.old }) left place frame.now).state.mark }
         ensures link { IsLinkCounted (D.faults door.old) (D.faults door.new) result }
 
-        ensures open { D.is_open door.new ≡ true }
-        ensures ends { D.ends door.new ≡ D.ends door.old }
-        ensures accepts { D.accepts door.new ≡ D.accepts door.old }
-        ensures dials { D.dials door.new ≡ D.dials door.old }
+        ensures door { door_calls (D.is_open door.new) (D.ends door.new) (D.accepts door.new) (D.dials door.new) ≡ door_calls (D.is_open door.old) (D.ends door.old) (D.accepts door.old) (D.dials door.old) }
     {
         match frame {
             Frame::Want(_) => {
@@ -349,10 +305,7 @@ impl Node {
         ensures answers { AnswersAs self.now mark (pull (greeting self.now mark) again) (D.sessions door.old) (D.sessions door.new) result }
         ensures link { IsLinkCounted (D.faults door.old) (D.faults door.new) result }
 
-        ensures open { D.is_open door.new ≡ true }
-        ensures ends { D.ends door.new ≡ D.ends door.old }
-        ensures accepts { D.accepts door.new ≡ D.accepts door.old }
-        ensures dials { D.dials door.new ≡ D.dials door.old }
+        ensures door { door_calls (D.is_open door.new) (D.ends door.new) (D.accepts door.new) (D.dials door.new) ≡ door_calls (D.is_open door.old) (D.ends door.old) (D.accepts door.old) (D.dials door.old) }
     {
         say(self.alloc, door, Frame::Have(mark.pulled))?;
         Ok(Stage::Pulling(again))
@@ -374,13 +327,8 @@ impl Node {
         ensures link { IsLinkCounted (D.faults door.old) (D.faults door.new) result }
         ensures appends { IsLogCounted (F.append_faults files.old) (F.append_faults files.new) result }
 
-        ensures open { D.is_open door.new ≡ true }
-        ensures ends { D.ends door.new ≡ D.ends door.old }
-        ensures accepts { D.accepts door.new ≡ D.accepts door.old }
-        ensures dials { D.dials door.new ≡ D.dials door.old }
-        ensures begun { F.begun files.new ≡ F.begun files.old }
-        ensures allowance { F.allowance files.new ≡ F.allowance files.old }
-        ensures reads { F.read_faults files.new ≡ F.read_faults files.old }
+        ensures door { door_calls (D.is_open door.new) (D.ends door.new) (D.accepts door.new) (D.dials door.new) ≡ door_calls (D.is_open door.old) (D.ends door.old) (D.accepts door.old) (D.dials door.old) }
+        ensures reading { reading (F.begun files.new) (F.allowance files.new) (F.read_faults files.new) ≡ reading (F.begun files.old) (F.allowance files.old) (F.read_faults files.old) }
     {
         match frame {
             Frame::Vertex(vertex) => self.take_vertex(*mark, files, vertex, Stage::Pulling(again)),
@@ -402,10 +350,7 @@ impl Node {
         ensures marks { mark.new ≡ (drive_told (greeting self.now mark.old) again told).state.mark }
         ensures link { IsLinkCounted (D.faults door.old) (D.faults door.new) result }
 
-        ensures open { D.is_open door.new ≡ true }
-        ensures ends { D.ends door.new ≡ D.ends door.old }
-        ensures accepts { D.accepts door.new ≡ D.accepts door.old }
-        ensures dials { D.dials door.new ≡ D.dials door.old }
+        ensures door { door_calls (D.is_open door.new) (D.ends door.new) (D.accepts door.new) (D.dials door.new) ≡ door_calls (D.is_open door.old) (D.ends door.old) (D.accepts door.old) (D.dials door.old) }
     {
         let before = mark.pulled;
         mark.pulled = told;
@@ -421,10 +366,7 @@ impl Node {
         ensures answers { AnswersAs self.now mark (want (greeting self.now mark)) (D.sessions door.old) (D.sessions door.new) result }
         ensures link { IsLinkCounted (D.faults door.old) (D.faults door.new) result }
 
-        ensures open { D.is_open door.new ≡ true }
-        ensures ends { D.ends door.new ≡ D.ends door.old }
-        ensures accepts { D.accepts door.new ≡ D.accepts door.old }
-        ensures dials { D.dials door.new ≡ D.dials door.old }
+        ensures door { door_calls (D.is_open door.new) (D.ends door.new) (D.accepts door.new) (D.dials door.new) ≡ door_calls (D.is_open door.old) (D.ends door.old) (D.accepts door.old) (D.dials door.old) }
     {
         let needs = self.unmet()?;
         self.want_these(mark, door, needs)
@@ -443,10 +385,7 @@ impl Node {
         ensures answers { AnswersAs self.now mark (want (greeting self.now mark)) (D.sessions door.old) (D.sessions door.new) result }
         ensures link { IsLinkCounted (D.faults door.old) (D.faults door.new) result }
 
-        ensures open { D.is_open door.new ≡ true }
-        ensures ends { D.ends door.new ≡ D.ends door.old }
-        ensures accepts { D.accepts door.new ≡ D.accepts door.old }
-        ensures dials { D.dials door.new ≡ D.dials door.old }
+        ensures door { door_calls (D.is_open door.new) (D.ends door.new) (D.accepts door.new) (D.dials door.new) ≡ door_calls (D.is_open door.old) (D.ends door.old) (D.accepts door.old) (D.dials door.old) }
     {
         if needs.len() == 0 {
             return self.leave(mark, door);
@@ -482,13 +421,8 @@ impl Node {
         ensures link { IsLinkCounted (D.faults door.old) (D.faults door.new) result }
         ensures appends { IsLogCounted (F.append_faults files.old) (F.append_faults files.new) result }
 
-        ensures open { D.is_open door.new ≡ true }
-        ensures ends { D.ends door.new ≡ D.ends door.old }
-        ensures accepts { D.accepts door.new ≡ D.accepts door.old }
-        ensures dials { D.dials door.new ≡ D.dials door.old }
-        ensures begun { F.begun files.new ≡ F.begun files.old }
-        ensures allowance { F.allowance files.new ≡ F.allowance files.old }
-        ensures reads { F.read_faults files.new ≡ F.read_faults files.old }
+        ensures door { door_calls (D.is_open door.new) (D.ends door.new) (D.accepts door.new) (D.dials door.new) ≡ door_calls (D.is_open door.old) (D.ends door.old) (D.accepts door.old) (D.dials door.old) }
+        ensures reading { reading (F.begun files.new) (F.allowance files.new) (F.read_faults files.new) ≡ reading (F.begun files.old) (F.allowance files.old) (F.read_faults files.old) }
     {
         match frame {
             Frame::Vertex(vertex) => self.take_vertex(mark, files, vertex, Stage::Wanting),
@@ -504,10 +438,7 @@ impl Node {
         ensures answers { AnswersAs self.now mark (leave (greeting self.now mark)) (D.sessions door.old) (D.sessions door.new) result }
         ensures link { IsLinkCounted (D.faults door.old) (D.faults door.new) result }
 
-        ensures open { D.is_open door.new ≡ true }
-        ensures ends { D.ends door.new ≡ D.ends door.old }
-        ensures accepts { D.accepts door.new ≡ D.accepts door.old }
-        ensures dials { D.dials door.new ≡ D.dials door.old }
+        ensures door { door_calls (D.is_open door.new) (D.ends door.new) (D.accepts door.new) (D.dials door.new) ≡ door_calls (D.is_open door.old) (D.ends door.old) (D.accepts door.old) (D.dials door.old) }
     {
         say(self.alloc, door, Frame::Done)?;
         Ok(Stage::Leaving)
@@ -527,18 +458,9 @@ impl Node {
         ensures appends { IsLogCounted (F.append_faults files.old) (F.append_faults files.new) result }
         ensures link { (count : ℕ) → IsLinkCounted count count result }
 
-        ensures begun { F.begun files.new ≡ F.begun files.old }
-        ensures allowance { F.allowance files.new ≡ F.allowance files.old }
-        ensures reads { F.read_faults files.new ≡ F.read_faults files.old }
+        ensures reading { reading (F.begun files.new) (F.allowance files.new) (F.read_faults files.new) ≡ reading (F.begun files.old) (F.allowance files.old) (F.read_faults files.old) }
     {
-        match self.accept(files, vertex) {
-            Ok(_receipt) => Ok(stage),
-            Err(AcceptFault::Refused(cause)) => match cause {
-                Cause::Clash { .. } => Err(SessionEnd::Clash),
-                _ => Ok(stage),
-            },
-            Err(AcceptFault::AppendFault) => Err(SessionEnd::AppendFault),
-            Err(AcceptFault::OutOfMemory) => Err(SessionEnd::OutOfMemory),
-        }
+        let _taken = self.receive(files, vertex)?;
+        Ok(stage)
     }
 }

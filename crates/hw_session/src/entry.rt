@@ -7,6 +7,7 @@ ghost use Rattle.hw_log.specs.Causes.{HasAppendCause};
 ghost use Rattle.hw_log.specs.Lasts.{with_noted};
 ghost use Rattle.hw_log.specs.Named.{IsNameOf};
 ghost use Rattle.hw_session.specs.Entry.{IsEntryOf};
+ghost use Rattle.hw_session.specs.Outside.{reading};
 
 use hw_io::Files;
 use hw_log::{Lasts, LogError, Noted, append_entry, entry_bytes};
@@ -59,10 +60,8 @@ pub fn put_entry<F: Files>(
     ensures bytes { IsTrue F.tells → Appended (F.held files.old) (F.held files.new) log.now entry.bytes result }
     ensures cause { HasAppendCause (F.append_faults files.old) (F.append_faults files.new) result }
 
-    ensures begun { F.begun files.new ≡ F.begun files.old }
+    ensures reading { reading (F.begun files.new) (F.allowance files.new) (F.read_faults files.new) ≡ reading (F.begun files.old) (F.allowance files.old) (F.read_faults files.old) }
     ensures unread { IsTrue F.tells → F.begun files.old ≢ Some log.now → F.unread files.new ≡ F.unread files.old }
-    ensures allowance { F.allowance files.new ≡ F.allowance files.old }
-    ensures reads { F.read_faults files.new ≡ F.read_faults files.old }
 {
     append_entry(files, log, &entry.bytes)?;
     lasts.note(entry.noted);

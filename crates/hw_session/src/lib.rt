@@ -16,6 +16,7 @@ mod fault;
 mod laws;
 mod make;
 mod node;
+mod peer;
 mod say;
 mod serve;
 mod stage;

@@ -4,6 +4,7 @@ ghost use Rattle.std.specs.Prelude.{◌≡◌, ◌≤◌, ◌<◌, ◌^◌, leng
 ghost use Rattle.hw_types.specs.Spelling.{Fits, digest_of};
 ghost use Rattle.hw_io.specs.Files.{Appended};
 ghost use Rattle.hw_session.specs.Entry.{IsEntryOf};
+ghost use Rattle.hw_session.specs.Outside.{reading};
 ghost use Rattle.hw_session.specs.Restart.{KeepsLine};
 ghost use Rattle.hw_session.specs.Make.{planned_by, own_unit, own_vertex, Makes, WritesOwn, IsMakeCounted, IsAStep, IsOfOwn, Refuses, PutsOwn, fault_of_append};
 
@@ -61,7 +62,7 @@ struct OwnUnit {
 }
 
 impl Node {
-    /// Makes the unit of a plan.
+    /// Makes the unit of a plan: delivers it to the own node, and then appends its entry to the log.
     fn make_planned<F: Files>(
         &mut self,
         files: &mut F,
@@ -73,12 +74,13 @@ impl Node {
         ensures log { IsTrue F.tells → WritesOwn self.old (Some plan) self.new (F.held files.old) (F.held files.new) result }
         ensures cause { IsMakeCounted (F.append_faults files.old) (F.append_faults files.new) result }
 
-        ensures begun { F.begun files.new ≡ F.begun files.old }
-        ensures allowance { F.allowance files.new ≡ F.allowance files.old }
-        ensures reads { F.read_faults files.new ≡ F.read_faults files.old }
+        ensures reading { reading (F.begun files.new) (F.allowance files.new) (F.read_faults files.new) ≡ reading (F.begun files.old) (F.allowance files.old) (F.read_faults files.old) }
     {
         let own = self.own_unit(&plan)?;
-        self.take_own(files, plan, own)
+        match self.core.deliver_named(own.unit, own.name) {
+            Ok(_receipt) => put_own(&mut self.lasts, files, self.log.as_str(), plan, own.entry),
+            Err(refused) => self.refuse_own(refused.cause),
+        }
     }
 
     /// The unit of a plan, signed by its creator, its name and its entry.
@@ -101,32 +103,6 @@ impl Node {
             // It was made as a unit.
             Vertex::Evidence(_evidence) => unreachable!(),
             Vertex::Endorsement(_endorsement) => unreachable!(),
-        }
-    }
-
-    /// Delivers the own unit of a plan, and then appends its entry to the log.
-    fn take_own<F: Files>(
-        &mut self,
-        files: &mut F,
-        plan: Plan,
-        own: OwnUnit,
-    ) -> Result<Option<Plan>, MakeFault>
-        requires planned { IsAStep self.old plan }
-        requires fits { Fits plan.unit }
-        requires unit { own.unit ≡ own_unit self.old plan }
-        requires name { own.name ≡ digest_of plan.unit }
-        requires entry { IsEntryOf self.old.lasts (own_vertex self.old plan) own.entry }
-        ensures made { Makes self.old (Some plan) self.new result }
-        ensures log { IsTrue F.tells → WritesOwn self.old (Some plan) self.new (F.held files.old) (F.held files.new) result }
-        ensures cause { IsMakeCounted (F.append_faults files.old) (F.append_faults files.new) result }
-
-        ensures begun { F.begun files.new ≡ F.begun files.old }
-        ensures allowance { F.allowance files.new ≡ F.allowance files.old }
-        ensures reads { F.read_faults files.new ≡ F.read_faults files.old }
-    {
-        match self.core.deliver_named(own.unit, own.name) {
-            Ok(_receipt) => put_own(&mut self.lasts, files, self.log.as_str(), plan, own.entry),
-            Err(refused) => self.refuse_own(refused.cause),
         }
     }
 
@@ -161,9 +137,7 @@ fn put_own<F: Files>(
     ensures log { IsTrue F.tells → Appended (F.held files.old) (F.held files.new) log.now entry.bytes result }
     ensures cause { IsMakeCounted (F.append_faults files.old) (F.append_faults files.new) result }
 
-    ensures begun { F.begun files.new ≡ F.begun files.old }
-    ensures allowance { F.allowance files.new ≡ F.allowance files.old }
-    ensures reads { F.read_faults files.new ≡ F.read_faults files.old }
+    ensures reading { reading (F.begun files.new) (F.allowance files.new) (F.read_faults files.new) ≡ reading (F.begun files.old) (F.allowance files.old) (F.read_faults files.old) }
 {
     put_entry(lasts, files, log, entry)?;
     Ok(Some(plan))

@@ -5,6 +5,7 @@ ghost use Rattle.hw_types.specs.Spelling.{FrameFits};
 ghost use Rattle.hw_link.specs.Frames.{framed};
 ghost use Rattle.hw_link.specs.Links.{IsLinkCounted};
 ghost use Rattle.hw_link.specs.Sent.{Sends};
+ghost use Rattle.hw_session.specs.Outside.{door_calls};
 
 use hw_io::Door;
 use hw_link::{SessionEnd, send_frame};
@@ -18,10 +19,7 @@ pub fn say<D: Door>(alloc: Global, door: &mut D, frame: Frame) -> Result<(), Ses
     ensures sent { Sends (framed frame) (D.sessions door.old) (D.sessions door.new) result }
     ensures cause { IsLinkCounted (D.faults door.old) (D.faults door.new) result }
 
-    ensures open { D.is_open door.new ≡ true }
-    ensures ends { D.ends door.new ≡ D.ends door.old }
-    ensures accepts { D.accepts door.new ≡ D.accepts door.old }
-    ensures dials { D.dials door.new ≡ D.dials door.old }
+    ensures door { door_calls (D.is_open door.new) (D.ends door.new) (D.accepts door.new) (D.dials door.new) ≡ door_calls (D.is_open door.old) (D.ends door.old) (D.accepts door.old) (D.dials door.old) }
 {
     let sent = send_frame(alloc, door, &frame);
     // For the prover: it is dropped by one call.

@@ -1,25 +1,24 @@
 //! Serving a peer.
 
-ghost use Rattle.std.specs.Prelude.{◌≡◌, ◌⊎◌, ◌<◌, ◌≤◌, true, false, Err, IfOk};
-ghost use Rattle.hw_types.specs.Spelling.{FrameFits, VertexFits, instance_of};
+ghost use Rattle.std.specs.Prelude.{◌≡◌, ◌⊎◌, ◌<◌, ◌≤◌, true, false, IfOk};
+ghost use Rattle.hw_types.specs.Spelling.{FrameFits, VertexFits};
 ghost use Rattle.hw_types.specs.declared.unit.Vertex.{Vertex};
 ghost use Rattle.hw_types.specs.declared.answers.Frame.TheVariants as frame;
 ghost use Rattle.hw_io.specs.Faults.{raised};
 ghost use Rattle.hw_link.specs.Frames.{framed};
 ghost use Rattle.hw_link.specs.Links.{IsLinkCounted};
 ghost use Rattle.hw_link.specs.Sent.{Sends};
-ghost use Rattle.hw_session.specs.Serving.{answer_to_vertex, is_clash, serve_first, serve_frame, serve_vertex, serve_step, wanted_by};
+ghost use Rattle.hw_session.specs.Outside.{door_calls, reading};
+ghost use Rattle.hw_session.specs.Serving.{serve_first, serve_frame, serve_vertex, serve_step, wanted_by};
 ghost use Rattle.hw_session.specs.Handling.{Reacts, Answers, hello_of, StandsLast, Quits, Handles, IsLogCounted, IsLogEnd, IsLinkEnd};
 ghost use Rattle.hw_session.specs.Sessions.{ServesThere, ServesPeer, ServesNone};
 
 use crate::answer::{answer_have, answer_want, wanted};
-use crate::fault::AcceptFault;
 use crate::node::Node;
 use crate::say::say;
-use hw_codec::instance_of;
 use hw_io::{Door, Files};
 use hw_link::{BYTE_LIMIT, SessionEnd, read_frame};
-use hw_types::{Cause, Digest, Frame, NeedList, OutOfMemory, Receipt, Vertex};
+use hw_types::{Digest, Frame, NeedList, Receipt, Vertex};
 
 impl Node {
     /// Takes a peer and answers its frames, each before the next is read, up to the end of the session. Then
@@ -67,9 +66,7 @@ impl Node {
 
         ensures accepts { D.accepts door.new ≡ D.accepts door.old }
         ensures dials { D.dials door.new ≡ D.dials door.old }
-        ensures begun { F.begun files.new ≡ F.begun files.old }
-        ensures allowance { F.allowance files.new ≡ F.allowance files.old }
-        ensures reads { F.read_faults files.new ≡ F.read_faults files.old }
+        ensures reading { reading (F.begun files.new) (F.allowance files.new) (F.read_faults files.new) ≡ reading (F.begun files.old) (F.allowance files.old) (F.read_faults files.old) }
     {
         let mut place = 0;
         while place < BYTE_LIMIT {
@@ -100,9 +97,7 @@ impl Node {
         ensures open { D.is_open door.new ≡ true }
         ensures accepts { D.accepts door.new ≡ D.accepts door.old }
         ensures dials { D.dials door.new ≡ D.dials door.old }
-        ensures begun { F.begun files.new ≡ F.begun files.old }
-        ensures allowance { F.allowance files.new ≡ F.allowance files.old }
-        ensures reads { F.read_faults files.new ≡ F.read_faults files.old }
+        ensures reading { reading (F.begun files.new) (F.allowance files.new) (F.read_faults files.new) ≡ reading (F.begun files.old) (F.allowance files.old) (F.read_faults files.old) }
     {
         let heard = read_frame(self.alloc, door, place)?;
         self.answer(door, files, place, heard.frame)?;
@@ -123,13 +118,8 @@ impl Node {
         ensures link { IsLinkCounted (D.faults door.old) (D.faults door.new) result }
         ensures appends { IsLogCounted (F.append_faults files.old) (F.append_faults files.new) result }
 
-        ensures open { D.is_open door.new ≡ true }
-        ensures ends { D.ends door.new ≡ D.ends door.old }
-        ensures accepts { D.accepts door.new ≡ D.accepts door.old }
-        ensures dials { D.dials door.new ≡ D.dials door.old }
-        ensures begun { F.begun files.new ≡ F.begun files.old }
-        ensures allowance { F.allowance files.new ≡ F.allowance files.old }
-        ensures reads { F.read_faults files.new ≡ F.read_faults files.old }
+        ensures door { door_calls (D.is_open door.new) (D.ends door.new) (D.accepts door.new) (D.dials door.new) ≡ door_calls (D.is_open door.old) (D.ends door.old) (D.accepts door.old) (D.dials door.old) }
+        ensures reading { reading (F.begun files.new) (F.allowance files.new) (F.read_faults files.new) ≡ reading (F.begun files.old) (F.allowance files.old) (F.read_faults files.old) }
     {
         if place == 0 {
             self.answer_first(door, &frame)
@@ -144,10 +134,7 @@ impl Node {
         ensures answers { Answers (serve_first self.now frame.now) (D.sessions door.old) (D.sessions door.new) result }
         ensures link { IsLinkCounted (D.faults door.old) (D.faults door.new) result }
 
-        ensures open { D.is_open door.new ≡ true }
-        ensures ends { D.ends door.new ≡ D.ends door.old }
-        ensures accepts { D.accepts door.new ≡ D.accepts door.old }
-        ensures dials { D.dials door.new ≡ D.dials door.old }
+        ensures door { door_calls (D.is_open door.new) (D.ends door.new) (D.accepts door.new) (D.dials door.new) ≡ door_calls (D.is_open door.old) (D.ends door.old) (D.accepts door.old) (D.dials door.old) }
     {
         match hello_of(frame) {
             Some(instance) => self.answer_hello(door, instance),
@@ -161,24 +148,10 @@ impl Node {
         ensures answers { Answers (serve_first self.now (frame.Hello instance)) (D.sessions door.old) (D.sessions door.new) result }
         ensures link { IsLinkCounted (D.faults door.old) (D.faults door.new) result }
 
-        ensures open { D.is_open door.new ≡ true }
-        ensures ends { D.ends door.new ≡ D.ends door.old }
-        ensures accepts { D.accepts door.new ≡ D.accepts door.old }
-        ensures dials { D.dials door.new ≡ D.dials door.old }
+        ensures door { door_calls (D.is_open door.new) (D.ends door.new) (D.accepts door.new) (D.dials door.new) ≡ door_calls (D.is_open door.old) (D.ends door.old) (D.accepts door.old) (D.dials door.old) }
     {
-        let own = self.instance()?;
-        if instance == own {
-            say(self.alloc, door, Frame::Hello(own))
-        } else {
-            Err(SessionEnd::WrongInstance)
-        }
-    }
-
-    /// The digest of its configuration.
-    pub(crate) fn instance(&self) -> Result<Digest, OutOfMemory>
-        ensures { IfOk result (λ instance. instance ≡ instance_of self.now.core.config) }
-    {
-        instance_of(self.alloc, self.core.state().config())
+        let own = self.own_instance(instance)?;
+        say(self.alloc, door, Frame::Hello(own))
     }
 
     /// Answers a frame behind the first one.
@@ -195,13 +168,8 @@ impl Node {
         ensures link { IsLinkCounted (D.faults door.old) (D.faults door.new) result }
         ensures appends { IsLogCounted (F.append_faults files.old) (F.append_faults files.new) result }
 
-        ensures open { D.is_open door.new ≡ true }
-        ensures ends { D.ends door.new ≡ D.ends door.old }
-        ensures accepts { D.accepts door.new ≡ D.accepts door.old }
-        ensures dials { D.dials door.new ≡ D.dials door.old }
-        ensures begun { F.begun files.new ≡ F.begun files.old }
-        ensures allowance { F.allowance files.new ≡ F.allowance files.old }
-        ensures reads { F.read_faults files.new ≡ F.read_faults files.old }
+        ensures door { door_calls (D.is_open door.new) (D.ends door.new) (D.accepts door.new) (D.dials door.new) ≡ door_calls (D.is_open door.old) (D.ends door.old) (D.accepts door.old) (D.dials door.old) }
+        ensures reading { reading (F.begun files.new) (F.allowance files.new) (F.read_faults files.new) ≡ reading (F.begun files.old) (F.allowance files.old) (F.read_faults files.old) }
     {
         match frame {
             Frame::Vertex(vertex) => self.answer_vertex(door, files, vertex),
@@ -219,16 +187,14 @@ impl Node {
         ensures answers { Answers (serve_frame self.now 1 frame.Done) (D.sessions door.old) (D.sessions door.new) result }
         ensures link { IsLinkCounted (D.faults door.old) (D.faults door.new) result }
 
-        ensures open { D.is_open door.new ≡ true }
-        ensures ends { D.ends door.new ≡ D.ends door.old }
-        ensures accepts { D.accepts door.new ≡ D.accepts door.old }
-        ensures dials { D.dials door.new ≡ D.dials door.old }
+        ensures door { door_calls (D.is_open door.new) (D.ends door.new) (D.accepts door.new) (D.dials door.new) ≡ door_calls (D.is_open door.old) (D.ends door.old) (D.accepts door.old) (D.dials door.old) }
     {
         say(self.alloc, door, Frame::Done)?;
         Err(SessionEnd::Done)
     }
 
-    /// Takes a vertex, and answers it with a Want. A clash ends the session without an answer.
+    /// Takes a vertex, and answers it with a Want, of nothing where it was refused. A clash ends the session without
+    /// an answer.
     fn answer_vertex<D: Door, F: Files>(
         &mut self,
         door: &mut D,
@@ -241,38 +207,13 @@ impl Node {
         ensures link { IsLinkCounted (D.faults door.old) (D.faults door.new) result }
         ensures appends { IsLogCounted (F.append_faults files.old) (F.append_faults files.new) result }
 
-        ensures open { D.is_open door.new ≡ true }
-        ensures ends { D.ends door.new ≡ D.ends door.old }
-        ensures accepts { D.accepts door.new ≡ D.accepts door.old }
-        ensures dials { D.dials door.new ≡ D.dials door.old }
-        ensures begun { F.begun files.new ≡ F.begun files.old }
-        ensures allowance { F.allowance files.new ≡ F.allowance files.old }
-        ensures reads { F.read_faults files.new ≡ F.read_faults files.old }
+        ensures door { door_calls (D.is_open door.new) (D.ends door.new) (D.accepts door.new) (D.dials door.new) ≡ door_calls (D.is_open door.old) (D.ends door.old) (D.accepts door.old) (D.dials door.old) }
+        ensures reading { reading (F.begun files.new) (F.allowance files.new) (F.read_faults files.new) ≡ reading (F.begun files.old) (F.allowance files.old) (F.read_faults files.old) }
     {
-        match self.accept(files, vertex) {
-            Ok(receipt) => self.answer_receipt(door, receipt),
-            Err(AcceptFault::Refused(cause)) => self.answer_refusal(door, &cause),
-            Err(AcceptFault::AppendFault) => Err(SessionEnd::AppendFault),
-            Err(AcceptFault::OutOfMemory) => Err(SessionEnd::OutOfMemory),
-        }
-    }
-
-    /// Answers a vertex that was refused by this cause with a Want of nothing, unless it clashed.
-    fn answer_refusal<D: Door>(&self, door: &mut D, cause: &Cause) -> Result<(), SessionEnd>
-        requires open { D.is_open door.old ≡ true }
-        ensures answers { (v : Vertex) → Answers (answer_to_vertex self.now v (Err cause.now)) (D.sessions door.old) (D.sessions door.new) result }
-        ensures link { IsLinkCounted (D.faults door.old) (D.faults door.new) result }
-
-        ensures open { D.is_open door.new ≡ true }
-        ensures ends { D.ends door.new ≡ D.ends door.old }
-        ensures accepts { D.accepts door.new ≡ D.accepts door.old }
-        ensures dials { D.dials door.new ≡ D.dials door.old }
-    {
-        if is_clash(cause) {
-            Err(SessionEnd::Clash)
-        } else {
-            let none = NeedList::new(self.alloc);
-            say(self.alloc, door, Frame::Want(none))
+        let taken = self.receive(files, vertex)?;
+        match taken {
+            Some(receipt) => self.answer_receipt(door, receipt),
+            None => say(self.alloc, door, Frame::Want(NeedList::new(self.alloc))),
         }
     }
 
@@ -282,10 +223,7 @@ impl Node {
         ensures sent { (v : Vertex) → StandsLast receipt v self.now.core.journal → Sends (framed (frame.Want (wanted_by self.now.core receipt v))) (D.sessions door.old) (D.sessions door.new) result }
         ensures link { IsLinkCounted (D.faults door.old) (D.faults door.new) result }
 
-        ensures open { D.is_open door.new ≡ true }
-        ensures ends { D.ends door.new ≡ D.ends door.old }
-        ensures accepts { D.accepts door.new ≡ D.accepts door.old }
-        ensures dials { D.dials door.new ≡ D.dials door.old }
+        ensures door { door_calls (D.is_open door.new) (D.ends door.new) (D.accepts door.new) (D.dials door.new) ≡ door_calls (D.is_open door.old) (D.ends door.old) (D.accepts door.old) (D.dials door.old) }
     {
         let needs = wanted(self.alloc, &self.core, receipt)?;
         say(self.alloc, door, Frame::Want(needs))
@@ -293,7 +231,7 @@ impl Node {
 }
 
 /// The instance of a Hello, None of another frame.
-pub(crate) fn hello_of(frame: &Frame) -> Option<Digest>
+fn hello_of(frame: &Frame) -> Option<Digest>
     ensures { result ≡ hello_of frame.now }
 {
     match frame {
@@ -301,11 +239,4 @@ pub(crate) fn hello_of(frame: &Frame) -> Option<Digest>
         Frame::Vertex(_) | Frame::Have(_) | Frame::Want(_) | Frame::Done | Frame::Missing(_) =>
             None,
     }
-}
-
-/// Whether two different units have one digest.
-pub(crate) fn is_clash(cause: &Cause) -> bool
-    ensures { result ≡ is_clash cause.now }
-{
-    matches!(cause, Cause::Clash { .. })
 }

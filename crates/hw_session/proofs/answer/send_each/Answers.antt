@@ -1,9 +1,10 @@
-use Rattle.std.proofs.Common.{[], get_or, Ok, Err, refl, ◌∙◌}
+use Rattle.std.proofs.Common.{[], get_or, Ok, Err, refl, ap, ◌∙◌}
 use Rattle.std.proofs.lemmas.Option.{slice_get-get_or}
 use Rattle.std.proofs.lemmas.Result.{err_from_is_err_and}
 use Rattle.hw_types.specs.declared.unit.Digest.{Digest}
 use Rattle.hw_types.specs.declared.unit.Need.{Need}
 use Rattle.hw_types.specs.declared.unit.Need.TheVariants as need
+use Rattle.hw_session.specs.Outside.{DoorCalls}
 use Rattle.hw_session.proofs.SendLaws.{sends_nothing, sends_next, sends_broken, sent_for_all, needs_join, sends_need}
 use Rattle.hw_session.proofs.answer.send_each.Goals as goal
 
@@ -11,11 +12,9 @@ pub loop-need-init : goal.loop-need-init
 loop-need-init g c = record {
   sent = sends_nothing (g.D.Door.sessions c.args.door.now);
   pairs = c.requires.pairs;
-  session = c.requires.open;
-  ends = refl;
   faults = refl;
-  accepts = refl;
-  dials = refl;
+  door = refl;
+  session = c.requires.open;
 }
 
 -- what is read past the end
@@ -45,9 +44,7 @@ loop-need-preserved g c =
           (slice_get-get_or c.args.needs.now l.need-index no_need c.loop-need-test.true)
           (sends_need core x (g.D.Door.sessions l.door) (g.D.Door.sessions c.send_for.new.door) (Ok tt) e.sent);
       pairs = e.pairs;
-      session = e.open;
-      ends = e.ends ∙ l.invariant.ends;
       faults = e.cause ∙ l.invariant.faults;
-      accepts = e.accepts ∙ l.invariant.accepts;
-      dials = e.dials ∙ l.invariant.dials;
+      door = e.door ∙ l.invariant.door;
+      session = ap (λ (d : DoorCalls). d.is_open) e.door ∙ l.invariant.session;
     }

@@ -1,6 +1,7 @@
-use Rattle.std.proofs.Common.{◌<◌, ◌-◌, length, map, refl, sym, arith, ◌∙◌}
+use Rattle.std.proofs.Common.{◌<◌, ◌-◌, length, map, refl, ap, sym, arith, ◌∙◌}
 use Rattle.std.proofs.lemmas.Result.{err_from_is_err_and}
 use Rattle.hw_types.specs.declared.answers.Frame.TheVariants as frame
+use Rattle.hw_session.specs.Outside.{DoorCalls}
 use Rattle.hw_session.specs.Serving.{part_from}
 use Rattle.hw_session.proofs.SendLaws.{sends_start, part_next, part_broken, part_within}
 use Rattle.hw_session.proofs.answer.send_part.Goals as goal
@@ -9,11 +10,9 @@ pub loop-at-init : goal.loop-at-init
 loop-at-init g c = record {
   start = omega arith;
   sent = sends_start (map frame.Vertex) refl (part_from c.args.core.now.journal c.args.place) (c.args.place - c.args.place) (omega arith) (g.D.Door.sessions c.args.door.now);
-  session = c.requires.open;
-  ends = refl;
   faults = refl;
-  accepts = refl;
-  dials = refl;
+  door = refl;
+  session = c.requires.open;
 }
 
 pub journal_at-requires : goal.journal_at-requires
@@ -46,9 +45,7 @@ loop-at-preserved g c =
       sent =
           part_next c.args.core.now.journal c.args.place l.at (g.D.Door.sessions c.args.door.now) (g.D.Door.sessions l.door) l.invariant.sent c.journal_at.result.now (g.D.Door.sessions c.send_vertex.new.door)
           start (omega (arith, below, part)) (sym c.journal_at.ensures.vertex) e.sent;
-      session = e.open;
-      ends = e.ends ∙ l.invariant.ends;
       faults = e.cause ∙ l.invariant.faults;
-      accepts = e.accepts ∙ l.invariant.accepts;
-      dials = e.dials ∙ l.invariant.dials;
+      door = e.door ∙ l.invariant.door;
+      session = ap (λ (d : DoorCalls). d.is_open) e.door ∙ l.invariant.session;
     }

@@ -2,6 +2,7 @@ use Rattle.std.proofs.Common.{◌≡◌, ◌≤◌, ◌-◌, true, take, map, Ok
 use Rattle.hw_types.specs.declared.answers.Frame.TheVariants as frame
 use Rattle.hw_link.specs.Frames.{sent_bytes}
 use Rattle.hw_link.specs.Sent.{Sends}
+use Rattle.hw_session.specs.Outside.{door_calls}
 use Rattle.hw_session.specs.Serving.{part_from}
 use Rattle.hw_session.proofs.answer.send_part.Given as goal
 
@@ -11,9 +12,7 @@ invariant-loop-at g l =
     record {
       start : l.place ≤ l.at;
       sent : Sends {T = Unit {0}} (sent_bytes (map frame.Vertex (take (l.at - l.place) (part_from l.core.journal l.place)))) (d.sessions l.initial.door) (d.sessions l.door) (Ok tt);
-      session : d.is_open l.door ≡ true;
-      ends : d.ends l.door ≡ d.ends l.initial.door;
       faults : d.faults l.door ≡ d.faults l.initial.door;
-      accepts : d.accepts l.door ≡ d.accepts l.initial.door;
-      dials : d.dials l.door ≡ d.dials l.initial.door;
+      door : door_calls (d.is_open l.door) (d.ends l.door) (d.accepts l.door) (d.dials l.door) ≡ door_calls (d.is_open l.initial.door) (d.ends l.initial.door) (d.accepts l.initial.door) (d.dials l.initial.door);
+      session : d.is_open l.door ≡ true;
     }

@@ -1,19 +1,18 @@
-use Rattle.std.proofs.Common.{length, map, Ok, Err, refl, ◌∙◌}
+use Rattle.std.proofs.Common.{length, map, Ok, Err, refl, ap, ◌∙◌}
 use Rattle.std.proofs.lemmas.List.{map-append}
 use Rattle.std.proofs.lemmas.Option.{slice_get_read}
 use Rattle.std.proofs.lemmas.Result.{err_from_is_err_and}
 use Rattle.hw_types.specs.declared.answers.Frame.TheVariants as frame
+use Rattle.hw_session.specs.Outside.{DoorCalls}
 use Rattle.hw_session.proofs.SendLaws.{sends_nothing, sends_one, sends_next, sends_broken}
 use Rattle.hw_session.proofs.answer.send_vertices.Goals as goal
 
 pub loop-vertex-init : goal.loop-vertex-init
 loop-vertex-init g c = record {
   sent = sends_nothing (g.D.Door.sessions c.args.door.now);
-  session = c.requires.open;
-  ends = refl;
   faults = refl;
-  accepts = refl;
-  dials = refl;
+  door = refl;
+  session = c.requires.open;
 }
 
 pub returns-in_err-send_vertex-clause-sent : goal.returns-in_err-send_vertex-clause-sent
@@ -36,9 +35,7 @@ loop-vertex-preserved g c =
           sends_next (map frame.Vertex) (map-append frame.Vertex) c.args.vertices.now (g.D.Door.sessions c.args.door.now) (g.D.Door.sessions l.door) (g.D.Door.sessions c.send_vertex.new.door) l.vertex-index l.invariant.sent v
           (slice_get_read c.args.vertices.now (length c.args.vertices.now) l.vertex-index v refl c.loop-vertex-test.true c.vertex-item.is)
           (sends_one (Unit {0}) (frame.Vertex v) (g.D.Door.sessions l.door) (g.D.Door.sessions c.send_vertex.new.door) (Ok tt) e.sent);
-      session = e.open;
-      ends = e.ends ∙ l.invariant.ends;
       faults = e.cause ∙ l.invariant.faults;
-      accepts = e.accepts ∙ l.invariant.accepts;
-      dials = e.dials ∙ l.invariant.dials;
+      door = e.door ∙ l.invariant.door;
+      session = ap (λ (d : DoorCalls). d.is_open) e.door ∙ l.invariant.session;
     }

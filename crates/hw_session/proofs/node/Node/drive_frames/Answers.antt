@@ -12,9 +12,7 @@ loop-place-init g c = record {
   accepts = refl;
   dials = refl;
   appends = refl;
-  begun = refl;
-  allowance = refl;
-  reads = refl;
+  reading = refl;
   due = tt;
 }
 
@@ -34,9 +32,7 @@ loop-place-preserved g c =
       accepts = e.accepts ∙ l.invariant.accepts;
       dials = e.dials ∙ l.invariant.dials;
       appends = e.appends ∙ l.invariant.appends;
-      begun = e.begun ∙ l.invariant.begun;
-      allowance = e.allowance ∙ l.invariant.allowance;
-      reads = e.reads ∙ l.invariant.reads;
+      reading = e.reading ∙ l.invariant.reading;
       due = next_due _ l.place _ _ _ _ _ _ _ _ _ c.in-Ok.onward e.driven;
     }
 

@@ -2,6 +2,7 @@ use Rattle.std.proofs.Common.{◌≡◌, ◌≤◌, ◌-◌, true, false, List, 
 use Rattle.hw_io.specs.Doors.{Session}
 use Rattle.hw_link.specs.Frames.{sent_bytes}
 use Rattle.hw_link.specs.Links.{after_part}
+use Rattle.hw_session.specs.Outside.{reading}
 use Rattle.hw_session.specs.Driving.{hello}
 use Rattle.hw_session.specs.DriveHandling.{IsDue}
 use Rattle.hw_session.proofs.DrivingLaws.{IsDriving}
@@ -21,10 +22,8 @@ invariant-loop-place g l =
       accepts : d.accepts l.door ≡ d.accepts l.initial.door;
       dials : d.dials l.door ≡ d.dials l.initial.door;
       appends : f.append_faults l.files ≡ f.append_faults l.initial.files;
-      begun : f.begun l.files ≡ f.begun l.initial.files;
-      allowance : f.allowance l.files ≡ f.allowance l.initial.files;
+      reading : reading (f.begun l.files) (f.allowance l.files) (f.read_faults l.files) ≡ reading (f.begun l.initial.files) (f.allowance l.initial.files) (f.read_faults l.initial.files);
       due : IsDue l.stage l.self l.mark;
-      reads : f.read_faults l.files ≡ f.read_faults l.initial.files;
     }
 
 abbrev pub decreases-loop-place : goal.decreases-loop-place

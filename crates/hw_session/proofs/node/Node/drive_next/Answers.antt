@@ -1,5 +1,6 @@
-use Rattle.std.proofs.Common.{inr}
+use Rattle.std.proofs.Common.{inr, ap}
 use Rattle.std.proofs.lemmas.Result.{err_from_is_err_and}
+use Rattle.hw_session.specs.Outside.{DoorCalls}
 use Rattle.hw_session.specs.declared.stage.Onward.{Onward}
 use Rattle.hw_session.proofs.DriveLaws.{handles_whole, handles_end}
 use Rattle.hw_session.proofs.ServingLaws.{heard_unlogged}
@@ -13,7 +14,7 @@ returns-in_err-heard-clause-appends g c =
 pub returns-in_err-stage-clause-driven : goal.returns-in_err-stage-clause-driven
 returns-in_err-stage-clause-driven g c =
     let p = err_from_is_err_and c.from_residual-in_err-stage.result c.from_residual-in_err-stage.ensures.1 in
-    rw (p.1, p.2) (inr (handles_end _ c.args.place _ _ _ _ _ _ _ _ _ _ _ c.in_ok-heard.heard c.in_ok-heard.ensures.heard c.in_err-stage.ensures.ends c.in_err-stage.field-0.0 c.in_err-stage.ensures.reacts))
+    rw (p.1, p.2) (inr (handles_end _ c.args.place _ _ _ _ _ _ _ _ _ _ _ c.in_ok-heard.heard c.in_ok-heard.ensures.heard (ap (λ (d : DoorCalls). d.ends) c.in_err-stage.ensures.door) c.in_err-stage.field-0.0 c.in_err-stage.ensures.reacts))
 
 pub returns-clause-driven : goal.returns-clause-driven
-returns-clause-driven g c = inr (handles_whole _ c.args.place _ _ _ _ _ _ _ _ _ _ _ c.in_ok-heard.heard c.in_ok-heard.ensures.heard c.in_ok-stage.ensures.ends c.in_ok-stage.stage c.in_ok-stage.ensures.reacts)
+returns-clause-driven g c = inr (handles_whole _ c.args.place _ _ _ _ _ _ _ _ _ _ _ c.in_ok-heard.heard c.in_ok-heard.ensures.heard (ap (λ (d : DoorCalls). d.ends) c.in_ok-stage.ensures.door) c.in_ok-stage.stage c.in_ok-stage.ensures.reacts)

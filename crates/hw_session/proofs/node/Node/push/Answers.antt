@@ -5,7 +5,7 @@ use Rattle.hw_session.specs.Node.{NodeState}
 use Rattle.hw_link.specs.Talk.{Reaction}
 use Rattle.hw_types.specs.declared.answers.Frame.TheVariants as frame
 use Rattle.hw_session.specs.declared.stage.Stage.TheVariants as stage
-use Rattle.hw_session.specs.Driving.{Driver, greeting, pull, push}
+use Rattle.hw_session.specs.Driving.{Driver, greeting, push}
 use Rattle.hw_session.specs.DriveHandling.{AnswersAs}
 use Rattle.hw_session.proofs.DriveLaws.{sent_answers, cut_answers, push_none, push_one}
 use Rattle.hw_session.proofs.node.Node.push.Goals as goal

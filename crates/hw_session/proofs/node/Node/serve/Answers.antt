@@ -14,9 +14,7 @@ loop-place-init g c = record {
   accepts = refl;
   dials = refl;
   appends = refl;
-  begun = refl;
-  allowance = refl;
-  reads = refl;
+  reading = refl;
 }
 
 pub loop-place-preserved : goal.loop-place-preserved
@@ -32,9 +30,7 @@ loop-place-preserved g c =
       accepts = e.accepts ∙ l.invariant.accepts;
       dials = e.dials ∙ l.invariant.dials;
       appends = e.appends ∙ l.invariant.appends;
-      begun = e.begun ∙ l.invariant.begun;
-      allowance = e.allowance ∙ l.invariant.allowance;
-      reads = e.reads ∙ l.invariant.reads;
+      reading = e.reading ∙ l.invariant.reading;
     }
 
 pub returns-in-Err-clause-served : goal.returns-in-Err-clause-served

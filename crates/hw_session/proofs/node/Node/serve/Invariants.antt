@@ -1,4 +1,5 @@
 use Rattle.std.proofs.Common.{◌≡◌, ◌≤◌, ◌-◌, true}
+use Rattle.hw_session.specs.Outside.{reading}
 use Rattle.hw_session.proofs.ServingLaws.{IsServing}
 use Rattle.hw_session.proofs.node.Node.serve.Given as goal
 
@@ -15,9 +16,7 @@ invariant-loop-place g l =
       accepts : d.accepts l.door ≡ d.accepts l.initial.door;
       dials : d.dials l.door ≡ d.dials l.initial.door;
       appends : f.append_faults l.files ≡ f.append_faults l.initial.files;
-      begun : f.begun l.files ≡ f.begun l.initial.files;
-      allowance : f.allowance l.files ≡ f.allowance l.initial.files;
-      reads : f.read_faults l.files ≡ f.read_faults l.initial.files;
+      reading : reading (f.begun l.files) (f.allowance l.files) (f.read_faults l.files) ≡ reading (f.begun l.initial.files) (f.allowance l.initial.files) (f.read_faults l.initial.files);
     }
 
 abbrev pub decreases-loop-place : goal.decreases-loop-place

@@ -1,5 +1,6 @@
-use Rattle.std.proofs.Common.{ℕ, inl, inr, refl}
+use Rattle.std.proofs.Common.{ℕ, inl, inr, refl, ap}
 use Rattle.std.proofs.lemmas.Result.{err_from_is_err_and}
+use Rattle.hw_session.specs.Outside.{DoorCalls}
 use Rattle.hw_session.proofs.NextLaws.{handles_whole, handles_end}
 use Rattle.hw_session.proofs.ServingLaws.{heard_unlogged}
 use Rattle.hw_session.proofs.node.Node.serve_next.Goals as goal
@@ -17,7 +18,7 @@ returns-in_err-heard-clause-appends g c =
 pub returns-in_err-answer-clause-served : goal.returns-in_err-answer-clause-served
 returns-in_err-answer-clause-served g c =
     let p = err_from_is_err_and c.from_residual-in_err-answer.result c.from_residual-in_err-answer.ensures.1 in
-    rw (p.1, p.2) (inr (handles_end _ c.args.place _ _ _ _ _ _ _ _ _ _ c.in_ok-heard.heard c.in_ok-heard.ensures.heard c.in_err-answer.ensures.ends c.in_err-answer.field-0.0 c.in_err-answer.ensures.reacts))
+    rw (p.1, p.2) (inr (handles_end _ c.args.place _ _ _ _ _ _ _ _ _ _ c.in_ok-heard.heard c.in_ok-heard.ensures.heard (ap (λ (d : DoorCalls). d.ends) c.in_err-answer.ensures.door) c.in_err-answer.field-0.0 c.in_err-answer.ensures.reacts))
 
 pub returns-clause-served : goal.returns-clause-served
-returns-clause-served g c = inr (handles_whole _ c.args.place _ _ _ _ _ _ _ _ _ _ c.in_ok-heard.heard c.in_ok-heard.ensures.heard c.in_ok-answer.ensures.ends c.in_ok-answer.ensures.reacts)
+returns-clause-served g c = inr (handles_whole _ c.args.place _ _ _ _ _ _ _ _ _ _ c.in_ok-heard.heard c.in_ok-heard.ensures.heard (ap (λ (d : DoorCalls). d.ends) c.in_ok-answer.ensures.door) c.in_ok-answer.ensures.reacts)
