@@ -9,7 +9,8 @@ use Rattle.hw_meeting_node.specs.declared.end.MeetEnd.{MeetEnd}
 use Rattle.hw_meeting_node.specs.declared.end.MeetEnd.TheVariants as end
 use Rattle.hw_meeting_node.specs.declared.meeter.Side.{Side}
 use Rattle.hw_reunion.specs.Meets.{after_meeting, Leaves, NodeMeets, NodeMeetsNone}
-use Rattle.hw_service.proofs.GrowLaws.{HasGrown, behind_logs, grown_same}
+use Rattle.hw_service.specs.Talk.{HasGrown}
+use Rattle.hw_service.proofs.GrowLaws.{behind_logs, grown_same}
 
 module _ (tells : Bool) (n m : NodeState) (old new : List ℕ → Option (List ℕ)) (config : m.core.config ≡ n.core.config) where
   logs_grow : Logs n m tells old new → HasGrown n.core m.core

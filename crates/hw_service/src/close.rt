@@ -2,8 +2,7 @@
 
 ghost use Rattle.std.specs.Prelude.{◌≡◌, ◌≤◌, ℕ, List, Option, length, IfOk, IfErr, OnOk};
 ghost use Rattle.hw_io.specs.Faults.{raised};
-ghost use Rattle.hw_fanout.specs.Fates.{seen};
-ghost use Rattle.hw_service.specs.Scene.{DoorSeen, outside, scene};
+ghost use Rattle.hw_service.specs.Scene.{DoorSeen, sight_of, outside, scene};
 ghost use Rattle.hw_service.specs.Run.{ReportsAs, HaveTaken};
 ghost use Rattle.hw_service.specs.Written.{IsOfOutput};
 ghost use Rattle.hw_service.specs.Counts.{IsWriteCounted};
@@ -23,10 +22,11 @@ pub fn close_host<S: Sink>(
     consumers: &mut Vec<Box<dyn Consumer>>,
 ) -> Result<u64, ServiceFault>
     requires room { length consumers.old.items ≤ length host.old.fanout.places }
-    ensures reports { (files : List ℕ → Option (List ℕ)) (door : DoorSeen) → ReportsAs (seen (λ b. consumed b) (λ b. (⟦<dyn Consumer as Consumer>⟧ b.vtable).faults b.value) (λ b. b.vtable))
+    ensures reports { (files : List ℕ → Option (List ℕ)) (door : DoorSeen) → ReportsAs (sight_of ⟦<dyn Consumer as Consumer>⟧)
         (scene host.old.node host.old.fanout (outside files door (S.taken out.old) consumers.old.items)) (outside files door (S.taken out.new) consumers.new.items) result }
     ensures limits { IfOk result (λ limits. limits ≡ host.old.node.limited) }
-    ensures whole { (count : ℕ) → HaveTaken (seen (λ b. consumed b) (λ b. (⟦<dyn Consumer as Consumer>⟧ b.vtable).faults b.value) (λ b. b.vtable)) host.old.node.core count consumers.old.items → HaveTaken (seen (λ b. consumed b) (λ b. (⟦<dyn Consumer as Consumer>⟧ b.vtable).faults b.value) (λ b. b.vtable)) host.old.node.core count consumers.new.items }
+    ensures whole { (count : ℕ) → HaveTaken (sight_of ⟦<dyn Consumer as Consumer>⟧) host.old.node.core count consumers.old.items
+        → HaveTaken (sight_of ⟦<dyn Consumer as Consumer>⟧) host.old.node.core count consumers.new.items }
     ensures fault { IfErr result IsOfOutput }
     ensures writes { IsWriteCounted (S.faults out.old) (S.faults out.new) result }
 {

@@ -2,7 +2,7 @@ use Rattle.std.proofs.Common.{inl, inr, refl}
 use Rattle.std.proofs.lemmas.Result.{err_from_is_err_and}
 use Rattle.hw_service.specs.declared.ended.Served.{Served}
 use Rattle.hw_service.proofs.RunLaws.{output_appends, output_unread, taken_at}
-use Rattle.hw_reunion.proofs.hosting.host_begun.Goals as goal
+use Rattle.hw_service.proofs.sessions.hold_begun.Goals as goal
 
 pub returns-clause-proceeds : goal.returns-clause-proceeds
 returns-clause-proceeds g c =

@@ -1,0 +1,15 @@
+use Rattle.std.proofs.Common.{refl}
+use Rattle.hw_reunion.proofs.GrowLaws.{meets_grows}
+use Rattle.hw_reunion.proofs.EndLaws.{logged, linked}
+use Rattle.hw_reunion.proofs.hosting.HostingTalk.talk.Goals as goal
+
+pub returns : goal.returns
+returns g c =
+    let e = c.host_node.ensures in
+    rw c.session_end.ensures (record {
+      talked = record { end = c.host_node.result; is = refl; met = e.node; came = record { accepts = e.accepts; dials = e.dials } };
+      grown = meets_grows _ _ _ _ _ e.config _ _ _ _ _ _ _ e.node;
+      link = linked _ _ c.host_node.result e.link;
+      appends = logged _ _ c.host_node.result e.appends;
+      reads = e.reads;
+    })
