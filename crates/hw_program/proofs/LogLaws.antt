@@ -23,6 +23,7 @@ use Rattle.hw_service.specs.declared.ended.Served.{Served}
 use Rattle.hw_service.specs.declared.peer.Peer.{Peer}
 use Rattle.hw_service.specs.Scene.{Outside, Scene}
 use Rattle.hw_service.specs.Begin.{Names, HasBegun, BeginsNot}
+use Rattle.hw_service.specs.Talk.{talker_in}
 use Rattle.hw_service.specs.Steps.{Taken, AreTaken, TakesAll, TakesUntil, Takes}
 use Rattle.hw_service.specs.Run.{StepOver, ReportsNot, Runs}
 use Rattle.hw_service.specs.Serve.{serves_session}
@@ -135,8 +136,7 @@ module _ {B K : Type 0} (sight : Sight B K) (tells : Bool) (t : IsTrue tells) (n
   driven_only old new before after e (inr d) h = only_then old new (nothing_done old.node new.node old.around.files new.around.files d.state (d.files t)) h
 
   met_only : (side : Side) (address : Option (List ℕ)) (old new : Scene B) (e : MeetEnd)
-      → NodeMeets side address old.node new.node tells old.around.files new.around.files old.around.door.sessions new.around.door.sessions old.around.door.ends new.around.door.ends e
-      ⊎ NodeMeetsNone old.node new.node tells old.around.files new.around.files old.around.door.sessions new.around.door.sessions e
+      → NodeMeets side address tells (talker_in old) (talker_in new) e ⊎ NodeMeetsNone tells (talker_in old) (talker_in new) e
       → IsOnly old → IsOnly new
   met_only side address old new e (inl s) h = only_then old new (met_alone e side old.node s.meets.read new.node tells old.around.files new.around.files t s.left) h
   met_only side address old new e (inr s) h = only_then old new (nothing_done old.node new.node old.around.files new.around.files s.state (s.files t)) h

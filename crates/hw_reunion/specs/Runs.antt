@@ -1,6 +1,6 @@
 -- A node that meets peers, and then reports.
 -- Source: ours.
-use Rattle.std.specs.Prelude.{◌≡◌, ◌⊎◌, ℕ, Bool, List, codes, Result}
+use Rattle.std.specs.Prelude.{◌≡◌, ℕ, Bool, List, codes, Result}
 use Rattle.hw_link.specs.declared.end.SessionEnd.{SessionEnd}
 use Rattle.hw_fanout.specs.Fates.{Sight}
 use Rattle.hw_meeting_node.specs.declared.end.MeetEnd.{MeetEnd}
@@ -12,26 +12,22 @@ use Rattle.hw_service.specs.Talk.{Talker, AcceptsOne, DialsOne}
 use Rattle.hw_service.specs.Run.{StepOver}
 use Rattle.hw_service.specs.Held.{holds_session, Holds}
 use Rattle.hw_reunion.specs.Ends.{session_end}
-use Rattle.hw_reunion.specs.Meets.{NodeCalls, NodeHosts, NodeMeetsNone}
+use Rattle.hw_reunion.specs.Meets.{NodeCalls, NodeHosts}
 
 -- ---- one session
 
--- the node had no memory to take or to dial a peer
-abbrev pub MeetsNone : Bool → Talker → Talker → MeetEnd → Type 0
-MeetsNone tells old new e = NodeMeetsNone old.node new.node tells old.files new.files old.door.sessions new.door.sessions e
-
--- the node was dialled and met the peer, or had no memory to take one
+-- the node was dialled and met the peer
 pub record HostsOne (tells : Bool) (old new : Talker) (e : SessionEnd) : Type 0 where
   pub end : MeetEnd
   pub is : e ≡ session_end end
-  pub met : NodeHosts old.node new.node tells old.files new.files old.door.sessions new.door.sessions old.door.ends new.door.ends end ⊎ MeetsNone tells old new end
+  pub met : NodeHosts tells old new end
   pub came : AcceptsOne old.door new.door
 
--- the node dialled this address and met the peer, or had no memory to dial
+-- the node dialled this address and met the peer
 pub record CallsOne (tells : Bool) (address : List ℕ) (old new : Talker) (e : SessionEnd) : Type 0 where
   pub end : MeetEnd
   pub is : e ≡ session_end end
-  pub met : NodeCalls address old.node new.node tells old.files new.files old.door.sessions new.door.sessions old.door.ends new.door.ends end ⊎ MeetsNone tells old new end
+  pub met : NodeCalls address tells old new end
   pub called : DialsOne old.door new.door
 
 -- ---- the run

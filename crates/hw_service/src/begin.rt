@@ -46,7 +46,7 @@ pub struct Sources<'n> {
 ///
 /// The validator that is to make units, if there is one, is tested against the settings before the keys are
 /// read.
-pub fn begin_host<F: Files>(
+pub(crate) fn begin_host<F: Files>(
     alloc: Global,
     sources: Sources<'_>,
     me: Option<u32>,

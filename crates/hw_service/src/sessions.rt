@@ -94,11 +94,7 @@ fn hold_begun<T: Talk, F: Files, S: Sink, D: Door>(
     ensures reads { F.read_faults files.new ≡ F.read_faults files.old }
 {
     let link_failed = hold_all(alloc, host, sessions, files, out, door, consumers)?;
-    let limits = close_host(alloc, host, out, consumers)?;
-    Ok(Served {
-        limits,
-        link_failed,
-    })
+    close_host(alloc, host, link_failed, out, consumers)
 }
 
 /// Holds these sessions, one after the other, tells of each, and answers whether a call of the door failed in one.

@@ -92,11 +92,7 @@ fn run_begun<F: Files, S: Sink, C: Clock, D: Door>(
     ensures reads { F.read_faults environment.new.files.now ≡ F.read_faults environment.old.files.now }
 {
     let link_failed = take_turns(alloc, host, me, turns, peers, environment, consumers)?;
-    let limits = close_host(alloc, host, environment.out, consumers)?;
-    Ok(Served {
-        limits,
-        link_failed,
-    })
+    close_host(alloc, host, link_failed, environment.out, consumers)
 }
 
 /// Takes so many turns, one after the other, and answers whether a call of the door failed in a session.

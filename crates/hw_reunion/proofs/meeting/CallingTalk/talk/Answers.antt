@@ -1,4 +1,5 @@
-use Rattle.std.proofs.Common.{refl}
+use Rattle.std.proofs.Common.{Some, refl}
+use Rattle.hw_meeting_node.specs.declared.meeter.Side.TheVariants.{Caller}
 use Rattle.hw_reunion.proofs.GrowLaws.{meets_grows}
 use Rattle.hw_reunion.proofs.EndLaws.{logged, linked}
 use Rattle.hw_reunion.proofs.meeting.CallingTalk.talk.Goals as goal
@@ -8,7 +9,7 @@ returns g c =
     let e = c.meet_node.ensures in
     rw c.session_end.ensures (record {
       talked = record { end = c.meet_node.result; is = refl; met = e.node; called = record { dials = e.dials; accepts = e.accepts } };
-      grown = meets_grows _ _ _ _ _ e.config _ _ _ _ _ _ _ e.node;
+      grown = meets_grows Caller (Some c.args.self.now.address.now) _ _ _ c.meet_node.result e.config e.node;
       link = linked _ _ c.meet_node.result e.link;
       appends = logged _ _ c.meet_node.result e.appends;
       reads = e.reads;
