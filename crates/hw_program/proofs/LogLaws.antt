@@ -12,7 +12,7 @@ use Rattle.hw_session.specs.declared.fault.MakeFault.{MakeFault}
 use Rattle.hw_session.specs.declared.fault.MakeFault.TheVariants as make
 use Rattle.hw_session.specs.Node.{NodeState}
 use Rattle.hw_session.specs.Grows.{Logs, LogsAllBut}
-use Rattle.hw_session.specs.Sessions.{Leaves}
+use Rattle.hw_session.specs.Sessions.{Leaves, ServesPeer, ServesNone}
 use Rattle.hw_session.specs.Drives.{LeavesDriven}
 use Rattle.hw_session.specs.Make.{Makes, WritesOwn}
 use Rattle.hw_session.specs.Start.{Starts, StartsLog}
@@ -23,8 +23,8 @@ use Rattle.hw_service.specs.declared.ended.Served.{Served}
 use Rattle.hw_service.specs.declared.peer.Peer.{Peer}
 use Rattle.hw_service.specs.Scene.{Outside, Scene}
 use Rattle.hw_service.specs.Begin.{Names, HasBegun, BeginsNot}
+use Rattle.hw_service.specs.Talk.{talker_in}
 use Rattle.hw_service.specs.Steps.{Taken, AreTaken, TakesAll, TakesUntil, Takes}
-use Rattle.hw_service.specs.Told.{ServesOne}
 use Rattle.hw_service.specs.Run.{StepOver, ReportsNot, Runs}
 use Rattle.hw_service.specs.Serve.{serves_session}
 use Rattle.hw_meeting_node.specs.declared.end.MeetEnd.{MeetEnd}
@@ -124,7 +124,10 @@ module _ {B K : Type 0} (sight : Sight B K) (tells : Bool) (t : IsTrue tells) (n
   takes_only step keeps number count first last (Ok failed) all h = all_only step keeps number count first last failed all h
   takes_only step keeps number count first last (Err e) u h = until_only step keeps number count first last e u h
 
-  served_only : (old new : Scene B) (e : SessionEnd) → ServesOne tells old new e → IsOnly old → IsOnly new
+  served_only : (old new : Scene B) (e : SessionEnd)
+      → ServesPeer old.node new.node tells old.around.files new.around.files old.around.door.sessions new.around.door.sessions old.around.door.ends new.around.door.ends e
+      ⊎ ServesNone old.node new.node tells old.around.files new.around.files old.around.door.sessions new.around.door.sessions e
+      → IsOnly old → IsOnly new
   served_only old new e (inl s) h = only_then old new (leaves_alone e old.node s.read s.written new.node tells old.around.files new.around.files t s.serves.left) h
   served_only old new e (inr s) h = only_then old new (nothing_done old.node new.node old.around.files new.around.files s.state (s.files t)) h
 
@@ -133,20 +136,19 @@ module _ {B K : Type 0} (sight : Sight B K) (tells : Bool) (t : IsTrue tells) (n
   driven_only old new before after e (inr d) h = only_then old new (nothing_done old.node new.node old.around.files new.around.files d.state (d.files t)) h
 
   met_only : (side : Side) (address : Option (List ℕ)) (old new : Scene B) (e : MeetEnd)
-      → NodeMeets side address old.node new.node tells old.around.files new.around.files old.around.door.sessions new.around.door.sessions old.around.door.ends new.around.door.ends e
-      ⊎ NodeMeetsNone old.node new.node tells old.around.files new.around.files old.around.door.sessions new.around.door.sessions e
+      → NodeMeets side address tells (talker_in old) (talker_in new) e ⊎ NodeMeetsNone tells (talker_in old) (talker_in new) e
       → IsOnly old → IsOnly new
   met_only side address old new e (inl s) h = only_then old new (met_alone e side old.node s.meets.read new.node tells old.around.files new.around.files t s.left) h
   met_only side address old new e (inr s) h = only_then old new (nothing_done old.node new.node old.around.files new.around.files s.state (s.files t)) h
 
   host_only : Keeps (hosts_session sight tells)
-  host_only k old new result s h = met_only _ _ old.0 new.0 s.end s.hosted h
+  host_only k old new result s h = met_only _ _ old.0 new.0 s.talked.end s.talked.met h
 
   meet_only : (address : List ℕ) → Keeps (calls_peer sight tells address)
-  meet_only address k old new result s h = met_only _ _ old.0 new.0 s.end s.called h
+  meet_only address k old new result s h = met_only _ _ old.0 new.0 s.talked.end s.talked.met h
 
   session_only : Keeps (serves_session sight tells)
-  session_only k old new result s h = served_only old.0 new.0 s.end s.served h
+  session_only k old new result s h = served_only old.0 new.0 s.end s.talked.served h
 
   peer_only : Keeps (DrivesSession sight tells)
   peer_only k old new result d h = driven_only old.0 new.0 d.before d.after d.drives.end d.drives.driven h

@@ -28,7 +28,6 @@ use Rattle.hw_service.specs.Written.{IsOfOutput}
 use Rattle.hw_service.specs.Run.{StepOver, ReportsNot, RunsPart, Runs}
 use Rattle.hw_service.specs.Turns.{Turning, turning, TellsMade, DrivesSession, Turns, TakesTurn}
 use Rattle.hw_service.specs.Serve.{serves_session}
-use Rattle.hw_reunion.specs.Ends.{session_end}
 use Rattle.hw_reunion.specs.Runs.{hosts_session, calls_peer}
 use Rattle.hw_program.specs.declared.ended.Ended.{Ended}
 use Rattle.hw_program.specs.Program.{Held}
@@ -172,10 +171,10 @@ pub session_fault : {B K : Type 0} (sight : Sight B K) (tells : Bool) (e : Servi
 session_fault sight tells e number old new s = told_fault (codes "session") number s.end new.0.node old.0.around.written new.0.around.written e s.told
 
 pub host_fault : {B K : Type 0} (sight : Sight B K) (tells : Bool) (e : ServiceFault) (number : ℕ) (old new : Scene B × Unit {0}) → hosts_session sight tells number old new (Err e) → IsStepFault e
-host_fault sight tells e number old new s = told_fault (codes "session") number (session_end s.end) new.0.node old.0.around.written new.0.around.written e s.told
+host_fault sight tells e number old new s = told_fault (codes "session") number s.end new.0.node old.0.around.written new.0.around.written e s.told
 
 pub meet_fault : {B K : Type 0} (sight : Sight B K) (tells : Bool) (address : List ℕ) (e : ServiceFault) (number : ℕ) (old new : Scene B × Unit {0}) → calls_peer sight tells address number old new (Err e) → IsStepFault e
-meet_fault sight tells address e number old new s = told_fault (codes "peer") number (session_end s.end) new.0.node old.0.around.written new.0.around.written e s.told
+meet_fault sight tells address e number old new s = told_fault (codes "peer") number s.end new.0.node old.0.around.written new.0.around.written e s.told
 
 append_step : (e : ServiceFault) → ◌≡◌ {A = Result (Unit {0}) ServiceFault} (Err e) (Err fault.Append) → IsStepFault e
 append_step e is = let same : e ≡ fault.Append = cc in subst IsStepFault (sym same) tt

@@ -2,14 +2,14 @@
 use Rattle.std.proofs.Common.{◌≡◌, ◌⊎◌, ℕ, Bool, List, [], ◌∷◌, ◌++◌, Option, inl, inr, ap, ◌∙◌}
 use Rattle.hw_types.specs.declared.unit.Vertex.{Vertex}
 use Rattle.std.proofs.lemmas.List.{append_assoc}
-use Rattle.hw_io.specs.Doors.{Session}
 use Rattle.hw_session.specs.Node.{NodeState}
 use Rattle.hw_session.specs.Grows.{Logs, LogsAllBut}
 use Rattle.hw_meeting_node.specs.declared.end.MeetEnd.{MeetEnd}
 use Rattle.hw_meeting_node.specs.declared.end.MeetEnd.TheVariants as end
 use Rattle.hw_meeting_node.specs.declared.meeter.Side.{Side}
 use Rattle.hw_reunion.specs.Meets.{after_meeting, Leaves, NodeMeets, NodeMeetsNone}
-use Rattle.hw_service.proofs.GrowLaws.{HasGrown, behind_logs, grown_same}
+use Rattle.hw_service.specs.Talk.{Talker, HasGrown}
+use Rattle.hw_service.proofs.GrowLaws.{behind_logs, grown_same}
 
 module _ (tells : Bool) (n m : NodeState) (old new : List ℕ → Option (List ℕ)) (config : m.core.config ≡ n.core.config) where
   logs_grow : Logs n m tells old new → HasGrown n.core m.core
@@ -36,7 +36,7 @@ module _ (tells : Bool) (n m : NodeState) (old new : List ℕ → Option (List �
   leaves_grows end.OutOfMemory side read (inl s) = logs_grow s.logs
   leaves_grows end.OutOfMemory side read (inr s) = cut_grows (after_meeting side n s.first) s.vertex s.logs
 
-  pub meets_grows : (side : Side) (address : Option (List ℕ)) (sessions later : Option (List Session)) (ends_old ends_new : ℕ) (e : MeetEnd)
-      → NodeMeets side address n m tells old new sessions later ends_old ends_new e ⊎ NodeMeetsNone n m tells old new sessions later e → HasGrown n.core m.core
-  meets_grows side address sessions later ends_old ends_new e (inl s) = leaves_grows e side s.meets.read s.left
-  meets_grows side address sessions later ends_old ends_new e (inr s) = grown_same n m s.state
+pub meets_grows : (side : Side) (address : Option (List ℕ)) (tells : Bool) (old new : Talker) (e : MeetEnd) → new.node.core.config ≡ old.node.core.config → NodeMeets side address tells old new e ⊎ NodeMeetsNone tells old new e
+    → HasGrown old.node.core new.node.core
+meets_grows side address tells old new e config (inl s) = leaves_grows tells old.node new.node old.files new.files config e side s.meets.read s.left
+meets_grows side address tells old new e config (inr s) = grown_same old.node new.node s.state

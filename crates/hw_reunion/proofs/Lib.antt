@@ -1,3 +1,3 @@
-pub mod StepLaws
+pub mod EndLaws
 pub mod GrowLaws
 pub mod NodeLaws

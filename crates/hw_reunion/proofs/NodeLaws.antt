@@ -5,7 +5,6 @@ use Rattle.hw_types.specs.declared.answers.Receipt.{Receipt}
 use Rattle.hw_types.specs.Real.{CoreState}
 use Rattle.hw_keys.specs.Signed.{verdict_of}
 use Rattle.hw_io.specs.Files.{SameFiles}
-use Rattle.hw_io.specs.Doors.{Session}
 use Rattle.hw_session.specs.declared.fault.AcceptFault.{AcceptFault}
 use Rattle.hw_session.specs.declared.fault.AcceptFault.TheVariants as accept
 use Rattle.hw_session.specs.Node.{NodeState}
@@ -20,8 +19,14 @@ use Rattle.hw_meeting_node.specs.declared.meeter.Side.{Side}
 use Rattle.hw_meeting_node.specs.declared.taker.TakeFault.{TakeFault}
 use Rattle.hw_meeting_node.specs.declared.taker.TakeFault.TheVariants as fault
 use Rattle.hw_meeting_node.specs.Taking.{taken_in, TakeStep, IsAnswered, TakesAll, TakesFirst, TakesUntil, Took, TakesPeer, TakesNone}
+use Rattle.hw_service.specs.Scene.{DoorSeen}
+use Rattle.hw_service.specs.Talk.{Talker}
 use Rattle.hw_reunion.specs.Taker.{take_answer, TakesIn}
 use Rattle.hw_reunion.specs.Meets.{after_vertex, after_all, vertices_of, StandsBefore, StandsCut, Leaves, NodeMeets, NodeMeetsNone}
+
+-- the node with its log, and the door
+abbrev pub talker_with : NodeState → (List ℕ → Option (List ℕ)) → DoorSeen → Talker
+talker_with node files door = record { node = node; files = files; door = door }
 
 -- ---- one vertex
 
@@ -153,11 +158,11 @@ module _ {A : Type 0} (tells : Bool) (node : A → NodeState) (held : A → List
     leaves end.Clash read s = stands_all t (taken read) u s
 
     -- a whole meeting
-    pub node_meets : (address : Option (List ℕ)) (old new : Option (List Session)) (ends_old ends_new : ℕ) (e : MeetEnd)
-        → TakesPeer step side address n.core (verdict_of n.keys) (node u).core t u old new ends_old ends_new e ⊎ TakesNone n.core (node u).core t u old new e
-        → NodeMeets side address n (node u) tells (held t) (held u) old new ends_old ends_new e ⊎ NodeMeetsNone n (node u) tells (held t) (held u) old new e
-    node_meets address old new ends_old ends_new e (inl s) = inl (record { meets = s.meets; left = leaves e s.meets.read s.took })
-    node_meets address old new ends_old ends_new e (inr s) =
+    pub node_meets : (address : Option (List ℕ)) (old new : DoorSeen) (e : MeetEnd)
+        → TakesPeer step side address n.core (verdict_of n.keys) (node u).core t u old.sessions new.sessions old.ends new.ends e ⊎ TakesNone n.core (node u).core t u old.sessions new.sessions e
+        → NodeMeets side address tells (talker_with n (held t) old) (talker_with (node u) (held u) new) e ⊎ NodeMeetsNone tells (talker_with n (held t) old) (talker_with (node u) (held u) new) e
+    node_meets address old new e (inl s) = inl (record { meets = s.meets; left = leaves e s.meets.read s.took })
+    node_meets address old new e (inr s) =
         inr (record { ended = s.meets.ended; state = ap node s.stays; files = λ tell name. ap (λ (x : A). held x name) s.stays; told = s.meets.told })
 
 -- ---- what stays
@@ -186,23 +191,23 @@ module _ {A X : Type 0} (of : A → X) (step : TakeStep A) (keeps : (t : A) (v :
 
 -- ---- a whole meeting
 
-module _ {A : Type 0} (step : TakeStep A) (side : Side) (address : Option (List ℕ)) (c : CoreState) (judge : Vertex → Bool) (m : CoreState) (t u : A) (old new : Option (List Session)) (ends_old ends_new : ℕ) (e : MeetEnd)
-    (took : TakesPeer step side address c judge m t u old new ends_old ends_new e ⊎ TakesNone c m t u old new e) where
+module _ {A : Type 0} (step : TakeStep A) (side : Side) (address : Option (List ℕ)) (c : CoreState) (judge : Vertex → Bool) (m : CoreState) (t u : A) (old new : DoorSeen) (e : MeetEnd)
+    (took : TakesPeer step side address c judge m t u old.sessions new.sessions old.ends new.ends e ⊎ TakesNone c m t u old.sessions new.sessions e) where
   -- what each step keeps
   pub meeting_keeps : {X : Type 0} (of : A → X) → ((t : A) (v : Vertex) (answer : Result Receipt TakeFault) (u : A) → step t v answer u → of u ≡ of t) → of u ≡ of t
   meeting_keeps of keeps = go took
     where
-      go : TakesPeer step side address c judge m t u old new ends_old ends_new e ⊎ TakesNone c m t u old new e → of u ≡ of t
+      go : TakesPeer step side address c judge m t u old.sessions new.sessions old.ends new.ends e ⊎ TakesNone c m t u old.sessions new.sessions e → of u ≡ of t
       go (inl s) = took_keeps of step keeps (taken_in side c judge) s.meets.read t u e s.took
       go (inr s) = ap of s.stays
 
   -- what is left of a node, and of its log
   pub meeting_leaves : (tells : Bool) (node : A → NodeState) (held : A → List ℕ → Option (List ℕ)) → ((t : A) (v : Vertex) (answer : Result Receipt TakeFault) (u : A) → step t v answer u → TakesIn (node t) v (node u) tells (held t) (held u) answer)
       → c ≡ (node t).core → judge ≡ verdict_of (node t).keys → m ≡ (node u).core
-      → NodeMeets side address (node t) (node u) tells (held t) (held u) old new ends_old ends_new e ⊎ NodeMeetsNone (node t) (node u) tells (held t) (held u) old new e
+      → NodeMeets side address tells (talker_with (node t) (held t) old) (talker_with (node u) (held u) new) e ⊎ NodeMeetsNone tells (talker_with (node t) (held t) old) (talker_with (node u) (held u) new) e
   meeting_leaves tells node held takes_in core verdict now =
-      let P : CoreState → (Vertex → Bool) → CoreState → Type 0 = λ x y z. TakesPeer step side address x y z t u old new ends_old ends_new e ⊎ TakesNone x z t u old new e in
-      node_meets tells node held step takes_in side t u address old new ends_old ends_new e
+      let P : CoreState → (Vertex → Bool) → CoreState → Type 0 = λ x y z. TakesPeer step side address x y z t u old.sessions new.sessions old.ends new.ends e ⊎ TakesNone x z t u old.sessions new.sessions e in
+      node_meets tells node held step takes_in side t u address old new e
       (subst (λ (x : CoreState). P x (verdict_of (node t).keys) (node u).core) core
       (subst (λ (y : Vertex → Bool). P c y (node u).core) verdict
       (subst (λ (z : CoreState). P c judge z) now took)))

@@ -1,5 +1,4 @@
 pub mod Ends
-pub mod Told
 pub mod Runs
 pub mod Taker
 pub mod Meets

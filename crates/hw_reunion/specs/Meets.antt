@@ -2,7 +2,6 @@
 -- Source: ours.
 use Rattle.std.specs.Prelude.{◌≡◌, ◌⊎◌, ℕ, Bool, IsTrue, List, [], ◌∷◌, ◌++◌, fold, Option, Some, None}
 use Rattle.hw_types.specs.declared.unit.Vertex.{Vertex}
-use Rattle.hw_io.specs.Doors.{Session}
 use Rattle.hw_io.specs.Files.{SameFiles}
 use Rattle.hw_keys.specs.Signed.{verdict_of}
 use Rattle.hw_session.specs.Node.{NodeState}
@@ -14,6 +13,7 @@ use Rattle.hw_meeting_node.specs.declared.meeter.Side.{Side}
 use Rattle.hw_meeting_node.specs.declared.meeter.Side.TheVariants.{Caller, Host}
 use Rattle.hw_meeting_node.specs.Sessions.{MeetsPeer}
 use Rattle.hw_meeting_node.specs.Taking.{taken_in}
+use Rattle.hw_service.specs.Talk.{Talker}
 
 -- ---- the node
 
@@ -62,21 +62,21 @@ Leaves e side n read m tells held_old held_new = (m ≡ after_meeting side n rea
 -- ---- one session
 
 -- A node with its log met a peer, in a session that the door tells behind the others, with the address that was dialled, if one was.
-pub record NodeMeets (side : Side) (address : Option (List ℕ)) (n m : NodeState) (tells : Bool) (held_old held_new : List ℕ → Option (List ℕ)) (old new : Option (List Session)) (ends_old ends_new : ℕ) (e : MeetEnd) : Type 0 where
-  pub meets : MeetsPeer side address n.core (verdict_of n.keys) m.core old new ends_old ends_new e
-  pub left : Leaves e side n meets.read m tells held_old held_new
-
--- the same of a node that dialled this address
-abbrev pub NodeCalls : List ℕ → NodeState → NodeState → Bool → (List ℕ → Option (List ℕ)) → (List ℕ → Option (List ℕ)) → Option (List Session) → Option (List Session) → ℕ → ℕ → MeetEnd → Type 0
-NodeCalls address n m tells held_old held_new old new ends_old ends_new e = NodeMeets Caller (Some address) n m tells held_old held_new old new ends_old ends_new e
-
--- and of one that was dialled
-abbrev pub NodeHosts : NodeState → NodeState → Bool → (List ℕ → Option (List ℕ)) → (List ℕ → Option (List ℕ)) → Option (List Session) → Option (List Session) → ℕ → ℕ → MeetEnd → Type 0
-NodeHosts n m tells held_old held_new old new ends_old ends_new e = NodeMeets Host None n m tells held_old held_new old new ends_old ends_new e
+pub record NodeMeets (side : Side) (address : Option (List ℕ)) (tells : Bool) (old new : Talker) (e : MeetEnd) : Type 0 where
+  pub meets : MeetsPeer side address old.node.core (verdict_of old.node.keys) new.node.core old.door.sessions new.door.sessions old.door.ends new.door.ends e
+  pub left : Leaves e side old.node meets.read new.node tells old.files new.files
 
 -- there was no memory to take or to dial a peer, and nothing was done
-pub record NodeMeetsNone (n m : NodeState) (tells : Bool) (held_old held_new : List ℕ → Option (List ℕ)) (old new : Option (List Session)) (e : MeetEnd) : Type 0 where
+pub record NodeMeetsNone (tells : Bool) (old new : Talker) (e : MeetEnd) : Type 0 where
   pub ended : e ≡ end.OutOfMemory
-  pub state : m ≡ n
-  pub files : IsTrue tells → SameFiles held_old held_new
-  pub told : new ≡ old
+  pub state : new.node ≡ old.node
+  pub files : IsTrue tells → SameFiles old.files new.files
+  pub told : new.door.sessions ≡ old.door.sessions
+
+-- a node dialled this address and met the peer, or had no memory to dial
+abbrev pub NodeCalls : List ℕ → Bool → Talker → Talker → MeetEnd → Type 0
+NodeCalls address tells old new e = NodeMeets Caller (Some address) tells old new e ⊎ NodeMeetsNone tells old new e
+
+-- one was dialled and met the peer, or had no memory to take one
+abbrev pub NodeHosts : Bool → Talker → Talker → MeetEnd → Type 0
+NodeHosts tells old new e = NodeMeets Host None tells old new e ⊎ NodeMeetsNone tells old new e

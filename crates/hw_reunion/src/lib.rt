@@ -5,7 +5,6 @@
 //! other lacks. After it the consumers are passed what is decided now, and then the line of the meeting is written.
 #![tactic(auto)]
 
-mod begin;
 mod end;
 mod hosting;
 mod meeting;

@@ -7,7 +7,8 @@ ghost use Rattle.std.specs.Prelude.{◌≡◌, ◌⊎◌, false};
 ghost use Rattle.hw_io.specs.Faults.{raised};
 ghost use Rattle.hw_keys.specs.Signed.{verdict_of};
 ghost use Rattle.hw_meeting_node.specs.Sessions.{CallsPeer, HostsPeer, MeetsNone, IsLinkEnd, IsTakerEnd};
-ghost use Rattle.hw_reunion.specs.Meets.{NodeCalls, NodeHosts, NodeMeetsNone};
+ghost use Rattle.hw_service.specs.Talk.{talker};
+ghost use Rattle.hw_reunion.specs.Meets.{NodeCalls, NodeHosts};
 
 use crate::taker::NodeTaker;
 use hw_io::{Door, Files};
@@ -30,8 +31,7 @@ pub fn meet_node<D: Door, F: Files>(
 ) -> MeetEnd
     ensures met { CallsPeer address.now node.old.core (verdict_of node.old.keys) node.new.core (D.sessions door.old) (D.sessions door.new) (D.ends door.old) (D.ends door.new) result
         ⊎ MeetsNone node.old.core node.new.core (D.sessions door.old) (D.sessions door.new) result }
-    ensures node { NodeCalls address.now node.old node.new F.tells (F.held files.old) (F.held files.new) (D.sessions door.old) (D.sessions door.new) (D.ends door.old) (D.ends door.new) result
-        ⊎ NodeMeetsNone node.old node.new F.tells (F.held files.old) (F.held files.new) (D.sessions door.old) (D.sessions door.new) result }
+    ensures node { NodeCalls address.now F.tells (talker F.Files D.Door node.old files.old door.old) (talker F.Files D.Door node.new files.new door.new) result }
     ensures link { IsLinkEnd (D.faults door.old) (D.faults door.new) result }
     ensures appends { IsTakerEnd (F.append_faults files.old) (F.append_faults files.new) result }
 
@@ -56,8 +56,7 @@ pub fn host_node<D: Door, F: Files>(
 ) -> MeetEnd
     ensures met { HostsPeer node.old.core (verdict_of node.old.keys) node.new.core (D.sessions door.old) (D.sessions door.new) (D.ends door.old) (D.ends door.new) result
         ⊎ MeetsNone node.old.core node.new.core (D.sessions door.old) (D.sessions door.new) result }
-    ensures node { NodeHosts node.old node.new F.tells (F.held files.old) (F.held files.new) (D.sessions door.old) (D.sessions door.new) (D.ends door.old) (D.ends door.new) result
-        ⊎ NodeMeetsNone node.old node.new F.tells (F.held files.old) (F.held files.new) (D.sessions door.old) (D.sessions door.new) result }
+    ensures node { NodeHosts F.tells (talker F.Files D.Door node.old files.old door.old) (talker F.Files D.Door node.new files.new door.new) result }
     ensures link { IsLinkEnd (D.faults door.old) (D.faults door.new) result }
     ensures appends { IsTakerEnd (F.append_faults files.old) (F.append_faults files.new) result }
 

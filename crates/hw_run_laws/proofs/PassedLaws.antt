@@ -10,7 +10,8 @@ use Rattle.hw_fanout.specs.Told.{HasTaken}
 use Rattle.hw_fanout.proofs.TellingLaws.{all_whole}
 use Rattle.hw_replay.specs.Feed.{Moment, moment, first_moment, IsPassed, ArePassed, AreFed}
 use Rattle.hw_service.specs.Scene.{none_told}
-use Rattle.hw_service.proofs.GrowLaws.{HasGrown, still_told, still_taken}
+use Rattle.hw_service.specs.Talk.{HasGrown}
+use Rattle.hw_service.proofs.GrowLaws.{still_told, still_taken}
 use Rattle.hw_run_laws.specs.Prefixes.{HaveNothing, StoppedReplays, StoppedParts}
 
 module _ {B K : Type 0} (sight : Sight B K) where

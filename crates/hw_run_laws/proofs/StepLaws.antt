@@ -9,12 +9,12 @@ use Rattle.hw_session.specs.declared.fault.MakeFault.TheVariants as make
 use Rattle.hw_service.specs.declared.fault.ServiceFault.{ServiceFault}
 use Rattle.hw_service.specs.declared.peer.Peer.{Peer}
 use Rattle.hw_service.specs.Scene.{Outside, Scene, moment_of}
+use Rattle.hw_service.specs.Talk.{HasGrown}
 use Rattle.hw_service.specs.Steps.{Taken, AreTaken, TakesAll, TakesUntil, Takes}
 use Rattle.hw_service.specs.declared.fault.ServiceFault.TheVariants as fault
 use Rattle.hw_service.specs.Run.{StepOver, HaveTaken, ReportsPart, ReportsNot, StopsAtStep, StopsAtReport}
 use Rattle.hw_service.specs.Serve.{serves_session}
 use Rattle.hw_service.specs.Turns.{TellsMade, MakesUnit, DrivesSession, Turns, TakesTurn}
-use Rattle.hw_service.proofs.GrowLaws.{HasGrown}
 use Rattle.hw_service.proofs.DriveLaws.{makes_grows}
 use Rattle.hw_service.proofs.CloseLaws.{still_whole}
 use Rattle.hw_reunion.specs.Runs.{hosts_session, calls_peer}

@@ -52,6 +52,10 @@ appends_told who number e n old new (Err (fault.Log f)) before now told is = abs
 appends_told who number e n old new (Err fault.NoValidator) before now told is = absurd told
 appends_told who number e n old new (Err fault.Read) before now told is = absurd told
 
+-- behind steps that appended without a fault
+pub appends_then : {T : Type 0} (x y z : ℕ) (result : Result T ServiceFault) → y ≡ x → IsAppendCounted y z result → IsAppendCounted x z result
+appends_then x y z result same counted = subst (λ (n : ℕ). IsAppendCounted n z result) same counted
+
 -- ---- the door
 
 link_told_at : (before now : ℕ) (e : SessionEnd) → IsLinkEnd before now e → IsDoorCounted (is_link_fault e) before now

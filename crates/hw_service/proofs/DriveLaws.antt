@@ -15,7 +15,8 @@ use Rattle.hw_session.specs.Make.{own_vertex, with_entry, with_vertex, Makes}
 use Rattle.hw_session.specs.Driving.{driven}
 use Rattle.hw_session.specs.Drives.{StandsDriven, StandsDrivenCut, LeavesDriven, DrivesPeer, DrivesNone}
 use Rattle.hw_session.proofs.ConfigLaws.{driven_config}
-use Rattle.hw_service.proofs.GrowLaws.{HasGrown, behind_logs, behind_cut, grown_same}
+use Rattle.hw_service.specs.Talk.{HasGrown}
+use Rattle.hw_service.proofs.GrowLaws.{behind_logs, behind_cut, grown_same}
 
 module _ (tells : Bool) (n : NodeState) (mark : PeerMark) (m : NodeState) (now : PeerMark) (old new : List ℕ → Option (List ℕ)) (read written : List ℕ) where
   plain_grows : (m ≡ (driven n mark read).state.node) × Logs n m tells old new → HasGrown n.core m.core

@@ -14,7 +14,6 @@ use Rattle.hw_types.specs.Spelling.{instance_of}
 use Rattle.hw_types.specs.Real.{CoreState}
 use Rattle.hw_io.specs.Consumers.{Consumed}
 use Rattle.hw_io.specs.Doors.{Session}
-use Rattle.hw_safety.specs.Chain.{Begins}
 use Rattle.hw_fanout.specs.Chain.{told_chain}
 use Rattle.hw_fanout.specs.State.{FanoutState}
 use Rattle.hw_fanout.specs.Fates.{Sight, AreServed}
@@ -27,6 +26,7 @@ use Rattle.hw_link.specs.declared.end.SessionEnd.TheVariants as end
 use Rattle.hw_link.specs.Frames.{Placed, frames_of}
 use Rattle.hw_link.specs.Talk.{goes_on, ends}
 use Rattle.hw_session.specs.Node.{NodeState}
+use Rattle.hw_service.specs.Talk.{HasGrown}
 use Rattle.hw_session.specs.Grows.{Logs, LogsAllBut}
 use Rattle.hw_session.specs.Accept.{given_to, taken_by}
 use Rattle.hw_session.specs.Serving.{is_clash, answer_to_vertex, serve_first, serve_frame, serve_step, served}
@@ -34,11 +34,6 @@ use Rattle.hw_session.proofs.ConfigLaws.{talk_keeps, taken_config}
 use Rattle.hw_session.specs.Sessions.{StandsBefore, StandsCut, Leaves, ServesPeer, ServesNone}
 
 -- ---- a node that grew
-
--- the configuration is the same, and vertices went last in the journal
-pub record HasGrown (c d : CoreState) : Type 0 where
-  pub config : d.config ≡ c.config
-  pub journal : Begins c.journal d.journal
 
 -- it is the node with this journal
 grown_is : (c d : CoreState) → (g : HasGrown c d) → d ≡ node_with c.config (c.journal ++ g.journal.0)

@@ -1,6 +1,7 @@
 pub mod StepLaws
 pub mod GrowLaws
 pub mod CountLaws
+pub mod DoorLaws
 pub mod BeginLaws
 pub mod CloseLaws
 pub mod LineLaws

@@ -1,5 +1,5 @@
 -- A whole run.
-use Rattle.std.specs.Prelude.{◌≢◌, All}
+use Rattle.std.specs.Prelude.{◌≢◌, All, length, IfOk, IfErr}
 use Rattle.std.proofs.Common.{◌≡◌, ℕ, Bool, List, [], Option, Result, Ok, Err, inl, inr, refl, sym, subst}
 use Rattle.hw_types.specs.Real.{CoreState}
 use Rattle.hw_io.specs.Consumers.{Consumed}
@@ -14,25 +14,53 @@ use Rattle.hw_service.specs.declared.fault.ServiceFault.TheVariants as fault
 use Rattle.hw_service.specs.declared.ended.Served.{Served}
 use Rattle.hw_service.specs.Scene.{Outside, Scene}
 use Rattle.hw_service.specs.Written.{IsOfOutput}
-use Rattle.hw_service.specs.Counts.{IsAppendCounted, IsWriteCounted}
+use Rattle.hw_service.specs.Counts.{IsAppendCounted, IsWriteCounted, IsDoorCounted}
+use Rattle.hw_service.specs.Steps.{TakesAll}
 use Rattle.hw_service.specs.Begin.{Names, ReadsNot, HasBegun, BeginsNot, fault_of_start}
-use Rattle.hw_service.specs.Run.{StepOver, HaveTaken, Proceeds, Runs}
+use Rattle.hw_service.specs.Run.{StepOver, HaveTaken, ReportsAs, Proceeds, Runs}
 
 -- ---- faults of the output
 
-pub output_appends : (T : Type 0) (f : ServiceFault) (before now : ℕ) → IsOfOutput f → now ≡ before → IsAppendCounted {T = T} before now (Err f)
-output_appends T fault.Write before now of is = is
-output_appends T fault.OutOfMemory before now of is = is
-output_appends T (fault.Settings f) before now of is = is
-output_appends T fault.NoValidator before now of is = is
-output_appends T (fault.Keys at) before now of is = is
-output_appends T (fault.Log f) before now of is = is
-output_appends T (fault.Clash units) before now of is = is
-output_appends T fault.Read before now of is = is
-output_appends T fault.Append before now of is = absurd of
+output_appends : (f : ServiceFault) (before now : ℕ) → IsOfOutput f → now ≡ before → IsAppendCounted {T = Served} before now (Err f)
+output_appends fault.Write before now of is = is
+output_appends fault.OutOfMemory before now of is = is
+output_appends (fault.Settings f) before now of is = is
+output_appends fault.NoValidator before now of is = is
+output_appends (fault.Keys at) before now of is = is
+output_appends (fault.Log f) before now of is = is
+output_appends (fault.Clash units) before now of is = is
+output_appends fault.Read before now of is = is
+output_appends fault.Append before now of is = absurd of
 
-pub output_unread : (f : ServiceFault) → IsOfOutput f → f ≢ fault.Read
+output_unread : (f : ServiceFault) → IsOfOutput f → f ≢ fault.Read
 output_unread f of is = let P : ServiceFault → Type 0 = IsOfOutput in subst P is of
+
+-- ---- the report
+
+pub report_appends : (result : Result Served ServiceFault) (before now : ℕ) → IfErr result IsOfOutput → now ≡ before → IsAppendCounted before now result
+report_appends (Ok served) before now of is = is
+report_appends (Err f) before now of is = output_appends f before now of is
+
+pub report_unread : (result : Result Served ServiceFault) → IfErr result IsOfOutput → IfErr result (λ e. e ≢ fault.Read)
+report_unread (Ok served) of = tt
+report_unread (Err f) of = output_unread f of
+
+pub report_link : (result : Result Served ServiceFault) (failed : Bool) (before now : ℕ) → IfOk result (λ served. served.link_failed ≡ failed) → IsDoorCounted failed before now → IfOk result (λ served. IsDoorCounted served.link_failed before now)
+report_link (Ok served) failed before now is link = subst (λ (b : Bool). IsDoorCounted b before now) (sym is) link
+report_link (Err f) failed before now is link = tt
+
+-- all steps were taken, and this came of the report
+pub proceeds_with : {B K X : Type 0} (sight : Sight B K) (step : StepOver B X) (number count : ℕ) (first last : Scene B) (after : Outside B) (x y : X) (failed : Bool) (result : Result Served ServiceFault)
+    → TakesAll step number count (first, x) (last, y) failed → ReportsAs sight last after result → IfOk result (λ served. served.limits ≡ last.node.limited) → IfOk result (λ served. served.link_failed ≡ failed)
+    → (HaveTaken sight first.node.core first.kept.passed first.around.consumers → HaveTaken sight last.node.core (length (told_chain last.node.core)) after.consumers) → Proceeds sight step number count first after x y result
+proceeds_with {B} {K} {X} sight step number count first last after x y failed (Ok served) all reports limits link whole = record {
+  last = last;
+  steps = subst (λ (b : Bool). TakesAll step number count (first, x) (last, y) b) (sym link) all;
+  reports = reports;
+  limits = limits;
+  whole = whole;
+}
+proceeds_with sight step number count first last after x y failed (Err e) all reports limits link whole = inr (record { last = last; failed = failed; steps = all; reports = reports })
 
 -- ---- a beginning that fails writes nothing
 

@@ -1,12 +1,15 @@
 pub mod Scene
+pub mod Talk
 pub mod Lines
 pub mod Begin
 pub mod Begun
 pub mod Steps
 pub mod Told
 pub mod Run
+pub mod Held
 pub mod Serve
 pub mod Counts
 pub mod Written
 pub mod Turns
+pub mod Environs
 pub mod Loans

@@ -1,8 +1,14 @@
 -- What is seen of a node's run at a moment.
 use Rattle.std.specs.Prelude.{ℕ, List, [], length, Option}
 use Rattle.std.specs.List.{range_with_len}
+use Rattle.std.specs.declared.dyn_box.DynBox.{DynBox}
+use Rattle.hw_io.specs.declared.outside.Files.{Ghosts as Files}
+use Rattle.hw_io.specs.declared.outside.Sink.{Ghosts as Sink}
+use Rattle.hw_io.specs.declared.outside.Door.{Ghosts as Door}
+use Rattle.hw_io.specs.declared.outside.Consumer.{Ghosts as Consumer}
 use Rattle.hw_io.specs.Doors.{Session}
 use Rattle.hw_fanout.specs.State.{FanoutState}
+use Rattle.hw_fanout.specs.Fates.{Sight, seen}
 use Rattle.hw_replay.specs.Feed.{Moment, moment}
 use Rattle.hw_session.specs.Node.{NodeState}
 
@@ -17,6 +23,14 @@ pub record DoorSeen : Type 0 where
 abbrev pub door_seen : Option (List Session) → ℕ → ℕ → ℕ → DoorSeen
 door_seen sessions accepts dials ends = record { sessions = sessions; accepts = accepts; dials = dials; ends = ends }
 
+-- of a door that tells this
+abbrev pub door_of : {D : Type 0} → Door D → D → DoorSeen
+door_of tells door = door_seen (tells.sessions door) (tells.accepts door) (tells.dials door) (tells.ends door)
+
+-- what contracts see of a boxed consumer: what a consumer of its kind tells
+abbrev pub sight_of : {K A : Type 0} {C : K → Type 0} → ((kind : K) → Consumer (C kind)) → Sight (DynBox K A C) K
+sight_of tells = seen (λ b. (tells b.vtable).consumed b.value) (λ b. (tells b.vtable).faults b.value) (λ b. b.vtable)
+
 -- the outside: what the files hold, the door, what was written, and the consumers that are left
 pub record Outside (B : Type 0) : Type 0 where
   pub files : List ℕ → Option (List ℕ)
@@ -27,6 +41,10 @@ pub record Outside (B : Type 0) : Type 0 where
 -- these together
 abbrev pub outside : {B : Type 0} → (List ℕ → Option (List ℕ)) → DoorSeen → Option (List ℕ) → List B → Outside B
 outside files door written consumers = record { files = files; door = door; written = written; consumers = consumers }
+
+-- of files, an output and a door that tell this, and of these consumers
+abbrev pub outside_of : {F S D B : Type 0} → Files F → Sink S → Door D → F → S → D → List B → Outside B
+outside_of reads writes calls files out door consumers = outside (reads.held files) (door_of calls door) (writes.taken out) consumers
 
 -- a node, what is kept of its consumers, and what is outside of it
 pub record Scene (B : Type 0) : Type 0 where

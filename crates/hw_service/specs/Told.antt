@@ -1,18 +1,17 @@
 -- One session, and what is told of it: the consumers are passed what is decided now, and then its line is written.
 -- Source: ours.
-use Rattle.std.specs.Prelude.{◌≡◌, ◌≢◌, ◌⊎◌, ℕ, Bool, true, false, List, codes, Option, Some, Result, Ok, Err}
+use Rattle.std.specs.Prelude.{◌≡◌, ◌≢◌, ℕ, Bool, true, false, List, Option, Some, Result, Ok, Err}
 use Rattle.std.specs.Io.KnownBytes.{Appends}
-use Rattle.hw_io.specs.Faults.{raised}
 use Rattle.hw_io.specs.Sinks.{AppendsPrefix}
 use Rattle.hw_link.specs.declared.end.SessionEnd.{SessionEnd}
 use Rattle.hw_link.specs.declared.end.SessionEnd.TheVariants as end
 use Rattle.hw_fanout.specs.Fates.{Sight}
 use Rattle.hw_replay.specs.Feed.{IsPassed}
 use Rattle.hw_session.specs.Node.{NodeState}
-use Rattle.hw_session.specs.Sessions.{ServesPeer, ServesNone}
 use Rattle.hw_service.specs.declared.fault.ServiceFault.{ServiceFault}
 use Rattle.hw_service.specs.declared.fault.ServiceFault.TheVariants as fault
 use Rattle.hw_service.specs.Scene.{Scene, moment_of}
+use Rattle.hw_service.specs.Talk.{Talks, talker_in}
 use Rattle.hw_service.specs.Lines.{end_line}
 
 -- the run goes on behind a session that ended so
@@ -41,19 +40,9 @@ TellsEnd who number e n old new (Err (fault.Log f)) = ⊥
 TellsEnd who number e n old new (Err fault.NoValidator) = ⊥
 TellsEnd who number e n old new (Err fault.Read) = ⊥
 
--- ---- serving
-
--- the node served a peer, or had no memory to take one
-abbrev pub ServesOne : {B : Type 0} → Bool → Scene B → Scene B → SessionEnd → Type 0
-ServesOne tells old new e =
-    ServesPeer old.node new.node tells old.around.files new.around.files old.around.door.sessions new.around.door.sessions old.around.door.ends new.around.door.ends e
-    ⊎ ServesNone old.node new.node tells old.around.files new.around.files old.around.door.sessions new.around.door.sessions e
-
--- The session of this number, and what was told of it.
-pub record ServesSession {B K : Type 0} (sight : Sight B K) (tells : Bool) (number : ℕ) (old new : Scene B) (result : Result Bool ServiceFault) : Type 0 where
+-- A session of this number with a peer, and what was told of it.
+pub record HoldsSession {B K : Type 0} (sight : Sight B K) (talks : Talks) (who : List ℕ) (number : ℕ) (old new : Scene B) (result : Result Bool ServiceFault) : Type 0 where
   pub end : SessionEnd
-  pub served : ServesOne tells old new end
-  pub accepts : new.around.door.accepts ≡ raised old.around.door.accepts
-  pub dials : new.around.door.dials ≡ old.around.door.dials
+  pub talked : talks (talker_in old) (talker_in new) end
   pub passed : IsPassed sight (moment_of old) (moment_of new)
-  pub told : TellsEnd (codes "session") number end new.node old.around.written new.around.written result
+  pub told : TellsEnd who number end new.node old.around.written new.around.written result

@@ -6,14 +6,13 @@ ghost use Rattle.hw_types.specs.Limits.{config_fault};
 ghost use Rattle.hw_core.specs.Promises.{begun};
 ghost use Rattle.hw_io.specs.Files.{SameFiles};
 ghost use Rattle.hw_replay.specs.declared.fault.StartFault.TheVariants as start;
-ghost use Rattle.hw_fanout.specs.Fates.{seen};
 ghost use Rattle.hw_fanout.specs.Chain.{told_chain};
 ghost use Rattle.hw_fanout.specs.Told.{HasTaken};
 ghost use Rattle.hw_replay.specs.Midway.{file_begun};
 ghost use Rattle.hw_replay.specs.Feed.{moment, AreFed, AreFedSome, AreFedPart, file_replayed};
 ghost use Rattle.hw_session.specs.Start.{Starts, StartsThere, StartsLog, HasStartCause, IsReadOfLog};
 ghost use Rattle.hw_replay.specs.Causes.{HasReplayCause, IsReplayAbout};
-ghost use Rattle.hw_service.specs.Scene.{DoorSeen, outside, scene, none_told};
+ghost use Rattle.hw_service.specs.Scene.{DoorSeen, sight_of, outside, scene, none_told};
 ghost use Rattle.hw_service.specs.Begin.{names_of, file_settings, HoldsKeys, IsNoValidator, IsValidator, Reads, ReadsNot, HasBegun, BeginsNot, fault_of_start};
 ghost use Rattle.hw_service.specs.Begun.{IsOfFile, IsOfSettings, IsOfKeys, fault_of_look, IsReadOf, IsAbout};
 ghost use Rattle.hw_service.specs.Counts.{IsReadCounted, IsAppendCounted, IsReadAbout};
@@ -47,16 +46,16 @@ pub struct Sources<'n> {
 ///
 /// The validator that is to make units, if there is one, is tested against the settings before the keys are
 /// read.
-pub fn begin_host<F: Files>(
+pub(crate) fn begin_host<F: Files>(
     alloc: Global,
     sources: Sources<'_>,
     me: Option<u32>,
     files: &mut F,
     consumers: &mut Vec<Box<dyn Consumer>>,
 ) -> Result<Host, ServiceFault>
-    ensures begins { (door : DoorSeen) (written : Option (List ℕ)) → IfOk result (λ h. HasBegun (seen (λ b. consumed b) (λ b. faults b) (λ b. b.vtable)) F.tells (names_of sources.entry) me
+    ensures begins { (door : DoorSeen) (written : Option (List ℕ)) → IfOk result (λ h. HasBegun (sight_of ⟦<dyn Consumer as Consumer>⟧) F.tells (names_of sources.entry) me
         (outside (F.held files.old) door written consumers.old.items) (scene h.node h.fanout (outside (F.held files.new) door written consumers.new.items))) }
-    ensures begins_not { (door : DoorSeen) (written : Option (List ℕ)) → IfErr result (BeginsNot (seen (λ b. consumed b) (λ b. faults b) (λ b. b.vtable)) F.tells (names_of sources.entry) me
+    ensures begins_not { (door : DoorSeen) (written : Option (List ℕ)) → IfErr result (BeginsNot (sight_of ⟦<dyn Consumer as Consumer>⟧) F.tells (names_of sources.entry) me
         (outside (F.held files.old) door written consumers.old.items) (outside (F.held files.new) door written consumers.new.items)) }
     ensures whole { All (λ b. HasTaken [] 0 (consumed b)) consumers.old.items → IfOk result (λ h. All (λ b. HasTaken (told_chain h.node.core) h.fanout.passed (consumed b)) consumers.new.items) }
     ensures passed { IfOk result (λ h. h.fanout.passed ≡ length (told_chain h.node.core)) }
@@ -203,11 +202,11 @@ fn start_fed<F: Files>(
     ensures said { IsTrue F.tells → Starts config keys log.now (F.held files.old log.now) result }
     ensures is { IfOk result (λ node. (node.core.config ≡ config) × (node.keys ≡ keys)) }
     ensures log { IsTrue F.tells → StartsLog config log.now (F.held files.old) (F.held files.new) (F.held files.old log.now) result }
-    ensures fed { IfOk result (λ node. AreFed (seen (λ b. consumed b) (λ b. faults b) (λ b. b.vtable)) (moment (begun config) consumers.old.items fanout.old) (moment node.core consumers.new.items fanout.new)) }
+    ensures fed { IfOk result (λ node. AreFed (sight_of ⟦<dyn Consumer as Consumer>⟧) (moment (begun config) consumers.old.items fanout.old) (moment node.core consumers.new.items fanout.new)) }
     ensures whole { All (λ b. HasTaken [] 0 (consumed b)) consumers.old.items → IfOk result (λ node. All (λ b. HasTaken (told_chain node.core) (length (told_chain node.core)) (consumed b)) consumers.new.items) }
     ensures passed { IfOk result (λ node. fanout.new.passed ≡ length (told_chain node.core)) }
-    ensures stopped { IfErr result (λ e. AreFedSome (seen (λ b. consumed b) (λ b. faults b) (λ b. b.vtable)) F.tells (file_replayed (Some config) (F.held files.old log.now)) consumers.old.items consumers.new.items fanout.old fanout.new) }
-    ensures part { IfErr result (λ e. AreFedPart (seen (λ b. consumed b) (λ b. faults b) (λ b. b.vtable)) F.tells (file_begun (Some config) (F.held files.old log.now)) e consumers.old.items consumers.new.items fanout.old fanout.new) }
+    ensures stopped { IfErr result (λ e. AreFedSome (sight_of ⟦<dyn Consumer as Consumer>⟧) F.tells (file_replayed (Some config) (F.held files.old log.now)) consumers.old.items consumers.new.items fanout.old fanout.new) }
+    ensures part { IfErr result (λ e. AreFedPart (sight_of ⟦<dyn Consumer as Consumer>⟧) F.tells (file_begun (Some config) (F.held files.old log.now)) e consumers.old.items consumers.new.items fanout.old fanout.new) }
     ensures room { length consumers.new.items ≤ length fanout.new.places }
     ensures cause { HasStartCause (F.read_faults files.old) (F.read_faults files.new) (F.append_faults files.old) (F.append_faults files.new) result }
     ensures about { IsTrue F.tells → IfErr result (IsReadOfLog log.now (F.faults_about files.old) (F.faults_about files.new)) }
@@ -234,11 +233,11 @@ fn go_on_fed<F: Files>(
     requires none { fanout.old ≡ none_told consumers.old.items }
     ensures said { IsTrue F.tells → StartsThere config.now keys log.now (F.held files.old log.now) result }
     ensures is { IfOk result (λ node. (node.core.config ≡ config.now) × (node.keys ≡ keys)) }
-    ensures fed { IfOk result (λ node. AreFed (seen (λ b. consumed b) (λ b. faults b) (λ b. b.vtable)) (moment (begun config.now) consumers.old.items fanout.old) (moment node.core consumers.new.items fanout.new)) }
+    ensures fed { IfOk result (λ node. AreFed (sight_of ⟦<dyn Consumer as Consumer>⟧) (moment (begun config.now) consumers.old.items fanout.old) (moment node.core consumers.new.items fanout.new)) }
     ensures whole { All (λ b. HasTaken [] 0 (consumed b)) consumers.old.items → IfOk result (λ node. All (λ b. HasTaken (told_chain node.core) (length (told_chain node.core)) (consumed b)) consumers.new.items) }
     ensures passed { IfOk result (λ node. fanout.new.passed ≡ length (told_chain node.core)) }
-    ensures stopped { IfErr result (λ e. AreFedSome (seen (λ b. consumed b) (λ b. faults b) (λ b. b.vtable)) F.tells (file_replayed (Some config.now) (F.held files.old log.now)) consumers.old.items consumers.new.items fanout.old fanout.new) }
-    ensures part { IfErr result (λ e. AreFedPart (seen (λ b. consumed b) (λ b. faults b) (λ b. b.vtable)) F.tells (file_begun (Some config.now) (F.held files.old log.now)) e consumers.old.items consumers.new.items fanout.old fanout.new) }
+    ensures stopped { IfErr result (λ e. AreFedSome (sight_of ⟦<dyn Consumer as Consumer>⟧) F.tells (file_replayed (Some config.now) (F.held files.old log.now)) consumers.old.items consumers.new.items fanout.old fanout.new) }
+    ensures part { IfErr result (λ e. AreFedPart (sight_of ⟦<dyn Consumer as Consumer>⟧) F.tells (file_begun (Some config.now) (F.held files.old log.now)) e consumers.old.items consumers.new.items fanout.old fanout.new) }
     ensures room { length consumers.new.items ≤ length fanout.new.places }
     ensures cause { HasReplayCause (F.read_faults files.old) (F.read_faults files.new) result }
     ensures about { IsTrue F.tells → IsReplayAbout (Some log.now) (F.faults_about files.old) (F.faults_about files.new) result }

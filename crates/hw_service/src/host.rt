@@ -5,7 +5,7 @@ use hw_session::Node;
 
 /// A node, and what is kept of its consumers.
 #[derive(Drop)]
-pub struct Host {
+pub(crate) struct Host {
     pub node: Node,
     /// What is kept of its consumers.
     pub fanout: Fanout,

@@ -33,7 +33,7 @@ pub(crate) fn write_bytes<S: Sink>(out: &mut S, bytes: &[u8]) -> Result<(), Serv
 
 /// Tells in a line how the session of this number ended with the node, unless it ended as Done, and answers
 /// whether a call of the door failed in it. A session that ends the run has no line.
-pub fn tell_end<S: Sink>(
+pub(crate) fn tell_end<S: Sink>(
     alloc: Global,
     node: &Node,
     out: &mut S,

@@ -2,11 +2,11 @@
 
 ghost use Rattle.std.specs.Prelude.{◌≡◌, ◌≢◌, ◌≤◌, ◌<◌, ◌*◌, ◌^◌, ℕ, List, Option, length, All, [], Some, IsTrue, IfOk, IfErr, OnOk};
 ghost use Rattle.hw_io.specs.Faults.{raised};
-ghost use Rattle.hw_fanout.specs.Fates.{seen};
 ghost use Rattle.hw_fanout.specs.Chain.{told_chain};
-ghost use Rattle.hw_service.specs.Scene.{door_seen, outside, scene};
+ghost use Rattle.hw_service.specs.Scene.{sight_of, scene};
 ghost use Rattle.hw_service.specs.Begin.{names_of};
 ghost use Rattle.hw_service.specs.Begun.{IsAbout};
+ghost use Rattle.hw_service.specs.Environs.{outside_in};
 ghost use Rattle.hw_service.specs.Loans.{loans};
 ghost use Rattle.hw_service.specs.Steps.{Takes};
 ghost use Rattle.hw_service.specs.Run.{Proceeds, HaveTaken};
@@ -43,9 +43,10 @@ pub fn run<F: Files, S: Sink, C: Clock, D: Door>(
     environment: &mut Environment<'_, '_, '_, '_, F, S, C, D>,
     consumers: &mut Vec<Box<dyn Consumer>>,
 ) -> Result<Served, ServiceFault>
-    ensures runs { RunsTurns (seen (λ b. consumed b) (λ b. (⟦<dyn Consumer as Consumer>⟧ b.vtable).faults b.value) (λ b. b.vtable)) F.tells (names_of sources.entry) me turns
-        (outside (F.held environment.old.files.now) (door_seen (D.sessions environment.old.door.now) (D.accepts environment.old.door.now) (D.dials environment.old.door.now) (D.ends environment.old.door.now)) (S.taken environment.old.out.now) consumers.old.items)
-        (outside (F.held environment.new.files.now) (door_seen (D.sessions environment.new.door.now) (D.accepts environment.new.door.now) (D.dials environment.new.door.now) (D.ends environment.new.door.now)) (S.taken environment.new.out.now) consumers.new.items) (turning peers.old.items (C.given environment.old.clock.now)) (turning peers.new.items (C.given environment.new.clock.now)) result }
+    ensures runs { RunsTurns (sight_of ⟦<dyn Consumer as Consumer>⟧) F.tells (names_of sources.entry) me turns
+        (outside_in F.Files S.Sink D.Door environment.old consumers.old.items)
+        (outside_in F.Files S.Sink D.Door environment.new consumers.new.items)
+        (turning peers.old.items (C.given environment.old.clock.now)) (turning peers.new.items (C.given environment.new.clock.now)) result }
     ensures peers { length peers.new.items ≡ length peers.old.items }
     ensures dials { OnOk result (D.dials environment.new.door.now ≡ raised_by (turns * length peers.old.items) (D.dials environment.old.door.now)) }
     ensures accepts { D.accepts environment.new.door.now ≡ D.accepts environment.old.door.now }
@@ -75,9 +76,10 @@ fn run_begun<F: Files, S: Sink, C: Clock, D: Door>(
     requires me { me < length host.old.node.core.config.weights }
     requires room { length consumers.old.items ≤ length host.old.fanout.places }
     requires passed { host.old.fanout.passed ≡ length (told_chain host.old.node.core) }
-    ensures proceeds { Proceeds (seen (λ b. consumed b) (λ b. (⟦<dyn Consumer as Consumer>⟧ b.vtable).faults b.value) (λ b. b.vtable)) (TakesTurn (seen (λ b. consumed b) (λ b. (⟦<dyn Consumer as Consumer>⟧ b.vtable).faults b.value) (λ b. b.vtable)) F.tells me) 1 turns
-        (scene host.old.node host.old.fanout (outside (F.held environment.old.files.now) (door_seen (D.sessions environment.old.door.now) (D.accepts environment.old.door.now) (D.dials environment.old.door.now) (D.ends environment.old.door.now)) (S.taken environment.old.out.now) consumers.old.items))
-        (outside (F.held environment.new.files.now) (door_seen (D.sessions environment.new.door.now) (D.accepts environment.new.door.now) (D.dials environment.new.door.now) (D.ends environment.new.door.now)) (S.taken environment.new.out.now) consumers.new.items) (turning peers.old.items (C.given environment.old.clock.now)) (turning peers.new.items (C.given environment.new.clock.now)) result }
+    ensures proceeds { Proceeds (sight_of ⟦<dyn Consumer as Consumer>⟧) (TakesTurn (sight_of ⟦<dyn Consumer as Consumer>⟧) F.tells me) 1 turns
+        (scene host.old.node host.old.fanout (outside_in F.Files S.Sink D.Door environment.old consumers.old.items))
+        (outside_in F.Files S.Sink D.Door environment.new consumers.new.items)
+        (turning peers.old.items (C.given environment.old.clock.now)) (turning peers.new.items (C.given environment.new.clock.now)) result }
     ensures peers { length peers.new.items ≡ length peers.old.items }
     ensures dials { OnOk result (D.dials environment.new.door.now ≡ raised_by (turns * length peers.old.items) (D.dials environment.old.door.now)) }
     ensures accepts { D.accepts environment.new.door.now ≡ D.accepts environment.old.door.now }
@@ -90,11 +92,7 @@ fn run_begun<F: Files, S: Sink, C: Clock, D: Door>(
     ensures reads { F.read_faults environment.new.files.now ≡ F.read_faults environment.old.files.now }
 {
     let link_failed = take_turns(alloc, host, me, turns, peers, environment, consumers)?;
-    let limits = close_host(alloc, host, environment.out, consumers)?;
-    Ok(Served {
-        limits,
-        link_failed,
-    })
+    close_host(alloc, host, link_failed, environment.out, consumers)
 }
 
 /// Takes so many turns, one after the other, and answers whether a call of the door failed in a session.
@@ -110,10 +108,11 @@ fn take_turns<F: Files, S: Sink, C: Clock, D: Door>(
     requires me { me < length host.old.node.core.config.weights }
     requires room { length consumers.old.items ≤ length host.old.fanout.places }
     requires passed { host.old.fanout.passed ≡ length (told_chain host.old.node.core) }
-    ensures takes { Takes (TakesTurn (seen (λ b. consumed b) (λ b. (⟦<dyn Consumer as Consumer>⟧ b.vtable).faults b.value) (λ b. b.vtable)) F.tells me) 1 turns
-        ((scene host.old.node host.old.fanout (outside (F.held environment.old.files.now) (door_seen (D.sessions environment.old.door.now) (D.accepts environment.old.door.now) (D.dials environment.old.door.now) (D.ends environment.old.door.now)) (S.taken environment.old.out.now) consumers.old.items)), turning peers.old.items (C.given environment.old.clock.now))
-        ((scene host.new.node host.new.fanout (outside (F.held environment.new.files.now) (door_seen (D.sessions environment.new.door.now) (D.accepts environment.new.door.now) (D.dials environment.new.door.now) (D.ends environment.new.door.now)) (S.taken environment.new.out.now) consumers.new.items)), turning peers.new.items (C.given environment.new.clock.now)) result }
-    ensures whole { HaveTaken (seen (λ b. consumed b) (λ b. (⟦<dyn Consumer as Consumer>⟧ b.vtable).faults b.value) (λ b. b.vtable)) host.old.node.core host.old.fanout.passed consumers.old.items → OnOk result (HaveTaken (seen (λ b. consumed b) (λ b. (⟦<dyn Consumer as Consumer>⟧ b.vtable).faults b.value) (λ b. b.vtable)) host.new.node.core host.new.fanout.passed consumers.new.items) }
+    ensures takes { Takes (TakesTurn (sight_of ⟦<dyn Consumer as Consumer>⟧) F.tells me) 1 turns
+        (scene host.old.node host.old.fanout (outside_in F.Files S.Sink D.Door environment.old consumers.old.items), turning peers.old.items (C.given environment.old.clock.now))
+        (scene host.new.node host.new.fanout (outside_in F.Files S.Sink D.Door environment.new consumers.new.items), turning peers.new.items (C.given environment.new.clock.now)) result }
+    ensures whole { HaveTaken (sight_of ⟦<dyn Consumer as Consumer>⟧) host.old.node.core host.old.fanout.passed consumers.old.items
+        → OnOk result (HaveTaken (sight_of ⟦<dyn Consumer as Consumer>⟧) host.new.node.core host.new.fanout.passed consumers.new.items) }
     ensures room { length consumers.new.items ≤ length host.new.fanout.places }
     ensures passed { OnOk result (host.new.fanout.passed ≡ length (told_chain host.new.node.core)) }
     ensures config { host.new.node.core.config ≡ host.old.node.core.config }
@@ -147,10 +146,11 @@ fn take_turn<F: Files, S: Sink, C: Clock, D: Door>(
     requires me { me < length host.old.node.core.config.weights }
     requires room { length consumers.old.items ≤ length host.old.fanout.places }
     requires passed { host.old.fanout.passed ≡ length (told_chain host.old.node.core) }
-    ensures turn { (number : ℕ) → TakesTurn (seen (λ b. consumed b) (λ b. (⟦<dyn Consumer as Consumer>⟧ b.vtable).faults b.value) (λ b. b.vtable)) F.tells me number
-        ((scene host.old.node host.old.fanout (outside (F.held environment.old.files.now) (door_seen (D.sessions environment.old.door.now) (D.accepts environment.old.door.now) (D.dials environment.old.door.now) (D.ends environment.old.door.now)) (S.taken environment.old.out.now) consumers.old.items)), turning peers.old.items (C.given environment.old.clock.now))
-        ((scene host.new.node host.new.fanout (outside (F.held environment.new.files.now) (door_seen (D.sessions environment.new.door.now) (D.accepts environment.new.door.now) (D.dials environment.new.door.now) (D.ends environment.new.door.now)) (S.taken environment.new.out.now) consumers.new.items)), turning peers.new.items (C.given environment.new.clock.now)) result }
-    ensures whole { HaveTaken (seen (λ b. consumed b) (λ b. (⟦<dyn Consumer as Consumer>⟧ b.vtable).faults b.value) (λ b. b.vtable)) host.old.node.core host.old.fanout.passed consumers.old.items → OnOk result (HaveTaken (seen (λ b. consumed b) (λ b. (⟦<dyn Consumer as Consumer>⟧ b.vtable).faults b.value) (λ b. b.vtable)) host.new.node.core host.new.fanout.passed consumers.new.items) }
+    ensures turn { (number : ℕ) → TakesTurn (sight_of ⟦<dyn Consumer as Consumer>⟧) F.tells me number
+        (scene host.old.node host.old.fanout (outside_in F.Files S.Sink D.Door environment.old consumers.old.items), turning peers.old.items (C.given environment.old.clock.now))
+        (scene host.new.node host.new.fanout (outside_in F.Files S.Sink D.Door environment.new consumers.new.items), turning peers.new.items (C.given environment.new.clock.now)) result }
+    ensures whole { HaveTaken (sight_of ⟦<dyn Consumer as Consumer>⟧) host.old.node.core host.old.fanout.passed consumers.old.items
+        → OnOk result (HaveTaken (sight_of ⟦<dyn Consumer as Consumer>⟧) host.new.node.core host.new.fanout.passed consumers.new.items) }
     ensures room { length consumers.new.items ≤ length host.new.fanout.places }
     ensures passed { OnOk result (host.new.fanout.passed ≡ length (told_chain host.new.node.core)) }
     ensures config { host.new.node.core.config ≡ host.old.node.core.config }
@@ -187,8 +187,11 @@ fn drive_peers<F: Files, S: Sink, C: Clock, D: Door>(
 ) -> Result<bool, ServiceFault>
     requires room { length consumers.old.items ≤ length host.old.fanout.places }
     requires passed { host.old.fanout.passed ≡ length (told_chain host.old.node.core) }
-    ensures drives { Takes (DrivesSession (seen (λ b. consumed b) (λ b. (⟦<dyn Consumer as Consumer>⟧ b.vtable).faults b.value) (λ b. b.vtable)) F.tells) 0 (length peers.old.items) ((scene host.old.node host.old.fanout (outside (F.held environment.old.files.now) (door_seen (D.sessions environment.old.door.now) (D.accepts environment.old.door.now) (D.dials environment.old.door.now) (D.ends environment.old.door.now)) (S.taken environment.old.out.now) consumers.old.items)), peers.old.items) ((scene host.new.node host.new.fanout (outside (F.held environment.new.files.now) (door_seen (D.sessions environment.new.door.now) (D.accepts environment.new.door.now) (D.dials environment.new.door.now) (D.ends environment.new.door.now)) (S.taken environment.new.out.now) consumers.new.items)), peers.new.items) result }
-    ensures whole { HaveTaken (seen (λ b. consumed b) (λ b. (⟦<dyn Consumer as Consumer>⟧ b.vtable).faults b.value) (λ b. b.vtable)) host.old.node.core host.old.fanout.passed consumers.old.items → OnOk result (HaveTaken (seen (λ b. consumed b) (λ b. (⟦<dyn Consumer as Consumer>⟧ b.vtable).faults b.value) (λ b. b.vtable)) host.new.node.core host.new.fanout.passed consumers.new.items) }
+    ensures drives { Takes (DrivesSession (sight_of ⟦<dyn Consumer as Consumer>⟧) F.tells) 0 (length peers.old.items)
+        (scene host.old.node host.old.fanout (outside_in F.Files S.Sink D.Door environment.old consumers.old.items), peers.old.items)
+        (scene host.new.node host.new.fanout (outside_in F.Files S.Sink D.Door environment.new consumers.new.items), peers.new.items) result }
+    ensures whole { HaveTaken (sight_of ⟦<dyn Consumer as Consumer>⟧) host.old.node.core host.old.fanout.passed consumers.old.items
+        → OnOk result (HaveTaken (sight_of ⟦<dyn Consumer as Consumer>⟧) host.new.node.core host.new.fanout.passed consumers.new.items) }
     ensures room { length consumers.new.items ≤ length host.new.fanout.places }
     ensures passed { OnOk result (host.new.fanout.passed ≡ length (told_chain host.new.node.core)) }
     ensures config { host.new.node.core.config ≡ host.old.node.core.config }
@@ -228,8 +231,11 @@ fn drive_peer<F: Files, S: Sink, C: Clock, D: Door>(
 ) -> Result<bool, ServiceFault>
     requires room { length consumers.old.items ≤ length host.old.fanout.places }
     requires passed { host.old.fanout.passed ≡ length (told_chain host.old.node.core) }
-    ensures drives { DrivesAt (seen (λ b. consumed b) (λ b. (⟦<dyn Consumer as Consumer>⟧ b.vtable).faults b.value) (λ b. b.vtable)) F.tells number (scene host.old.node host.old.fanout (outside (F.held environment.old.files.now) (door_seen (D.sessions environment.old.door.now) (D.accepts environment.old.door.now) (D.dials environment.old.door.now) (D.ends environment.old.door.now)) (S.taken environment.old.out.now) consumers.old.items)) (scene host.new.node host.new.fanout (outside (F.held environment.new.files.now) (door_seen (D.sessions environment.new.door.now) (D.accepts environment.new.door.now) (D.dials environment.new.door.now) (D.ends environment.new.door.now)) (S.taken environment.new.out.now) consumers.new.items)) peer.old peer.new result }
-    ensures whole { HaveTaken (seen (λ b. consumed b) (λ b. (⟦<dyn Consumer as Consumer>⟧ b.vtable).faults b.value) (λ b. b.vtable)) host.old.node.core host.old.fanout.passed consumers.old.items → HaveTaken (seen (λ b. consumed b) (λ b. (⟦<dyn Consumer as Consumer>⟧ b.vtable).faults b.value) (λ b. b.vtable)) host.new.node.core host.new.fanout.passed consumers.new.items }
+    ensures drives { DrivesAt (sight_of ⟦<dyn Consumer as Consumer>⟧) F.tells number
+        (scene host.old.node host.old.fanout (outside_in F.Files S.Sink D.Door environment.old consumers.old.items))
+        (scene host.new.node host.new.fanout (outside_in F.Files S.Sink D.Door environment.new consumers.new.items)) peer.old peer.new result }
+    ensures whole { HaveTaken (sight_of ⟦<dyn Consumer as Consumer>⟧) host.old.node.core host.old.fanout.passed consumers.old.items
+        → HaveTaken (sight_of ⟦<dyn Consumer as Consumer>⟧) host.new.node.core host.new.fanout.passed consumers.new.items }
     ensures room { length consumers.new.items ≤ length host.new.fanout.places }
     ensures passed { host.new.fanout.passed ≡ length (told_chain host.new.node.core) }
     ensures config { host.new.node.core.config ≡ host.old.node.core.config }

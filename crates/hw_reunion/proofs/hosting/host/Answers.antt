@@ -1,18 +1,8 @@
-use Rattle.std.proofs.Common.{inl, refl}
-use Rattle.std.proofs.lemmas.Result.{err_from_is_err_and}
-use Rattle.hw_service.specs.declared.ended.Served.{Served}
-use Rattle.hw_service.proofs.RunLaws.{begins_unwritten, runs_from}
+use Rattle.hw_service.proofs.DoorLaws.{runs_raise, runs_keep}
 use Rattle.hw_reunion.proofs.hosting.host.Goals as goal
 
-pub returns-clause-hosts : goal.returns-clause-hosts
-returns-clause-hosts g c = runs_from _ _ _ _ _ _ _ _ _ _ _ _ c.host_begun.result (c.in_ok-host.ensures.begins _ _) c.in_ok-host.ensures.whole c.host_begun.ensures.proceeds
+pub returns-clause-accepts : goal.returns-clause-accepts
+returns-clause-accepts g c = runs_raise (λ d. d.accepts) _ _ _ _ _ (λ k old new result s. s.talked.came.accepts) _ _ _ _ _ _ c.hold_sessions.result c.hold_sessions.ensures.holds
 
-pub returns-in_err-host-clause-hosts : goal.returns-in_err-host-clause-hosts
-returns-in_err-host-clause-hosts g c =
-    let p = err_from_is_err_and c.from_residual.result c.from_residual.ensures.1 in
-    rw (p.1, p.2) (inl (record { begins_not = c.in_err-host.ensures.begins_not _ _; same = refl }))
-
-pub returns-in_err-host-clause-writes : goal.returns-in_err-host-clause-writes
-returns-in_err-host-clause-writes g c =
-    let p = err_from_is_err_and c.from_residual.result c.from_residual.ensures.1 in
-    rw (p.1, p.2) (begins_unwritten Served _ _ _ _ _ _ c.in_err-host.field-0.0 _ (c.in_err-host.ensures.begins_not (record { sessions = g.D.Door.sessions c.args.door.now; accepts = 0; dials = 0; ends = 0 }) (g.S.Sink.taken c.args.out.now)))
+pub returns-clause-dials : goal.returns-clause-dials
+returns-clause-dials g c = runs_keep (λ d. d.dials) _ _ _ _ _ (λ k old new result s. s.talked.came.dials) _ _ _ _ _ _ c.hold_sessions.result c.hold_sessions.ensures.holds

@@ -1,12 +1,12 @@
 use Rattle.std.proofs.Common.{◌≡◌, ◌≤◌, length}
 use Rattle.hw_fanout.specs.Fates.{seen}
 use Rattle.hw_fanout.specs.Chain.{told_chain}
-use Rattle.hw_service.specs.Scene.{door_seen, outside, scene}
+use Rattle.hw_service.specs.Scene.{outside_of, scene}
 use Rattle.hw_service.specs.Steps.{TakesAll}
 use Rattle.hw_service.specs.Run.{HaveTaken}
-use Rattle.hw_service.specs.Serve.{serves_session}
-use Rattle.hw_service.specs.Counts.{IsDoorCounted, raised_by}
-use Rattle.hw_service.proofs.serving.serve_sessions.Given as goal
+use Rattle.hw_service.specs.Held.{holds_session}
+use Rattle.hw_service.specs.Counts.{IsDoorCounted}
+use Rattle.hw_service.proofs.sessions.hold_all.Given as goal
 
 abbrev pub invariant-loop-index : goal.invariant-loop-index
 invariant-loop-index g l =
@@ -15,14 +15,12 @@ invariant-loop-index g l =
     let s = g.S.Sink in
     let sight = seen (λ b. (goal.Consumer-dyn g (b.vtable, b.value)).consumed b.value) (λ b. (goal.Consumer-dyn g (b.vtable, b.value)).faults b.value) (λ b. b.vtable) in
     record {
-      taken : TakesAll (serves_session sight f.tells) 1 l.index
-          (scene l.initial.host.node l.initial.host.fanout (outside (f.held l.initial.files) (door_seen (d.sessions l.initial.door) (d.accepts l.initial.door) (d.dials l.initial.door) (d.ends l.initial.door)) (s.taken l.initial.out) l.initial.consumers.items), tt)
-          (scene l.host.node l.host.fanout (outside (f.held l.files) (door_seen (d.sessions l.door) (d.accepts l.door) (d.dials l.door) (d.ends l.door)) (s.taken l.out) l.consumers.items), tt) l.failed;
+      taken : TakesAll (holds_session sight (g.T.Talk.talks l.sessions.talk f.tells) l.sessions.who.now) l.sessions.first l.index
+          (scene l.initial.host.node l.initial.host.fanout (outside_of f s d l.initial.files l.initial.out l.initial.door l.initial.consumers.items), tt)
+          (scene l.host.node l.host.fanout (outside_of f s d l.files l.out l.door l.consumers.items), tt) l.failed;
       whole : HaveTaken sight l.initial.host.node.core l.initial.host.fanout.passed l.initial.consumers.items → HaveTaken sight l.host.node.core l.host.fanout.passed l.consumers.items;
       places : length l.consumers.items ≤ length l.host.fanout.places;
       passed : l.host.fanout.passed ≡ length (told_chain l.host.node.core);
-      accepts : d.accepts l.door ≡ raised_by l.index (d.accepts l.initial.door);
-      dials : d.dials l.door ≡ d.dials l.initial.door;
       appends : f.append_faults l.files ≡ f.append_faults l.initial.files;
       writes : s.faults l.out ≡ s.faults l.initial.out;
       link : IsDoorCounted l.failed (d.faults l.initial.door) (d.faults l.door);
