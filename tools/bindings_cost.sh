@@ -1,8 +1,9 @@
 #!/usr/bin/env bash
 # What a delivery costs through the crate for Rust beside one inside the program, in instructions that valgrind counts:
 # bindings_cost.sh PROGRAM LOG. The program replays the log once; the crate delivers it once. Both read it from a file.
-# From each count that of the same with no entry is taken, which leaves the deliveries. Of a log of version 1 the
-# program hashes four units at a time; of the same in version 2 one at a time, as the crate does: it is asked for both.
+# From each count that of the same with no entry is taken, which leaves the deliveries. Where the crate has all vertices
+# in one call it hashes four units at a time, as the program does of a log of version 1; where it has one a call it
+# hashes one at a time, as the program does of the same log in version 2. Each is told beside the other.
 # What fails is named, with what it said, and the status is 1 then, or 2 where the words or a tool aren't as they should
 # be.
 set -euo pipefail
@@ -63,12 +64,13 @@ deliveries() {
 }
 
 deliveries "$log" "$work/none.hwlg" "$crate"
-through=$cost
+all=$cost
 deliveries "$log" "$work/none.hwlg" "$program" replay
 four=$cost
+deliveries "$log" "$work/none.hwlg" "$crate" single
+single=$cost
 deliveries "$work/log.short.hwlg" "$work/none.short.hwlg" "$program" replay
 one=$cost
-times() { python3 -c "print('%.3f' % ($through / $1))"; }
-echo "through the crate $through"
-echo "inside the program, four hashed at a time, $four: $(times $four)"
-echo "inside the program, one hashed at a time, $one: $(times $one)"
+times() { python3 -c "print('%.3f' % ($1 / $2))"; }
+echo "four hashed at a time: through the crate $all, inside the program $four: $(times $all $four)"
+echo "one hashed at a time: through the crate $single, inside the program $one: $(times $single $one)"

@@ -46,9 +46,15 @@ enum {
   HW_BAD_CERTIFIED_VERTEX = 0x520  /* + as HW_BAD_BYTES; at is the place of the vertex */
 };
 
-/* What stands behind a status; what it doesn't need is 0. After hw_deliver the kind says what became of the vertex: 0
+/* What stands behind a status; what it doesn't need is 0. Of a delivery the kind says what became of the vertex: 0
  * count units settled, 1 it waits for count needs, 2 it breaks the rule of the number count, 3 it was there already. */
 typedef struct { uint32_t kind, count; uint64_t at; uint8_t digest[32]; } hw_answer;
+
+/* Where a vertex stands in the bytes that are handed over with it, and the verdict on its signatures: 0 no, 1 yes. */
+typedef struct { uint64_t start, length; uint32_t verdict; } hw_sent;
+
+/* What the delivery of a vertex was answered. */
+typedef struct { uint32_t status; hw_answer answer; } hw_delivered;
 
 /* A configuration without its lists. Leaders are drawn by the key where is_drawn is 1, else told by a table. The
  * height of the last block is end where has_end is 1. */
@@ -95,7 +101,26 @@ uint32_t hw_config(const hw_settings *settings, const uint64_t *weights, size_t 
 uint32_t hw_core_new(const uint8_t *config, size_t config_len, hw_answer *answer, hw_core *core);
 uint32_t hw_core_free(hw_core *core);
 uint32_t hw_signed(const uint8_t *vertex, size_t vertex_len, hw_signatures *signatures, hw_answer *answer);
-uint32_t hw_deliver(hw_core *core, const uint8_t *vertex, size_t vertex_len, bool verdict, hw_answer *answer);
+
+/* Delivers the vertices in order, and answers each in delivered; what lies between them doesn't count. Those that are
+ * units are hashed four side by side, so several in one call cost less than each in one of its own. A vertex that is
+ * refused changes nothing, and those behind it are delivered; one that lies outside the bytes, or whose verdict is
+ * neither 0 nor 1, is answered HW_OUT_OF_RANGE. The call itself is answered HW_OUT_OF_RANGE, and nothing is delivered,
+ * where answers isn't count. */
+uint32_t hw_deliver(hw_core *core, const uint8_t *bytes, size_t bytes_len, const hw_sent *vertices, size_t count,
+                    hw_delivered *delivered, size_t answers);
+
+/* Delivers the one vertex that the bytes are, and answers its status, or HW_EMPTY. */
+static inline uint32_t hw_deliver_one(hw_core *core, const uint8_t *vertex, size_t vertex_len, bool verdict,
+                                      hw_answer *answer) {
+  hw_sent sent = {0, vertex_len, verdict};
+  hw_delivered delivered;
+  uint32_t status = hw_deliver(core, vertex, vertex_len, &sent, 1, &delivered, 1);
+  if (status != HW_OK) return status;
+  *answer = delivered.answer;
+  return delivered.status;
+}
+
 uint32_t hw_journal(hw_core *core, uint64_t place, uint8_t *buf, size_t room, size_t *len);
 uint32_t hw_summary(hw_core *core, hw_summary_of *summary);
 uint32_t hw_observation(hw_core *core, uint32_t validator, hw_observed *observed);

@@ -1,5 +1,5 @@
 /* Replays a log of version 1 a number of times, and says how many vertices it delivered and how many blocks are final.
- * Each node is made and let go; a second free and an empty handle are answered by their status. */
+ * Each node is made and let go; a second free, an empty handle and what isn't in range are answered by their status. */
 #include "highway.h"
 #include <stdio.h>
 #include <stdlib.h>
@@ -18,6 +18,37 @@ static uint8_t *file_of(const char *name, size_t *size) {
   return bytes;
 }
 
+/* How many vertices are handed over in one call. */
+enum { AT_ONCE = 64 };
+
+/* Delivers the whole entries of the log from that byte on, as they stand there; the last one may be torn. Returns the
+ * status of the first call that failed, else HW_OK. */
+static uint32_t deliver(hw_core *core, const uint8_t *log, size_t size, size_t at, uint64_t *delivered) {
+  hw_sent sent[AT_ONCE];
+  hw_delivered answers[AT_ONCE];
+  size_t count;
+  do {
+    for (count = 0; count < AT_ONCE && size - at >= 6 && number_at(log + at + 2) <= size - at - 6; count++) {
+      sent[count] = (hw_sent){at + 6, number_at(log + at + 2), log[at + 1]};
+      at += 6 + sent[count].length;
+    }
+    uint32_t status = hw_deliver(core, log, size, sent, count, answers, count);
+    if (status != HW_OK) return status;
+    *delivered += count;
+  } while (count == AT_ONCE);
+  return HW_OK;
+}
+
+/* Whether a node answers what isn't in range, and a vertex without bytes, by the status of each. */
+static bool refuses(hw_core *core, const uint8_t *log, size_t size) {
+  hw_sent wrong[2] = {{size, 1, 1}, {0, size, 2}};
+  hw_delivered answers[2];
+  hw_answer answer;
+  return hw_deliver(core, log, size, wrong, 2, answers, 1) == HW_OUT_OF_RANGE &&
+         hw_deliver(core, log, size, wrong, 2, answers, 2) == HW_OK && answers[0].status == HW_OUT_OF_RANGE &&
+         answers[1].status == HW_OUT_OF_RANGE && hw_deliver_one(core, log, 0, true, &answer) == HW_BAD_BYTES;
+}
+
 /* The status of the first call that failed, else HW_OK. */
 static uint32_t replay(const uint8_t *log, size_t size, uint64_t *delivered, uint64_t *final) {
   hw_core core = {0};
@@ -28,14 +59,9 @@ static uint32_t replay(const uint8_t *log, size_t size, uint64_t *delivered, uin
   uint32_t status = hw_core_new(log + 9, at - 9, &answer, &core);
   if (status != HW_OK) return status;
   if (hw_core_new(log + 9, at - 9, &answer, &core) != HW_FULL) return HW_EMPTY;
-  while (at + 6 <= size) {
-    uint32_t length = number_at(log + at + 2);
-    if (length > size - at - 6) break; /* The last entry is torn. */
-    hw_deliver(&core, log + at + 6, length, log[at + 1] == 1, &answer);
-    at += 6 + length;
-    ++*delivered;
-  }
-  status = hw_summary(&core, &summary);
+  status = deliver(&core, log, size, at, delivered);
+  if (!refuses(&core, log, size)) return HW_NONE;
+  if (status == HW_OK) status = hw_summary(&core, &summary);
   hw_decided decided;
   for (uint64_t index = 0; status == HW_OK && index < summary.decided; index++)
     if ((status = hw_decision(&core, index, &decided)) == HW_OK) ++*final;

@@ -2,7 +2,7 @@
 //!
 //! `cargo run --example audit -- LEFT.hwlg RIGHT.hwlg`; with no words it takes two logs of the repository.
 
-use highway::{Core, Verdict};
+use highway::{Core, Sent, Verdict};
 use std::error::Error;
 use std::path::{Path, PathBuf};
 use std::{env, fs};
@@ -13,21 +13,32 @@ fn number_at(log: &[u8], at: usize) -> Result<usize, Box<dyn Error>> {
     Ok(u32::from_be_bytes(bytes.try_into()?) as usize)
 }
 
+/// The vertices of a log of version 1, from that byte on. Before each stand its verdict and its length.
+fn vertices_from(log: &[u8], mut at: usize) -> Result<Vec<Sent>, Box<dyn Error>> {
+    let mut vertices = Vec::new();
+    while at < log.len() {
+        let end = at + 6 + number_at(log, at + 2)?;
+        let part = at + 6..end;
+        log.get(part.clone()).ok_or("the log is torn")?;
+        vertices.push(Sent { part, verdict: log[at + 1] == 1 });
+        at = end;
+    }
+    Ok(vertices)
+}
+
 /// A node with the entries of a log of version 1. The verdicts stand in the log.
 fn node_of(path: &Path) -> Result<Core, Box<dyn Error>> {
     let log = fs::read(path)?;
     if !log.starts_with(b"HWLG\x01") {
         return Err("no log of version 1; `highway migrate` writes one anew".into());
     }
-    let mut at = 9 + number_at(&log, 5)?;
-    let mut core = Core::new(log.get(9..at).ok_or("the log is torn")?)?;
-    while at < log.len() {
-        let end = at + 6 + number_at(&log, at + 2)?;
-        let vertex = log.get(at + 6..end).ok_or("the log is torn")?;
-        if let Err(refusal) = core.deliver(vertex, log[at + 1] == 1) {
-            eprintln!("{}: at {at}: {refusal}", path.display());
+    let begin = 9 + number_at(&log, 5)?;
+    let mut core = Core::new(log.get(9..begin).ok_or("the log is torn")?)?;
+    let vertices = vertices_from(&log, begin)?;
+    for (sent, answer) in vertices.iter().zip(core.deliver_all(&log, &vertices)) {
+        if let Err(refusal) = answer {
+            eprintln!("{}: the vertex at {}: {refusal}", path.display(), sent.part.start);
         }
-        at = end;
     }
     Ok(core)
 }

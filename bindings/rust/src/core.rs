@@ -3,6 +3,7 @@
 use crate::{Certificate, Digest, Error, Need, Plan, Rule, Verdict, sys};
 use std::fmt;
 use std::iter::FusedIterator;
+use std::ops::Range;
 
 /// A node of one instance: what it received, and all that follows from it.
 ///
@@ -20,6 +21,35 @@ use std::iter::FusedIterator;
 /// ```
 pub struct Core {
     handle: sys::Handle,
+}
+
+/// A vertex among other bytes, as those of a log, and the verdict on its signatures.
+///
+/// ```
+/// # use highway::{Core, Error, Leaders, Receipt, Sent, Settings};
+/// # let leaders = Leaders::Table(vec![0]);
+/// # let settings = Settings { leaders, min_exponent: 2, ..Settings::of_weights(vec![1]) };
+/// # let mut core = Core::new(&settings.to_bytes()?)?;
+/// let vertex = core.next_unit(0, 0, b"a block")?.expect("validator 0 leads").signed(&[7; 32])?;
+/// let message = [b"header".as_slice(), &vertex].concat();
+/// let sent = Sent { part: 6..message.len(), verdict: true };
+/// assert_eq!(core.deliver_all(&message, &[sent]), [Ok(Receipt::Admitted { settled: 1 })]);
+/// # Ok::<(), Error>(())
+/// ```
+#[derive(Clone, Debug, PartialEq, Eq)]
+pub struct Sent {
+    /// Where it stands in the bytes.
+    pub part: Range<usize>,
+    /// Whether its signatures are right.
+    pub verdict: bool,
+}
+
+impl Sent {
+    /// What the library is told. A range that ends before it begins has more bytes than there are.
+    fn told(&self) -> sys::Sent {
+        let (start, end) = (self.part.start as u64, self.part.end as u64);
+        sys::Sent { start, length: end.wrapping_sub(start), verdict: self.verdict.into() }
+    }
 }
 
 /// What became of a vertex that was accepted.
@@ -72,7 +102,8 @@ pub struct Refusal {
 }
 
 impl Refusal {
-    /// Whether no honest peer sends such a vertex. What the node hasn't room or memory for is nobody's fault.
+    /// Whether no honest peer sends such a vertex. What the node hasn't room or memory for is nobody's fault, and a
+    /// part that lies outside the bytes is the caller's.
     ///
     /// ```
     /// use highway::{Error, Refusal};
@@ -81,7 +112,7 @@ impl Refusal {
     /// assert!(!Refusal { error: Error::RecordsFull }.is_fault_of_sender());
     /// ```
     pub fn is_fault_of_sender(&self) -> bool {
-        !matches!(self.error, Error::OutOfMemory | Error::RecordsFull | Error::ParkFull)
+        !matches!(self.error, Error::OutOfMemory | Error::RecordsFull | Error::ParkFull | Error::OutOfRange)
     }
 }
 
@@ -302,6 +333,13 @@ fn receipt_of(answer: &sys::Answer) -> Receipt {
     }
 }
 
+fn outcome_of(delivered: &sys::Delivered) -> Result<Receipt, Refusal> {
+    match Error::check(delivered.status, &delivered.answer) {
+        Ok(()) => Ok(receipt_of(&delivered.answer)),
+        Err(error) => Err(Refusal { error }),
+    }
+}
+
 impl Core {
     /// A node that has received nothing, of the configuration that the bytes spell.
     ///
@@ -322,7 +360,8 @@ impl Core {
         Ok(Core { handle: sys::Handle::new(config)? })
     }
 
-    /// Takes the vertex that the bytes spell, with the verdict on its signatures.
+    /// Takes the vertex that the bytes spell, with the verdict on its signatures. Where there are several,
+    /// [`Core::deliver_all`] costs less.
     ///
     /// # Errors
     ///
@@ -337,10 +376,51 @@ impl Core {
     /// # Ok::<(), Error>(())
     /// ```
     pub fn deliver(&mut self, vertex: &[u8], verdict: bool) -> Result<Receipt, Refusal> {
-        match self.handle.deliver(vertex, verdict) {
-            Ok(answer) => Ok(receipt_of(&answer)),
-            Err(error) => Err(Refusal { error }),
-        }
+        let mut delivered = [sys::Delivered::default()];
+        self.handle.deliver(vertex, &[Sent { part: 0..vertex.len(), verdict }.told()], &mut delivered);
+        outcome_of(&delivered[0])
+    }
+
+    /// Takes vertices that stand in the bytes, one after the other, and answers each as [`Core::deliver`] does. What
+    /// lies between them doesn't count.
+    ///
+    /// The units among them are hashed four side by side, so a host that has several does well to hand them over in one
+    /// call: those of its own log at a start, or of a message from a peer.
+    ///
+    /// # Errors
+    ///
+    /// A vertex that is refused changes nothing, and those behind it are taken. A part that doesn't lie in the bytes is
+    /// refused with [`Error::OutOfRange`].
+    ///
+    /// ```
+    /// # use highway::{Core, Error, Leaders, Receipt, Sent, Settings};
+    /// # let leaders = Leaders::Table(vec![0]);
+    /// # let settings = Settings { leaders, min_exponent: 2, ..Settings::of_weights(vec![1]) };
+    /// # let mut core = Core::new(&settings.to_bytes()?)?;
+    /// # for now in 0..32 {
+    /// #     let Some(plan) = core.next_unit(0, now, b"a block")? else { continue };
+    /// #     core.deliver(&plan.signed(&[0; 32])?, true)?;
+    /// # }
+    /// let (mut stored, mut vertices) = (Vec::new(), Vec::new());
+    /// for vertex in core.journal_from(0) {
+    ///     let start = stored.len();
+    ///     stored.extend(vertex?);
+    ///     vertices.push(Sent { part: start..stored.len(), verdict: true });
+    /// }
+    /// let mut again = Core::new(&settings.to_bytes()?)?;
+    /// let answers = again.deliver_all(&stored, &vertices);
+    /// assert!(answers.iter().all(|answer| *answer == Ok(Receipt::Admitted { settled: 1 })));
+    /// assert_eq!(again.summary(), core.summary());
+    ///
+    /// let outside = Sent { part: 0..stored.len() + 1, verdict: true };
+    /// assert_eq!(again.deliver_all(&stored, &[outside])[0].unwrap_err().error, Error::OutOfRange);
+    /// # Ok::<(), Error>(())
+    /// ```
+    pub fn deliver_all(&mut self, bytes: &[u8], vertices: &[Sent]) -> Vec<Result<Receipt, Refusal>> {
+        let told: Vec<sys::Sent> = vertices.iter().map(Sent::told).collect();
+        let mut delivered = vec![sys::Delivered::default(); told.len()];
+        self.handle.deliver(bytes, &told, &mut delivered);
+        delivered.iter().map(outcome_of).collect()
     }
 
     /// How much the node has of what, what its faulty validators weigh, and its fork choice.

@@ -5,7 +5,8 @@
 //! its configuration and its journal. That is proved of the core, and that each call hands it on is proved of the
 //! library that is linked, `hw_c`. This crate is not proved: it says by hand how the calls are made.
 //!
-//! Vertices come in any order. One that misses something is parked until it has all that it needs.
+//! Vertices come in any order. One that misses something is parked until it has all that it needs. Where many are at
+//! hand, as those of a log, [`Core::deliver_all`] takes them in one call, which costs less.
 //!
 //! ```
 //! use highway::{Core, Leaders, Receipt, Settings};
@@ -38,7 +39,7 @@ mod step;
 mod sys;
 
 pub use config::{Leaders, Settings};
-pub use core::{Core, Decision, Decisions, Journal, Observation, Place, Receipt, Refusal, Summary};
+pub use core::{Core, Decision, Decisions, Journal, Observation, Place, Receipt, Refusal, Sent, Summary};
 pub use error::{BytesFault, CertificateFault, Error, Limit, PairFault};
 pub use light::{Certificate, Judgement, Verdict};
 pub use need::Need;

@@ -4,6 +4,7 @@
 //! two texts but a test of the numbers and the tests that call each.
 
 use crate::error::Error;
+use crate::status::OK;
 use std::cell::UnsafeCell;
 use std::ptr::null_mut;
 
@@ -23,6 +24,8 @@ macro_rules! record {
 }
 
 record!(Answer { kind: u32, count: u32, at: u64, digest: [u8; 32] });
+record!(Sent { start: u64, length: u64, verdict: u32 });
+record!(Delivered { status: u32, answer: Answer });
 record!(Settings {
     ftt: u64, end: u64, max_records: u32, max_parked: u32, levels: u8, min_exponent: u8, max_exponent: u8,
     is_drawn: u8, has_end: u8, key: [u8; 32],
@@ -43,8 +46,8 @@ record!(Judged { kind: u32, status: u32, number: u32, weight: u64, block: [u8; 3
 
 #[allow(clippy::too_many_arguments)]
 mod exports {
-    use super::{Answer, Audited, Decided, Judged, Missing, Observed, Placed, Planned};
-    use super::{RawHandle, Settings, Signed, Summary};
+    use super::{Answer, Audited, Decided, Delivered, Judged, Missing, Observed, Placed, Planned};
+    use super::{RawHandle, Sent, Settings, Signed, Summary};
 
     unsafe extern "C" {
         pub fn hw_config(
@@ -55,7 +58,8 @@ mod exports {
         pub fn hw_core_free(core: *mut RawHandle) -> u32;
         pub fn hw_signed(vertex: *const u8, len: usize, signed: *mut Signed, answer: *mut Answer) -> u32;
         pub fn hw_deliver(
-            core: *mut RawHandle, vertex: *const u8, len: usize, verdict: bool, answer: *mut Answer,
+            core: *mut RawHandle, bytes: *const u8, len: usize, vertices: *const Sent, count: usize,
+            delivered: *mut Delivered, room: usize,
         ) -> u32;
         pub fn hw_journal(core: *mut RawHandle, place: u64, buf: *mut u8, room: usize, len: *mut usize) -> u32;
         pub fn hw_summary(core: *mut RawHandle, summary: *mut Summary) -> u32;
@@ -127,14 +131,16 @@ impl Handle {
         Ok(Handle { place: UnsafeCell::new(place) })
     }
 
-    pub fn deliver(&mut self, vertex: &[u8], verdict: bool) -> Result<Answer, Error> {
-        let mut answer = Answer::default();
+    /// Writes what each of the vertices is answered; the two lists are equally long.
+    pub fn deliver(&mut self, bytes: &[u8], vertices: &[Sent], delivered: &mut [Delivered]) {
         // SAFETY: all pointers are of borrows that last for the call.
         let status = unsafe {
-            exports::hw_deliver(self.place.get_mut(), vertex.as_ptr(), vertex.len(), verdict, &mut answer)
+            exports::hw_deliver(
+                self.place.get_mut(), bytes.as_ptr(), bytes.len(), vertices.as_ptr(), vertices.len(),
+                delivered.as_mut_ptr(), delivered.len(),
+            )
         };
-        Error::check(status, &answer)?;
-        Ok(answer)
+        assert_eq!(status, OK, "a core holds a node, and each vertex has its answer");
     }
 
     pub fn journal(&self, place: u64) -> Result<Vec<u8>, Error> {

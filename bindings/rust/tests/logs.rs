@@ -7,7 +7,7 @@
 
 mod log;
 
-use highway::{Core, Error, Observation, PairFault, Receipt, Refusal, Rule};
+use highway::{Core, Error, Observation, PairFault, Receipt, Refusal, Rule, Sent};
 use log::{Log, read_log};
 
 const LOGS: &[u8] = include_bytes!("data/logs.bin");
@@ -129,7 +129,21 @@ fn replayed(log: &Log) -> (Core, Vec<String>) {
     (core, lines)
 }
 
-/// Each log is answered as the reference answers it, and the journal alone makes the same node.
+/// All vertices of the log in one call, among bytes that are none of them: the node, and what each was answered.
+fn replayed_at_once(log: &Log) -> (Core, Vec<String>) {
+    let (mut bytes, mut vertices) = (Vec::new(), Vec::new());
+    for entry in &log.entries {
+        bytes.extend(b"between");
+        let start = bytes.len();
+        bytes.extend(&entry.vertex);
+        vertices.push(Sent { part: start..bytes.len(), verdict: entry.verdict });
+    }
+    let mut core = Core::new(&log.config).unwrap();
+    let answers = core.deliver_all(&bytes, &vertices).into_iter().map(told).collect();
+    (core, answers)
+}
+
+/// Each log is answered as the reference answers it, also in one call, and the journal alone makes the same node.
 fn compare(cases: Vec<(Log, Vec<&str>)>) {
     for (number, (log, expected)) in cases.into_iter().enumerate() {
         let (core, lines) = replayed(&log);
@@ -141,6 +155,11 @@ fn compare(cases: Vec<(Log, Vec<&str>)>) {
             assert_ne!(again.deliver(&entry.unwrap(), true), Ok(Receipt::Repeat));
         }
         assert_eq!(again.summary(), core.summary(), "log {number}");
+
+        let (at_once, answers) = replayed_at_once(&log);
+        assert_eq!(answers, expected[..answers.len()], "log {number}");
+        assert_eq!(answers.len(), log.entries.len());
+        assert_eq!(at_once.summary(), core.summary(), "log {number}");
     }
 }
 

@@ -4,9 +4,10 @@ mod log;
 
 use highway::{
     BytesFault, Certificate, CertificateFault, Core, Error, Judgement, Leaders, Limit, Need, Observation, Place,
-    Receipt, Settings, Signatures, Verdict,
+    Receipt, Refusal, Sent, Settings, Signatures, Verdict,
 };
 use log::{Entry, read_log};
+use std::ops::Range;
 
 const LOGS: &[u8] = include_bytes!("data/logs.bin");
 
@@ -131,6 +132,31 @@ fn bytes_and_configurations_are_judged() {
     let torn = Signatures::of(&sent[0][..20]);
     assert!(matches!(torn, Err(Error::Bytes { fault: BytesFault::Truncated, .. })));
     assert!(matches!(Signatures::of(&sent[0]), Ok(Signatures::Unit(one)) if one.validator == 0));
+}
+
+#[test]
+fn a_refused_vertex_of_a_list_does_not_stop_the_rest() {
+    let mut cores = nodes();
+    let sent = run(&mut cores, 4);
+    let bytes = [sent[0].as_slice(), &sent[1]].concat();
+    let (first, end) = (sent[0].len(), bytes.len());
+    let unsigned = Sent { part: 0..first, verdict: false };
+    let mut vertices = vec![unsigned];
+    let outside = [0..end + 1, end + 1..end + 1, Range { start: first, end: 0 }];
+    let inside = [0..first - 1, first..first, 0..first, first..end];
+    vertices.extend(outside.into_iter().chain(inside).map(|part| Sent { part, verdict: true }));
+    let refused = |error| Err(Refusal { error });
+    let torn = |at| refused(Error::Bytes { fault: BytesFault::Truncated, at });
+    let mut late = Core::new(&settings().to_bytes().unwrap()).unwrap();
+    let answers = late.deliver_all(&bytes, &vertices);
+    let outside = refused(Error::OutOfRange);
+    assert_eq!(answers[..4], [refused(Error::BadSignature), outside, outside, outside]);
+    assert!(matches!(answers[4], Err(Refusal { error: Error::Bytes { fault: BytesFault::Truncated, .. } })));
+    let settled = Ok(Receipt::Admitted { settled: 1 });
+    assert_eq!(answers[5..], [torn(0), settled, settled]);
+    assert!(!answers[1].unwrap_err().is_fault_of_sender());
+    assert_eq!(late.deliver_all(&bytes, &[]), []);
+    assert_eq!(late.summary().unwrap().journal, 2);
 }
 
 /// Delivers entries of a log, some of which are refused.

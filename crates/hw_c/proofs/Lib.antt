@@ -1,3 +1,5 @@
 pub mod Words
 pub mod Places
 pub mod StepLaws
+pub mod NameLaws
+pub mod DeliveryLaws

@@ -55,6 +55,12 @@ IsWithSignature unit signature (Err f) = IsWant f
 
 -- ---- of a node
 
+-- What a delivery of a vertex is answered, and the node after it: that of the definitions. After a refusal the node is as it was.
+abbrev pub IsVertexDelivery : CoreState → Vertex → Bool → Result Receipt Fault → CoreState → Type 0
+IsVertexDelivery old v verdict (Ok receipt) new = (answer_in old v verdict ≡ Ok receipt) × (new ≡ after_in old v verdict)
+IsVertexDelivery old v verdict (Err (fault.Refused cause)) new = IsRefusal cause (answer_in old v verdict) × (new ≡ old)
+IsVertexDelivery old v verdict (Err f) new = ⊥
+
 -- What a delivery of bytes is answered, and the node after it: that of the definitions for the vertex that the bytes spell. After a
 -- fault the node is as it was.
 abbrev pub IsDelivery : CoreState → List ℕ → Bool → Result Receipt Fault → CoreState → Type 0

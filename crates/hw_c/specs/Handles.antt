@@ -1,11 +1,13 @@
 -- What a call does with the handle of a node, which may be empty.
 -- Source: ours.
-use Rattle.std.specs.Prelude.{◌≡◌, ℕ, List, Bool, Option, Some, None, Result, Ok, Err}
-use Rattle.hw_types.specs.declared.answers.Receipt.{Receipt}
+use Rattle.std.specs.Prelude.{◌≡◌, ℕ, List, Option, Some, None, Result, Ok, Err}
 use Rattle.hw_types.specs.Real.{CoreState}
 use Rattle.hw_c.specs.declared.codes.Fault.{Fault}
 use Rattle.hw_c.specs.declared.codes.Fault.TheVariants as fault
-use Rattle.hw_c.specs.Calls.{IsNodeOf, IsDelivery}
+use Rattle.hw_c.specs.declared.sent.Sent.{Sent}
+use Rattle.hw_c.specs.declared.sent.Delivered.{Delivered}
+use Rattle.hw_c.specs.Calls.{IsNodeOf}
+use Rattle.hw_c.specs.Deliveries.{AreAnswered}
 
 -- an empty handle gets a new node of the configuration that the bytes spell, or stays empty; a full one stays as it is
 abbrev pub Begins : Option CoreState → List ℕ → Result Unit Fault → Option CoreState → Type 0
@@ -18,10 +20,10 @@ abbrev pub Ends : Option CoreState → Result Unit Fault → Option CoreState �
 Ends None r new = (r ≡ Err fault.Empty) × (new ≡ None)
 Ends (Some old) r new = (r ≡ Ok tt) × (new ≡ None)
 
--- a node takes the vertex that the bytes spell
-abbrev pub Delivers : Option CoreState → List ℕ → Bool → Result Receipt Fault → Option CoreState → Type 0
-Delivers None bytes verdict r new = (r ≡ Err fault.Empty) × (new ≡ None)
-Delivers (Some old) bytes verdict r new = (core : CoreState) × (new ≡ Some core) × IsDelivery old bytes verdict r core
+-- A node takes the vertices in order, and each is answered. Where there is no node, or not as many answers as vertices, nothing changes.
+abbrev pub Delivers : Option CoreState → List ℕ → List Sent → List Delivered → Result Unit Fault → List Delivered → Option CoreState → Type 0
+Delivers None bytes sent before r delivered new = (r ≡ Err fault.Empty) × (delivered ≡ before) × (new ≡ None)
+Delivers (Some old) bytes sent before r delivered new = (core : CoreState) × (new ≡ Some core) × AreAnswered old bytes sent before r delivered core
 
 -- a node is read, and stays as it is
 abbrev pub Reads : {A : Type 0} → (CoreState → Result A Fault → Type 0) → Option CoreState → Result A Fault → Option CoreState → Type 0

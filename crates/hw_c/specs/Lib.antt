@@ -2,9 +2,11 @@ pub mod Answers
 pub mod Audits
 pub mod Buffers
 pub mod Calls
+pub mod Deliveries
 pub mod Handles
 pub mod Held
 pub mod Light
+pub mod Named
 pub mod Needed
 pub mod Settings
 pub mod Steps

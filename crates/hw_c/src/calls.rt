@@ -1,15 +1,19 @@
 //! What the exports do with a node.
 
-ghost use Rattle.std.specs.Prelude.{◌≡◌, is_some, Option};
+ghost use Rattle.std.specs.Prelude.{◌≡◌, true, is_some, Option};
 ghost use Rattle.hw_types.specs.declared.unit.Digest.{Digest};
+ghost use Rattle.hw_types.specs.declared.unit.SignedUnit.{SignedUnit};
+ghost use Rattle.hw_types.specs.declared.unit.Vertex.TheVariants as vertices;
+ghost use Rattle.hw_types.specs.Spelling.{VertexFits, digest_of};
 ghost use Rattle.hw_c.specs.Answers.{flag, digest_bytes, summary_of, observed_of, placed_of, decided_of};
-ghost use Rattle.hw_c.specs.Calls.{IsNodeOf, IsDelivery, IsEntry, IsSummary, IsObserved, IsPlaced, IsDecided};
+ghost use Rattle.hw_c.specs.Calls.{IsNodeOf, IsVertexDelivery, IsDelivery, IsEntry, IsSummary, IsObserved, IsPlaced, IsDecided};
+ghost use Rattle.hw_c.specs.Named.{IsNameIn};
 
 use crate::codes::{Fault, rule_number};
 use hw_admit::StateStart;
 use hw_codec::{decode_config, decode_vertex, encode_vertex};
 use hw_core::{Core, Place};
-use hw_types::{Bytes, Decision, Digest, Obs, Receipt};
+use hw_types::{Bytes, Decision, Digest, Obs, Receipt, Vertex};
 use std::alloc::Global;
 
 /// How much a node has of what, the weight of its faulty validators, and its fork choice.
@@ -68,16 +72,45 @@ pub fn make(alloc: Global, config: &[u8]) -> Result<Core, Fault>
     }
 }
 
-/// Delivers the vertex that the bytes spell.
+/// Delivers the vertex that the bytes spell. The name is that of its unit, where it is a unit with a right verdict.
 pub fn deliver(
     alloc: Global,
     core: &mut Core,
     bytes: &[u8],
     verdict: bool,
+    name: Digest,
 ) -> Result<Receipt, Fault>
+    requires { verdict ≡ true → IsNameIn bytes.now name }
     ensures { IsDelivery core.old bytes.now verdict result core.new }
 {
     let vertex = decode_vertex(alloc, bytes)?;
+    if verdict {
+        take_named(core, vertex, name)
+    } else {
+        take(core, vertex, false)
+    }
+}
+
+/// Takes a vertex whose verdict is right. The name is that of its unit, where it is one.
+fn take_named(core: &mut Core, vertex: Vertex, name: Digest) -> Result<Receipt, Fault>
+    requires fits { VertexFits vertex }
+    requires name { (s : SignedUnit) → vertex ≡ vertices.Unit s → name ≡ digest_of s.unit }
+    ensures { IsVertexDelivery core.old vertex true result core.new }
+{
+    match vertex {
+        Vertex::Unit(unit) => match core.deliver_named(unit, name) {
+            Ok(receipt) => Ok(receipt),
+            Err(refused) => Err(Fault::Refused(refused.cause)),
+        },
+        other => take(core, other, true),
+    }
+}
+
+/// Takes a vertex with its verdict.
+fn take(core: &mut Core, vertex: Vertex, verdict: bool) -> Result<Receipt, Fault>
+    requires { VertexFits vertex }
+    ensures { IsVertexDelivery core.old vertex verdict result core.new }
+{
     match core.deliver(vertex, verdict) {
         Ok(receipt) => Ok(receipt),
         Err(refused) => Err(Fault::Refused(refused.cause)),

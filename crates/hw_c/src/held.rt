@@ -11,12 +11,14 @@ ghost use Rattle.hw_c.specs.Steps.{IsStep};
 use crate::audits::{self, AuditText};
 use crate::calls::{self, Decided, Observed, Placed, Summary};
 use crate::codes::Fault;
+use crate::deliveries::deliver_all;
 use crate::handle::Handle;
 use crate::light;
 use crate::needs::{self, Missing};
+use crate::sent::{Delivered, Sent};
 use crate::steps::{self, Step};
 use hw_core::Core;
-use hw_types::{Bytes, Receipt};
+use hw_types::Bytes;
 use std::alloc::Global;
 
 /// Puts a node of the configuration that the bytes spell into an empty handle.
@@ -47,19 +49,20 @@ pub fn end(alloc: Global, core: &mut Handle) -> Result<(), Fault>
     }
 }
 
-/// Delivers the vertex that the bytes spell.
+/// Delivers the vertices in order, and tells what each was answered.
 pub fn deliver(
     alloc: Global,
     core: &mut Handle,
-    vertex: &[u8],
-    verdict: bool,
-) -> Result<Receipt, Fault>
-    ensures { Delivers core.old.held vertex.now verdict result core.new.held }
+    bytes: &[u8],
+    vertices: &[Sent],
+    delivered: &mut [Delivered],
+) -> Result<(), Fault>
+    ensures { Delivers core.old.held bytes.now vertices.now delivered.old result delivered.new core.new.held }
 {
     let Some(mut node) = core.take(alloc) else {
         return Err(Fault::Empty);
     };
-    let outcome = calls::deliver(alloc, &mut node, vertex, verdict);
+    let outcome = deliver_all(alloc, &mut node, bytes, vertices, delivered);
     core.fill(node);
     outcome
 }

@@ -10,7 +10,6 @@
 #![tactic(auto)]
 
 ghost use Rattle.std.specs.Prelude.{◌≡◌, ℕ, List, Result, None};
-ghost use Rattle.hw_types.specs.declared.answers.Receipt.{Receipt};
 ghost use Rattle.hw_c.specs.declared.audits.AuditText.{AuditText};
 ghost use Rattle.hw_c.specs.declared.calls.Decided.{Decided};
 ghost use Rattle.hw_c.specs.declared.calls.Observed.{Observed};
@@ -28,17 +27,20 @@ ghost use Rattle.hw_c.specs.Light.{IsCertificate, IsCertifiedSigned, IsJudged};
 ghost use Rattle.hw_c.specs.Needed.{IsForNeed};
 ghost use Rattle.hw_c.specs.Settings.{IsConfig};
 ghost use Rattle.hw_c.specs.Steps.{IsStep, IsStepPut};
-ghost use Rattle.hw_c.specs.Told.{status, behind, delivery_answer, Puts, PutsWith};
+ghost use Rattle.hw_c.specs.Told.{status, behind, Puts, PutsWith};
 
 mod audits;
 mod calls;
 mod codes;
 mod content;
+mod deliveries;
 mod handle;
 mod held;
 mod light;
+mod names;
 mod needs;
 mod put;
+mod sent;
 mod settings;
 mod signed;
 mod steps;
@@ -49,7 +51,8 @@ pub use codes::Answer;
 pub use handle::Handle;
 pub use light::Judged;
 pub use needs::Missing;
-use put::{put, put_bytes, put_bytes_with, put_done, put_receipt, put_with};
+use put::{put, put_bytes, put_bytes_with, put_done, put_with};
+pub use sent::{Delivered, Sent};
 pub use settings::Settings;
 pub use signed::{Signed, Signer};
 use std::alloc::Global;
@@ -109,19 +112,20 @@ pub extern "C" fn hw_signed(
     put_with(outcome, signed, answer)
 }
 
-/// Delivers the vertex that the bytes spell, with the verdict on its signatures.
+/// Delivers the vertices, which stand in the bytes, in order, each with the verdict on its signatures; and tells what
+/// each was answered. The two lists are equally long. The units among the vertices are hashed four side by side.
 #[unsafe(no_mangle)]
 pub extern "C" fn hw_deliver(
     alloc: Global,
     core: &mut Handle,
-    vertex: &[u8],
-    verdict: bool,
-    answer: &mut Answer,
+    bytes: &[u8],
+    vertices: &[Sent],
+    delivered: &mut [Delivered],
 ) -> u32
-    ensures { (r : Result Receipt Fault) × Delivers core.old.held vertex.now verdict r core.new.held × (result ≡ status r) × (answer.new ≡ delivery_answer r) }
+    ensures { (r : Result Unit Fault) × Delivers core.old.held bytes.now vertices.now delivered.old r delivered.new core.new.held × (result ≡ status r) }
 {
-    let outcome = held::deliver(alloc, core, vertex, verdict);
-    put_receipt(outcome, answer)
+    let outcome = held::deliver(alloc, core, bytes, vertices, delivered);
+    put::said(outcome)
 }
 
 /// The journal's entry of that place, as bytes.

@@ -1,7 +1,7 @@
 //! How an outcome goes to the caller.
 
 ghost use Rattle.std.specs.Prelude.{◌≡◌, length};
-ghost use Rattle.hw_c.specs.Told.{status, behind, Puts, PutsWith, receipt_answer, delivery_answer};
+ghost use Rattle.hw_c.specs.Told.{status, behind, Puts, PutsWith, receipt_answer};
 ghost use Rattle.hw_c.specs.Buffers.{IsWritten, copied};
 
 use crate::codes::{Answer, Fault, OK, answer_of, blank, rule_number, status_of};
@@ -65,7 +65,7 @@ pub fn put_done(outcome: Result<(), Fault>, answer: &mut Answer) -> u32
 }
 
 /// Tells what became of a vertex.
-fn receipt_answer(receipt: Receipt) -> Answer
+pub fn receipt_answer(receipt: Receipt) -> Answer
     ensures { result ≡ receipt_answer receipt }
 {
     let mut answer = blank();
@@ -82,23 +82,6 @@ fn receipt_answer(receipt: Receipt) -> Answer
         Receipt::Repeat => answer.kind = 3,
     }
     answer
-}
-
-/// Tells what a delivery was answered, and answers the status.
-pub fn put_receipt(outcome: Result<Receipt, Fault>, answer: &mut Answer) -> u32
-    ensures status { result ≡ status outcome }
-    ensures answer { answer.new ≡ delivery_answer outcome }
-{
-    match outcome {
-        Ok(receipt) => {
-            *answer = receipt_answer(receipt);
-            OK
-        }
-        Err(fault) => {
-            *answer = answer_of(fault);
-            status_of(fault)
-        }
-    }
 }
 
 /// Copies as many bytes as fit, and says how many there are in all.

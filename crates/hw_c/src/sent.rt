@@ -1,0 +1,56 @@
+//! A vertex among other bytes, and what its delivery was answered.
+
+ghost use Rattle.std.specs.Prelude.{◌≡◌, ◌≤◌, IfSome, IfNone, length};
+ghost use Rattle.hw_types.specs.declared.answers.Receipt.{Receipt};
+ghost use Rattle.hw_c.specs.Deliveries.{bytes_of, delivered_of, IsInRange, IsOutside};
+
+use crate::codes::{Answer, Fault, OK, answer_of, status_of};
+use crate::put::receipt_answer;
+use hw_types::Receipt;
+
+/// Where a vertex stands in the bytes, and the verdict on its signatures: 0 no, 1 yes.
+#[repr(C)]
+#[derive(Clone, Copy)]
+pub struct Sent {
+    pub start: u64,
+    pub length: u64,
+    pub verdict: u32,
+}
+
+/// What the delivery of a vertex was answered.
+#[repr(C)]
+#[derive(Clone, Copy)]
+pub struct Delivered {
+    pub status: u32,
+    pub answer: Answer,
+}
+
+/// The bytes of the vertex; None where they are not all there, or its verdict is neither no nor yes.
+pub fn bytes_of<'a>(bytes: &'a [u8], sent: Sent) -> Option<&'a [u8]>
+    ensures bytes { IfSome result (λ part. part.now ≡ bytes_of bytes.now sent) }
+    ensures within { IfSome result (λ part. IsInRange bytes.now sent) }
+    ensures outside { IfNone result (IsOutside bytes.now sent) }
+{
+    let start = sent.start as usize;
+    let length = sent.length as usize;
+    if sent.verdict > 1 || start > bytes.len() || length > bytes.len() - start {
+        return None;
+    }
+    Some(&bytes[start..start + length])
+}
+
+/// What is told of a delivery.
+pub fn delivered_of(outcome: Result<Receipt, Fault>) -> Delivered
+    ensures { result ≡ delivered_of outcome }
+{
+    match outcome {
+        Ok(receipt) => Delivered {
+            status: OK,
+            answer: receipt_answer(receipt),
+        },
+        Err(fault) => Delivered {
+            status: status_of(fault),
+            answer: answer_of(fault),
+        },
+    }
+}
