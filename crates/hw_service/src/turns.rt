@@ -80,9 +80,6 @@ fn run_begun<F: Files, S: Sink, C: Clock, D: Door>(
         (scene host.old.node host.old.fanout (outside_in F.Files S.Sink D.Door environment.old consumers.old.items))
         (outside_in F.Files S.Sink D.Door environment.new consumers.new.items)
         (turning peers.old.items (C.given environment.old.clock.now)) (turning peers.new.items (C.given environment.new.clock.now)) result }
-    ensures peers { length peers.new.items ≡ length peers.old.items }
-    ensures dials { OnOk result (D.dials environment.new.door.now ≡ raised_by (turns * length peers.old.items) (D.dials environment.old.door.now)) }
-    ensures accepts { D.accepts environment.new.door.now ≡ D.accepts environment.old.door.now }
     ensures lent { loans environment.new.files environment.new.out environment.new.clock environment.new.door ≡ loans environment.old.files environment.old.out environment.old.clock environment.old.door }
     ensures appends { IsAppendCounted (F.append_faults environment.old.files.now) (F.append_faults environment.new.files.now) result }
     ensures writes { IsWriteCounted (S.faults environment.old.out.now) (S.faults environment.new.out.now) result }
@@ -116,9 +113,6 @@ fn take_turns<F: Files, S: Sink, C: Clock, D: Door>(
     ensures room { length consumers.new.items ≤ length host.new.fanout.places }
     ensures passed { OnOk result (host.new.fanout.passed ≡ length (told_chain host.new.node.core)) }
     ensures config { host.new.node.core.config ≡ host.old.node.core.config }
-    ensures peers { length peers.new.items ≡ length peers.old.items }
-    ensures dials { OnOk result (D.dials environment.new.door.now ≡ raised_by (turns * length peers.old.items) (D.dials environment.old.door.now)) }
-    ensures accepts { D.accepts environment.new.door.now ≡ D.accepts environment.old.door.now }
     ensures lent { loans environment.new.files environment.new.out environment.new.clock environment.new.door ≡ loans environment.old.files environment.old.out environment.old.clock environment.old.door }
     ensures appends { IsAppendCounted (F.append_faults environment.old.files.now) (F.append_faults environment.new.files.now) result }
     ensures writes { IsWriteCounted (S.faults environment.old.out.now) (S.faults environment.new.out.now) result }
@@ -154,9 +148,6 @@ fn take_turn<F: Files, S: Sink, C: Clock, D: Door>(
     ensures room { length consumers.new.items ≤ length host.new.fanout.places }
     ensures passed { OnOk result (host.new.fanout.passed ≡ length (told_chain host.new.node.core)) }
     ensures config { host.new.node.core.config ≡ host.old.node.core.config }
-    ensures peers { length peers.new.items ≡ length peers.old.items }
-    ensures dials { OnOk result (D.dials environment.new.door.now ≡ raised_by (length peers.old.items) (D.dials environment.old.door.now)) }
-    ensures accepts { D.accepts environment.new.door.now ≡ D.accepts environment.old.door.now }
     ensures lent { loans environment.new.files environment.new.out environment.new.clock environment.new.door ≡ loans environment.old.files environment.old.out environment.old.clock environment.old.door }
     ensures appends { IsAppendCounted (F.append_faults environment.old.files.now) (F.append_faults environment.new.files.now) result }
     ensures writes { IsWriteCounted (S.faults environment.old.out.now) (S.faults environment.new.out.now) result }
@@ -195,9 +186,6 @@ fn drive_peers<F: Files, S: Sink, C: Clock, D: Door>(
     ensures room { length consumers.new.items ≤ length host.new.fanout.places }
     ensures passed { OnOk result (host.new.fanout.passed ≡ length (told_chain host.new.node.core)) }
     ensures config { host.new.node.core.config ≡ host.old.node.core.config }
-    ensures peers { length peers.new.items ≡ length peers.old.items }
-    ensures dials { OnOk result (D.dials environment.new.door.now ≡ raised_by (length peers.old.items) (D.dials environment.old.door.now)) }
-    ensures accepts { D.accepts environment.new.door.now ≡ D.accepts environment.old.door.now }
     ensures lent { loans environment.new.files environment.new.out environment.new.clock environment.new.door ≡ loans environment.old.files environment.old.out environment.old.clock environment.old.door }
     ensures appends { IsAppendCounted (F.append_faults environment.old.files.now) (F.append_faults environment.new.files.now) result }
     ensures writes { IsWriteCounted (S.faults environment.old.out.now) (S.faults environment.new.out.now) result }
@@ -239,8 +227,6 @@ fn drive_peer<F: Files, S: Sink, C: Clock, D: Door>(
     ensures room { length consumers.new.items ≤ length host.new.fanout.places }
     ensures passed { host.new.fanout.passed ≡ length (told_chain host.new.node.core) }
     ensures config { host.new.node.core.config ≡ host.old.node.core.config }
-    ensures dials { D.dials environment.new.door.now ≡ raised (D.dials environment.old.door.now) }
-    ensures accepts { D.accepts environment.new.door.now ≡ D.accepts environment.old.door.now }
     ensures lent { loans environment.new.files environment.new.out environment.new.clock environment.new.door ≡ loans environment.old.files environment.old.out environment.old.clock environment.old.door }
     ensures appends { IsAppendCounted (F.append_faults environment.old.files.now) (F.append_faults environment.new.files.now) result }
     ensures writes { IsWriteCounted (S.faults environment.old.out.now) (S.faults environment.new.out.now) result }
