@@ -10,8 +10,7 @@ pub loop-place-init : goal.loop-place-init
 loop-place-init g c = record {
   taken = none_taken _ _ _;
   whole = λ so. so;
-  places = c.requires.room;
-  passed = c.requires.passed;
+  ready = c.requires.ready;
   config = refl;
   peers = refl;
   lent = refl;
@@ -30,8 +29,7 @@ loop-place-preserved g c =
     record {
       taken = one_taken _ _ _ c.loop-place.place _ _ _ _ _ i.taken (omega arith) (record { before = c.index_mut.result.now; is_at = at; after = c.drive_peer.new.peer; peers = refl; drives = e.drives });
       whole = λ so. e.whole (i.whole so);
-      places = e.room;
-      passed = e.passed;
+      ready = e.ready;
       config = e.config ∙ i.config;
       peers = length-set _ _ _ ∙ i.peers;
       lent = e.lent ∙ i.lent;

@@ -8,8 +8,7 @@ pub loop-index-init : goal.loop-index-init
 loop-index-init g c = record {
   taken = none_taken _ _ _;
   whole = λ so. so;
-  places = c.requires.room;
-  passed = c.requires.passed;
+  ready = c.requires.ready;
   config = refl;
   lent = refl;
   appends = refl;
@@ -25,8 +24,7 @@ loop-index-preserved g c =
     record {
       taken = one_taken _ _ _ (c.loop-index._index + 1) _ _ _ _ _ i.taken (omega arith) (e.turn (c.loop-index._index + 1));
       whole = λ so. e.whole (i.whole so);
-      places = e.room;
-      passed = e.passed;
+      ready = e.ready;
       config = e.config ∙ i.config;
       lent = e.lent ∙ i.lent;
       appends = e.appends ∙ i.appends;

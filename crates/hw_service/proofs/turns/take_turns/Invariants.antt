@@ -1,7 +1,6 @@
-use Rattle.std.proofs.Common.{◌≡◌, ◌≤◌, length}
+use Rattle.std.proofs.Common.{◌≡◌}
 use Rattle.hw_fanout.specs.Fates.{seen}
-use Rattle.hw_fanout.specs.Chain.{told_chain}
-use Rattle.hw_service.specs.Scene.{scene}
+use Rattle.hw_service.specs.Scene.{scene, IsReady}
 use Rattle.hw_service.specs.Environs.{outside_in}
 use Rattle.hw_service.specs.Steps.{TakesAll}
 use Rattle.hw_service.specs.Run.{HaveTaken}
@@ -22,8 +21,7 @@ invariant-loop-index g l =
           (scene l.initial.host.node l.initial.host.fanout (outside_in f s d l.initial.environment l.initial.consumers.items), turning l.initial.peers.items (k.given l.initial.environment.clock.now))
           (scene l.host.node l.host.fanout (outside_in f s d l.environment l.consumers.items), turning l.peers.items (k.given l.environment.clock.now)) l.failed;
       whole : HaveTaken sight l.initial.host.node.core l.initial.host.fanout.passed l.initial.consumers.items → HaveTaken sight l.host.node.core l.host.fanout.passed l.consumers.items;
-      places : length l.consumers.items ≤ length l.host.fanout.places;
-      passed : l.host.fanout.passed ≡ length (told_chain l.host.node.core);
+      ready : IsReady l.host.node l.host.fanout l.consumers.items;
       config : l.host.node.core.config ≡ l.initial.host.node.core.config;
       lent : loans l.environment.files l.environment.out l.environment.clock l.environment.door ≡ loans l.initial.environment.files l.initial.environment.out l.initial.environment.clock l.initial.environment.door;
       appends : f.append_faults l.environment.files.now ≡ f.append_faults l.initial.environment.files.now;
