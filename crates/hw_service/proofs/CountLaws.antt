@@ -85,32 +85,9 @@ link_of who number e n old new (Err f) before now told link = tt
 
 -- ---- numbers
 
-pub raised_none : (count : ℕ) → count ≡ raised_by 0 count
-unfolding raised_by
-raised_none count = refl
-
-pub raised_more : (more x y z : ℕ) → y ≡ raised_by more x → z ≡ raised y → z ≡ raised_by (more + 1) x
-unfolding raised_by
-raised_more more x y z first then =
-    let next : suc more ≡ more + 1 = omega arith in
-    then ∙ ap raised first ∙ ap (λ (n : ℕ). raised_by n x) next
-
-raised_sum : (a b x : ℕ) → raised_by a (raised_by b x) ≡ raised_by (a + b) x
+pub raised_sum : (a b x : ℕ) → raised_by a (raised_by b x) ≡ raised_by (a + b) x
 unfolding raised_by
 raised_sum zero b x = ap (λ (n : ℕ). raised_by n x) (let e : b ≡ 0 + b = omega arith in e)
 raised_sum (suc a) b x =
     let e : suc (a + b) ≡ suc a + b = omega arith in
     ap raised (raised_sum a b x) ∙ ap (λ (n : ℕ). raised_by n x) e
-
--- so many more for each of so many turns
-pub raised_then : (turns peers now x y z : ℕ) → y ≡ raised_by (turns * peers) x → now ≡ peers → z ≡ raised_by now y → z ≡ raised_by ((turns + 1) * peers) x
-raised_then turns peers now x y z first same then =
-    then ∙ ap (λ (n : ℕ). raised_by n y) same ∙ ap (raised_by peers) first ∙ raised_sum peers (turns * peers) x ∙ ap (λ (n : ℕ). raised_by n x) (times turns peers)
-  where
-    times : (t p : ℕ) → p + t * p ≡ (t + 1) * p
-    times t p = grind arith
-
-pub raised_zero : (n count : ℕ) → count ≡ raised_by (0 * n) count
-raised_zero n count =
-    let none : (0 * n) ≡ 0 = grind arith in
-    raised_none count ∙ ap (λ (k : ℕ). raised_by k count) (sym none)

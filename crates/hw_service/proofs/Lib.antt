@@ -7,4 +7,5 @@ pub mod CloseLaws
 pub mod LineLaws
 pub mod RunLaws
 pub mod DriveLaws
+pub mod TurnLaws
 pub mod OwnLaws

@@ -1,5 +1,5 @@
 -- What is seen of a node's run at a moment.
-use Rattle.std.specs.Prelude.{ℕ, List, [], length, Option}
+use Rattle.std.specs.Prelude.{◌≡◌, ◌≤◌, ℕ, List, [], length, Option}
 use Rattle.std.specs.List.{range_with_len}
 use Rattle.std.specs.declared.dyn_box.DynBox.{DynBox}
 use Rattle.hw_io.specs.declared.outside.Files.{Ghosts as Files}
@@ -8,6 +8,7 @@ use Rattle.hw_io.specs.declared.outside.Door.{Ghosts as Door}
 use Rattle.hw_io.specs.declared.outside.Consumer.{Ghosts as Consumer}
 use Rattle.hw_io.specs.Doors.{Session}
 use Rattle.hw_fanout.specs.State.{FanoutState}
+use Rattle.hw_fanout.specs.Chain.{told_chain}
 use Rattle.hw_fanout.specs.Fates.{Sight, seen}
 use Rattle.hw_replay.specs.Feed.{Moment, moment}
 use Rattle.hw_session.specs.Node.{NodeState}
@@ -63,3 +64,8 @@ moment_of s = moment s.node.core s.around.consumers s.kept
 -- of consumers that were told nothing, nothing is kept but their places
 abbrev pub none_told : {B : Type 0} → List B → FanoutState
 none_told consumers = record { passed = 0; places = range_with_len 0 (length consumers); drops = [] }
+
+-- there is a place for each consumer that is left, and all that is decided was passed
+pub record IsReady {B : Type 0} (node : NodeState) (kept : FanoutState) (consumers : List B) : Type 0 where
+  pub room : length consumers ≤ length kept.places
+  pub passed : kept.passed ≡ length (told_chain node.core)

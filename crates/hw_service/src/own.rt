@@ -6,8 +6,7 @@ ghost use Rattle.hw_types.specs.Limits.{config_fault};
 ghost use Rattle.std.specs.Prelude.{None};
 ghost use Rattle.hw_types.specs.Spelling.{Fits};
 ghost use Rattle.hw_honest.specs.Cluster.{value_at};
-ghost use Rattle.hw_fanout.specs.Chain.{told_chain};
-ghost use Rattle.hw_service.specs.Scene.{DoorSeen, sight_of, outside, scene};
+ghost use Rattle.hw_service.specs.Scene.{DoorSeen, sight_of, outside, scene, IsReady};
 ghost use Rattle.hw_service.specs.Run.{HaveTaken};
 ghost use Rattle.hw_service.specs.Turns.{MakesUnit, MakesWith, kind_word, made_line};
 ghost use Rattle.hw_service.specs.Written.{IsOfOutput, Writes};
@@ -48,14 +47,12 @@ pub(crate) fn make_unit<F: Files, S: Sink>(
 ) -> Result<(), ServiceFault>
     requires me { me < length host.old.node.core.config.weights }
     requires moment { moment < 2 ^ 63 }
-    requires room { length consumers.old.items ≤ length host.old.fanout.places }
-    requires passed { host.old.fanout.passed ≡ length (told_chain host.old.node.core) }
+    requires ready { IsReady host.old.node host.old.fanout consumers.old.items }
     ensures makes { (door : DoorSeen) → MakesUnit (sight_of ⟦<dyn Consumer as Consumer>⟧) F.tells me moment (scene host.old.node host.old.fanout (outside (F.held files.old) door (S.taken out.old) consumers.old.items))
         (scene host.new.node host.new.fanout (outside (F.held files.new) door (S.taken out.new) consumers.new.items)) result }
     ensures whole { HaveTaken (sight_of ⟦<dyn Consumer as Consumer>⟧) host.old.node.core host.old.fanout.passed consumers.old.items
         → OnOk result (HaveTaken (sight_of ⟦<dyn Consumer as Consumer>⟧) host.new.node.core host.new.fanout.passed consumers.new.items) }
-    ensures room { length consumers.new.items ≤ length host.new.fanout.places }
-    ensures passed { OnOk result (host.new.fanout.passed ≡ length (told_chain host.new.node.core)) }
+    ensures ready { OnOk result (IsReady host.new.node host.new.fanout consumers.new.items) }
     ensures config { host.new.node.core.config ≡ host.old.node.core.config }
     ensures appends { IsAppendCounted (F.append_faults files.old) (F.append_faults files.new) result }
     ensures writes { IsWriteCounted (S.faults out.old) (S.faults out.new) result }
@@ -96,14 +93,12 @@ fn make_with<F: Files, S: Sink>(
     requires me { own.me < length host.old.node.core.config.weights }
     requires moment { own.moment < 2 ^ 63 }
     requires value { length own.value.now ≤ 4096 }
-    requires room { length consumers.old.items ≤ length host.old.fanout.places }
-    requires passed { host.old.fanout.passed ≡ length (told_chain host.old.node.core) }
+    requires ready { IsReady host.old.node host.old.fanout consumers.old.items }
     ensures makes { (door : DoorSeen) → MakesWith (sight_of ⟦<dyn Consumer as Consumer>⟧) F.tells own.entry.me own.entry.moment own.entry.value.now (scene host.old.node host.old.fanout (outside (F.held files.old) door (S.taken out.old) consumers.old.items))
         (scene host.new.node host.new.fanout (outside (F.held files.new) door (S.taken out.new) consumers.new.items)) result }
     ensures whole { HaveTaken (sight_of ⟦<dyn Consumer as Consumer>⟧) host.old.node.core host.old.fanout.passed consumers.old.items
         → OnOk result (HaveTaken (sight_of ⟦<dyn Consumer as Consumer>⟧) host.new.node.core host.new.fanout.passed consumers.new.items) }
-    ensures room { length consumers.new.items ≤ length host.new.fanout.places }
-    ensures passed { OnOk result (host.new.fanout.passed ≡ length (told_chain host.new.node.core)) }
+    ensures ready { OnOk result (IsReady host.new.node host.new.fanout consumers.new.items) }
     ensures config { host.new.node.core.config ≡ host.old.node.core.config }
     ensures appends { IsAppendCounted (F.append_faults files.old) (F.append_faults files.new) result }
     ensures writes { IsWriteCounted (S.faults out.old) (S.faults out.new) result }

@@ -1,10 +1,9 @@
 //! A node that holds sessions with peers, one after the other, and then reports.
 
-ghost use Rattle.std.specs.Prelude.{◌≡◌, ◌≢◌, ◌≤◌, length, None, IsTrue, IfOk, IfErr, OnOk};
-ghost use Rattle.hw_fanout.specs.Chain.{told_chain};
+ghost use Rattle.std.specs.Prelude.{◌≡◌, ◌≢◌, ◌≤◌, None, IsTrue, IfOk, IfErr, OnOk};
 ghost use Rattle.hw_replay.specs.Feed.{moment, IsPassed};
 ghost use Rattle.hw_session.specs.Handling.{IsLogEnd, IsLinkEnd};
-ghost use Rattle.hw_service.specs.Scene.{sight_of, outside_of, scene};
+ghost use Rattle.hw_service.specs.Scene.{sight_of, outside_of, scene, IsReady};
 ghost use Rattle.hw_service.specs.Begin.{names_of};
 ghost use Rattle.hw_service.specs.Begun.{IsAbout};
 ghost use Rattle.hw_service.specs.Talk.{talker};
@@ -81,8 +80,7 @@ fn hold_begun<T: Talk, F: Files, S: Sink, D: Door>(
     consumers: &mut Vec<Box<dyn Consumer>>,
 ) -> Result<Served, ServiceFault>
     requires first { sessions.now.first ≤ 1 }
-    requires room { length consumers.old.items ≤ length host.old.fanout.places }
-    requires passed { host.old.fanout.passed ≡ length (told_chain host.old.node.core) }
+    requires ready { IsReady host.old.node host.old.fanout consumers.old.items }
     ensures proceeds { Proceeds (sight_of ⟦<dyn Consumer as Consumer>⟧) (holds_session (sight_of ⟦<dyn Consumer as Consumer>⟧) (T.talks sessions.now.talk F.tells) sessions.now.who.now) sessions.now.first sessions.now.count
         (scene host.old.node host.old.fanout (outside_of F.Files S.Sink D.Door files.old out.old door.old consumers.old.items))
         (outside_of F.Files S.Sink D.Door files.new out.new door.new consumers.new.items) tt tt result }
@@ -108,15 +106,13 @@ fn hold_all<T: Talk, F: Files, S: Sink, D: Door>(
     consumers: &mut Vec<Box<dyn Consumer>>,
 ) -> Result<bool, ServiceFault>
     requires first { sessions.now.first ≤ 1 }
-    requires room { length consumers.old.items ≤ length host.old.fanout.places }
-    requires passed { host.old.fanout.passed ≡ length (told_chain host.old.node.core) }
+    requires ready { IsReady host.old.node host.old.fanout consumers.old.items }
     ensures takes { Takes (holds_session (sight_of ⟦<dyn Consumer as Consumer>⟧) (T.talks sessions.now.talk F.tells) sessions.now.who.now) sessions.now.first sessions.now.count
         (scene host.old.node host.old.fanout (outside_of F.Files S.Sink D.Door files.old out.old door.old consumers.old.items), tt)
         (scene host.new.node host.new.fanout (outside_of F.Files S.Sink D.Door files.new out.new door.new consumers.new.items), tt) result }
     ensures whole { HaveTaken (sight_of ⟦<dyn Consumer as Consumer>⟧) host.old.node.core host.old.fanout.passed consumers.old.items
         → OnOk result (HaveTaken (sight_of ⟦<dyn Consumer as Consumer>⟧) host.new.node.core host.new.fanout.passed consumers.new.items) }
-    ensures room { length consumers.new.items ≤ length host.new.fanout.places }
-    ensures passed { host.new.fanout.passed ≡ length (told_chain host.new.node.core) }
+    ensures ready { IsReady host.new.node host.new.fanout consumers.new.items }
     ensures appends { IsAppendCounted (F.append_faults files.old) (F.append_faults files.new) result }
     ensures writes { IsWriteCounted (S.faults out.old) (S.faults out.new) result }
     ensures link { IfOk result (λ failed. IsDoorCounted failed (D.faults door.old) (D.faults door.new)) }
@@ -140,14 +136,12 @@ fn hold_one<T: Talk, F: Files, D: Door>(
     door: &mut D,
     consumers: &mut Vec<Box<dyn Consumer>>,
 ) -> SessionEnd
-    requires room { length consumers.old.items ≤ length host.old.fanout.places }
-    requires passed { host.old.fanout.passed ≡ length (told_chain host.old.node.core) }
+    requires ready { IsReady host.old.node host.old.fanout consumers.old.items }
     ensures talked { T.talks talk.now F.tells (talker F.Files D.Door host.old.node files.old door.old) (talker F.Files D.Door host.new.node files.new door.new) result }
     ensures told { IsPassed (sight_of ⟦<dyn Consumer as Consumer>⟧) (moment host.old.node.core consumers.old.items host.old.fanout) (moment host.new.node.core consumers.new.items host.new.fanout) }
     ensures whole { HaveTaken (sight_of ⟦<dyn Consumer as Consumer>⟧) host.old.node.core host.old.fanout.passed consumers.old.items
         → HaveTaken (sight_of ⟦<dyn Consumer as Consumer>⟧) host.new.node.core host.new.fanout.passed consumers.new.items }
-    ensures room { length consumers.new.items ≤ length host.new.fanout.places }
-    ensures passed { host.new.fanout.passed ≡ length (told_chain host.new.node.core) }
+    ensures ready { IsReady host.new.node host.new.fanout consumers.new.items }
     ensures link { IsLinkEnd (D.faults door.old) (D.faults door.new) result }
     ensures appends { IsLogEnd (F.append_faults files.old) (F.append_faults files.new) result }
 

@@ -1,9 +1,7 @@
 //! A validator that takes turns.
 
-ghost use Rattle.std.specs.Prelude.{◌≡◌, ◌≢◌, ◌≤◌, ◌<◌, ◌*◌, ◌^◌, ℕ, List, Option, length, All, [], Some, IsTrue, IfOk, IfErr, OnOk};
-ghost use Rattle.hw_io.specs.Faults.{raised};
-ghost use Rattle.hw_fanout.specs.Chain.{told_chain};
-ghost use Rattle.hw_service.specs.Scene.{sight_of, scene};
+ghost use Rattle.std.specs.Prelude.{◌≡◌, ◌≢◌, ◌<◌, ◌*◌, ℕ, length, IsTrue, IfOk, IfErr, OnOk};
+ghost use Rattle.hw_service.specs.Scene.{sight_of, scene, IsReady};
 ghost use Rattle.hw_service.specs.Begin.{names_of};
 ghost use Rattle.hw_service.specs.Begun.{IsAbout};
 ghost use Rattle.hw_service.specs.Environs.{outside_in};
@@ -74,15 +72,11 @@ fn run_begun<F: Files, S: Sink, C: Clock, D: Door>(
     consumers: &mut Vec<Box<dyn Consumer>>,
 ) -> Result<Served, ServiceFault>
     requires me { me < length host.old.node.core.config.weights }
-    requires room { length consumers.old.items ≤ length host.old.fanout.places }
-    requires passed { host.old.fanout.passed ≡ length (told_chain host.old.node.core) }
+    requires ready { IsReady host.old.node host.old.fanout consumers.old.items }
     ensures proceeds { Proceeds (sight_of ⟦<dyn Consumer as Consumer>⟧) (TakesTurn (sight_of ⟦<dyn Consumer as Consumer>⟧) F.tells me) 1 turns
         (scene host.old.node host.old.fanout (outside_in F.Files S.Sink D.Door environment.old consumers.old.items))
         (outside_in F.Files S.Sink D.Door environment.new consumers.new.items)
         (turning peers.old.items (C.given environment.old.clock.now)) (turning peers.new.items (C.given environment.new.clock.now)) result }
-    ensures peers { length peers.new.items ≡ length peers.old.items }
-    ensures dials { OnOk result (D.dials environment.new.door.now ≡ raised_by (turns * length peers.old.items) (D.dials environment.old.door.now)) }
-    ensures accepts { D.accepts environment.new.door.now ≡ D.accepts environment.old.door.now }
     ensures lent { loans environment.new.files environment.new.out environment.new.clock environment.new.door ≡ loans environment.old.files environment.old.out environment.old.clock environment.old.door }
     ensures appends { IsAppendCounted (F.append_faults environment.old.files.now) (F.append_faults environment.new.files.now) result }
     ensures writes { IsWriteCounted (S.faults environment.old.out.now) (S.faults environment.new.out.now) result }
@@ -106,19 +100,14 @@ fn take_turns<F: Files, S: Sink, C: Clock, D: Door>(
     consumers: &mut Vec<Box<dyn Consumer>>,
 ) -> Result<bool, ServiceFault>
     requires me { me < length host.old.node.core.config.weights }
-    requires room { length consumers.old.items ≤ length host.old.fanout.places }
-    requires passed { host.old.fanout.passed ≡ length (told_chain host.old.node.core) }
+    requires ready { IsReady host.old.node host.old.fanout consumers.old.items }
     ensures takes { Takes (TakesTurn (sight_of ⟦<dyn Consumer as Consumer>⟧) F.tells me) 1 turns
         (scene host.old.node host.old.fanout (outside_in F.Files S.Sink D.Door environment.old consumers.old.items), turning peers.old.items (C.given environment.old.clock.now))
         (scene host.new.node host.new.fanout (outside_in F.Files S.Sink D.Door environment.new consumers.new.items), turning peers.new.items (C.given environment.new.clock.now)) result }
     ensures whole { HaveTaken (sight_of ⟦<dyn Consumer as Consumer>⟧) host.old.node.core host.old.fanout.passed consumers.old.items
         → OnOk result (HaveTaken (sight_of ⟦<dyn Consumer as Consumer>⟧) host.new.node.core host.new.fanout.passed consumers.new.items) }
-    ensures room { length consumers.new.items ≤ length host.new.fanout.places }
-    ensures passed { OnOk result (host.new.fanout.passed ≡ length (told_chain host.new.node.core)) }
+    ensures ready { OnOk result (IsReady host.new.node host.new.fanout consumers.new.items) }
     ensures config { host.new.node.core.config ≡ host.old.node.core.config }
-    ensures peers { length peers.new.items ≡ length peers.old.items }
-    ensures dials { OnOk result (D.dials environment.new.door.now ≡ raised_by (turns * length peers.old.items) (D.dials environment.old.door.now)) }
-    ensures accepts { D.accepts environment.new.door.now ≡ D.accepts environment.old.door.now }
     ensures lent { loans environment.new.files environment.new.out environment.new.clock environment.new.door ≡ loans environment.old.files environment.old.out environment.old.clock environment.old.door }
     ensures appends { IsAppendCounted (F.append_faults environment.old.files.now) (F.append_faults environment.new.files.now) result }
     ensures writes { IsWriteCounted (S.faults environment.old.out.now) (S.faults environment.new.out.now) result }
@@ -144,19 +133,14 @@ fn take_turn<F: Files, S: Sink, C: Clock, D: Door>(
     consumers: &mut Vec<Box<dyn Consumer>>,
 ) -> Result<bool, ServiceFault>
     requires me { me < length host.old.node.core.config.weights }
-    requires room { length consumers.old.items ≤ length host.old.fanout.places }
-    requires passed { host.old.fanout.passed ≡ length (told_chain host.old.node.core) }
+    requires ready { IsReady host.old.node host.old.fanout consumers.old.items }
     ensures turn { (number : ℕ) → TakesTurn (sight_of ⟦<dyn Consumer as Consumer>⟧) F.tells me number
         (scene host.old.node host.old.fanout (outside_in F.Files S.Sink D.Door environment.old consumers.old.items), turning peers.old.items (C.given environment.old.clock.now))
         (scene host.new.node host.new.fanout (outside_in F.Files S.Sink D.Door environment.new consumers.new.items), turning peers.new.items (C.given environment.new.clock.now)) result }
     ensures whole { HaveTaken (sight_of ⟦<dyn Consumer as Consumer>⟧) host.old.node.core host.old.fanout.passed consumers.old.items
         → OnOk result (HaveTaken (sight_of ⟦<dyn Consumer as Consumer>⟧) host.new.node.core host.new.fanout.passed consumers.new.items) }
-    ensures room { length consumers.new.items ≤ length host.new.fanout.places }
-    ensures passed { OnOk result (host.new.fanout.passed ≡ length (told_chain host.new.node.core)) }
+    ensures ready { OnOk result (IsReady host.new.node host.new.fanout consumers.new.items) }
     ensures config { host.new.node.core.config ≡ host.old.node.core.config }
-    ensures peers { length peers.new.items ≡ length peers.old.items }
-    ensures dials { OnOk result (D.dials environment.new.door.now ≡ raised_by (length peers.old.items) (D.dials environment.old.door.now)) }
-    ensures accepts { D.accepts environment.new.door.now ≡ D.accepts environment.old.door.now }
     ensures lent { loans environment.new.files environment.new.out environment.new.clock environment.new.door ≡ loans environment.old.files environment.old.out environment.old.clock environment.old.door }
     ensures appends { IsAppendCounted (F.append_faults environment.old.files.now) (F.append_faults environment.new.files.now) result }
     ensures writes { IsWriteCounted (S.faults environment.old.out.now) (S.faults environment.new.out.now) result }
@@ -185,19 +169,14 @@ fn drive_peers<F: Files, S: Sink, C: Clock, D: Door>(
     environment: &mut Environment<'_, '_, '_, '_, F, S, C, D>,
     consumers: &mut Vec<Box<dyn Consumer>>,
 ) -> Result<bool, ServiceFault>
-    requires room { length consumers.old.items ≤ length host.old.fanout.places }
-    requires passed { host.old.fanout.passed ≡ length (told_chain host.old.node.core) }
+    requires ready { IsReady host.old.node host.old.fanout consumers.old.items }
     ensures drives { Takes (DrivesSession (sight_of ⟦<dyn Consumer as Consumer>⟧) F.tells) 0 (length peers.old.items)
         (scene host.old.node host.old.fanout (outside_in F.Files S.Sink D.Door environment.old consumers.old.items), peers.old.items)
         (scene host.new.node host.new.fanout (outside_in F.Files S.Sink D.Door environment.new consumers.new.items), peers.new.items) result }
     ensures whole { HaveTaken (sight_of ⟦<dyn Consumer as Consumer>⟧) host.old.node.core host.old.fanout.passed consumers.old.items
         → OnOk result (HaveTaken (sight_of ⟦<dyn Consumer as Consumer>⟧) host.new.node.core host.new.fanout.passed consumers.new.items) }
-    ensures room { length consumers.new.items ≤ length host.new.fanout.places }
-    ensures passed { OnOk result (host.new.fanout.passed ≡ length (told_chain host.new.node.core)) }
+    ensures ready { OnOk result (IsReady host.new.node host.new.fanout consumers.new.items) }
     ensures config { host.new.node.core.config ≡ host.old.node.core.config }
-    ensures peers { length peers.new.items ≡ length peers.old.items }
-    ensures dials { OnOk result (D.dials environment.new.door.now ≡ raised_by (length peers.old.items) (D.dials environment.old.door.now)) }
-    ensures accepts { D.accepts environment.new.door.now ≡ D.accepts environment.old.door.now }
     ensures lent { loans environment.new.files environment.new.out environment.new.clock environment.new.door ≡ loans environment.old.files environment.old.out environment.old.clock environment.old.door }
     ensures appends { IsAppendCounted (F.append_faults environment.old.files.now) (F.append_faults environment.new.files.now) result }
     ensures writes { IsWriteCounted (S.faults environment.old.out.now) (S.faults environment.new.out.now) result }
@@ -229,18 +208,14 @@ fn drive_peer<F: Files, S: Sink, C: Clock, D: Door>(
     environment: &mut Environment<'_, '_, '_, '_, F, S, C, D>,
     consumers: &mut Vec<Box<dyn Consumer>>,
 ) -> Result<bool, ServiceFault>
-    requires room { length consumers.old.items ≤ length host.old.fanout.places }
-    requires passed { host.old.fanout.passed ≡ length (told_chain host.old.node.core) }
+    requires ready { IsReady host.old.node host.old.fanout consumers.old.items }
     ensures drives { DrivesAt (sight_of ⟦<dyn Consumer as Consumer>⟧) F.tells number
         (scene host.old.node host.old.fanout (outside_in F.Files S.Sink D.Door environment.old consumers.old.items))
         (scene host.new.node host.new.fanout (outside_in F.Files S.Sink D.Door environment.new consumers.new.items)) peer.old peer.new result }
     ensures whole { HaveTaken (sight_of ⟦<dyn Consumer as Consumer>⟧) host.old.node.core host.old.fanout.passed consumers.old.items
         → HaveTaken (sight_of ⟦<dyn Consumer as Consumer>⟧) host.new.node.core host.new.fanout.passed consumers.new.items }
-    ensures room { length consumers.new.items ≤ length host.new.fanout.places }
-    ensures passed { host.new.fanout.passed ≡ length (told_chain host.new.node.core) }
+    ensures ready { IsReady host.new.node host.new.fanout consumers.new.items }
     ensures config { host.new.node.core.config ≡ host.old.node.core.config }
-    ensures dials { D.dials environment.new.door.now ≡ raised (D.dials environment.old.door.now) }
-    ensures accepts { D.accepts environment.new.door.now ≡ D.accepts environment.old.door.now }
     ensures lent { loans environment.new.files environment.new.out environment.new.clock environment.new.door ≡ loans environment.old.files environment.old.out environment.old.clock environment.old.door }
     ensures appends { IsAppendCounted (F.append_faults environment.old.files.now) (F.append_faults environment.new.files.now) result }
     ensures writes { IsWriteCounted (S.faults environment.old.out.now) (S.faults environment.new.out.now) result }

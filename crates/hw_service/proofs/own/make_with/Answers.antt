@@ -7,7 +7,7 @@ use Rattle.hw_service.proofs.OwnLaws.{told_made, on_ok}
 use Rattle.hw_service.proofs.own.make_with.Goals as goal
 
 pub pass-requires-clause-passed : goal.pass-requires-clause-passed
-pass-requires-clause-passed g c = rw c.core.ensures (still_told _ _ _ (makes_grows _ _ _ _ c.make.ensures.made) (omega (arith, c.requires.passed)))
+pass-requires-clause-passed g c = rw c.core.ensures (still_told _ _ _ (makes_grows _ _ _ _ c.make.ensures.made) (omega (arith, c.requires.ready.passed)))
 
 pub tell_made-requires : goal.tell_made-requires
 tell_made-requires g c = record { fits = c.in-Ok.ensures.fits }
@@ -23,7 +23,7 @@ returns-in-Ok-clause-makes g c = λ door. record {
 
 pub returns-in-Ok-clause-whole : goal.returns-in-Ok-clause-whole
 returns-in-Ok-clause-whole g c = λ so. on_ok c.tell_made.result _ (
-    passed_whole (λ b. (goal.Consumer-dyn g (b.vtable, b.value)).consumed b.value) _ _ _ _ _ _ _ c.pass.ensures.whole (makes_grows _ _ _ _ c.make.ensures.made) c.core.ensures (omega (arith, c.requires.passed))
+    passed_whole (λ b. (goal.Consumer-dyn g (b.vtable, b.value)).consumed b.value) _ _ _ _ _ _ _ c.pass.ensures.whole (makes_grows _ _ _ _ c.make.ensures.made) c.core.ensures (omega (arith, c.requires.ready.passed))
     (rw c.core.ensures at c.pass.ensures.passed) so)
 
 pub returns-in-Err-RecordsFull-clause-makes : goal.returns-in-Err-RecordsFull-clause-makes
@@ -37,5 +37,5 @@ returns-in-Err-RecordsFull-clause-makes g c = λ door. record {
 
 pub returns-in-Err-RecordsFull-clause-whole : goal.returns-in-Err-RecordsFull-clause-whole
 returns-in-Err-RecordsFull-clause-whole g c = λ so.
-    passed_whole (λ b. (goal.Consumer-dyn g (b.vtable, b.value)).consumed b.value) _ _ _ _ _ _ _ c.pass-in-Err-RecordsFull.ensures.whole (makes_grows _ _ _ _ c.make.ensures.made) c.core-in-Err-RecordsFull.ensures (omega (arith, c.requires.passed))
+    passed_whole (λ b. (goal.Consumer-dyn g (b.vtable, b.value)).consumed b.value) _ _ _ _ _ _ _ c.pass-in-Err-RecordsFull.ensures.whole (makes_grows _ _ _ _ c.make.ensures.made) c.core-in-Err-RecordsFull.ensures (omega (arith, c.requires.ready.passed))
     (rw c.core-in-Err-RecordsFull.ensures at c.pass-in-Err-RecordsFull.ensures.passed) so

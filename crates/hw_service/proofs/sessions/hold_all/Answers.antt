@@ -8,8 +8,7 @@ pub loop-index-init : goal.loop-index-init
 loop-index-init g c = record {
   taken = none_taken _ _ _;
   whole = λ so. so;
-  places = c.requires.room;
-  passed = c.requires.passed;
+  ready = c.requires.ready;
   appends = refl;
   writes = refl;
   link = refl;
@@ -25,8 +24,7 @@ loop-index-preserved g c =
     record {
       taken = one_taken _ _ _ _ _ _ _ _ _ i.taken (omega arith) (record { end = c.hold_one-end.result; talked = h.talked; passed = h.told; told = e.told });
       whole = λ so. h.whole (i.whole so);
-      places = h.room;
-      passed = h.passed;
+      ready = h.ready;
       appends = appends_told _ _ _ node _ _ (Ok c.in_ok-failed.field-0) _ _ e.told h.appends ∙ i.appends;
       writes = e.writes ∙ i.writes;
       link = door_then _ _ _ _ _ i.link (link_of _ _ _ node _ _ (Ok c.in_ok-failed.field-0) _ _ e.told h.link);

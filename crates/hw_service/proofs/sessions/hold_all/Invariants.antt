@@ -1,7 +1,6 @@
-use Rattle.std.proofs.Common.{◌≡◌, ◌≤◌, length}
+use Rattle.std.proofs.Common.{◌≡◌}
 use Rattle.hw_fanout.specs.Fates.{seen}
-use Rattle.hw_fanout.specs.Chain.{told_chain}
-use Rattle.hw_service.specs.Scene.{outside_of, scene}
+use Rattle.hw_service.specs.Scene.{outside_of, scene, IsReady}
 use Rattle.hw_service.specs.Steps.{TakesAll}
 use Rattle.hw_service.specs.Run.{HaveTaken}
 use Rattle.hw_service.specs.Held.{holds_session}
@@ -19,8 +18,7 @@ invariant-loop-index g l =
           (scene l.initial.host.node l.initial.host.fanout (outside_of f s d l.initial.files l.initial.out l.initial.door l.initial.consumers.items), tt)
           (scene l.host.node l.host.fanout (outside_of f s d l.files l.out l.door l.consumers.items), tt) l.failed;
       whole : HaveTaken sight l.initial.host.node.core l.initial.host.fanout.passed l.initial.consumers.items → HaveTaken sight l.host.node.core l.host.fanout.passed l.consumers.items;
-      places : length l.consumers.items ≤ length l.host.fanout.places;
-      passed : l.host.fanout.passed ≡ length (told_chain l.host.node.core);
+      ready : IsReady l.host.node l.host.fanout l.consumers.items;
       appends : f.append_faults l.files ≡ f.append_faults l.initial.files;
       writes : s.faults l.out ≡ s.faults l.initial.out;
       link : IsDoorCounted l.failed (d.faults l.initial.door) (d.faults l.door);

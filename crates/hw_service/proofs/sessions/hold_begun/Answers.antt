@@ -8,7 +8,7 @@ returns-clause-proceeds g c =
     let e = c.in_ok-link_failed.ensures in
     let k = c.close_host.ensures in
     let taken = λ (b : _). (goal.Consumer-dyn g (b.vtable, b.value)).consumed b.value in
-    proceeds_with _ _ _ _ _ _ _ _ _ _ c.close_host.result e.takes (k.reports _ _) k.limits k.link (λ so. k.whole _ (taken_at taken _ _ _ _ e.passed (e.whole so)))
+    proceeds_with _ _ _ _ _ _ _ _ _ _ c.close_host.result e.takes (k.reports _ _) k.limits k.link (λ so. k.whole _ (taken_at taken _ _ _ _ e.ready.passed (e.whole so)))
 
 pub returns-clause-appends : goal.returns-clause-appends
 returns-clause-appends g c = report_appends c.close_host.result _ _ c.close_host.ensures.fault c.in_ok-link_failed.ensures.appends

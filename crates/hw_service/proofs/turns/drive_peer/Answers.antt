@@ -5,7 +5,7 @@ use Rattle.hw_service.proofs.CountLaws.{appends_told, link_of}
 use Rattle.hw_service.proofs.turns.drive_peer.Goals as goal
 
 pub pass-requires-clause-passed : goal.pass-requires-clause-passed
-pass-requires-clause-passed g c = rw c.core.ensures (still_told _ _ _ (drives_grows _ _ _ _ _ _ _ _ _ _ _ _ _ c.drive_one-end.ensures.driven) (omega (arith, c.requires.passed)))
+pass-requires-clause-passed g c = rw c.core.ensures (still_told _ _ _ (drives_grows _ _ _ _ _ _ _ _ _ _ _ _ _ c.drive_one-end.ensures.driven) (omega (arith, c.requires.ready.passed)))
 
 pub returns-clause-drives : goal.returns-clause-drives
 returns-clause-drives g c = record {
@@ -20,7 +20,7 @@ returns-clause-drives g c = record {
 
 pub returns-clause-whole : goal.returns-clause-whole
 returns-clause-whole g c = λ so.
-    passed_whole (λ b. (goal.Consumer-dyn g (b.vtable, b.value)).consumed b.value) _ _ _ _ _ _ _ c.pass.ensures.whole (drives_grows _ _ _ _ _ _ _ _ _ _ _ _ _ c.drive_one-end.ensures.driven) c.core.ensures (omega (arith, c.requires.passed))
+    passed_whole (λ b. (goal.Consumer-dyn g (b.vtable, b.value)).consumed b.value) _ _ _ _ _ _ _ c.pass.ensures.whole (drives_grows _ _ _ _ _ _ _ _ _ _ _ _ _ c.drive_one-end.ensures.driven) c.core.ensures (omega (arith, c.requires.ready.passed))
     (rw c.core.ensures at c.pass.ensures.passed) so
 
 pub returns-clause-config : goal.returns-clause-config

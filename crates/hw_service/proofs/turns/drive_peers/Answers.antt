@@ -3,19 +3,16 @@ use Rattle.std.proofs.lemmas.List.{length-set}
 use Rattle.std.proofs.lemmas.Option.{slice_get_read}
 use Rattle.std.proofs.lemmas.Result.{err_from_is_err_and}
 use Rattle.hw_service.proofs.StepLaws.{none_taken, one_taken, last_taken}
-use Rattle.hw_service.proofs.CountLaws.{door_then, raised_none, raised_more}
+use Rattle.hw_service.proofs.CountLaws.{door_then}
 use Rattle.hw_service.proofs.turns.drive_peers.Goals as goal
 
 pub loop-place-init : goal.loop-place-init
 loop-place-init g c = record {
   taken = none_taken _ _ _;
-  dials = raised_none _;
   whole = λ so. so;
-  places = c.requires.room;
-  passed = c.requires.passed;
+  ready = c.requires.ready;
   config = refl;
   peers = refl;
-  accepts = refl;
   lent = refl;
   appends = refl;
   writes = refl;
@@ -31,13 +28,10 @@ loop-place-preserved g c =
     let at = slice_get_read c.loop-place.peers.items (length c.loop-place.peers.items) c.loop-place.place c.index_mut.result.now refl (omega (arith, c.len-place-end.ensures, c.loop-place.invariant.peers)) c.index_mut.ensures.value in
     record {
       taken = one_taken _ _ _ c.loop-place.place _ _ _ _ _ i.taken (omega arith) (record { before = c.index_mut.result.now; is_at = at; after = c.drive_peer.new.peer; peers = refl; drives = e.drives });
-      dials = raised_more _ _ _ _ i.dials e.dials;
       whole = λ so. e.whole (i.whole so);
-      places = e.room;
-      passed = e.passed;
+      ready = e.ready;
       config = e.config ∙ i.config;
       peers = length-set _ _ _ ∙ i.peers;
-      accepts = e.accepts ∙ i.accepts;
       lent = e.lent ∙ i.lent;
       appends = e.appends ∙ i.appends;
       writes = e.writes ∙ i.writes;

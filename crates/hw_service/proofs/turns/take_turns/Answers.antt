@@ -1,19 +1,15 @@
 use Rattle.std.proofs.Common.{◌+◌, refl, ◌∙◌, arith}
 use Rattle.std.proofs.lemmas.Result.{err_from_is_err_and}
 use Rattle.hw_service.proofs.StepLaws.{none_taken, one_taken, last_taken}
-use Rattle.hw_service.proofs.CountLaws.{door_then, raised_zero, raised_then}
+use Rattle.hw_service.proofs.CountLaws.{door_then}
 use Rattle.hw_service.proofs.turns.take_turns.Goals as goal
 
 pub loop-index-init : goal.loop-index-init
 loop-index-init g c = record {
   taken = none_taken _ _ _;
-  dials = raised_zero _ _;
   whole = λ so. so;
-  places = c.requires.room;
-  passed = c.requires.passed;
+  ready = c.requires.ready;
   config = refl;
-  peers = refl;
-  accepts = refl;
   lent = refl;
   appends = refl;
   writes = refl;
@@ -27,13 +23,9 @@ loop-index-preserved g c =
     let e = c.in_ok-failed.ensures in
     record {
       taken = one_taken _ _ _ (c.loop-index._index + 1) _ _ _ _ _ i.taken (omega arith) (e.turn (c.loop-index._index + 1));
-      dials = raised_then _ _ _ _ _ _ i.dials i.peers e.dials;
       whole = λ so. e.whole (i.whole so);
-      places = e.room;
-      passed = e.passed;
+      ready = e.ready;
       config = e.config ∙ i.config;
-      peers = e.peers ∙ i.peers;
-      accepts = e.accepts ∙ i.accepts;
       lent = e.lent ∙ i.lent;
       appends = e.appends ∙ i.appends;
       writes = e.writes ∙ i.writes;

@@ -1,11 +1,11 @@
-use Rattle.std.proofs.Common.{◌≡◌, ◌≤◌, ◌*◌, length}
+use Rattle.std.proofs.Common.{◌≡◌}
 use Rattle.hw_fanout.specs.Fates.{seen}
-use Rattle.hw_fanout.specs.Chain.{told_chain}
-use Rattle.hw_service.specs.Scene.{door_seen, outside, scene}
+use Rattle.hw_service.specs.Scene.{scene, IsReady}
+use Rattle.hw_service.specs.Environs.{outside_in}
 use Rattle.hw_service.specs.Steps.{TakesAll}
 use Rattle.hw_service.specs.Run.{HaveTaken}
 use Rattle.hw_service.specs.Turns.{TakesTurn, turning}
-use Rattle.hw_service.specs.Counts.{IsDoorCounted, raised_by}
+use Rattle.hw_service.specs.Counts.{IsDoorCounted}
 use Rattle.hw_service.specs.Loans.{loans}
 use Rattle.hw_service.proofs.turns.take_turns.Given as goal
 
@@ -17,14 +17,12 @@ invariant-loop-index g l =
     let k = g.C.Clock in
     let sight = seen (λ b. (goal.Consumer-dyn g (b.vtable, b.value)).consumed b.value) (λ b. (goal.Consumer-dyn g (b.vtable, b.value)).faults b.value) (λ b. b.vtable) in
     record {
-      taken : TakesAll (TakesTurn sight f.tells l.me) 1 l._index (scene l.initial.host.node l.initial.host.fanout (outside (f.held l.initial.environment.files.now) (door_seen (d.sessions l.initial.environment.door.now) (d.accepts l.initial.environment.door.now) (d.dials l.initial.environment.door.now) (d.ends l.initial.environment.door.now)) (s.taken l.initial.environment.out.now) l.initial.consumers.items), turning l.initial.peers.items (k.given l.initial.environment.clock.now)) (scene l.host.node l.host.fanout (outside (f.held l.environment.files.now) (door_seen (d.sessions l.environment.door.now) (d.accepts l.environment.door.now) (d.dials l.environment.door.now) (d.ends l.environment.door.now)) (s.taken l.environment.out.now) l.consumers.items), turning l.peers.items (k.given l.environment.clock.now)) l.failed;
-      dials : d.dials l.environment.door.now ≡ raised_by (l._index * length l.initial.peers.items) (d.dials l.initial.environment.door.now);
+      taken : TakesAll (TakesTurn sight f.tells l.me) 1 l._index
+          (scene l.initial.host.node l.initial.host.fanout (outside_in f s d l.initial.environment l.initial.consumers.items), turning l.initial.peers.items (k.given l.initial.environment.clock.now))
+          (scene l.host.node l.host.fanout (outside_in f s d l.environment l.consumers.items), turning l.peers.items (k.given l.environment.clock.now)) l.failed;
       whole : HaveTaken sight l.initial.host.node.core l.initial.host.fanout.passed l.initial.consumers.items → HaveTaken sight l.host.node.core l.host.fanout.passed l.consumers.items;
-      places : length l.consumers.items ≤ length l.host.fanout.places;
-      passed : l.host.fanout.passed ≡ length (told_chain l.host.node.core);
+      ready : IsReady l.host.node l.host.fanout l.consumers.items;
       config : l.host.node.core.config ≡ l.initial.host.node.core.config;
-      peers : length l.peers.items ≡ length l.initial.peers.items;
-      accepts : d.accepts l.environment.door.now ≡ d.accepts l.initial.environment.door.now;
       lent : loans l.environment.files l.environment.out l.environment.clock l.environment.door ≡ loans l.initial.environment.files l.initial.environment.out l.initial.environment.clock l.initial.environment.door;
       appends : f.append_faults l.environment.files.now ≡ f.append_faults l.initial.environment.files.now;
       writes : s.faults l.environment.out.now ≡ s.faults l.initial.environment.out.now;
