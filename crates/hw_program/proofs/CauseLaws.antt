@@ -1,6 +1,5 @@
 -- One part of a run after another: what becomes of the count of reads that failed, and of the files.
-use Rattle.std.proofs.Common.{◌≡◌, ℕ, ◌≤◌, List, Option, Some, Result, Ok, Err, IfErr, inl, inr, subst, ◌∙◌}
-use Rattle.std.specs.Prelude.{◌⊎◌}
+use Rattle.std.proofs.Common.{◌≡◌, ℕ, ◌≤◌, List, Option, Some, Result, Ok, Err, IfErr, subst, ◌∙◌}
 use Rattle.hw_io.specs.Faults.{Rose}
 use Rattle.hw_log.specs.declared.error.LogError.TheVariants as log
 use Rattle.hw_replay.specs.declared.fault.StartFault.{StartFault}
@@ -41,15 +40,3 @@ no_read P (Ok e) none = tt
 no_read P (Err OutOfMemory) none = λ is. absurd cc
 no_read P (Err Read) none = λ is. absurd (let e = none in cc)
 no_read P (Err Append) none = λ is. absurd cc
-
--- of two logs the second one's read failed, behind a first one that left the counts
-pub read_second : (left right : List ℕ) (before mid now : List ℕ → ℕ) (r : Result Ended RunFault) → mid ≡ before → IfErr r (λ f. f ≡ Read → Rose (mid right) (now right))
-    → IfErr r (λ f. f ≡ Read → Rose (before left) (now left) ⊎ Rose (before right) (now right))
-read_second left right before mid now (Ok e) same read = tt
-read_second left right before mid now (Err f) same read = λ is. inr (subst (λ (b : List ℕ → ℕ). Rose (b right) (now right)) same (read is))
-
--- or the first one's
-pub read_first : (left right : List ℕ) (before now : List ℕ → ℕ) (r : Result Ended RunFault) → IfErr r (λ f. f ≡ Read → Rose (before left) (now left))
-    → IfErr r (λ f. f ≡ Read → Rose (before left) (now left) ⊎ Rose (before right) (now right))
-read_first left right before now (Ok e) read = tt
-read_first left right before now (Err f) read = λ is. inl (read is)

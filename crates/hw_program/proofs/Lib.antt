@@ -7,6 +7,8 @@ pub mod MadeLaws
 pub mod FileLaws
 pub mod ScriptLaws
 pub mod CauseLaws
+pub mod DueLaws
+pub mod NamedLaws
 pub mod AuditLaws
 pub mod AuditedLaws
 pub mod ConflictLaws

@@ -22,7 +22,9 @@ use Rattle.hw_program.specs.Program.{◌>>=◌, Held, Part, ended, done, or_unwr
 use Rattle.hw_program.specs.Faults.{IsReadEnd, IsRunReadCounted, IsAppendCounted as IsRunAppendCounted, HasRunFault}
 use Rattle.hw_program.specs.Files.{status_of, IsRewrite}
 use Rattle.hw_program.specs.Rewritten.{rewrite_fault_of, unwritten_ended, IsUnwritten, IsFaultOf}
+use Rattle.hw_program.specs.Due.{FailsDue}
 use Rattle.hw_program.proofs.FaultLaws.{input_status}
+use Rattle.hw_program.proofs.DueLaws.{rewritten_due}
 
 -- ---- what is no fault of the outside
 
@@ -167,24 +169,23 @@ done_run count r0 r a0 a (Err OutOfMemory) cause none = record { later = cause.l
 done_run count r0 r a0 a (Err Read) cause none = absurd (let e = none in cc)
 done_run count r0 r a0 a (Err Append) cause none = absurd (let e = none in cc)
 
--- ---- counts for a file
+-- ---- the file of a failed read
 
--- a failed read is counted for one of the two files
-abbrev AboutBy : Word → Word → (List ℕ → ℕ) → (List ℕ → ℕ) → Option RunFault → Type 0
-AboutBy old new before now (Some Read) = Rose (before old) (now old) ⊎ Rose (before new) (now new)
-AboutBy old new before now o = Unit {0}
+module _ (rewritten_of : List ℕ → Result Rewritten LogError) (word : List ℕ) (error : LogError) (empty : rewritten_of [] ≡ Err error) (held : Held) (old new : Word) (before now : List ℕ → ℕ) where
+  -- it is the new file, which was tested, or the log, which is due
+  abbrev AboutBy : Option RunFault → Type 0
+  AboutBy (Some Read) = Rose (before new) (now new) ⊎ FailsDue (λ h. rewrite_said rewritten_of word h old new) held before now
+  AboutBy o = Unit {0}
 
-about_by : (old new : Word) (before now : List ℕ → ℕ) (f : RewriteFault) → IsFaultAbout old new before now f → AboutBy old new before now (rewrite_fault_of f)
-about_by old new before now rewrite.Exists h = tt
-about_by old new before now (rewrite.Log log.ReadFault) h = h
-about_by old new before now (rewrite.Log e) h = tt
+  about_by : (f : RewriteFault) → IsFaultAbout (held new) old new before now f → AboutBy (rewrite_fault_of f)
+  about_by rewrite.Exists h = tt
+  about_by (rewrite.Log log.ReadFault) (inl h) = inr (old, rewritten_due rewritten_of word error empty held old new h.0, h.1)
+  about_by (rewrite.Log log.ReadFault) (inr h) = inl h
+  about_by (rewrite.Log e) h = tt
 
-pub failed_about : (old new : Word) (before now : List ℕ → ℕ) (f : RewriteFault) (result : Result Ended RunFault) → IsFaultAbout old new before now f → IfErr result (IsFaultOf f)
-    → IfErr result (λ x. x ≡ Read → Rose (before old) (now old) ⊎ Rose (before new) (now new))
-failed_about old new before now f (Ok e) about err = tt
-failed_about old new before now f (Err x) about err =
-    λ is. let P : RunFault → Type 0 = λ y. AboutBy old new before now (Some y) in
-    subst P is (by_fault (AboutBy old new before now) f (about_by old new before now f about) x err (λ h. tt))
+  pub failed_about : (f : RewriteFault) (result : Result Ended RunFault) → IsFaultAbout (held new) old new before now f → IfErr result (IsFaultOf f) → IfErr result (λ x. x ≡ Read → AboutBy (Some Read))
+  failed_about f (Ok e) about err = tt
+  failed_about f (Err x) about err = λ is. let P : RunFault → Type 0 = λ y. AboutBy (Some y) in subst P is (by_fault AboutBy f (about_by f about) x err (λ h. tt))
 
 -- ---- the files
 

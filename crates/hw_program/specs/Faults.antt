@@ -1,5 +1,5 @@
 -- When a run up to its text has which fault.
-use Rattle.std.specs.Prelude.{◌≡◌, ℕ, ◌≤◌, ◌⊎◌, List, ◌++◌, Option, Some, None, Result, Ok, Err}
+use Rattle.std.specs.Prelude.{◌≡◌, ℕ, ◌≤◌, ◌⊎◌, List, Option, Some, None, Result, Ok, Err}
 use Rattle.hw_types.specs.Below.{Among}
 use Rattle.hw_io.specs.Faults.{Rose}
 use Rattle.hw_program.specs.declared.ended.Ended.{Ended}
@@ -47,30 +47,9 @@ IsReadOf name before now (Ok x) = now ≡ before
 IsReadOf name before now (Err Read) = Rose (before name) (now name)
 IsReadOf name before now (Err fault) = Unit {0}
 
--- a call about the file failed, if there is one
-abbrev pub FailsOn : Option Word → (List ℕ → ℕ) → (List ℕ → ℕ) → Type 0
-FailsOn None before now = ⊥
-FailsOn (Some name) before now = Rose (before name) (now name)
-
 -- a call about one of the files failed
 abbrev pub FailsAmong : List Word → (List ℕ → ℕ) → (List ℕ → ℕ) → Type 0
 FailsAmong names before now = (name : Word) × (Among name names × Rose (before name) (now name))
-
--- a call about a file that was asked for failed, and was counted for it
-abbrev pub FailsOf : Option Request → (List ℕ → ℕ) → (List ℕ → ℕ) → Type 0
-FailsOf None before now = ⊥
-FailsOf (Some (Replay log)) before now = Rose (before log) (now log)
-FailsOf (Some (Explain log)) before now = Rose (before log) (now log)
-FailsOf (Some (Audit left right)) before now = Rose (before left) (now left) ⊎ Rose (before right) (now right)
-FailsOf (Some (Script file)) before now = Rose (before file) (now file)
-FailsOf (Some (Mend log new)) before now = Rose (before log) (now log) ⊎ Rose (before new) (now new)
-FailsOf (Some (Migrate log new)) before now = Rose (before log) (now log) ⊎ Rose (before new) (now new)
-FailsOf (Some (Certify log block new)) before now = Rose (before log) (now log) ⊎ Rose (before new) (now new)
-FailsOf (Some (Check file keys log)) before now = Rose (before file) (now file) ⊎ Rose (before keys) (now keys) ⊎ FailsOn log before now
-FailsOf (Some (Gen number rounds)) before now = ⊥
-FailsOf (Some (Sim number nodes steps)) before now = ⊥
-FailsOf (Some (Eras logs)) before now = FailsAmong logs before now
-FailsOf (Some (EraAudit left right)) before now = FailsAmong (left ++ right) before now
 
 -- a command that reads logs does all, or ends by what is wrong with one: its bytes, a limit that it meets, or a clash
 abbrev pub IsReadEnd : ℕ → Type 0

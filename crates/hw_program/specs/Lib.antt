@@ -12,6 +12,7 @@ pub mod Shown
 pub mod Laws
 pub mod Program
 pub mod Faults
+pub mod Due
 pub mod Run
 pub mod Files
 pub mod Fed

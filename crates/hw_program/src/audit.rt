@@ -1,6 +1,6 @@
 //! `audit`: what two logs say of each other.
 
-ghost use Rattle.std.specs.Prelude.{◌≡◌, ℕ, List, None, Some, Ok, Err, true, IsTrue, IfOk, IfErr, ◌⊎◌};
+ghost use Rattle.std.specs.Prelude.{◌≡◌, ℕ, List, None, Some, Ok, Err, true, IsTrue, IfOk, IfErr};
 ghost use Rattle.hw_io.specs.Faults.{Rose};
 ghost use Rattle.hw_io.specs.Files.{SameFiles};
 ghost use Rattle.hw_replay.specs.Taken.{Taken};
@@ -10,6 +10,7 @@ ghost use Rattle.hw_replay.specs.Replay.{same_config, replay_of, IsOutside, Repl
 ghost use Rattle.hw_replay.specs.Causes.{HasReplayCause, IsReplayAbout, IsReadCounted as IsReplayCounted};
 ghost use Rattle.hw_program.specs.declared.ended.RunFault.TheVariants as RunFaults;
 ghost use Rattle.hw_program.specs.Faults.{HasReadFault, IsReadCounted, IsReadEnd, IsAuditEnd};
+ghost use Rattle.hw_program.specs.Due.{FailsDue};
 ghost use Rattle.hw_light.specs.Checked.{IsCertified};
 ghost use Rattle.hw_program.specs.Program.{ended, audit_said, or_parted, audited_with};
 ghost use Rattle.hw_program.specs.Shown.{IsAlike};
@@ -41,7 +42,7 @@ pub fn audit_logs<F: Files>(
     ensures conflict { IsTrue F.tells → IfOk result (λ e. e.status ≡ 3 → IsConflictOf (F.held files.old) left.now right.now e.text) }
     ensures status { IfOk result (λ e. IsAuditEnd e.status) }
     ensures fault { HasReadFault (F.read_faults files.old) (F.read_faults files.new) result }
-    ensures about { IsTrue F.tells → IfErr result (λ fault. fault ≡ RunFaults.Read → Rose (F.faults_about files.old left.now) (F.faults_about files.new left.now) ⊎ Rose (F.faults_about files.old right.now) (F.faults_about files.new right.now)) }
+    ensures about { IsTrue F.tells → IfErr result (λ fault. fault ≡ RunFaults.Read → FailsDue (λ h. audit_said h left.now right.now) (F.held files.old) (F.faults_about files.old) (F.faults_about files.new)) }
 
     ensures files { SameFiles (F.held files.old) (F.held files.new) }
     ensures appends { F.append_faults files.new ≡ F.append_faults files.old }
@@ -73,7 +74,7 @@ pub fn audit_certified<F: Files>(
     ensures alike { IsTrue F.tells → IfOk result (λ e. IsAlike (F.held files.old) certificate.now (Some log.now)) }
     ensures status { IfOk result (λ e. IsAuditEnd e.status) }
     ensures fault { HasReadFault (F.read_faults files.old) (F.read_faults files.new) result }
-    ensures about { IsTrue F.tells → IfErr result (λ fault. fault ≡ RunFaults.Read → Rose (F.faults_about files.old log.now) (F.faults_about files.new log.now)) }
+    ensures about { IsTrue F.tells → IfErr result (λ fault. fault ≡ RunFaults.Read → FailsDue (λ h. audited_with h file.now certificate.now right.now log.now) (F.held files.old) (F.faults_about files.old) (F.faults_about files.new)) }
 
     ensures files { SameFiles (F.held files.old) (F.held files.new) }
     ensures appends { F.append_faults files.new ≡ F.append_faults files.old }

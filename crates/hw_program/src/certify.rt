@@ -6,6 +6,7 @@ ghost use Rattle.hw_io.specs.Files.{SameFiles};
 ghost use Rattle.hw_light.specs.Spelling.{CertificateFits};
 ghost use Rattle.hw_light.specs.Asked.{IfAnswered, told_in, told_of};
 ghost use Rattle.hw_program.specs.Faults.{HasReadFault, HasRunFault, IsCertifyEnd};
+ghost use Rattle.hw_program.specs.Due.{FailsDue};
 ghost use Rattle.hw_program.specs.Files.{status_of};
 ghost use Rattle.hw_program.specs.Told.{told_ended};
 ghost use Rattle.hw_program.specs.Certified.{IsCertified, IsWritten, IsAnswered, IsCertificateOf, IsAppended, IsPut};
@@ -37,7 +38,7 @@ pub fn certified<F: Files>(
     ensures said { IsTrue F.tells → IfOk result (λ e. e ≡ ended (certify_said (F.held files.old) log.now block.now new.now)) }
     ensures status { IfOk result (λ e. IsCertifyEnd e.status) }
     ensures fault { HasRunFault (F.read_faults files.old) (F.read_faults files.new) (F.append_faults files.old) (F.append_faults files.new) result }
-    ensures about { IsTrue F.tells → IfErr result (λ fault. fault ≡ RunFaults.Read → Rose (F.faults_about files.old log.now) (F.faults_about files.new log.now) ⊎ Rose (F.faults_about files.old new.now) (F.faults_about files.new new.now)) }
+    ensures about { IsTrue F.tells → IfErr result (λ fault. fault ≡ RunFaults.Read → Rose (F.faults_about files.old new.now) (F.faults_about files.new new.now) ⊎ FailsDue (λ h. certify_said h log.now block.now new.now) (F.held files.old) (F.faults_about files.old) (F.faults_about files.new)) }
     ensures files { IsTrue F.tells → IsCertified log.now block.now new.now (status_of result) (F.held files.old) (F.held files.new) }
 {
     if is_there(files, new)? {
@@ -75,7 +76,7 @@ fn certify_absent<F: Files>(
     ensures said { IsTrue F.tells → IfOk result (λ e. e ≡ ended (certify_said (F.held files.old) log.now block.now new.now)) }
     ensures status { IfOk result (λ e. IsCertifyEnd e.status) }
     ensures fault { HasRunFault (F.read_faults files.old) (F.read_faults files.new) (F.append_faults files.old) (F.append_faults files.new) result }
-    ensures about { IsTrue F.tells → IfErr result (λ fault. fault ≡ RunFaults.Read → Rose (F.faults_about files.old log.now) (F.faults_about files.new log.now)) }
+    ensures about { IsTrue F.tells → IfErr result (λ fault. fault ≡ RunFaults.Read → FailsDue (λ h. certify_said h log.now block.now new.now) (F.held files.old) (F.faults_about files.old) (F.faults_about files.new)) }
     ensures files { IsTrue F.tells → IsCertified log.now block.now new.now (status_of result) (F.held files.old) (F.held files.new) }
 {
     match replay_log(alloc, files, log, None) {

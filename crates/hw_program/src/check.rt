@@ -1,11 +1,10 @@
 //! `check`: what a certificate shows, by keys, and what a log says against it.
 
-ghost use Rattle.std.specs.Prelude.{◌≡◌, ◌≢◌, ◌⊎◌, ◌++◌, length, codes, None, Some, Ok, IsTrue, IfOk, IfErr};
+ghost use Rattle.std.specs.Prelude.{◌≡◌, ◌≢◌, ◌++◌, length, codes, None, Some, Ok, IsTrue, IfOk, IfErr};
 ghost use Rattle.std.specs.List.{All};
 ghost use Rattle.std.specs.Option.{option_copied};
 ghost use Rattle.hw_types.specs.Limits.{config_fault};
 ghost use Rattle.hw_types.specs.Spelling.{VertexFits};
-ghost use Rattle.hw_io.specs.Faults.{Rose};
 ghost use Rattle.hw_io.specs.Files.{SameFiles};
 ghost use Rattle.hw_text.specs.Text.{number_text};
 ghost use Rattle.hw_light.specs.Checked.{IsCertified, IfYes};
@@ -14,7 +13,8 @@ ghost use Rattle.hw_light.specs.Reading.{certificate_of};
 ghost use Rattle.hw_light.specs.Texts.{error_text};
 ghost use Rattle.hw_light.specs.CheckedTexts.{verdicts_by, checked_of, checked_line};
 ghost use Rattle.hw_light.specs.Keys.{keys_of};
-ghost use Rattle.hw_program.specs.Faults.{HasReadFault, IsReadOf, FailsOn, IsCheckEnd};
+ghost use Rattle.hw_program.specs.Faults.{HasReadFault, IsReadOf, IsCheckEnd};
+ghost use Rattle.hw_program.specs.Due.{FailsDue};
 ghost use Rattle.hw_program.specs.Texts.{input_ended};
 ghost use Rattle.hw_program.specs.Told.{no_ended};
 ghost use Rattle.hw_program.specs.Shown.{IsAlike, IsAlikeIn};
@@ -51,7 +51,7 @@ pub fn checked<F: Files>(
     ensures alike { IsTrue F.tells → IfOk result (λ e. e.status ≡ 3 → IsAlikeIn (F.held files.old) file.now (option_copied log.entry)) }
     ensures status { IfOk result (λ e. IsCheckEnd e.status) }
     ensures fault { HasReadFault (F.read_faults files.old) (F.read_faults files.new) result }
-    ensures about { IsTrue F.tells → IfErr result (λ fault. fault ≡ RunFaults.Read → Rose (F.faults_about files.old file.now) (F.faults_about files.new file.now) ⊎ Rose (F.faults_about files.old keys.now) (F.faults_about files.new keys.now) ⊎ FailsOn (option_copied log.entry) (F.faults_about files.old) (F.faults_about files.new)) }
+    ensures about { IsTrue F.tells → IfErr result (λ fault. fault ≡ RunFaults.Read → FailsDue (λ h. check_said h file.now keys.now (option_copied log.entry)) (F.held files.old) (F.faults_about files.old) (F.faults_about files.new)) }
 
     ensures files { SameFiles (F.held files.old) (F.held files.new) }
     ensures appends { F.append_faults files.new ≡ F.append_faults files.old }
@@ -136,7 +136,7 @@ fn check<F: Files>(
     ensures alike { IsTrue F.tells → IfOk result (λ e. e.status ≡ 3 → IsAlike (F.held files.old) certificate.now (option_copied log.entry)) }
     ensures status { IfOk result (λ e. IsCheckEnd e.status) }
     ensures fault { HasReadFault (F.read_faults files.old) (F.read_faults files.new) result }
-    ensures about { IsTrue F.tells → IfErr result (λ fault. fault ≡ RunFaults.Read → Rose (F.faults_about files.old keys.now) (F.faults_about files.new keys.now) ⊎ FailsOn (option_copied log.entry) (F.faults_about files.old) (F.faults_about files.new)) }
+    ensures about { IsTrue F.tells → IfErr result (λ fault. fault ≡ RunFaults.Read → FailsDue (λ h. checked_said h file.now keys.now (option_copied log.entry) certificate.now (config_fault certificate.now.config)) (F.held files.old) (F.faults_about files.old) (F.faults_about files.new)) }
 
     ensures files { SameFiles (F.held files.old) (F.held files.new) }
     ensures appends { F.append_faults files.new ≡ F.append_faults files.old }
@@ -163,7 +163,7 @@ fn check_lawful<F: Files>(
     ensures alike { IsTrue F.tells → IfOk result (λ e. e.status ≡ 3 → IsAlike (F.held files.old) certificate.now (option_copied log.entry)) }
     ensures status { IfOk result (λ e. IsCheckEnd e.status) }
     ensures fault { HasReadFault (F.read_faults files.old) (F.read_faults files.new) result }
-    ensures about { IsTrue F.tells → IfErr result (λ fault. fault ≡ RunFaults.Read → Rose (F.faults_about files.old keys.now) (F.faults_about files.new keys.now) ⊎ FailsOn (option_copied log.entry) (F.faults_about files.old) (F.faults_about files.new)) }
+    ensures about { IsTrue F.tells → IfErr result (λ fault. fault ≡ RunFaults.Read → FailsDue (λ h. checked_said h file.now keys.now (option_copied log.entry) certificate.now None) (F.held files.old) (F.faults_about files.old) (F.faults_about files.new)) }
 
     ensures files { SameFiles (F.held files.old) (F.held files.new) }
     ensures appends { F.append_faults files.new ≡ F.append_faults files.old }
@@ -242,7 +242,7 @@ fn check_with<F: Files>(
     ensures alike { IsTrue F.tells → IfOk result (λ e. e.status ≡ 3 → IsAlike (F.held files.old) certificate.now (option_copied log.entry)) }
     ensures status { IfOk result (λ e. IsCheckEnd e.status) }
     ensures fault { HasReadFault (F.read_faults files.old) (F.read_faults files.new) result }
-    ensures about { IsTrue F.tells → IfErr result (λ fault. fault ≡ RunFaults.Read → FailsOn (option_copied log.entry) (F.faults_about files.old) (F.faults_about files.new)) }
+    ensures about { IsTrue F.tells → IfErr result (λ fault. fault ≡ RunFaults.Read → FailsDue (λ h. answer_said h file.now certificate.now (option_copied log.entry) (checked_of certificate.now (verdicts_by keys.now certificate.now.vertices))) (F.held files.old) (F.faults_about files.old) (F.faults_about files.new)) }
 
     ensures files { SameFiles (F.held files.old) (F.held files.new) }
     ensures appends { F.append_faults files.new ≡ F.append_faults files.old }
@@ -265,7 +265,7 @@ fn answer<F: Files>(
     ensures alike { IsTrue F.tells → IfOk result (λ e. e.status ≡ 3 → IsAlike (F.held files.old) certificate.now (option_copied log.entry)) }
     ensures status { IfOk result (λ e. IsCheckEnd e.status) }
     ensures fault { HasReadFault (F.read_faults files.old) (F.read_faults files.new) result }
-    ensures about { IsTrue F.tells → IfErr result (λ fault. fault ≡ RunFaults.Read → FailsOn (option_copied log.entry) (F.faults_about files.old) (F.faults_about files.new)) }
+    ensures about { IsTrue F.tells → IfErr result (λ fault. fault ≡ RunFaults.Read → FailsDue (λ h. answer_said h file.now certificate.now (option_copied log.entry) checked.now) (F.held files.old) (F.faults_about files.old) (F.faults_about files.new)) }
 
     ensures files { SameFiles (F.held files.old) (F.held files.new) }
     ensures appends { F.append_faults files.new ≡ F.append_faults files.old }

@@ -9,6 +9,7 @@ ghost use Rattle.hw_fanout.specs.Told.{IsFinished};
 ghost use Rattle.hw_replay.specs.Feed.{file_replayed};
 ghost use Rattle.hw_replay.specs.Lines.{drop_lines};
 ghost use Rattle.hw_program.specs.Faults.{HasReadFault, IsReadEnd};
+ghost use Rattle.hw_program.specs.Due.{FailsDue};
 ghost use Rattle.hw_program.specs.Fed.{first_kept, IsReplayTold, IsReplayText};
 ghost use Rattle.hw_program.specs.Files.{status_of};
 ghost use Rattle.hw_program.specs.Program.{ended, report_of, replay_said};
@@ -34,7 +35,7 @@ pub fn replay<F: Files>(
     ensures told { IsReplayTold (seen (λ b. consumed b) (λ b. faults b) (λ b. b.vtable)) F.tells (F.held files.old log.now) (status_of result) consumers.old.items consumers.new.items }
     ensures status { IfOk result (λ e. IsReadEnd e.status) }
     ensures fault { HasReadFault (F.read_faults files.old) (F.read_faults files.new) result }
-    ensures about { IsTrue F.tells → IfErr result (λ fault. fault ≡ RunFaults.Read → Rose (F.faults_about files.old log.now) (F.faults_about files.new log.now)) }
+    ensures about { IsTrue F.tells → IfErr result (λ fault. fault ≡ RunFaults.Read → FailsDue (λ h. replay_said h log.now) (F.held files.old) (F.faults_about files.old) (F.faults_about files.new)) }
 
     ensures files { SameFiles (F.held files.old) (F.held files.new) }
     ensures appends { F.append_faults files.new ≡ F.append_faults files.old }

@@ -7,6 +7,7 @@ ghost use Rattle.hw_text.specs.Lines.{line_feed};
 ghost use Rattle.hw_rewrite.specs.Rewritten.{mended_of, migrated_of};
 ghost use Rattle.hw_rewrite.specs.Migrated.{HoldsAnew};
 ghost use Rattle.hw_program.specs.Faults.{HasRunFault, IsReadEnd};
+ghost use Rattle.hw_program.specs.Due.{FailsDue};
 ghost use Rattle.hw_program.specs.Files.{IsRewrite, status_of};
 ghost use Rattle.hw_program.specs.Texts.{input_ended};
 ghost use Rattle.hw_program.specs.Rewritten.{IsUnwritten, IsFaultOf};
@@ -33,7 +34,7 @@ pub fn mended<F: Files>(
     ensures said { IsTrue F.tells → IfOk result (λ e. e ≡ ended (mend_said (F.held files.old) log.now new.now)) }
     ensures status { IfOk result (λ e. IsReadEnd e.status) }
     ensures fault { HasRunFault (F.read_faults files.old) (F.read_faults files.new) (F.append_faults files.old) (F.append_faults files.new) result }
-    ensures about { IsTrue F.tells → IfErr result (λ fault. fault ≡ RunFaults.Read → Rose (F.faults_about files.old log.now) (F.faults_about files.new log.now) ⊎ Rose (F.faults_about files.old new.now) (F.faults_about files.new new.now)) }
+    ensures about { IsTrue F.tells → IfErr result (λ fault. fault ≡ RunFaults.Read → Rose (F.faults_about files.old new.now) (F.faults_about files.new new.now) ⊎ FailsDue (λ h. mend_said h log.now new.now) (F.held files.old) (F.faults_about files.old) (F.faults_about files.new)) }
     ensures files { IsTrue F.tells → IsRewrite mended_of log.now new.now (status_of result) (F.held files.old) (F.held files.new) }
 {
     match mend(alloc, files, log, new) {
@@ -52,7 +53,7 @@ pub fn migrated<F: Files>(
     ensures said { IsTrue F.tells → IfOk result (λ e. e ≡ ended (migrate_said (F.held files.old) log.now new.now)) }
     ensures status { IfOk result (λ e. IsReadEnd e.status) }
     ensures fault { HasRunFault (F.read_faults files.old) (F.read_faults files.new) (F.append_faults files.old) (F.append_faults files.new) result }
-    ensures about { IsTrue F.tells → IfErr result (λ fault. fault ≡ RunFaults.Read → Rose (F.faults_about files.old log.now) (F.faults_about files.new log.now) ⊎ Rose (F.faults_about files.old new.now) (F.faults_about files.new new.now)) }
+    ensures about { IsTrue F.tells → IfErr result (λ fault. fault ≡ RunFaults.Read → Rose (F.faults_about files.old new.now) (F.faults_about files.new new.now) ⊎ FailsDue (λ h. migrate_said h log.now new.now) (F.held files.old) (F.faults_about files.old) (F.faults_about files.new)) }
     ensures files { IsTrue F.tells → IsRewrite migrated_of log.now new.now (status_of result) (F.held files.old) (F.held files.new) }
     ensures same { IsTrue F.tells → status_of result ≡ 0 → HoldsAnew (F.held files.old log.now) (F.held files.new new.now) }
 {

@@ -11,7 +11,7 @@ ghost use Rattle.hw_program.specs.Services.{service_of, names_in, IsWorkedOut, I
 ghost use Rattle.hw_program.specs.Serving.{service};
 ghost use Rattle.hw_program.specs.Served.{around, counts, output, RunsNode, CanRun, IsRunEnd, AsksNoValidator, OnlyLogChanges};
 ghost use Rattle.hw_program.specs.Texts.{usage_line, read_fault_line, append_fault_line};
-ghost use Rattle.hw_program.specs.Faults.{FailsOf};
+ghost use Rattle.hw_program.specs.Due.{FailsOf};
 ghost use Rattle.hw_program.specs.Files.{FilesAfter, IsAllowed};
 ghost use Rattle.hw_program.specs.Program.{run_of};
 ghost use Rattle.hw_program.specs.Conflict.{ReportsConflict, ReportsEraConflict};
@@ -65,10 +65,10 @@ pub fn highway<F: Files, S: Sink, C: Clock, D: Door>(
     ensures grammar { IsNoCommand words.now → (result ≡ 1) ⊎ (result ≡ 7) }
     ensures validator { IsTrue F.tells → AsksNoValidator F.tells (service_of words.now) (F.held files.old) → (result ≡ 1) ⊎ (result ≡ 4) ⊎ (result ≡ 7) }
 
-    // 4 and 5 come only where a count of faults rose in this run, 4 only where a call about a file that was asked for
+    // 4 and 5 come only where a count of faults rose in this run, 4 only where a call about a file that is due
     // failed, and 5 only in place of a text that was whole.
     ensures read_fault { result ≡ 4 → Rose (F.read_faults files.old) (F.read_faults files.new) }
-    ensures read_about { IsWorkedOut words.now → IsTrue F.tells → result ≡ 4 → FailsOf (request_of words.now) (F.faults_about files.old) (F.faults_about files.new) }
+    ensures read_about { IsWorkedOut words.now → IsTrue F.tells → result ≡ 4 → FailsOf (F.held files.old) (request_of words.now) (F.faults_about files.old) (F.faults_about files.new) }
     ensures write_fault { result ≡ 5 → Rose (S.faults out.old) (S.faults out.new) ⊎ Rose (F.append_faults files.old) (F.append_faults files.new) }
     ensures unwritten { IsWorkedOut words.now → IsTrue F.tells → result ≡ 5 → IsDone (run_of words.now (F.held files.old)).status ⊎ Rose (F.append_faults files.old) (F.append_faults files.new) }
 

@@ -1,11 +1,11 @@
 //! `script`: what a script prints.
 
 ghost use Rattle.std.specs.Prelude.{◌≡◌, ◌++◌, codes, IsTrue, IfOk, IfErr};
-ghost use Rattle.hw_io.specs.Faults.{Rose};
 ghost use Rattle.hw_io.specs.Files.{SameFiles};
 ghost use Rattle.hw_text.specs.Text.{number_text};
 ghost use Rattle.hw_script.specs.Output.{output_of};
 ghost use Rattle.hw_program.specs.Faults.{HasReadFault, IsReadEnd};
+ghost use Rattle.hw_program.specs.Due.{FailsDue};
 ghost use Rattle.hw_program.specs.Texts.{input_ended};
 ghost use Rattle.hw_program.specs.Scripted.{script_ended};
 ghost use Rattle.hw_program.specs.Program.{ended, script_said};
@@ -25,7 +25,7 @@ pub fn script<F: Files>(alloc: Global, files: &mut F, file: &str) -> Result<Ende
     ensures said { IsTrue F.tells → IfOk result (λ e. e ≡ ended (script_said (F.held files.old) file.now)) }
     ensures status { IfOk result (λ e. IsReadEnd e.status) }
     ensures fault { HasReadFault (F.read_faults files.old) (F.read_faults files.new) result }
-    ensures about { IsTrue F.tells → IfErr result (λ fault. fault ≡ RunFaults.Read → Rose (F.faults_about files.old file.now) (F.faults_about files.new file.now)) }
+    ensures about { IsTrue F.tells → IfErr result (λ fault. fault ≡ RunFaults.Read → FailsDue (λ h. script_said h file.now) (F.held files.old) (F.faults_about files.old) (F.faults_about files.new)) }
 
     ensures files { SameFiles (F.held files.old) (F.held files.new) }
     ensures appends { F.append_faults files.new ≡ F.append_faults files.old }

@@ -7,7 +7,8 @@ ghost use Rattle.hw_io.specs.Sinks.{AppendsPrefix};
 ghost use Rattle.hw_fanout.specs.Fates.{seen};
 ghost use Rattle.hw_program.specs.Commands.{request_of, OnlyReads};
 ghost use Rattle.hw_program.specs.Texts.{usage_line, read_fault_line, append_fault_line, out_of_memory_line};
-ghost use Rattle.hw_program.specs.Faults.{HasReadFault, HasRunFault, FailsOf, IsEndOf};
+ghost use Rattle.hw_program.specs.Faults.{HasReadFault, HasRunFault, IsEndOf};
+ghost use Rattle.hw_program.specs.Due.{FailsOf};
 ghost use Rattle.hw_program.specs.Files.{FilesAfter, IsAllowed, status_of};
 ghost use Rattle.hw_program.specs.Program.{run_of};
 ghost use Rattle.hw_program.specs.Conflict.{ReportsConflict, ReportsEraConflict};
@@ -56,10 +57,10 @@ pub fn work<F: Files, S: Sink>(
     ensures usage { result ≡ 1 → request_of words.now ≡ None }
     ensures grammar { request_of words.now ≡ None → (result ≡ 1) ⊎ (result ≡ 7) }
 
-    // 4 and 5 come only where a count of faults rose in this run, 4 only where a call about a file that was asked for
+    // 4 and 5 come only where a count of faults rose in this run, 4 only where a call about a file that is due
     // failed, and 5 only in place of a text that was whole.
     ensures read_fault { result ≡ 4 → Rose (F.read_faults files.old) (F.read_faults files.new) }
-    ensures read_about { IsTrue F.tells → result ≡ 4 → FailsOf (request_of words.now) (F.faults_about files.old) (F.faults_about files.new) }
+    ensures read_about { IsTrue F.tells → result ≡ 4 → FailsOf (F.held files.old) (request_of words.now) (F.faults_about files.old) (F.faults_about files.new) }
     ensures write_fault { result ≡ 5 → Rose (S.faults out.old) (S.faults out.new) ⊎ Rose (F.append_faults files.old) (F.append_faults files.new) }
     ensures unwritten { IsTrue F.tells → result ≡ 5 → IsDone (run_of words.now (F.held files.old)).status ⊎ Rose (F.append_faults files.old) (F.append_faults files.new) }
 
@@ -124,7 +125,7 @@ fn run<F: Files>(
     ensures status { IfOk result (λ ended. IsEndOf (request_of words.now) ended) }
     ensures fault { HasRunFault (F.read_faults files.old) (F.read_faults files.new) (F.append_faults files.old) (F.append_faults files.new) result }
     ensures only { OnlyReads (request_of words.now) → HasReadFault (F.read_faults files.old) (F.read_faults files.new) result }
-    ensures about { IsTrue F.tells → IfErr result (λ fault. fault ≡ RunFaults.Read → FailsOf (request_of words.now) (F.faults_about files.old) (F.faults_about files.new)) }
+    ensures about { IsTrue F.tells → IfErr result (λ fault. fault ≡ RunFaults.Read → FailsOf (F.held files.old) (request_of words.now) (F.faults_about files.old) (F.faults_about files.new)) }
     ensures usage { request_of words.now ≡ None → IfErr result (λ fault. fault ≡ RunFaults.OutOfMemory) }
 
     ensures consumers { ConsumersAfter (seen (λ b. consumed b) (λ b. faults b) (λ b. b.vtable)) F.tells (request_of words.now) (F.held files.old) (status_of result) consumers.old.items consumers.new.items }

@@ -38,7 +38,7 @@ pub fn migrate<F: Files>(
     ensures cut { IsTrue F.tells → OnErr result (IsCutShort migrated_of (F.held files.old log.now) (F.held files.old new.now) (F.held files.new new.now)) }
     ensures others { IsTrue F.tells → (name : List ℕ) → name ≢ new.now → F.held files.new name ≡ F.held files.old name }
     ensures cause { HasRewriteCause (F.read_faults files.old) (F.read_faults files.new) (F.append_faults files.old) (F.append_faults files.new) result }
-    ensures about { IsTrue F.tells → IsRewriteAbout log.now new.now (F.faults_about files.old) (F.faults_about files.new) result }
+    ensures about { IsTrue F.tells → IsRewriteAbout (F.held files.old new.now) log.now new.now (F.faults_about files.old) (F.faults_about files.new) result }
 {
     absent(files, new)?;
     let migrated = migrated(alloc, files, log)?;

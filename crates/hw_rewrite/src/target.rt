@@ -1,6 +1,6 @@
 //! The file into which a log is written anew.
 
-ghost use Rattle.std.specs.Prelude.{◌≡◌, ℕ, List, None, IsTrue, IsSome, IfErr, OnOk};
+ghost use Rattle.std.specs.Prelude.{◌≡◌, ℕ, List, Option, None, IsTrue, IsSome, IfErr, OnOk};
 ghost use Rattle.hw_io.specs.Files.{SameFiles, Appended};
 ghost use Rattle.hw_rewrite.specs.declared.fault.RewriteFault.TheVariants as RewriteFaults;
 ghost use Rattle.hw_rewrite.specs.Causes.{IsAbsentFault, IsPutFault, HasRewriteCause, IsReadAbout};
@@ -15,7 +15,7 @@ pub(crate) fn absent<F: Files>(files: &mut F, new: &str) -> Result<(), RewriteFa
     ensures there { IsTrue F.tells → IfErr result (λ fault. fault ≡ RewriteFaults.Exists → IsSome (F.held files.old new.now)) }
     ensures why { IfErr result IsAbsentFault }
     ensures cause { HasRewriteCause (F.read_faults files.old) (F.read_faults files.new) (F.append_faults files.old) (F.append_faults files.new) result }
-    ensures about { (log : List ℕ) → IsReadAbout log new.now (F.faults_about files.old) (F.faults_about files.new) result }
+    ensures about { (target : Option (List ℕ)) (log : List ℕ) → IsReadAbout target log new.now (F.faults_about files.old) (F.faults_about files.new) result }
 
     ensures files { SameFiles (F.held files.old) (F.held files.new) }
 {

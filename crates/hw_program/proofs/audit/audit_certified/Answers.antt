@@ -1,5 +1,7 @@
+use Rattle.std.proofs.Common.{refl}
 use Rattle.hw_program.proofs.AuditLaws.{handed_on}
 use Rattle.hw_program.proofs.CauseLaws.{read_about}
+use Rattle.hw_program.proofs.DueLaws.{beside_due, due_fails}
 use Rattle.hw_program.proofs.AgainstLaws.{audited_beside, stopped_beside, audited_said, audited_alike}
 use Rattle.hw_program.proofs.audit.audit_certified.Goals as goal
 
@@ -33,4 +35,7 @@ pub returns-in-Err-clause-fault : goal.returns-in-Err-clause-fault
 returns-in-Err-clause-fault g c = record { later = c.in-Err.ensures.cause.later; counted = c.not_beside.ensures.cause _ _ c.in-Err.ensures.cause.counted }
 
 pub returns-in-Err-clause-about : goal.returns-in-Err-clause-about
-returns-in-Err-clause-about g c = λ tells. read_about c.args.log.now _ _ c.in-Err.fault c.not_beside.result (c.in-Err.ensures.about tells) c.not_beside.ensures.read
+returns-in-Err-clause-about g c = λ tells.
+    let held = g.F.Files.held c.args.files.now in
+    due_fails _ held c.args.log.now _ _ _ c.not_beside.result (beside_due held c.args.file.now c.args.certificate.now c.args.right.now c.args.log.now) refl
+    (read_about c.args.log.now _ _ c.in-Err.fault c.not_beside.result (c.in-Err.ensures.about tells) c.not_beside.ensures.read)

@@ -1,7 +1,10 @@
-use Rattle.std.proofs.Common.{◌∙◌}
+use Rattle.std.proofs.Common.{None, refl, ◌∙◌}
+use Rattle.hw_replay.specs.Replay.{taken_in}
 use Rattle.hw_audit.proofs.ForkLaws.{ok_so}
-use Rattle.hw_program.proofs.CauseLaws.{fault_then, files_then, read_about, read_first, read_second}
+use Rattle.hw_program.proofs.CauseLaws.{fault_then, files_then, read_about}
 use Rattle.hw_program.proofs.AuditLaws.{logs_ok, logs_not}
+use Rattle.hw_program.proofs.DueLaws.{left_due, right_due, due_fails}
+use Rattle.hw_program.proofs.FileLaws.{took_file, replayed}
 use Rattle.hw_program.proofs.audit.audit_logs.Goals as goal
 
 pub returns-in-Ok-clause-said : goal.returns-in-Ok-clause-said
@@ -35,11 +38,12 @@ returns-in-Err-clause-fault g c = record { later = c.in-Err.ensures.cause.later;
 
 pub returns-in-Ok-clause-about : goal.returns-in-Ok-clause-about
 returns-in-Ok-clause-about g c = λ tells.
-    let counts = g.F.Files.faults_about in
-    read_second c.args.left.now c.args.right.now (counts c.args.files.now) (counts c.replay_log.new.files) (counts c.audit_against-ended.new.files) c.audit_against-ended.result (c.in-Ok.ensures.about tells) (c.audit_against-ended.ensures.about tells)
+    let held = g.F.Files.held c.args.files.now in
+    let left = c.args.left.now in
+    let replayed = replayed held None left (taken_in c.in-Ok.replay) (took_file None (held left) c.in-Ok.replay (c.in-Ok.ensures.said tells)) in
+    due_fails _ held c.args.right.now _ _ _ c.audit_against-ended.result (right_due held left c.args.right.now (taken_in c.in-Ok.replay) replayed) (c.in-Ok.ensures.about tells) (c.audit_against-ended.ensures.about tells)
 
 pub returns-in-Err-clause-about : goal.returns-in-Err-clause-about
 returns-in-Err-clause-about g c = λ tells.
-    let before = g.F.Files.faults_about c.args.files.now in
-    let now = g.F.Files.faults_about c.replay_log.new.files in
-    read_first c.args.left.now c.args.right.now before now c.stopped.result (read_about c.args.left.now before now c.in-Err.fault c.stopped.result (c.in-Err.ensures.about tells) c.stopped.ensures.read)
+    let held = g.F.Files.held c.args.files.now in
+    due_fails _ held c.args.left.now _ _ _ c.stopped.result (left_due held c.args.left.now c.args.right.now) refl (read_about c.args.left.now _ _ c.in-Err.fault c.stopped.result (c.in-Err.ensures.about tells) c.stopped.ensures.read)

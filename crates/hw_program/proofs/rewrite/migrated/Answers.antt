@@ -3,6 +3,7 @@ use Rattle.hw_rewrite.specs.Rewritten.{migrated_of}
 use Rattle.hw_program.specs.declared.ended.Ended.{Ended}
 use Rattle.hw_program.proofs.FaultLaws.{if_ok}
 use Rattle.hw_program.proofs.CauseLaws.{no_read}
+use Rattle.hw_program.proofs.DueLaws.{nothing_migrated}
 use Rattle.hw_program.proofs.RewriteLaws.{migrated_line, said_done, said_unwritten, done_run, failed_run, failed_about, done_files, failed_files, ended_two, not_done}
 use Rattle.hw_program.proofs.rewrite.migrated.Goals as goal
 
@@ -34,7 +35,7 @@ pub returns-in-Err-clause-fault : goal.returns-in-Err-clause-fault
 returns-in-Err-clause-fault g c = failed_run c.args.log.now c.args.new.now c.in-Err.fault _ _ _ _ c.unwritten.result c.in-Err.ensures.cause c.unwritten.ensures.said c.unwritten.ensures.fault
 
 pub returns-in-Err-clause-about : goal.returns-in-Err-clause-about
-returns-in-Err-clause-about g c = λ tells. failed_about c.args.log.now c.args.new.now _ _ c.in-Err.fault c.unwritten.result (c.in-Err.ensures.about tells) c.unwritten.ensures.fault
+returns-in-Err-clause-about g c = λ tells. failed_about migrated_of (codes "migrated") _ nothing_migrated (g.F.Files.held c.args.files.now) c.args.log.now c.args.new.now _ _ c.in-Err.fault c.unwritten.result (c.in-Err.ensures.about tells) c.unwritten.ensures.fault
 
 pub returns-in-Err-clause-files : goal.returns-in-Err-clause-files
 returns-in-Err-clause-files g c = λ tells.

@@ -3,6 +3,7 @@ use Rattle.hw_script.specs.Output.{output_of}
 use Rattle.hw_program.specs.Scripted.{script_ended}
 use Rattle.hw_program.proofs.FaultLaws.{counted_same, if_ok}
 use Rattle.hw_program.proofs.CauseLaws.{no_read}
+use Rattle.hw_program.proofs.DueLaws.{script_due}
 use Rattle.hw_program.proofs.ScriptLaws.{scripted}
 use Rattle.hw_program.proofs.script.script.Goals as goal
 
@@ -18,3 +19,6 @@ returns-in-Ok-clause-fault g c = record { later = c.in-Ok.ensures.cause.later; c
 
 pub returns-in-Ok-clause-about : goal.returns-in-Ok-clause-about
 returns-in-Ok-clause-about g c = λ tells. no_read _ c.scripted.result c.scripted.ensures.fault
+
+pub returns-in-Err-Failed-clause-about : goal.returns-in-Err-Failed-clause-about
+returns-in-Err-Failed-clause-about g c = λ tells is. (c.args.file.now, script_due (g.F.Files.held c.args.files.now) c.args.file.now, rw c.in-Err-Failed.field-0-is at (c.in-Err-Failed.ensures.about tells))
