@@ -18,4 +18,5 @@ pub mod Fed
 pub mod Rewritten
 pub mod Services
 pub mod Serving
+pub mod Requested
 pub mod Served
