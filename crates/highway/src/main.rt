@@ -6,7 +6,7 @@ mod usage;
 use hw_consumers::{BlockCount, ValueFile};
 use hw_host::{Announced, HostClock, HostDoor, HostSink, LogFile, NO_LIMIT, NodeFiles, ToldFiles};
 use hw_io::Consumer;
-use hw_program::{OUT_OF_MEMORY, Words, highway, listening_address};
+use hw_program::{Command, OUT_OF_MEMORY, Request, Words, highway};
 use hw_types::OutOfMemory;
 use std::env;
 use std::io::ErrorKind;
@@ -38,19 +38,23 @@ fn main(rt: HostRuntime) -> ExitCode {
 /// alone.
 fn run_on_host(rt: HostRuntime, words: &Words) -> Result<u8, OutOfMemory> {
     let alloc = rt.alloc();
+    let request = Request::of(words);
     let values = ValueFile::new(alloc, ToldFiles::new(rt));
     let count = BlockCount::new(alloc, HostSink::new(rt.stderr()));
     let mut consumers: Vec<Box<dyn Consumer>> = Vec::new(alloc);
     consumers.push(Box::new(alloc, Announced::new(rt, 0, values))?)?;
     consumers.push(Box::new(alloc, Announced::new(rt, 1, count))?)?;
-    let log = match own_log(words) {
+    let log = match request.log_of_node() {
         Some(name) => Some(LogFile::new(alloc, name)?),
         None => None,
     };
-    let mut files = NodeFiles::new(rt, log.as_ref()).within(limit_of(words), long_file(words));
+    let mut files = NodeFiles::new(rt, log.as_ref()).within(
+        limit_of(&request),
+        long_file(&request),
+    );
     let mut out = HostSink::new(rt.stdout());
     let mut clock = HostClock::new(rt);
-    let door = match listening_address(words) {
+    let door = match request.listening_address() {
         Some(address) => HostDoor::new(rt, address),
         None => HostDoor::without_address(rt),
     };
@@ -65,7 +69,7 @@ fn run_on_host(rt: HostRuntime, words: &Words) -> Result<u8, OutOfMemory> {
         &mut consumers,
     );
     if status == USAGE {
-        tell_usage(&rt, words.as_slice());
+        tell_usage(&rt, words.as_slice(), &request);
     }
     if let Some(error) = out.error() {
         let _ = eprintln!(rt; "highway: standard output: {error}");
@@ -73,39 +77,21 @@ fn run_on_host(rt: HostRuntime, words: &Words) -> Result<u8, OutOfMemory> {
     Ok(status)
 }
 
-/// The log that the words name where a node is to run. Words outside the grammar may name one too, and
-/// then no file is asked for.
-fn own_log(words: &Words) -> Option<&str> {
-    match words.as_slice() {
-        [command, ..] if runs_node(command.as_str()) => long_file(words),
-        _ => None,
-    }
-}
-
-/// The log that is read bit by bit, where the other files of the words are read at once.
-fn long_file(words: &Words) -> Option<&str> {
-    match words.as_slice() {
-        [_, _, _, log, ..] => Some(log.as_str()),
-        _ => None,
+/// The log that is read bit by bit, where the other files are read at once.
+fn long_file<'w>(request: &Request<'w>) -> Option<&'w str> {
+    match request {
+        Request::Work(Some(Command::CheckLog { log, .. })) => Some(*log),
+        _ => request.log_of_node(),
     }
 }
 
 /// How many bytes a file may have that is read at once.
-fn limit_of(words: &Words) -> usize {
-    match words.as_slice() {
-        [command, ..] => match command.as_str() {
-            "check" => CERTIFICATE,
-            "script" => SHORT_FILE,
-            command if runs_node(command) => SHORT_FILE,
-            _ => NO_LIMIT,
-        },
-        _ => NO_LIMIT,
+fn limit_of(request: &Request<'_>) -> usize {
+    match request {
+        Request::Work(Some(Command::Check { .. } | Command::CheckLog { .. })) => CERTIFICATE,
+        Request::Work(Some(Command::Script { .. })) | Request::Node(_) => SHORT_FILE,
+        Request::Work(_) => NO_LIMIT,
     }
-}
-
-/// Whether this is a command of a node that runs, whose fourth word is its log.
-fn runs_node(command: &str) -> bool {
-    ["serve", "run", "host", "meet"].contains(&command)
 }
 
 /// The words after the program's name. Where one is no text, there are none, so that they aren't in

@@ -1,4 +1,13 @@
-//! What a person is told whose words are in no command's grammar.
+//! What a person is told whose words are in no command's grammar, or name a validator that there isn't.
+//!
+//! Which words are in a grammar is `Request::of`'s to say. Here is found what is wrong first with words that are in
+//! none, as a person reads them: how many there are before what they say.
+
+use hw_program::{
+    MAX_LOGS, MAX_NODES, MAX_ROUNDS, MAX_SESSIONS, MAX_STEPS, MAX_TURNS, MAX_VALIDATOR,
+    NodeCommand, Request, is_word,
+};
+use hw_script_grammar::number_up_to;
 
 /// A command, how many words stand behind it, and which of them are numbers.
 struct Form {
@@ -27,49 +36,49 @@ const ROUNDS: Number = Number {
     place: 1,
     name: "ROUNDS",
     least: 1,
-    most: 4_096,
+    most: MAX_ROUNDS,
 };
 
 const NODES: Number = Number {
     place: 1,
     name: "NODES",
     least: 1,
-    most: 16,
+    most: MAX_NODES,
 };
 
 const STEPS: Number = Number {
     place: 2,
     name: "STEPS",
     least: 0,
-    most: 20_000,
+    most: MAX_STEPS,
 };
 
 const COUNT: Number = Number {
     place: 0,
     name: "COUNT",
     least: 1,
-    most: 64,
+    most: MAX_LOGS,
 };
 
 const SESSIONS: Number = Number {
     place: 4,
     name: "SESSIONS",
     least: 1,
-    most: 65_536,
+    most: MAX_SESSIONS,
 };
 
 const ME: Number = Number {
     place: 3,
     name: "ME",
     least: 0,
-    most: 1_023,
+    most: MAX_VALIDATOR,
 };
 
 const TURNS: Number = Number {
     place: 4,
     name: "TURNS",
     least: 1,
-    most: 1_000_000,
+    most: MAX_TURNS,
 };
 
 const FORMS: [Form; 16] = [
@@ -192,8 +201,13 @@ const COMMANDS: &str = "highway: the words are one of these; none is empty or be
 ";
 
 /// Tells on standard error which word is wrong, where that can be told, and all commands.
-pub fn tell_usage(rt: &impl Eprint, words: &[String]) {
-    tell_wrong_word(rt, words);
+pub fn tell_usage(rt: &impl Eprint, words: &[String], request: &Request<'_>) {
+    match request {
+        Request::Node(NodeCommand::Run { .. }) => {
+            let _ = eprintln!(rt; "highway: ME of `run` is no validator of CONFIG");
+        }
+        _ => tell_wrong_word(rt, words),
+    }
     let _ = eprint!(rt; "{COMMANDS}");
 }
 
@@ -216,10 +230,6 @@ fn tell_wrong_word(rt: &impl Eprint, words: &[String]) {
             let _ = eprintln!(rt; "highway: `{command}` is no command");
         }
     }
-}
-
-fn is_word(word: &str) -> bool {
-    !word.is_empty() && !word.starts_with('-')
 }
 
 fn form_of(command: &str) -> Option<&'static Form> {
@@ -263,7 +273,6 @@ fn tell_count(rt: &impl Eprint, form: &Form, count: usize) {
 /// Tells what is left to be wrong where the count of words and their numbers are right.
 fn tell_of_other_words(rt: &impl Eprint, command: &str) {
     let _ = match command {
-        "run" => eprintln!(rt; "highway: ME of `run` is no validator of CONFIG"),
         "certify" => eprintln!(rt; "highway: BLOCK of `certify` isn't 64 digits 0 to 9 and a to f"),
         _ => eprintln!(rt; "highway: the words of `{command}` don't go together"),
     };
@@ -282,14 +291,7 @@ fn wrong_number<'n>(numbers: &'n [Number], words: &[String]) -> Option<&'n Numbe
     None
 }
 
-/// Whether a word is decimal digits without a leading zero, but `0` itself, in the range of a number.
+/// Whether a word is a number in this range.
 fn is_in_range(number: &Number, word: &str) -> bool {
-    let is_plain = word.bytes().all(|byte| byte.is_ascii_digit());
-    let has_zero_ahead = word.len() > 1 && word.starts_with('0');
-    match word.parse::<u64>() {
-        Ok(value) => {
-            is_plain && !has_zero_ahead && number.least <= value && value <= number.most
-        }
-        Err(_) => false,
-    }
+    number_up_to(number.most, word.as_bytes()).is_some_and(|value| value >= number.least)
 }

@@ -35,7 +35,7 @@ last_set (c ∷ d ∷ ds) zero x long = absurd (omega arith)
 last_set (c ∷ cs) (suc k) x long = last_set cs k x (omega arith)
 
 -- the first configuration stays
-pub first_kept : (cs os : List CoreState) (k : ℕ) (c x : CoreState) → slice_get cs k ≡ Some c → x.config ≡ c.config → first_config (take k cs ++ x ∷ os) ≡ first_config cs
+first_kept : (cs os : List CoreState) (k : ℕ) (c x : CoreState) → slice_get cs k ≡ Some c → x.config ≡ c.config → first_config (take k cs ++ x ∷ os) ≡ first_config cs
 first_kept [] os k c x e config = absurd cc
 first_kept (d ∷ ds) os zero c x e config = (let same : d ≡ c = cc in ap Some (config ∙ ap (λ (k : CoreState). k.config) (sym same)))
 first_kept (d ∷ ds) os (suc k) c x e config = refl
@@ -91,22 +91,16 @@ not_equal m differ = go (m == 64) refl
 abbrev pub answer : Option ℕ → Result (Option ℕ) EraOpen
 answer o = Ok o
 
--- ---- the era isn't there, or its log stops the replay
+-- ---- the era isn't there
 
 pub none_ahead : (held : Held) (f : Filled) (log : List ℕ) (logs : List (List ℕ)) → next_in f ≡ None → ahead_in held f (log ∷ logs) ≡ Err (NoEra log)
 unfolding eras_from
 none_ahead held f log logs none = ap (λ (o : Option Config). eras_from held o (log ∷ logs) >>= λ ts. Ok (take 64 (take (logs_in f) (eras_in f) ++ ts))) none
 
-pub stop_ahead : (held : Held) (f : Filled) (log : List ℕ) (logs : List (List ℕ)) (config : Config) (s : Stop) → next_in f ≡ Some config → log_left held (Some config) log ≡ Err s → ahead_in held f (log ∷ logs) ≡ Err s
-unfolding eras_from
-stop_ahead held f log logs config s next left =
-    ap (λ (o : Option Config). eras_from held o (log ∷ logs) >>= λ ts. Ok (take 64 (take (logs_in f) (eras_in f) ++ ts))) next
-    ∙ ap (λ (r : Result Taken Stop). (r >>= λ u. eras_from held (next_of u.core) logs >>= λ ts. Ok (u ∷ ts)) >>= λ ts. Ok (take 64 (take (logs_in f) (eras_in f) ++ ts))) left
-
 -- ---- the era of the next log
 
 module _ (f : Filled) (filled : IsFilled f) (n : ℕ) (count : n ≡ logs_in f) (core : CoreState) (there : slice_get f.eras n ≡ Some core) where
-  abbrev its : slice_get f.eras (logs_in f) ≡ Some core
+  abbrev pub its : slice_get f.eras (logs_in f) ≡ Some core
   its = subst (λ (k : ℕ). slice_get f.eras k ≡ Some core) count there
 
   pub next_is : next_in f ≡ Some core.config
@@ -175,6 +169,9 @@ module _ (f g : Filled) (t : Taken) (few : logs_in f < 64) (filled : IsFilled f)
     no_more = (let most = few_os.1 in omega (arith, one, long));
     empty = λ c e. empty_os (logs_in g == 64) c (sym behind ∙ e);
   }
+
+  pub still_first : (core : CoreState) → slice_get f.eras (logs_in f) ≡ Some core → t.core.config ≡ core.config → first_config g.eras ≡ first_config f.eras
+  still_first core there same = ap first_config has.eras ∙ first_kept f.eras os (logs_in f) core t.core there same
 
   -- the eras that got their logs
   taken_more : take (logs_in g) (eras_in g) ≡ take (logs_in f) (eras_in f) ++ t ∷ []

@@ -1,46 +1,33 @@
 -- What stops a run over logs of eras, and what is left of it.
-use Rattle.std.proofs.Common.{◌≡◌, ℕ, zero, suc, ◌+◌, ◌-◌, ◌≤◌, ◌<◌, ◌⊎◌, inl, inr, List, [], ◌∷◌, ◌++◌, length, map, drop, take, get_or, Option, Some, Result, Ok, Err, IfOk, IfErr, refl, sym, ap, subst, ◌∙◌, arith}
+use Rattle.std.proofs.Common.{◌≡◌, ℕ, zero, suc, ◌+◌, ◌-◌, ◌≤◌, ◌<◌, inl, inr, List, [], ◌∷◌, ◌++◌, length, map, drop, take, get_or, Option, Some, Result, Ok, refl, sym, ap, subst, ◌∙◌, arith}
 use Rattle.std.proofs.lemmas.List.{take_all}
 use Rattle.hw_io.specs.Files.{SameFiles}
 use Rattle.hw_types.specs.declared.config.Config.{Config}
 use Rattle.hw_types.specs.Below.{Among}
 use Rattle.hw_eras.specs.Nodes.{next_of}
-use Rattle.hw_replay.specs.declared.fault.StartFault.{StartFault}
-use Rattle.hw_replay.specs.declared.fault.StartFault.TheVariants as fault
-use Rattle.hw_replay.specs.declared.replay.Replay.{Replay}
 use Rattle.hw_replay.specs.Taken.{Taken}
-use Rattle.hw_replay.specs.Replay.{taken_in, IsOutside, Replays}
-use Rattle.hw_replay.specs.Causes.{HasReplayCause, IsReplayAbout}
-use Rattle.hw_era_runs.specs.Logs.{Held, Stop, Stopped, ◌>>=◌, file_left, or_stopped, log_left, eras_from, eras_of}
+use Rattle.hw_era_runs.specs.Logs.{Held, Stop, ◌>>=◌, log_left, eras_from, eras_of}
 use Rattle.hw_era_runs.specs.declared.filled.Filled.{Filled}
 use Rattle.hw_era_runs.specs.declared.stop.EraStop.{EraStop}
 use Rattle.hw_era_runs.specs.declared.stop.EraStop.TheVariants as stop
 use Rattle.hw_era_runs.specs.Stops.{StopsSo, IsOfLogs, HasEraCause, IsEraAbout}
-use Rattle.hw_era_runs.specs.Filled.{eras_in, ahead_in, IsFilled, HasFirst, HasBegun}
-use Rattle.hw_era_runs.proofs.LogLaws.{took_file}
+use Rattle.hw_era_runs.specs.Filled.{eras_in, logs_in, next_in, ahead_in, IsFilled, HasBegun}
 use Rattle.hw_era_runs.proofs.FilledLaws.{begun_ahead, nothing_ahead}
 
--- ---- the first log
+-- what stops, stops what follows
+pub stops_then : {A B : Type 0} (r : Result A Stop) (f : A → Result B Stop) (e : EraStop) → StopsSo e r → StopsSo e (r >>= f)
+stops_then r f (stop.NoEra log) is = ap (λ x. x >>= f) is
+stops_then r f (stop.Stopped log e) (inl out) = inl out
+stops_then r f (stop.Stopped log e) (inr is) = inr (ap (λ x. x >>= f) is)
+stops_then r f stop.OutOfMemory is = tt
 
-pub begun_so : (wanted : Option Config) (file : Option (List ℕ)) (replay : Replay) (r : Result Filled StartFault) → Replays wanted file (Ok replay) → IfOk r (λ f. HasFirst f (taken_in replay)) → IfErr r (λ e. e ≡ fault.OutOfMemory)
-    → HasBegun wanted file r
-begun_so wanted file replay (Ok f) took has none = (taken_in replay, took_file wanted file replay took, has)
-begun_so wanted file replay (Err e) took has none = inl (subst IsOutside (sym none) tt)
-
--- no fault was counted
-pub cause_so : {T U : Type 0} (before now : ℕ) (was : T) (r : Result U StartFault) → HasReplayCause before now (Ok was) → IfErr r (λ e. e ≡ fault.OutOfMemory) → HasReplayCause before now r
-cause_so before now was (Ok f) cause none = record { later = cause.later; counted = cause.counted; error = tt }
-cause_so {U = U} before now was (Err e) cause none = subst (λ (x : StartFault). HasReplayCause {T = U} before now (Err x)) (sym none) (record { later = cause.later; counted = cause.counted; error = tt })
-
-pub about_so : {U : Type 0} (log : List ℕ) (before now : List ℕ → ℕ) (r : Result U StartFault) → now ≡ before → IfErr r (λ e. e ≡ fault.OutOfMemory) → IsReplayAbout (Some log) before now r
-about_so log before now (Ok f) same none = same
-about_so {U} log before now (Err e) same none = subst (λ (x : StartFault). IsReplayAbout {T = U} (Some log) before now (Err x)) (sym none) same
-
--- ---- a log that stops the replay
-
-pub stops_so : (held : Held) (wanted : Option Config) (log : List ℕ) (e : StartFault) → IsOutside e ⊎ (file_left wanted (held log) ≡ Err e) → IsOutside e ⊎ (log_left held wanted log ≡ Err (Stopped log e))
-stops_so held wanted log e (inl out) = inl out
-stops_so held wanted log e (inr said) = inr (ap (or_stopped log) said)
+-- the log of the next era stops
+pub stopped_ahead : (held : Held) (f : Filled) (log : List ℕ) (logs : List (List ℕ)) (config : Config) (e : EraStop) → next_in f ≡ Some config → StopsSo e (log_left held (Some config) log) → StopsSo e (ahead_in held f (log ∷ logs))
+unfolding eras_from
+stopped_ahead held f log logs config e next stops =
+    let behind : List Taken → Result (List Taken) Stop = λ ts. Ok (take 64 (take (logs_in f) (eras_in f) ++ ts)) in
+    subst (StopsSo e) (sym (ap (λ (o : Option Config). eras_from held o (log ∷ logs) >>= behind) next))
+    (stops_then (eras_from held (Some config) (log ∷ logs)) behind e (stops_then (log_left held (Some config) log) (λ t. eras_from held (next_of t.core) logs >>= λ ts. Ok (t ∷ ts)) e stops))
 
 -- ---- log after log
 
@@ -137,18 +124,16 @@ all_taken held f s names n filled le so_far = sym so_far ∙ ap (ahead_in held f
 -- ---- the first log and the others
 
 -- the names of logs, of which this is the first
-pub names_first : {A : Type 0} (f : A → List ℕ) (xs : List A) (x : A) → 1 ≤ length xs → x ≡ get_or xs 0 x → map f xs ≡ f x ∷ map f (take (length xs - 1) (drop 1 xs))
-names_first f [] x some is = absurd (omega arith)
-names_first {A} f (y ∷ ys) x some is =
+pub names_first : {A : Type 0} (f : A → List ℕ) (xs : List A) (x : A) (name : List ℕ) → 1 ≤ length xs → x ≡ get_or xs 0 x → name ≡ f x → map f xs ≡ name ∷ map f (take (length xs - 1) (drop 1 xs))
+names_first f [] x name some is named = absurd (omega arith)
+names_first {A} f (y ∷ ys) x name some is named =
     let all : take (length (y ∷ ys) - 1) ys ≡ ys = take_all (length (y ∷ ys) - 1) ys (omega arith) in
-    ap (λ (z : A). f z ∷ map f ys) (sym is) ∙ ap (λ (zs : List A). f x ∷ map f zs) (sym all)
+    ap (λ (z : A). f z ∷ map f ys) (sym is) ∙ ap (λ (n : List ℕ). n ∷ map f ys) (sym named) ∙ ap (λ (zs : List A). name ∷ map f zs) (sym all)
 
 module _ (held : Held) (wanted : Option Config) (log : List ℕ) (logs : List (List ℕ)) where
-  pub begun_eras : (now : Held) (f : Filled) → SameFiles held now → HasBegun wanted (held log) (Ok f) → eras_of held wanted (log ∷ logs) ≡ ahead_in now f logs
-  begun_eras now f same has =
-      begun_ahead f has.0 has.2 held wanted log logs (ap (or_stopped log) has.1) ∙ ap (λ (h : Held). ahead_in h f logs) (sym (same_held held now same))
+  pub begun_eras : (now : Held) (f : Filled) → SameFiles held now → HasBegun (log_left held wanted log) (Ok f) → eras_of held wanted (log ∷ logs) ≡ ahead_in now f logs
+  begun_eras now f same has = begun_ahead f has.0 has.2 held wanted log logs has.1 ∙ ap (λ (h : Held). ahead_in h f logs) (sym (same_held held now same))
 
-  pub stopped_eras : (e : StartFault) → HasBegun wanted (held log) (Err e) → IsOutside e ⊎ (eras_of held wanted (log ∷ logs) ≡ Err (Stopped log e))
+  pub stopped_eras : (e : EraStop) → StopsSo e (log_left held wanted log) → StopsSo e (eras_of held wanted (log ∷ logs))
   unfolding eras_of
-  stopped_eras e (inl out) = inl out
-  stopped_eras e (inr said) = inr (ap (λ (r : Result Taken Stop). r >>= λ t. eras_from held (next_of t.core) logs >>= λ ts. Ok (take 64 (t ∷ ts))) (ap (or_stopped log) said))
+  stopped_eras e stops = stops_then (log_left held wanted log) (λ t. eras_from held (next_of t.core) logs >>= λ ts. Ok (take 64 (t ∷ ts))) e stops

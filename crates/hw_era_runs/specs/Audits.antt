@@ -23,8 +23,6 @@ use Rattle.hw_replay.specs.Taken.{Taken}
 use Rattle.hw_era_runs.specs.Logs.{Held, Stop, ◌>>=◌, eras_of, nodes_of}
 use Rattle.hw_era_runs.specs.Reports.{era_line}
 use Rattle.hw_era_runs.specs.declared.audits.EraAudit.{EraAudit}
-use Rattle.hw_era_runs.specs.declared.stop.EraStop.{EraStop}
-use Rattle.hw_era_runs.specs.Stops.{StopsSo}
 
 -- ---- by the definitions
 
@@ -113,15 +111,3 @@ IsAuditOfLogs held left right e = IsAuditAgainst held (eras_of held None left) r
 -- the eras agree, or are in conflict, or two units clash
 abbrev pub IsAuditEnd : ℕ → Type 0
 IsAuditEnd status = (status ≡ 0) ⊎ (status ≡ 3) ⊎ (status ≡ 9)
-
--- ---- on the way
-
--- the audit is told, or the logs stop there
-abbrev pub AuditsAgainst : Held → Result (List Taken) Stop → List (List ℕ) → Result EraAudit EraStop → Type 0
-AuditsAgainst held left right (Ok e) = IsAuditAgainst held left right e
-AuditsAgainst held left right (Err stop) = StopsSo stop (left >>= λ ls. audited_against held ls right)
-
--- the same, where both nodes began
-abbrev pub AuditsRight : List CoreState → Result (List Taken) Stop → Result EraAudit EraStop → Type 0
-AuditsRight left right (Ok e) = (rs : List Taken) × (right ≡ Ok rs) × IsAudit left (nodes_of rs) e
-AuditsRight left right (Err stop) = StopsSo stop right

@@ -1,15 +1,15 @@
 -- The eras of a node while its logs are replayed.
 -- Source: ours.
-use Rattle.std.specs.Prelude.{◌≡◌, ℕ, ◌+◌, ◌≤◌, ◌==◌, List, [], ◌∷◌, ◌++◌, length, take, slice_get, unwrap_or, Option, Some, None, Result, Ok, Err, ◌⊎◌, if◌then◌else◌}
+use Rattle.std.specs.Prelude.{◌≡◌, ℕ, ◌+◌, ◌≤◌, ◌==◌, List, [], ◌∷◌, ◌++◌, length, take, slice_get, unwrap_or, Option, Some, None, Result, Ok, Err, if◌then◌else◌}
 use Rattle.std.specs.Option.{option_map}
 use Rattle.hw_types.specs.declared.config.Config.{Config}
 use Rattle.hw_types.specs.Real.{CoreState}
 use Rattle.hw_core.specs.Promises.{begun}
 use Rattle.hw_eras.specs.Nodes.{next_of}
-use Rattle.hw_replay.specs.declared.fault.StartFault.{StartFault}
+use Rattle.hw_replay.specs.declared.replay.Replay.{Replay}
 use Rattle.hw_replay.specs.Taken.{Taken}
-use Rattle.hw_replay.specs.Replay.{IsOutside}
-use Rattle.hw_era_runs.specs.Logs.{Held, Stop, ◌>>=◌, file_left, eras_from}
+use Rattle.hw_replay.specs.Replay.{taken_in}
+use Rattle.hw_era_runs.specs.Logs.{Held, Stop, ◌>>=◌, eras_from}
 use Rattle.hw_era_runs.specs.declared.filled.EraCounts.{EraCounts}
 use Rattle.hw_era_runs.specs.declared.filled.Filled.{Filled}
 use Rattle.hw_era_runs.specs.declared.stop.EraStop.{EraStop}
@@ -64,10 +64,15 @@ pub record HasFirst (f : Filled) (t : Taken) : Type 0 where
   pub eras : f.eras ≡ t.core ∷ opened (next_of t.core)
   pub counts : f.counts.items ≡ record { refused = t.refused; repeats = t.repeats } ∷ []
 
+-- the replay took what the log left, or it stops there
+abbrev pub Leaves : Result Taken Stop → Result Replay EraStop → Type 0
+Leaves left (Ok replay) = left ≡ Ok (taken_in replay)
+Leaves left (Err e) = StopsSo e left
+
 -- the first log was taken, or it stops there
-abbrev pub HasBegun : Option Config → Option (List ℕ) → Result Filled StartFault → Type 0
-HasBegun wanted file (Ok f) = (t : Taken) × (file_left wanted file ≡ Ok t) × HasFirst f t
-HasBegun wanted file (Err e) = IsOutside e ⊎ (file_left wanted file ≡ Err e)
+abbrev pub HasBegun : Result Taken Stop → Result Filled EraStop → Type 0
+HasBegun left (Ok f) = (t : Taken) × (left ≡ Ok t) × HasFirst f t
+HasBegun left (Err e) = StopsSo e left
 
 -- The log was taken, and what will be there is the same; or it stops there.
 abbrev pub TakesLog : Held → Filled → List ℕ → Filled → Result (Unit {0}) EraStop → Type 0
@@ -78,3 +83,8 @@ TakesLog held old log new (Err e) = (logs : List (List ℕ)) → StopsSo e (ahea
 abbrev pub TakesAll : Result (List Taken) Stop → Filled → Result (Unit {0}) EraStop → Type 0
 TakesAll ahead new (Ok x) = ahead ≡ Ok (eras_in new)
 TakesAll ahead new (Err e) = StopsSo e ahead
+
+-- these eras are there, or the logs stop there
+abbrev pub Fills : Result (List Taken) Stop → Result Filled EraStop → Type 0
+Fills eras (Ok f) = eras ≡ Ok (eras_in f)
+Fills eras (Err e) = StopsSo e eras

@@ -1,12 +1,11 @@
 //! The audit of the eras of two nodes.
 
-ghost use Rattle.std.specs.Prelude.{◌≡◌, ◌+◌, ◌<◌, ◌≤◌, ◌++◌, length, map, slice_get, string_bytes, Some, Ok, IsTrue, IfOk, IfErr};
+ghost use Rattle.std.specs.Prelude.{◌≡◌, ◌<◌, ◌≤◌, ◌++◌, length, map, slice_get, string_bytes, Some, IsTrue, IfOk, IfErr};
 ghost use Rattle.hw_io.specs.Files.{SameFiles};
 ghost use Rattle.hw_eras.specs.Nodes.{first_config};
 ghost use Rattle.hw_eras.specs.declared.verdict.EraVerdict.TheVariants as EraVerdicts;
-ghost use Rattle.hw_era_runs.specs.Audits.{agreed, status_of, TellsVerdict, logs_audited, IsAudit, IsAuditOfLogs, IsAuditEnd, AuditsAgainst, AuditsRight};
+ghost use Rattle.hw_era_runs.specs.Audits.{agreed, status_of, TellsVerdict, logs_audited, IsAudit, IsAuditOfLogs, IsAuditEnd};
 ghost use Rattle.hw_era_runs.specs.Stops.{Says, IsOfLogs, HasEraCause, IsEraAbout};
-ghost use Rattle.hw_era_runs.specs.Filled.{logs_in, eras_in, ahead_in, IsFilled};
 
 use crate::filled::Filled;
 use crate::reports::put_era;
@@ -61,89 +60,9 @@ pub fn audit_logs<'a, F: Files>(
     ensures files { SameFiles (F.held files.old) (F.held files.new) }
     ensures appends { F.append_faults files.new ≡ F.append_faults files.old }
 {
-    let first = left[0].as_str();
-    match Filled::begin(alloc, files, first) {
-        Ok(mut filled) => audit_left(files, &mut filled, &left[1..], right),
-        Err(fault) => Err(EraStop::Stopped(first, fault)),
-    }
-}
-
-/// The same, where the left eras before these left logs are filled.
-fn audit_left<'a, F: Files>(
-    files: &mut F,
-    left: &mut Filled,
-    logs: &'a [String],
-    right: &'a [String],
-) -> Result<EraAudit, EraStop<'a>>
-    requires filled { IsFilled left.old }
-    requires few { logs_in left.old + length logs.now ≤ 64 }
-    requires right_some { 1 ≤ length right.now }
-    requires right_few { length right.now ≤ 64 }
-    ensures said { IsTrue F.tells → AuditsAgainst (F.held files.old) (ahead_in (F.held files.old) left.old (map string_bytes logs.now)) (map string_bytes right.now) result }
-    ensures status { IfOk result (λ e. IsAuditEnd e.status) }
-    ensures named { IfErr result (IsOfLogs (map string_bytes logs.now ++ map string_bytes right.now)) }
-    ensures cause { HasEraCause (F.read_faults files.old) (F.read_faults files.new) result }
-    ensures about { IsTrue F.tells → IsEraAbout (F.faults_about files.old) (F.faults_about files.new) result }
-
-    ensures files { SameFiles (F.held files.old) (F.held files.new) }
-    ensures appends { F.append_faults files.new ≡ F.append_faults files.old }
-{
-    match left.take_all(files, logs) {
-        Ok(()) => audit_against(files, left, right),
-        Err(stop) => Err(stop),
-    }
-}
-
-/// The same, where the left eras are all filled.
-fn audit_against<'a, F: Files>(
-    files: &mut F,
-    left: &Filled,
-    right: &'a [String],
-) -> Result<EraAudit, EraStop<'a>>
-    requires right_some { 1 ≤ length right.now }
-    requires right_few { length right.now ≤ 64 }
-    ensures said { IsTrue F.tells → AuditsAgainst (F.held files.old) (Ok (eras_in left.now)) (map string_bytes right.now) result }
-    ensures status { IfOk result (λ e. IsAuditEnd e.status) }
-    ensures named { IfErr result (IsOfLogs (map string_bytes right.now)) }
-    ensures cause { HasEraCause (F.read_faults files.old) (F.read_faults files.new) result }
-    ensures about { IsTrue F.tells → IsEraAbout (F.faults_about files.old) (F.faults_about files.new) result }
-
-    ensures files { SameFiles (F.held files.old) (F.held files.new) }
-    ensures appends { F.append_faults files.new ≡ F.append_faults files.old }
-{
-    let first = right[0].as_str();
-    match Filled::begin_like(left.alloc, files, first_core(&left.eras), first) {
-        Ok(mut filled) => audit_right(files, left, &mut filled, &right[1..]),
-        Err(fault) => Err(EraStop::Stopped(first, fault)),
-    }
-}
-
-/// The same, where the right eras before these logs are filled.
-fn audit_right<'a, F: Files>(
-    files: &mut F,
-    left: &Filled,
-    right: &mut Filled,
-    logs: &'a [String],
-) -> Result<EraAudit, EraStop<'a>>
-    requires filled { IsFilled right.old }
-    requires few { logs_in right.old + length logs.now ≤ 64 }
-    requires like { first_config right.old.eras ≡ first_config left.now.eras }
-    ensures said { IsTrue F.tells → AuditsRight left.now.eras (ahead_in (F.held files.old) right.old (map string_bytes logs.now)) result }
-    ensures status { IfOk result (λ e. IsAuditEnd e.status) }
-    ensures named { IfErr result (IsOfLogs (map string_bytes logs.now)) }
-    ensures cause { HasEraCause (F.read_faults files.old) (F.read_faults files.new) result }
-    ensures about { IsTrue F.tells → IsEraAbout (F.faults_about files.old) (F.faults_about files.new) result }
-
-    ensures files { SameFiles (F.held files.old) (F.held files.new) }
-    ensures appends { F.append_faults files.new ≡ F.append_faults files.old }
-{
-    match right.take_all(files, logs) {
-        Ok(()) => match audited(left.alloc, &left.eras, &right.eras) {
-            Ok(audit) => Ok(audit),
-            Err(OutOfMemory) => Err(EraStop::OutOfMemory),
-        },
-        Err(stop) => Err(stop),
-    }
+    let left = Filled::of_logs(alloc, files, left)?;
+    let right = Filled::of_logs_like(alloc, files, first_core(&left.eras), right)?;
+    Ok(audited(alloc, &left.eras, &right.eras)?)
 }
 
 /// The node of era 0.

@@ -5,11 +5,10 @@ ghost use Rattle.hw_io.specs.Files.{SameFiles};
 ghost use Rattle.hw_types.specs.Real.{CoreState};
 ghost use Rattle.hw_core.specs.Promises.{begun};
 ghost use Rattle.hw_eras.specs.Nodes.{IsMadeAgain, next_of, first_config, last_core};
-ghost use Rattle.hw_replay.specs.declared.fault.StartFault.TheVariants as Faults;
-ghost use Rattle.hw_replay.specs.Replay.{taken_in, Replays};
-ghost use Rattle.hw_replay.specs.Causes.{HasReplayCause, IsReplayAbout};
+ghost use Rattle.hw_replay.specs.Replay.{taken_in};
+ghost use Rattle.hw_era_runs.specs.Logs.{log_left, eras_of};
 ghost use Rattle.hw_era_runs.specs.Stops.{IsOfLogs, HasEraCause, IsEraAbout};
-ghost use Rattle.hw_era_runs.specs.Filled.{logs_in, ahead_in, IsFilled, opened, HasTaken, HasFirst, HasBegun, TakesLog, TakesAll};
+ghost use Rattle.hw_era_runs.specs.Filled.{logs_in, ahead_in, IsFilled, opened, HasTaken, HasFirst, Leaves, HasBegun, TakesLog, TakesAll, Fills};
 
 use crate::stop::EraStop;
 use hw_admit::StateStart;
@@ -17,7 +16,7 @@ use hw_codec::config_is_in_range;
 use hw_core::Core;
 use hw_eras::{EraOpen, Eras};
 use hw_io::Files;
-use hw_replay::{Replay, StartFault, replay_log};
+use hw_replay::{Replay, replay_log};
 use hw_types::OutOfMemory;
 use std::alloc::Global;
 
@@ -41,48 +40,96 @@ pub struct Filled {
 }
 
 impl Filled {
+    /// Replays these logs into the eras of a node, one into each.
+    pub fn of_logs<'a, F: Files>(
+        alloc: Global,
+        files: &mut F,
+        logs: &'a [String],
+    ) -> Result<Filled, EraStop<'a>>
+        requires some { 1 ≤ length logs.now }
+        requires few { length logs.now ≤ 64 }
+        ensures said { IsTrue F.tells → Fills (eras_of (F.held files.old) None (map string_bytes logs.now)) result }
+        ensures named { IfErr result (IsOfLogs (map string_bytes logs.now)) }
+        ensures cause { HasEraCause (F.read_faults files.old) (F.read_faults files.new) result }
+        ensures about { IsTrue F.tells → IsEraAbout (F.faults_about files.old) (F.faults_about files.new) result }
+
+        ensures files { SameFiles (F.held files.old) (F.held files.new) }
+        ensures appends { F.append_faults files.new ≡ F.append_faults files.old }
+    {
+        let mut filled = Filled::begin(alloc, files, logs[0].as_str())?;
+        filled.take_all(files, &logs[1..])?;
+        Ok(filled)
+    }
+
+    /// The same, if the first log is of the configuration of this node.
+    pub fn of_logs_like<'a, F: Files>(
+        alloc: Global,
+        files: &mut F,
+        core: &Core,
+        logs: &'a [String],
+    ) -> Result<Filled, EraStop<'a>>
+        requires some { 1 ≤ length logs.now }
+        requires few { length logs.now ≤ 64 }
+        ensures said { IsTrue F.tells → Fills (eras_of (F.held files.old) (Some core.now.config) (map string_bytes logs.now)) result }
+        ensures like { IfOk result (λ filled. first_config filled.eras ≡ Some core.now.config) }
+        ensures named { IfErr result (IsOfLogs (map string_bytes logs.now)) }
+        ensures cause { HasEraCause (F.read_faults files.old) (F.read_faults files.new) result }
+        ensures about { IsTrue F.tells → IsEraAbout (F.faults_about files.old) (F.faults_about files.new) result }
+
+        ensures files { SameFiles (F.held files.old) (F.held files.new) }
+        ensures appends { F.append_faults files.new ≡ F.append_faults files.old }
+    {
+        let mut filled = Filled::begin_like(alloc, files, core, logs[0].as_str())?;
+        filled.take_all(files, &logs[1..])?;
+        Ok(filled)
+    }
+
     /// Begins with the log under this name, in era 0.
-    pub fn begin<F: Files>(alloc: Global, files: &mut F, log: &str) -> Result<Filled, StartFault>
-        ensures said { IsTrue F.tells → HasBegun None (F.held files.old log.now) result }
+    fn begin<'a, F: Files>(
+        alloc: Global,
+        files: &mut F,
+        log: &'a str,
+    ) -> Result<Filled, EraStop<'a>>
+        ensures said { IsTrue F.tells → HasBegun (log_left (F.held files.old) None log.now) result }
         ensures filled { IfOk result IsFilled }
         ensures one { IfOk result (λ filled. logs_in filled ≡ 1) }
-        ensures cause { HasReplayCause (F.read_faults files.old) (F.read_faults files.new) result }
-        ensures about { IsTrue F.tells → IsReplayAbout (Some log.now) (F.faults_about files.old) (F.faults_about files.new) result }
+        ensures named { IfErr result (IsOfLogs (log.now ∷ [])) }
+        ensures cause { HasEraCause (F.read_faults files.old) (F.read_faults files.new) result }
+        ensures about { IsTrue F.tells → IsEraAbout (F.faults_about files.old) (F.faults_about files.new) result }
 
         ensures files { SameFiles (F.held files.old) (F.held files.new) }
         ensures appends { F.append_faults files.new ≡ F.append_faults files.old }
     {
         match replay_log(alloc, files, log, None) {
-            Ok(mut replay) => first(alloc, &mut replay),
-            Err(fault) => Err(fault),
+            Ok(mut replay) => Ok(first(alloc, &mut replay)?),
+            Err(fault) => Err(EraStop::Stopped(log, fault)),
         }
     }
 
     /// Begins with the log under this name, if it is of the configuration of this node.
-    pub fn begin_like<F: Files>(
+    fn begin_like<'a, F: Files>(
         alloc: Global,
         files: &mut F,
         core: &Core,
-        log: &str,
-    ) -> Result<Filled, StartFault>
-        ensures said { IsTrue F.tells → HasBegun (Some core.now.config) (F.held files.old log.now) result }
+        log: &'a str,
+    ) -> Result<Filled, EraStop<'a>>
+        ensures said { IsTrue F.tells → HasBegun (log_left (F.held files.old) (Some core.now.config) log.now) result }
         ensures filled { IfOk result IsFilled }
         ensures one { IfOk result (λ filled. logs_in filled ≡ 1) }
         ensures like { IfOk result (λ filled. first_config filled.eras ≡ Some core.now.config) }
-        ensures cause { HasReplayCause (F.read_faults files.old) (F.read_faults files.new) result }
-        ensures about { IsTrue F.tells → IsReplayAbout (Some log.now) (F.faults_about files.old) (F.faults_about files.new) result }
+        ensures named { IfErr result (IsOfLogs (log.now ∷ [])) }
+        ensures cause { HasEraCause (F.read_faults files.old) (F.read_faults files.new) result }
+        ensures about { IsTrue F.tells → IsEraAbout (F.faults_about files.old) (F.faults_about files.new) result }
 
         ensures files { SameFiles (F.held files.old) (F.held files.new) }
         ensures appends { F.append_faults files.new ≡ F.append_faults files.old }
     {
-        match replay_like(alloc, files, core, log) {
-            Ok(mut replay) => first(alloc, &mut replay),
-            Err(fault) => Err(fault),
-        }
+        let mut replay = replay_like(alloc, files, core, log)?;
+        Ok(first(alloc, &mut replay)?)
     }
 
     /// Replays these logs into the next eras, one into each.
-    pub fn take_all<'a, F: Files>(
+    fn take_all<'a, F: Files>(
         &mut self,
         files: &mut F,
         logs: &'a [String],
@@ -100,10 +147,7 @@ impl Filled {
         ensures appends { F.append_faults files.new ≡ F.append_faults files.old }
     {
         for log in logs {
-            match self.take(files, log.as_str()) {
-                Ok(()) => {}
-                Err(stop) => return Err(stop),
-            }
+            self.take(files, log.as_str())?;
         }
         Ok(())
     }
@@ -126,13 +170,9 @@ impl Filled {
         let Some(core) = self.eras.core(self.counts.len() as u32) else {
             return Err(EraStop::NoEra(log));
         };
-        match replay_like(self.alloc, files, core, log) {
-            Ok(mut replay) => match self.put(&mut replay) {
-                Ok(()) => Ok(()),
-                Err(OutOfMemory) => Err(EraStop::OutOfMemory),
-            },
-            Err(fault) => Err(EraStop::Stopped(log, fault)),
-        }
+        let mut replay = replay_like(self.alloc, files, core, log)?;
+        self.put(&mut replay)?;
+        Ok(())
     }
 
     /// Puts what a log left into the last era, and opens the next one.
@@ -170,17 +210,18 @@ impl Filled {
 }
 
 /// Replays the log under this name, if it is of the configuration of this node.
-fn replay_like<F: Files>(
+fn replay_like<'a, F: Files>(
     alloc: Global,
     files: &mut F,
     core: &Core,
-    log: &str,
-) -> Result<Replay, StartFault>
-    ensures said { IsTrue F.tells → Replays (Some core.now.config) (F.held files.old log.now) result }
+    log: &'a str,
+) -> Result<Replay, EraStop<'a>>
+    ensures said { IsTrue F.tells → Leaves (log_left (F.held files.old) (Some core.now.config) log.now) result }
     ensures like { IfOk result (λ replay. replay.core.config ≡ core.now.config) }
     ensures made { IfOk result (λ replay. IsMadeAgain replay.core) }
-    ensures cause { HasReplayCause (F.read_faults files.old) (F.read_faults files.new) result }
-    ensures about { IsTrue F.tells → IsReplayAbout (Some log.now) (F.faults_about files.old) (F.faults_about files.new) result }
+    ensures named { IfErr result (IsOfLogs (log.now ∷ [])) }
+    ensures cause { HasEraCause (F.read_faults files.old) (F.read_faults files.new) result }
+    ensures about { IsTrue F.tells → IsEraAbout (F.faults_about files.old) (F.faults_about files.new) result }
 
     ensures files { SameFiles (F.held files.old) (F.held files.new) }
     ensures appends { F.append_faults files.new ≡ F.append_faults files.old }
@@ -194,30 +235,22 @@ fn replay_like<F: Files>(
             config_is_in_range(replay.core.state().config());
             Ok(replay)
         }
-        Err(fault) => Err(fault),
+        Err(fault) => Err(EraStop::Stopped(log, fault)),
     }
 }
 
 /// Era 0 with what its log left, and the next era, if it is opened.
-fn first(alloc: Global, replay: &mut Replay) -> Result<Filled, StartFault>
+fn first(alloc: Global, replay: &mut Replay) -> Result<Filled, OutOfMemory>
     requires { IsMadeAgain replay.old.core }
-    ensures taken { IfOk result (λ filled. HasFirst filled (taken_in replay.old)) }
-    ensures fault { IfErr result (λ fault. fault ≡ Faults.OutOfMemory) }
+    ensures { IfOk result (λ filled. HasFirst filled (taken_in replay.old)) }
 {
-    match era_of(alloc, &replay.core) {
-        Ok(eras) => {
-            let mut filled = Filled {
-                alloc,
-                eras,
-                counts: Vec::new(alloc),
-            };
-            match filled.put(replay) {
-                Ok(()) => Ok(filled),
-                Err(OutOfMemory) => Err(StartFault::OutOfMemory),
-            }
-        }
-        Err(OutOfMemory) => Err(StartFault::OutOfMemory),
-    }
+    let mut filled = Filled {
+        alloc,
+        eras: era_of(alloc, &replay.core)?,
+        counts: Vec::new(alloc),
+    };
+    filled.put(replay)?;
+    Ok(filled)
 }
 
 /// Era 0 of the configuration of this node.

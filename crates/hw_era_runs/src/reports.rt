@@ -1,12 +1,12 @@
 //! The reports on the eras of a node.
 
-ghost use Rattle.std.specs.Prelude.{◌≡◌, ◌+◌, ◌≤◌, ◌++◌, length, map, string_bytes, None, IsTrue, IfOk, IfErr, OnOk};
+ghost use Rattle.std.specs.Prelude.{◌≡◌, ◌≤◌, ◌++◌, length, map, string_bytes, None, IsTrue, IfOk, IfErr, OnOk};
 ghost use Rattle.hw_io.specs.Files.{SameFiles};
 ghost use Rattle.hw_eras.specs.Nodes.{AreNodeEras};
 ghost use Rattle.hw_era_runs.specs.Logs.{eras_of};
-ghost use Rattle.hw_era_runs.specs.Reports.{era_line, era_report, reports_from, reports_of, logs_reported, AreReported};
+ghost use Rattle.hw_era_runs.specs.Reports.{era_line, era_report, reports_from, logs_reported, AreReported};
 ghost use Rattle.hw_era_runs.specs.Stops.{Says, IsOfLogs, HasEraCause, IsEraAbout};
-ghost use Rattle.hw_era_runs.specs.Filled.{logs_in, eras_in, counts_at, ahead_in, IsFilled};
+ghost use Rattle.hw_era_runs.specs.Filled.{eras_in, counts_at};
 
 use crate::filled::{EraCounts, Filled};
 use crate::stop::EraStop;
@@ -38,37 +38,8 @@ pub fn report_logs<'a, F: Files>(
     ensures files { SameFiles (F.held files.old) (F.held files.new) }
     ensures appends { F.append_faults files.new ≡ F.append_faults files.old }
 {
-    let first = logs[0].as_str();
-    match Filled::begin(alloc, files, first) {
-        Ok(mut filled) => report_rest(files, &mut filled, &logs[1..]),
-        Err(fault) => Err(EraStop::Stopped(first, fault)),
-    }
-}
-
-/// The same, where the eras before these logs are filled.
-fn report_rest<'a, F: Files>(
-    files: &mut F,
-    filled: &mut Filled,
-    logs: &'a [String],
-) -> Result<Bytes, EraStop<'a>>
-    requires filled { IsFilled filled.old }
-    requires few { logs_in filled.old + length logs.now ≤ 64 }
-    ensures said { IsTrue F.tells → Says (reports_of (ahead_in (F.held files.old) filled.old (map string_bytes logs.now))) result }
-    ensures eras { IsTrue F.tells → IfOk result (AreReported (ahead_in (F.held files.old) filled.old (map string_bytes logs.now))) }
-    ensures named { IfErr result (IsOfLogs (map string_bytes logs.now)) }
-    ensures cause { HasEraCause (F.read_faults files.old) (F.read_faults files.new) result }
-    ensures about { IsTrue F.tells → IsEraAbout (F.faults_about files.old) (F.faults_about files.new) result }
-
-    ensures files { SameFiles (F.held files.old) (F.held files.new) }
-    ensures appends { F.append_faults files.new ≡ F.append_faults files.old }
-{
-    match filled.take_all(files, logs) {
-        Ok(()) => match reports(filled) {
-            Ok(text) => Ok(text),
-            Err(OutOfMemory) => Err(EraStop::OutOfMemory),
-        },
-        Err(stop) => Err(stop),
-    }
+    let filled = Filled::of_logs(alloc, files, logs)?;
+    Ok(reports(&filled)?)
 }
 
 /// The report on each era, one after the other.

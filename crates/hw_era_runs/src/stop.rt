@@ -1,6 +1,10 @@
 //! Why a run over logs of eras stops.
 
+ghost use Rattle.std.specs.Prelude.{◌≡◌};
+ghost use Rattle.hw_era_runs.specs.declared.stop.EraStop.TheVariants as EraStops;
+
 use hw_replay::StartFault;
+use hw_types::OutOfMemory;
 
 /// Why a run over logs of eras stops. A text is the log's name.
 #[derive(Drop)]
@@ -11,4 +15,12 @@ pub enum EraStop<'a> {
     Stopped(&'a str, StartFault),
     /// There was no memory.
     OutOfMemory,
+}
+
+impl From<OutOfMemory> for EraStop<'_> {
+    ghost from_gives = { λ _ stop. stop ≡ EraStops.OutOfMemory };
+
+    fn from(_error: OutOfMemory) -> Self {
+        EraStop::OutOfMemory
+    }
 }

@@ -4,6 +4,8 @@ use Rattle.std.specs.Prelude.{map, take, drop, if◌then◌else◌}
 use Rattle.std.specs.List.{list_all, take-map, drop-map}
 use Rattle.std.proofs.lemmas.List.Folds.{list_all-map}
 use Rattle.hw_script_grammar.specs.Numbers.{number_below}
+use Rattle.hw_program.specs.declared.command.Command.{Command}
+use Rattle.hw_program.specs.Asked.{request, asked}
 use Rattle.hw_program.specs.Commands.{Word, Request, is_word, of_words, request_of, two_nodes, split_at, numbered_of}
 
 -- so many of the logs are the left ones
@@ -40,3 +42,7 @@ told_request {T = T} f words slice rest command name all o are all_is every slic
     ∙ sym (some_request (f command) (map f rest) (sym (ap (λ (xs : List T). list_all is_word (map f xs)) slice_is) ∙ list_all-map is_word f slice ∙ sym all_is ∙ every))
     ∙ ap (λ (xs : List T). request_of (map f xs)) (sym slice_is)
     ∙ ap request_of are
+
+-- the words ask for this command
+pub asked_for : (given : Option Command) (held command : Command) (words : List Word) → given ≡ Some held → held ≡ command → asked given ≡ request_of words → request_of words ≡ Some (request command)
+asked_for given held command words is held_is parsed = sym parsed ∙ ap asked is ∙ ap (λ (c : Command). Some (request c)) held_is

@@ -19,4 +19,5 @@ pub mod Fed
 pub mod Rewritten
 pub mod Services
 pub mod Serving
+pub mod Requested
 pub mod Served

@@ -85,3 +85,7 @@ abbrev pub address_in : Option Service → Option Word
 address_in (Some (Serve names address sessions)) = Some address
 address_in (Some (Host names address sessions)) = Some address
 address_in service = None
+
+-- the log of the node that is to run
+abbrev pub log_in : Option Service → Option Word
+log_in service = option_map (λ (s : Service). (names_in s).log) service

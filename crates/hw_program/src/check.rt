@@ -23,15 +23,14 @@ ghost use Rattle.hw_program.specs.declared.ended.RunFault.TheVariants as RunFaul
 
 use crate::audit::audit_certified;
 use crate::ended::{DONE, Ended, INPUT, NO, RunFault};
-use crate::faults::input;
+use crate::faults::{bytes_of, input};
 use hw_core::Core;
-use hw_io::{Files, IoFault};
+use hw_io::Files;
 use hw_keys::{Keys, KeysFault};
 use hw_light::{
     CertError, Certificate, CheckFault, Checked, check_by_keys, checked_text, decode_certificate,
     put_error, put_fault, read_keys,
 };
-use hw_log::read_file;
 use hw_text::{end_line, put_numbered};
 use hw_types::{Bytes, OutOfMemory};
 use std::alloc::Global;
@@ -77,11 +76,8 @@ fn certificate_in<F: Files>(
     ensures files { SameFiles (F.held files.old) (F.held files.new) }
     ensures appends { F.append_faults files.new ≡ F.append_faults files.old }
 {
-    match read_file(alloc, files, file) {
-        Ok(bytes) => decoded(alloc, file, bytes.as_slice()),
-        Err(IoFault::Failed) => Err(RunFault::Read),
-        Err(IoFault::OutOfMemory) => Err(RunFault::OutOfMemory),
-    }
+    let bytes = bytes_of(alloc, files, file)?;
+    decoded(alloc, file, bytes.as_slice())
 }
 
 /// The certificate that the bytes spell, or how the run ends where they spell none.
@@ -189,11 +185,8 @@ fn keys_in<F: Files>(
     ensures files { SameFiles (F.held files.old) (F.held files.new) }
     ensures appends { F.append_faults files.new ≡ F.append_faults files.old }
 {
-    match read_file(alloc, files, name) {
-        Ok(bytes) => keys_told(alloc, name, bytes.as_slice(), validators),
-        Err(IoFault::Failed) => Err(RunFault::Read),
-        Err(IoFault::OutOfMemory) => Err(RunFault::OutOfMemory),
-    }
+    let text = bytes_of(alloc, files, name)?;
+    keys_told(alloc, name, text.as_slice(), validators)
 }
 
 /// The keys that the text tells, or how the run ends where it tells others.

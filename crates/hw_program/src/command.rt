@@ -12,18 +12,20 @@ use hw_script_grammar::number_up_to;
 use hw_types::Digest;
 
 /// A node has at most this many logs, one for each era.
-const MAX_LOGS: u64 = 64;
+pub const MAX_LOGS: u64 = 64;
 
 /// A generated journal has at most this many rounds.
-const MAX_ROUNDS: u64 = 4_096;
+pub const MAX_ROUNDS: u64 = 4_096;
 
 /// A simulated run has at most this many nodes.
-const MAX_NODES: u64 = 16;
+pub const MAX_NODES: u64 = 16;
 
 /// A simulated run has at most this many steps.
-const MAX_STEPS: u64 = 20_000;
+pub const MAX_STEPS: u64 = 20_000;
 
-/// A command, with the words that it works on.
+/// A command whose end and text are worked out from its words and what the files hold, with the words that it works
+/// on.
+#[derive(Drop)]
 pub enum Command<'w> {
     /// Takes the vertices of a log, in order, and reports on the node that they leave.
     Replay {
@@ -304,7 +306,7 @@ pub(crate) fn are_words(texts: &[String]) -> bool
 }
 
 /// Whether the text may be a word: it isn't empty and doesn't begin with `-`.
-fn is_word(text: &str) -> bool
+pub fn is_word(text: &str) -> bool
     ensures { result ≡ is_word text.now }
 {
     match text.as_bytes() {

@@ -1,6 +1,7 @@
 //! How a run ends early.
 
-ghost use Rattle.std.specs.Prelude.{◌≡◌, ◌≢◌, ℕ, ◌++◌, codes, IfOk, IfErr, OnOk};
+ghost use Rattle.std.specs.Prelude.{◌≡◌, ◌≢◌, ℕ, ◌++◌, codes, Some, IsTrue, IfOk, IfErr, OnOk};
+ghost use Rattle.hw_io.specs.Files.{SameFiles};
 ghost use Rattle.hex.specs.Hex.{encode_lower};
 ghost use Rattle.hw_text.specs.Text.{number_text};
 ghost use Rattle.hw_text.specs.Lines.{line_feed};
@@ -8,13 +9,14 @@ ghost use Rattle.hw_log.specs.declared.error.LogError.TheVariants as LogErrors;
 ghost use Rattle.hw_replay.specs.declared.fault.StartFault.TheVariants as StartFaults;
 ghost use Rattle.hw_replay.specs.Replay.{IsOutside};
 ghost use Rattle.hw_replay.specs.Causes.{IsReadCounted as IsReplayCounted};
-ghost use Rattle.hw_program.specs.Faults.{IsReadCounted, IsReadEnd};
+ghost use Rattle.hw_program.specs.Faults.{HasReadFault, IsReadOf, IsReadCounted, IsReadEnd};
 ghost use Rattle.hw_program.specs.Texts.{usage_line, log_text, input_ended, limit_ended, clash_ended, stopped_ended};
 ghost use Rattle.hw_program.specs.declared.ended.RunFault.TheVariants as RunFaults;
 
 use crate::ended::{CLASH, Ended, INPUT, LIMIT, RunFault, USAGE};
 use crate::texts::put_error;
-use hw_log::LogError;
+use hw_io::{Files, IoFault};
+use hw_log::{LogError, read_file};
 use hw_replay::StartFault;
 use hw_text::{end_line, put_numbered, put_word};
 use hw_types::{Bytes, OutOfMemory};
@@ -30,6 +32,22 @@ pub fn usage(alloc: Global) -> Result<Ended, OutOfMemory>
         status: USAGE,
         text,
     })
+}
+
+/// The bytes of the file under this name.
+pub fn bytes_of<F: Files>(alloc: Global, files: &mut F, name: &str) -> Result<Bytes, RunFault>
+    ensures whole { IsTrue F.tells → IfOk result (λ bytes. F.held files.old name.now ≡ Some bytes) }
+    ensures fault { HasReadFault (F.read_faults files.old) (F.read_faults files.new) result }
+    ensures about { IsTrue F.tells → IsReadOf name.now (F.faults_about files.old) (F.faults_about files.new) result }
+
+    ensures files { SameFiles (F.held files.old) (F.held files.new) }
+    ensures appends { F.append_faults files.new ≡ F.append_faults files.old }
+{
+    match read_file(alloc, files, name) {
+        Ok(bytes) => Ok(bytes),
+        Err(IoFault::Failed) => Err(RunFault::Read),
+        Err(IoFault::OutOfMemory) => Err(RunFault::OutOfMemory),
+    }
 }
 
 /// The replay of the log under this name stopped.

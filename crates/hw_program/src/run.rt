@@ -21,9 +21,10 @@ ghost use Rattle.hw_program.specs.Run.{IsStatus, IsWorkedStatus, IsServiceStatus
 
 use crate::host_peers::host_peers;
 use crate::meet_peer::meet_peer;
+use crate::request::Request;
 use crate::run_turns::run_turns;
 use crate::serve::serve_sessions;
-use crate::services::{NodeCommand, service_of};
+use crate::services::NodeCommand;
 use crate::words::Words;
 use crate::work::work;
 use hw_io::{Clock, Consumer, Door, Files, Sink};
@@ -133,9 +134,9 @@ pub fn highway<F: Files, S: Sink, C: Clock, D: Door>(
     // No file but its log changes.
     ensures log { IsTrue F.tells → OnlyLogChanges (service_of words.now) (F.held files.old) (F.held files.new) }
 {
-    match service_of(words) {
-        Some(command) => run_node(alloc, &command, files, out, clock, door, consumers),
-        None => work(alloc, words, files, out, consumers),
+    match Request::of(words) {
+        Request::Node(command) => run_node(alloc, &command, files, out, clock, door, consumers),
+        Request::Work(command) => work(alloc, words, command, files, out, consumers),
     }
 }
 

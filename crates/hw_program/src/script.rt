@@ -12,9 +12,8 @@ ghost use Rattle.hw_program.specs.Program.{ended, script_said};
 ghost use Rattle.hw_program.specs.declared.ended.RunFault.TheVariants as RunFaults;
 
 use crate::ended::{DONE, Ended, INPUT, RunFault};
-use crate::faults::input;
-use hw_io::{Files, IoFault};
-use hw_log::read_file;
+use crate::faults::{bytes_of, input};
+use hw_io::Files;
 use hw_script::{ScriptError, run_script};
 use hw_text::{end_line, put_numbered};
 use hw_types::OutOfMemory;
@@ -30,11 +29,8 @@ pub fn script<F: Files>(alloc: Global, files: &mut F, file: &str) -> Result<Ende
     ensures files { SameFiles (F.held files.old) (F.held files.new) }
     ensures appends { F.append_faults files.new ≡ F.append_faults files.old }
 {
-    match read_file(alloc, files, file) {
-        Ok(text) => scripted(alloc, file, text.as_slice()),
-        Err(IoFault::Failed) => Err(RunFault::Read),
-        Err(IoFault::OutOfMemory) => Err(RunFault::OutOfMemory),
-    }
+    let text = bytes_of(alloc, files, file)?;
+    scripted(alloc, file, text.as_slice())
 }
 
 /// What the script prints, or which of its lines is outside the grammar.

@@ -1,11 +1,11 @@
 //! The grammar of a command line: what a node is asked for that runs.
 
 ghost use Rattle.std.specs.Prelude.{◌≡◌, map, string_bytes};
-ghost use Rattle.std.specs.Option.{option_copied, option_map};
+ghost use Rattle.std.specs.Option.{option_map};
 ghost use Rattle.hw_script_grammar.specs.Numbers.{number_below};
 ghost use Rattle.hw_service.specs.Begin.{names_of};
-ghost use Rattle.hw_program.specs.Services.{Serve, Host, sessions_of, turns_of, service_in, meeting_in, service_of, address_in};
-ghost use Rattle.hw_program.specs.Serving.{asked_service};
+ghost use Rattle.hw_program.specs.Services.{Serve, Host, sessions_of, turns_of, service_in, meeting_in, service_of, names_in};
+ghost use Rattle.hw_program.specs.Serving.{service, asked_service};
 
 use crate::command::are_words;
 use crate::words::Words;
@@ -13,13 +13,13 @@ use hw_script_grammar::number_up_to;
 use hw_service::Sources;
 
 /// A node serves at most this many sessions in one run, or meets so many peers that come.
-const MAX_SESSIONS: u64 = 65_536;
+pub const MAX_SESSIONS: u64 = 65_536;
 
 /// A validator's number is at most this.
-const MAX_VALIDATOR: u64 = 1_023;
+pub const MAX_VALIDATOR: u64 = 1_023;
 
 /// A validator takes at most this many turns in one run.
-const MAX_TURNS: u64 = 1_000_000;
+pub const MAX_TURNS: u64 = 1_000_000;
 
 /// A validator dials at most this many peers in a turn.
 const MAX_PEERS: usize = 16;
@@ -52,6 +52,20 @@ pub enum NodeCommand<'w> {
         sources: Sources<'w>,
         peer: &'w str,
     },
+}
+
+impl<'w> NodeCommand<'w> {
+    /// The names of the files that the node begins from.
+    pub fn sources(&self) -> Sources<'w>
+        ensures { names_of result ≡ names_in (service self.now) }
+    {
+        match self {
+            NodeCommand::Serve { sources, .. }
+            | NodeCommand::Run { sources, .. }
+            | NodeCommand::Host { sources, .. }
+            | NodeCommand::Meet { sources, .. } => *sources,
+        }
+    }
 }
 
 /// The run of a node that the words ask for, if they ask for one and are in its grammar.
@@ -185,16 +199,4 @@ fn turns_of<'w>(
         turns,
         peers,
     })
-}
-
-/// The address at which the node is to listen for peers, if it is asked to serve, or to meet peers that come.
-pub fn listening_address(words: &Words) -> Option<&str>
-    ensures { option_copied result ≡ address_in (service_of words.now) }
-{
-    match service_of(words) {
-        Some(NodeCommand::Serve { address, .. } | NodeCommand::Host { address, .. }) => {
-            Some(address)
-        }
-        _ => None,
-    }
 }

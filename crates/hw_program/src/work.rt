@@ -1,11 +1,12 @@
 //! Commands whose end and text are worked out from their words and what the files hold.
 
-ghost use Rattle.std.specs.Prelude.{◌≡◌, ◌≢◌, ℕ, ◌≤◌, None, Some, IsTrue, IfOk, IfErr, ◌⊎◌};
+ghost use Rattle.std.specs.Prelude.{◌≡◌, ◌≢◌, ℕ, ◌≤◌, None, Some, IsTrue, IfSome, IfOk, IfErr, ◌⊎◌};
 ghost use Rattle.hw_io.specs.Faults.{Rose};
 ghost use Rattle.hw_io.specs.Files.{SameFiles};
 ghost use Rattle.hw_io.specs.Sinks.{AppendsPrefix};
 ghost use Rattle.hw_fanout.specs.Fates.{seen};
 ghost use Rattle.hw_program.specs.Commands.{request_of, OnlyReads};
+ghost use Rattle.hw_program.specs.Asked.{asked, IsInRange};
 ghost use Rattle.hw_program.specs.Texts.{usage_line, read_fault_line, append_fault_line, out_of_memory_line};
 ghost use Rattle.hw_program.specs.Faults.{HasReadFault, HasRunFault, IsEndOf};
 ghost use Rattle.hw_program.specs.Due.{FailsOf};
@@ -20,7 +21,7 @@ ghost use Rattle.hw_program.specs.declared.ended.RunFault.TheVariants as RunFaul
 use crate::audit::audit_logs;
 use crate::certify::certified;
 use crate::check::checked;
-use crate::command::{Command, command_of};
+use crate::command::Command;
 use crate::ended::{CONFLICT, DONE, Ended, OUT_OF_MEMORY, READ_FAULT, RunFault, WRITE_FAULT};
 use crate::eras::{audit_eras, eras};
 use crate::explain::explain;
@@ -39,17 +40,21 @@ pub(crate) const APPEND_FAULT_LINE: &str = "append fault\n";
 
 const OUT_OF_MEMORY_LINE: &str = "out of memory\n";
 
-/// Runs the command that the words ask for, if it is one whose text is worked out, and answers the exit status.
+/// Runs a command whose text is worked out, and answers the exit status. Where there is none, the words are told the
+/// usage.
 ///
 /// Its text is made whole before the first byte of it is written. A fault has one line, which is written if the
-/// output takes it.
+/// output takes it. The words are those that ask for the command; they stand for the prover alone.
 pub fn work<F: Files, S: Sink>(
     alloc: Global,
     words: &Words,
+    command: Option<Command<'_>>,
     files: &mut F,
     out: &mut S,
     consumers: &mut Vec<Box<dyn Consumer>>,
 ) -> u8
+    requires asked { asked command ≡ request_of words.now }
+    requires range { IfSome command IsInRange }
     ensures status { IsWorkedStatus result }
 
     // Each status but 4, 5 and 7 is the answer that the words and the bytes of the files have.
@@ -103,7 +108,7 @@ pub fn work<F: Files, S: Sink>(
     ensures appends { OnlyReads (request_of words.now) → F.append_faults files.new ≡ F.append_faults files.old }
     ensures uncalled { CallsNone (request_of words.now) → consumers.new ≡ consumers.old }
 {
-    match run(alloc, words, files, consumers) {
+    match run(alloc, words, command, files, consumers) {
         Ok(ended) => finish(out, ended.status, ended.text.as_slice()),
         Err(RunFault::Read) => finish(out, READ_FAULT, READ_FAULT_LINE.as_bytes()),
         Err(RunFault::Append) => finish(out, WRITE_FAULT, APPEND_FAULT_LINE.as_bytes()),
@@ -111,14 +116,17 @@ pub fn work<F: Files, S: Sink>(
     }
 }
 
-/// Runs the command up to its text.
+/// Runs the command up to its text. The words are those that ask for it; they stand for the prover alone.
 #[tactic(auto, using(crate::proofs::AuditLaws::no_conflict, crate::proofs::AuditLaws::no_conflict_asked, crate::proofs::AuditLaws::reports), unfolding(crate::specs::Program::run_of))]
 fn run<F: Files>(
     alloc: Global,
     words: &Words,
+    command: Option<Command<'_>>,
     files: &mut F,
     consumers: &mut Vec<Box<dyn Consumer>>,
 ) -> Result<Ended, RunFault>
+    requires asked { asked command ≡ request_of words.now }
+    requires range { IfSome command IsInRange }
     ensures said { IsTrue F.tells → IfOk result (λ ended. ended.status ≡ (run_of words.now (F.held files.old)).status) }
     ensures text { IsTrue F.tells → IfOk result (λ ended. IsTextOf (seen (λ b. consumed b) (λ b. faults b) (λ b. b.vtable)) F.tells words.now (F.held files.old) consumers.old.items consumers.new.items ended.text) }
     ensures conflict { IsTrue F.tells → IfOk result (λ ended. ended.status ≡ 3 → ReportsConflict words.now (F.held files.old) (run_of words.now (F.held files.old)).text ⊎ ContradictsCertificate words.now (F.held files.old) (run_of words.now (F.held files.old)).text ⊎ ReportsEraConflict words.now (F.held files.old) (run_of words.now (F.held files.old)).text) }
@@ -135,7 +143,7 @@ fn run<F: Files>(
     ensures files { OnlyReads (request_of words.now) → SameFiles (F.held files.old) (F.held files.new) }
     ensures appends { OnlyReads (request_of words.now) → F.append_faults files.new ≡ F.append_faults files.old }
 {
-    match command_of(words) {
+    match command {
         Some(Command::Replay { log }) => replay(alloc, files, log, consumers),
         Some(Command::Explain { log }) => explain(alloc, files, log),
         Some(Command::Audit { left, right }) => audit_logs(alloc, files, left, right),

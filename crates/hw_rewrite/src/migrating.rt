@@ -56,10 +56,8 @@ fn migrated<F: Files>(alloc: Global, files: &mut F, log: &str) -> Result<Rewritt
     ensures files { SameFiles (F.held files.old) (F.held files.new) }
     ensures appends { F.append_faults files.new ≡ F.append_faults files.old }
 {
-    match LogReader::begin(alloc, files, log) {
-        Ok(mut reader) => spelled(alloc, files, &mut reader),
-        Err(error) => Err(error),
-    }
+    let mut reader = LogReader::begin(alloc, files, log)?;
+    spelled(alloc, files, &mut reader)
 }
 
 /// The log of which this reader has read the header, in version 2.

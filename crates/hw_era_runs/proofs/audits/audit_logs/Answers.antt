@@ -1,42 +1,37 @@
-use Rattle.std.proofs.Common.{◌-◌, ◌∷◌, List, ℕ, length, take, drop, map, None, inl, inr, sym, ap, ◌∙◌}
+use Rattle.std.proofs.Common.{map}
 use Rattle.std.specs.Prelude.{string_bytes}
-use Rattle.hw_era_runs.specs.Logs.{eras_of}
-use Rattle.hw_era_runs.specs.Filled.{ahead_in}
-use Rattle.hw_era_runs.proofs.StopLaws.{names_first, begun_eras, stopped_eras}
-use Rattle.hw_era_runs.proofs.AgainstLaws.{against_first, audit_said, audit_is, then_all}
+use Rattle.std.proofs.lemmas.Result.{err_from_is_err_and}
+use Rattle.hw_era_runs.proofs.StopLaws.{named_left, named_right}
+use Rattle.hw_era_runs.proofs.AgainstLaws.{right_stops, audit_is, audit_said}
 use Rattle.hw_era_runs.proofs.audits.audit_logs.Goals as goal
 
-pub returns-in-Ok-clause-said : goal.returns-in-Ok-clause-said
-returns-in-Ok-clause-said g c = λ tells.
-    let held = g.F.Files.held c.args.files.now in
-    let now = g.F.Files.held c.begin.new.files in
-    let first = c.as_str-first.result.now in
-    let rest : List (List ℕ) = map string_bytes (take (length c.args.left.now - 1) (drop 1 c.args.left.now)) in
-    let right : List (List ℕ) = map string_bytes c.args.right.now in
-    let names = names_first string_bytes c.args.left.now c.index-left-0.result c.requires.left_some c.index-left-0.is ∙ ap (λ (n : List ℕ). n ∷ rest) (sym c.as_str-first.ensures.value) in
-    let is = ap (eras_of held None) names ∙ begun_eras held None first rest now c.in-Ok.filled c.in-Ok.ensures.files (c.in-Ok.ensures.said tells) in
-    audit_said held (map string_bytes c.args.left.now) right c.audit_left.result
-    (against_first held now (eras_of held None (map string_bytes c.args.left.now)) (ahead_in now c.in-Ok.filled rest) right c.audit_left.result c.in-Ok.ensures.files is (c.audit_left.ensures.said tells))
+pub returns-in_err-left-clause-named : goal.returns-in_err-left-clause-named
+returns-in_err-left-clause-named g c =
+    let p = err_from_is_err_and c.from_residual.result c.from_residual.ensures.1 in
+    rw (p.1, p.2) (named_left (map string_bytes c.args.left.now) (map string_bytes c.args.right.now) c.in_err-left.field-0.0 c.in_err-left.ensures.named)
 
-pub returns-in-Ok-clause-audit : goal.returns-in-Ok-clause-audit
-returns-in-Ok-clause-audit g c = λ tells.
-    let held = g.F.Files.held c.args.files.now in
-    let now = g.F.Files.held c.begin.new.files in
-    let first = c.as_str-first.result.now in
-    let rest : List (List ℕ) = map string_bytes (take (length c.args.left.now - 1) (drop 1 c.args.left.now)) in
-    let right : List (List ℕ) = map string_bytes c.args.right.now in
-    let names = names_first string_bytes c.args.left.now c.index-left-0.result c.requires.left_some c.index-left-0.is ∙ ap (λ (n : List ℕ). n ∷ rest) (sym c.as_str-first.ensures.value) in
-    let is = ap (eras_of held None) names ∙ begun_eras held None first rest now c.in-Ok.filled c.in-Ok.ensures.files (c.in-Ok.ensures.said tells) in
-    audit_is held (map string_bytes c.args.left.now) right c.audit_left.result
-    (against_first held now (eras_of held None (map string_bytes c.args.left.now)) (ahead_in now c.in-Ok.filled rest) right c.audit_left.result c.in-Ok.ensures.files is (c.audit_left.ensures.said tells))
+pub returns-in_err-right-clause-said : goal.returns-in_err-right-clause-said
+returns-in_err-right-clause-said g c =
+    let p = err_from_is_err_and c.from_residual-in_err-right.result c.from_residual-in_err-right.ensures.1 in
+    λ tells. rw (p.1, p.2)
+    (right_stops (g.F.Files.held c.args.files.now) (map string_bytes c.args.left.now) (map string_bytes c.args.right.now) c.in_ok-left.left (c.in_ok-left.ensures.said tells) c.first_core.result.now c.first_core.ensures
+    (g.F.Files.held c.of_logs.new.files) c.in_ok-left.ensures.files c.in_err-right.field-0.0 (c.in_err-right.ensures.said tells))
 
-pub returns-in-Err-clause-said : goal.returns-in-Err-clause-said
-returns-in-Err-clause-said g c = λ tells.
+pub returns-in_err-right-clause-named : goal.returns-in_err-right-clause-named
+returns-in_err-right-clause-named g c =
+    let p = err_from_is_err_and c.from_residual-in_err-right.result c.from_residual-in_err-right.ensures.1 in
+    rw (p.1, p.2) (named_right (map string_bytes c.args.left.now) (map string_bytes c.args.right.now) c.in_err-right.field-0.0 c.in_err-right.ensures.named)
+
+pub returns-clause-said : goal.returns-clause-said
+returns-clause-said g c = λ tells.
     let held = g.F.Files.held c.args.files.now in
-    let first = c.as_str-first.result.now in
-    let rest : List (List ℕ) = map string_bytes (take (length c.args.left.now - 1) (drop 1 c.args.left.now)) in
-    let names = names_first string_bytes c.args.left.now c.index-left-0.result c.requires.left_some c.index-left-0.is ∙ ap (λ (n : List ℕ). n ∷ rest) (sym c.as_str-first.ensures.value) in
-    elim (stopped_eras held None first rest c.in-Err.fault (c.in-Err.ensures.said tells)) [
-      | inl out ↦ inl out
-      | inr said ↦ inr (then_all held (map string_bytes c.args.left.now) (map string_bytes c.args.right.now) _ (ap (eras_of held None) names ∙ said))
-    ]
+    let left = map string_bytes c.args.left.now in
+    let right = map string_bytes c.args.right.now in
+    audit_said held left right c.in_ok-audited.field-0
+    (audit_is held left right c.in_ok-left.left (c.in_ok-left.ensures.said tells) c.first_core.result.now c.first_core.ensures (g.F.Files.held c.of_logs.new.files) c.in_ok-left.ensures.files c.in_ok-right.right c.in_ok-audited.field-0
+    (c.in_ok-right.ensures.said tells) c.in_ok-audited.ensures.audit)
+
+pub returns-clause-audit : goal.returns-clause-audit
+returns-clause-audit g c = λ tells.
+    audit_is (g.F.Files.held c.args.files.now) (map string_bytes c.args.left.now) (map string_bytes c.args.right.now) c.in_ok-left.left (c.in_ok-left.ensures.said tells) c.first_core.result.now c.first_core.ensures
+    (g.F.Files.held c.of_logs.new.files) c.in_ok-left.ensures.files c.in_ok-right.right c.in_ok-audited.field-0 (c.in_ok-right.ensures.said tells) c.in_ok-audited.ensures.audit

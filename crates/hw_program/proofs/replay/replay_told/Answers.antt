@@ -1,4 +1,4 @@
-use Rattle.std.proofs.Common.{None, length, ap, ◌∙◌, ◌≡◌, arith}
+use Rattle.std.proofs.Common.{length, ap, ◌∙◌, ◌≡◌, arith}
 use Rattle.std.proofs.lemmas.List.FromFn.{length-range_with_len}
 use Rattle.hw_replay.specs.Replay.{taken_in}
 use Rattle.hw_fanout.specs.State.{FanoutState}

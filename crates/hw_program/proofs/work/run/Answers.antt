@@ -1,5 +1,6 @@
-use Rattle.std.proofs.Common.{None, Some, sym}
+use Rattle.std.proofs.Common.{None, Some}
 use Rattle.std.specs.Prelude.{map, string_bytes}
+use Rattle.hw_program.proofs.CommandLaws.{asked_for}
 use Rattle.hw_program.proofs.ShownLaws.{checked_conflict}
 use Rattle.hw_program.proofs.EraLaws.{era_conflict_told}
 use Rattle.hw_program.proofs.work.run.Goals as goal
@@ -7,14 +8,14 @@ use Rattle.hw_program.proofs.work.run.Goals as goal
 pub returns-in-Some-Check-clause-conflict : goal.returns-in-Some-Check-clause-conflict
 returns-in-Some-Check-clause-conflict g c = λ tells.
     checked_conflict c.args.words.now (g.F.Files.held c.args.files.now) c.in-Some-Check.file.now c.in-Some-Check.keys.now None c.checked.result
-    (sym (rw c.in-Some-Check.field-0-is at c.in-Some-Check.ensures.asked)) (c.checked.ensures.said tells) (c.checked.ensures.alike tells)
+    (asked_for c.args.command _ _ _ c.in-Some-Check.is (rw c.in-Some-Check.is at c.in-Some-Check.field-0-is) c.requires.asked) (c.checked.ensures.said tells) (c.checked.ensures.alike tells)
 
 pub returns-in-Some-CheckLog-clause-conflict : goal.returns-in-Some-CheckLog-clause-conflict
 returns-in-Some-CheckLog-clause-conflict g c = λ tells.
     checked_conflict c.args.words.now (g.F.Files.held c.args.files.now) c.in-Some-CheckLog.file.now c.in-Some-CheckLog.keys.now (Some c.in-Some-CheckLog.log.now) c.checked-in-Some-CheckLog.result
-    (sym (rw c.in-Some-CheckLog.field-0-is at c.in-Some-CheckLog.ensures.asked)) (c.checked-in-Some-CheckLog.ensures.said tells) (c.checked-in-Some-CheckLog.ensures.alike tells)
+    (asked_for c.args.command _ _ _ c.in-Some-CheckLog.is (rw c.in-Some-CheckLog.is at c.in-Some-CheckLog.field-0-is) c.requires.asked) (c.checked-in-Some-CheckLog.ensures.said tells) (c.checked-in-Some-CheckLog.ensures.alike tells)
 
 pub returns-in-Some-EraAudit-clause-conflict : goal.returns-in-Some-EraAudit-clause-conflict
 returns-in-Some-EraAudit-clause-conflict g c = λ tells.
     era_conflict_told c.args.words.now (g.F.Files.held c.args.files.now) (map string_bytes c.in-Some-EraAudit.left.now) (map string_bytes c.in-Some-EraAudit.right.now) c.audit_eras.result
-    (sym (rw c.in-Some-EraAudit.field-0-is at c.in-Some-EraAudit.ensures.asked)) (c.audit_eras.ensures.said tells) (c.audit_eras.ensures.conflict tells)
+    (asked_for c.args.command _ _ _ c.in-Some-EraAudit.is (rw c.in-Some-EraAudit.is at c.in-Some-EraAudit.field-0-is) c.requires.asked) (c.audit_eras.ensures.said tells) (c.audit_eras.ensures.conflict tells)

@@ -1,30 +1,35 @@
 use Rattle.std.proofs.Common.{◌≡◌, ◌+◌, ◌∷◌, List, ℕ, map, drop, refl, sym, ap, ◌∙◌, arith}
 use Rattle.std.specs.Prelude.{string_bytes}
 use Rattle.std.proofs.lemmas.List.{length-drop}
+use Rattle.std.proofs.lemmas.Result.{err_from_is_err_and}
 use Rattle.hw_era_runs.proofs.StopLaws.{names_long, names_at, name_among, named_in, same_then, taken_so, stopped_so, all_taken}
 use Rattle.hw_era_runs.proofs.filled.Filled.take_all.Goals as goal
 
 pub take-requires-clause-filled : goal.take-requires-clause-filled
 take-requires-clause-filled g c = c.loop-log.invariant.filled
 
-pub returns-in-Err-clause-said : goal.returns-in-Err-clause-said
-returns-in-Err-clause-said g c = λ tells.
+pub returns-in_err-take-clause-said : goal.returns-in_err-take-clause-said
+returns-in_err-take-clause-said g c =
+    let p = err_from_is_err_and c.from_residual.result c.from_residual.ensures.1 in
     let names : List (List ℕ) = map string_bytes c.args.logs.now in
     let i = c.loop-log.log-index in
     let log = c.as_str.result.now in
     let at : drop i names ≡ log ∷ drop (i + 1) names = names_at string_bytes c.args.logs.now i (i + 1) c.log-item.result c.loop-log-test.true c.log-item.is refl ∙ ap (λ (n : List ℕ). n ∷ drop (i + 1) names) (sym c.as_str.ensures.value) in
-    stopped_so (g.F.Files.held c.args.files.now) (g.F.Files.held c.loop-log.files) c.loop-log.invariant.files c.loop-log.self c.args.self.now names log i (i + 1) (c.loop-log.invariant.said tells) at c.in-Err.stop
-    (c.in-Err.ensures.said tells (drop (i + 1) names))
+    λ tells. rw (p.1, p.2)
+    (stopped_so (g.F.Files.held c.args.files.now) (g.F.Files.held c.loop-log.files) c.loop-log.invariant.files c.loop-log.self c.args.self.now names log i (i + 1) (c.loop-log.invariant.said tells) at c.in_err-take.field-0.0
+    (c.in_err-take.ensures.said tells (drop (i + 1) names)))
 
-pub returns-in-Err-clause-named : goal.returns-in-Err-clause-named
-returns-in-Err-clause-named g c =
-    named_in (map string_bytes c.args.logs.now) (string_bytes c.log-item.result) c.in-Err.stop (name_among string_bytes c.args.logs.now c.loop-log.log-index c.log-item.result c.loop-log-test.true c.log-item.is)
-    (rw (← c.as_str.ensures.value) c.in-Err.ensures.named)
+pub returns-in_err-take-clause-named : goal.returns-in_err-take-clause-named
+returns-in_err-take-clause-named g c =
+    let p = err_from_is_err_and c.from_residual.result c.from_residual.ensures.1 in
+    rw (p.1, p.2)
+    (named_in (map string_bytes c.args.logs.now) (string_bytes c.log-item.result) c.in_err-take.field-0.0 (name_among string_bytes c.args.logs.now c.loop-log.log-index c.log-item.result c.loop-log-test.true c.log-item.is)
+    (rw (← c.as_str.ensures.value) c.in_err-take.ensures.named))
 
 pub loop-log-preserved : goal.loop-log-preserved
 loop-log-preserved g c =
     let inv = c.loop-log.invariant in
-    let did = c.in-Ok.ensures in
+    let did = c.in_ok-take.ensures in
     record {
       filled = did.filled;
       count = (let one = did.one in let so = inv.count in omega arith);
