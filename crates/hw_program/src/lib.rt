@@ -1,8 +1,10 @@
 //! The program over any outside: one top call, which runs the command that its words ask for.
 //!
+//! [`Request::of`] is the parser of the words, for the top call and for what is built outside.
+//!
 //! `specs/Program.antt` says how a run ends and what it writes, by its words and what the files hold, and
 //! `specs/Files.antt` what it leaves of the files. Each command is one case in both, one variant of `Command`, and
-//! one module here, or one with its like. [`Request::of`] is the parser of the words, here and outside. `specs/Fed.antt` says what a command that calls consumers tells them, and
+//! one module here, or one with its like. `specs/Fed.antt` says what a command that calls consumers tells them, and
 //! which of them its text names.
 //!
 //! A run of a node isn't worked out from words and bytes alone: what is written in it hangs on sessions and moments.
