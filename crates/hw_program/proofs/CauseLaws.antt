@@ -9,7 +9,7 @@ use Rattle.hw_io.specs.Files.{SameFiles}
 use Rattle.hw_program.specs.declared.ended.Ended.{Ended}
 use Rattle.hw_program.specs.declared.ended.RunFault.{RunFault}
 use Rattle.hw_program.specs.declared.ended.RunFault.TheVariants.{Read, Append, OutOfMemory}
-use Rattle.hw_program.specs.Faults.{HasReadFault, IsReadOf}
+use Rattle.hw_program.specs.Faults.{HasReadFault}
 
 -- a part before it left the count
 pub fault_then : (before mid now : ℕ) (r : Result Ended RunFault) → mid ≡ before → HasReadFault mid now r → HasReadFault before now r
@@ -40,7 +40,3 @@ no_read P (Ok e) none = tt
 no_read P (Err OutOfMemory) none = λ is. absurd cc
 no_read P (Err Read) none = λ is. absurd (let e = none in cc)
 no_read P (Err Append) none = λ is. absurd cc
-
--- a failed read of a file was counted for it
-pub read_of : (T : Type 0) (name : List ℕ) (before now : List ℕ → ℕ) (f : RunFault) → IsReadOf {T = T} name before now (Err f) → f ≡ Read → Rose (before name) (now name)
-read_of T name before now f about is = subst (λ (x : RunFault). IsReadOf {T = T} name before now (Err x)) is about

@@ -36,14 +36,14 @@ use Rattle.hw_text.specs.Lines.{line_of}
 use Rattle.hw_program.specs.declared.ended.Ended.{Ended}
 use Rattle.hw_program.specs.declared.ended.RunFault.{RunFault}
 use Rattle.hw_program.specs.declared.ended.RunFault.TheVariants.{Read, Append, OutOfMemory}
-use Rattle.hw_program.specs.Commands.{Word}
+use Rattle.hw_program.specs.Commands.{Word, Request}
 use Rattle.hw_program.specs.Texts.{log_text, input_ended, read_fault_ended}
 use Rattle.hw_program.specs.Scripted.{script_ended}
 use Rattle.hw_program.specs.Told.{told_ended}
 use Rattle.hw_program.specs.Audited.{audit_ended}
 use Rattle.hw_program.specs.Program.{◌>>=◌, Held, Part, ended, done, or_stopped, log_replayed, or_misread, or_no_keys, or_unwritten, or_parted, certificate_said, keys_said, answer_said, checked_said, check_said, audited_against, audit_said, audited_with, script_said, rewrite_said, certify_said}
 use Rattle.hw_program.specs.Faults.{IsReadOf}
-use Rattle.hw_program.specs.Due.{with_file, IsDue, FailsDue}
+use Rattle.hw_program.specs.Due.{with_file, IsDue, FailsDue, FailsOf}
 use Rattle.hw_program.proofs.FaultLaws.{input_status}
 use Rattle.hw_program.proofs.FileLaws.{file_replayed}
 
@@ -259,3 +259,7 @@ pub lawful_fails : (held : Held) (file keys : Word) (log : Option Word) (c : Cer
     → IfErr r (λ f. f ≡ Read → FailsDue (λ h. checked_said h file keys log c None) held before now) → IfErr r (λ f. f ≡ Read → FailsDue (λ h. checked_said h file keys log c broken) held before now)
 lawful_fails held file keys log c broken before now r lawful read =
     subst (λ (o : Option ConfigFault). IfErr r (λ f. f ≡ Read → FailsDue (λ h. checked_said h file keys log c o) held before now)) (sym lawful) read
+
+-- a read failed of the request that the words ask for
+pub asked_fails : (held : Held) (asked request : Option Request) (before now : Word → ℕ) (r : Result Ended RunFault) → asked ≡ request → IfErr r (λ f. f ≡ Read → FailsOf held request before now) → IfErr r (λ f. f ≡ Read → FailsOf held asked before now)
+asked_fails held asked request before now r is read = subst (λ (o : Option Request). IfErr r (λ f. f ≡ Read → FailsOf held o before now)) (sym is) read

@@ -3,8 +3,8 @@ use Rattle.std.proofs.lemmas.Result.{err_from_is_err_and}
 use Rattle.hw_script.specs.Output.{output_of}
 use Rattle.hw_program.specs.Scripted.{script_ended}
 use Rattle.hw_program.proofs.FaultLaws.{counted_same, if_ok}
-use Rattle.hw_program.proofs.CauseLaws.{no_read, read_of}
-use Rattle.hw_program.proofs.DueLaws.{script_due}
+use Rattle.hw_program.proofs.CauseLaws.{no_read}
+use Rattle.hw_program.proofs.DueLaws.{script_due, first_fails}
 use Rattle.hw_program.proofs.ScriptLaws.{scripted}
 use Rattle.hw_program.proofs.script.script.Goals as goal
 
@@ -24,4 +24,5 @@ returns-clause-about g c = λ tells. no_read _ c.scripted.result c.scripted.ensu
 pub returns-in_err-text-clause-about : goal.returns-in_err-text-clause-about
 returns-in_err-text-clause-about g c =
     let p = err_from_is_err_and c.from_residual.result c.from_residual.ensures.1 in
-    λ tells. rw (p.1, p.2) (λ is. (c.args.file.now, script_due (g.F.Files.held c.args.files.now) c.args.file.now, read_of _ c.args.file.now _ _ _ (c.in_err-text.ensures.about tells) is))
+    λ tells. rw (p.1, p.2)
+    (first_fails _ (g.F.Files.held c.args.files.now) c.args.file.now _ _ _ (script_due (g.F.Files.held c.args.files.now) c.args.file.now) (c.in_err-text.ensures.about tells))
