@@ -1,6 +1,6 @@
 //! Deliveries of several vertices to one node.
 
-ghost use Rattle.std.specs.Prelude.{◌≡◌, ◌≤◌, length, Result};
+ghost use Rattle.std.specs.Prelude.{◌≡◌, ◌≤◌, length};
 ghost use Rattle.hw_c.specs.Deliveries.{IsDeliveryOf, AreDeliveries, AreAnswered};
 ghost use Rattle.hw_c.specs.Named.{name_of};
 
