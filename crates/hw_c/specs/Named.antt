@@ -1,4 +1,5 @@
--- The names of units whose vertices stand among other bytes: a name can be worked out before its unit is delivered.
+-- The names of units whose vertices stand among other bytes: a name can be worked out before its unit is delivered. No export's
+-- contract speaks of them.
 -- Source: ours.
 use Rattle.std.specs.Prelude.{◌≡◌, ℕ, ◌+◌, ◌-◌, nat_lt, nat_le, ◌==◌, ◌&&◌, Bool, List, length, slice_index, if◌then◌else◌, Ok}
 use Rattle.sha2.specs.Sha256.{sha256}
@@ -11,7 +12,7 @@ use Rattle.hw_lanes.specs.declared.pieces.Part.{Part}
 use Rattle.hw_lanes.specs.Pieces.{part_of}
 use Rattle.hw_c.specs.declared.sent.Sent.{Sent}
 
--- The vertex is in range, its verdict is yes, it begins as a unit does, and it is longer than a signature.
+-- The verdict is yes, the vertex is in range, it is longer than a signature, and it begins as a unit does.
 abbrev pub looks_like_unit : List ℕ → Sent → Bool
 looks_like_unit bytes sent = (sent.verdict == 1) && (nat_le (sent.start + sent.length) (length bytes) && (nat_lt 32 sent.length && (slice_index bytes sent.start == 1)))
 

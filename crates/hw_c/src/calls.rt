@@ -73,7 +73,7 @@ pub fn make(alloc: Global, config: &[u8]) -> Result<Core, Fault>
 }
 
 /// Delivers the vertex that the bytes spell. The name is that of its unit, where it is a unit with a right verdict.
-pub fn deliver(
+pub fn deliver_named(
     alloc: Global,
     core: &mut Core,
     bytes: &[u8],
@@ -89,6 +89,19 @@ pub fn deliver(
     } else {
         take(core, vertex, false)
     }
+}
+
+/// Delivers the vertex that the bytes spell; where it is a unit, its name is worked out.
+pub fn deliver_unnamed(
+    alloc: Global,
+    core: &mut Core,
+    bytes: &[u8],
+    verdict: bool,
+) -> Result<Receipt, Fault>
+    ensures { IsDelivery core.old bytes.now verdict result core.new }
+{
+    let vertex = decode_vertex(alloc, bytes)?;
+    take(core, vertex, verdict)
 }
 
 /// Takes a vertex whose verdict is right. The name is that of its unit, where it is one.

@@ -1,19 +1,19 @@
 //! Deliveries of several vertices to one node.
 
-ghost use Rattle.std.specs.Prelude.{◌≡◌, ◌≤◌, length, Result};
+ghost use Rattle.std.specs.Prelude.{◌≡◌, ◌≤◌, length};
 ghost use Rattle.hw_c.specs.Deliveries.{IsDeliveryOf, AreDeliveries, AreAnswered};
 ghost use Rattle.hw_c.specs.Named.{name_of};
 
 use crate::calls;
 use crate::codes::Fault;
-use crate::names::{MOST, work_out};
+use crate::names::{MOST, has_units, work_out};
 use crate::sent::{Delivered, Sent, bytes_of, delivered_of};
 use hw_core::Core;
 use hw_types::{Digest, Receipt};
 use std::alloc::Global;
 
 /// Delivers one of several vertices, whose name was worked out ahead.
-fn deliver_one(
+fn deliver_named(
     alloc: Global,
     core: &mut Core,
     bytes: &[u8],
@@ -24,13 +24,45 @@ fn deliver_one(
     ensures { IsDeliveryOf core.old bytes.now sent result core.new }
 {
     match bytes_of(bytes, sent) {
-        Some(vertex) => calls::deliver(alloc, core, vertex, sent.verdict == 1, Digest(name)),
+        Some(vertex) => calls::deliver_named(alloc, core, vertex, sent.verdict == 1, Digest(name)),
         None => Err(Fault::OutOfRange),
     }
 }
 
+/// Delivers one of several vertices, of whom none has a name that was worked out ahead.
+fn deliver_unnamed(
+    alloc: Global,
+    core: &mut Core,
+    bytes: &[u8],
+    sent: Sent,
+) -> Result<Receipt, Fault>
+    ensures { IsDeliveryOf core.old bytes.now sent result core.new }
+{
+    match bytes_of(bytes, sent) {
+        Some(vertex) => calls::deliver_unnamed(alloc, core, vertex, sent.verdict == 1),
+        None => Err(Fault::OutOfRange),
+    }
+}
+
+/// Delivers vertices of which no name is worked out ahead.
+fn deliver_others(
+    alloc: Global,
+    core: &mut Core,
+    bytes: &[u8],
+    vertices: &[Sent],
+    delivered: &mut [Delivered],
+)
+    requires { length delivered.old ≡ length vertices.now }
+    ensures { AreDeliveries core.old bytes.now vertices.now delivered.new core.new }
+{
+    'vertices: for k in 0..vertices.len() {
+        let outcome = deliver_unnamed(alloc, core, bytes, vertices[k]);
+        delivered[k] = delivered_of(outcome);
+    }
+}
+
 /// Delivers as many vertices as names are worked out at once, or fewer.
-fn deliver_few(
+fn deliver_units(
     alloc: Global,
     core: &mut Core,
     bytes: &[u8],
@@ -45,8 +77,27 @@ fn deliver_few(
     let names = &mut names[..vertices.len()];
     work_out(bytes, vertices, names);
     'vertices: for k in 0..vertices.len() {
-        let outcome = deliver_one(alloc, core, bytes, vertices[k], names[k]);
+        let outcome = deliver_named(alloc, core, bytes, vertices[k], names[k]);
         delivered[k] = delivered_of(outcome);
+    }
+}
+
+/// Delivers so many vertices or fewer, with the names of the units among them.
+fn deliver_few(
+    alloc: Global,
+    core: &mut Core,
+    bytes: &[u8],
+    vertices: &[Sent],
+    delivered: &mut [Delivered],
+)
+    requires few { length vertices.now ≤ MOST }
+    requires answers { length delivered.old ≡ length vertices.now }
+    ensures { AreDeliveries core.old bytes.now vertices.now delivered.new core.new }
+{
+    if has_units(bytes, vertices) {
+        deliver_units(alloc, core, bytes, vertices, delivered);
+    } else {
+        deliver_others(alloc, core, bytes, vertices, delivered);
     }
 }
 

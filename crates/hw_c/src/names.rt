@@ -34,6 +34,17 @@ fn looks_like_unit(bytes: &[u8], sent: Sent) -> bool
         && bytes[start] == UNIT
 }
 
+/// Whether one of the vertices looks like a unit with a right verdict. No answer depends on it: where there is none, no
+/// name is worked out.
+pub fn has_units(bytes: &[u8], vertices: &[Sent]) -> bool {
+    'vertices: for k in 0..vertices.len() {
+        if looks_like_unit(bytes, vertices[k]) {
+            return true;
+        }
+    }
+    false
+}
+
 /// The part of the bytes that spells the unit of the vertex, where it looks like one with a right verdict.
 fn unit_part(bytes: &[u8], sent: Sent) -> Part
     ensures part { result ≡ unit_part bytes.now sent }

@@ -1,7 +1,6 @@
 //! A vertex among other bytes, and what its delivery was answered.
 
-ghost use Rattle.std.specs.Prelude.{◌≡◌, ◌≤◌, IfSome, IfNone, length};
-ghost use Rattle.hw_types.specs.declared.answers.Receipt.{Receipt};
+ghost use Rattle.std.specs.Prelude.{◌≡◌, IfSome, IfNone};
 ghost use Rattle.hw_c.specs.Deliveries.{bytes_of, delivered_of, IsInRange, IsOutside};
 
 use crate::codes::{Answer, Fault, OK, answer_of, status_of};
