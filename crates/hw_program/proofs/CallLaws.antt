@@ -6,7 +6,7 @@ use Rattle.std.proofs.Math.Seq.{take_all}
 use Rattle.std.proofs.lemmas.List.{length-map}
 use Rattle.std.proofs.lemmas.List.Elements.{All-nil, All-push}
 use Rattle.hw_service.specs.declared.peer.Peer.{Peer}
-use Rattle.hw_program.specs.Commands.{Word}
+use Rattle.hw_commands.specs.Commands.{Word}
 use Rattle.hw_program.specs.Served.{AreNew, no_mark}
 
 -- what holds behind a report, and what holds at any end

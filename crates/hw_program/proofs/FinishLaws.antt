@@ -21,7 +21,7 @@ use Rattle.hw_reunion.specs.Runs.{hosts_session, calls_peer}
 use Rattle.hw_service.specs.Turns.{turning, TellsMade, DrivesSession, TakesTurn}
 use Rattle.hw_program.specs.Services.{Service, Serve, Run, Host, Meet}
 use Rattle.hw_program.specs.Served.{WereFinished, RunsAsAsked}
-use Rattle.hw_program.proofs.FedLaws.{served_all}
+use Rattle.hw_commands.proofs.FedLaws.{served_all}
 
 module _ {B K : Type 0} (sight : Sight B K) where
   abbrev WasFinished : ℕ → B → Type 0

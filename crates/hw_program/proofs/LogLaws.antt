@@ -33,7 +33,7 @@ use Rattle.hw_meeting_node.specs.declared.meeter.Side.{Side}
 use Rattle.hw_reunion.specs.Meets.{Leaves as LeavesMet, NodeMeets, NodeMeetsNone}
 use Rattle.hw_reunion.specs.Runs.{hosts_session, calls_peer}
 use Rattle.hw_service.specs.Turns.{turning, MakesUnit, DrivesOne, DrivesSession, Turns, TakesTurn}
-use Rattle.hw_program.specs.Program.{Held}
+use Rattle.hw_commands.specs.Program.{Held}
 use Rattle.hw_program.specs.Services.{Service, Serve, Run, Host, Meet, names_in}
 use Rattle.hw_program.specs.Served.{RunsAsAsked, Around, RunsNode, OnlyLogChanges}
 

@@ -20,10 +20,10 @@ use Rattle.hw_service.specs.Serve.{serves_session}
 use Rattle.hw_reunion.specs.Runs.{hosts_session, calls_peer}
 use Rattle.hw_service.specs.Turns.{turning, TakesTurn}
 use Rattle.hw_service.specs.Counts.{IsReadCounted, IsAppendCounted, IsWriteCounted, IsDoorCounted}
-use Rattle.hw_program.specs.declared.ended.Ended.{Ended}
-use Rattle.hw_program.specs.Program.{Held}
-use Rattle.hw_program.specs.Texts.{usage_line, read_fault_line, input_ended, clash_ended}
-use Rattle.hw_program.specs.Run.{Output, WritesLine, IsStatus, IsWorkedStatus, IsServiceStatus}
+use Rattle.hw_commands.specs.declared.ended.Ended.{Ended}
+use Rattle.hw_commands.specs.Program.{Held}
+use Rattle.hw_commands.specs.Texts.{usage_line, read_fault_line, input_ended, clash_ended}
+use Rattle.hw_commands.specs.Run.{Output, WritesLine, IsStatus, IsWorkedStatus, IsServiceStatus}
 use Rattle.hw_program.specs.Services.{Service, Serve, Run, Host, Meet, names_in, maker_in}
 use Rattle.hw_program.specs.Served.{service_stopped, Tells, EndsBy, RunsAsAsked, Around, RunsNode, MayBegin, IsMidway, CanRun, IsRunEnd, AsksNoValidator}
 use Rattle.hw_program.proofs.ServedLaws.{ends_status, one_config, told_kept, log_fault_status, IsPlainFault, asked_plain, IsStepFault, session_fault, host_fault, meet_fault, turn_fault, part_fault}

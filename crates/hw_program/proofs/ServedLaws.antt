@@ -29,10 +29,10 @@ use Rattle.hw_service.specs.Run.{StepOver, ReportsNot, RunsPart, Runs}
 use Rattle.hw_service.specs.Turns.{Turning, turning, TellsMade, DrivesSession, Turns, TakesTurn}
 use Rattle.hw_service.specs.Serve.{serves_session}
 use Rattle.hw_reunion.specs.Runs.{hosts_session, calls_peer}
-use Rattle.hw_program.specs.declared.ended.Ended.{Ended}
-use Rattle.hw_program.specs.Program.{Held}
-use Rattle.hw_program.specs.Texts.{append_fault_line, input_ended, limit_ended, clash_ended, stopped_ended}
-use Rattle.hw_program.specs.Run.{Output, Finishes, IsServiceStatus}
+use Rattle.hw_commands.specs.declared.ended.Ended.{Ended}
+use Rattle.hw_commands.specs.Program.{Held}
+use Rattle.hw_commands.specs.Texts.{append_fault_line, input_ended, limit_ended, clash_ended, stopped_ended}
+use Rattle.hw_commands.specs.Run.{Output, Finishes, IsServiceStatus}
 use Rattle.hw_program.specs.Services.{Service, Serve, Run, Host, Meet, names_in, maker_in}
 use Rattle.hw_program.specs.Served.{service_stopped, Tells, EndsBy, RunsAsAsked, IsFitLog, MayBegin, IsMidway}
 

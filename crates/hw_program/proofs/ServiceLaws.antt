@@ -6,9 +6,9 @@ use Rattle.std.proofs.lemmas.List.{take_rest}
 use Rattle.std.proofs.lemmas.List.Folds.{list_all-map}
 use Rattle.std.proofs.lemmas.Slice.Eq.{bytes_eq-Decides}
 use Rattle.hw_service.specs.Begin.{Names}
-use Rattle.hw_program.specs.Commands.{Word, Request, is_word, eras_of, numbered_of, of_few, of_words, request_of}
-use Rattle.hw_program.specs.Program.{Held}
-use Rattle.hw_program.specs.Shown.{IfChecks}
+use Rattle.hw_commands.specs.Commands.{Word, Request, is_word, eras_of, numbered_of, of_few, of_words, request_of}
+use Rattle.hw_commands.specs.Program.{Held}
+use Rattle.hw_commands.specs.Shown.{IfChecks}
 use Rattle.hw_program.specs.Served.{OnlyLogChanges}
 use Rattle.hw_program.specs.Services.{Service, named, of_many, service_in, meeting_in, service_of}
 

@@ -2,9 +2,9 @@
 use Rattle.std.specs.Prelude.{Option, Some, None, IfSome}
 use Rattle.hw_program.specs.declared.request.Request.{Request as AnyRequest}
 use Rattle.hw_program.specs.declared.request.Request.TheVariants as request
-use Rattle.hw_program.specs.Commands.{Request}
+use Rattle.hw_commands.specs.Commands.{Request}
 use Rattle.hw_program.specs.Services.{Service}
-use Rattle.hw_program.specs.Asked.{asked, IsInRange}
+use Rattle.hw_commands.specs.Asked.{asked, IsInRange}
 use Rattle.hw_program.specs.Serving.{service}
 
 -- the request whose text is worked out, if it is one

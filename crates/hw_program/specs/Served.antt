@@ -23,11 +23,11 @@ use Rattle.hw_service.specs.Counts.{IsReadCounted, IsAppendCounted, IsWriteCount
 use Rattle.hw_service.specs.Serve.{Serves}
 use Rattle.hw_service.specs.Turns.{turning, RunsTurns}
 use Rattle.hw_reunion.specs.Runs.{Hosts, Calls}
-use Rattle.hw_program.specs.declared.ended.Ended.{Ended}
-use Rattle.hw_program.specs.Commands.{Word}
-use Rattle.hw_program.specs.Program.{Held}
-use Rattle.hw_program.specs.Texts.{usage_line, input_ended, read_fault_ended, append_fault_line, memory_ended, clash_ended, stopped_ended}
-use Rattle.hw_program.specs.Run.{Output, Finishes, WritesMemoryLine}
+use Rattle.hw_commands.specs.declared.ended.Ended.{Ended}
+use Rattle.hw_commands.specs.Commands.{Word}
+use Rattle.hw_commands.specs.Program.{Held}
+use Rattle.hw_commands.specs.Texts.{usage_line, input_ended, read_fault_ended, append_fault_line, memory_ended, clash_ended, stopped_ended}
+use Rattle.hw_commands.specs.Run.{Output, Finishes, WritesMemoryLine}
 use Rattle.hw_program.specs.Services.{Service, Serve, Run, Host, Meet, names_in, maker_in}
 
 -- ---- the status

@@ -5,7 +5,7 @@ use Rattle.std.specs.List.{list_all}
 use Rattle.std.specs.Option.{option_map}
 use Rattle.hw_script_grammar.specs.Numbers.{number_below}
 use Rattle.hw_service.specs.Begin.{Names}
-use Rattle.hw_program.specs.Commands.{Word, is_word, request_of}
+use Rattle.hw_commands.specs.Commands.{Word, is_word, request_of}
 
 -- To serve so many sessions to peers that come to an address; to let a validator take so many turns, in each of which it dials each of its
 -- peers; to meet so many peers that come to an address, one after the other; or to dial a peer and meet it.

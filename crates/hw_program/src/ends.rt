@@ -1,22 +1,22 @@
 //! How a run of a node ends.
 
-ghost use Rattle.std.specs.Prelude.{◌≡◌, ◌≢◌, IfOk, IfErr};
+ghost use Rattle.std.specs.Prelude.{◌≡◌, ◌≢◌, IfOk, IfErr, ◌++◌, OnOk};
 ghost use Rattle.hw_service.specs.Begin.{names_of};
 ghost use Rattle.hw_service.specs.declared.fault.ServiceFault.TheVariants as ServiceFaults;
-ghost use Rattle.hw_program.specs.Texts.{input_ended, read_fault_ended};
+ghost use Rattle.hw_commands.specs.Texts.{input_ended, read_fault_ended};
 ghost use Rattle.hw_program.specs.Served.{reported_status, settings_text, service_stopped, Tells, EndsBy};
-ghost use Rattle.hw_program.specs.declared.ended.RunFault.TheVariants as RunFaults;
+ghost use Rattle.hw_commands.specs.declared.ended.RunFault.TheVariants as RunFaults;
 
-use crate::check::bad_keys;
-use crate::ended::{DONE, Ended, INPUT, LIMIT, LINK_FAULT, READ_FAULT, RunFault, WRITE_FAULT};
-use crate::faults::{clash, input, stopped, usage};
-use crate::texts::put_settings;
-use crate::work::{APPEND_FAULT_LINE, READ_FAULT_LINE, finish, out_of_memory};
+use hw_commands::{
+    APPEND_FAULT_LINE, DONE, Ended, INPUT, LIMIT, LINK_FAULT, READ_FAULT, READ_FAULT_LINE,
+    RunFault, WRITE_FAULT, bad_keys, clash, finish, input, out_of_memory, stopped, usage,
+};
 use hw_io::Sink;
+use hw_light::put_limit;
 use hw_service::{Served, ServiceFault, Sources};
 use hw_settings::SettingsFault;
-use hw_text::end_line;
-use hw_types::OutOfMemory;
+use hw_text::{end_line, put_word};
+use hw_types::{Bytes, OutOfMemory};
 use std::alloc::Global;
 
 /// Ends a run of a node that came to this, and answers the status. The line of what stopped it is written behind
@@ -85,7 +85,7 @@ fn stopped_run(alloc: Global, sources: Sources<'_>, fault: ServiceFault) -> Resu
 }
 
 /// The settings in the file of this name say no configuration.
-#[tactic(auto, using(std::proofs::Common::append_assoc), unfolding(crate::specs::Texts::input_ended))]
+#[tactic(auto, using(std::proofs::Common::append_assoc), unfolding(hw_commands::specs::Texts::input_ended))]
 fn bad_settings(alloc: Global, name: &str, fault: SettingsFault) -> Result<Ended, OutOfMemory>
     ensures { IfOk result (λ ended. ended ≡ input_ended name.now (settings_text fault)) }
 {
@@ -96,4 +96,19 @@ fn bad_settings(alloc: Global, name: &str, fault: SettingsFault) -> Result<Ended
         status: INPUT,
         text,
     })
+}
+
+/// Puts the text of what is wrong with settings last. Want of memory has none.
+#[tactic(auto, using(std::proofs::Common::append_assoc), unfolding(crate::specs::Served::settings_text))]
+fn put_settings(text: &mut Bytes, fault: SettingsFault) -> Result<(), OutOfMemory>
+    ensures { OnOk result (text.new ≡ text.old ++ settings_text fault) }
+{
+    match fault {
+        SettingsFault::Form => put_word(text, "config form"),
+        SettingsFault::Fault(fault) => {
+            put_word(text, "config ")?;
+            put_limit(text, fault)
+        }
+        SettingsFault::OutOfMemory => Ok(()),
+    }
 }

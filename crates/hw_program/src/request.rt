@@ -2,13 +2,12 @@
 
 ghost use Rattle.std.specs.Prelude.{◌≡◌};
 ghost use Rattle.std.specs.Option.{option_copied};
-ghost use Rattle.hw_program.specs.Commands.{request_of};
+ghost use Rattle.hw_commands.specs.Commands.{request_of};
 ghost use Rattle.hw_program.specs.Services.{service_of, address_in, log_in};
 ghost use Rattle.hw_program.specs.Requested.{worked_request, node_request, HasRange};
 
-use crate::command::{Command, command_of};
 use crate::services::{NodeCommand, service_of};
-use crate::words::Words;
+use hw_commands::{Command, Words, command_of};
 
 /// What the words of a command line ask for.
 #[derive(Drop)]

@@ -7,8 +7,7 @@ ghost use Rattle.hw_service.specs.Begin.{names_of};
 ghost use Rattle.hw_program.specs.Services.{Serve, Host, sessions_of, turns_of, service_in, meeting_in, service_of, names_in};
 ghost use Rattle.hw_program.specs.Serving.{service, asked_service};
 
-use crate::command::are_words;
-use crate::words::Words;
+use hw_commands::{Words, are_words};
 use hw_script_grammar::number_up_to;
 use hw_service::Sources;
 

@@ -1,7 +1,7 @@
 -- In the branch Work each clause is the one of `work`. In the branch Node a premise that the words ask for no run of a node is absurd.
 use Rattle.std.proofs.Common.{refl, sym, subst, inl, inr}
-use Rattle.hw_program.specs.Files.{IsAllowed}
-use Rattle.hw_program.specs.Run.{IsServiceStatus}
+use Rattle.hw_commands.specs.Files.{IsAllowed}
+use Rattle.hw_commands.specs.Run.{IsServiceStatus}
 use Rattle.hw_program.specs.Services.{UsesNoClock}
 use Rattle.hw_program.specs.Serving.{service}
 use Rattle.hw_program.specs.Served.{AsksNoValidator, CanRun, OnlyLogChanges}

@@ -1,0 +1,42 @@
+-- One part of a run after another: what becomes of the count of reads that failed, and of the files.
+use Rattle.std.proofs.Common.{◌≡◌, ℕ, ◌≤◌, List, Option, Some, Result, Ok, Err, IfErr, subst, ◌∙◌}
+use Rattle.hw_io.specs.Faults.{Rose}
+use Rattle.hw_log.specs.declared.error.LogError.TheVariants as log
+use Rattle.hw_replay.specs.declared.fault.StartFault.{StartFault}
+use Rattle.hw_replay.specs.declared.fault.StartFault.TheVariants as start
+use Rattle.hw_replay.specs.Causes.{IsReplayAbout}
+use Rattle.hw_io.specs.Files.{SameFiles}
+use Rattle.hw_commands.specs.declared.ended.Ended.{Ended}
+use Rattle.hw_commands.specs.declared.ended.RunFault.{RunFault}
+use Rattle.hw_commands.specs.declared.ended.RunFault.TheVariants.{Read, Append, OutOfMemory}
+use Rattle.hw_commands.specs.Faults.{HasReadFault}
+
+-- a part before it left the count
+pub fault_then : (before mid now : ℕ) (r : Result Ended RunFault) → mid ≡ before → HasReadFault mid now r → HasReadFault before now r
+fault_then before mid now r same fault = subst (λ (n : ℕ). HasReadFault n now r) same fault
+
+-- no read failed
+pub no_fault : (before now : ℕ) (r : Result Ended RunFault) → before ≤ now → now ≡ before → IfErr r (λ f. f ≡ OutOfMemory) → HasReadFault before now r
+no_fault before now (Ok e) later same none = record { later = later; counted = same }
+no_fault before now (Err OutOfMemory) later same none = record { later = later; counted = same }
+no_fault before now (Err Read) later same none = absurd cc
+no_fault before now (Err Append) later same none = absurd cc
+
+-- files that stay, and stay again
+pub files_then : (old mid new : List ℕ → Option (List ℕ)) → SameFiles old mid → SameFiles mid new → SameFiles old new
+files_then old mid new first second = λ name. second name ∙ first name
+
+-- ---- counts for a file
+
+-- a failed read of the log that stopped a replay was counted for it
+pub read_about : (name : List ℕ) (before now : List ℕ → ℕ) (fault : StartFault) (r : Result Ended RunFault) → IsReplayAbout {T = Unit {0}} (Some name) before now (Err fault)
+    → IfErr r (λ f. f ≡ Read → fault ≡ start.Log log.ReadFault) → IfErr r (λ f. f ≡ Read → Rose (before name) (now name))
+read_about name before now fault (Ok e) about read = tt
+read_about name before now fault (Err f) about read = λ is. subst (λ (x : StartFault). IsReplayAbout {T = Unit {0}} (Some name) before now (Err x)) (read is) about
+
+-- no read failed
+pub no_read : (P : Type 0) (r : Result Ended RunFault) → IfErr r (λ f. f ≡ OutOfMemory) → IfErr r (λ f. f ≡ Read → P)
+no_read P (Ok e) none = tt
+no_read P (Err OutOfMemory) none = λ is. absurd cc
+no_read P (Err Read) none = λ is. absurd (let e = none in cc)
+no_read P (Err Append) none = λ is. absurd cc

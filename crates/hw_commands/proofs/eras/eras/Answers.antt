@@ -1,0 +1,19 @@
+use Rattle.std.proofs.Common.{refl, sym, ap}
+use Rattle.std.specs.Prelude.{map, string_bytes}
+use Rattle.hw_era_runs.specs.Reports.{logs_reported}
+use Rattle.hw_commands.specs.Eras.{eras_ended}
+use Rattle.hw_commands.proofs.EraLaws.{ends_so}
+use Rattle.hw_commands.proofs.eras.eras.Goals as goal
+
+pub returns-in-Ok-clause-said : goal.returns-in-Ok-clause-said
+returns-in-Ok-clause-said g c = λ tells. sym (ap eras_ended (c.in-Ok.ensures.said tells))
+
+pub returns-in-Err-clause-said : goal.returns-in-Err-clause-said
+returns-in-Err-clause-said g c = λ tells.
+    ends_so eras_ended (λ s. refl) (logs_reported (g.F.Files.held c.args.files.now) (map string_bytes c.args.logs.now)) c.in-Err.stop c.logs_stopped.result (c.in-Err.ensures.said tells) c.logs_stopped.ensures.said
+
+pub returns-in-Err-clause-fault : goal.returns-in-Err-clause-fault
+returns-in-Err-clause-fault g c = record { later = c.in-Err.ensures.cause.later; counted = c.logs_stopped.ensures.cause _ _ c.in-Err.ensures.cause.counted }
+
+pub returns-in-Err-clause-about : goal.returns-in-Err-clause-about
+returns-in-Err-clause-about g c = λ tells. c.logs_stopped.ensures.about _ _ _ c.in-Err.ensures.named (c.in-Err.ensures.about tells)

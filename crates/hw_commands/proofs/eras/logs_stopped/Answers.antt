@@ -1,0 +1,12 @@
+use Rattle.std.proofs.Common.{codes, Err, inl, inr, ap, subst, ◌∙◌}
+use Rattle.hw_era_runs.specs.declared.stop.EraStop.{EraStop}
+use Rattle.hw_era_runs.specs.Stops.{IsReadCounted}
+use Rattle.hw_commands.specs.declared.ended.Ended.{Ended}
+use Rattle.hw_commands.proofs.FaultLaws.{input_status}
+use Rattle.hw_commands.proofs.eras.logs_stopped.Goals as goal
+
+pub returns-in_ok-no_era-in-NoEra-clause-status : goal.returns-in_ok-no_era-in-NoEra-clause-status
+returns-in_ok-no_era-in-NoEra-clause-status c = inr (inl (ap (λ (x : Ended). x.status) c.in_ok-no_era-in-NoEra.ensures ∙ input_status c.in-NoEra.log.now (codes "no era")))
+
+pub returns-in-Stopped-clause-cause : goal.returns-in-Stopped-clause-cause
+returns-in-Stopped-clause-cause c = λ before now counted. c.stopped.ensures.cause before now (subst (λ (x : EraStop). IsReadCounted {T = Unit {0}} before now (Err x)) c.in-Stopped.is counted)

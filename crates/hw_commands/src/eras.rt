@@ -1,0 +1,95 @@
+//! `eras` and `era-audit`: what the logs of eras leave, and what the eras of two nodes say of each other.
+
+ghost use Rattle.std.specs.Prelude.{◌≡◌, ℕ, ◌≤◌, ◌++◌, List, length, map, string_bytes, codes, Err, IsTrue, IfOk, IfErr};
+ghost use Rattle.hw_io.specs.Files.{SameFiles};
+ghost use Rattle.hw_era_runs.specs.Stops.{IsOfLogs, IsEraAbout, IsReadCounted as IsEraCounted};
+ghost use Rattle.hw_commands.specs.Faults.{HasReadFault, IsReadCounted, FailsAmong, IsReadEnd, IsAuditEnd};
+ghost use Rattle.hw_commands.specs.Texts.{input_ended};
+ghost use Rattle.hw_commands.specs.Eras.{EndsBy, IsEraConflictOf};
+ghost use Rattle.hw_commands.specs.Program.{ended, eras_said, era_audit_said};
+ghost use Rattle.hw_commands.specs.declared.ended.RunFault.TheVariants as RunFaults;
+
+use crate::ended::{DONE, Ended, INPUT, RunFault};
+use crate::faults::{input, stopped};
+use hw_era_runs::{EraStop, report_logs};
+use hw_io::Files;
+use hw_text::{end_line, put_word};
+use hw_types::OutOfMemory;
+use std::alloc::Global;
+
+/// Reports on the eras of these logs, one log for each era.
+pub fn eras<F: Files>(alloc: Global, files: &mut F, logs: &[String]) -> Result<Ended, RunFault>
+    requires some { 1 ≤ length logs.now }
+    requires few { length logs.now ≤ 64 }
+    ensures said { IsTrue F.tells → IfOk result (λ e. e ≡ ended (eras_said (F.held files.old) (map string_bytes logs.now))) }
+    ensures status { IfOk result (λ e. IsReadEnd e.status) }
+    ensures fault { HasReadFault (F.read_faults files.old) (F.read_faults files.new) result }
+    ensures about { IsTrue F.tells → IfErr result (λ fault. fault ≡ RunFaults.Read → FailsAmong (map string_bytes logs.now) (F.faults_about files.old) (F.faults_about files.new)) }
+
+    ensures files { SameFiles (F.held files.old) (F.held files.new) }
+    ensures appends { F.append_faults files.new ≡ F.append_faults files.old }
+{
+    match report_logs(alloc, files, logs) {
+        Ok(text) => Ok(Ended { status: DONE, text }),
+        Err(stop) => logs_stopped(alloc, stop),
+    }
+}
+
+/// Audits the eras of two nodes, which these logs leave.
+///
+/// The left logs are all replayed before the first right one, which must be of the left ones' first configuration.
+pub fn audit_eras<F: Files>(
+    alloc: Global,
+    files: &mut F,
+    left: &[String],
+    right: &[String],
+) -> Result<Ended, RunFault>
+    requires left_some { 1 ≤ length left.now }
+    requires left_few { length left.now ≤ 64 }
+    requires right_some { 1 ≤ length right.now }
+    requires right_few { length right.now ≤ 64 }
+    ensures said { IsTrue F.tells → IfOk result (λ e. e ≡ ended (era_audit_said (F.held files.old) (map string_bytes left.now) (map string_bytes right.now))) }
+    ensures conflict { IsTrue F.tells → IfOk result (λ e. e.status ≡ 3 → IsEraConflictOf (F.held files.old) (map string_bytes left.now) (map string_bytes right.now) e.text) }
+    ensures status { IfOk result (λ e. IsAuditEnd e.status) }
+    ensures fault { HasReadFault (F.read_faults files.old) (F.read_faults files.new) result }
+    ensures about { IsTrue F.tells → IfErr result (λ fault. fault ≡ RunFaults.Read → FailsAmong (map string_bytes left.now ++ map string_bytes right.now) (F.faults_about files.old) (F.faults_about files.new)) }
+
+    ensures files { SameFiles (F.held files.old) (F.held files.new) }
+    ensures appends { F.append_faults files.new ≡ F.append_faults files.old }
+{
+    match hw_era_runs::audit_logs(alloc, files, left, right) {
+        Ok(audit) => Ok(Ended {
+            status: audit.status,
+            text: audit.text,
+        }),
+        Err(stop) => logs_stopped(alloc, stop),
+    }
+}
+
+/// The logs of eras stopped there.
+fn logs_stopped(alloc: Global, stop: EraStop<'_>) -> Result<Ended, RunFault>
+    ensures said { IfOk result (EndsBy stop.entry) }
+    ensures status { IfOk result (λ e. IsReadEnd e.status) }
+    ensures cause { (before now : ℕ) → IsEraCounted {T = Unit {0}} before now (Err stop.entry) → IsReadCounted before now result }
+    ensures about { (logs : List (List ℕ)) (before now : List ℕ → ℕ) → IsOfLogs logs stop.entry → IsEraAbout {T = Unit {0}} before now (Err stop.entry) → IfErr result (λ fault. fault ≡ RunFaults.Read → FailsAmong logs before now) }
+{
+    match stop {
+        EraStop::NoEra(log) => Ok(no_era(alloc, log)?),
+        EraStop::Stopped(log, fault) => stopped(alloc, log, fault),
+        EraStop::OutOfMemory => Err(RunFault::OutOfMemory),
+    }
+}
+
+/// The era of the log isn't there.
+#[tactic(auto, using(std::proofs::Common::append_assoc), unfolding(crate::specs::Texts::input_ended))]
+fn no_era(alloc: Global, name: &str) -> Result<Ended, OutOfMemory>
+    ensures { IfOk result (λ ended. ended ≡ input_ended name.now (codes "no era")) }
+{
+    let mut text = input(alloc, name)?;
+    put_word(&mut text, "no era")?;
+    end_line(&mut text)?;
+    Ok(Ended {
+        status: INPUT,
+        text,
+    })
+}

@@ -1,0 +1,29 @@
+//! What follows of a run.
+
+ghost use Rattle.hw_commands.specs.Laws.{AuditIsTheVerdict, VerdictIsThere, ConflictIsTold, ReadsTheSame, LogIsAnswered, CheckIsAnswered};
+
+/// An audit of two logs that can be replayed tells the verdict on what their nodes accepted, with any decided blocks
+/// that the definition allows. There is one on any two journals.
+pub fn an_audit_tells_the_verdict()
+    ensures tells { AuditIsTheVerdict }
+    ensures there { VerdictIsThere }
+{}
+
+/// Where two logs report conflicting final blocks, and no two of their units clash, the status is that of a
+/// conflict. So the top call's clause on it holds: culprits that weigh more than the threshold are named.
+pub fn a_conflict_is_told()
+    ensures { ConflictIsTold }
+{}
+
+/// A log that was written anew in version 2 says what the old one says: `replay` and `explain` tell the same of
+/// both. After `migrate` with status 0 the two files are so, by the top call's clause on what a run leaves.
+pub fn a_migrated_log_reads_the_same()
+    ensures { ReadsTheSame }
+{}
+
+/// With files that can be read, a request about a certificate is answered: by the top call's clause on what is
+/// complete, where nothing of the outside fails the status is this one, or that of want of memory.
+pub fn certificates_are_answered()
+    ensures asked { LogIsAnswered }
+    ensures checked { CheckIsAnswered }
+{}

@@ -1,0 +1,103 @@
+//! `mend` and `migrate`: a log written anew into a new file.
+
+ghost use Rattle.std.specs.Prelude.{◌≡◌, ◌⊎◌, ◌++◌, codes, IsTrue, IfOk, IfErr};
+ghost use Rattle.hw_io.specs.Faults.{Rose};
+ghost use Rattle.hw_text.specs.Text.{number_text};
+ghost use Rattle.hw_text.specs.Lines.{line_feed};
+ghost use Rattle.hw_rewrite.specs.Rewritten.{mended_of, migrated_of};
+ghost use Rattle.hw_rewrite.specs.Migrated.{HoldsAnew};
+ghost use Rattle.hw_commands.specs.Faults.{HasRunFault, IsReadEnd};
+ghost use Rattle.hw_commands.specs.Due.{FailsDue};
+ghost use Rattle.hw_commands.specs.Files.{IsRewrite, status_of};
+ghost use Rattle.hw_commands.specs.Texts.{input_ended};
+ghost use Rattle.hw_commands.specs.Rewritten.{IsUnwritten, IsFaultOf};
+ghost use Rattle.hw_commands.specs.Program.{ended, mend_said, migrate_said};
+ghost use Rattle.hw_commands.specs.declared.ended.RunFault.TheVariants as RunFaults;
+
+use crate::ended::{DONE, Ended, INPUT, RunFault};
+use crate::faults::{bad_log, input};
+use hw_io::Files;
+use hw_log::LogError;
+use hw_rewrite::{RewriteFault, mend, migrate};
+use hw_text::{end_line, put_numbered, put_word};
+use hw_types::{Bytes, OutOfMemory};
+use std::alloc::Global;
+
+/// Writes the whole entries of the log under the one word into a new file under the other, and says how the
+/// run ends.
+pub fn mended<F: Files>(
+    alloc: Global,
+    files: &mut F,
+    log: &str,
+    new: &str,
+) -> Result<Ended, RunFault>
+    ensures said { IsTrue F.tells → IfOk result (λ e. e ≡ ended (mend_said (F.held files.old) log.now new.now)) }
+    ensures status { IfOk result (λ e. IsReadEnd e.status) }
+    ensures fault { HasRunFault (F.read_faults files.old) (F.read_faults files.new) (F.append_faults files.old) (F.append_faults files.new) result }
+    ensures about { IsTrue F.tells → IfErr result (λ fault. fault ≡ RunFaults.Read → Rose (F.faults_about files.old new.now) (F.faults_about files.new new.now) ⊎ FailsDue (λ h. mend_said h log.now new.now) (F.held files.old) (F.faults_about files.old) (F.faults_about files.new)) }
+    ensures files { IsTrue F.tells → IsRewrite mended_of log.now new.now (status_of result) (F.held files.old) (F.held files.new) }
+{
+    match mend(alloc, files, log, new) {
+        Ok(count) => told(alloc, "mended ", count),
+        Err(fault) => unwritten(alloc, log, new, fault),
+    }
+}
+
+/// Writes the log under the one word in version 2 into a new file under the other, and says how the run ends.
+pub fn migrated<F: Files>(
+    alloc: Global,
+    files: &mut F,
+    log: &str,
+    new: &str,
+) -> Result<Ended, RunFault>
+    ensures said { IsTrue F.tells → IfOk result (λ e. e ≡ ended (migrate_said (F.held files.old) log.now new.now)) }
+    ensures status { IfOk result (λ e. IsReadEnd e.status) }
+    ensures fault { HasRunFault (F.read_faults files.old) (F.read_faults files.new) (F.append_faults files.old) (F.append_faults files.new) result }
+    ensures about { IsTrue F.tells → IfErr result (λ fault. fault ≡ RunFaults.Read → Rose (F.faults_about files.old new.now) (F.faults_about files.new new.now) ⊎ FailsDue (λ h. migrate_said h log.now new.now) (F.held files.old) (F.faults_about files.old) (F.faults_about files.new)) }
+    ensures files { IsTrue F.tells → IsRewrite migrated_of log.now new.now (status_of result) (F.held files.old) (F.held files.new) }
+    ensures same { IsTrue F.tells → status_of result ≡ 0 → HoldsAnew (F.held files.old log.now) (F.held files.new new.now) }
+{
+    match migrate(alloc, files, log, new) {
+        Ok(count) => told(alloc, "migrated ", count),
+        Err(fault) => unwritten(alloc, log, new, fault),
+    }
+}
+
+/// The line of what was done.
+fn told(alloc: Global, words: &str, count: u64) -> Result<Ended, RunFault>
+    ensures said { IfOk result (λ e. e ≡ record { status = 0; text = words.now ++ number_text count ++ line_feed }) }
+    ensures fault { IfErr result (λ fault. fault ≡ RunFaults.OutOfMemory) }
+{
+    let mut text = Bytes::new(alloc);
+    put_numbered(&mut text, words, count)?;
+    end_line(&mut text)?;
+    Ok(Ended { status: DONE, text })
+}
+
+/// Why nothing was written anew.
+fn unwritten(alloc: Global, log: &str, new: &str, fault: RewriteFault) -> Result<Ended, RunFault>
+    ensures said { IfOk result (λ e. IsUnwritten log.now new.now fault e) }
+    ensures fault { IfErr result (IsFaultOf fault) }
+{
+    match fault {
+        RewriteFault::Exists => Ok(there(alloc, new)?),
+        RewriteFault::Log(LogError::ReadFault) => Err(RunFault::Read),
+        RewriteFault::Log(LogError::WriteFault) => Err(RunFault::Append),
+        RewriteFault::Log(LogError::OutOfMemory) => Err(RunFault::OutOfMemory),
+        RewriteFault::Log(error) => Ok(bad_log(alloc, log, error)?),
+    }
+}
+
+/// The file that was to be new is there.
+#[tactic(auto, using(std::proofs::Common::append_assoc), unfolding(crate::specs::Texts::input_ended))]
+pub fn there(alloc: Global, name: &str) -> Result<Ended, OutOfMemory>
+    ensures { IfOk result (λ ended. ended ≡ input_ended name.now (codes "exists")) }
+{
+    let mut text = input(alloc, name)?;
+    put_word(&mut text, "exists")?;
+    end_line(&mut text)?;
+    Ok(Ended {
+        status: INPUT,
+        text,
+    })
+}

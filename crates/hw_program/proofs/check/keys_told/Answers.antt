@@ -1,7 +1,0 @@
-use Rattle.std.proofs.Common.{ap, ◌∙◌}
-use Rattle.hw_program.specs.declared.ended.Ended.{Ended}
-use Rattle.hw_program.proofs.FaultLaws.{input_status}
-use Rattle.hw_program.proofs.check.keys_told.Goals as goal
-
-pub returns-in_ok-bad_keys-in-Err-At-clause-status : goal.returns-in_ok-bad_keys-in-Err-At-clause-status
-returns-in_ok-bad_keys-in-Err-At-clause-status c = ap (λ (e : Ended). e.status) c.in_ok-bad_keys-in-Err-At.ensures ∙ input_status c.args.name.now _

@@ -1,5 +1,0 @@
-use Rattle.hw_program.proofs.MigratedLaws.{reads_the_same}
-use Rattle.hw_program.proofs.laws.a_migrated_log_reads_the_same.Goals as goal
-
-pub returns : goal.returns
-returns c = reads_the_same
