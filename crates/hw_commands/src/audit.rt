@@ -160,14 +160,14 @@ fn audited(alloc: Global, left: &Core, right: &Core, name: &str) -> Result<Ended
     config_is_in_range(left.state().config());
     config_is_in_range(right.state().config());
     match audit(alloc, left, right) {
-        Ok(verdict) => told(alloc, &verdict, left.state().config()),
+        Ok(verdict) => verdict_ended(alloc, &verdict, left.state().config()),
         Err(AuditError::Instances) => other_config(alloc, name),
         Err(AuditError::OutOfMemory) => Err(OutOfMemory),
     }
 }
 
 /// How an audit ends that has this verdict.
-fn told(alloc: Global, verdict: &Verdict, config: &Config) -> Result<Ended, OutOfMemory>
+fn verdict_ended(alloc: Global, verdict: &Verdict, config: &Config) -> Result<Ended, OutOfMemory>
     ensures { IfOk result (λ e. e ≡ verdict_ended config.now.ftt verdict.now) }
 {
     Ok(Ended {

@@ -116,7 +116,7 @@ fn write_asked<F: Files>(
     ensures files { IsTrue F.tells → IsWritten (IsAnswered asked.now) new.now (status_of result) (F.held files.old) (F.held files.new) }
 {
     put_made(alloc, files, asked, new)?;
-    or_no_memory(told(alloc, asked))
+    or_no_memory(asked_ended(alloc, asked))
 }
 
 /// Appends the certificate that was made, if one was, to the file under the word.
@@ -158,7 +158,7 @@ fn put<F: Files>(
 }
 
 /// What is told of an answer.
-fn told(alloc: Global, asked: &Asked) -> Result<Ended, OutOfMemory>
+fn asked_ended(alloc: Global, asked: &Asked) -> Result<Ended, OutOfMemory>
     ensures { IfOk result (λ e. e ≡ told_ended (told_in asked.now)) }
 {
     let mut text = Bytes::new(alloc);

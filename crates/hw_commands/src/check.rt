@@ -265,7 +265,7 @@ fn answer<F: Files>(
 {
     match (checked, log) {
         (Checked::No(fault), _) => Ok(refused(alloc, *fault)?),
-        (Checked::Yes(_), None) => Ok(told(alloc, certificate, checked)?),
+        (Checked::Yes(_), None) => Ok(shown_ended(alloc, certificate, checked)?),
         (Checked::Yes(core), Some(log)) => audit_certified(
             alloc,
             files,
@@ -278,7 +278,7 @@ fn answer<F: Files>(
 }
 
 /// The certificate shows its block.
-fn told(alloc: Global, certificate: &Certificate, checked: &Checked) -> Result<Ended, OutOfMemory>
+fn shown_ended(alloc: Global, certificate: &Certificate, checked: &Checked) -> Result<Ended, OutOfMemory>
     requires { IfYes (IsCertified certificate.now) checked.now }
     ensures { IfOk result (λ e. e ≡ record { status = 0; text = checked_line certificate.now.block checked.now }) }
 {

@@ -38,7 +38,7 @@ pub fn mended<F: Files>(
     ensures files { IsTrue F.tells → IsRewrite mended_of log.now new.now (status_of result) (F.held files.old) (F.held files.new) }
 {
     match mend(alloc, files, log, new) {
-        Ok(count) => told(alloc, "mended ", count),
+        Ok(count) => count_ended(alloc, "mended ", count),
         Err(fault) => unwritten(alloc, log, new, fault),
     }
 }
@@ -58,13 +58,13 @@ pub fn migrated<F: Files>(
     ensures same { IsTrue F.tells → status_of result ≡ 0 → HoldsAnew (F.held files.old log.now) (F.held files.new new.now) }
 {
     match migrate(alloc, files, log, new) {
-        Ok(count) => told(alloc, "migrated ", count),
+        Ok(count) => count_ended(alloc, "migrated ", count),
         Err(fault) => unwritten(alloc, log, new, fault),
     }
 }
 
 /// The line of what was done.
-fn told(alloc: Global, words: &str, count: u64) -> Result<Ended, RunFault>
+fn count_ended(alloc: Global, words: &str, count: u64) -> Result<Ended, RunFault>
     ensures said { IfOk result (λ e. e ≡ record { status = 0; text = words.now ++ number_text count ++ line_feed }) }
     ensures fault { IfErr result (λ fault. fault ≡ RunFaults.OutOfMemory) }
 {

@@ -12,7 +12,7 @@ use Rattle.hw_commands.proofs.audit.audited.Goals as goal
 
 pub returns-in-Ok-clause-told : goal.returns-in-Ok-clause-told
 returns-in-Ok-clause-told c =
-    ok_so c.told.result c.told.ensures (λ e is same. record {
+    ok_so c.verdict_ended.result c.verdict_ended.ensures (λ e is same. record {
       one_config = one_config c.args.left.now.config c.args.right.now.config (subst ConfigInRange (c.config.ensures.config ∙ c.state.ensures.config) c.config_is_in_range.ensures)
           (subst ConfigInRange (c.config-2.ensures.config ∙ c.state-2.ensures.config) c.config_is_in_range-2.ensures)
           (config_fits c.args.left.now.config (subst (λ (g : Config). config_fault g ≡ None) c.state.ensures.config c.config.ensures.lawful))

@@ -10,18 +10,18 @@ use Rattle.hw_commands.proofs.rewrite.mended.Goals as goal
 pub returns-in-Ok-clause-said : goal.returns-in-Ok-clause-said
 returns-in-Ok-clause-said g c = λ tells.
     let held = g.F.Files.held c.args.files.now in
-    if_ok _ _ c.told.result c.told.ensures.said (λ e is. is ∙ ap (λ t. record { status = 0; text = t }) (mended_line c.in-Ok.count) ∙ sym (said_done mended_of (codes "mended") held c.args.log.now c.args.new.now c.in-Ok.count _ (c.in-Ok.ensures.done tells)))
+    if_ok _ _ c.count_ended.result c.count_ended.ensures.said (λ e is. is ∙ ap (λ t. record { status = 0; text = t }) (mended_line c.in-Ok.count) ∙ sym (said_done mended_of (codes "mended") held c.args.log.now c.args.new.now c.in-Ok.count _ (c.in-Ok.ensures.done tells)))
 
 pub returns-in-Ok-clause-fault : goal.returns-in-Ok-clause-fault
-returns-in-Ok-clause-fault g c = done_run c.in-Ok.count _ _ _ _ c.told.result c.in-Ok.ensures.cause c.told.ensures.fault
+returns-in-Ok-clause-fault g c = done_run c.in-Ok.count _ _ _ _ c.count_ended.result c.in-Ok.ensures.cause c.count_ended.ensures.fault
 
 pub returns-in-Ok-clause-about : goal.returns-in-Ok-clause-about
-returns-in-Ok-clause-about g c = λ tells. no_read _ c.told.result c.told.ensures.fault
+returns-in-Ok-clause-about g c = λ tells. no_read _ c.count_ended.result c.count_ended.ensures.fault
 
 pub returns-in-Ok-clause-files : goal.returns-in-Ok-clause-files
 returns-in-Ok-clause-files g c = λ tells.
-    done_files mended_of c.args.log.now c.args.new.now _ _ (c.in-Ok.ensures.others tells) c.in-Ok.count c.told.result (c.in-Ok.ensures.done tells)
-    (if_ok _ _ c.told.result c.told.ensures.said (λ e is. ap (λ (x : Ended). x.status) is)) c.told.ensures.fault
+    done_files mended_of c.args.log.now c.args.new.now _ _ (c.in-Ok.ensures.others tells) c.in-Ok.count c.count_ended.result (c.in-Ok.ensures.done tells)
+    (if_ok _ _ c.count_ended.result c.count_ended.ensures.said (λ e is. ap (λ (x : Ended). x.status) is)) c.count_ended.ensures.fault
 
 pub returns-in-Err-clause-said : goal.returns-in-Err-clause-said
 returns-in-Err-clause-said g c = λ tells.
