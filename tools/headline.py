@@ -22,14 +22,14 @@ MOST_DEFINITIONS, MOST_LINES = 400, 1250
 WIDTH = 120
 
 # What the clauses `said`, `text` and `line`, and `conflict`, cite.
-ROOTS = ("hw_program.Program.run_of", "hw_program.Conflict.ReportsConflict")
+ROOTS = ("hw_commands.Program.run_of", "hw_commands.Conflict.ReportsConflict")
 
 # Lines of definitions that tell all commands: those of the three, and where the words are no command.
 ONLY = {
-    "hw_program.Program.request_said": r" None = | \(Some \((Replay|Explain|Audit) ",
-    "hw_program.Commands.of_words": r" of_few command ",
-    "hw_program.Commands.of_few": r" None$| of_one | of_two ",
-    "hw_program.Commands.of_two": r'"audit"| None$',
+    "hw_commands.Program.request_said": r" None = | \(Some \((Replay|Explain|Audit) ",
+    "hw_commands.Commands.of_words": r" of_few command ",
+    "hw_commands.Commands.of_few": r" None$| of_one | of_two ",
+    "hw_commands.Commands.of_two": r'"audit"| None$',
 }
 
 
@@ -49,10 +49,10 @@ INSTEAD = {
         "hw_explain",
         ("hw_types.Decisions.AreDecisions", "hw_explain.Greatest.IsGreatestOf", "hw_explain.Greatest.explained_with"),
     ),
-    "hw_program.Audited.audit_ended": Instead(
+    "hw_commands.Audited.audit_ended": Instead(
         "an_audit_tells_the_verdict",
-        "hw_program",
-        ("hw_safety.Verdicts.IsVerdict", "hw_audit.First.ShowsFirstClash", "hw_program.Audited.verdict_ended"),
+        "hw_commands",
+        ("hw_safety.Verdicts.IsVerdict", "hw_audit.First.ShowsFirstClash", "hw_commands.Audited.verdict_ended"),
     ),
 }
 
