@@ -3,8 +3,10 @@
 
 mod usage;
 
-use hw_consumers::{BlockCount, ValueFile};
-use hw_host::{Announced, HostClock, HostDoor, HostSink, LogFile, NO_LIMIT, NodeFiles, ToldFiles};
+use hw_host::{
+    Announced, BlockCount, HostClock, HostDoor, HostSink, LogFile, NO_LIMIT, NodeFiles, ToldFiles,
+    ValueFile,
+};
 use hw_io::Consumer;
 use hw_program::{Command, OUT_OF_MEMORY, Request, Words, highway};
 use hw_types::OutOfMemory;

@@ -8,13 +8,13 @@ use Rattle.hw_audit.specs.Text.{audit_text}
 use Rattle.hw_eras.specs.declared.verdict.EraVerdict.{EraVerdict}
 use Rattle.hw_eras.specs.declared.verdict.EraVerdict.TheVariants as eras
 use Rattle.hw_eras.specs.EraAudit.{IsVerdictByEras, IsAccounted}
-use Rattle.hw_era_runs.specs.declared.audits.EraAudit.{EraAudit}
-use Rattle.hw_era_runs.specs.declared.stop.EraStop.{EraStop}
-use Rattle.hw_era_runs.specs.declared.stop.EraStop.TheVariants as stop
-use Rattle.hw_era_runs.specs.Stops.{StopsSo}
-use Rattle.hw_era_runs.specs.Logs.{Held, Stop, NoEra, Stopped, nodes_of}
-use Rattle.hw_era_runs.specs.Reports.{era_line}
-use Rattle.hw_era_runs.specs.Audits.{threshold_in, TellsVerdict, IsAuditOfLogs}
+use Rattle.hw_eras.specs.declared.audits.EraAudit.{EraAudit}
+use Rattle.hw_eras.specs.declared.stop.EraStop.{EraStop}
+use Rattle.hw_eras.specs.declared.stop.EraStop.TheVariants as stop
+use Rattle.hw_eras.specs.Stops.{StopsSo}
+use Rattle.hw_eras.specs.Logs.{Held, Stop, NoEra, Stopped, nodes_of}
+use Rattle.hw_eras.specs.Reports.{era_line}
+use Rattle.hw_eras.specs.Audits.{threshold_in, TellsVerdict, IsAuditOfLogs}
 use Rattle.hw_commands.specs.declared.ended.Ended.{Ended}
 use Rattle.hw_commands.specs.declared.ended.RunFault.{RunFault}
 use Rattle.hw_commands.specs.Commands.{Word, Request, EraAudit as AskEraAudit, request_of}

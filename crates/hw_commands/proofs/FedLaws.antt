@@ -10,13 +10,13 @@ use Rattle.hw_safety.specs.Chain.{Begins}
 use Rattle.hw_io.specs.Consumers.{Consumed, after_finish}
 use Rattle.hw_replay.specs.declared.fault.StartFault.{StartFault}
 use Rattle.hw_replay.specs.Midway.{midway, file_begun}
-use Rattle.hw_fanout.specs.declared.ending.Ending.{Ending}
-use Rattle.hw_fanout.specs.State.{FanoutState}
-use Rattle.hw_fanout.specs.Chain.{told_chain}
-use Rattle.hw_fanout.specs.Fates.{Sight, Fate, is_left, answer_of, AreServed}
-use Rattle.hw_fanout.specs.Told.{blocks_between, with_more, StopsAt, IsTold, IsFinished}
-use Rattle.hw_fanout.specs.Laws.{node_with}
-use Rattle.hw_fanout.proofs.GrowLaws.{only_grows}
+use Rattle.hw_replay.specs.declared.ending.Ending.{Ending}
+use Rattle.hw_replay.specs.State.{FanoutState}
+use Rattle.hw_replay.specs.Chain.{told_chain}
+use Rattle.hw_replay.specs.Fates.{Sight, Fate, is_left, answer_of, AreServed}
+use Rattle.hw_replay.specs.Told.{blocks_between, with_more, StopsAt, IsTold, IsFinished}
+use Rattle.hw_replay.specs.ToldLaws.{node_with}
+use Rattle.hw_replay.proofs.GrowLaws.{only_grows}
 use Rattle.hw_replay.specs.Feed.{Moment, moment, first_moment, IsPassed, ArePassed, AreFed, AreFedPart}
 use Rattle.hw_replay.proofs.FeedLaws.{none_told}
 use Rattle.hw_replay.proofs.MidwayLaws.{midway_leads}

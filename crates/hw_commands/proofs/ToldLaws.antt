@@ -7,8 +7,8 @@ use Rattle.hw_replay.specs.declared.fault.StartFault.TheVariants as start
 use Rattle.hw_replay.specs.declared.replay.Replay.{Replay}
 use Rattle.hw_replay.specs.Taken.{Taken}
 use Rattle.hw_replay.specs.Replay.{taken_in, IsOutside, Replays}
-use Rattle.hw_fanout.specs.declared.ending.Dropped.{Dropped}
-use Rattle.hw_fanout.specs.Fates.{Sight}
+use Rattle.hw_replay.specs.declared.ending.Dropped.{Dropped}
+use Rattle.hw_replay.specs.Fates.{Sight}
 use Rattle.hw_replay.specs.Feed.{file_replayed}
 use Rattle.hw_replay.specs.Lines.{drop_lines}
 use Rattle.hw_commands.specs.declared.ended.Ended.{Ended}

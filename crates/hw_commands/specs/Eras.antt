@@ -12,11 +12,11 @@ use Rattle.hw_replay.specs.Taken.{Taken}
 use Rattle.hw_replay.specs.Replay.{IsOutside}
 use Rattle.hw_eras.specs.Nodes.{first_config}
 use Rattle.hw_eras.specs.EraAudit.{AreAgreed}
-use Rattle.hw_era_runs.specs.declared.audits.EraAudit.{EraAudit}
-use Rattle.hw_era_runs.specs.declared.stop.EraStop.{EraStop}
-use Rattle.hw_era_runs.specs.declared.stop.EraStop.TheVariants as stop
-use Rattle.hw_era_runs.specs.Logs.{Held, Stop, NoEra, Stopped, eras_of, nodes_of}
-use Rattle.hw_era_runs.specs.Reports.{era_line}
+use Rattle.hw_eras.specs.declared.audits.EraAudit.{EraAudit}
+use Rattle.hw_eras.specs.declared.stop.EraStop.{EraStop}
+use Rattle.hw_eras.specs.declared.stop.EraStop.TheVariants as stop
+use Rattle.hw_eras.specs.Logs.{Held, Stop, NoEra, Stopped, eras_of, nodes_of}
+use Rattle.hw_eras.specs.Reports.{era_line}
 use Rattle.hw_commands.specs.declared.ended.Ended.{Ended}
 use Rattle.hw_commands.specs.Texts.{input_ended, stopped_ended}
 

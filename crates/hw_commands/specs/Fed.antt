@@ -8,11 +8,11 @@ use Rattle.hw_replay.specs.declared.fault.StartFault.{StartFault}
 use Rattle.hw_replay.specs.Taken.{Taken, rest_taken}
 use Rattle.hw_replay.specs.Replay.{IsOutside}
 use Rattle.hw_replay.specs.Midway.{file_begun}
-use Rattle.hw_fanout.specs.declared.ending.Dropped.{Dropped}
-use Rattle.hw_fanout.specs.State.{FanoutState}
-use Rattle.hw_fanout.specs.Chain.{told_chain}
-use Rattle.hw_fanout.specs.Fates.{Sight, AreServed}
-use Rattle.hw_fanout.specs.Told.{IsFinished}
+use Rattle.hw_replay.specs.declared.ending.Dropped.{Dropped}
+use Rattle.hw_replay.specs.State.{FanoutState}
+use Rattle.hw_replay.specs.Chain.{told_chain}
+use Rattle.hw_replay.specs.Fates.{Sight, AreServed}
+use Rattle.hw_replay.specs.Told.{IsFinished}
 use Rattle.hw_replay.specs.Feed.{moment, first_moment, AreFed, AreFedTo, file_replayed}
 use Rattle.hw_replay.specs.Lines.{drop_lines}
 use Rattle.hw_commands.specs.declared.ended.Ended.{Ended}

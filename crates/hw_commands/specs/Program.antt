@@ -30,8 +30,8 @@ use Rattle.hw_light.specs.Keys.{keys_of}
 use Rattle.hw_commands.specs.declared.ended.Ended.{Ended}
 use Rattle.hw_commands.specs.Texts.{usage_line, log_text, input_ended, read_fault_ended, stopped_ended}
 use Rattle.hw_script.specs.Output.{output_of}
-use Rattle.hw_era_runs.specs.Reports.{logs_reported}
-use Rattle.hw_era_runs.specs.Audits.{logs_audited}
+use Rattle.hw_eras.specs.Reports.{logs_reported}
+use Rattle.hw_eras.specs.Audits.{logs_audited}
 use Rattle.hw_commands.specs.Audited.{audit_ended}
 use Rattle.hw_commands.specs.Scripted.{script_ended}
 use Rattle.hw_commands.specs.Told.{told_ended, no_ended}

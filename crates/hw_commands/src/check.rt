@@ -278,7 +278,11 @@ fn answer<F: Files>(
 }
 
 /// The certificate shows its block.
-fn shown_ended(alloc: Global, certificate: &Certificate, checked: &Checked) -> Result<Ended, OutOfMemory>
+fn shown_ended(
+    alloc: Global,
+    certificate: &Certificate,
+    checked: &Checked,
+) -> Result<Ended, OutOfMemory>
     requires { IfYes (IsCertified certificate.now) checked.now }
     ensures { IfOk result (λ e. e ≡ record { status = 0; text = checked_line certificate.now.block checked.now }) }
 {

@@ -2,7 +2,7 @@
 
 ghost use Rattle.std.specs.Prelude.{◌≡◌, ℕ, ◌≤◌, ◌++◌, List, length, map, string_bytes, codes, Err, IsTrue, IfOk, IfErr};
 ghost use Rattle.hw_io.specs.Files.{SameFiles};
-ghost use Rattle.hw_era_runs.specs.Stops.{IsOfLogs, IsEraAbout, IsReadCounted as IsEraCounted};
+ghost use Rattle.hw_eras.specs.Stops.{IsOfLogs, IsEraAbout, IsReadCounted as IsEraCounted};
 ghost use Rattle.hw_commands.specs.Faults.{HasReadFault, IsReadCounted, FailsAmong, IsReadEnd, IsAuditEnd};
 ghost use Rattle.hw_commands.specs.Texts.{input_ended};
 ghost use Rattle.hw_commands.specs.Eras.{EndsBy, IsEraConflictOf};
@@ -11,7 +11,7 @@ ghost use Rattle.hw_commands.specs.declared.ended.RunFault.TheVariants as RunFau
 
 use crate::ended::{DONE, Ended, INPUT, RunFault};
 use crate::faults::{input, stopped};
-use hw_era_runs::{EraStop, report_logs};
+use hw_eras::{EraStop, report_logs};
 use hw_io::Files;
 use hw_text::{end_line, put_word};
 use hw_types::OutOfMemory;
@@ -57,7 +57,7 @@ pub fn audit_eras<F: Files>(
     ensures files { SameFiles (F.held files.old) (F.held files.new) }
     ensures appends { F.append_faults files.new ≡ F.append_faults files.old }
 {
-    match hw_era_runs::audit_logs(alloc, files, left, right) {
+    match hw_eras::audit_logs(alloc, files, left, right) {
         Ok(audit) => Ok(Ended {
             status: audit.status,
             text: audit.text,

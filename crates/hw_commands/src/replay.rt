@@ -4,8 +4,8 @@ ghost use Rattle.std.specs.Prelude.{◌≡◌, ◌≤◌, ◌++◌, None, length
 ghost use Rattle.hw_io.specs.Faults.{Rose};
 ghost use Rattle.hw_io.specs.Files.{SameFiles};
 ghost use Rattle.hw_replay.specs.Replay.{taken_in};
-ghost use Rattle.hw_fanout.specs.Fates.{seen, AreServed};
-ghost use Rattle.hw_fanout.specs.Told.{IsFinished};
+ghost use Rattle.hw_replay.specs.Fates.{seen, AreServed};
+ghost use Rattle.hw_replay.specs.Told.{IsFinished};
 ghost use Rattle.hw_replay.specs.Feed.{file_replayed};
 ghost use Rattle.hw_replay.specs.Lines.{drop_lines};
 ghost use Rattle.hw_commands.specs.Faults.{HasReadFault, IsReadEnd};
@@ -18,9 +18,8 @@ ghost use Rattle.hw_commands.specs.declared.ended.RunFault.TheVariants as RunFau
 use crate::ended::{DONE, Ended, RunFault};
 use crate::faults::stopped;
 use hw_explain::report;
-use hw_fanout::Fanout;
 use hw_io::{Consumer, Files};
-use hw_replay::{Replay, put_drops, replay_fed};
+use hw_replay::{Fanout, Replay, put_drops, replay_fed};
 use std::alloc::Global;
 
 /// Replays the log under this word, with the consumers as they were handed in, and says how the run ends.

@@ -4,7 +4,7 @@ ghost use Rattle.std.specs.Prelude.{◌≡◌, ◌≢◌, ℕ, ◌≤◌, None, 
 ghost use Rattle.hw_io.specs.Faults.{Rose};
 ghost use Rattle.hw_io.specs.Files.{SameFiles};
 ghost use Rattle.hw_io.specs.Sinks.{AppendsPrefix};
-ghost use Rattle.hw_fanout.specs.Fates.{seen};
+ghost use Rattle.hw_replay.specs.Fates.{seen};
 ghost use Rattle.hw_commands.specs.Commands.{request_of, OnlyReads};
 ghost use Rattle.hw_commands.specs.Asked.{asked, IsInRange};
 ghost use Rattle.hw_commands.specs.Texts.{usage_line, read_fault_line, append_fault_line, out_of_memory_line};

@@ -1,13 +1,15 @@
 //! The outside of the program on a real machine: files, standard output, the clock, and TCP.
 //!
 //! Each type keeps the contract of its trait in `hw_io` and tells no content. It stands apart, so that
-//! nothing below the program depends on how the machine is reached.
+//! nothing below the program depends on how the machine is reached. The program's two consumers are here too: the values
+//! of decided blocks go into a file, and their count onto an output.
 #![tactic(auto)]
 
 mod announced;
 mod appended;
 mod clock;
 mod complaints;
+mod count;
 mod door;
 mod files;
 mod hung;
@@ -17,13 +19,16 @@ mod patience;
 mod session;
 mod suspects;
 mod told_files;
+mod values;
 mod waiting;
 
 pub use announced::Announced;
 pub use clock::HostClock;
 pub use complaints::Voice;
+pub use count::BlockCount;
 pub use door::HostDoor;
 pub use files::{HostFiles, HostSink};
 pub use log::LogFile;
 pub use node_files::{NO_LIMIT, NodeFiles};
 pub use told_files::ToldFiles;
+pub use values::{BLOCKS_FILE, ValueFile};

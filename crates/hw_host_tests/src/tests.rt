@@ -1,5 +1,7 @@
-use hw_consumers::{BLOCKS_FILE, BlockCount, ValueFile};
-use hw_host::{HostClock, HostDoor, HostFiles, HostSink, LogFile, NodeFiles, Voice};
+use hw_host::{
+    BLOCKS_FILE, BlockCount, HostClock, HostDoor, HostFiles, HostSink, LogFile, NodeFiles,
+    ValueFile, Voice,
+};
 use hw_io::{Clock, Consumer, Door, DoorNumbers, Files, IoFault, MemSink, write_all};
 use std::alloc::AllocError;
 use std::fs::File;

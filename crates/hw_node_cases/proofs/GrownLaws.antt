@@ -3,14 +3,14 @@ use Rattle.std.proofs.Common.{◌≡◌, ◌≤◌, ◌+◌, ◌-◌, ℕ, List,
 use Rattle.std.specs.Prelude.{All, ◌⊎◌}
 use Rattle.std.specs.List.{range_with_len}
 use Rattle.std.proofs.lemmas.List.FromFn.{length-range_with_len}
-use Rattle.hw_fanout.specs.State.{FanoutState}
+use Rattle.hw_replay.specs.State.{FanoutState}
 use Rattle.hw_types.specs.Real.{CoreState}
 use Rattle.hw_io.specs.Consumers.{Consumed}
 use Rattle.hw_replay.specs.Replay.{GrowsByOne}
-use Rattle.hw_fanout.specs.Chain.{told_chain}
-use Rattle.hw_fanout.specs.Told.{HasTaken}
-use Rattle.hw_fanout.specs.Laws.{node_with}
-use Rattle.hw_fanout.proofs.GrowLaws.{only_grows, stays_taken}
+use Rattle.hw_replay.specs.Chain.{told_chain}
+use Rattle.hw_replay.specs.Told.{HasTaken}
+use Rattle.hw_replay.specs.ToldLaws.{node_with}
+use Rattle.hw_replay.proofs.GrowLaws.{only_grows, stays_taken}
 
 -- as many are told
 pub still_told : (c d : CoreState) (n : ℕ) → GrowsByOne c d → n ≤ length (told_chain c) → n ≤ length (told_chain d)

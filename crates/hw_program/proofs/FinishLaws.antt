@@ -6,9 +6,9 @@ use Rattle.hw_types.specs.declared.answers.Plan.{Plan}
 use Rattle.hw_io.specs.Consumers.{Consumed, after_finish}
 use Rattle.hw_session.specs.declared.fault.MakeFault.{MakeFault}
 use Rattle.hw_session.specs.declared.fault.MakeFault.TheVariants as make
-use Rattle.hw_fanout.specs.Chain.{told_chain}
-use Rattle.hw_fanout.specs.Fates.{Sight, Fate, answer_of}
-use Rattle.hw_fanout.specs.Told.{blocks_between, with_more, IsTold, IsFinished}
+use Rattle.hw_replay.specs.Chain.{told_chain}
+use Rattle.hw_replay.specs.Fates.{Sight, Fate, answer_of}
+use Rattle.hw_replay.specs.Told.{blocks_between, with_more, IsTold, IsFinished}
 use Rattle.hw_replay.specs.Feed.{Moment, IsPassed, ArePassed}
 use Rattle.hw_service.specs.declared.fault.ServiceFault.{ServiceFault}
 use Rattle.hw_service.specs.declared.ended.Served.{Served}
@@ -17,7 +17,7 @@ use Rattle.hw_service.specs.Begin.{Names}
 use Rattle.hw_service.specs.Steps.{Taken, AreTaken, TakesAll}
 use Rattle.hw_service.specs.Run.{StepOver, RunsWhole, Runs}
 use Rattle.hw_service.specs.Serve.{serves_session}
-use Rattle.hw_reunion.specs.Runs.{hosts_session, calls_peer}
+use Rattle.hw_service.specs.Runs.{hosts_session, calls_peer}
 use Rattle.hw_service.specs.Turns.{turning, TellsMade, DrivesSession, TakesTurn}
 use Rattle.hw_program.specs.Services.{Service, Serve, Run, Host, Meet}
 use Rattle.hw_program.specs.Served.{WereFinished, RunsAsAsked}

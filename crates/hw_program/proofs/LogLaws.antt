@@ -16,7 +16,7 @@ use Rattle.hw_session.specs.Sessions.{Leaves, ServesPeer, ServesNone}
 use Rattle.hw_session.specs.Drives.{LeavesDriven}
 use Rattle.hw_session.specs.Make.{Makes, WritesOwn}
 use Rattle.hw_session.specs.Start.{Starts, StartsLog}
-use Rattle.hw_fanout.specs.Fates.{Sight}
+use Rattle.hw_replay.specs.Fates.{Sight}
 use Rattle.hw_service.specs.declared.fault.ServiceFault.{ServiceFault}
 use Rattle.hw_service.specs.declared.fault.ServiceFault.TheVariants as fault
 use Rattle.hw_service.specs.declared.ended.Served.{Served}
@@ -30,8 +30,8 @@ use Rattle.hw_service.specs.Serve.{serves_session}
 use Rattle.hw_meeting_node.specs.declared.end.MeetEnd.{MeetEnd}
 use Rattle.hw_meeting_node.specs.declared.end.MeetEnd.TheVariants as meet
 use Rattle.hw_meeting_node.specs.declared.meeter.Side.{Side}
-use Rattle.hw_reunion.specs.Meets.{Leaves as LeavesMet, NodeMeets, NodeMeetsNone}
-use Rattle.hw_reunion.specs.Runs.{hosts_session, calls_peer}
+use Rattle.hw_service.specs.Meets.{Leaves as LeavesMet, NodeMeets, NodeMeetsNone}
+use Rattle.hw_service.specs.Runs.{hosts_session, calls_peer}
 use Rattle.hw_service.specs.Turns.{turning, MakesUnit, DrivesOne, DrivesSession, Turns, TakesTurn}
 use Rattle.hw_commands.specs.Program.{Held}
 use Rattle.hw_program.specs.Services.{Service, Serve, Run, Host, Meet, names_in}

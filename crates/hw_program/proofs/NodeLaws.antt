@@ -8,7 +8,7 @@ use Rattle.hw_io.specs.Sinks.{AppendsPrefix}
 use Rattle.hw_log.specs.declared.error.LogError.TheVariants as log
 use Rattle.hw_replay.specs.declared.fault.StartFault.{StartFault}
 use Rattle.hw_replay.specs.declared.fault.StartFault.TheVariants as start
-use Rattle.hw_fanout.specs.Fates.{Sight}
+use Rattle.hw_replay.specs.Fates.{Sight}
 use Rattle.hw_service.specs.declared.fault.ServiceFault.{ServiceFault}
 use Rattle.hw_service.specs.declared.fault.ServiceFault.TheVariants as fault
 use Rattle.hw_service.specs.declared.ended.Served.{Served}
@@ -17,7 +17,7 @@ use Rattle.hw_service.specs.Begin.{Names, file_settings, ReadsNot, Reads, fault_
 use Rattle.hw_service.specs.Begun.{IsAbout}
 use Rattle.hw_service.specs.Run.{StepOver, Runs}
 use Rattle.hw_service.specs.Serve.{serves_session}
-use Rattle.hw_reunion.specs.Runs.{hosts_session, calls_peer}
+use Rattle.hw_service.specs.Runs.{hosts_session, calls_peer}
 use Rattle.hw_service.specs.Turns.{turning, TakesTurn}
 use Rattle.hw_service.specs.Counts.{IsReadCounted, IsAppendCounted, IsWriteCounted, IsDoorCounted}
 use Rattle.hw_commands.specs.declared.ended.Ended.{Ended}

@@ -15,7 +15,7 @@ use Rattle.hw_session.specs.Node.{NodeState}
 use Rattle.hw_session.specs.Start.{Starts, IsUnmade}
 use Rattle.hw_session.specs.declared.fault.MakeFault.{MakeFault}
 use Rattle.hw_session.specs.declared.fault.MakeFault.TheVariants as make
-use Rattle.hw_fanout.specs.Fates.{Sight}
+use Rattle.hw_replay.specs.Fates.{Sight}
 use Rattle.hw_service.specs.declared.fault.ServiceFault.{ServiceFault}
 use Rattle.hw_service.specs.declared.fault.ServiceFault.TheVariants as fault
 use Rattle.hw_service.specs.declared.ended.Served.{Served}
@@ -28,7 +28,7 @@ use Rattle.hw_service.specs.Written.{IsOfOutput}
 use Rattle.hw_service.specs.Run.{StepOver, ReportsNot, RunsPart, Runs}
 use Rattle.hw_service.specs.Turns.{Turning, turning, TellsMade, DrivesSession, Turns, TakesTurn}
 use Rattle.hw_service.specs.Serve.{serves_session}
-use Rattle.hw_reunion.specs.Runs.{hosts_session, calls_peer}
+use Rattle.hw_service.specs.Runs.{hosts_session, calls_peer}
 use Rattle.hw_commands.specs.declared.ended.Ended.{Ended}
 use Rattle.hw_commands.specs.Program.{Held}
 use Rattle.hw_commands.specs.Texts.{append_fault_line, input_ended, limit_ended, clash_ended, stopped_ended}

@@ -10,7 +10,7 @@ use Rattle.hw_replay.specs.Taken.{Taken}
 use Rattle.hw_replay.specs.Replay.{replay_of}
 use Rattle.hw_text.specs.Text.{number_text}
 use Rattle.hw_light.specs.Texts.{limit_text}
-use Rattle.hw_fanout.specs.Fates.{Sight}
+use Rattle.hw_replay.specs.Fates.{Sight}
 use Rattle.hw_session.specs.declared.stage.PeerMark.{PeerMark}
 use Rattle.hw_service.specs.declared.fault.ServiceFault.{ServiceFault}
 use Rattle.hw_service.specs.declared.fault.ServiceFault.TheVariants as fault
@@ -22,7 +22,7 @@ use Rattle.hw_service.specs.Begun.{IsAbout}
 use Rattle.hw_service.specs.Counts.{IsReadCounted, IsAppendCounted, IsWriteCounted, IsDoorCounted, raised_by}
 use Rattle.hw_service.specs.Serve.{Serves}
 use Rattle.hw_service.specs.Turns.{turning, RunsTurns}
-use Rattle.hw_reunion.specs.Runs.{Hosts, Calls}
+use Rattle.hw_service.specs.Runs.{Hosts, Calls}
 use Rattle.hw_commands.specs.declared.ended.Ended.{Ended}
 use Rattle.hw_commands.specs.Commands.{Word}
 use Rattle.hw_commands.specs.Program.{Held}

@@ -1,7 +1,7 @@
 //! `host`: a node that meets peers that come, and then reports.
 
 ghost use Rattle.std.specs.Prelude.{◌≤◌, ℕ, List, Option};
-ghost use Rattle.hw_fanout.specs.Fates.{seen};
+ghost use Rattle.hw_replay.specs.Fates.{seen};
 ghost use Rattle.hw_service.specs.Scene.{door_seen};
 ghost use Rattle.hw_service.specs.Begin.{names_of};
 ghost use Rattle.hw_program.specs.Services.{Host};
@@ -9,8 +9,7 @@ ghost use Rattle.hw_program.specs.Served.{around, counts, output, RunsNode};
 
 use crate::ends::end_run;
 use hw_io::{Consumer, Door, Files, Sink};
-use hw_reunion::host;
-use hw_service::Sources;
+use hw_service::{Sources, host};
 use std::alloc::Global;
 
 /// Lets a node meet so many peers that come, one after the other, and answers the status. The address at which they

@@ -5,7 +5,7 @@
 //! The commands that are worked out from their words and what the files hold are hw_commands'. A run of a node isn't:
 //! what is written in it depends on sessions and moments.
 //! `specs/Services.antt` has its part of the grammar, and `specs/Served.antt` says what it comes to, by what a run of
-//! hw_service or hw_reunion comes to, and how it ends.
+//! hw_service comes to, and how it ends.
 #![tactic(auto)]
 
 mod ends;

@@ -1,7 +1,7 @@
 //! `meet`: a node that dials a peer, meets it, and then reports.
 
 ghost use Rattle.std.specs.Prelude.{◌≤◌, ℕ, List, Option, length};
-ghost use Rattle.hw_fanout.specs.Fates.{seen};
+ghost use Rattle.hw_replay.specs.Fates.{seen};
 ghost use Rattle.hw_service.specs.Scene.{door_seen};
 ghost use Rattle.hw_service.specs.Begin.{names_of};
 ghost use Rattle.hw_program.specs.Services.{Meet};
@@ -9,8 +9,7 @@ ghost use Rattle.hw_program.specs.Served.{around, counts, output, RunsNode};
 
 use crate::ends::end_run;
 use hw_io::{Consumer, Door, Files, Sink};
-use hw_reunion::meet;
-use hw_service::Sources;
+use hw_service::{Sources, meet};
 use std::alloc::Global;
 
 /// Lets a node dial the peer at this address and meet it, and answers the status.

@@ -3,7 +3,7 @@
 ghost use Rattle.std.specs.Prelude.{◌≡◌, ◌≢◌, None, Some, IsSome, IfSome, IsTrue, ◌⊎◌};
 ghost use Rattle.hw_io.specs.Faults.{Rose};
 ghost use Rattle.hw_io.specs.Files.{SameFiles};
-ghost use Rattle.hw_fanout.specs.Fates.{seen};
+ghost use Rattle.hw_replay.specs.Fates.{seen};
 ghost use Rattle.hw_service.specs.Scene.{door_seen};
 ghost use Rattle.hw_service.specs.Begun.{IsAbout};
 ghost use Rattle.hw_commands.specs.Commands.{request_of, OnlyReads, UsesFilesAlone};

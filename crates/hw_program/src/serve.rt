@@ -1,7 +1,7 @@
 //! `serve`: a node that serves sessions, and then reports.
 
 ghost use Rattle.std.specs.Prelude.{◌≤◌, ℕ, List, Option};
-ghost use Rattle.hw_fanout.specs.Fates.{seen};
+ghost use Rattle.hw_replay.specs.Fates.{seen};
 ghost use Rattle.hw_service.specs.Scene.{door_seen};
 ghost use Rattle.hw_service.specs.Begin.{names_of};
 ghost use Rattle.hw_program.specs.Services.{Serve};

@@ -16,12 +16,12 @@ use Rattle.hw_replay.specs.declared.fault.StartFault.{StartFault}
 use Rattle.hw_replay.specs.Replay.{GrowsByOne, Leads}
 use Rattle.hw_replay.specs.Midway.{Midway, midway, file_begun, ComesTo}
 use Rattle.hw_replay.specs.Ends.{LeadsLasts}
-use Rattle.hw_fanout.specs.State.{FanoutState}
-use Rattle.hw_fanout.specs.Chain.{told_chain}
-use Rattle.hw_fanout.specs.Told.{HasTaken}
-use Rattle.hw_fanout.specs.Laws.{node_with}
-use Rattle.hw_fanout.proofs.GrowLaws.{only_grows, stays_taken}
-use Rattle.hw_fanout.specs.Fates.{Sight}
+use Rattle.hw_replay.specs.State.{FanoutState}
+use Rattle.hw_replay.specs.Chain.{told_chain}
+use Rattle.hw_replay.specs.Told.{HasTaken}
+use Rattle.hw_replay.specs.ToldLaws.{node_with}
+use Rattle.hw_replay.proofs.GrowLaws.{only_grows, stays_taken}
+use Rattle.hw_replay.specs.Fates.{Sight}
 use Rattle.hw_replay.specs.Feed.{Moment, moment, first_moment, IsPassed, ArePassed, AreFed, AreFedUntil, AreFedTo, file_replayed}
 use Rattle.hw_replay.proofs.MidwayLaws.{midway_leads}
 

@@ -9,3 +9,8 @@ pub mod EndLaws
 pub mod MidwayLaws
 pub mod FeedLaws
 pub mod LineLaws
+pub mod Serving
+pub mod TellingLaws
+pub mod ValueLaws
+pub mod ChainLaws
+pub mod GrowLaws

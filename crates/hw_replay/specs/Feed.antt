@@ -11,10 +11,10 @@ use Rattle.hw_replay.specs.declared.fault.StartFault.TheVariants as fault
 use Rattle.hw_replay.specs.Taken.{Taken, nothing_taken, rest_taken}
 use Rattle.hw_replay.specs.Replay.{replay_of, IsOutside, Stops}
 use Rattle.hw_replay.specs.Midway.{Midway, midway, next_taken, ComesTo}
-use Rattle.hw_fanout.specs.State.{FanoutState}
-use Rattle.hw_fanout.specs.Chain.{told_chain}
-use Rattle.hw_fanout.specs.Fates.{Sight, AreServed}
-use Rattle.hw_fanout.specs.Told.{IsTold}
+use Rattle.hw_replay.specs.State.{FanoutState}
+use Rattle.hw_replay.specs.Chain.{told_chain}
+use Rattle.hw_replay.specs.Fates.{Sight, AreServed}
+use Rattle.hw_replay.specs.Told.{IsTold}
 
 -- a node at a moment, the consumers that are left then, and what is kept of them
 pub record Moment (B : Type 0) : Type 0 where

@@ -8,3 +8,8 @@ pub mod Ends
 pub mod Laws
 pub mod Feed
 pub mod Lines
+pub mod Fates
+pub mod Told
+pub mod State
+pub mod Chain
+pub mod ToldLaws

@@ -5,7 +5,7 @@ use Rattle.hw_io.specs.declared.outside.IoFault.{IoFault}
 use Rattle.hw_io.specs.declared.outside.IoFault.TheVariants.{Failed, OutOfMemory}
 use Rattle.hw_text.specs.Text.{number_text}
 use Rattle.hw_text.specs.Lines.{line_of}
-use Rattle.hw_fanout.specs.declared.ending.Dropped.{Dropped}
+use Rattle.hw_replay.specs.declared.ending.Dropped.{Dropped}
 
 -- what it answered
 abbrev pub fault_words : IoFault → List ℕ

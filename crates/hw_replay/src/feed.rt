@@ -8,14 +8,13 @@ ghost use Rattle.hw_replay.specs.Replay.{is_wanted, taken_in, ahead_in, TakesAll
 ghost use Rattle.hw_replay.specs.Causes.{HasReplayCause, IsReplayAbout};
 ghost use Rattle.hw_replay.specs.Steps.{HasRoom};
 ghost use Rattle.hw_replay.specs.Ends.{lasts_of_file, lasts_ahead, IsReached};
-ghost use Rattle.hw_fanout.specs.Fates.{seen};
-ghost use Rattle.hw_fanout.specs.Chain.{told_chain};
-ghost use Rattle.hw_fanout.specs.Told.{HasTaken};
+ghost use Rattle.hw_replay.specs.Fates.{seen};
+ghost use Rattle.hw_replay.specs.Chain.{told_chain};
+ghost use Rattle.hw_replay.specs.Told.{HasTaken};
 ghost use Rattle.hw_replay.specs.Midway.{midway_in, file_begun};
 ghost use Rattle.hw_replay.specs.Feed.{moment, first_moment, AreFed, AreFedSome, AreFedTo, AreFedPart, file_replayed};
 
-use crate::{Replay, StartFault};
-use hw_fanout::Fanout;
+use crate::{Fanout, Replay, StartFault};
 use hw_io::{Consumer, Files};
 use hw_types::Config;
 use std::alloc::Global;

@@ -4,7 +4,7 @@ ghost use Rattle.std.specs.Prelude.{◌≡◌, ◌++◌, OnOk, OnErr};
 ghost use Rattle.hw_text.specs.Lines.{AddsFront};
 ghost use Rattle.hw_replay.specs.Lines.{fault_words, place_word, drop_line, drop_lines};
 
-use hw_fanout::Fanout;
+use crate::Fanout;
 use hw_io::IoFault;
 use hw_text::{end_line, put_number, put_numbered, put_word};
 use hw_types::{Bytes, OutOfMemory};

@@ -1,8 +1,8 @@
 -- What consumers took behind each step of a run.
 use Rattle.std.proofs.Common.{◌≡◌, ◌⊎◌, ℕ, ◌+◌, Bool, List, [], ◌∷◌, length, Option, Some, None, Result, Ok, Err, sym, subst, inl, inr}
 use Rattle.hw_types.specs.declared.answers.Plan.{Plan}
-use Rattle.hw_fanout.specs.Fates.{Sight}
-use Rattle.hw_fanout.specs.Chain.{told_chain}
+use Rattle.hw_replay.specs.Fates.{Sight}
+use Rattle.hw_replay.specs.Chain.{told_chain}
 use Rattle.hw_replay.specs.Feed.{moment}
 use Rattle.hw_session.specs.declared.fault.MakeFault.{MakeFault}
 use Rattle.hw_session.specs.declared.fault.MakeFault.TheVariants as make
@@ -17,7 +17,7 @@ use Rattle.hw_service.specs.Serve.{serves_session}
 use Rattle.hw_service.specs.Turns.{TellsMade, MakesUnit, DrivesSession, Turns, TakesTurn}
 use Rattle.hw_service.proofs.DriveLaws.{makes_grows}
 use Rattle.hw_service.proofs.CloseLaws.{still_whole}
-use Rattle.hw_reunion.specs.Runs.{hosts_session, calls_peer}
+use Rattle.hw_service.specs.Runs.{hosts_session, calls_peer}
 use Rattle.hw_run_laws.specs.Prefixes.{TookUntil, CutRuns, CutServices, CutTurns, CutHosts, CutCalls}
 use Rattle.hw_run_laws.proofs.PassedLaws.{IsGood, good_first, good_grown, good_passed, good_fed}
 

@@ -2,9 +2,9 @@
 -- Source: ours.
 use Rattle.std.specs.Prelude.{◌≡◌, ◌⊎◌, ℕ, Bool, IsTrue, List, [], All, Option, Some, None, Result}
 use Rattle.hw_types.specs.Real.{CoreState}
-use Rattle.hw_fanout.specs.State.{FanoutState}
-use Rattle.hw_fanout.specs.Fates.{Sight}
-use Rattle.hw_fanout.specs.Told.{HasTaken}
+use Rattle.hw_replay.specs.State.{FanoutState}
+use Rattle.hw_replay.specs.Fates.{Sight}
+use Rattle.hw_replay.specs.Told.{HasTaken}
 use Rattle.hw_replay.specs.declared.fault.StartFault.{StartFault}
 use Rattle.hw_replay.specs.Taken.{Taken}
 use Rattle.hw_replay.specs.Replay.{IsOutside}
@@ -16,7 +16,7 @@ use Rattle.hw_service.specs.Begin.{Names}
 use Rattle.hw_service.specs.Run.{StepOver, HaveTaken, StopsAtStep, StopsAtReport, RunsPart}
 use Rattle.hw_service.specs.Serve.{serves_session}
 use Rattle.hw_service.specs.Turns.{TakesTurn}
-use Rattle.hw_reunion.specs.Runs.{hosts_session, calls_peer}
+use Rattle.hw_service.specs.Runs.{hosts_session, calls_peer}
 
 -- these consumers have taken nothing
 abbrev pub HaveNothing : {B K : Type 0} → Sight B K → List B → Type 0

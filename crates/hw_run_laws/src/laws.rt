@@ -1,6 +1,6 @@
 //! The laws.
 
-ghost use Rattle.hw_fanout.specs.Fates.{Sight};
+ghost use Rattle.hw_replay.specs.Fates.{Sight};
 ghost use Rattle.hw_run_laws.specs.Calls.{CallsKeepOneLine, AttemptsKeepOneLine, AttemptsSayNoNew, CallsKeepApart, CutLogIsMended};
 ghost use Rattle.hw_run_laws.specs.Complete.{ServesAreComplete, DrivesAreComplete};
 ghost use Rattle.hw_run_laws.specs.Restart.{ServedIsALife, DrivenIsALife, ServesIsALife, DrivesIsALife, ServesKeepsLog, DrivesKeepsLog, ServesLeavesLog, DrivesLeavesLog, MakeLeavesLog, ServedSaysOfLog, DrivenSaysOfLog, ServesSaysOfLog, DrivesSaysOfLog};

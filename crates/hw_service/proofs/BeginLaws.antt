@@ -13,10 +13,10 @@ use Rattle.hw_log.specs.declared.error.LogError.TheVariants as log
 use Rattle.hw_replay.specs.Taken.{Taken}
 use Rattle.hw_replay.specs.declared.fault.StartFault.{StartFault}
 use Rattle.hw_replay.specs.declared.fault.StartFault.TheVariants as start
-use Rattle.hw_fanout.specs.State.{FanoutState}
-use Rattle.hw_fanout.specs.Fates.{Sight}
-use Rattle.hw_fanout.specs.Chain.{told_chain}
-use Rattle.hw_fanout.specs.Told.{HasTaken}
+use Rattle.hw_replay.specs.State.{FanoutState}
+use Rattle.hw_replay.specs.Fates.{Sight}
+use Rattle.hw_replay.specs.Chain.{told_chain}
+use Rattle.hw_replay.specs.Told.{HasTaken}
 use Rattle.hw_replay.specs.Midway.{Midway, file_begun}
 use Rattle.hw_replay.specs.Feed.{Moment, moment, first_moment, ArePassed, AreFed, AreFedSome, AreFedPart, file_replayed}
 use Rattle.hw_replay.proofs.FeedLaws.{fed_none, none_told as nothing_told}

@@ -4,10 +4,10 @@ use Rattle.std.proofs.Common.{◌≡◌, ℕ, List, [], ◌∷◌, map, cond, is
 use Rattle.std.specs.Option.{option_map}
 use Rattle.std.proofs.lemmas.List.Elements.{All-nil, All-cons, All-head, All-tail}
 use Rattle.hw_io.specs.Consumers.{Consumed, after_finish}
-use Rattle.hw_fanout.specs.declared.ending.Ending.{Ending}
-use Rattle.hw_fanout.specs.State.{FanoutState}
-use Rattle.hw_fanout.specs.Fates.{Sight, Fate, is_left, AreServed, answer_of}
-use Rattle.hw_fanout.specs.Told.{HasTaken, IsFinished}
+use Rattle.hw_replay.specs.declared.ending.Ending.{Ending}
+use Rattle.hw_replay.specs.State.{FanoutState}
+use Rattle.hw_replay.specs.Fates.{Sight, Fate, is_left, AreServed, answer_of}
+use Rattle.hw_replay.specs.Told.{HasTaken, IsFinished}
 
 taken_same : (chain : List (ℕ × List ℕ)) (n : ℕ) (ended : Option Ending) (before after : Option Consumed) → HasTaken chain n before → after ≡ option_map (after_finish (answer_of ended)) before → HasTaken chain n after
 taken_same chain n ended None after h e = let P : Option Consumed → Type 0 = HasTaken chain n in subst P (sym e) tt

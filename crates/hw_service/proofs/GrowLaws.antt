@@ -14,13 +14,13 @@ use Rattle.hw_types.specs.Spelling.{instance_of}
 use Rattle.hw_types.specs.Real.{CoreState}
 use Rattle.hw_io.specs.Consumers.{Consumed}
 use Rattle.hw_io.specs.Doors.{Session}
-use Rattle.hw_fanout.specs.Chain.{told_chain}
-use Rattle.hw_fanout.specs.State.{FanoutState}
-use Rattle.hw_fanout.specs.Fates.{Sight, AreServed}
-use Rattle.hw_fanout.specs.Told.{HasTaken, IsTold}
+use Rattle.hw_replay.specs.Chain.{told_chain}
+use Rattle.hw_replay.specs.State.{FanoutState}
+use Rattle.hw_replay.specs.Fates.{Sight, AreServed}
+use Rattle.hw_replay.specs.Told.{HasTaken, IsTold}
 use Rattle.hw_replay.specs.Feed.{moment, IsPassed}
-use Rattle.hw_fanout.specs.Laws.{node_with}
-use Rattle.hw_fanout.proofs.GrowLaws.{only_grows, stays_taken}
+use Rattle.hw_replay.specs.ToldLaws.{node_with}
+use Rattle.hw_replay.proofs.GrowLaws.{only_grows, stays_taken}
 use Rattle.hw_link.specs.declared.end.SessionEnd.{SessionEnd}
 use Rattle.hw_link.specs.declared.end.SessionEnd.TheVariants as end
 use Rattle.hw_link.specs.Frames.{Placed, frames_of}

@@ -9,3 +9,6 @@ pub mod RunLaws
 pub mod DriveLaws
 pub mod TurnLaws
 pub mod OwnLaws
+pub mod EndLaws
+pub mod MeetingLaws
+pub mod NodeLaws

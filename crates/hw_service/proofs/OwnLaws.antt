@@ -2,7 +2,7 @@
 use Rattle.std.specs.Prelude.{IfErr, OnOk}
 use Rattle.std.proofs.Common.{◌≡◌, ℕ, Bool, subst, inr, length, List, Option, None, Result, Ok, Err}
 use Rattle.hw_types.specs.declared.answers.Plan.{Plan}
-use Rattle.hw_fanout.specs.Fates.{Sight}
+use Rattle.hw_replay.specs.Fates.{Sight}
 use Rattle.hw_replay.specs.Feed.{IsPassed}
 use Rattle.hw_service.specs.declared.fault.ServiceFault.{ServiceFault}
 use Rattle.hw_service.specs.declared.peer.Peer.{Peer}

@@ -2,7 +2,7 @@
 use Rattle.std.specs.Prelude.{OnOk}
 use Rattle.std.proofs.Common.{◌≡◌, ◌⊎◌, ℕ, zero, suc, ◌+◌, ◌*◌, Bool, List, [], ◌∷◌, length, Some, Result, Ok, Err, inl, inr, refl, sym, ap, subst, ◌∙◌, arith}
 use Rattle.std.proofs.lemmas.List.{length-set}
-use Rattle.hw_fanout.specs.Fates.{Sight}
+use Rattle.hw_replay.specs.Fates.{Sight}
 use Rattle.hw_service.specs.declared.fault.ServiceFault.{ServiceFault}
 use Rattle.hw_service.specs.declared.ended.Served.{Served}
 use Rattle.hw_service.specs.declared.peer.Peer.{Peer}

@@ -10,8 +10,8 @@ use Rattle.hw_keys.specs.Keys.{IsTextOf, IsFirstFault}
 use Rattle.hw_log.specs.declared.error.LogError.TheVariants as log
 use Rattle.hw_replay.specs.declared.fault.StartFault.{StartFault}
 use Rattle.hw_replay.specs.declared.fault.StartFault.TheVariants as start
-use Rattle.hw_fanout.specs.State.{FanoutState}
-use Rattle.hw_fanout.specs.Fates.{Sight}
+use Rattle.hw_replay.specs.State.{FanoutState}
+use Rattle.hw_replay.specs.Fates.{Sight}
 use Rattle.hw_replay.specs.Midway.{file_begun}
 use Rattle.hw_replay.specs.Feed.{moment, AreFed, AreFedSome, AreFedPart, file_replayed}
 use Rattle.hw_session.specs.Start.{Starts, StartsLog}

@@ -1,7 +1,7 @@
 -- A node that holds sessions with peers, one after the other, and then reports.
 -- Source: ours.
 use Rattle.std.specs.Prelude.{ℕ, Bool, List, None, Result}
-use Rattle.hw_fanout.specs.Fates.{Sight}
+use Rattle.hw_replay.specs.Fates.{Sight}
 use Rattle.hw_service.specs.declared.fault.ServiceFault.{ServiceFault}
 use Rattle.hw_service.specs.declared.ended.Served.{Served}
 use Rattle.hw_service.specs.Scene.{Outside}

@@ -13,3 +13,7 @@ pub mod Written
 pub mod Turns
 pub mod Environs
 pub mod Loans
+pub mod Ends
+pub mod Runs
+pub mod Taker
+pub mod Meets

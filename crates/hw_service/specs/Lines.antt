@@ -6,7 +6,7 @@ use Rattle.hw_text.specs.Lines.{line_of}
 use Rattle.hw_link.specs.declared.end.SessionEnd.{SessionEnd}
 use Rattle.hw_link.specs.declared.end.SessionEnd.TheVariants as end
 use Rattle.hw_explain.specs.Report.{report_text}
-use Rattle.hw_fanout.specs.State.{FanoutState}
+use Rattle.hw_replay.specs.State.{FanoutState}
 use Rattle.hw_replay.specs.Lines.{drop_lines}
 use Rattle.hw_session.specs.Node.{NodeState}
 

@@ -4,10 +4,10 @@ use Rattle.std.specs.Prelude.{◌≡◌, ◌⊎◌, ℕ, Bool, List, [], length,
 use Rattle.std.specs.Io.KnownBytes.{Appends}
 use Rattle.hw_io.specs.Sinks.{AppendsPrefix}
 use Rattle.hw_types.specs.Real.{CoreState}
-use Rattle.hw_fanout.specs.State.{FanoutState}
-use Rattle.hw_fanout.specs.Fates.{Sight, AreServed}
-use Rattle.hw_fanout.specs.Chain.{told_chain}
-use Rattle.hw_fanout.specs.Told.{HasTaken, IsFinished}
+use Rattle.hw_replay.specs.State.{FanoutState}
+use Rattle.hw_replay.specs.Fates.{Sight, AreServed}
+use Rattle.hw_replay.specs.Chain.{told_chain}
+use Rattle.hw_replay.specs.Told.{HasTaken, IsFinished}
 use Rattle.hw_service.specs.declared.fault.ServiceFault.{ServiceFault}
 use Rattle.hw_service.specs.declared.fault.ServiceFault.TheVariants as fault
 use Rattle.hw_service.specs.declared.ended.Served.{Served}

@@ -7,9 +7,9 @@ use Rattle.hw_io.specs.declared.outside.Sink.{Ghosts as Sink}
 use Rattle.hw_io.specs.declared.outside.Door.{Ghosts as Door}
 use Rattle.hw_io.specs.declared.outside.Consumer.{Ghosts as Consumer}
 use Rattle.hw_io.specs.Doors.{Session}
-use Rattle.hw_fanout.specs.State.{FanoutState}
-use Rattle.hw_fanout.specs.Chain.{told_chain}
-use Rattle.hw_fanout.specs.Fates.{Sight, seen}
+use Rattle.hw_replay.specs.State.{FanoutState}
+use Rattle.hw_replay.specs.Chain.{told_chain}
+use Rattle.hw_replay.specs.Fates.{Sight, seen}
 use Rattle.hw_replay.specs.Feed.{Moment, moment}
 use Rattle.hw_session.specs.Node.{NodeState}
 

@@ -5,7 +5,7 @@ use Rattle.std.specs.Io.KnownBytes.{Appends}
 use Rattle.hw_io.specs.Sinks.{AppendsPrefix}
 use Rattle.hw_link.specs.declared.end.SessionEnd.{SessionEnd}
 use Rattle.hw_link.specs.declared.end.SessionEnd.TheVariants as end
-use Rattle.hw_fanout.specs.Fates.{Sight}
+use Rattle.hw_replay.specs.Fates.{Sight}
 use Rattle.hw_replay.specs.Feed.{IsPassed}
 use Rattle.hw_session.specs.Node.{NodeState}
 use Rattle.hw_service.specs.declared.fault.ServiceFault.{ServiceFault}

@@ -12,7 +12,7 @@ use Rattle.hw_io.specs.Faults.{raised}
 use Rattle.hw_io.specs.Moments.{GivesMoment}
 use Rattle.hw_honest.specs.Cluster.{value_at}
 use Rattle.hw_link.specs.declared.end.SessionEnd.{SessionEnd}
-use Rattle.hw_fanout.specs.Fates.{Sight}
+use Rattle.hw_replay.specs.Fates.{Sight}
 use Rattle.hw_replay.specs.Feed.{IsPassed}
 use Rattle.hw_session.specs.declared.fault.MakeFault.{MakeFault}
 use Rattle.hw_session.specs.declared.fault.MakeFault.TheVariants as make

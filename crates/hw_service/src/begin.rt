@@ -6,8 +6,8 @@ ghost use Rattle.hw_types.specs.Limits.{config_fault};
 ghost use Rattle.hw_core.specs.Promises.{begun};
 ghost use Rattle.hw_io.specs.Files.{SameFiles};
 ghost use Rattle.hw_replay.specs.declared.fault.StartFault.TheVariants as start;
-ghost use Rattle.hw_fanout.specs.Chain.{told_chain};
-ghost use Rattle.hw_fanout.specs.Told.{HasTaken};
+ghost use Rattle.hw_replay.specs.Chain.{told_chain};
+ghost use Rattle.hw_replay.specs.Told.{HasTaken};
 ghost use Rattle.hw_replay.specs.Midway.{file_begun};
 ghost use Rattle.hw_replay.specs.Feed.{moment, AreFed, AreFedSome, AreFedPart, file_replayed};
 ghost use Rattle.hw_session.specs.Start.{Starts, StartsThere, StartsLog, HasStartCause, IsReadOfLog};
@@ -20,11 +20,10 @@ ghost use Rattle.hw_service.specs.declared.fault.ServiceFault.TheVariants as fau
 
 use crate::fault::ServiceFault;
 use crate::host::Host;
-use hw_fanout::Fanout;
 use hw_io::{Consumer, Files, IoFault};
 use hw_keys::{Keys, KeysFault};
 use hw_log::{LogError, read_file};
-use hw_replay::{StartFault, replay_fed};
+use hw_replay::{Fanout, StartFault, replay_fed};
 use hw_session::Node;
 use hw_settings::{SettingsFault, read_settings};
 use hw_types::{Bytes, Config, OutOfMemory};

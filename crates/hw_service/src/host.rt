@@ -1,6 +1,6 @@
 //! A node that runs.
 
-use hw_fanout::Fanout;
+use hw_replay::Fanout;
 use hw_session::Node;
 
 /// A node, and what is kept of its consumers.

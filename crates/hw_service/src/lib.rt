@@ -1,20 +1,26 @@
-//! What a node does that runs: it starts, serves sessions one after the other, and reports.
+//! What a node does that runs: it starts, serves sessions or meets others one after the other, and reports.
 //!
-//! What happens is told as it happens: after each session the consumers are passed what is decided now, and
-//! then the line of the session is written.
+//! In a session a peer is served, or a peer is dialled and answers. In a meeting two nodes that were apart tell each
+//! other what they have of each validator, and each sends what the other lacks. What happens is told as it happens:
+//! after each of them the consumers are passed what is decided now, and then its line is written.
 #![tactic(auto)]
 
 mod begin;
 mod close;
+mod end;
 mod ended;
 mod environment;
 mod fault;
 mod host;
+mod hosting;
 mod lines;
+mod meeting;
+mod node_meet;
 mod own;
 mod peer;
 mod serving;
 mod sessions;
+mod taker;
 mod talk;
 mod turns;
 
@@ -22,8 +28,12 @@ pub use begin::Sources;
 pub use ended::Served;
 pub use environment::Environment;
 pub use fault::ServiceFault;
+pub use hosting::host;
+pub use meeting::meet;
+pub use node_meet::{host_node, meet_node};
 pub use peer::Peer;
 pub use serving::serve;
 pub use sessions::{Sessions, hold_sessions};
+pub use taker::NodeTaker;
 pub use talk::Talk;
 pub use turns::run;

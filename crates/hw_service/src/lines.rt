@@ -10,9 +10,8 @@ ghost use Rattle.hw_service.specs.Written.{IsOfOutput, Writes, TellsClash};
 
 use crate::fault::ServiceFault;
 use hw_explain::report;
-use hw_fanout::Fanout;
 use hw_io::{IoFault, Sink, write_all};
-use hw_replay::put_drops;
+use hw_replay::{Fanout, put_drops};
 use hw_session::{ClashUnits, Node, SessionEnd};
 use hw_text::{end_line, put_numbered, put_word};
 use hw_types::{Bytes, OutOfMemory};

@@ -6,8 +6,7 @@ use crate::session::outside::{Moments, Outside, consumer_of};
 use hw_case_words::Answer;
 use hw_io::Consumer;
 use hw_replay::StartFault;
-use hw_reunion::{host, meet};
-use hw_service::{Environment, Peer, Served, ServiceFault, Sources, run, serve};
+use hw_service::{Environment, Peer, Served, ServiceFault, Sources, host, meet, run, serve};
 use std::alloc::Global;
 
 /// The files of a node.

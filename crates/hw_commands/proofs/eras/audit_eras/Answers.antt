@@ -1,6 +1,6 @@
 use Rattle.std.proofs.Common.{refl, sym, ap}
 use Rattle.std.specs.Prelude.{map, string_bytes}
-use Rattle.hw_era_runs.specs.Audits.{logs_audited}
+use Rattle.hw_eras.specs.Audits.{logs_audited}
 use Rattle.hw_commands.specs.declared.ended.Ended.{Ended}
 use Rattle.hw_commands.specs.Eras.{era_audit_ended, IsEraConflictOf}
 use Rattle.hw_commands.proofs.EraLaws.{ends_so, stopped_untold, era_conflict}

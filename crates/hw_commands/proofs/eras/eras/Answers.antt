@@ -1,6 +1,6 @@
 use Rattle.std.proofs.Common.{refl, sym, ap}
 use Rattle.std.specs.Prelude.{map, string_bytes}
-use Rattle.hw_era_runs.specs.Reports.{logs_reported}
+use Rattle.hw_eras.specs.Reports.{logs_reported}
 use Rattle.hw_commands.specs.Eras.{eras_ended}
 use Rattle.hw_commands.proofs.EraLaws.{ends_so}
 use Rattle.hw_commands.proofs.eras.eras.Goals as goal

@@ -1,6 +1,6 @@
 use Rattle.std.proofs.Common.{codes, Err, inl, inr, ap, subst, ◌∙◌}
-use Rattle.hw_era_runs.specs.declared.stop.EraStop.{EraStop}
-use Rattle.hw_era_runs.specs.Stops.{IsReadCounted}
+use Rattle.hw_eras.specs.declared.stop.EraStop.{EraStop}
+use Rattle.hw_eras.specs.Stops.{IsReadCounted}
 use Rattle.hw_commands.specs.declared.ended.Ended.{Ended}
 use Rattle.hw_commands.proofs.FaultLaws.{input_status}
 use Rattle.hw_commands.proofs.eras.logs_stopped.Goals as goal

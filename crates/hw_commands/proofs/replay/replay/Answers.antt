@@ -2,7 +2,7 @@ use Rattle.std.proofs.Common.{None, refl}
 use Rattle.hw_commands.specs.Program.{done, report_of}
 use Rattle.hw_commands.proofs.DueLaws.{log_due, due_fails}
 use Rattle.std.proofs.lemmas.Result.{err_from_is_err_and}
-use Rattle.hw_fanout.specs.Fates.{seen}
+use Rattle.hw_replay.specs.Fates.{seen}
 use Rattle.hw_commands.proofs.ToldLaws.{untold}
 use Rattle.hw_commands.proofs.replay.replay.Goals as goal
 

@@ -1,8 +1,8 @@
 use Rattle.std.proofs.Common.{length, ap, ◌∙◌, ◌≡◌, arith}
 use Rattle.std.proofs.lemmas.List.FromFn.{length-range_with_len}
 use Rattle.hw_replay.specs.Replay.{taken_in}
-use Rattle.hw_fanout.specs.State.{FanoutState}
-use Rattle.hw_fanout.specs.Fates.{seen}
+use Rattle.hw_replay.specs.State.{FanoutState}
+use Rattle.hw_replay.specs.Fates.{seen}
 use Rattle.hw_commands.proofs.FedLaws.{told_all, told_some}
 use Rattle.hw_commands.proofs.ToldLaws.{of_replay, reported_text, reported_told, stopped_text, stopped_told}
 use Rattle.hw_commands.proofs.replay.replay_told.Goals as goal

@@ -1,6 +1,6 @@
 use Rattle.std.proofs.Common.{◌≡◌, Err, refl, inl, inr}
 use Rattle.std.specs.Prelude.{map, string_bytes}
-use Rattle.hw_fanout.specs.Fates.{seen}
+use Rattle.hw_replay.specs.Fates.{seen}
 use Rattle.hw_service.specs.Begin.{names_of}
 use Rattle.hw_service.specs.declared.fault.ServiceFault.TheVariants as fault
 use Rattle.hw_program.specs.Services.{Run}

@@ -1,5 +1,5 @@
 use Rattle.std.proofs.Common.{refl}
-use Rattle.hw_fanout.specs.Fates.{seen}
+use Rattle.hw_replay.specs.Fates.{seen}
 use Rattle.hw_service.specs.Begin.{names_of}
 use Rattle.hw_program.specs.Services.{Serve}
 use Rattle.hw_program.proofs.CallLaws.{with_rest}

@@ -4,8 +4,8 @@ use Rattle.std.proofs.lemmas.Result.{err_from_is_err_and}
 use Rattle.hw_log.specs.Log.{entries_of}
 use Rattle.hw_log.specs.Reader.{left_of}
 use Rattle.hw_replay.specs.Replay.{taken_in}
-use Rattle.hw_fanout.specs.Chain.{told_chain}
-use Rattle.hw_fanout.specs.Told.{HasTaken}
+use Rattle.hw_replay.specs.Chain.{told_chain}
+use Rattle.hw_replay.specs.Told.{HasTaken}
 use Rattle.hw_replay.proofs.FeedLaws.{fed_none, fed_more, grown_journal, grown_config, still_told, all_still, leads_on, lasts_on}
 use Rattle.hw_replay.proofs.MidwayLaws.{read_none, read_more, next_on}
 use Rattle.hw_replay.proofs.feed.feed_all.Goals as goal

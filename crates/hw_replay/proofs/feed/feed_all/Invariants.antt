@@ -5,9 +5,9 @@ use Rattle.hw_log.specs.Reader.{ahead_of}
 use Rattle.hw_replay.specs.Replay.{ahead_in}
 use Rattle.hw_replay.specs.Ends.{lasts_ahead, IsReached}
 use Rattle.hw_replay.specs.Steps.{HasRoom}
-use Rattle.hw_fanout.specs.Fates.{seen}
-use Rattle.hw_fanout.specs.Chain.{told_chain}
-use Rattle.hw_fanout.specs.Told.{HasTaken}
+use Rattle.hw_replay.specs.Fates.{seen}
+use Rattle.hw_replay.specs.Chain.{told_chain}
+use Rattle.hw_replay.specs.Told.{HasTaken}
 use Rattle.hw_replay.specs.Feed.{moment, AreFed}
 use Rattle.hw_replay.specs.Midway.{midway_in, HasRead}
 use Rattle.hw_replay.proofs.feed.feed_all.Given as goal

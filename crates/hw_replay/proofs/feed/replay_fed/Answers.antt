@@ -5,7 +5,7 @@ use Rattle.hw_replay.specs.Taken.{Taken}
 use Rattle.hw_replay.proofs.BeginLaws.{replays_not}
 use Rattle.hw_replay.proofs.CauseLaws.{about_carries, cause_carries}
 use Rattle.hw_replay.proofs.EndLaws.{no_ok}
-use Rattle.hw_fanout.specs.Chain.{told_chain}
+use Rattle.hw_replay.specs.Chain.{told_chain}
 use Rattle.hw_replay.proofs.FeedLaws.{none_told, fed_first, fed_to, fed_until}
 use Rattle.hw_replay.proofs.feed.replay_fed.Goals as goal
 

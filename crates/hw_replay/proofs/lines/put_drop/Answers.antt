@@ -4,7 +4,7 @@ use Rattle.hw_text.specs.Text.{number_text}
 use Rattle.hw_text.specs.Lines.{line_of, line_feed, AddsFront}
 use Rattle.hw_replay.specs.Lines.{fault_words, place_word, drop_line}
 use Rattle.hw_replay.proofs.LineLaws.{on_err, front_and_more}
-use Rattle.hw_fanout.specs.declared.ending.Dropped.{Dropped}
+use Rattle.hw_replay.specs.declared.ending.Dropped.{Dropped}
 use Rattle.hw_replay.proofs.lines.put_drop.Goals as goal
 
 pub returns-in_err-put_numbered-clause-err : goal.returns-in_err-put_numbered-clause-err

@@ -1,7 +1,7 @@
 use Rattle.std.proofs.Common.{ap, ◌++◌, ◌∙◌}
 use Rattle.std.proofs.lemmas.List.{append_assoc}
 use Rattle.std.specs.Prelude.{take}
-use Rattle.hw_fanout.specs.declared.ending.Dropped.{Dropped}
+use Rattle.hw_replay.specs.declared.ending.Dropped.{Dropped}
 use Rattle.hw_replay.specs.Lines.{drop_line, drop_lines}
 use Rattle.hw_replay.proofs.LineLaws.{one_more, on_err, lines_front}
 use Rattle.hw_replay.proofs.lines.put_drops.Goals as goal

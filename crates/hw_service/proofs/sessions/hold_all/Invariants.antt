@@ -1,5 +1,5 @@
 use Rattle.std.proofs.Common.{◌≡◌}
-use Rattle.hw_fanout.specs.Fates.{seen}
+use Rattle.hw_replay.specs.Fates.{seen}
 use Rattle.hw_service.specs.Scene.{outside_of, scene, IsReady}
 use Rattle.hw_service.specs.Steps.{TakesAll}
 use Rattle.hw_service.specs.Run.{HaveTaken}

@@ -1,5 +1,5 @@
 use Rattle.std.proofs.Common.{◌≡◌, length}
-use Rattle.hw_fanout.specs.Fates.{seen}
+use Rattle.hw_replay.specs.Fates.{seen}
 use Rattle.hw_service.specs.Scene.{scene, IsReady}
 use Rattle.hw_service.specs.Environs.{outside_in}
 use Rattle.hw_service.specs.Steps.{TakesAll}

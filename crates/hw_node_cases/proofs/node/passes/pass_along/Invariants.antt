@@ -2,7 +2,7 @@ use Rattle.std.proofs.Common.{◌≤◌, length}
 use Rattle.hw_io.specs.Memory.{mem_allowance}
 use Rattle.hw_log.specs.Reader.{ahead_of}
 use Rattle.hw_replay.specs.Steps.{HasRoom}
-use Rattle.hw_fanout.specs.Chain.{told_chain}
+use Rattle.hw_replay.specs.Chain.{told_chain}
 use Rattle.hw_node_cases.proofs.node.passes.pass_along.Given as goal
 
 abbrev pub invariant-entries : goal.invariant-entries

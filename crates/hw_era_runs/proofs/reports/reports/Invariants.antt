@@ -1,7 +1,0 @@
-use Rattle.std.proofs.Common.{◌≡◌, take}
-use Rattle.hw_era_runs.specs.Reports.{reports_from}
-use Rattle.hw_era_runs.specs.Filled.{eras_in}
-use Rattle.hw_era_runs.proofs.reports.reports.Given as goal
-
-abbrev pub invariant-loop-era : goal.invariant-loop-era
-invariant-loop-era l = l.text ≡ reports_from 0 (take l.era (eras_in l.filled))

@@ -1,0 +1,35 @@
+use Rattle.std.proofs.Common.{◌-◌, List, ℕ, length, take, drop, map, None, sym, ap, subst, ◌∙◌}
+use Rattle.std.specs.Prelude.{string_bytes}
+use Rattle.std.proofs.lemmas.Result.{err_from_is_err_and}
+use Rattle.hw_eras.specs.Logs.{eras_of}
+use Rattle.hw_eras.specs.Stops.{StopsSo}
+use Rattle.hw_eras.proofs.StopLaws.{names_first, begun_eras, stopped_eras}
+use Rattle.hw_eras.proofs.filled.Filled.of_logs.Goals as goal
+
+pub returns-in_err-filled-clause-said : goal.returns-in_err-filled-clause-said
+returns-in_err-filled-clause-said g c =
+    let p = err_from_is_err_and c.from_residual.result c.from_residual.ensures.1 in
+    let held = g.F.Files.held c.args.files.now in
+    let rest : List (List ℕ) = map string_bytes (take (length c.args.logs.now - 1) (drop 1 c.args.logs.now)) in
+    let names = names_first string_bytes c.args.logs.now c.index-logs-0.result c.as_str.result.now c.requires.some c.index-logs-0.is c.as_str.ensures.value in
+    let e = c.in_err-filled.field-0.0 in
+    λ tells. rw (p.1, p.2) (subst (StopsSo e) (sym (ap (eras_of held None) names)) (stopped_eras held None c.as_str.result.now rest e (c.in_err-filled.ensures.said tells)))
+
+pub returns-in_err-take_all-clause-said : goal.returns-in_err-take_all-clause-said
+returns-in_err-take_all-clause-said g c =
+    let p = err_from_is_err_and c.from_residual-in_err-take_all.result c.from_residual-in_err-take_all.ensures.1 in
+    let held = g.F.Files.held c.args.files.now in
+    let rest : List (List ℕ) = map string_bytes (take (length c.args.logs.now - 1) (drop 1 c.args.logs.now)) in
+    let names = names_first string_bytes c.args.logs.now c.index-logs-0.result c.as_str.result.now c.requires.some c.index-logs-0.is c.as_str.ensures.value in
+    λ tells.
+    let is = ap (eras_of held None) names ∙ begun_eras held None c.as_str.result.now rest (g.F.Files.held c.begin.new.files) c.in_ok-filled.filled c.in_ok-filled.ensures.files (c.in_ok-filled.ensures.said tells) in
+    rw (p.1, p.2) (subst (StopsSo c.in_err-take_all.field-0.0) (sym is) (c.in_err-take_all.ensures.said tells))
+
+pub returns-clause-said : goal.returns-clause-said
+returns-clause-said g c = λ tells.
+    let held = g.F.Files.held c.args.files.now in
+    let rest : List (List ℕ) = map string_bytes (take (length c.args.logs.now - 1) (drop 1 c.args.logs.now)) in
+    let names = names_first string_bytes c.args.logs.now c.index-logs-0.result c.as_str.result.now c.requires.some c.index-logs-0.is c.as_str.ensures.value in
+    ap (eras_of held None) names
+    ∙ begun_eras held None c.as_str.result.now rest (g.F.Files.held c.begin.new.files) c.in_ok-filled.filled c.in_ok-filled.ensures.files (c.in_ok-filled.ensures.said tells)
+    ∙ c.in_ok-take_all.ensures.said tells

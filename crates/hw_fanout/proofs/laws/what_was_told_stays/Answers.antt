@@ -1,8 +1,0 @@
-use Rattle.hw_fanout.proofs.GrowLaws.{only_grows, stays_taken}
-use Rattle.hw_fanout.proofs.laws.what_was_told_stays.Goals as goal
-
-pub returns-clause-grows : goal.returns-clause-grows
-returns-clause-grows c = only_grows
-
-pub returns-clause-taken : goal.returns-clause-taken
-returns-clause-taken c = stays_taken

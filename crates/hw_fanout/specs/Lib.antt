@@ -1,5 +1,0 @@
-pub mod Fates
-pub mod Told
-pub mod State
-pub mod Chain
-pub mod Laws

@@ -1,2 +1,0 @@
-pub mod ClusterMembers
-pub mod LightMembers

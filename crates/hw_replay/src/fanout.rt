@@ -1,0 +1,154 @@
+//! The consumers of decided blocks.
+
+ghost use Rattle.std.specs.Prelude.{◌≡◌, ℕ, ◌+◌, ◌-◌, ◌<◌, ◌≤◌, ◌∷◌, ◌++◌, [], length, All, slice_index, slice_get, Some, None, OnOk, OnErr, vec_capacity};
+ghost use Rattle.std.specs.List.{range_with_len, remove};
+ghost use Rattle.hw_replay.specs.Fates.{seen, AreServed};
+ghost use Rattle.hw_replay.specs.Chain.{told_chain};
+ghost use Rattle.hw_replay.specs.Told.{HasTaken, IsTold, IsFinished};
+
+use crate::chain::chain_length;
+use crate::ending::{Dropped, Ending};
+use crate::one::end;
+use crate::telling::tell;
+use hw_core::Core;
+use hw_io::{Consumer, IoFault};
+use hw_types::OutOfMemory;
+use std::alloc::Global;
+use std::marker::Model;
+
+/// Who was passed the decided blocks, how many, and which consumers were dropped.
+#[derive(Drop)]
+pub struct Fanout {
+    /// How many decided blocks were passed on.
+    passed: u64,
+    /// The places in the first list of the consumers that are left.
+    places: Vec<usize>,
+    /// The consumers that were dropped, in order. There is room for those that are left.
+    drops: Vec<Dropped>,
+}
+
+impl Model for Fanout {
+    ghost use Rattle.std.specs.Prelude.{ℕ, ◌+◌, ◌≤◌, length, vec_capacity};
+    ghost use Rattle.hw_replay.specs.State.{FanoutState};
+
+    ghost Value = { FanoutState };
+
+    ghost view = { λ f. record { passed = f.passed; places = f.places.items; drops = f.drops.items } };
+
+    ghost invariant = { λ f. length f.drops.items + length f.places.items ≤ vec_capacity f.drops };
+}
+
+impl Fanout {
+    /// Nothing was passed on, and there is room for no consumer.
+    pub fn new(alloc: Global) -> Fanout
+        ensures { result ≡ record { passed = 0; places = []; drops = [] } }
+    {
+        Fanout {
+            passed: 0,
+            places: Vec::new(alloc),
+            drops: Vec::new(alloc),
+        }
+    }
+
+    /// Makes room for so many consumers in the first list. Where there is no memory, nothing has changed.
+    pub fn reserve(&mut self, consumers: usize) -> Result<(), OutOfMemory>
+        ensures room { OnOk result (self.new.places ≡ self.old.places ++ range_with_len (length self.old.drops + length self.old.places) (consumers - (length self.old.drops + length self.old.places))) }
+        ensures drops { OnOk result (self.new.drops ≡ self.old.drops) }
+        ensures passed { OnOk result (self.new.passed ≡ self.old.passed) }
+        ensures unchanged { OnErr result (self.new ≡ self.old) }
+    {
+        let known = self.drops.len() + self.places.len();
+        if consumers > known {
+            self.places.reserve(consumers - known)?;
+            self.drops.reserve(consumers - self.drops.len())?;
+            number(&mut self.places, known, consumers);
+        }
+        Ok(())
+    }
+
+    /// Gives each consumer, in the list's order, the decided blocks that it hasn't taken. One that answers an
+    /// error is dropped and leaves the list.
+    #[tactic(auto, using(crate::proofs::Serving::begins, crate::proofs::Serving::ends))]
+    pub fn pass(&mut self, consumers: &mut Vec<Box<dyn Consumer>>, core: &Core)
+        requires room { length consumers.old.items ≤ length self.old.places }
+        requires passed { self.old.passed ≤ length (told_chain core.now) }
+        ensures told { AreServed (IsTold (seen (λ b. consumed b) (λ b. faults b) (λ b. b.vtable)) (told_chain core.now) self.old.passed) consumers.old.items consumers.new.items self.old self.new }
+        ensures passed { self.new.passed ≡ length (told_chain core.now) }
+        ensures whole { All (λ b. HasTaken (told_chain core.now) self.old.passed (consumed b)) consumers.old.items → All (λ b. HasTaken (told_chain core.now) (length (told_chain core.now)) (consumed b)) consumers.new.items }
+        ensures room { length consumers.new.items ≤ length self.new.places }
+    {
+        let from = self.passed;
+        let mut index = 0;
+        while index < consumers.len() {
+            match tell(&mut consumers[index], core, from) {
+                Ok(()) => index += 1,
+                Err(ending) => self.drop_out(consumers, index, ending),
+            }
+        }
+        self.passed = chain_length(core);
+    }
+
+    /// Tells each consumer of the list that no block follows. One that answers an error is dropped.
+    #[tactic(auto, using(crate::proofs::Serving::begins, crate::proofs::Serving::ends))]
+    pub fn finish(&mut self, consumers: &mut Vec<Box<dyn Consumer>>)
+        requires { length consumers.old.items ≤ length self.old.places }
+        ensures finished { AreServed (IsFinished (seen (λ b. consumed b) (λ b. faults b) (λ b. b.vtable))) consumers.old.items consumers.new.items self.old self.new }
+        ensures passed { self.new.passed ≡ self.old.passed }
+        ensures room { length consumers.new.items ≤ length self.new.places }
+    {
+        let mut index = 0;
+        while index < consumers.len() {
+            match end(&mut consumers[index]) {
+                Ok(()) => index += 1,
+                Err(ending) => self.drop_out(consumers, index, ending),
+            }
+        }
+    }
+
+    /// Drops the consumer at this index of the list, which failed so.
+    fn drop_out(&mut self, consumers: &mut Vec<Box<dyn Consumer>>, index: usize, ending: Ending)
+        requires here { index < length consumers.old.items }
+        requires room { length consumers.old.items ≤ length self.old.places }
+        ensures consumers { consumers.new.items ≡ remove consumers.old.items index }
+        ensures passed { self.new.passed ≡ self.old.passed }
+        ensures places { self.new.places ≡ remove self.old.places index }
+        ensures drops { self.new.drops ≡ self.old.drops ++ record { place = slice_index self.old.places index; ending = ending } ∷ [] }
+    {
+        drop(consumers.remove(index));
+        let place = self.places.remove(index);
+        if self.drops.push(Dropped { place, ending }).is_err() {
+            unreachable!()
+        }
+    }
+
+    /// How many consumers were dropped.
+    pub fn drop_count(&self) -> usize
+        ensures { result ≡ length self.now.drops }
+    {
+        self.drops.len()
+    }
+
+    /// The consumer that was dropped at this place, from 0 on: its place in the first list, the height of
+    /// the block that it failed to take, None where it failed to finish, and what it answered.
+    pub fn drop_at(&self, index: usize) -> (usize, Option<u64>, IoFault)
+        requires { index < length self.now.drops }
+        ensures { slice_get self.now.drops index ≡ Some (record { place = result.0; ending = record { height = result.1; fault = result.2 } }) }
+    {
+        let dropped = self.drops[index];
+        (dropped.place, dropped.ending.height, dropped.ending.fault)
+    }
+}
+
+/// Puts the numbers from `from` to `to` last, for which there is room.
+#[tactic(auto, using(crate::proofs::Serving::range_more))]
+fn number(places: &mut Vec<usize>, from: usize, to: usize)
+    requires order { from ≤ to }
+    requires room { length places.old.items + (to - from) ≤ vec_capacity places.old }
+    ensures { places.new.items ≡ places.old.items ++ range_with_len from (to - from) }
+{
+    for place in from..to {
+        if places.push(place).is_err() {
+            unreachable!()
+        }
+    }
+}

@@ -1,4 +1,0 @@
-pub mod Ends
-pub mod Runs
-pub mod Taker
-pub mod Meets
