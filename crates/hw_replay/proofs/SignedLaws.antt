@@ -115,18 +115,65 @@ abbrev compact_unit : ℕ → LastUnit → ℕ × Rest → ℕ × Rest → ℕ �
 compact_unit creator last seq time exponent panorama value endorsed signature =
     Ok (record { unit = record { instance = last.instance; creator = creator; seq = seq.0; time = time.0; exponent = exponent.0; panorama = panorama.0; value = value.0; endorsed = endorsed.0 }; signature = record { 0 = signature.0 } }, signature.1)
 
+-- what is read behind each part of it
+abbrev after_endorsed : ℕ → LastUnit → ℕ × Rest → ℕ × Rest → ℕ × Rest → List Obs × Rest → Option (List ℕ) × Rest → List Digest × Rest → Read SignedUnit
+after_endorsed creator last seq time exponent panorama value endorsed = bytes_at 32 endorsed.1 >>= compact_unit creator last seq time exponent panorama value endorsed
+
+abbrev after_value : ℕ → LastUnit → ℕ × Rest → ℕ × Rest → ℕ × Rest → List Obs × Rest → Option (List ℕ) × Rest → Read SignedUnit
+after_value creator last seq time exponent panorama value = counted_at digest_at 256 value.1 >>= after_endorsed creator last seq time exponent panorama value
+
+abbrev after_panorama : ℕ → LastUnit → ℕ × Rest → ℕ × Rest → ℕ × Rest → List Obs × Rest → Read SignedUnit
+after_panorama creator last seq time exponent panorama = value_at panorama.1 >>= after_value creator last seq time exponent panorama
+
+abbrev after_exponent : ℕ → LastUnit → ℕ × Rest → ℕ × Rest → ℕ × Rest → Read SignedUnit
+after_exponent creator last seq time exponent = panorama_at creator last exponent.1 >>= after_panorama creator last seq time exponent
+
+abbrev after_time : ℕ → LastUnit → ℕ × Rest → ℕ × Rest → Read SignedUnit
+after_time creator last seq time = number_at w8 time.1 >>= after_exponent creator last seq time
+
+abbrev after_seq : ℕ → LastUnit → ℕ × Rest → Read SignedUnit
+after_seq creator last seq = time_at seq.1 >>= after_time creator last seq
+
+module _ (creator : ℕ) (last : LastUnit) (seq : ℕ × Rest) (s : SignedUnit × Rest) where
+
+  endorsed_length : (time exponent : ℕ × Rest) (panorama : List Obs × Rest) (value : Option (List ℕ) × Rest) (endorsed : List Digest × Rest)
+    → after_endorsed creator last seq time exponent panorama value endorsed ≡ Ok s → length s.0.signature.0 ≡ 32
+  endorsed_length time exponent panorama value endorsed e =
+      let signature = bind_ok (bytes_at 32 endorsed.1) (compact_unit creator last seq time exponent panorama value endorsed) s e in
+      let is : length signature.0.0 ≡ length s.0.signature.0 = ap (λ (y : Read SignedUnit). elim y [ Ok z ↦ length z.0.signature.0 | Err d ↦ 0 ]) signature.2 in
+      sym is ∙ bytes_length 32 endorsed.1 signature.0 signature.1
+
+  value_length : (time exponent : ℕ × Rest) (panorama : List Obs × Rest) (value : Option (List ℕ) × Rest)
+    → after_value creator last seq time exponent panorama value ≡ Ok s → length s.0.signature.0 ≡ 32
+  value_length time exponent panorama value e =
+      let endorsed = bind_ok (counted_at digest_at 256 value.1) (after_endorsed creator last seq time exponent panorama value) s e in
+      endorsed_length time exponent panorama value endorsed.0 endorsed.2
+
+  panorama_length : (time exponent : ℕ × Rest) (panorama : List Obs × Rest) → after_panorama creator last seq time exponent panorama ≡ Ok s → length s.0.signature.0 ≡ 32
+  panorama_length time exponent panorama e =
+      let value = bind_ok (value_at panorama.1) (after_value creator last seq time exponent panorama) s e in
+      value_length time exponent panorama value.0 value.2
+
+  exponent_length : (time exponent : ℕ × Rest) → after_exponent creator last seq time exponent ≡ Ok s → length s.0.signature.0 ≡ 32
+  exponent_length time exponent e =
+      let panorama = bind_ok (panorama_at creator last exponent.1) (after_panorama creator last seq time exponent) s e in
+      panorama_length time exponent panorama.0 panorama.2
+
+  time_length : (time : ℕ × Rest) → after_time creator last seq time ≡ Ok s → length s.0.signature.0 ≡ 32
+  time_length time e =
+      let exponent = bind_ok (number_at w8 time.1) (after_exponent creator last seq time) s e in
+      exponent_length time exponent.0 exponent.2
+
+  seq_length : after_seq creator last seq ≡ Ok s → length s.0.signature.0 ≡ 32
+  seq_length e =
+      let time = bind_ok (time_at seq.1) (after_time creator last seq) s e in
+      time_length time.0 time.2
+
 told_length : (creator : ℕ) (last : LastUnit) (r : Rest) (s : SignedUnit × Rest) → told_at creator last r ≡ Ok s → length s.0.signature.0 ≡ 32
 unfolding told_at
 told_length creator last r s e =
-    let seq = bind_ok (number_at w64 r) (λ seq. time_at seq.1 >>= λ time. number_at w8 time.1 >>= λ exponent. panorama_at creator last exponent.1 >>= λ panorama. value_at panorama.1 >>= λ value. counted_at digest_at 256 value.1 >>= λ endorsed. bytes_at 32 endorsed.1 >>= compact_unit creator last seq time exponent panorama value endorsed) s e in
-    let time = bind_ok (time_at seq.0.1) (λ time. number_at w8 time.1 >>= λ exponent. panorama_at creator last exponent.1 >>= λ panorama. value_at panorama.1 >>= λ value. counted_at digest_at 256 value.1 >>= λ endorsed. bytes_at 32 endorsed.1 >>= compact_unit creator last seq.0 time exponent panorama value endorsed) s seq.2 in
-    let exponent = bind_ok (number_at w8 time.0.1) (λ exponent. panorama_at creator last exponent.1 >>= λ panorama. value_at panorama.1 >>= λ value. counted_at digest_at 256 value.1 >>= λ endorsed. bytes_at 32 endorsed.1 >>= compact_unit creator last seq.0 time.0 exponent panorama value endorsed) s time.2 in
-    let panorama = bind_ok (panorama_at creator last exponent.0.1) (λ panorama. value_at panorama.1 >>= λ value. counted_at digest_at 256 value.1 >>= λ endorsed. bytes_at 32 endorsed.1 >>= compact_unit creator last seq.0 time.0 exponent.0 panorama value endorsed) s exponent.2 in
-    let value = bind_ok (value_at panorama.0.1) (λ value. counted_at digest_at 256 value.1 >>= λ endorsed. bytes_at 32 endorsed.1 >>= compact_unit creator last seq.0 time.0 exponent.0 panorama.0 value endorsed) s panorama.2 in
-    let endorsed = bind_ok (counted_at digest_at 256 value.0.1) (λ endorsed. bytes_at 32 endorsed.1 >>= compact_unit creator last seq.0 time.0 exponent.0 panorama.0 value.0 endorsed) s value.2 in
-    let signature = bind_ok (bytes_at 32 endorsed.0.1) (compact_unit creator last seq.0 time.0 exponent.0 panorama.0 value.0 endorsed.0) s endorsed.2 in
-    let is : length signature.0.0 ≡ length s.0.signature.0 = ap (λ (y : Read SignedUnit). elim y [ Ok z ↦ length z.0.signature.0 | Err d ↦ 0 ]) signature.2 in
-    sym is ∙ bytes_length 32 endorsed.0.1 signature.0 signature.1
+    let seq = bind_ok (number_at w64 r) (after_seq creator last) s e in
+    seq_length creator last seq.0 s seq.2
 
 compact_length : (lasts : List (Option LastUnit)) (r : Rest) (s : SignedUnit × Rest) → compact_at lasts r ≡ Ok s → length s.0.signature.0 ≡ 32
 unfolding compact_at
