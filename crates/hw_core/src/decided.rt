@@ -134,7 +134,7 @@ fn list(decisions: &mut Vec<Decision>, detector: &Detector, dag: &Dag)
 {
     let count = detector.found_count();
     for index in decisions.len() as u32..count {
-        put_decision(decisions, told(dag, detector.found_at(index)));
+        put_decision(decisions, decision_of(dag, detector.found_at(index)));
     }
 }
 
@@ -150,7 +150,7 @@ fn put_decision(decisions: &mut Vec<Decision>, decision: Decision)
 }
 
 /// The record of a block that was found.
-fn told(dag: &Dag, found: &Found) -> Decision
+fn decision_of(dag: &Dag, found: &Found) -> Decision
     requires { found.now.block.0 < count_of dag.now }
     ensures { result ≡ decision_of dag.now found.now }
 {

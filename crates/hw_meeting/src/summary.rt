@@ -30,11 +30,11 @@ pub fn summary_of(alloc: Global, core: &Core) -> Result<SummaryList, OutOfMemory
     let dag = core.state().dag();
     let tips = highest(alloc, dag)?;
     let marks = marks(alloc, core, dag, tips.as_slice())?;
-    told(alloc, dag, tips.as_slice(), marks.as_slice())
+    parts_of(alloc, dag, tips.as_slice(), marks.as_slice())
 }
 
 /// What the entries and their marks tell.
-fn told(
+fn parts_of(
     alloc: Global,
     dag: &Dag,
     tips: &[Option<UnitNo>],

@@ -202,7 +202,7 @@ impl Dag {
         let Some(no) = self.find(name) else {
             return Some(0);
         };
-        match self.told(no, low) {
+        match self.known_below(no, low) {
             Some(true) => None,
             Some(false) => Some(0),
             None => Some(no.0),
@@ -248,7 +248,7 @@ impl Dag {
     {
         self.recall_graph();
         let no = self.find(name)?;
-        match self.told(no, low) {
+        match self.known_below(no, low) {
             Some(false) => None,
             _ => Some(no),
         }

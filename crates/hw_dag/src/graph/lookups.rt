@@ -140,7 +140,7 @@ impl Dag {
         ensures room { marks.new ≡ marks.old }
     {
         self.recall_graph();
-        match self.told(high, low) {
+        match self.known_below(high, low) {
             Some(told) => told,
             None => self.reaches(
                 &[Slot::of(View::Correct(high))],
@@ -177,7 +177,7 @@ impl Dag {
         let mut open = false;
         for slot in slots {
             if let View::Correct(high) = slot.view() {
-                match self.told(high, low) {
+                match self.known_below(high, low) {
                     Some(true) => return Some(true),
                     Some(false) => {}
                     None => open = true,
@@ -188,7 +188,7 @@ impl Dag {
     }
 
     /// Whether `low` is `high` or below it, where no walk is needed to tell.
-    pub(super) fn told(&self, high: UnitNo, low: UnitNo) -> Option<bool>
+    pub(super) fn known_below(&self, high: UnitNo, low: UnitNo) -> Option<bool>
         requires high_known { high.0 < count_of self.now }
         requires low_known { low.0 < count_of self.now }
         ensures told { IfSome result (λ told. told ≡ is_seen self.now low.0 high.0) }

@@ -7,8 +7,8 @@ use Rattle.hw_core.proofs.UnmetLaws.{take_one}
 use Rattle.hw_core.proofs.DecidedLaws.{found_at, get_mapped, mapped_length}
 use Rattle.hw_core.proofs.decided.list.Goals as goal
 
-pub told-requires : goal.told-requires
-told-requires c = c.requires.known c.found_at.result.now (found_at c.args.detector.now.found c.loop-index.index c.found_at.result.now (sym c.found_at.ensures))
+pub decision_of-requires : goal.decision_of-requires
+decision_of-requires c = c.requires.known c.found_at.result.now (found_at c.args.detector.now.found c.loop-index.index c.found_at.result.now (sym c.found_at.ensures))
 
 pub loop-index-preserved : goal.loop-index-preserved
 loop-index-preserved c =
@@ -21,7 +21,7 @@ loop-index-preserved c =
     let count = c.found_count-count.ensures in
     let test = c.loop-index-test.true in
     let lt : i < length (found_in dag found) = omega arith in
-    let last : c.put_decision.new.decisions.items ≡ c.loop-index.decisions.items ++ decision_of dag f ∷ [] = c.put_decision.ensures.last ∙ ap (λ (d : Decision). c.loop-index.decisions.items ++ d ∷ []) c.told.ensures in
+    let last : c.put_decision.new.decisions.items ≡ c.loop-index.decisions.items ++ decision_of dag f ∷ [] = c.put_decision.ensures.last ∙ ap (λ (d : Decision). c.loop-index.decisions.items ++ d ∷ []) c.decision_of.ensures in
     let longer = ap (λ (ds : List Decision). length ds) last in
     let sum = length-append c.loop-index.decisions.items (decision_of dag f ∷ []) in
     let long = c.loop-index.invariant.1 in

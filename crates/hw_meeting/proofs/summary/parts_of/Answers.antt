@@ -2,7 +2,7 @@ use Rattle.std.proofs.Common.{◌∷◌, [], ◌++◌, map, sym, ap, ◌∙◌, 
 use Rattle.std.specs.List.{range_with_len}
 use Rattle.std.proofs.lemmas.List.FromFn.{map-range_with_len_more}
 use Rattle.hw_meeting.specs.Lanes.{tip_at, mark_at, told_by}
-use Rattle.hw_meeting.proofs.summary.told.Goals as goal
+use Rattle.hw_meeting.proofs.summary.parts_of.Goals as goal
 
 pub loop-validator-preserved : goal.loop-validator-preserved
 loop-validator-preserved c =

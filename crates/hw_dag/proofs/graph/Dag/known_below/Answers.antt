@@ -4,7 +4,7 @@ use Rattle.hw_dag.specs.Dag.{SettledUnit, creator_of}
 use Rattle.hw_dag.specs.Admission.{IsGraph}
 use Rattle.hw_dag.proofs.PlaceLaws.{read_unit, read_slot}
 use Rattle.hw_dag.proofs.MarkLaws.{seen_not_later, seen_by_number, seen_by_none}
-use Rattle.hw_dag.proofs.graph.Dag.told.Goals as goal
+use Rattle.hw_dag.proofs.graph.Dag.known_below.Goals as goal
 
 pub returns-then-high-low-clause-told : goal.returns-then-high-low-clause-told
 returns-then-high-low-clause-told c =
