@@ -4,8 +4,8 @@ use Rattle.std.specs.Prelude.{◌⊎◌, ◌==◌, ◌||◌, if◌then◌else◌
 use Rattle.hw_io.specs.Faults.{Rose}
 use Rattle.hw_io.specs.Sinks.{AppendsPrefix}
 use Rattle.hw_log.specs.declared.error.LogError.{LogError}
-use Rattle.hw_rewrite.specs.declared.whole.Rewritten.{Rewritten}
-use Rattle.hw_rewrite.specs.Rewritten.{mended_of, migrated_of}
+use Rattle.hw_log.specs.declared.rewritten.Rewritten.{Rewritten}
+use Rattle.hw_log.specs.Rewritten.{mended_of, migrated_of}
 use Rattle.hw_commands.specs.declared.ended.Ended.{Ended}
 use Rattle.hw_commands.specs.Commands.{Word, Request, Replay, Explain, Audit, Script, Mend, Migrate, Certify, Check, Gen, Sim, Eras, EraAudit, request_of}
 use Rattle.hw_commands.specs.Program.{Held, ended, request_said, rewrite_said, run_of}

@@ -15,7 +15,7 @@ use Rattle.hw_replay.specs.declared.fault.StartFault.{StartFault}
 use Rattle.hw_replay.specs.Taken.{◌>>=◌, Taken, nothing_taken, with_vertex, stop_of, counted_or_stopped, taken_or_stopped, entry_taken, entries_taken}
 use Rattle.hw_replay.specs.Replay.{said_replayed, replay_of}
 use Rattle.hw_explain.specs.Explain.{explained_in}
-use Rattle.hw_rewrite.specs.Migrated.{SaysAnew, HoldsAnew}
+use Rattle.hw_log.specs.Migrated.{SaysAnew, HoldsAnew}
 use Rattle.hw_commands.specs.Commands.{Word}
 use Rattle.hw_commands.specs.Program.{◌>>=◌ as ◌>>>◌, Held, Part, done, or_stopped, log_replayed, report_of}
 use Rattle.hw_commands.specs.Laws.{ReadsTheSame}

@@ -10,8 +10,8 @@ use Rattle.hw_types.specs.Real.{CoreState, setting_of}
 use Rattle.hw_log.specs.declared.error.LogError.{LogError}
 use Rattle.hw_replay.specs.Taken.{Taken}
 use Rattle.hw_replay.specs.Replay.{replay_of}
-use Rattle.hw_rewrite.specs.declared.whole.Rewritten.{Rewritten}
-use Rattle.hw_rewrite.specs.Rewritten.{mended_of, migrated_of}
+use Rattle.hw_log.specs.declared.rewritten.Rewritten.{Rewritten}
+use Rattle.hw_log.specs.Rewritten.{mended_of, migrated_of}
 use Rattle.hw_explain.specs.Explain.{explained_in}
 use Rattle.hw_script.specs.Output.{output_of}
 use Rattle.hw_light.specs.declared.certificate.Certificate.{Certificate}

@@ -8,11 +8,11 @@ use Rattle.hw_log.specs.declared.error.LogError.{LogError}
 use Rattle.hw_log.specs.declared.error.LogError.TheVariants as log
 use Rattle.hw_text.specs.Text.{number_text}
 use Rattle.hw_text.specs.Lines.{line_of, line_feed}
-use Rattle.hw_rewrite.specs.declared.fault.RewriteFault.{RewriteFault}
-use Rattle.hw_rewrite.specs.declared.fault.RewriteFault.TheVariants as rewrite
-use Rattle.hw_rewrite.specs.declared.whole.Rewritten.{Rewritten}
-use Rattle.hw_rewrite.specs.Causes.{IsOutside, IsUnread, IsAbsentFault, IsPutFault, IsWhy, IsReadCounted, IsAppendCounted, HasRewriteCause, IsFaultAbout}
-use Rattle.hw_rewrite.specs.Rewritten.{HasRewritten, IsCutShort}
+use Rattle.hw_log.specs.declared.fault.RewriteFault.{RewriteFault}
+use Rattle.hw_log.specs.declared.fault.RewriteFault.TheVariants as rewrite
+use Rattle.hw_log.specs.declared.rewritten.Rewritten.{Rewritten}
+use Rattle.hw_log.specs.RewriteCauses.{IsOutside, IsUnread, IsAbsentFault, IsPutFault, IsWhy, IsReadCounted, IsAppendCounted, HasRewriteCause, IsFaultAbout}
+use Rattle.hw_log.specs.Rewritten.{HasRewritten, IsCutShort}
 use Rattle.hw_commands.specs.declared.ended.Ended.{Ended}
 use Rattle.hw_commands.specs.declared.ended.RunFault.{RunFault}
 use Rattle.hw_commands.specs.declared.ended.RunFault.TheVariants.{Read, Append, OutOfMemory}

@@ -3,9 +3,9 @@
 use Rattle.std.specs.Prelude.{◌≡◌, ◌≢◌, ◌⊎◌, ℕ, List, Option, Some, None, Result, Ok, Err}
 use Rattle.hw_io.specs.Files.{SameFiles}
 use Rattle.hw_log.specs.declared.error.LogError.{LogError}
-use Rattle.hw_rewrite.specs.declared.whole.Rewritten.{Rewritten}
-use Rattle.hw_rewrite.specs.Rewritten.{mended_of, migrated_of, HasRewritten, IsCutShort}
-use Rattle.hw_rewrite.specs.Migrated.{HoldsAnew}
+use Rattle.hw_log.specs.declared.rewritten.Rewritten.{Rewritten}
+use Rattle.hw_log.specs.Rewritten.{mended_of, migrated_of, HasRewritten, IsCutShort}
+use Rattle.hw_log.specs.Migrated.{HoldsAnew}
 use Rattle.hw_commands.specs.declared.ended.Ended.{Ended}
 use Rattle.hw_commands.specs.declared.ended.RunFault.{RunFault}
 use Rattle.hw_commands.specs.declared.ended.RunFault.TheVariants.{Read, Append, OutOfMemory}

@@ -14,7 +14,7 @@ use Rattle.hw_audit.specs.First.{ShowsFirstClash}
 use Rattle.hw_replay.specs.Taken.{Taken}
 use Rattle.hw_light.specs.declared.certificate.Certificate.{Certificate}
 use Rattle.hw_commands.specs.Commands.{Word, Audit, Certify, Check, request_of}
-use Rattle.hw_rewrite.specs.Migrated.{HoldsAnew}
+use Rattle.hw_log.specs.Migrated.{HoldsAnew}
 use Rattle.hw_commands.specs.Shown.{IsShown, CanBeChecked, CanBeReplayed}
 use Rattle.hw_commands.specs.Audited.{verdict_ended}
 use Rattle.hw_commands.specs.Program.{Held, done, log_replayed, replay_said, explain_said, audit_said, run_of}

@@ -14,8 +14,8 @@ use Rattle.hw_replay.specs.Replay.{replay_of}
 use Rattle.hw_log.specs.declared.error.LogError.{LogError}
 use Rattle.hw_text.specs.Text.{number_text}
 use Rattle.hw_text.specs.Lines.{line_of}
-use Rattle.hw_rewrite.specs.declared.whole.Rewritten.{Rewritten}
-use Rattle.hw_rewrite.specs.Rewritten.{mended_of, migrated_of}
+use Rattle.hw_log.specs.declared.rewritten.Rewritten.{Rewritten}
+use Rattle.hw_log.specs.Rewritten.{mended_of, migrated_of}
 use Rattle.hw_cluster.specs.Worked.{gen_totals, sim_numbers}
 use Rattle.hw_light.specs.declared.certificate.Certificate.{Certificate}
 use Rattle.hw_light.specs.declared.error.CertError.{CertError}

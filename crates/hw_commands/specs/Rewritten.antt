@@ -2,8 +2,8 @@
 -- Source: ours.
 use Rattle.std.specs.Prelude.{◌≡◌, ◌⊎◌, ℕ, List, codes, Option, Some, None}
 use Rattle.hw_log.specs.declared.error.LogError.TheVariants as log
-use Rattle.hw_rewrite.specs.declared.fault.RewriteFault.{RewriteFault}
-use Rattle.hw_rewrite.specs.declared.fault.RewriteFault.TheVariants as rewrite
+use Rattle.hw_log.specs.declared.fault.RewriteFault.{RewriteFault}
+use Rattle.hw_log.specs.declared.fault.RewriteFault.TheVariants as rewrite
 use Rattle.hw_commands.specs.declared.ended.Ended.{Ended}
 use Rattle.hw_commands.specs.declared.ended.RunFault.{RunFault}
 use Rattle.hw_commands.specs.declared.ended.RunFault.TheVariants.{Read, Append, OutOfMemory}

@@ -4,8 +4,8 @@ ghost use Rattle.std.specs.Prelude.{◌≡◌, ◌⊎◌, ◌++◌, codes, IsTru
 ghost use Rattle.hw_io.specs.Faults.{Rose};
 ghost use Rattle.hw_text.specs.Text.{number_text};
 ghost use Rattle.hw_text.specs.Lines.{line_feed};
-ghost use Rattle.hw_rewrite.specs.Rewritten.{mended_of, migrated_of};
-ghost use Rattle.hw_rewrite.specs.Migrated.{HoldsAnew};
+ghost use Rattle.hw_log.specs.Rewritten.{mended_of, migrated_of};
+ghost use Rattle.hw_log.specs.Migrated.{HoldsAnew};
 ghost use Rattle.hw_commands.specs.Faults.{HasRunFault, IsReadEnd};
 ghost use Rattle.hw_commands.specs.Due.{FailsDue};
 ghost use Rattle.hw_commands.specs.Files.{IsRewrite, status_of};
@@ -17,8 +17,7 @@ ghost use Rattle.hw_commands.specs.declared.ended.RunFault.TheVariants as RunFau
 use crate::ended::{DONE, Ended, INPUT, RunFault};
 use crate::faults::{bad_log, input};
 use hw_io::Files;
-use hw_log::LogError;
-use hw_rewrite::{RewriteFault, mend, migrate};
+use hw_log::{LogError, RewriteFault, mend, migrate};
 use hw_text::{end_line, put_numbered, put_word};
 use hw_types::{Bytes, OutOfMemory};
 use std::alloc::Global;

@@ -20,11 +20,11 @@ use Rattle.hw_dag.specs.declared.numbers.View.{View}
 use Rattle.hw_dag.specs.Dag.{SettledUnit, UnitGraph, GrowsTo, graph, observations}
 use Rattle.hw_dag.specs.Admission.{PreparedUnit, IsGraph}
 use Rattle.hw_admit.specs.State.{NodeState, is_faulty_in, observed_in}
-use Rattle.hw_finality.specs.declared.found.Found.{Found}
-use Rattle.hw_finality.specs.Detected.{DetectorState, IsTrueOf, HasRun, decision_of, decisions_of as found_in}
-use Rattle.hw_finality.specs.Laws.{IsMoment, DecidesOn}
-use Rattle.hw_finality.proofs.StayLaws.{detector_stays}
-use Rattle.hw_finality.proofs.NumberLaws.{stays}
+use Rattle.hw_horizon.specs.declared.found.Found.{Found}
+use Rattle.hw_horizon.specs.Detected.{DetectorState, IsTrueOf, HasRun, decision_of, decisions_of as found_in}
+use Rattle.hw_horizon.specs.DetectorLaws.{IsMoment, DecidesOn}
+use Rattle.hw_horizon.proofs.StayLaws.{detector_stays}
+use Rattle.hw_horizon.proofs.NumberLaws.{stays}
 use Rattle.hw_park.specs.Parked.{Parked}
 use Rattle.hw_safety.proofs.DetectorLaws.{quiet, nothing_at_first}
 use Rattle.hw_core.specs.Settle.{HasMoreRoom}

@@ -42,7 +42,7 @@ use Rattle.hw_park.specs.Parked.{Parked}
 use Rattle.hw_core.specs.declared.place.Place.TheVariants as place
 use Rattle.hw_core.specs.declared.unmet.Search.TheVariants as search
 use Rattle.hw_core.specs.Settle.{known_in, admitted_in, rule_in}
-use Rattle.hw_finality.specs.Detected.{decisions_of as found_in}
+use Rattle.hw_horizon.specs.Detected.{decisions_of as found_in}
 use Rattle.hw_core.specs.Decided.{DecidedState, decided_in}
 use Rattle.hw_core.proofs.DecidedLaws.{decided_is, get_mapped}
 use Rattle.hw_core.specs.Shown.{ShownState}

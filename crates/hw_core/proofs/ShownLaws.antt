@@ -24,8 +24,8 @@ use Rattle.hw_horizon.specs.Search.{Search, table_of, start_of, committees_of}
 use Rattle.hw_horizon.specs.Tables.{entry}
 use Rattle.hw_safety.specs.Pruned.{or_zero}
 use Rattle.hw_horizon.proofs.WalkLaws.{walks_stay}
-use Rattle.hw_finality.specs.declared.found.Found.{Found}
-use Rattle.hw_finality.specs.Detected.{decision_of, decisions_of as found_in}
+use Rattle.hw_horizon.specs.declared.found.Found.{Found}
+use Rattle.hw_horizon.specs.Detected.{decision_of, decisions_of as found_in}
 use Rattle.hw_core.specs.Settle.{HasMoreRoom}
 use Rattle.hw_core.specs.Keeps.{IsNode}
 use Rattle.hw_core.specs.Decided.{DecidedState, IsDecided}

@@ -8,7 +8,7 @@ use Rattle.hw_types.specs.Real.{CoreState, setting_of}
 use Rattle.hw_safety.specs.Decided.{decisions_of}
 use Rattle.hw_dag.specs.Dag.{graph}
 use Rattle.hw_admit.specs.State.{NodeState}
-use Rattle.hw_finality.specs.Detected.{DetectorState, IsTrueOf, decisions_of as found_in}
+use Rattle.hw_horizon.specs.Detected.{DetectorState, IsTrueOf, decisions_of as found_in}
 
 -- the decided blocks of the journal, by moment and then by height
 abbrev pub decided_in : CoreState → List Decision

@@ -5,7 +5,7 @@ use Rattle.hw_dag.specs.declared.numbers.UnitNo.{UnitNo}
 use Rattle.hw_dag.specs.Dag.{graph, observations}
 use Rattle.hw_dag.specs.Admission.{IsGraph}
 use Rattle.hw_admit.specs.State.{NodeState, is_faulty_in, observed_in}
-use Rattle.hw_finality.specs.Laws.{DecidesOn}
+use Rattle.hw_horizon.specs.DetectorLaws.{DecidesOn}
 use Rattle.hw_core.specs.Keeps.{IsChoice}
 use Rattle.hw_core.specs.Decided.{DecidedState, IsToldOf}
 

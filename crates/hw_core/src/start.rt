@@ -5,7 +5,7 @@ ghost use Rattle.hw_types.specs.Limits.{config_fault};
 ghost use Rattle.hw_types.specs.Spelling.{instance_of};
 ghost use Rattle.hw_dag.specs.Dag.{UnitGraph};
 ghost use Rattle.hw_horizon.specs.Kept.{AreKept};
-ghost use Rattle.hw_finality.specs.Detected.{IsTrueOf};
+ghost use Rattle.hw_horizon.specs.Detected.{IsTrueOf};
 
 use crate::decided::Decided;
 use crate::shown::Shown;

@@ -11,7 +11,7 @@ use Rattle.hw_types.proofs.WordsLaws.{all_of}
 use Rattle.hw_dag.specs.declared.numbers.View.{View}
 use Rattle.hw_dag.specs.Dag.{UnitGraph, unit_at, view_at, IsPanorama}
 use Rattle.hw_naivety.specs.Tips.{HasLists}
-use Rattle.hw_panorama.proofs.OrderLaws.{correct_inside}
+use Rattle.hw_dag.proofs.OrderLaws.{correct_inside}
 use Rattle.hw_core_cases.specs.Slots.{IsBy, HasListOf}
 
 -- one number more

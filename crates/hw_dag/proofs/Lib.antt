@@ -21,3 +21,10 @@ pub mod LatestLaws
 pub mod ListLaws
 pub mod LogLaws
 pub mod JumpLaws
+pub mod ViewLaws
+pub mod OrderLaws
+pub mod SharedLaws
+pub mod WithinLaws
+pub mod BehindLaws
+pub mod JoinLaws
+pub mod JoiningLaws

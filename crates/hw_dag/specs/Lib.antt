@@ -10,3 +10,5 @@ pub mod Walks
 pub mod Lists
 pub mod Jumps
 pub mod JumpLaws
+pub mod Join
+pub mod Views

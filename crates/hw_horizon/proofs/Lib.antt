@@ -14,3 +14,8 @@ pub mod LesserLaws
 pub mod BoundLaws
 pub mod FollowLaws
 pub mod SeenLaws
+pub mod NumberLaws
+pub mod RunLaws
+pub mod StayLaws
+pub mod LevelLaws
+pub mod WayLaws

@@ -6,3 +6,7 @@ pub mod Search
 pub mod Kept
 pub mod Bounds
 pub mod Laws
+pub mod Blocks
+pub mod Detected
+pub mod Searcher
+pub mod DetectorLaws

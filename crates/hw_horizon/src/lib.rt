@@ -16,23 +16,42 @@
 //! nobody is in a committee, and what each latest unit sees of the units from there on. They follow the
 //! panorama in a pass over the validators for each level. A search that begins with the same units doesn't
 //! work those weights out again.
+//!
+//! The [`Detector`] of decided blocks stands on it. While the faulty weigh no more than the threshold, the blocks that
+//! stand are the lower part of the way to the fork choice, from height 0 on. So the detector goes up that way from the
+//! first height that nothing was found of, and asks of each block whether it stands and at which level, up to the first
+//! that doesn't. Once the faulty weigh more, nothing is decided any more. The laws that it rests on are public here too:
+//! accountable safety, and that the decided blocks are one chain.
 #![tactic(auto)]
 
 mod bounds;
+mod detector;
+mod detector_laws;
 mod fences;
 mod firsts;
 mod follow;
+mod found;
 mod horizons;
 mod jumps;
 mod kept;
 mod laws;
+mod level_quorums;
+mod list;
 mod question;
 mod quorums;
 mod rounds;
+mod search;
 mod table;
 mod votes;
 
 pub use bounds::Bounds;
+pub use detector::Detector;
+pub use detector_laws::{a_run_decides, a_search_by_number_finds, found_blocks_stay};
+pub use found::{Found, Outcome};
 pub use horizons::Horizons;
+pub use hw_safety::{
+    accountable_safety, conflict_safety, culprits_safety, decided_are_a_chain, graph_safety,
+    kept_while_few, later_safety, one_chain, stands_safety,
+};
 pub use laws::{bounds_rule_out, lesser_summits, sums_stay, walks_stay};
 pub use question::Question;

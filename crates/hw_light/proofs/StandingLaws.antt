@@ -15,7 +15,7 @@ use Rattle.hw_dag.specs.declared.numbers.View.{View}
 use Rattle.hw_dag.specs.Admission.{IsNew}
 use Rattle.hw_dag.proofs.NodeLaws.{among_node, node_among}
 use Rattle.hw_admit.specs.State.{NodeState}
-use Rattle.hw_finality.proofs.LevelLaws.{quorum_same}
+use Rattle.hw_horizon.proofs.LevelLaws.{quorum_same}
 use Rattle.hw_light.specs.Standing.{BlockStands, IsStateOf, HasLevelWithin}
 
 module _ (core : CoreState) (state : NodeState) (of : IsStateOf core state) (block : Digest) where

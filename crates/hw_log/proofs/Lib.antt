@@ -11,3 +11,7 @@ pub mod MoreLaws
 pub mod AppendLaws
 pub mod RangeLaws
 pub mod SpelledLaws
+pub mod MeasureLaws
+pub mod MendLaws
+pub mod AboutLaws
+pub mod MigrateLaws

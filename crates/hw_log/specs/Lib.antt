@@ -6,3 +6,7 @@ pub mod Named
 pub mod Reader
 pub mod Whole
 pub mod Spelled
+pub mod Rewritten
+pub mod RewriteCauses
+pub mod Measured
+pub mod Migrated

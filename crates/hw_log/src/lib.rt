@@ -6,22 +6,34 @@
 //!
 //! A log of version 2 tells a unit by what changed since its creator's last unit in the log, where
 //! it goes on from that one. [`Lasts`] keeps what that takes of the last unit of each validator.
+//!
+//! A log can be written anew, into a file that isn't there yet: [`mend`] leaves its torn end out, [`migrate`] writes it
+//! in version 2. No vertex is delivered to a node then: a log above its own limits, and one with units that break rules,
+//! are written whole. The log is read to its end before the first byte is written.
 #![tactic(auto)]
 
 mod ahead;
 mod entry;
 mod error;
+mod fault;
 mod file;
 mod head;
 mod lasts;
 mod laws;
+mod measure;
+mod mending;
+mod migrating;
 mod name;
 mod reader;
+mod rewritten;
+mod spelling;
+mod target;
 mod whole;
 mod writer;
 
 pub use entry::{LogEntry, NamedEntry};
 pub use error::LogError;
+pub use fault::RewriteFault;
 pub use file::read_file;
 pub use lasts::{Lasts, Noted};
 pub use laws::{
@@ -29,6 +41,8 @@ pub use laws::{
     a_vertex_is_read_where_it_is_spelled, an_append_adds_the_entry, what_is_written_is_said,
     whole_entries_stand_before_a_cut,
 };
+pub use mending::mend;
+pub use migrating::migrate;
 pub use reader::LogReader;
 pub use whole::{Log, read_log};
 pub use writer::{append_entry, append_header, entry_bytes};

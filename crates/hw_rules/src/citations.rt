@@ -11,8 +11,7 @@ ghost use Rattle.hw_rules.specs.Judged.{IsCase, EachNamed, below_of, citation_te
 ghost use Rattle.hw_rules.specs.Verdict.{verdict_of};
 
 use crate::lookups::{cited_beside, newest, previous, wire_unit};
-use hw_dag::{Dag, Prepared, Slot};
-use hw_panorama::consistent;
+use hw_dag::{Dag, Prepared, Slot, consistent};
 use hw_types::Rule;
 
 /// The first rule of what a unit cites that it breaks.

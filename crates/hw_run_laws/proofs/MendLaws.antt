@@ -28,7 +28,7 @@ use Rattle.hw_log.proofs.MoreLaws.{next_at-reads, header_of-reads}
 use Rattle.hw_log.proofs.RunLaws.{with_entries}
 use Rattle.hw_log.proofs.AppendLaws.{entry_again, header_again, log_ok}
 use Rattle.hw_log.proofs.SpelledLaws.{spelled_said}
-use Rattle.hw_rewrite.specs.Rewritten.{whole_entries, with_bytes, mended_of}
+use Rattle.hw_log.specs.Rewritten.{whole_entries, with_bytes, mended_of}
 use Rattle.hw_io.specs.Files.{bytes_of}
 use Rattle.hw_session.specs.Node.{NodeState}
 use Rattle.hw_session.specs.Make.{entry_for, with_entry}

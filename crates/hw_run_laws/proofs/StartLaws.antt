@@ -22,8 +22,8 @@ use Rattle.hw_replay.specs.declared.fault.StartFault.TheVariants as fault
 use Rattle.hw_replay.specs.Taken.{◌>>=◌, Taken, nothing_taken, entries_taken, or_fault, rest_taken}
 use Rattle.hw_replay.specs.Replay.{is_wanted, said_replayed, replay_of}
 use Rattle.hw_replay.specs.Ends.{lasts_of_file}
-use Rattle.hw_rewrite.specs.declared.whole.Rewritten.{Rewritten}
-use Rattle.hw_rewrite.specs.Rewritten.{whole_entries, with_bytes, mended_of}
+use Rattle.hw_log.specs.declared.rewritten.Rewritten.{Rewritten}
+use Rattle.hw_log.specs.Rewritten.{whole_entries, with_bytes, mended_of}
 use Rattle.hw_session.specs.Node.{NodeState}
 use Rattle.hw_session.specs.Restart.{true_entries, journal_log, journal_lasts, GivesBack, HasLog, logged_of}
 use Rattle.hw_session.specs.Start.{taken_of, GoesOn}

@@ -17,8 +17,8 @@ use Rattle.hw_codec.specs.Ranges.{ConfigInRange, VertexInRange}
 use Rattle.hw_honest.specs.OneLine.{OneLine}
 use Rattle.hw_honest.specs.Restart.{AreFair, MayGoOut}
 use Rattle.hw_link.specs.declared.end.SessionEnd.{SessionEnd}
-use Rattle.hw_rewrite.specs.declared.whole.Rewritten.{Rewritten}
-use Rattle.hw_rewrite.specs.Rewritten.{mended_of}
+use Rattle.hw_log.specs.declared.rewritten.Rewritten.{Rewritten}
+use Rattle.hw_log.specs.Rewritten.{mended_of}
 use Rattle.hw_session.specs.declared.stage.PeerMark.{PeerMark}
 use Rattle.hw_session.specs.declared.fault.MakeFault.{MakeFault}
 use Rattle.hw_session.specs.declared.fault.MakeFault.TheVariants as fault

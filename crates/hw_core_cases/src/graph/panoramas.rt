@@ -10,9 +10,8 @@ use crate::graph::units::observed;
 use crate::graph::views::{put_name, put_views};
 use hw_admit::State;
 use hw_case_words::Answer;
-use hw_dag::{Dag, Panorama, UnitNo, View};
+use hw_dag::{Dag, Panorama, UnitNo, View, at_most, consistent, join};
 use hw_forks::Forks;
-use hw_panorama::{at_most, consistent, join};
 use hw_types::Obs;
 use std::alloc::Global;
 

@@ -2,8 +2,7 @@
 
 use hw_case_words::{Answer, number};
 use hw_io::MemFiles;
-use hw_log::LogError;
-use hw_rewrite::{RewriteFault, mend, migrate};
+use hw_log::{LogError, RewriteFault, mend, migrate};
 use std::alloc::Global;
 
 /// A read of the files gives at most this many bytes.

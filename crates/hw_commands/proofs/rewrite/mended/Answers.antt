@@ -1,5 +1,5 @@
 use Rattle.std.proofs.Common.{codes, sym, ap, ◌∙◌}
-use Rattle.hw_rewrite.specs.Rewritten.{mended_of}
+use Rattle.hw_log.specs.Rewritten.{mended_of}
 use Rattle.hw_commands.specs.declared.ended.Ended.{Ended}
 use Rattle.hw_commands.proofs.FaultLaws.{if_ok}
 use Rattle.hw_commands.proofs.CauseLaws.{no_read}

@@ -2,7 +2,7 @@ use Rattle.std.proofs.Common.{◌≡◌, ◌<◌, ◌++◌, ◌∷◌, [], List,
 use Rattle.std.specs.Prelude.{Some, slice_get}
 use Rattle.std.proofs.lemmas.List.{length-append}
 use Rattle.hw_types.specs.declared.answers.Decision.{Decision}
-use Rattle.hw_finality.specs.Detected.{decision_of, decisions_of as found_in}
+use Rattle.hw_horizon.specs.Detected.{decision_of, decisions_of as found_in}
 use Rattle.hw_core.proofs.UnmetLaws.{take_one}
 use Rattle.hw_core.proofs.DecidedLaws.{found_at, get_mapped, mapped_length}
 use Rattle.hw_core.proofs.decided.list.Goals as goal

@@ -1,6 +1,6 @@
 use Rattle.std.proofs.Common.{◌≡◌, ◌≤◌, length, take}
 use Rattle.std.specs.Prelude.{vec_capacity}
-use Rattle.hw_finality.specs.Detected.{decisions_of as found_in}
+use Rattle.hw_horizon.specs.Detected.{decisions_of as found_in}
 use Rattle.hw_core.proofs.decided.list.Given as goal
 
 -- so many records are listed, and there is room for all

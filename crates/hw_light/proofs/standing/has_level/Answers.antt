@@ -1,7 +1,7 @@
 use Rattle.std.proofs.Common.{◌≡◌, ◌+◌, ◌≤◌, ℕ, sym, ap, subst, ◌∙◌, arith}
 use Rattle.std.specs.Prelude.{sum}
 use Rattle.hw_types.specs.declared.config.Config.{Config}
-use Rattle.hw_finality.proofs.LevelLaws.{quorum_limits}
+use Rattle.hw_horizon.proofs.LevelLaws.{quorum_limits}
 use Rattle.hw_light.proofs.StandingLaws.{none_at_first, none_more, lacks_of, quorum_of_state}
 use Rattle.hw_light.proofs.standing.has_level.Goals as goal
 

@@ -4,7 +4,7 @@ use Rattle.hw_types.specs.Votes.{weight_of}
 use Rattle.hw_dag.specs.declared.numbers.View.{View}
 use Rattle.hw_dag.specs.Dag.{UnitGraph, graph, count_of}
 use Rattle.hw_admit.specs.State.{NodeState, is_faulty_in}
-use Rattle.hw_finality.specs.Laws.{DecidesOn}
+use Rattle.hw_horizon.specs.DetectorLaws.{DecidesOn}
 use Rattle.hw_core.specs.Decided.{DecidedState}
 use Rattle.hw_core.proofs.CountLaws.{graph_length}
 use Rattle.hw_core.proofs.decided.Decided.run.Goals as goal

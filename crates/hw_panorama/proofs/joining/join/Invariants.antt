@@ -1,6 +1,0 @@
--- The slots so far are joined, and the others are as they were.
-use Rattle.hw_panorama.proofs.JoiningLaws.{IsPartJoined}
-use Rattle.hw_panorama.proofs.joining.join.Given as goal
-
-abbrev pub invariant-loop-validator : goal.invariant-loop-validator
-invariant-loop-validator l = IsPartJoined l.dag l.fn.left l.right l.left l.validator

@@ -1,2 +1,0 @@
-pub mod Join
-pub mod Views

@@ -1,4 +1,0 @@
-pub mod MeasureLaws
-pub mod MendLaws
-pub mod AboutLaws
-pub mod MigrateLaws

@@ -1,4 +1,0 @@
-pub mod Rewritten
-pub mod Causes
-pub mod Measured
-pub mod Migrated
