@@ -5,6 +5,7 @@
 
 mod count;
 mod values;
+mod wants;
 
 pub use count::BlockCount;
 pub use values::{BLOCKS_FILE, ValueFile};

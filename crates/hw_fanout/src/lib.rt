@@ -9,5 +9,5 @@ mod one;
 mod telling;
 mod value;
 
-pub use fanout::Fanout;
+pub use fanout::{Fanout, FanoutOf};
 pub use laws::what_was_told_stays;
