@@ -1,7 +1,7 @@
 //! A consumer that takes the calls of its plan.
 
 ghost use Rattle.std.specs.Prelude.{None};
-ghost use Rattle.hw_io.specs.Faults.{HasCause};
+ghost use Rattle.hw_io.specs.Faults.{HasCause, IsWantCounted};
 
 use hw_case_words::Answer;
 use hw_io::{Consumer, IoFault};
@@ -31,7 +31,8 @@ impl Planned {
 
     /// Takes a call, if it is the next one of the plan.
     fn answer(&mut self, is_next: bool) -> Result<(), IoFault>
-        ensures { HasCause self.old.faults self.new.faults result }
+        ensures cause { HasCause self.old.faults self.new.faults result }
+        ensures want { IsWantCounted 0 0 result }
     {
         if is_next {
             self.next = self.next.saturating_add(1);
@@ -46,6 +47,8 @@ impl Consumer for Planned {
     ghost consumed = { λ _. None };
 
     ghost faults = { λ consumer. consumer.faults };
+
+    ghost wants = { λ _. 0 };
 
     fn take(&mut self, height: u64, value: &[u8]) -> Result<(), IoFault> {
         let is_next = is_take(self.next_call(), height, value);

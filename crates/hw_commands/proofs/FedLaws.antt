@@ -36,7 +36,7 @@ module _ {B : Type 0} (meets : Fate B → Type 0) (P Q : B → Type 0) (one : (f
       left_more fate (filter is_left fates) fate.ended refl (All-head meets fate fates m) (All-head P fate.before (map (λ f. f.before) fates) p)
       (all_left fates (All-tail meets fate fates m) (All-tail P fate.before (map (λ f. f.before) fates) p))
 
-  pub served_all : (old new : List B) (before after : FanoutState) → AreServed meets old new before after → All P old → All Q new
+  pub served_all : (old new : List B) (before after : FanoutState B) → AreServed meets old new before after → All P old → All Q new
   served_all old new before after s p = subst (All Q) (sym s.left) (all_left s.fates s.each (subst (All P) s.whole p))
 
 -- ---- one consumer
@@ -108,7 +108,7 @@ module _ {B K : Type 0} (sight : Sight B K) where
   fed_got : (config : Config) (old : List B) (last : Moment B) → AreFed sight (first_moment config old (first_kept old)) last → HaveGot sight [] 0 old → HaveGot sight (told_chain last.core) 0 last.consumers
   fed_got config old last fed nothing = (all_moments (first_moment config old (first_kept old)) fed.moments last fed.passed (first_one config old nothing)).got
 
-  finished_got : (chain : List (ℕ × List ℕ)) (old new : List B) (before after : FanoutState) → AreServed (IsFinished sight) old new before after → HaveGot sight chain 0 old → HaveGot sight chain 1 new
+  finished_got : (chain : List (ℕ × List ℕ)) (old new : List B) (before after : FanoutState B) → AreServed (IsFinished sight) old new before after → HaveGot sight chain 0 old → HaveGot sight chain 1 new
   finished_got chain old new before after s h =
       served_all (IsFinished sight) (λ b. HasGot chain 0 (sight.consumed b)) (λ b. HasGot chain 1 (sight.consumed b))
       (λ fate f e got. got_finish chain (sight.consumed fate.before) (sight.consumed fate.after) (let P : Option Ending → Type 0 = λ o. sight.consumed fate.after ≡ option_map (after_finish (answer_of o)) (sight.consumed fate.before) in subst P e f.finish) got)
@@ -116,10 +116,10 @@ module _ {B K : Type 0} (sight : Sight B K) where
 
   -- ---- what they were told in all
 
-  pub told_all : (core : CoreState) (old fed new : List B) (before kept last : FanoutState) → before ≡ first_kept old → AreFed sight (first_moment core.config old before) (moment core fed kept)
+  pub told_all : (core : CoreState) (old fed new : List B) (before kept last : FanoutState B) → before ≡ first_kept old → AreFed sight (first_moment core.config old before) (moment core fed kept)
       → AreServed (IsFinished sight) fed new kept last → AreToldAll sight core old new last.drops
   told_all core old fed new before kept last is told finished =
-      let P : FanoutState → Type 0 = λ k. AreFed sight (first_moment core.config old k) (moment core fed kept) in
+      let P : FanoutState B → Type 0 = λ k. AreFed sight (first_moment core.config old k) (moment core fed kept) in
       let from_first = subst P is told in
       record {
         fed = fed;
@@ -131,9 +131,9 @@ module _ {B K : Type 0} (sight : Sight B K) where
         took = λ nothing. finished_got (told_chain core) fed new kept last finished (fed_got core.config old (moment core fed kept) from_first nothing);
       }
 
-  pub told_some : (tells : Bool) (log : Option (List ℕ)) (e : StartFault) (old new : List B) (before kept : FanoutState) → before ≡ first_kept old → AreFedPart sight tells (file_begun None log) e old new before kept → AreCutOff sight tells log e old new
+  pub told_some : (tells : Bool) (log : Option (List ℕ)) (e : StartFault) (old new : List B) (before kept : FanoutState B) → before ≡ first_kept old → AreFedPart sight tells (file_begun None log) e old new before kept → AreCutOff sight tells log e old new
   told_some tells log e old new before kept is some =
-      let P : FanoutState → Type 0 = λ k. AreFedPart sight tells (file_begun None log) e old new k kept in
+      let P : FanoutState B → Type 0 = λ k. AreFedPart sight tells (file_begun None log) e old new k kept in
       go (subst P is some)
     where
       go : AreFedPart sight tells (file_begun None log) e old new (first_kept old) kept → AreCutOff sight tells log e old new

@@ -20,8 +20,8 @@ use Rattle.hw_commands.specs.Commands.{Word, Request, Replay, request_of}
 use Rattle.hw_commands.specs.Program.{Held, run_of}
 
 -- as they were handed in: numbered from 0 on in the list's order, and nothing was passed to them
-abbrev pub first_kept : {B : Type 0} → List B → FanoutState
-first_kept consumers = record { passed = 0; places = range_with_len 0 (length consumers); drops = [] }
+abbrev pub first_kept : {B : Type 0} → List B → FanoutState B
+first_kept consumers = record { passed = 0; places = range_with_len 0 (length consumers); drops = []; gone = [] }
 
 -- it took these blocks and was finished so often, where it tells that
 abbrev pub HasGot : List (ℕ × List ℕ) → ℕ → Option Consumed → Type 0
@@ -36,8 +36,8 @@ HaveGot sight blocks finishes consumers = All (λ b. HasGot blocks finishes (sig
 -- were left were told once that no block follows. The dropped ones are those that answered an error, in the order of dropping.
 pub record AreToldAll {B K : Type 0} (sight : Sight B K) (core : CoreState) (old new : List B) (drops : List Dropped) : Type 0 where
   pub fed : List B
-  pub kept : FanoutState
-  pub last : FanoutState
+  pub kept : FanoutState B
+  pub last : FanoutState B
   pub told : AreFed sight (first_moment core.config old (first_kept old)) (moment core fed kept)
   pub finished : AreServed (IsFinished sight) fed new kept last
   pub dropped : drops ≡ last.drops
@@ -46,7 +46,7 @@ pub record AreToldAll {B K : Type 0} (sight : Sight B K) (core : CoreState) (old
 
 -- They were told the blocks up to the node that the log's entries before the one that stopped it so left, and not that none follows.
 pub record AreToldSome {B K : Type 0} (sight : Sight B K) (tells : Bool) (log : Option (List ℕ)) (e : StartFault) (old new : List B) : Type 0 where
-  pub kept : FanoutState
+  pub kept : FanoutState B
   pub part : AreFedTo sight tells (file_begun None log) e (λ (core : CoreState). first_moment core.config old (first_kept old)) new kept
   -- the entries that were still to come would leave of it what the whole log leaves
   pub leads : IsTrue tells → file_replayed None log ≡ rest_taken part.taken part.rest

@@ -30,8 +30,8 @@ pub fn replay<F: Files>(
     consumers: &mut Vec<Box<dyn Consumer>>,
 ) -> Result<Ended, RunFault>
     ensures said { IsTrue F.tells → IfOk result (λ e. e.status ≡ (ended (replay_said (F.held files.old) log.now)).status) }
-    ensures text { IsTrue F.tells → IfOk result (λ e. IsReplayText (seen (λ b. consumed b) (λ b. faults b) (λ b. b.vtable)) F.tells (file_replayed None (F.held files.old log.now)) (ended (replay_said (F.held files.old) log.now)) consumers.old.items consumers.new.items e.text) }
-    ensures told { IsReplayTold (seen (λ b. consumed b) (λ b. faults b) (λ b. b.vtable)) F.tells (F.held files.old log.now) (status_of result) consumers.old.items consumers.new.items }
+    ensures text { IsTrue F.tells → IfOk result (λ e. IsReplayText (seen (λ b. consumed b) (λ b. faults b) (λ b. wants b) (λ b. b.vtable)) F.tells (file_replayed None (F.held files.old log.now)) (ended (replay_said (F.held files.old) log.now)) consumers.old.items consumers.new.items e.text) }
+    ensures told { IsReplayTold (seen (λ b. consumed b) (λ b. faults b) (λ b. wants b) (λ b. b.vtable)) F.tells (F.held files.old log.now) (status_of result) consumers.old.items consumers.new.items }
     ensures status { IfOk result (λ e. IsReadEnd e.status) }
     ensures fault { HasReadFault (F.read_faults files.old) (F.read_faults files.new) result }
     ensures about { IsTrue F.tells → IfErr result (λ fault. fault ≡ RunFaults.Read → FailsDue (λ h. replay_said h log.now) (F.held files.old) (F.faults_about files.old) (F.faults_about files.new)) }
@@ -54,8 +54,8 @@ fn replay_told<F: Files>(
 ) -> Result<Ended, RunFault>
     requires { fanout.old ≡ first_kept consumers.old.items }
     ensures said { IsTrue F.tells → IfOk result (λ e. e.status ≡ (ended (replay_said (F.held files.old) log.now)).status) }
-    ensures text { IsTrue F.tells → IfOk result (λ e. IsReplayText (seen (λ b. consumed b) (λ b. faults b) (λ b. b.vtable)) F.tells (file_replayed None (F.held files.old log.now)) (ended (replay_said (F.held files.old) log.now)) consumers.old.items consumers.new.items e.text) }
-    ensures told { IsReplayTold (seen (λ b. consumed b) (λ b. faults b) (λ b. b.vtable)) F.tells (F.held files.old log.now) (status_of result) consumers.old.items consumers.new.items }
+    ensures text { IsTrue F.tells → IfOk result (λ e. IsReplayText (seen (λ b. consumed b) (λ b. faults b) (λ b. wants b) (λ b. b.vtable)) F.tells (file_replayed None (F.held files.old log.now)) (ended (replay_said (F.held files.old) log.now)) consumers.old.items consumers.new.items e.text) }
+    ensures told { IsReplayTold (seen (λ b. consumed b) (λ b. faults b) (λ b. wants b) (λ b. b.vtable)) F.tells (F.held files.old log.now) (status_of result) consumers.old.items consumers.new.items }
     ensures status { IfOk result (λ e. IsReadEnd e.status) }
     ensures fault { HasReadFault (F.read_faults files.old) (F.read_faults files.new) result }
     ensures about { IsTrue F.tells → IfErr result (λ fault. fault ≡ RunFaults.Read → Rose (F.faults_about files.old log.now) (F.faults_about files.new log.now)) }
@@ -83,7 +83,7 @@ fn reported(
     consumers: &mut Vec<Box<dyn Consumer>>,
 ) -> Result<Ended, RunFault>
     requires { length consumers.old.items ≤ length fanout.old.places }
-    ensures finished { AreServed (IsFinished (seen (λ b. consumed b) (λ b. faults b) (λ b. b.vtable))) consumers.old.items consumers.new.items fanout.old fanout.new }
+    ensures finished { AreServed (IsFinished (seen (λ b. consumed b) (λ b. faults b) (λ b. wants b) (λ b. b.vtable))) consumers.old.items consumers.new.items fanout.old fanout.new }
     ensures text { IfOk result (λ e. e ≡ record { status = 0; text = report_of (taken_in replay.now) ++ drop_lines fanout.new.drops }) }
     ensures fault { IfErr result (λ fault. fault ≡ RunFaults.OutOfMemory) }
 {

@@ -39,6 +39,8 @@ impl<R: Voice, C: Consumer> Consumer for Announced<R, C> {
 
     ghost faults = { λ announced. C.faults announced.consumer };
 
+    ghost wants = { λ announced. C.wants announced.consumer };
+
     fn take(&mut self, height: u64, value: &[u8]) -> Result<(), IoFault> {
         let outcome = self.consumer.take(height, value);
         if let Err(fault) = outcome {

@@ -6,6 +6,7 @@ ghost use Rattle.hw_io.specs.Faults.{HasCause};
 ghost use Rattle.hw_text.specs.Text.{number_text};
 ghost use Rattle.hw_text.specs.Lines.{line_feed};
 
+use crate::wants::count_want;
 use hw_io::{Consumer, IoFault, Sink, write_all};
 use hw_text::{end_line, put_number};
 use hw_types::{Bytes, OutOfMemory};
@@ -18,6 +19,8 @@ pub struct BlockCount<S: Sink> {
     alloc: Global,
     out: S,
     blocks: u64,
+    /// How many calls found no memory.
+    wants: u64,
 }
 
 impl<S: Sink> BlockCount<S> {
@@ -30,6 +33,7 @@ impl<S: Sink> BlockCount<S> {
             alloc,
             out,
             blocks: 0,
+            wants: 0,
         }
     }
 
@@ -44,6 +48,7 @@ impl<S: Sink> BlockCount<S> {
     fn count_one(&mut self)
         ensures blocks { self.new.blocks ≡ min (self.old.blocks + 1) (2 ^ 64 - 1) }
         ensures out { self.new.out ≡ self.old.out }
+        ensures wants { self.new.wants ≡ self.old.wants }
     {
         self.blocks = self.blocks.saturating_add(1);
     }
@@ -54,13 +59,17 @@ impl<S: Sink + Drop> Consumer for BlockCount<S> {
 
     ghost faults = { λ consumer. S.faults consumer.out };
 
+    ghost wants = { λ consumer. consumer.wants };
+
     fn take(&mut self, _height: u64, _value: &[u8]) -> Result<(), IoFault> {
         self.count_one();
         Ok(())
     }
 
     fn finish(&mut self) -> Result<(), IoFault> {
-        write_count(self.alloc, &mut self.out, self.blocks)
+        let answer = write_count(self.alloc, &mut self.out, self.blocks);
+        count_want(&mut self.wants, answer);
+        answer
     }
 }
 

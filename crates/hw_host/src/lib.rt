@@ -21,6 +21,7 @@ mod suspects;
 mod told_files;
 mod values;
 mod waiting;
+mod wants;
 
 pub use announced::Announced;
 pub use clock::HostClock;

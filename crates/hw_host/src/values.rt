@@ -4,6 +4,7 @@ ghost use Rattle.std.specs.Prelude.{◌≡◌, ◌∷◌, ◌++◌, [], None, Is
 ghost use Rattle.hw_io.specs.Faults.{HasCause};
 ghost use Rattle.hw_io.specs.Files.{Appended};
 
+use crate::wants::count_want;
 use hw_io::{Consumer, Files, IoFault};
 use hw_types::{Bytes, OutOfMemory};
 use std::alloc::Global;
@@ -17,6 +18,8 @@ pub const BLOCKS_FILE: &str = "highway.blocks";
 pub struct ValueFile<F: Files> {
     alloc: Global,
     files: F,
+    /// How many calls found no memory.
+    wants: u64,
 }
 
 impl<F: Files> ValueFile<F> {
@@ -24,7 +27,11 @@ impl<F: Files> ValueFile<F> {
     pub fn new(alloc: Global, files: F) -> ValueFile<F>
         ensures { result.files ≡ files }
     {
-        ValueFile { alloc, files }
+        ValueFile {
+            alloc,
+            files,
+            wants: 0,
+        }
     }
 
     /// The files, with what was appended to them.
@@ -40,8 +47,12 @@ impl<F: Files + Drop> Consumer for ValueFile<F> {
 
     ghost faults = { λ consumer. F.append_faults consumer.files };
 
+    ghost wants = { λ consumer. consumer.wants };
+
     fn take(&mut self, _height: u64, value: &[u8]) -> Result<(), IoFault> {
-        append_line(self.alloc, &mut self.files, BLOCKS_FILE, value)
+        let answer = append_line(self.alloc, &mut self.files, BLOCKS_FILE, value);
+        count_want(&mut self.wants, answer);
+        answer
     }
 
     fn finish(&mut self) -> Result<(), IoFault> {

@@ -143,3 +143,7 @@ list_calls consumer = consumer.calls
 -- how many of its calls failed
 abbrev pub list_faults : ListConsumer → ℕ
 list_faults consumer = consumer.faults
+
+-- how many of them found no memory
+abbrev pub list_wants : ListConsumer → ℕ
+list_wants consumer = consumer.wants

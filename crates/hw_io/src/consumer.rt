@@ -1,7 +1,8 @@
 //! A consumer in memory, which tells what it took.
 ghost use Rattle.std.specs.Prelude.{◌≡◌, ◌++◌, ◌∷◌, ℕ, List, [], Some, false, IsOk, OnOk, OnErr, vec_len};
 ghost use Rattle.std.specs.Option.{option_map};
-ghost use Rattle.hw_io.specs.Faults.{HasCause, raised};
+ghost use Rattle.hw_io.specs.Faults.{HasCause, IsWantCounted, raised};
+ghost use Rattle.hw_io.specs.declared.outside.IoFault.TheVariants.{OutOfMemory};
 ghost use Rattle.hw_io.specs.Consumers.{Consumed, after_take, after_finish};
 ghost use Rattle.hw_io.specs.Memory.{is_planned, FailsAsPlanned, FailsForMemory};
 
@@ -48,10 +49,11 @@ pub struct ListConsumer {
     planned: Vec<u64>,
     calls: u64,
     faults: u64,
+    wants: u64,
 }
 
 impl ListConsumer {
-    ghost use Rattle.hw_io.specs.Memory.{list_consumed, list_planned, list_calls, list_faults};
+    ghost use Rattle.hw_io.specs.Memory.{list_consumed, list_planned, list_calls, list_faults, list_wants};
 
     /// Nothing was taken, and no call is to fail.
     pub fn new(alloc: Global) -> ListConsumer
@@ -59,6 +61,7 @@ impl ListConsumer {
         ensures planned { list_planned result ≡ [] }
         ensures calls { list_calls result ≡ 0 }
         ensures faults { list_faults result ≡ 0 }
+        ensures wants { list_wants result ≡ 0 }
     {
         ListConsumer {
             blocks: Vec::new(alloc),
@@ -66,6 +69,7 @@ impl ListConsumer {
             planned: Vec::new(alloc),
             calls: 0,
             faults: 0,
+            wants: 0,
         }
     }
 
@@ -76,6 +80,7 @@ impl ListConsumer {
         ensures consumed { list_consumed self.new ≡ list_consumed self.old }
         ensures calls { list_calls self.new ≡ list_calls self.old }
         ensures faults { list_faults self.new ≡ list_faults self.old }
+        ensures wants { list_wants self.new ≡ list_wants self.old }
     {
         self.planned.push(call)?;
         Ok(())
@@ -109,6 +114,7 @@ impl ListConsumer {
         ensures calls { self.new.calls ≡ raised self.old.calls }
         ensures plan { self.new.planned ≡ self.old.planned }
         ensures cause { HasCause self.old.faults self.new.faults result }
+        ensures wants { self.new.wants ≡ self.old.wants }
         ensures blocks { self.new.blocks ≡ self.old.blocks }
         ensures finishes { self.new.finishes ≡ self.old.finishes }
     {
@@ -127,6 +133,7 @@ impl ListConsumer {
         ensures err { OnErr result (self.new.blocks.items ≡ self.old.blocks.items) }
         ensures finishes { self.new.finishes ≡ self.old.finishes }
         ensures faults { self.new.faults ≡ self.old.faults }
+        ensures wants { self.new.wants ≡ self.old.wants }
         ensures calls { self.new.calls ≡ self.old.calls }
         ensures plan { self.new.planned ≡ self.old.planned }
     {
@@ -134,12 +141,23 @@ impl ListConsumer {
         self.blocks.push(TakenBlock { height, value })?;
         Ok(())
     }
+
+    /// Counts a call that found no memory.
+    fn want_memory(&mut self) -> IoFault
+        ensures fault { result ≡ OutOfMemory }
+        ensures rest { self.new ≡ record self.old { wants = raised self.old.wants } }
+    {
+        self.wants = self.wants.saturating_add(1);
+        IoFault::OutOfMemory
+    }
 }
 
 impl Consumer for ListConsumer {
     ghost consumed = { λ consumer. Some (record { pairs = consumer.blocks.items; finishes = consumer.finishes }) };
 
     ghost faults = { λ consumer. consumer.faults };
+
+    ghost wants = { λ consumer. consumer.wants };
 
     fn take(&mut self, height: u64, value: &[u8]) -> Result<(), IoFault>
         ensures planned { FailsAsPlanned (is_planned self.old.planned.items self.old.calls) result }
@@ -149,10 +167,12 @@ impl Consumer for ListConsumer {
 
         ensures consumed { Some (record { pairs = self.new.blocks.items; finishes = self.new.finishes }) ≡ option_map (after_take height value.now result) (Some (record { pairs = self.old.blocks.items; finishes = self.old.finishes })) }
         ensures cause { HasCause self.old.faults self.new.faults result }
+        ensures want { IsWantCounted self.old.wants self.new.wants result }
     {
-        match self.next_call() {
-            Ok(()) => Ok(self.keep(height, value)?),
-            Err(fault) => Err(fault),
+        self.next_call()?;
+        match self.keep(height, value) {
+            Ok(()) => Ok(()),
+            Err(_) => Err(self.want_memory()),
         }
     }
 
@@ -165,6 +185,7 @@ impl Consumer for ListConsumer {
 
         ensures consumed { Some (record { pairs = self.new.blocks.items; finishes = self.new.finishes }) ≡ option_map (after_finish result) (Some (record { pairs = self.old.blocks.items; finishes = self.old.finishes })) }
         ensures cause { HasCause self.old.faults self.new.faults result }
+        ensures want { IsWantCounted self.old.wants self.new.wants result }
     {
         self.next_call()?;
         match self.finishes.checked_add(1) {
@@ -172,7 +193,7 @@ impl Consumer for ListConsumer {
                 self.finishes = finishes;
                 Ok(())
             }
-            None => Err(IoFault::OutOfMemory),
+            None => Err(self.want_memory()),
         }
     }
 }

@@ -240,13 +240,18 @@ pub trait Consumer: Drop {
 
     ghost faults: { Self → ℕ };
 
+    /// How many calls found no memory.
+    ghost wants: { Self → ℕ };
+
     /// Takes the value of the decided block at this height. After an error it is not taken.
     fn take(&mut self, height: u64, value: &[u8]) -> Result<(), IoFault>
         ensures consumed { consumed self.new ≡ option_map (after_take height value.now result) (consumed self.old) }
-        ensures cause { HasCause (faults self.old) (faults self.new) result };
+        ensures cause { HasCause (faults self.old) (faults self.new) result }
+        ensures want { IsWantCounted (wants self.old) (wants self.new) result };
 
     /// Is told that no block follows.
     fn finish(&mut self) -> Result<(), IoFault>
         ensures consumed { consumed self.new ≡ option_map (after_finish result) (consumed self.old) }
-        ensures cause { HasCause (faults self.old) (faults self.new) result };
+        ensures cause { HasCause (faults self.old) (faults self.new) result }
+        ensures want { IsWantCounted (wants self.old) (wants self.new) result };
 }

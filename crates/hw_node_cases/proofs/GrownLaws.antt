@@ -21,9 +21,9 @@ still_told c d n (inr (v, is)) le =
     subst P (sym is) (omega (arith, le, ap length g.1, length-append (told_chain (node_with c.config c.journal)) g.0))
 
 -- what is reserved at first is enough
-pub enough_room : (f : FanoutState) (places : List ℕ) (count wanted : ℕ) → f ≡ record { passed = 0; places = []; drops = [] }
+pub enough_room : {B : Type 0} (f : FanoutState B) (places : List ℕ) (count wanted : ℕ) → f ≡ record { passed = 0; places = []; drops = []; gone = [] }
     → places ≡ f.places ++ range_with_len (length f.drops + length f.places) (wanted - (length f.drops + length f.places)) → wanted ≡ count → count ≤ length places
-enough_room f places count wanted empty is same =
-    let P : FanoutState → Type 0 = λ s. places ≡ s.places ++ range_with_len (length s.drops + length s.places) (wanted - (length s.drops + length s.places)) in
+enough_room {B} f places count wanted empty is same =
+    let P : FanoutState B → Type 0 = λ s. places ≡ s.places ++ range_with_len (length s.drops + length s.places) (wanted - (length s.drops + length s.places)) in
     let e : places ≡ range_with_len 0 (wanted - 0) = subst P empty is in
     omega (arith, ap length e ∙ length-range_with_len 0 (wanted - 0), same)

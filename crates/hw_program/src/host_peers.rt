@@ -25,7 +25,7 @@ pub fn host_peers<F: Files, S: Sink, D: Door>(
 ) -> u8
     // It asks for nothing. With a `requires` the proof is for whatever consumers the caller has.
     requires { 0 ≤ sessions }
-    ensures runs { (address : List ℕ) (given : Option (List ℕ)) → RunsNode (seen (λ b. consumed b) (λ b. (⟦<dyn Consumer as Consumer>⟧ b.vtable).faults b.value) (λ b. b.vtable)) F.tells (Host (names_of sources.entry) address sessions) result
+    ensures runs { (address : List ℕ) (given : Option (List ℕ)) → RunsNode (seen (λ b. consumed b) (λ b. (⟦<dyn Consumer as Consumer>⟧ b.vtable).faults b.value) (λ b. (⟦<dyn Consumer as Consumer>⟧ b.vtable).wants b.value) (λ b. b.vtable)) F.tells (Host (names_of sources.entry) address sessions) result
         (around (F.held files.old) (door_seen (D.sessions door.old) (D.accepts door.old) (D.dials door.old) (D.ends door.old)) given (output (S.taken out.old) (S.faults out.old) (S.wants out.old)) (counts (F.read_faults files.old) (F.append_faults files.old) (F.faults_about files.old) (D.faults door.old)) consumers.old.items)
         (around (F.held files.new) (door_seen (D.sessions door.new) (D.accepts door.new) (D.dials door.new) (D.ends door.new)) given (output (S.taken out.new) (S.faults out.new) (S.wants out.new)) (counts (F.read_faults files.new) (F.append_faults files.new) (F.faults_about files.new) (D.faults door.new)) consumers.new.items) }
 {

@@ -97,14 +97,14 @@ pub fed_config : {B K : Type 0} (sight : Sight B K) (first last : Moment B) → 
 fed_config sight first last fed = config_kept sight first fed.moments last fed.passed
 
 -- from a node that had received nothing
-pub fed_first : {B K : Type 0} (sight : Sight B K) (core : CoreState) (old : List B) (before : FanoutState) (last : Moment B) → core ≡ (nothing_taken core.config).core → AreFed sight (moment core old before) last → AreFed sight (first_moment last.core.config old before) last
+pub fed_first : {B K : Type 0} (sight : Sight B K) (core : CoreState) (old : List B) (before : FanoutState B) (last : Moment B) → core ≡ (nothing_taken core.config).core → AreFed sight (moment core old before) last → AreFed sight (first_moment last.core.config old before) last
 fed_first sight core old before last empty fed =
     let P : Config → Type 0 = λ config. AreFed sight (first_moment config old before) last in
     let Q : CoreState → Type 0 = λ c. AreFed sight (moment c old before) last in
     subst P (sym (fed_config sight (moment core old before) last fed)) (subst Q empty fed)
 
 -- the replay that began is the one of the file
-pub fed_to : {B K : Type 0} (sight : Sight B K) (tells : Bool) (whole : Option Midway) (begun : Midway) (e : StartFault) (core : CoreState) (old new : List B) (before after : FanoutState)
+pub fed_to : {B K : Type 0} (sight : Sight B K) (tells : Bool) (whole : Option Midway) (begun : Midway) (e : StartFault) (core : CoreState) (old new : List B) (before after : FanoutState B)
     → (IsTrue tells → whole ≡ Some begun) → core ≡ (nothing_taken core.config).core
     → AreFedTo sight tells (Some begun) e (λ (c : CoreState). moment core old before) new after
     → AreFedTo sight tells whole e (λ (c : CoreState). first_moment c.config old before) new after
@@ -117,6 +117,6 @@ fed_to sight tells whole begun e core old new before after begins empty u = reco
 }
 
 -- and there the whole file's replay leads on
-pub fed_until : {B K : Type 0} (sight : Sight B K) (tells : Bool) (wanted : Option Config) (file : Option (List ℕ)) (e : StartFault) (first : CoreState → Moment B) (new : List B) (after : FanoutState)
+pub fed_until : {B K : Type 0} (sight : Sight B K) (tells : Bool) (wanted : Option Config) (file : Option (List ℕ)) (e : StartFault) (first : CoreState → Moment B) (new : List B) (after : FanoutState B)
     → AreFedTo sight tells (file_begun wanted file) e first new after → AreFedUntil sight tells (file_replayed wanted file) first new after
 fed_until sight tells wanted file e first new after u = record { taken = u.taken; rest = u.rest; leads = λ t. midway_leads wanted file (midway u.taken u.rest) (u.came t); fed = u.fed }

@@ -89,9 +89,9 @@ module _ {B K : Type 0} (sight : Sight B K) (chain : List (ℕ × List ℕ)) (fr
       (whole_left fates (All-tail (IsTold sight chain from) fate fates h) (All-tail SoFar fate.before (map (λ f. f.before) fates) so))
 
   -- those of the list
-  pub all_whole : (old new : List B) (before after : FanoutState) → AreServed (IsTold sight chain from) old new before after → All SoFar old → All Whole new
+  pub all_whole : (old new : List B) (before after : FanoutState B) → AreServed (IsTold sight chain from) old new before after → All SoFar old → All Whole new
   all_whole old new before after s so = subst (All Whole) (sym s.left) (whole_left s.fates s.each (subst (All SoFar) s.whole so))
 
 -- the place from which it was told, by another name
-pub told_from : {B K : Type 0} (sight : Sight B K) (chain : List (ℕ × List ℕ)) (from other : ℕ) (old new : List B) (before after : FanoutState) → from ≡ other → AreServed (IsTold sight chain from) old new before after → AreServed (IsTold sight chain other) old new before after
+pub told_from : {B K : Type 0} (sight : Sight B K) (chain : List (ℕ × List ℕ)) (from other : ℕ) (old new : List B) (before after : FanoutState B) → from ≡ other → AreServed (IsTold sight chain from) old new before after → AreServed (IsTold sight chain other) old new before after
 told_from sight chain from other old new before after e s = let P : ℕ → Type 0 = λ n. AreServed (IsTold sight chain n) old new before after in subst P e s

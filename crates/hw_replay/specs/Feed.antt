@@ -20,14 +20,14 @@ use Rattle.hw_replay.specs.Told.{IsTold}
 pub record Moment (B : Type 0) : Type 0 where
   pub core : CoreState
   pub consumers : List B
-  pub kept : FanoutState
+  pub kept : FanoutState B
 
 -- the three together
-abbrev pub moment : {B : Type 0} → CoreState → List B → FanoutState → Moment B
+abbrev pub moment : {B : Type 0} → CoreState → List B → FanoutState B → Moment B
 moment core consumers kept = record { core = core; consumers = consumers; kept = kept }
 
 -- a node that has received nothing, and the consumers as they were handed in
-abbrev pub first_moment : {B : Type 0} → Config → List B → FanoutState → Moment B
+abbrev pub first_moment : {B : Type 0} → Config → List B → FanoutState B → Moment B
 first_moment config consumers kept = moment (nothing_taken config).core consumers kept
 
 -- The node went on, and its consumers were passed the blocks that are decided now and that they hadn't been passed.
@@ -55,14 +55,14 @@ file_replayed wanted (Some bytes) = replay_of wanted bytes
 file_replayed wanted None = Err (fault.Log log.ReadFault)
 
 -- The consumers were fed up to a node over which the replay leads: its entries so far left that node, and the rest was still to come.
-pub record AreFedUntil {B K : Type 0} (sight : Sight B K) (tells : Bool) (whole : Result Taken StartFault) (first : CoreState → Moment B) (consumers : List B) (kept : FanoutState) : Type 0 where
+pub record AreFedUntil {B K : Type 0} (sight : Sight B K) (tells : Bool) (whole : Result Taken StartFault) (first : CoreState → Moment B) (consumers : List B) (kept : FanoutState B) : Type 0 where
   pub taken : Taken
   pub rest : Entries
   pub leads : IsTrue tells → whole ≡ rest_taken taken rest
   pub fed : AreFed sight (first taken.core) (moment taken.core consumers kept)
 
 -- It stopped before the first entry, and they were passed nothing; or it stopped behind some entries.
-abbrev pub AreFedSome : {B K : Type 0} → Sight B K → Bool → Result Taken StartFault → List B → List B → FanoutState → FanoutState → Type 0
+abbrev pub AreFedSome : {B K : Type 0} → Sight B K → Bool → Result Taken StartFault → List B → List B → FanoutState B → FanoutState B → Type 0
 AreFedSome sight tells whole old new before after =
     ((new ≡ old) × (after ≡ before))
     ⊎ AreFedUntil sight tells whole (λ (core : CoreState). first_moment core.config old before) new after
@@ -71,7 +71,7 @@ AreFedSome sight tells whole old new before after =
 
 -- The consumers were fed up to the node that the first of the log's entries left, which is where the replay came to. The rest was still to
 -- come, and its first entry is what stopped the replay so, or the log's error in its place, unless it was the outside.
-pub record AreFedTo {B K : Type 0} (sight : Sight B K) (tells : Bool) (begun : Option Midway) (e : StartFault) (first : CoreState → Moment B) (consumers : List B) (kept : FanoutState) : Type 0 where
+pub record AreFedTo {B K : Type 0} (sight : Sight B K) (tells : Bool) (begun : Option Midway) (e : StartFault) (first : CoreState → Moment B) (consumers : List B) (kept : FanoutState B) : Type 0 where
   pub taken : Taken
   pub rest : Entries
   pub came : IsTrue tells → ComesTo begun (midway taken rest)
@@ -79,13 +79,13 @@ pub record AreFedTo {B K : Type 0} (sight : Sight B K) (tells : Bool) (begun : O
   pub fed : AreFed sight (first taken.core) (moment taken.core consumers kept)
 
 -- They were passed nothing. No replay began, unless it was the outside that stopped it.
-pub record AreFedNone {B : Type 0} (tells : Bool) (begun : Option Midway) (e : StartFault) (old new : List B) (before after : FanoutState) : Type 0 where
+pub record AreFedNone {B : Type 0} (tells : Bool) (begun : Option Midway) (e : StartFault) (old new : List B) (before after : FanoutState B) : Type 0 where
   pub none : IsTrue tells → IsOutside e ⊎ (begun ≡ None)
   pub consumers : new ≡ old
   pub kept : after ≡ before
 
 -- It stopped before the first entry, or behind the first entries.
-abbrev pub AreFedPart : {B K : Type 0} → Sight B K → Bool → Option Midway → StartFault → List B → List B → FanoutState → FanoutState → Type 0
+abbrev pub AreFedPart : {B K : Type 0} → Sight B K → Bool → Option Midway → StartFault → List B → List B → FanoutState B → FanoutState B → Type 0
 AreFedPart sight tells begun e old new before after =
     AreFedNone tells begun e old new before after
     ⊎ AreFedTo sight tells begun e (λ (core : CoreState). first_moment core.config old before) new after

@@ -3,7 +3,7 @@
 use Rattle.std.specs.Prelude.{◌≡◌, ◌≤◌, ℕ, List, ◌++◌, length, take, drop, slice_get, Option, Some, None}
 use Rattle.std.specs.Option.{option_map}
 use Rattle.hw_io.specs.Consumers.{Consumed, after_finish}
-use Rattle.hw_io.specs.Faults.{HasCause}
+use Rattle.hw_io.specs.Faults.{HasCause, IsWantCounted}
 use Rattle.hw_replay.specs.declared.ending.Ending.{Ending}
 use Rattle.hw_replay.specs.Fates.{Sight, Fate, answer_of}
 
@@ -26,13 +26,14 @@ StopsAt chain count None = count ≡ length chain
 StopsAt chain count (Some ending) = (block : ℕ × List ℕ) × (slice_get chain count ≡ Some block) × (ending.height ≡ Some block.0)
 
 -- The consumer took the blocks from this place on, in order and each once, until it failed or none followed. No call came
--- after its fault, and without one no fault of it was counted.
+-- after its fault. A fault of it and a want of memory are counted where it answered so, and nowhere else.
 pub record IsTold {B K : Type 0} (sight : Sight B K) (chain : List (ℕ × List ℕ)) (from : ℕ) (fate : Fate B) : Type 0 where
   pub count : ℕ
   pub more : from ≤ count
   pub took : sight.consumed fate.after ≡ option_map (with_more (blocks_between from count chain)) (sight.consumed fate.before)
   pub stops : StopsAt chain count fate.ended
   pub cause : HasCause (sight.faults fate.before) (sight.faults fate.after) (answer_of fate.ended)
+  pub want : IsWantCounted (sight.wants fate.before) (sight.wants fate.after) (answer_of fate.ended)
   pub kind : sight.kind fate.after ≡ sight.kind fate.before
 
 -- a fault at the end is told without a height
@@ -45,4 +46,5 @@ pub record IsFinished {B K : Type 0} (sight : Sight B K) (fate : Fate B) : Type 
   pub finish : sight.consumed fate.after ≡ option_map (after_finish (answer_of fate.ended)) (sight.consumed fate.before)
   pub at : AtTheEnd fate.ended
   pub cause : HasCause (sight.faults fate.before) (sight.faults fate.after) (answer_of fate.ended)
+  pub want : IsWantCounted (sight.wants fate.before) (sight.wants fate.after) (answer_of fate.ended)
   pub kind : sight.kind fate.after ≡ sight.kind fate.before

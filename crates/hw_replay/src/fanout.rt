@@ -1,6 +1,6 @@
 //! The consumers of decided blocks.
 
-ghost use Rattle.std.specs.Prelude.{◌≡◌, ℕ, ◌+◌, ◌-◌, ◌<◌, ◌≤◌, ◌∷◌, ◌++◌, [], length, All, slice_index, slice_get, Some, None, OnOk, OnErr, vec_capacity};
+ghost use Rattle.std.specs.Prelude.{◌≡◌, ℕ, ◌+◌, ◌-◌, ◌<◌, ◌≤◌, ◌∷◌, ◌++◌, [], length, take, drop, All, slice_index, slice_get, Some, None, OnOk, OnErr, vec_capacity};
 ghost use Rattle.std.specs.List.{range_with_len, remove};
 ghost use Rattle.hw_replay.specs.Fates.{seen, AreServed};
 ghost use Rattle.hw_replay.specs.Chain.{told_chain};
@@ -18,35 +18,41 @@ use std::marker::Model;
 
 /// Who was passed the decided blocks, how many, and which consumers were dropped.
 #[derive(Drop)]
-pub struct Fanout {
+pub struct FanoutOf<B: Drop> {
     /// How many decided blocks were passed on.
     passed: u64,
     /// The places in the first list of the consumers that are left.
     places: Vec<usize>,
     /// The consumers that were dropped, in order. There is room for those that are left.
     drops: Vec<Dropped>,
+    /// These themselves, in the same order. None of them is called any more. There is room as for `drops`.
+    gone: Vec<B>,
 }
 
-impl Model for Fanout {
+/// The same of boxed consumers.
+pub type Fanout = FanoutOf<Box<dyn Consumer>>;
+
+impl<B: Drop> Model for FanoutOf<B> {
     ghost use Rattle.std.specs.Prelude.{ℕ, ◌+◌, ◌≤◌, length, vec_capacity};
     ghost use Rattle.hw_replay.specs.State.{FanoutState};
 
-    ghost Value = { FanoutState };
+    ghost Value = { FanoutState B };
 
-    ghost view = { λ f. record { passed = f.passed; places = f.places.items; drops = f.drops.items } };
+    ghost view = { λ f. record { passed = f.passed; places = f.places.items; drops = f.drops.items; gone = f.gone.items } };
 
-    ghost invariant = { λ f. length f.drops.items + length f.places.items ≤ vec_capacity f.drops };
+    ghost invariant = { λ f. (length f.drops.items + length f.places.items ≤ vec_capacity f.drops) × (length f.gone.items + length f.places.items ≤ vec_capacity f.gone) };
 }
 
-impl Fanout {
+impl<B: Drop> FanoutOf<B> {
     /// Nothing was passed on, and there is room for no consumer.
-    pub fn new(alloc: Global) -> Fanout
-        ensures { result ≡ record { passed = 0; places = []; drops = [] } }
+    pub fn new(alloc: Global) -> FanoutOf<B>
+        ensures { result ≡ record { passed = 0; places = []; drops = []; gone = [] } }
     {
-        Fanout {
+        FanoutOf {
             passed: 0,
             places: Vec::new(alloc),
             drops: Vec::new(alloc),
+            gone: Vec::new(alloc),
         }
     }
 
@@ -54,6 +60,7 @@ impl Fanout {
     pub fn reserve(&mut self, consumers: usize) -> Result<(), OutOfMemory>
         ensures room { OnOk result (self.new.places ≡ self.old.places ++ range_with_len (length self.old.drops + length self.old.places) (consumers - (length self.old.drops + length self.old.places))) }
         ensures drops { OnOk result (self.new.drops ≡ self.old.drops) }
+        ensures gone { OnOk result (self.new.gone ≡ self.old.gone) }
         ensures passed { OnOk result (self.new.passed ≡ self.old.passed) }
         ensures unchanged { OnErr result (self.new ≡ self.old) }
     {
@@ -61,62 +68,27 @@ impl Fanout {
         if consumers > known {
             self.places.reserve(consumers - known)?;
             self.drops.reserve(consumers - self.drops.len())?;
+            self.gone.reserve(consumers)?;
             number(&mut self.places, known, consumers);
         }
         Ok(())
     }
 
-    /// Gives each consumer, in the list's order, the decided blocks that it hasn't taken. One that answers an
-    /// error is dropped and leaves the list.
-    #[tactic(auto, using(crate::proofs::Serving::begins, crate::proofs::Serving::ends))]
-    pub fn pass(&mut self, consumers: &mut Vec<Box<dyn Consumer>>, core: &Core)
-        requires room { length consumers.old.items ≤ length self.old.places }
-        requires passed { self.old.passed ≤ length (told_chain core.now) }
-        ensures told { AreServed (IsTold (seen (λ b. consumed b) (λ b. faults b) (λ b. b.vtable)) (told_chain core.now) self.old.passed) consumers.old.items consumers.new.items self.old self.new }
-        ensures passed { self.new.passed ≡ length (told_chain core.now) }
-        ensures whole { All (λ b. HasTaken (told_chain core.now) self.old.passed (consumed b)) consumers.old.items → All (λ b. HasTaken (told_chain core.now) (length (told_chain core.now)) (consumed b)) consumers.new.items }
-        ensures room { length consumers.new.items ≤ length self.new.places }
-    {
-        let from = self.passed;
-        let mut index = 0;
-        while index < consumers.len() {
-            match tell(&mut consumers[index], core, from) {
-                Ok(()) => index += 1,
-                Err(ending) => self.drop_out(consumers, index, ending),
-            }
-        }
-        self.passed = chain_length(core);
-    }
-
-    /// Tells each consumer of the list that no block follows. One that answers an error is dropped.
-    #[tactic(auto, using(crate::proofs::Serving::begins, crate::proofs::Serving::ends))]
-    pub fn finish(&mut self, consumers: &mut Vec<Box<dyn Consumer>>)
-        requires { length consumers.old.items ≤ length self.old.places }
-        ensures finished { AreServed (IsFinished (seen (λ b. consumed b) (λ b. faults b) (λ b. b.vtable))) consumers.old.items consumers.new.items self.old self.new }
-        ensures passed { self.new.passed ≡ self.old.passed }
-        ensures room { length consumers.new.items ≤ length self.new.places }
-    {
-        let mut index = 0;
-        while index < consumers.len() {
-            match end(&mut consumers[index]) {
-                Ok(()) => index += 1,
-                Err(ending) => self.drop_out(consumers, index, ending),
-            }
-        }
-    }
-
-    /// Drops the consumer at this index of the list, which failed so.
-    fn drop_out(&mut self, consumers: &mut Vec<Box<dyn Consumer>>, index: usize, ending: Ending)
+    /// Drops the consumer at this index of the list, which failed so. It is kept as it is.
+    fn drop_out(&mut self, consumers: &mut Vec<B>, index: usize, ending: Ending)
         requires here { index < length consumers.old.items }
         requires room { length consumers.old.items ≤ length self.old.places }
         ensures consumers { consumers.new.items ≡ remove consumers.old.items index }
         ensures passed { self.new.passed ≡ self.old.passed }
         ensures places { self.new.places ≡ remove self.old.places index }
         ensures drops { self.new.drops ≡ self.old.drops ++ record { place = slice_index self.old.places index; ending = ending } ∷ [] }
+        ensures gone { self.new.gone ≡ self.old.gone ++ take 1 (drop index consumers.old.items) }
     {
-        drop(consumers.remove(index));
         let place = self.places.remove(index);
         if self.drops.push(Dropped { place, ending }).is_err() {
+            unreachable!()
+        }
+        if self.gone.push(consumers.remove(index)).is_err() {
             unreachable!()
         }
     }
@@ -136,6 +108,47 @@ impl Fanout {
     {
         let dropped = self.drops[index];
         (dropped.place, dropped.ending.height, dropped.ending.fault)
+    }
+}
+
+impl Fanout {
+    /// Gives each consumer, in the list's order, the decided blocks that it hasn't taken. One that answers an
+    /// error is dropped and leaves the list.
+    #[tactic(auto, using(crate::proofs::Serving::begins, crate::proofs::Serving::ends))]
+    pub fn pass(&mut self, consumers: &mut Vec<Box<dyn Consumer>>, core: &Core)
+        requires room { length consumers.old.items ≤ length self.old.places }
+        requires passed { self.old.passed ≤ length (told_chain core.now) }
+        ensures told { AreServed (IsTold (seen (λ b. consumed b) (λ b. faults b) (λ b. wants b) (λ b. b.vtable)) (told_chain core.now) self.old.passed) consumers.old.items consumers.new.items self.old self.new }
+        ensures passed { self.new.passed ≡ length (told_chain core.now) }
+        ensures whole { All (λ b. HasTaken (told_chain core.now) self.old.passed (consumed b)) consumers.old.items → All (λ b. HasTaken (told_chain core.now) (length (told_chain core.now)) (consumed b)) consumers.new.items }
+        ensures room { length consumers.new.items ≤ length self.new.places }
+    {
+        let from = self.passed;
+        let mut index = 0;
+        while index < consumers.len() {
+            match tell(&mut consumers[index], core, from) {
+                Ok(()) => index += 1,
+                Err(ending) => self.drop_out(consumers, index, ending),
+            }
+        }
+        self.passed = chain_length(core);
+    }
+
+    /// Tells each consumer of the list that no block follows. One that answers an error is dropped.
+    #[tactic(auto, using(crate::proofs::Serving::begins, crate::proofs::Serving::ends))]
+    pub fn finish(&mut self, consumers: &mut Vec<Box<dyn Consumer>>)
+        requires { length consumers.old.items ≤ length self.old.places }
+        ensures finished { AreServed (IsFinished (seen (λ b. consumed b) (λ b. faults b) (λ b. wants b) (λ b. b.vtable))) consumers.old.items consumers.new.items self.old self.new }
+        ensures passed { self.new.passed ≡ self.old.passed }
+        ensures room { length consumers.new.items ≤ length self.new.places }
+    {
+        let mut index = 0;
+        while index < consumers.len() {
+            match end(&mut consumers[index]) {
+                Ok(()) => index += 1,
+                Err(ending) => self.drop_out(consumers, index, ending),
+            }
+        }
     }
 }
 

@@ -41,12 +41,12 @@ pub fn replay_fed<F: Files>(
     ensures wanted { IfOk result (λ r. is_wanted (option_copied wanted.entry) r.core.config ≡ true) }
 
     // What the consumers took.
-    ensures fed { IfOk result (λ r. AreFed (seen (λ b. consumed b) (λ b. faults b) (λ b. b.vtable)) (first_moment r.core.config consumers.old.items fanout.old) (moment r.core consumers.new.items fanout.new)) }
+    ensures fed { IfOk result (λ r. AreFed (seen (λ b. consumed b) (λ b. faults b) (λ b. wants b) (λ b. b.vtable)) (first_moment r.core.config consumers.old.items fanout.old) (moment r.core consumers.new.items fanout.new)) }
     ensures whole { All (λ b. HasTaken [] 0 (consumed b)) consumers.old.items → IfOk result (λ r. All (λ b. HasTaken (told_chain r.core) (length (told_chain r.core)) (consumed b)) consumers.new.items) }
-    ensures stopped { IfErr result (λ e. AreFedSome (seen (λ b. consumed b) (λ b. faults b) (λ b. b.vtable)) F.tells (file_replayed (option_copied wanted.entry) (F.held files.old name.now)) consumers.old.items consumers.new.items fanout.old fanout.new) }
+    ensures stopped { IfErr result (λ e. AreFedSome (seen (λ b. consumed b) (λ b. faults b) (λ b. wants b) (λ b. b.vtable)) F.tells (file_replayed (option_copied wanted.entry) (F.held files.old name.now)) consumers.old.items consumers.new.items fanout.old fanout.new) }
     // A replay that stops passes on what the log's entries decide before the one that stops it, and nothing of what
     // stands behind. Where the outside stops it, it has passed on what the first of them decide.
-    ensures part { IfErr result (λ e. AreFedPart (seen (λ b. consumed b) (λ b. faults b) (λ b. b.vtable)) F.tells (file_begun (option_copied wanted.entry) (F.held files.old name.now)) e consumers.old.items consumers.new.items fanout.old fanout.new) }
+    ensures part { IfErr result (λ e. AreFedPart (seen (λ b. consumed b) (λ b. faults b) (λ b. wants b) (λ b. b.vtable)) F.tells (file_begun (option_copied wanted.entry) (F.held files.old name.now)) e consumers.old.items consumers.new.items fanout.old fanout.new) }
     ensures room { length consumers.new.items ≤ length fanout.new.places }
 
     ensures cause { HasReplayCause (F.read_faults files.old) (F.read_faults files.new) result }
@@ -76,10 +76,10 @@ fn feed_all<F: Files>(
     ensures reached { IsReached replay.old.core → IsReached replay.new.core }
     ensures config { replay.new.core.config ≡ replay.old.core.config }
 
-    ensures fed { OnOk result (AreFed (seen (λ b. consumed b) (λ b. faults b) (λ b. b.vtable)) (moment replay.old.core consumers.old.items fanout.old) (moment replay.new.core consumers.new.items fanout.new)) }
+    ensures fed { OnOk result (AreFed (seen (λ b. consumed b) (λ b. faults b) (λ b. wants b) (λ b. b.vtable)) (moment replay.old.core consumers.old.items fanout.old) (moment replay.new.core consumers.new.items fanout.new)) }
     ensures whole { All (λ b. HasTaken (told_chain replay.old.core) fanout.old.passed (consumed b)) consumers.old.items → All (λ b. HasTaken (told_chain replay.new.core) fanout.new.passed (consumed b)) consumers.new.items }
     ensures passed { OnOk result (fanout.new.passed ≡ length (told_chain replay.new.core)) }
-    ensures part { IfErr result (λ e. AreFedTo (seen (λ b. consumed b) (λ b. faults b) (λ b. b.vtable)) F.tells (Some (midway_in replay.old (F.unread files.old))) e (λ core. moment replay.old.core consumers.old.items fanout.old) consumers.new.items fanout.new) }
+    ensures part { IfErr result (λ e. AreFedTo (seen (λ b. consumed b) (λ b. faults b) (λ b. wants b) (λ b. b.vtable)) F.tells (Some (midway_in replay.old (F.unread files.old))) e (λ core. moment replay.old.core consumers.old.items fanout.old) consumers.new.items fanout.new) }
     ensures room { length consumers.new.items ≤ length fanout.new.places }
 
     ensures cause { HasReplayCause (F.read_faults files.old) (F.read_faults files.new) result }

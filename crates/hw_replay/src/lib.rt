@@ -19,7 +19,7 @@ mod telling;
 mod told_laws;
 mod value;
 
-pub use fanout::Fanout;
+pub use fanout::{Fanout, FanoutOf};
 pub use fault::StartFault;
 pub use feed::replay_fed;
 pub use laws::{a_replay_delivers, a_replay_is_led_on};

@@ -2,7 +2,7 @@
 
 ghost use Rattle.std.specs.Prelude.{◌≡◌, Some, None, Ok, Err, OnErr, IfErr, MatchResult};
 ghost use Rattle.std.specs.Option.{option_map};
-ghost use Rattle.hw_io.specs.Faults.{HasCause};
+ghost use Rattle.hw_io.specs.Faults.{HasCause, IsWantCounted};
 ghost use Rattle.hw_io.specs.Consumers.{after_take, after_finish};
 ghost use Rattle.hw_replay.specs.Fates.{seen, answer_of, ending_of};
 ghost use Rattle.hw_replay.specs.Told.{IsFinished};
@@ -18,6 +18,7 @@ pub(crate) fn give(
 ) -> Result<(), Ending>
     ensures consumed { consumed consumer.new ≡ option_map (after_take height value.now (answer_of (ending_of result))) (consumed consumer.old) }
     ensures cause { HasCause (faults consumer.old) (faults consumer.new) (answer_of (ending_of result)) }
+    ensures want { IsWantCounted (wants consumer.old) (wants consumer.new) (answer_of (ending_of result)) }
     ensures at { IfErr result (λ ending. ending.height ≡ Some height) }
     ensures kind { consumer.new.vtable ≡ consumer.old.vtable }
 {
@@ -34,6 +35,7 @@ pub(crate) fn give(
 pub(crate) fn end(consumer: &mut Box<dyn Consumer>) -> Result<(), Ending>
     ensures consumed { consumed consumer.new ≡ option_map (after_finish (answer_of (ending_of result))) (consumed consumer.old) }
     ensures cause { HasCause (faults consumer.old) (faults consumer.new) (answer_of (ending_of result)) }
+    ensures want { IsWantCounted (wants consumer.old) (wants consumer.new) (answer_of (ending_of result)) }
     ensures at { IfErr result (λ ending. ending.height ≡ None) }
     ensures kind { consumer.new.vtable ≡ consumer.old.vtable }
 {

@@ -32,7 +32,7 @@ module _ {B K : Type 0} (sight : Sight B K) where
   }
 
   -- the node grew, and nothing was passed
-  pub good_grown : (c d : CoreState) (consumers : List B) (kept : FanoutState) → HasGrown c d → IsGood (moment c consumers kept) → IsGood (moment d consumers kept)
+  pub good_grown : (c d : CoreState) (consumers : List B) (kept : FanoutState B) → HasGrown c d → IsGood (moment c consumers kept) → IsGood (moment d consumers kept)
   good_grown c d consumers kept grown good = record {
     passed = still_told c d kept.passed grown good.passed;
     taken = still_taken (λ b. sight.consumed b) c d kept.passed consumers grown good.passed good.taken;

@@ -25,14 +25,14 @@ HaveNothing sight consumers = All (λ b. HasTaken [] 0 (sight.consumed b)) consu
 -- Of a replay that stopped, each consumer that is left has taken nothing, or else the first blocks of what the node had decided by then, in order
 -- and each once.
 abbrev pub StoppedReplays : {B K : Type 0} → Sight B K → Type 0
-StoppedReplays {B} sight = (tells : Bool) (whole : Result Taken StartFault) (old new : List B) (after : FanoutState) → AreFedSome sight tells whole old new (none_told old) after → HaveNothing sight old
+StoppedReplays {B} sight = (tells : Bool) (whole : Result Taken StartFault) (old new : List B) (after : FanoutState B) → AreFedSome sight tells whole old new (none_told old) after → HaveNothing sight old
     → HaveNothing sight new
     ⊎ ((until : AreFedUntil sight tells whole (λ (core : CoreState). first_moment core.config old (none_told old)) new after) × HaveTaken sight until.taken.core after.passed new)
 
 -- Of a replay that its log stopped, each consumer that is left has taken nothing, since the log has no header, or
 -- else the first blocks of what its entries before the bad one decide, and nothing of what stands behind them.
 abbrev pub StoppedParts : {B K : Type 0} → Sight B K → Type 0
-StoppedParts {B} sight = (tells : Bool) (begun : Option Midway) (e : StartFault) (old new : List B) (after : FanoutState) → AreFedPart sight tells begun e old new (none_told old) after → HaveNothing sight old
+StoppedParts {B} sight = (tells : Bool) (begun : Option Midway) (e : StartFault) (old new : List B) (after : FanoutState B) → AreFedPart sight tells begun e old new (none_told old) after → HaveNothing sight old
     → ((IsTrue tells → IsOutside e ⊎ (begun ≡ None)) × HaveNothing sight new)
     ⊎ ((part : AreFedTo sight tells begun e (λ (core : CoreState). first_moment core.config old (none_told old)) new after) × HaveTaken sight part.taken.core after.passed new)
 

@@ -30,30 +30,30 @@ use Rattle.hw_service.specs.Begin.{Names, Reads, ReadsNot, HasBegun, BeginsNot, 
 
 -- ---- consumers that were told nothing
 
-pub room_for : {B : Type 0} (consumers : List B) (kept : FanoutState) → kept ≡ none_told consumers → length consumers ≤ length kept.places
-room_for consumers kept is =
-    let places : length kept.places ≡ length consumers = ap (λ (f : FanoutState). length f.places) is ∙ length-range_with_len 0 (length consumers) in
+pub room_for : {B : Type 0} (consumers : List B) (kept : FanoutState B) → kept ≡ none_told consumers → length consumers ≤ length kept.places
+room_for {B} consumers kept is =
+    let places : length kept.places ≡ length consumers = ap (λ (f : FanoutState B). length f.places) is ∙ length-range_with_len 0 (length consumers) in
     omega (arith, places)
 
-pub nothing_passed : {B : Type 0} (consumers : List B) (kept : FanoutState) → kept ≡ none_told consumers → kept.passed ≡ 0
-nothing_passed consumers kept is = ap (λ (f : FanoutState). f.passed) is
+pub nothing_passed : {B : Type 0} (consumers : List B) (kept : FanoutState B) → kept ≡ none_told consumers → kept.passed ≡ 0
+nothing_passed {B} consumers kept is = ap (λ (f : FanoutState B). f.passed) is
 
 pub chain_none : (config : Config) → length (told_chain (begun config)) ≡ 0
 chain_none config = ap length (nothing_told config)
 
 -- a list of so many places
-pub told_none : {B : Type 0} (consumers : List B) (count : ℕ) (kept : FanoutState) → kept ≡ record { passed = 0; places = range_with_len 0 count; drops = [] } → count ≡ length consumers → kept ≡ none_told consumers
-told_none consumers count kept is e = is ∙ ap (λ (n : ℕ). let f : FanoutState = record { passed = 0; places = range_with_len 0 n; drops = [] } in f) e
+pub told_none : {B : Type 0} (consumers : List B) (count : ℕ) (kept : FanoutState B) → kept ≡ record { passed = 0; places = range_with_len 0 count; drops = []; gone = [] } → count ≡ length consumers → kept ≡ none_told consumers
+told_none {B} consumers count kept is e = is ∙ ap (λ (n : ℕ). let f : FanoutState B = record { passed = 0; places = range_with_len 0 n; drops = []; gone = [] } in f) e
 
 -- from what is kept of consumers that were told nothing
-pub fed_from : {B K : Type 0} (sight : Sight B K) (core : CoreState) (consumers : List B) (kept : FanoutState) (last : Moment B) → kept ≡ none_told consumers → AreFed sight (moment core consumers kept) last → AreFed sight (moment core consumers (none_told consumers)) last
-fed_from sight core consumers kept last is fed = subst (λ (k : FanoutState). AreFed sight (moment core consumers k) last) is fed
+pub fed_from : {B K : Type 0} (sight : Sight B K) (core : CoreState) (consumers : List B) (kept : FanoutState B) (last : Moment B) → kept ≡ none_told consumers → AreFed sight (moment core consumers kept) last → AreFed sight (moment core consumers (none_told consumers)) last
+fed_from {B} sight core consumers kept last is fed = subst (λ (k : FanoutState B). AreFed sight (moment core consumers k) last) is fed
 
-pub some_from : {B K : Type 0} (sight : Sight B K) (tells : Bool) (whole : Result Taken StartFault) (old new : List B) (before after : FanoutState) → before ≡ none_told old → AreFedSome sight tells whole old new before after → AreFedSome sight tells whole old new (none_told old) after
-some_from sight tells whole old new before after is fed = subst (λ (k : FanoutState). AreFedSome sight tells whole old new k after) is fed
+pub some_from : {B K : Type 0} (sight : Sight B K) (tells : Bool) (whole : Result Taken StartFault) (old new : List B) (before after : FanoutState B) → before ≡ none_told old → AreFedSome sight tells whole old new before after → AreFedSome sight tells whole old new (none_told old) after
+some_from {B} sight tells whole old new before after is fed = subst (λ (k : FanoutState B). AreFedSome sight tells whole old new k after) is fed
 
-pub part_from : {B K : Type 0} (sight : Sight B K) (tells : Bool) (first : Option Midway) (e : StartFault) (old new : List B) (before after : FanoutState) → before ≡ none_told old → AreFedPart sight tells first e old new before after → AreFedPart sight tells first e old new (none_told old) after
-part_from sight tells first e old new before after is fed = subst (λ (k : FanoutState). AreFedPart sight tells first e old new k after) is fed
+pub part_from : {B K : Type 0} (sight : Sight B K) (tells : Bool) (first : Option Midway) (e : StartFault) (old new : List B) (before after : FanoutState B) → before ≡ none_told old → AreFedPart sight tells first e old new before after → AreFedPart sight tells first e old new (none_told old) after
+part_from {B} sight tells first e old new before after is fed = subst (λ (k : FanoutState B). AreFedPart sight tells first e old new k after) is fed
 
 -- ---- what was passed
 
@@ -67,7 +67,7 @@ fed_passed sight first last fed passed = all_passed sight first fed.moments last
 
 -- ---- a log that is there
 
-module _ {B K : Type 0} (sight : Sight B K) (config : Config) (c d : CoreState) (same : d ≡ c) (is : d.config ≡ config) (old new : List B) (before after : FanoutState) where
+module _ {B K : Type 0} (sight : Sight B K) (config : Config) (c d : CoreState) (same : d ≡ c) (is : d.config ≡ config) (old new : List B) (before after : FanoutState B) where
   -- the node is the one that the replay left
   pub fed_there : AreFed sight (first_moment c.config old before) (moment c new after) → AreFed sight (moment (begun config) old before) (moment d new after)
   fed_there fed =
@@ -83,7 +83,7 @@ whole_there {B} f c d xs same all = subst (λ (k : CoreState). All (λ (b : B). 
 
 -- ---- a new log
 
-module _ {B : Type 0} (config : Config) (keys : List (List ℕ)) (name : List ℕ) (consumers : List B) (kept : FanoutState) (n : NodeState) (is : n ≡ new_node config keys name) where
+module _ {B : Type 0} (config : Config) (keys : List (List ℕ)) (name : List ℕ) (consumers : List B) (kept : FanoutState B) (n : NodeState) (is : n ≡ new_node config keys name) where
   pub fed_anew : {K : Type 0} (sight : Sight B K) → AreFed sight (moment (begun config) consumers kept) (moment n.core consumers kept)
   fed_anew sight = subst (λ (k : NodeState). AreFed sight (moment (begun config) consumers kept) (moment k.core consumers kept)) (sym is) (fed_none sight (moment (begun config) consumers kept))
 
@@ -102,7 +102,7 @@ fun_same old new same = λ i name. same name i
 
 module _ {B K : Type 0} (sight : Sight B K) (tells : Bool) (names : Names) (me : Option ℕ) (old mid new : List ℕ → Option (List ℕ)) (same : SameFiles old mid) (door : DoorSeen) (written : Option (List ℕ)) (before after : List B)
     (config : Config) (keys : List (List ℕ)) (reads : Reads tells names me old config keys) where
-  pub has_begun : (n : NodeState) (kept : FanoutState) → n.core.config ≡ config → n.keys ≡ keys → (IsTrue tells → Starts config keys names.log (mid names.log) (Ok n)) → (IsTrue tells → StartsLog config names.log mid new (mid names.log) (Ok n))
+  pub has_begun : (n : NodeState) (kept : FanoutState B) → n.core.config ≡ config → n.keys ≡ keys → (IsTrue tells → Starts config keys names.log (mid names.log) (Ok n)) → (IsTrue tells → StartsLog config names.log mid new (mid names.log) (Ok n))
       → AreFed sight (moment (begun config) before (none_told before)) (moment n.core after kept)
       → HasBegun sight tells names me (outside old door written before) (scene n kept (outside new door written after))
   has_begun n kept config_is keys_are starts log fed =
@@ -119,7 +119,7 @@ module _ {B K : Type 0} (sight : Sight B K) (tells : Bool) (names : Names) (me :
         written = refl;
       }
 
-  pub begins_not : (e : StartFault) (kept : FanoutState) → (IsTrue tells → Starts config keys names.log (mid names.log) (Err e)) → (IsTrue tells → StartsLog config names.log mid new (mid names.log) (Err e))
+  pub begins_not : (e : StartFault) (kept : FanoutState B) → (IsTrue tells → Starts config keys names.log (mid names.log) (Err e)) → (IsTrue tells → StartsLog config names.log mid new (mid names.log) (Err e))
       → AreFedSome sight tells (file_replayed (Some config) (mid names.log)) before after (none_told before) kept
       → AreFedPart sight tells (file_begun (Some config) (mid names.log)) e before after (none_told before) kept
       → BeginsNot sight tells names me (outside old door written before) (outside new door written after) (fault_of_start e)

@@ -28,5 +28,5 @@ module _ {B K : Type 0} (sight : Sight B K) (chain : List (ℕ × List ℕ)) (n 
       more fate (filter is_left fates) fate.ended (All-head (IsFinished sight) fate fates h) (All-head Has fate.before (map (λ f. f.before) fates) so)
       (left fates (All-tail (IsFinished sight) fate fates h) (All-tail Has fate.before (map (λ f. f.before) fates) so))
 
-  pub still_whole : (old new : List B) (before after : FanoutState) → AreServed (IsFinished sight) old new before after → All Has old → All Has new
+  pub still_whole : (old new : List B) (before after : FanoutState B) → AreServed (IsFinished sight) old new before after → All Has old → All Has new
   still_whole old new before after s so = subst (All Has) (sym s.left) (left s.fates s.each (subst (All Has) s.whole so))

@@ -56,7 +56,7 @@ still_taken f c d n xs grown le h = λ k b lt. taken_still c d n _ grown le (h k
 -- ---- what consumers are passed
 
 -- the core that is handed in is that of the node
-pub is_passed : {B K : Type 0} (sight : Sight B K) (c d k : CoreState) (old new : List B) (before after : FanoutState) → HasGrown c d → k ≡ d → AreServed (IsTold sight (told_chain k) before.passed) old new before after
+pub is_passed : {B K : Type 0} (sight : Sight B K) (c d k : CoreState) (old new : List B) (before after : FanoutState B) → HasGrown c d → k ≡ d → AreServed (IsTold sight (told_chain k) before.passed) old new before after
     → after.passed ≡ length (told_chain k) → IsPassed sight (moment c old before) (moment d new after)
 is_passed sight c d k old new before after grown same told passed = record {
   config = grown.config;

@@ -105,7 +105,7 @@ pub record StartFails {B K : Type 0} (sight : Sight B K) (tells : Bool) (names :
   pub reads : Reads tells names me before.files config keys
   pub starts : IsTrue tells → Starts config keys names.log (before.files names.log) (Err e)
   pub log : IsTrue tells → StartsLog config names.log before.files after.files (before.files names.log) (Err e)
-  pub kept : FanoutState
+  pub kept : FanoutState B
   pub fed : AreFedSome sight tells (file_replayed (Some config) (before.files names.log)) before.consumers after.consumers (none_told before.consumers) kept
   pub part : AreFedPart sight tells (file_begun (Some config) (before.files names.log)) e before.consumers after.consumers (none_told before.consumers) kept
   pub door : after.door ≡ before.door

@@ -44,5 +44,5 @@ limits_line zero = []
 limits_line (suc n) = line_of (codes "limits" ∷ number_text (suc n) ∷ [])
 
 -- What is written at the end: the report on the node, the consumers that were dropped, and the limits.
-unfoldable pub closing_text : NodeState → FanoutState → List ℕ
+unfoldable pub closing_text : {B : Type 0} → NodeState → FanoutState B → List ℕ
 closing_text n kept = report_text (setting_of n.core.config) n.core.journal n.refused n.repeats ++ drop_lines kept.drops ++ limits_line n.limited

@@ -19,20 +19,20 @@ use Rattle.hw_service.specs.Steps.{Step, TakesAll, TakesUntil}
 -- ---- the end
 
 -- the consumers were told that no block follows, and nothing else outside changed but what was written
-pub record Closes {B K : Type 0} (sight : Sight B K) (last : Scene B) (kept : FanoutState) (after : Outside B) : Type 0 where
+pub record Closes {B K : Type 0} (sight : Sight B K) (last : Scene B) (kept : FanoutState B) (after : Outside B) : Type 0 where
   pub finished : AreServed (IsFinished sight) last.around.consumers after.consumers last.kept kept
   pub files : after.files ≡ last.around.files
   pub door : after.door ≡ last.around.door
 
 -- then the report was written
 pub record Reports {B K : Type 0} (sight : Sight B K) (last : Scene B) (after : Outside B) : Type 0 where
-  pub kept : FanoutState
+  pub kept : FanoutState B
   pub closes : Closes sight last kept after
   pub written : Appends last.around.written after.written (closing_text last.node kept)
 
 -- or a first part of it
 pub record ReportsPart {B K : Type 0} (sight : Sight B K) (last : Scene B) (after : Outside B) : Type 0 where
-  pub kept : FanoutState
+  pub kept : FanoutState B
   pub closes : Closes sight last kept after
   pub written : AppendsPrefix last.around.written after.written (closing_text last.node kept)
 

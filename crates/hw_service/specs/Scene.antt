@@ -30,7 +30,7 @@ door_of tells door = door_seen (tells.sessions door) (tells.accepts door) (tells
 
 -- what contracts see of a boxed consumer: what a consumer of its kind tells
 abbrev pub sight_of : {K A : Type 0} {C : K → Type 0} → ((kind : K) → Consumer (C kind)) → Sight (DynBox K A C) K
-sight_of tells = seen (λ b. (tells b.vtable).consumed b.value) (λ b. (tells b.vtable).faults b.value) (λ b. b.vtable)
+sight_of tells = seen (λ b. (tells b.vtable).consumed b.value) (λ b. (tells b.vtable).faults b.value) (λ b. (tells b.vtable).wants b.value) (λ b. b.vtable)
 
 -- the outside: what the files hold, the door, what was written, and the consumers that are left
 pub record Outside (B : Type 0) : Type 0 where
@@ -50,11 +50,11 @@ outside_of reads writes calls files out door consumers = outside (reads.held fil
 -- a node, what is kept of its consumers, and what is outside of it
 pub record Scene (B : Type 0) : Type 0 where
   pub node : NodeState
-  pub kept : FanoutState
+  pub kept : FanoutState B
   pub around : Outside B
 
 -- the three together
-abbrev pub scene : {B : Type 0} → NodeState → FanoutState → Outside B → Scene B
+abbrev pub scene : {B : Type 0} → NodeState → FanoutState B → Outside B → Scene B
 scene node kept around = record { node = node; kept = kept; around = around }
 
 -- the node and its consumers at that moment
@@ -62,10 +62,10 @@ abbrev pub moment_of : {B : Type 0} → Scene B → Moment B
 moment_of s = moment s.node.core s.around.consumers s.kept
 
 -- of consumers that were told nothing, nothing is kept but their places
-abbrev pub none_told : {B : Type 0} → List B → FanoutState
-none_told consumers = record { passed = 0; places = range_with_len 0 (length consumers); drops = [] }
+abbrev pub none_told : {B : Type 0} → List B → FanoutState B
+none_told consumers = record { passed = 0; places = range_with_len 0 (length consumers); drops = []; gone = [] }
 
 -- there is a place for each consumer that is left, and all that is decided was passed
-pub record IsReady {B : Type 0} (node : NodeState) (kept : FanoutState) (consumers : List B) : Type 0 where
+pub record IsReady {B : Type 0} (node : NodeState) (kept : FanoutState B) (consumers : List B) : Type 0 where
   pub room : length consumers ≤ length kept.places
   pub passed : kept.passed ≡ length (told_chain node.core)

@@ -104,7 +104,7 @@ fn read_sources<F: Files>(
 
 /// What is kept of so many consumers that were told nothing.
 fn fanout_for(alloc: Global, consumers: usize) -> Result<Fanout, OutOfMemory>
-    ensures { IfOk result (λ f. f ≡ record { passed = 0; places = range_with_len 0 consumers; drops = [] }) }
+    ensures { IfOk result (λ f. f ≡ record { passed = 0; places = range_with_len 0 consumers; drops = []; gone = [] }) }
 {
     let mut fanout = Fanout::new(alloc);
     fanout.reserve(consumers)?;

@@ -1,7 +1,7 @@
 //! A consumer that takes the calls of its plan.
 
 ghost use Rattle.std.specs.Prelude.{None};
-ghost use Rattle.hw_io.specs.Faults.{HasCause};
+ghost use Rattle.hw_io.specs.Faults.{HasCause, IsWantCounted};
 
 use hw_io::{Consumer, IoFault};
 use hw_types::OutOfMemory;
@@ -22,6 +22,7 @@ pub struct Planned {
     /// Whether another call finds no memory.
     for_memory: bool,
     faults: u64,
+    wants: u64,
 }
 
 /// The consumer of this plan.
@@ -46,19 +47,22 @@ pub fn consumer_of(alloc: Global, plan: &str) -> Result<Planned, OutOfMemory> {
         next: 0,
         for_memory,
         faults: 0,
+        wants: 0,
     })
 }
 
 impl Planned {
     /// Takes a call, if it is the next one of the plan.
     fn answer(&mut self, is_next: bool) -> Result<(), IoFault>
-        ensures { HasCause self.old.faults self.new.faults result }
+        ensures cause { HasCause self.old.faults self.new.faults result }
+        ensures want { IsWantCounted self.old.wants self.new.wants result }
     {
         if is_next {
             self.next = self.next.saturating_add(1);
             return Ok(());
         }
         if self.for_memory {
+            self.wants = self.wants.saturating_add(1);
             return Err(IoFault::OutOfMemory);
         }
         self.faults = self.faults.saturating_add(1);
@@ -70,6 +74,8 @@ impl Consumer for Planned {
     ghost consumed = { λ _. None };
 
     ghost faults = { λ consumer. consumer.faults };
+
+    ghost wants = { λ consumer. consumer.wants };
 
     fn take(&mut self, height: u64, value: &[u8]) -> Result<(), IoFault> {
         let is_next = match self.calls.get(self.next) {

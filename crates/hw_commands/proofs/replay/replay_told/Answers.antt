@@ -9,7 +9,7 @@ use Rattle.hw_commands.proofs.replay.replay_told.Goals as goal
 
 pub replay_fed-requires-clause-room : goal.replay_fed-requires-clause-room
 replay_fed-requires-clause-room g c =
-    let same : length c.args.fanout.now.places ≡ length c.args.consumers.now.items = ap (λ (k : FanoutState). length k.places) c.requires ∙ length-range_with_len 0 (length c.args.consumers.now.items) in
+    let same : length c.args.fanout.now.places ≡ length c.args.consumers.now.items = ap (λ (k : FanoutState _). length k.places) c.requires ∙ length-range_with_len 0 (length c.args.consumers.now.items) in
     omega (arith, same)
 
 -- ---- it came to its report
@@ -17,32 +17,32 @@ replay_fed-requires-clause-room g c =
 pub returns-in-Ok-clause-text : goal.returns-in-Ok-clause-text
 returns-in-Ok-clause-text g c = λ tells.
     let held = g.F.Files.held c.args.files.now in
-    let told = told_all (seen (λ b. (goal.Consumer-dyn g (b.vtable, b.value)).consumed b.value) (λ b. (goal.Consumer-dyn g (b.vtable, b.value)).faults b.value) (λ b. b.vtable)) (taken_in c.in-Ok.replay).core c.args.consumers.now.items c.replay_fed.new.consumers.items c.reported-ended.new.consumers.items c.args.fanout.now c.replay_fed.new.fanout c.reported-ended.new.fanout
+    let told = told_all (seen (λ b. (goal.Consumer-dyn g (b.vtable, b.value)).consumed b.value) (λ b. (goal.Consumer-dyn g (b.vtable, b.value)).faults b.value) (λ b. (goal.Consumer-dyn g (b.vtable, b.value)).wants b.value) (λ b. b.vtable)) (taken_in c.in-Ok.replay).core c.args.consumers.now.items c.replay_fed.new.consumers.items c.reported-ended.new.consumers.items c.args.fanout.now c.replay_fed.new.fanout c.reported-ended.new.fanout
     c.requires c.in-Ok.ensures.fed c.reported-ended.ensures.finished in
-    reported_text (seen (λ b. (goal.Consumer-dyn g (b.vtable, b.value)).consumed b.value) (λ b. (goal.Consumer-dyn g (b.vtable, b.value)).faults b.value) (λ b. b.vtable)) g.F.Files.tells held c.args.log.now c.args.consumers.now.items c.reported-ended.new.consumers.items c.in-Ok.replay c.reported-ended.result c.reported-ended.new.fanout.drops (c.in-Ok.ensures.said tells)
-    (of_replay (seen (λ b. (goal.Consumer-dyn g (b.vtable, b.value)).consumed b.value) (λ b. (goal.Consumer-dyn g (b.vtable, b.value)).faults b.value) (λ b. b.vtable)) g.F.Files.tells held c.args.log.now c.args.consumers.now.items c.reported-ended.new.consumers.items c.in-Ok.replay c.reported-ended.new.fanout.drops c.in-Ok.ensures.said told) c.reported-ended.ensures.text
+    reported_text (seen (λ b. (goal.Consumer-dyn g (b.vtable, b.value)).consumed b.value) (λ b. (goal.Consumer-dyn g (b.vtable, b.value)).faults b.value) (λ b. (goal.Consumer-dyn g (b.vtable, b.value)).wants b.value) (λ b. b.vtable)) g.F.Files.tells held c.args.log.now c.args.consumers.now.items c.reported-ended.new.consumers.items c.in-Ok.replay c.reported-ended.result c.reported-ended.new.fanout.drops (c.in-Ok.ensures.said tells)
+    (of_replay (seen (λ b. (goal.Consumer-dyn g (b.vtable, b.value)).consumed b.value) (λ b. (goal.Consumer-dyn g (b.vtable, b.value)).faults b.value) (λ b. (goal.Consumer-dyn g (b.vtable, b.value)).wants b.value) (λ b. b.vtable)) g.F.Files.tells held c.args.log.now c.args.consumers.now.items c.reported-ended.new.consumers.items c.in-Ok.replay c.reported-ended.new.fanout.drops c.in-Ok.ensures.said told) c.reported-ended.ensures.text
 
 pub returns-in-Ok-clause-told : goal.returns-in-Ok-clause-told
 returns-in-Ok-clause-told g c =
     let held = g.F.Files.held c.args.files.now in
-    let told = told_all (seen (λ b. (goal.Consumer-dyn g (b.vtable, b.value)).consumed b.value) (λ b. (goal.Consumer-dyn g (b.vtable, b.value)).faults b.value) (λ b. b.vtable)) (taken_in c.in-Ok.replay).core c.args.consumers.now.items c.replay_fed.new.consumers.items c.reported-ended.new.consumers.items c.args.fanout.now c.replay_fed.new.fanout c.reported-ended.new.fanout
+    let told = told_all (seen (λ b. (goal.Consumer-dyn g (b.vtable, b.value)).consumed b.value) (λ b. (goal.Consumer-dyn g (b.vtable, b.value)).faults b.value) (λ b. (goal.Consumer-dyn g (b.vtable, b.value)).wants b.value) (λ b. b.vtable)) (taken_in c.in-Ok.replay).core c.args.consumers.now.items c.replay_fed.new.consumers.items c.reported-ended.new.consumers.items c.args.fanout.now c.replay_fed.new.fanout c.reported-ended.new.fanout
     c.requires c.in-Ok.ensures.fed c.reported-ended.ensures.finished in
-    reported_told (seen (λ b. (goal.Consumer-dyn g (b.vtable, b.value)).consumed b.value) (λ b. (goal.Consumer-dyn g (b.vtable, b.value)).faults b.value) (λ b. b.vtable)) g.F.Files.tells held c.args.log.now c.args.consumers.now.items c.reported-ended.new.consumers.items c.reported-ended.result c.reported-ended.new.fanout.drops _
-    (of_replay (seen (λ b. (goal.Consumer-dyn g (b.vtable, b.value)).consumed b.value) (λ b. (goal.Consumer-dyn g (b.vtable, b.value)).faults b.value) (λ b. b.vtable)) g.F.Files.tells held c.args.log.now c.args.consumers.now.items c.reported-ended.new.consumers.items c.in-Ok.replay c.reported-ended.new.fanout.drops c.in-Ok.ensures.said told) c.reported-ended.ensures.text c.reported-ended.ensures.fault
+    reported_told (seen (λ b. (goal.Consumer-dyn g (b.vtable, b.value)).consumed b.value) (λ b. (goal.Consumer-dyn g (b.vtable, b.value)).faults b.value) (λ b. (goal.Consumer-dyn g (b.vtable, b.value)).wants b.value) (λ b. b.vtable)) g.F.Files.tells held c.args.log.now c.args.consumers.now.items c.reported-ended.new.consumers.items c.reported-ended.result c.reported-ended.new.fanout.drops _
+    (of_replay (seen (λ b. (goal.Consumer-dyn g (b.vtable, b.value)).consumed b.value) (λ b. (goal.Consumer-dyn g (b.vtable, b.value)).faults b.value) (λ b. (goal.Consumer-dyn g (b.vtable, b.value)).wants b.value) (λ b. b.vtable)) g.F.Files.tells held c.args.log.now c.args.consumers.now.items c.reported-ended.new.consumers.items c.in-Ok.replay c.reported-ended.new.fanout.drops c.in-Ok.ensures.said told) c.reported-ended.ensures.text c.reported-ended.ensures.fault
 
 -- ---- it was stopped
 
 pub returns-in-Err-clause-text : goal.returns-in-Err-clause-text
 returns-in-Err-clause-text g c = λ tells.
-    stopped_text (seen (λ b. (goal.Consumer-dyn g (b.vtable, b.value)).consumed b.value) (λ b. (goal.Consumer-dyn g (b.vtable, b.value)).faults b.value) (λ b. b.vtable)) g.F.Files.tells (g.F.Files.held c.args.files.now) c.args.log.now
+    stopped_text (seen (λ b. (goal.Consumer-dyn g (b.vtable, b.value)).consumed b.value) (λ b. (goal.Consumer-dyn g (b.vtable, b.value)).faults b.value) (λ b. (goal.Consumer-dyn g (b.vtable, b.value)).wants b.value) (λ b. b.vtable)) g.F.Files.tells (g.F.Files.held c.args.files.now) c.args.log.now
     c.args.consumers.now.items c.replay_fed.new.consumers.items c.in-Err.fault c.stopped.result (c.in-Err.ensures.said tells) c.stopped.ensures.said
 
 pub returns-in-Err-clause-told : goal.returns-in-Err-clause-told
 returns-in-Err-clause-told g c =
     let held = g.F.Files.held c.args.files.now in
-    stopped_told (seen (λ b. (goal.Consumer-dyn g (b.vtable, b.value)).consumed b.value) (λ b. (goal.Consumer-dyn g (b.vtable, b.value)).faults b.value) (λ b. b.vtable)) g.F.Files.tells held c.args.log.now
+    stopped_told (seen (λ b. (goal.Consumer-dyn g (b.vtable, b.value)).consumed b.value) (λ b. (goal.Consumer-dyn g (b.vtable, b.value)).faults b.value) (λ b. (goal.Consumer-dyn g (b.vtable, b.value)).wants b.value) (λ b. b.vtable)) g.F.Files.tells held c.args.log.now
     c.args.consumers.now.items c.replay_fed.new.consumers.items c.in-Err.fault c.stopped.result _ _
-    (told_some (seen (λ b. (goal.Consumer-dyn g (b.vtable, b.value)).consumed b.value) (λ b. (goal.Consumer-dyn g (b.vtable, b.value)).faults b.value) (λ b. b.vtable)) g.F.Files.tells (held c.args.log.now) c.in-Err.fault
+    (told_some (seen (λ b. (goal.Consumer-dyn g (b.vtable, b.value)).consumed b.value) (λ b. (goal.Consumer-dyn g (b.vtable, b.value)).faults b.value) (λ b. (goal.Consumer-dyn g (b.vtable, b.value)).wants b.value) (λ b. b.vtable)) g.F.Files.tells (held c.args.log.now) c.in-Err.fault
     c.args.consumers.now.items c.replay_fed.new.consumers.items c.args.fanout.now c.replay_fed.new.fanout c.requires c.in-Err.ensures.part) c.stopped.ensures.said (c.stopped.ensures.cause _ _ c.in-Err.ensures.cause.counted)
 
 pub returns-in-Err-clause-fault : goal.returns-in-Err-clause-fault

@@ -34,7 +34,7 @@ returns-in-Ok-clause-text g c = λ tells is.
 
 pub returns-in-Ok-clause-line : goal.returns-in-Ok-clause-line
 returns-in-Ok-clause-line g c = λ tells is.
-    line_written (seen (λ b. (goal.Consumer-dyn g (b.vtable, b.value)).consumed b.value) (λ b. (goal.Consumer-dyn g (b.vtable, b.value)).faults b.value) (λ b. b.vtable)) g.F.Files.tells (g.F.Files.held c.args.files.now)
+    line_written (seen (λ b. (goal.Consumer-dyn g (b.vtable, b.value)).consumed b.value) (λ b. (goal.Consumer-dyn g (b.vtable, b.value)).faults b.value) (λ b. (goal.Consumer-dyn g (b.vtable, b.value)).wants b.value) (λ b. b.vtable)) g.F.Files.tells (g.F.Files.held c.args.files.now)
     _ _ c.args.consumers.now.items c.run.new.consumers.items (request_of c.args.words.now) (run_of c.args.words.now (g.F.Files.held c.args.files.now)) c.in-Ok.ended _
     (c.in-Ok.ensures.said tells) (c.in-Ok.ensures.text tells) (rw c.as_slice.ensures at c.finish.ensures) is
 
@@ -70,22 +70,22 @@ returns-in-Err-Append-clause-any_memory_line g c = λ tells seven.
 
 pub returns-in-Ok-clause-consumers : goal.returns-in-Ok-clause-consumers
 returns-in-Ok-clause-consumers g c =
-    end_consumers (seen (λ b. (goal.Consumer-dyn g (b.vtable, b.value)).consumed b.value) (λ b. (goal.Consumer-dyn g (b.vtable, b.value)).faults b.value) (λ b. b.vtable)) g.F.Files.tells (g.F.Files.held c.args.files.now)
+    end_consumers (seen (λ b. (goal.Consumer-dyn g (b.vtable, b.value)).consumed b.value) (λ b. (goal.Consumer-dyn g (b.vtable, b.value)).faults b.value) (λ b. (goal.Consumer-dyn g (b.vtable, b.value)).wants b.value) (λ b. b.vtable)) g.F.Files.tells (g.F.Files.held c.args.files.now)
     _ _ c.args.consumers.now.items c.run.new.consumers.items (request_of c.args.words.now) c.in-Ok.ended _ c.in-Ok.ensures.status (rw c.as_slice.ensures at c.finish.ensures) c.in-Ok.ensures.consumers
 
 pub returns-in-Err-Read-clause-consumers : goal.returns-in-Err-Read-clause-consumers
 returns-in-Err-Read-clause-consumers g c =
-    fault_consumers (seen (λ b. (goal.Consumer-dyn g (b.vtable, b.value)).consumed b.value) (λ b. (goal.Consumer-dyn g (b.vtable, b.value)).faults b.value) (λ b. b.vtable)) g.F.Files.tells (g.F.Files.held c.args.files.now)
+    fault_consumers (seen (λ b. (goal.Consumer-dyn g (b.vtable, b.value)).consumed b.value) (λ b. (goal.Consumer-dyn g (b.vtable, b.value)).faults b.value) (λ b. (goal.Consumer-dyn g (b.vtable, b.value)).wants b.value) (λ b. b.vtable)) g.F.Files.tells (g.F.Files.held c.args.files.now)
     _ _ c.args.consumers.now.items c.run.new.consumers.items (request_of c.args.words.now) 4 _ _ (λ three. omega (arith, three)) c.finish-in-Err-Read.ensures (rw c.in-Err-Read.field-0-is at c.in-Err-Read.ensures.consumers)
 
 pub returns-in-Err-Append-clause-consumers : goal.returns-in-Err-Append-clause-consumers
 returns-in-Err-Append-clause-consumers g c =
-    fault_consumers (seen (λ b. (goal.Consumer-dyn g (b.vtable, b.value)).consumed b.value) (λ b. (goal.Consumer-dyn g (b.vtable, b.value)).faults b.value) (λ b. b.vtable)) g.F.Files.tells (g.F.Files.held c.args.files.now)
+    fault_consumers (seen (λ b. (goal.Consumer-dyn g (b.vtable, b.value)).consumed b.value) (λ b. (goal.Consumer-dyn g (b.vtable, b.value)).faults b.value) (λ b. (goal.Consumer-dyn g (b.vtable, b.value)).wants b.value) (λ b. b.vtable)) g.F.Files.tells (g.F.Files.held c.args.files.now)
     _ _ c.args.consumers.now.items c.run.new.consumers.items (request_of c.args.words.now) 5 _ _ (λ three. omega (arith, three)) c.finish-in-Err-Append.ensures (rw c.in-Err-Append.field-0-is at c.in-Err-Append.ensures.consumers)
 
 pub returns-in-Err-OutOfMemory-clause-consumers : goal.returns-in-Err-OutOfMemory-clause-consumers
 returns-in-Err-OutOfMemory-clause-consumers g c =
-    memory_consumers (seen (λ b. (goal.Consumer-dyn g (b.vtable, b.value)).consumed b.value) (λ b. (goal.Consumer-dyn g (b.vtable, b.value)).faults b.value) (λ b. b.vtable)) g.F.Files.tells (g.F.Files.held c.args.files.now)
+    memory_consumers (seen (λ b. (goal.Consumer-dyn g (b.vtable, b.value)).consumed b.value) (λ b. (goal.Consumer-dyn g (b.vtable, b.value)).faults b.value) (λ b. (goal.Consumer-dyn g (b.vtable, b.value)).wants b.value) (λ b. b.vtable)) g.F.Files.tells (g.F.Files.held c.args.files.now)
     c.args.consumers.now.items c.run.new.consumers.items (request_of c.args.words.now) _ _ c.out_of_memory.ensures.status c.in-Err-OutOfMemory.ensures.consumers
 
 -- ---- what a check shows

@@ -23,7 +23,7 @@ returns g c = record {
         about = e.about;
         link = e.link;
         calls = with_rest _ c.meet-came_to.result e.dials e.accepts;
-        finished = asked_finished (seen (λ b. (goal.Consumer-dyn g (b.vtable, b.value)).consumed b.value) (λ b. (goal.Consumer-dyn g (b.vtable, b.value)).faults b.value) (λ b. b.vtable)) (Meet (names_of c.args.sources) c.args.peer.now) g.F.Files.tells _ _ given given c.meet-came_to.result (e.calls, refl);
-        fit = asked_midway (seen (λ b. (goal.Consumer-dyn g (b.vtable, b.value)).consumed b.value) (λ b. (goal.Consumer-dyn g (b.vtable, b.value)).faults b.value) (λ b. b.vtable)) (Meet (names_of c.args.sources) c.args.peer.now) g.F.Files.tells _ _ given given c.meet-came_to.result (e.calls, refl);
+        finished = asked_finished (seen (λ b. (goal.Consumer-dyn g (b.vtable, b.value)).consumed b.value) (λ b. (goal.Consumer-dyn g (b.vtable, b.value)).faults b.value) (λ b. (goal.Consumer-dyn g (b.vtable, b.value)).wants b.value) (λ b. b.vtable)) (Meet (names_of c.args.sources) c.args.peer.now) g.F.Files.tells _ _ given given c.meet-came_to.result (e.calls, refl);
+        fit = asked_midway (seen (λ b. (goal.Consumer-dyn g (b.vtable, b.value)).consumed b.value) (λ b. (goal.Consumer-dyn g (b.vtable, b.value)).faults b.value) (λ b. (goal.Consumer-dyn g (b.vtable, b.value)).wants b.value) (λ b. b.vtable)) (Meet (names_of c.args.sources) c.args.peer.now) g.F.Files.tells _ _ given given c.meet-came_to.result (e.calls, refl);
       };
 }

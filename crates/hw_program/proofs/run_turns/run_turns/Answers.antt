@@ -27,8 +27,8 @@ returns-in-Ok g c =
         about = e.about;
         link = e.link;
         calls = with_rest _ c.run-came_to.result (rw (← peers_count (map string_bytes c.args.addresses.now) peers c.in-Ok.ensures) e.dials) e.accepts;
-        finished = asked_finished (seen (λ b. (goal.Consumer-dyn g (b.vtable, b.value)).consumed b.value) (λ b. (goal.Consumer-dyn g (b.vtable, b.value)).faults b.value) (λ b. b.vtable)) (Run (names_of c.args.sources) c.args.me c.args.turns (map string_bytes c.args.addresses.now)) g.F.Files.tells _ _ _ _ c.run-came_to.result runs;
-        fit = asked_midway (seen (λ b. (goal.Consumer-dyn g (b.vtable, b.value)).consumed b.value) (λ b. (goal.Consumer-dyn g (b.vtable, b.value)).faults b.value) (λ b. b.vtable)) (Run (names_of c.args.sources) c.args.me c.args.turns (map string_bytes c.args.addresses.now)) g.F.Files.tells _ _ _ _ c.run-came_to.result runs;
+        finished = asked_finished (seen (λ b. (goal.Consumer-dyn g (b.vtable, b.value)).consumed b.value) (λ b. (goal.Consumer-dyn g (b.vtable, b.value)).faults b.value) (λ b. (goal.Consumer-dyn g (b.vtable, b.value)).wants b.value) (λ b. b.vtable)) (Run (names_of c.args.sources) c.args.me c.args.turns (map string_bytes c.args.addresses.now)) g.F.Files.tells _ _ _ _ c.run-came_to.result runs;
+        fit = asked_midway (seen (λ b. (goal.Consumer-dyn g (b.vtable, b.value)).consumed b.value) (λ b. (goal.Consumer-dyn g (b.vtable, b.value)).faults b.value) (λ b. (goal.Consumer-dyn g (b.vtable, b.value)).wants b.value) (λ b. b.vtable)) (Run (names_of c.args.sources) c.args.me c.args.turns (map string_bytes c.args.addresses.now)) g.F.Files.tells _ _ _ _ c.run-came_to.result runs;
       };
       lent = e.lent;
     }

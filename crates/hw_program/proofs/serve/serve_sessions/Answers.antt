@@ -23,7 +23,7 @@ returns g c = record {
         about = e.about;
         link = e.link;
         calls = with_rest _ c.serve-came_to.result e.accepts e.dials;
-        finished = asked_finished (seen (λ b. (goal.Consumer-dyn g (b.vtable, b.value)).consumed b.value) (λ b. (goal.Consumer-dyn g (b.vtable, b.value)).faults b.value) (λ b. b.vtable)) (Serve (names_of c.args.sources) address c.args.sessions) g.F.Files.tells _ _ given given c.serve-came_to.result (e.serves, refl);
-        fit = asked_midway (seen (λ b. (goal.Consumer-dyn g (b.vtable, b.value)).consumed b.value) (λ b. (goal.Consumer-dyn g (b.vtable, b.value)).faults b.value) (λ b. b.vtable)) (Serve (names_of c.args.sources) address c.args.sessions) g.F.Files.tells _ _ given given c.serve-came_to.result (e.serves, refl);
+        finished = asked_finished (seen (λ b. (goal.Consumer-dyn g (b.vtable, b.value)).consumed b.value) (λ b. (goal.Consumer-dyn g (b.vtable, b.value)).faults b.value) (λ b. (goal.Consumer-dyn g (b.vtable, b.value)).wants b.value) (λ b. b.vtable)) (Serve (names_of c.args.sources) address c.args.sessions) g.F.Files.tells _ _ given given c.serve-came_to.result (e.serves, refl);
+        fit = asked_midway (seen (λ b. (goal.Consumer-dyn g (b.vtable, b.value)).consumed b.value) (λ b. (goal.Consumer-dyn g (b.vtable, b.value)).faults b.value) (λ b. (goal.Consumer-dyn g (b.vtable, b.value)).wants b.value) (λ b. b.vtable)) (Serve (names_of c.args.sources) address c.args.sessions) g.F.Files.tells _ _ given given c.serve-came_to.result (e.serves, refl);
       };
 }

@@ -20,7 +20,7 @@ invariant-entries g l = record {
   reached : IsReached l.initial.replay.core → IsReached l.replay.core;
   config : l.replay.core.config ≡ l.initial.replay.core.config;
   room : HasRoom l.replay (g.F.Files.allowance l.files);
-  fed : AreFed (seen (λ b. (goal.Consumer-dyn g (b.vtable, b.value)).consumed b.value) (λ b. (goal.Consumer-dyn g (b.vtable, b.value)).faults b.value) (λ b. b.vtable)) (moment l.initial.replay.core l.initial.consumers.items l.initial.fanout) (moment l.replay.core l.consumers.items l.fanout);
+  fed : AreFed (seen (λ b. (goal.Consumer-dyn g (b.vtable, b.value)).consumed b.value) (λ b. (goal.Consumer-dyn g (b.vtable, b.value)).faults b.value) (λ b. (goal.Consumer-dyn g (b.vtable, b.value)).wants b.value) (λ b. b.vtable)) (moment l.initial.replay.core l.initial.consumers.items l.initial.fanout) (moment l.replay.core l.consumers.items l.fanout);
   places : length l.consumers.items ≤ length l.fanout.places;
   passed : l.fanout.passed ≡ length (told_chain l.replay.core);
   whole : All (λ b. HasTaken (told_chain l.initial.replay.core) l.initial.fanout.passed ((goal.Consumer-dyn g (b.vtable, b.value)).consumed b.value)) l.initial.consumers.items → All (λ b. HasTaken (told_chain l.replay.core) l.fanout.passed ((goal.Consumer-dyn g (b.vtable, b.value)).consumed b.value)) l.consumers.items;

@@ -8,6 +8,7 @@ loop-index-init g c = record {
   more = omega arith;
   took = took_none (told_chain c.args.core.now) c.args.from _;
   faults = refl;
+  wants = refl;
   kind = refl;
 }
 
@@ -16,5 +17,6 @@ loop-index-preserved g c = record {
   more = omega (arith, c.loop-index.invariant.more);
   took = took_more _ c.args.from c.loop-index.index _ _ _ _ c.loop-index.invariant.more c.block_at-height.ensures c.loop-index.invariant.took c.in_ok-give.ensures.consumed;
   faults = c.in_ok-give.ensures.cause.failed ∙ c.loop-index.invariant.faults;
+  wants = c.in_ok-give.ensures.want ∙ c.loop-index.invariant.wants;
   kind = c.in_ok-give.ensures.kind ∙ c.loop-index.invariant.kind;
 }

@@ -12,7 +12,7 @@ invariant-loop-index g l =
     let d = g.D.Door in
     let f = g.F.Files in
     let s = g.S.Sink in
-    let sight = seen (λ b. (goal.Consumer-dyn g (b.vtable, b.value)).consumed b.value) (λ b. (goal.Consumer-dyn g (b.vtable, b.value)).faults b.value) (λ b. b.vtable) in
+    let sight = seen (λ b. (goal.Consumer-dyn g (b.vtable, b.value)).consumed b.value) (λ b. (goal.Consumer-dyn g (b.vtable, b.value)).faults b.value) (λ b. (goal.Consumer-dyn g (b.vtable, b.value)).wants b.value) (λ b. b.vtable) in
     record {
       taken : TakesAll (holds_session sight (g.T.Talk.talks l.sessions.talk f.tells) l.sessions.who.now) l.sessions.first l.index
           (scene l.initial.host.node l.initial.host.fanout (outside_of f s d l.initial.files l.initial.out l.initial.door l.initial.consumers.items), tt)

@@ -14,7 +14,7 @@ invariant-loop-place g l =
     let d = g.D.Door in
     let f = g.F.Files in
     let s = g.S.Sink in
-    let sight = seen (λ b. (goal.Consumer-dyn g (b.vtable, b.value)).consumed b.value) (λ b. (goal.Consumer-dyn g (b.vtable, b.value)).faults b.value) (λ b. b.vtable) in
+    let sight = seen (λ b. (goal.Consumer-dyn g (b.vtable, b.value)).consumed b.value) (λ b. (goal.Consumer-dyn g (b.vtable, b.value)).faults b.value) (λ b. (goal.Consumer-dyn g (b.vtable, b.value)).wants b.value) (λ b. b.vtable) in
     record {
       taken : TakesAll (DrivesSession sight f.tells) 0 l.place
           (scene l.initial.host.node l.initial.host.fanout (outside_in f s d l.initial.environment l.initial.consumers.items), l.initial.peers.items)

@@ -15,7 +15,7 @@ invariant-loop-index g l =
     let f = g.F.Files in
     let s = g.S.Sink in
     let k = g.C.Clock in
-    let sight = seen (λ b. (goal.Consumer-dyn g (b.vtable, b.value)).consumed b.value) (λ b. (goal.Consumer-dyn g (b.vtable, b.value)).faults b.value) (λ b. b.vtable) in
+    let sight = seen (λ b. (goal.Consumer-dyn g (b.vtable, b.value)).consumed b.value) (λ b. (goal.Consumer-dyn g (b.vtable, b.value)).faults b.value) (λ b. (goal.Consumer-dyn g (b.vtable, b.value)).wants b.value) (λ b. b.vtable) in
     record {
       taken : TakesAll (TakesTurn sight f.tells l.me) 1 l._index
           (scene l.initial.host.node l.initial.host.fanout (outside_in f s d l.initial.environment l.initial.consumers.items), turning l.initial.peers.items (k.given l.initial.environment.clock.now))

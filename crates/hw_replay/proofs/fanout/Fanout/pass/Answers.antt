@@ -19,16 +19,16 @@ loop-index-smaller g c = grind (arith, common_steps, length-remove, c.drop_out.e
 
 pub loop-index-preserved : goal.loop-index-preserved
 loop-index-preserved g c =
-    let served = drops _ _ _ _ _ c.drop_out.new.self _ c.index_mut.result.now c.tell.new.consumer c.in-Err.ending c.loop-index.invariant.served (omega (arith, c.loop-index-test.true, c.len.ensures)) c.index_mut.ensures.value (c.in-Err.ensures (slice_index c.loop-index.self.places c.loop-index.index)) c.drop_out.ensures.places c.drop_out.ensures.drops in
+    let served = drops _ _ _ _ _ c.drop_out.new.self _ c.index_mut.result.now c.tell.new.consumer c.in-Err.ending c.loop-index.invariant.served (omega (arith, c.loop-index-test.true, c.len.ensures)) c.index_mut.ensures.value (c.in-Err.ensures (slice_index c.loop-index.self.places c.loop-index.index)) c.drop_out.ensures.places c.drop_out.ensures.drops c.drop_out.ensures.gone in
     let left = after_drop _ _ _ _ _ _ c.drop_out.new.consumers.items served c.drop_out.ensures.consumers in
     record { served = left; room = has_places _ _ _ _ _ _ left; passed = c.drop_out.ensures.passed ∙ c.loop-index.invariant.passed }
 
 pub returns-clause-told : goal.returns-clause-told
 returns-clause-told g c =
-    later_served _ _ _ _ c.loop-index.self _ (ap (λ (f : FanoutState). f.places) c.self-2.view_is) (ap (λ (f : FanoutState). f.drops) c.self-2.view_is)
-    (told_from _ _ _ _ _ _ _ _ (ap (λ (f : FanoutState). f.passed) c.self.view_is) (ends _ _ _ _ _ _ c.loop-index.invariant.served (omega (arith, c.loop-index-test.false, c.len.ensures))))
+    later_served _ _ _ _ c.loop-index.self _ (ap (λ (f : FanoutState _). f.places) c.self-2.view_is) (ap (λ (f : FanoutState _). f.drops) c.self-2.view_is) (ap (λ (f : FanoutState _). f.gone) c.self-2.view_is)
+    (told_from _ _ _ _ _ _ _ _ (ap (λ (f : FanoutState _). f.passed) c.self.view_is) (ends _ _ _ _ _ _ c.loop-index.invariant.served (omega (arith, c.loop-index-test.false, c.len.ensures))))
 
 pub returns-clause-whole : goal.returns-clause-whole
 returns-clause-whole g c = λ so.
     let P : ℕ → Type 0 = λ n. All (λ b. HasTaken (told_chain c.args.core.now) n ((goal.Consumer-dyn g (b.vtable, b.value)).consumed b.value)) c.args.consumers.now.items in
-    all_whole _ _ _ _ _ _ _ (ends _ _ _ _ _ _ c.loop-index.invariant.served (omega (arith, c.loop-index-test.false, c.len.ensures))) (subst P (ap (λ (f : FanoutState). f.passed) (sym c.self.view_is)) so)
+    all_whole _ _ _ _ _ _ _ (ends _ _ _ _ _ _ c.loop-index.invariant.served (omega (arith, c.loop-index-test.false, c.len.ensures))) (subst P (ap (λ (f : FanoutState _). f.passed) (sym c.self.view_is)) so)
