@@ -21,7 +21,7 @@
 //! `remove:NAME`, `rename:OLD:NEW`, or `link:TARGET:NAME`, which makes a symbolic link. A COUNT is at most 16.
 //!
 //! A step of a door is `accept`, `dial:ADDRESS`, `dial`, which dials the peer that listens, `read:COUNT`, `write:TEXT`,
-//! `end`, or `flood`, which writes 1,024 bytes again and again until that fails, at most 65,536 times. With `come:TEXT`
+//! `end`, or `flood`, which writes 65,536 bytes again and again until that fails, at most 1,024 times. With `come:TEXT`
 //! a new peer dials the door and says this, with `afar:TEXT` one from the other address of this machine, and with
 //! `meet` the peer that listens takes the dial. The peer that came or met last says something with `say:TEXT`, says
 //! nothing more after `shut`, and hears something with `hear:COUNT`. With `trickle:BOUNDS` it says a byte each 300

@@ -180,10 +180,10 @@ fn hear(answer: &mut Answer, peers: &mut Peers, count: usize) {
     put_read(answer, outcome, piece);
 }
 
-/// Writes 1,024 bytes again and again until that fails.
+/// Writes 65,536 bytes again and again until that fails, 64 MiB at most.
 fn flood<D: Door>(door: &mut D) -> Result<(), IoFault> {
-    for _ in 0..65_536 {
-        door.write(&[0; 1024])?;
+    for _ in 0..1_024 {
+        door.write(&[0; 65_536])?;
     }
     Ok(())
 }
