@@ -12,12 +12,14 @@
 //! | `graph` | the layers of the graph, and the validator's step |
 //! | `journal` | a node and its journal |
 //! | `bench` | the speed of the codec |
+//! | `host` | the real files, output, clock, door and consumers |
 //!
 //! The speed is measured by hand, with the lines `section bench` and `measure 20000` as the input.
 #![tactic(auto)]
 
 mod bench;
 mod graph;
+mod host;
 mod journal;
 mod leaf;
 mod log;
@@ -39,6 +41,7 @@ enum Section {
     Graph(Option<State>),
     Journal(Vec<Node>),
     Bench,
+    Host,
 }
 
 fn main(rt: HostRuntime) -> io::Result<()> {
@@ -76,6 +79,7 @@ fn begin(answer: &mut Answer, section: &mut Section, name: &str) {
         "graph" => Section::Graph(None),
         "journal" => Section::Journal(Vec::new(answer.alloc())),
         "bench" => Section::Bench,
+        "host" => Section::Host,
         _ => {
             answer.refuse();
             Section::Unnamed
@@ -92,6 +96,7 @@ fn tell(rt: HostRuntime, answer: &mut Answer, section: &mut Section, line: &str)
         Section::Graph(held) => graph::tell(answer, held, line),
         Section::Journal(nodes) => journal::tell(answer, nodes, line),
         Section::Bench => bench::tell(rt, answer, line),
+        Section::Host => host::tell(rt, answer, line),
         Section::Unnamed => answer.refuse(),
     }
 }
