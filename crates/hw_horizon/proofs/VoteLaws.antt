@@ -40,6 +40,14 @@ vote_known dag g n lt = go (is_block (node_at dag n)) refl
     go true t = let own = (g.settled n lt).own_vote t in omega arith
     go false f = (g.settled n lt).fork.known (unit_at dag n).vote (ap (λ (b : Bool). cond b (unit_at dag n).parent (Some (unit_at dag n).vote)) f)
 
+-- what a unit votes for is a block
+pub vote_block : (dag : UnitGraph) → IsGraph dag → (n : ℕ) → n < count_of dag → is_block (node_at dag (unit_at dag n).vote.0) ≡ true
+vote_block dag g n lt = go (is_block (node_at dag n)) refl
+  where
+    go : (b : Bool) → is_block (node_at dag n) ≡ b → is_block (node_at dag (unit_at dag n).vote.0) ≡ true
+    go true t = subst (λ (m : ℕ). is_block (node_at dag m) ≡ true) (sym ((g.settled n lt).own_vote t)) t
+    go false f = (g.settled n lt).fork.block (unit_at dag n).vote (ap (λ (b : Bool). cond b (unit_at dag n).parent (Some (unit_at dag n).vote)) f)
+
 -- ---- the walk down a lane
 
 module _ (dag : UnitGraph) (g : IsGraph dag) (tip : ℕ) (lt : tip < count_of dag) (block : ℕ) where

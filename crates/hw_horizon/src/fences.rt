@@ -17,7 +17,7 @@ use std::alloc::Global;
 use std::marker::Model;
 
 /// From `first` on each unit of the lane, up to `tip`, votes for the block or a descendant of it.
-#[derive(Clone, Copy, Debug, PartialEq, Eq)]
+#[derive(Clone, Copy)]
 pub struct Fence {
     pub block: UnitNo,
     pub tip: UnitNo,

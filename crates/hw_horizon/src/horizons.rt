@@ -45,6 +45,24 @@ struct Scratch {
     firsts: Firsts,
 }
 
+impl Scratch {
+    /// For so many validators.
+    fn new(alloc: Global, validators: u32) -> Result<Scratch, OutOfMemory>
+        ensures { IfOk result (λ scratch. IsScratch validators scratch) }
+    {
+        let lower = Table::new(alloc, validators)?;
+        let present = Table::new(alloc, validators)?;
+        let next = Table::new(alloc, validators)?;
+        let firsts = Firsts::new(alloc, validators)?;
+        Ok(Scratch {
+            lower,
+            present,
+            next,
+            firsts,
+        })
+    }
+}
+
 impl Model for Horizons {
     ghost use Rattle.hw_horizon.specs.Search.{Search};
 
@@ -72,22 +90,15 @@ impl Horizons {
         ensures found { IfOk result (λ horizons. horizons.found ≡ None) }
         ensures walks { IfOk result (λ horizons. (dag : UnitGraph) → AreKept dag horizons.walks) }
     {
-        let mut tables = Vec::with_capacity(alloc, levels as usize + 1)?;
-        for _ in 0..levels as usize + 1 {
-            tables.push(Table::new(alloc, validators)?)?;
-        }
-        let scratch = Scratch {
-            lower: Table::new(alloc, validators)?,
-            present: Table::new(alloc, validators)?,
-            next: Table::new(alloc, validators)?,
-            firsts: Firsts::new(alloc, validators)?,
-        };
+        let tables = tables_of(alloc, validators, levels)?;
+        let scratch = Scratch::new(alloc, validators)?;
+        let walks = Walks::new(alloc, validators)?;
         Ok(Horizons {
             validators,
             levels,
             found: None,
             tables,
-            walks: Walks::new(alloc, validators)?,
+            walks,
             scratch,
         })
     }
@@ -171,6 +182,18 @@ impl Horizons {
             _ => None,
         }
     }
+}
+
+// A table for each level and level 0, with nobody of so many validators in it.
+fn tables_of(alloc: Global, validators: u32, levels: u32) -> Result<Vec<Table>, OutOfMemory>
+    ensures { IfOk result (λ tables. AreTables validators levels tables.items) }
+{
+    let count = levels as usize + 1;
+    let mut tables = Vec::with_capacity(alloc, count)?;
+    for _ in 0..count {
+        tables.push(Table::new(alloc, validators)?)?;
+    }
+    Ok(tables)
 }
 
 // Puts the table of each level up to this one.

@@ -13,7 +13,7 @@ use std::alloc::Global;
 use std::marker::Model;
 
 /// From `start` on each unit of the lane up to `tip` votes for the block.
-#[derive(Clone, Copy, Debug, PartialEq, Eq)]
+#[derive(Clone, Copy)]
 pub struct Walk {
     pub tip: UnitNo,
     pub start: u64,

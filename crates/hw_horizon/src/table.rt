@@ -1,6 +1,6 @@
 //! The starts of the members of a committee.
 
-ghost use Rattle.std.specs.Prelude.{◌≡◌, ℕ, ◌<◌, None, length, replicate, slice_set, IfOk, is_some};
+ghost use Rattle.std.specs.Prelude.{◌≡◌, ℕ, ◌<◌, None, length, slice_set, IfOk, is_some};
 ghost use Rattle.std.specs.List.{list_any};
 ghost use Rattle.hw_horizon.specs.Tables.{entry};
 
@@ -25,7 +25,8 @@ impl Model for Table {
 impl Table {
     /// Nobody of so many validators is in the committee.
     pub(crate) fn new(alloc: Global, validators: u32) -> Result<Table, OutOfMemory>
-        ensures { IfOk result (λ table. table ≡ replicate validators None) }
+        ensures length { IfOk result (λ table. length table ≡ validators) }
+        ensures nobody { IfOk result (λ table. (v : ℕ) → entry table v ≡ None) }
     {
         let mut starts = Vec::with_capacity(alloc, validators as usize)?;
         starts.resize(validators as usize, None)?;

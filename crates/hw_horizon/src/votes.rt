@@ -271,9 +271,7 @@ pub fn votes_for(dag: &Dag, no: UnitNo, block: UnitNo) -> bool
     requires block_known { block.0 < count_of dag.now }
     ensures { result ≡ votes_over dag.now block.0 no.0 }
 {
-    let vote = dag.unit(no).vote();
-    let height = dag.unit(block).height().unwrap_or(0);
-    height <= dag.unit(vote).height().unwrap_or(0) && ancestor_at(dag, vote, height) == block
+    is_over(dag, dag.unit(no).vote(), block)
 }
 
 // Whether the one block is the other or a descendant of it.

@@ -1,5 +1,5 @@
 -- Laws of handing out.
-use Rattle.std.proofs.Common.{◌≡◌, ◌≢◌, ◌⊎◌, inl, inr, ℕ, ◌+◌, ◌-◌, ◌<◌, true, List, [], ◌∷◌, Option, Some, None, ap, sym, ◌∙◌, subst, arith, All}
+use Rattle.std.proofs.Common.{◌≡◌, ◌≢◌, ◌⊎◌, inl, inr, ℕ, ◌+◌, ◌-◌, ◌<◌, true, false, List, [], ◌∷◌, Option, Some, None, ap, sym, ◌∙◌, subst, arith, All}
 use Rattle.std.specs.List.{count_by, list_any}
 use Rattle.std.specs.List.Sorted.{IsPermutation}
 use Rattle.std.specs.Option.{option_map}
@@ -14,7 +14,7 @@ use Rattle.hw_types.specs.Settled.{need_eq}
 use Rattle.hw_park.specs.declared.key.NeedKey.{NeedKey}
 use Rattle.hw_park.specs.Numbers.{numbers_at, has_number}
 use Rattle.hw_park.specs.Parked.{Waiting, is_ready, next_item, without_next}
-use Rattle.hw_park.specs.Kept.{listed, is_ready_at, IsQueue, IsKept}
+use Rattle.hw_park.specs.Kept.{listed, is_ready_at, IsQueue, IsQueueOf, IsKept}
 use Rattle.hw_park.proofs.ListedLaws.{worth, count-step, count-all}
 use Rattle.hw_park.proofs.ReadyLaws.{quiet, quiet-needs, needs-quiet, take_out}
 use Rattle.hw_park.proofs.QueueLaws.{first_ready, none_earlier, ready_below, queue-popped}
@@ -77,3 +77,10 @@ handed_out {T} limit count n old new waits ready rest len less room r w kept mov
 -- what is handed out doesn't have a need left
 pub none_waits : {T : Type 0} (ws : List (Waiting T)) → All (λ w. w.needs ≢ []) ws → (item : T) → Some item ≡ next_item ws → ⊥
 none_waits {T} ws all item found = cc (found ∙ ap (λ (o : Option (Waiting T)). option_map (λ w. w.item) o) (needs-quiet ws all))
+
+-- who is ready hasn't gone
+pub never_gone : {T : Type 0} (at : ℕ → Option (Waiting T)) (n : ℕ) (ready rest : List (Reverse ℕ)) (len room : ℕ) (r : Reverse ℕ)
+    → IsQueueOf at n ready len room → IsPermutation ready (r ∷ rest) → None ≡ at r.0 → ⊥
+never_gone at n ready rest len room r queue moved gone =
+    let e : false ≡ true = ap is_ready_at gone ∙ first_ready at n ready rest len room r queue moved in
+    absurd cc

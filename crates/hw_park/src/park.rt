@@ -16,7 +16,7 @@ use std::collections::{BTreeMap, BinaryHeap};
 use std::marker::Model;
 
 /// Why an item wasn't parked.
-#[derive(Clone, Copy, Debug, PartialEq, Eq)]
+#[derive(Clone, Copy)]
 pub enum ParkCause {
     /// As many items are parked as may be.
     Full,

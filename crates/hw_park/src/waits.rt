@@ -42,8 +42,7 @@ fn put_last(numbers: &mut Vec<u64>, number: u64) -> Result<(), OutOfMemory>
     if numbers.is_empty() {
         numbers.reserve(FIRST_ROOM)?;
     }
-    numbers.push(number)?;
-    Ok(())
+    Ok(numbers.push(number)?)
 }
 
 // Takes a need out for which no number waits.

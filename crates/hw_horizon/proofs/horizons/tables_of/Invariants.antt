@@ -1,6 +1,6 @@
 use Rattle.std.proofs.Common.{◌≡◌, ℕ, ◌<◌, length}
 use Rattle.hw_horizon.specs.Search.{table_of}
-use Rattle.hw_horizon.proofs.horizons.Horizons.new.Given as goal
+use Rattle.hw_horizon.proofs.horizons.tables_of.Given as goal
 
 abbrev pub invariant-loop : goal.invariant-loop
 invariant-loop l = record {
