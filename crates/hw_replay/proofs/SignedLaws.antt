@@ -135,16 +135,15 @@ abbrev after_seq : ℕ → LastUnit → ℕ × Rest → Read SignedUnit
 after_seq creator last seq = time_at seq.1 >>= after_time creator last seq
 
 module _ (creator : ℕ) (last : LastUnit) (seq : ℕ × Rest) (s : SignedUnit × Rest) where
-
   endorsed_length : (time exponent : ℕ × Rest) (panorama : List Obs × Rest) (value : Option (List ℕ) × Rest) (endorsed : List Digest × Rest)
-    → after_endorsed creator last seq time exponent panorama value endorsed ≡ Ok s → length s.0.signature.0 ≡ 32
+      → after_endorsed creator last seq time exponent panorama value endorsed ≡ Ok s → length s.0.signature.0 ≡ 32
   endorsed_length time exponent panorama value endorsed e =
       let signature = bind_ok (bytes_at 32 endorsed.1) (compact_unit creator last seq time exponent panorama value endorsed) s e in
       let is : length signature.0.0 ≡ length s.0.signature.0 = ap (λ (y : Read SignedUnit). elim y [ Ok z ↦ length z.0.signature.0 | Err d ↦ 0 ]) signature.2 in
       sym is ∙ bytes_length 32 endorsed.1 signature.0 signature.1
 
   value_length : (time exponent : ℕ × Rest) (panorama : List Obs × Rest) (value : Option (List ℕ) × Rest)
-    → after_value creator last seq time exponent panorama value ≡ Ok s → length s.0.signature.0 ≡ 32
+      → after_value creator last seq time exponent panorama value ≡ Ok s → length s.0.signature.0 ≡ 32
   value_length time exponent panorama value e =
       let endorsed = bind_ok (counted_at digest_at 256 value.1) (after_endorsed creator last seq time exponent panorama value) s e in
       endorsed_length time exponent panorama value endorsed.0 endorsed.2
