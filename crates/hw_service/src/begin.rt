@@ -19,7 +19,7 @@ ghost use Rattle.hw_service.specs.Counts.{IsReadCounted, IsAppendCounted, IsRead
 ghost use Rattle.hw_service.specs.declared.fault.ServiceFault.TheVariants as fault;
 
 use crate::fault::ServiceFault;
-use crate::host::Host;
+use crate::node_host::Host;
 use hw_io::{Consumer, Files, IoFault};
 use hw_keys::{Keys, KeysFault};
 use hw_log::{LogError, read_file};

@@ -9,8 +9,8 @@ ghost use Rattle.hw_service.specs.Counts.{IsWriteCounted};
 
 use crate::ended::Served;
 use crate::fault::ServiceFault;
-use crate::host::Host;
 use crate::lines::{closing_text, write_bytes};
+use crate::node_host::Host;
 use hw_io::{Consumer, Sink};
 use std::alloc::Global;
 

@@ -14,8 +14,8 @@ ghost use Rattle.hw_service.specs.Counts.{IsAppendCounted, IsWriteCounted};
 ghost use Rattle.hw_service.specs.declared.fault.ServiceFault.TheVariants as fault;
 
 use crate::fault::ServiceFault;
-use crate::host::Host;
 use crate::lines::write_bytes;
+use crate::node_host::Host;
 use hw_codec::digest_of;
 use hw_io::{Consumer, Files, Sink};
 use hw_rounds::round_id;
