@@ -29,7 +29,7 @@
 //! bounds? `clock` keeps the moment and answers nothing, and `within:BOUNDS` answers whether the milliseconds since
 //! then are within the bounds.
 //!
-//! Covered, with answers that were worked out from what hw_host and hw_consumers say of themselves:
+//! Covered, with answers that were worked out from what hw_host and hw_host say of themselves:
 //!
 //! - an exchange with each of them; appends by turns, behind a read, to a renamed file and onto a full disk;
 //! - a log that another node of this machine has, and one that others write to;

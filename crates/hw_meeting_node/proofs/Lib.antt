@@ -4,6 +4,7 @@ pub mod EndLaws
 pub mod FurtherLaws
 pub mod TakingLaws
 pub mod TakenLaws
+pub mod SentLaws
 pub mod MeetingLaws
 pub mod SayLaws
 pub mod ReactLaws

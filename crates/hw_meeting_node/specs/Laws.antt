@@ -1,6 +1,6 @@
 -- Laws of meetings: the statements.
 -- Source: ours.
-use Rattle.std.specs.Prelude.{◌≡◌, ◌⊎◌, ℕ, ◌≤◌, Bool, List, ◌∷◌, ◌++◌, length, map, fold, is_ok, None, Result, if◌then◌else◌}
+use Rattle.std.specs.Prelude.{◌≡◌, ◌⊎◌, ℕ, ◌≤◌, Bool, List, ◌∷◌, ◌++◌, length, take, map, filter_map, fold, is_ok, Option, Some, None, Result, if◌then◌else◌}
 use Rattle.std.specs.List.{All}
 use Rattle.hw_types.specs.declared.unit.Vertex.{Vertex}
 use Rattle.hw_types.specs.declared.config.Config.{Config}
@@ -20,6 +20,7 @@ use Rattle.hw_agree.specs.Converge.{UnitsClash}
 use Rattle.hw_meeting.specs.declared.frame.MeetingFrame.{MeetingFrame}
 use Rattle.hw_meeting.specs.declared.frame.MeetingFrame.TheVariants as frame
 use Rattle.hw_meeting.specs.Frames.{MeetingInRange}
+use Rattle.hw_meeting_node.specs.Frames.{Placed}
 use Rattle.hw_meeting_node.specs.declared.end.MeetEnd.{MeetEnd}
 use Rattle.hw_meeting_node.specs.declared.end.MeetEnd.TheVariants as end
 use Rattle.hw_meeting_node.specs.declared.meeter.Side.{Side}
@@ -77,6 +78,32 @@ pub record HasTakenAll (side : Side) (c : CoreState) (judge : Vertex → Bool) (
 -- So it is whatever a peer sends.
 abbrev pub MeetingsTake : Type 0
 MeetingsTake = (side : Side) (c : CoreState) (judge : Vertex → Bool) (bytes : List ℕ) → HasTakenAll side c judge bytes
+
+-- ---- what was sent and said
+
+-- the vertex of a frame, if it brings one
+abbrev pub vertex_in : MeetingFrame → Option Vertex
+vertex_in (frame.Vertex v) = Some v
+vertex_in (frame.Hello instance) = None
+vertex_in (frame.Summary parts) = None
+vertex_in (frame.Torn numbers) = None
+vertex_in frame.Done = None
+
+-- the vertices of these frames, in order
+abbrev pub vertices_among : List Placed → List Vertex
+vertices_among frames = filter_map (λ (f : Placed). vertex_in f.frame) frames
+
+-- the vertices that a peer sends by these bytes, in order
+abbrev pub vertices_sent : ℕ → List ℕ → List Vertex
+vertices_sent validators bytes = vertices_among (frames_of validators bytes).given
+
+-- The vertices that a node takes are the first that the peer sends.
+abbrev pub MeetingsTakeTheFirst : Type 0
+MeetingsTakeTheFirst = (side : Side) (c : CoreState) (judge : Vertex → Bool) (bytes : List ℕ) → (count : ℕ) × (taken_in side c judge bytes ≡ take count (vertices_sent (length c.config.weights) bytes))
+
+-- Each vertex that a node says stood in its journal before the meeting.
+abbrev pub MeetingsSayWhatStood : Type 0
+MeetingsSayWhatStood = (side : Side) (c : CoreState) (judge : Vertex → Bool) (bytes : List ℕ) (v : Vertex) → Among (frame.Vertex v) (met side c judge bytes).said → Among v c.journal
 
 -- ---- completeness
 

@@ -1,10 +1,17 @@
 //! Laws of meetings.
 
-ghost use Rattle.hw_meeting_node.specs.Laws.{MeetingsTake, MeetingsAreDone, MeetingsAreComplete, MeetingsConverge, MetNodesAreOne};
+ghost use Rattle.hw_meeting_node.specs.Laws.{MeetingsTake, MeetingsTakeTheFirst, MeetingsSayWhatStood, MeetingsAreDone, MeetingsAreComplete, MeetingsConverge, MetNodesAreOne};
 
-/// What a node has received behind whatever bytes of a peer, by the vertices that it took of them.
+/// What a node has received behind whatever bytes of a peer, by the vertices that it took of them: the first that the
+/// peer sends.
 pub fn meetings_take()
     ensures take { MeetingsTake }
+    ensures first { MeetingsTakeTheFirst }
+{}
+
+/// What a node says in a meeting, whatever bytes a peer sends: no vertex but those of its journal before it.
+pub fn meetings_say_what_stood()
+    ensures { MeetingsSayWhatStood }
 {}
 
 /// What was heard and said in a meeting that ended as done, and what the node has then; and that a meeting ends

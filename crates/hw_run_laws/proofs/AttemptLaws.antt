@@ -23,11 +23,12 @@ use Rattle.hw_session.specs.Node.{NodeState}
 use Rattle.hw_session.specs.Make.{planned_by, own_vertex, with_vertex, with_entry, IsToMake, Makes}
 use Rattle.hw_session.specs.Restart.{HasLog, logged_of}
 use Rattle.hw_session.proofs.LineLaws.{make_is_an_event}
-use Rattle.hw_run_laws.specs.Restart.{arrivals, vertices_sent, TakesSome, HasCutLog, LeavesLog}
-use Rattle.hw_run_laws.specs.Calls.{IsSound, Standing, IsFairPeer, Attempt, makes, serves, drives, IsReady, AttemptsKeepOneLine}
+use Rattle.hw_run_laws.specs.Restart.{arrivals, vertices_sent, vertices_told, TakesSome, HasCutLog, LeavesLog}
+use Rattle.hw_run_laws.specs.Calls.{IsSound, Standing, at_door, Attempt, makes, serves, drives, meets, IsReady, AttemptsKeepOneLine}
 use Rattle.hw_run_laws.proofs.LifeLaws.{life_both}
 use Rattle.hw_run_laws.proofs.StartLaws.{reached}
 use Rattle.hw_run_laws.proofs.CutLaws.{serves_leave, drives_leave, make_leaves}
+use Rattle.hw_run_laws.proofs.MeetLaws.{meets_leave}
 
 -- ---- fair lives
 
@@ -77,15 +78,15 @@ first_fair s me l n (suc k) [] fair = tt
 first_fair s me l n zero (v ∷ vs) fair = tt
 first_fair s me l n (suc k) (v ∷ vs) (one, rest) = (one, first_fair s me (life_of s me l (arrivals n (v ∷ []))) n k vs rest)
 
-pub takes_fairly : (me : ℕ) (n m : NodeState) (read : List ℕ) → IsFairPeer me n read → TakesSome n (vertices_sent read) m → Lives me n m
-takes_fairly me n m read fair (count, lives) =
+pub takes_fairly : (me : ℕ) (n m : NodeState) (vs : List Vertex) → AreFair (setting_of n.core.config) me (logged_of n) (arrivals n vs) → TakesSome n vs m → Lives me n m
+takes_fairly me n m vs fair (count, lives) =
     let l = lives me in
     record {
-      events = arrivals n (take count (vertices_sent read));
+      events = arrivals n (take count vs);
       config = l.config;
       keys = l.keys;
       life = l.life;
-      fair = first_fair (setting_of n.core.config) me (logged_of n) n count (vertices_sent read) fair;
+      fair = first_fair (setting_of n.core.config) me (logged_of n) n count vs fair;
     }
 
 -- ---- from a node that is ready
@@ -173,13 +174,13 @@ pub record IsCut (me : ℕ) (a m : NodeState) (file : Option (List ℕ)) : Type 
 abbrev pub Leaves : ℕ → NodeState → NodeState → Option (List ℕ) → Type 0
 Leaves me a m file = (Lives me a m × HasLog m file) ⊎ IsCut me a m file
 
-session_leaves : (me : ℕ) (a m : NodeState) (read : List ℕ) (file : Option (List ℕ)) → IsFairPeer me a read → LeavesLog a (vertices_sent read) m file → Leaves me a m file
-session_leaves me a m read file fair (inl (takes, has)) = inl (takes_fairly me a m read fair takes, has)
-session_leaves me a m read file fair (inr cut) = inr (record {
+fair_leaves : (me : ℕ) (a m : NodeState) (vs : List Vertex) (file : Option (List ℕ)) → AreFair (setting_of a.core.config) me (logged_of a) (arrivals a vs) → LeavesLog a vs m file → Leaves me a m file
+fair_leaves me a m vs file fair (inl (takes, has)) = inl (takes_fairly me a m vs fair takes, has)
+fair_leaves me a m vs file fair (inr cut) = inr (record {
   before = cut.before;
   vertex = cut.vertex;
-  lives = takes_fairly me a cut.before read fair cut.takes;
-  whole = takes_fairly me a (with_entry cut.before cut.vertex) read fair cut.whole;
+  lives = takes_fairly me a cut.before vs fair cut.takes;
+  whole = takes_fairly me a (with_entry cut.before cut.vertex) vs fair cut.whole;
   unlogged = cut.unlogged;
   log = cut.log;
 })
@@ -198,9 +199,11 @@ module _ (me : ℕ) (a b : Standing) (sound : IsSound a.node) (validator : me < 
     })
   ]
   attempt_leaves (serves read written ends_old ends_new e does fair) =
-      session_leaves me a.node b.node read (b.held b.node.log) fair (serves_leave a.node b.node read written true a.held b.held ends_old ends_new e does refl ready.log)
+      fair_leaves me a.node b.node (vertices_sent read) (b.held b.node.log) fair (serves_leave a.node b.node read written true a.held b.held ends_old ends_new e does refl ready.log)
   attempt_leaves (drives mark now read written ends_old ends_new e does fair) =
-      session_leaves me a.node b.node read (b.held b.node.log) fair (drives_leave a.node b.node mark now read written true a.held b.held ends_old ends_new e does refl ready.log)
+      fair_leaves me a.node b.node (vertices_sent read) (b.held b.node.log) fair (drives_leave a.node b.node mark now read written true a.held b.held ends_old ends_new e does refl ready.log)
+  attempt_leaves (meets side address from to e does fair) =
+      fair_leaves me a.node b.node (vertices_told a.node does.meets.read) (b.held b.node.log) fair (meets_leave side address true (at_door a from) (at_door b to) e does refl ready.log)
 
 pub attempts_keep : AttemptsKeepOneLine
 attempts_keep me a b validator sound ready attempt = go (attempt_leaves me a b sound validator ready attempt)

@@ -14,10 +14,12 @@ use Rattle.hw_session.specs.Node.{NodeState}
 use Rattle.hw_session.specs.Make.{with_entry}
 use Rattle.hw_session.specs.Restart.{HasLog, logged_of}
 use Rattle.hw_session.specs.Start.{GoesOn}
-use Rattle.hw_run_laws.specs.Calls.{IsSound, Standing, Attempt, makes, serves, drives, IsWhole, StartsAgain, Call, goes_on, starts, gives_up, AreCalls, IsReady, CallsKeepOneLine, CallsKeepApart}
+use Rattle.hw_run_laws.specs.Calls.{IsSound, Standing, at_door, Attempt, makes, serves, drives, meets, IsWhole, StartsAgain, Call, goes_on, starts, gives_up, AreCalls, IsReady, CallsKeepOneLine, CallsKeepApart}
+use Rattle.hw_run_laws.specs.Restart.{vertices_sent, vertices_told}
 use Rattle.hw_run_laws.proofs.LifeLaws.{serves_life}
 use Rattle.hw_run_laws.proofs.KeepLaws.{serves_keep, drives_keep}
 use Rattle.hw_run_laws.proofs.DriverLaws.{drives_life}
+use Rattle.hw_run_laws.proofs.MeetLaws.{meets_life, meets_keep}
 use Rattle.hw_run_laws.proofs.OutLaws.{Grows, goes_later}
 use Rattle.hw_run_laws.proofs.StartLaws.{each_fits, start_lives, start_keeps, from_log}
 use Rattle.hw_run_laws.proofs.MendLaws.{sound_mends, cut_mended}
@@ -99,12 +101,16 @@ module _ (me : ℕ) (a b : Standing) (sound : IsSound a.node) (validator : me < 
     log = make_keeps a.node me now value a.held b.held sound.kept validator ready.log b.node result does wrote whole;
   }
   goes (serves read written ends_old ends_new e does fair) logged = record {
-    lives = takes_fairly me a.node b.node read fair (serves_life a.node b.node read written true a.held b.held ends_old ends_new e does logged);
+    lives = takes_fairly me a.node b.node (vertices_sent read) fair (serves_life a.node b.node read written true a.held b.held ends_old ends_new e does logged);
     log = serves_keep a.node b.node read written true a.held b.held ends_old ends_new e does logged refl ready.log;
   }
   goes (drives mark now read written ends_old ends_new e does fair) logged = record {
-    lives = takes_fairly me a.node b.node read fair (drives_life a.node b.node mark now read written true a.held b.held ends_old ends_new e does logged);
+    lives = takes_fairly me a.node b.node (vertices_sent read) fair (drives_life a.node b.node mark now read written true a.held b.held ends_old ends_new e does logged);
     log = drives_keep a.node b.node mark now read written true a.held b.held ends_old ends_new e does logged refl ready.log;
+  }
+  goes (meets side address from to e does fair) logged = record {
+    lives = takes_fairly me a.node b.node (vertices_told a.node does.meets.read) fair (meets_life side address true (at_door a from) (at_door b to) e does logged);
+    log = meets_keep side address true (at_door a from) (at_door b to) e does logged refl ready.log;
   }
 
   call_stands : Call me a b → Stands me a.node b

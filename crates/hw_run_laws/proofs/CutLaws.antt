@@ -43,11 +43,11 @@ taken_true n v is = subst (λ (b : Bool). is_accepted (answer_in n.core v b) ≡
 
 module _ (n : NodeState) (tells : Bool) (old new : List ℕ → Option (List ℕ)) (told : IsTrue tells) (has : HasLog n (old n.log)) where
   -- a node that stands with its log
-  stands : (m : NodeState) → m.core.config ≡ n.core.config → Logs n m tells old new → HasLog m (new m.log)
+  pub stands : (m : NodeState) → m.core.config ≡ n.core.config → Logs n m tells old new → HasLog m (new m.log)
   stands m config logs = logs_keep n m tells old new config logs told has
 
   -- one whose log may be cut behind it
-  cut : (before m : NodeState) (v : Vertex) → before.core.config ≡ n.core.config → LogsAllBut n before v m tells old new → HasCutLog before v (new m.log)
+  pub cut : (before m : NodeState) (v : Vertex) → before.core.config ≡ n.core.config → LogsAllBut n before v m tells old new → HasCutLog before v (new m.log)
   cut before m v config logs =
       let part = logs.log told in
       let text = journal_log has.version n.core.config n.core.journal in

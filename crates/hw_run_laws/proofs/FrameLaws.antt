@@ -9,11 +9,11 @@ use Rattle.hw_types.specs.declared.answers.CodecError.{CodecError}
 use Rattle.hw_types.specs.Reading.{Rest, frame_of}
 use Rattle.hw_link.specs.declared.end.SessionEnd.{SessionEnd}
 use Rattle.hw_link.specs.declared.end.SessionEnd.TheVariants as end
-use Rattle.hw_link.specs.Frames.{◌>>=◌, Placed, rest_at, cut_end, front_of, length_of, decoded, frame_here, frames_of, byte_limit}
+use Rattle.hw_link.specs.Frames.{◌>>=◌, PlacedOf, Placed, rest_at, cut_end, front_of, length_of, decoded, frame_by, frame_here, frames_of, byte_limit}
 use Rattle.hw_link.specs.Talk.{Reaction, Talk, talk_over}
-use Rattle.hw_link.specs.UnderWay.{HasFrame, HasHeard, placed_behind}
-use Rattle.hw_link.proofs.FrameLaws.{bind_ok, frame_here-shorter}
-use Rattle.hw_link.proofs.FrameReadLaws.{frame_is_read}
+use Rattle.hw_link.specs.UnderWay.{HasBy, HasHeard, placed_behind}
+use Rattle.hw_link.proofs.FrameLaws.{bind_ok, placed, with_whole, with_length, frame_here-shorter}
+use Rattle.hw_link.proofs.FrameReadLaws.{frame_by-is_read}
 use Rattle.hw_link.proofs.HeardLaws.{reads_frame_by_frame}
 use Rattle.hw_session.proofs.ServingLaws.{IsOfBytes, no_frame_so}
 
@@ -30,18 +30,9 @@ within_is : (b : Bool) (n m : ℕ) (d : SessionEnd) → cond b (Ok n) (Err d) �
 within_is true n m d e = (refl, cc)
 within_is false n m d e = absurd cc
 
-decoded_is : (r : Rest) (x : Result Frame CodecError) (f : Frame) → decoded r x ≡ Ok f → x ≡ Ok f
+decoded_is : {F : Type 0} (r : Rest) (x : Result F CodecError) (f : F) → decoded r x ≡ Ok f → x ≡ Ok f
 decoded_is r (Ok g) f e = cc
 decoded_is r (Err d) f e = absurd cc
-
-abbrev placed : Rest → ℕ → Frame → Result (Placed × Rest) SessionEnd
-placed r n frame = Ok (record { at = r.place; frame = frame }, record { place = r.place + (4 + n); bytes = drop (4 + n) r.bytes })
-
-abbrev with_whole : Rest → ℕ → List ℕ → Result (Placed × Rest) SessionEnd
-with_whole r n whole = decoded r (frame_of (drop 4 whole)) >>= placed r n
-
-abbrev with_length : Rest → ℕ → Result (Placed × Rest) SessionEnd
-with_length r n = front_of (4 + n) r >>= with_whole r n
 
 -- the first of the first
 take_take : {X : Type 0} (xs : List X) (n m : ℕ) → n ≤ m → take n (take m xs) ≡ take n xs
@@ -51,42 +42,48 @@ take_take [] (suc n) (suc m) le = refl
 take_take (x ∷ xs) (suc n) zero le = absurd (omega (arith, le))
 take_take (x ∷ xs) (suc n) (suc m) le = ap (λ l. x ∷ l) (take_take xs n m (omega (arith, le)))
 
--- the bytes of the frame, and those behind it
-pub record IsSplit (place : ℕ) (bytes : List ℕ) (f : Placed) (rest : Rest) : Type 0 where
+-- the bytes of the frame, and those behind it, where frames are read in this way
+pub record IsSplit {F : Type 0} (here : Rest → Result (PlacedOf F × Rest) SessionEnd) (place : ℕ) (bytes : List ℕ) (f : PlacedOf F) (rest : Rest) : Type 0 where
   pub part : List ℕ
   pub whole : bytes ≡ part ++ rest.bytes
-  pub has : HasFrame place part f.frame
+  pub has : HasBy here place part f.frame
 
-abbrev read_as : Placed × Rest → Result (Placed × Rest) SessionEnd
-read_as x = Ok x
+-- a frame that the bytes behind its length spell in this way
+module _ {F : Type 0} (spelled : List ℕ → Result F CodecError) where
+  abbrev read_as : PlacedOf F × Rest → Result (PlacedOf F × Rest) SessionEnd
+  read_as x = Ok x
 
-bytes_of_ok : (x y : Placed × Rest) → read_as x ≡ read_as y → (x.0.frame ≡ y.0.frame) × (x.1.bytes ≡ y.1.bytes)
-bytes_of_ok x y e = (cc, cc)
+  bytes_of_ok : (x y : PlacedOf F × Rest) → read_as x ≡ read_as y → (x.0.frame ≡ y.0.frame) × (x.1.bytes ≡ y.1.bytes)
+  bytes_of_ok x y e = (cc, cc)
 
-pub split : (place : ℕ) (bytes : List ℕ) (f : Placed) (rest : Rest) → frame_here (rest_at place bytes) ≡ Ok (f, rest) → IsSplit place bytes f rest
+  pub split_by : (place : ℕ) (bytes : List ℕ) (f : PlacedOf F) (rest : Rest) → frame_by spelled (rest_at place bytes) ≡ Ok (f, rest) → IsSplit (frame_by spelled) place bytes f rest
+  unfolding frame_by
+  split_by place bytes f rest e =
+      let r = rest_at place bytes in
+      let front = bind_ok (front_of 4 r) (λ front. length_of r front >>= with_length spelled r) (f, rest) e in
+      let n = bind_ok (length_of r front.0) (with_length spelled r) (f, rest) front.2 in
+      let whole = bind_ok (front_of (4 + n.0) r) (with_whole spelled r n.0) (f, rest) n.2 in
+      let frame = bind_ok (decoded r (spelled (drop 4 whole.0))) (placed spelled r n.0) (f, rest) whole.2 in
+      let four = front_is 4 r front.0 front.1 in
+      let size = within_is (is_within 1 1048576 (from_be_bytes w32 front.0)) (from_be_bytes w32 front.0) n.0 (end.BadFrame place) n.1 in
+      let all = front_is (4 + n.0) r whole.0 whole.1 in
+      let said = decoded_is r (spelled (drop 4 whole.0)) frame.0 frame.1 in
+      let left = bytes_of_ok (record { at = place; frame = frame.0 }, record { place = place + (4 + n.0); bytes = drop (4 + n.0) bytes }) (f, rest) frame.2 in
+      let body = drop 4 whole.0 in
+      let front_four : length front.0 ≡ 4 = ap length (sym four.1) ∙ length-take-le 4 bytes four.0 in
+      let whole_long : length whole.0 ≡ 4 + n.0 = ap length (sym all.1) ∙ length-take-le (4 + n.0) bytes all.0 in
+      let begins : take 4 whole.0 ≡ front.0 = ap (take 4) (sym all.1) ∙ take_take bytes 4 (4 + n.0) (omega arith) ∙ four.1 in
+      let both : front.0 ++ body ≡ whole.0 = ap (λ (xs : List ℕ). xs ++ body) (sym begins) ∙ take-append-drop 4 whole.0 in
+      record {
+        part = front.0 ++ body;
+        whole = sym (take-append-drop (4 + n.0) bytes) ∙ ap (λ (xs : List ℕ). xs ++ drop (4 + n.0) bytes) (all.1 ∙ sym both) ∙ ap (λ (xs : List ℕ). (front.0 ++ body) ++ xs) left.1;
+        has = subst (λ (g : F). HasBy (frame_by spelled) place (front.0 ++ body) g) left.0
+            (frame_by-is_read spelled place front.0 body frame.0 (record { four = front_four; within = size.0 }) (omega (arith, length-drop 4 whole.0, whole_long, size.1)) said);
+      }
+
+pub split : (place : ℕ) (bytes : List ℕ) (f : Placed) (rest : Rest) → frame_here (rest_at place bytes) ≡ Ok (f, rest) → IsSplit frame_here place bytes f rest
 unfolding frame_here
-split place bytes f rest e =
-    let r = rest_at place bytes in
-    let front = bind_ok (front_of 4 r) (λ front. length_of r front >>= with_length r) (f, rest) e in
-    let n = bind_ok (length_of r front.0) (with_length r) (f, rest) front.2 in
-    let whole = bind_ok (front_of (4 + n.0) r) (with_whole r n.0) (f, rest) n.2 in
-    let frame = bind_ok (decoded r (frame_of (drop 4 whole.0))) (placed r n.0) (f, rest) whole.2 in
-    let four = front_is 4 r front.0 front.1 in
-    let size = within_is (is_within 1 1048576 (from_be_bytes w32 front.0)) (from_be_bytes w32 front.0) n.0 (end.BadFrame place) n.1 in
-    let all = front_is (4 + n.0) r whole.0 whole.1 in
-    let said = decoded_is r (frame_of (drop 4 whole.0)) frame.0 frame.1 in
-    let left = bytes_of_ok (record { at = place; frame = frame.0 }, record { place = place + (4 + n.0); bytes = drop (4 + n.0) bytes }) (f, rest) frame.2 in
-    let body = drop 4 whole.0 in
-    let front_four : length front.0 ≡ 4 = ap length (sym four.1) ∙ length-take-le 4 bytes four.0 in
-    let whole_long : length whole.0 ≡ 4 + n.0 = ap length (sym all.1) ∙ length-take-le (4 + n.0) bytes all.0 in
-    let begins : take 4 whole.0 ≡ front.0 = ap (take 4) (sym all.1) ∙ take_take bytes 4 (4 + n.0) (omega arith) ∙ four.1 in
-    let both : front.0 ++ body ≡ whole.0 = ap (λ (xs : List ℕ). xs ++ body) (sym begins) ∙ take-append-drop 4 whole.0 in
-    record {
-      part = front.0 ++ body;
-      whole = sym (take-append-drop (4 + n.0) bytes) ∙ ap (λ (xs : List ℕ). xs ++ drop (4 + n.0) bytes) (all.1 ∙ sym both) ∙ ap (λ (xs : List ℕ). (front.0 ++ body) ++ xs) left.1;
-      has = subst (λ (g : Frame). HasFrame place (front.0 ++ body) g) left.0
-          (frame_is_read place front.0 body frame.0 (record { four = front_four; within = size.0 }) (omega (arith, length-drop 4 whole.0, whole_long, size.1)) said);
-    }
+split place bytes f rest e = split_by frame_of place bytes f rest e
 
 -- ---- the session
 
@@ -121,7 +118,7 @@ module _ {S : Type 0} (step : S → Placed → Reaction S) (first : List Frame) 
   StaysBehind more left = (read others : List ℕ) (said : List (List Frame)) (state : S) → length others < length left → HasHeard first step start read said state → Stays more read others
 
   module _ (read left more : List ℕ) (said : List (List Frame)) (state : S) (heard : HasHeard first step start read said state) (again : StaysBehind more left) where
-    onward : (f : Placed) (rest : Rest) → frame_here (rest_at (length read) left) ≡ Ok (f, rest) → (s : IsSplit (length read) left f rest) → (step state (placed_behind read f.frame)).end ≡ None → Stays more read left
+    onward : (f : Placed) (rest : Rest) → frame_here (rest_at (length read) left) ≡ Ok (f, rest) → (s : IsSplit frame_here (length read) left f rest) → (step state (placed_behind read f.frame)).end ≡ None → Stays more read left
     onward f rest is s goes few by many =
         let led = (reads_frame_by_frame S).leads_on step first start read said state s.part f.frame heard s.has goes in
         let joined : (read ++ s.part) ++ rest.bytes ≡ read ++ left = append_assoc read s.part rest.bytes ∙ ap (λ (l : List ℕ). read ++ l) (sym s.whole) in
@@ -131,7 +128,7 @@ module _ {S : Type 0} (step : S → Placed → Reaction S) (first : List Frame) 
         (subst (λ (l : List ℕ). length l ≤ byte_limit) (sym joined_more) many) in
         ap Ends (sym joined_more) ∙ stays ∙ ap Ends joined
 
-    reacts : (f : Placed) (rest : Rest) → frame_here (rest_at (length read) left) ≡ Ok (f, rest) → (s : IsSplit (length read) left f rest) → (o : Option SessionEnd) → (step state (placed_behind read f.frame)).end ≡ o → Stays more read left
+    reacts : (f : Placed) (rest : Rest) → frame_here (rest_at (length read) left) ≡ Ok (f, rest) → (s : IsSplit frame_here (length read) left f rest) → (o : Option SessionEnd) → (step state (placed_behind read f.frame)).end ≡ o → Stays more read left
     reacts f rest is s (Some d) ends few by many =
         let over = (reads_frame_by_frame S).frame_ends step first start read said state s.part f.frame d heard s.has ends in
         let one : Ends (read ++ left) ≡ d = ap (λ (l : List ℕ). Ends (read ++ l)) s.whole ∙ ap (λ (t : Talk S). t.end) (over rest.bytes (subst (λ (l : List ℕ). length (read ++ l) ≤ byte_limit) s.whole few)) in

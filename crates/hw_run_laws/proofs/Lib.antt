@@ -3,6 +3,8 @@ pub mod FrameLaws
 pub mod PassedLaws
 pub mod StepLaws
 pub mod LifeLaws
+pub mod MetLaws
+pub mod MeetLaws
 pub mod KeepLaws
 pub mod OutLaws
 pub mod DriverLaws

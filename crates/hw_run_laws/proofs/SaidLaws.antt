@@ -28,10 +28,11 @@ use Rattle.hw_session.specs.Restart.{logged_of}
 use Rattle.hw_session.specs.Serving.{served}
 use Rattle.hw_session.specs.Driving.{driven}
 use Rattle.hw_run_laws.specs.Restart.{vertices_sent, arrivals, TakesSome, SaysOfLog}
-use Rattle.hw_run_laws.specs.Calls.{IsSound, IsFairPeer, makes, serves, drives, CouldGoOut, AttemptsSayNoNew}
+use Rattle.hw_run_laws.specs.Calls.{IsSound, IsFairPeer, makes, serves, drives, meets, CouldGoOut, AttemptsSayNoNew}
 use Rattle.hw_run_laws.proofs.LifeLaws.{served_life}
 use Rattle.hw_run_laws.proofs.DriverLaws.{driven_life, driven_says}
 use Rattle.hw_run_laws.proofs.OutLaws.{served_says}
+use Rattle.hw_run_laws.proofs.MetLaws.{met_says}
 use Rattle.hw_run_laws.proofs.AttemptLaws.{first_fair, lives_safely, same_lives}
 
 -- ---- a journal that takes vertices of fair peers
@@ -120,3 +121,4 @@ attempts_say me a b validator sound ready (serves read written ends_old ends_new
     says_no_new me a.node (served a.node read).state sound validator ready.line read fair (served_life a.node read) (served a.node read).said (served_says a.node read) v said x m by
 attempts_say me a b validator sound ready (drives mark now read written ends_old ends_new e does fair) v said x m by =
     says_no_new me a.node (driven a.node mark read).state.node sound validator ready.line read fair (driven_life a.node mark read) (driven a.node mark read).said (driven_says a.node mark read) v said x m by
+attempts_say me a b validator sound ready (meets side address from to e does fair) v said x m by = (v, met_says side a.node does.meets.read v said, x, m, refl)

@@ -14,6 +14,7 @@ use Rattle.hw_types.specs.Real.{setting_of}
 use Rattle.hw_types.specs.Spelling.{VertexFits}
 use Rattle.hw_io.specs.Files.{bytes_of}
 use Rattle.hw_codec.specs.Ranges.{ConfigInRange, VertexInRange}
+use Rattle.hw_keys.specs.Signed.{verdict_of}
 use Rattle.hw_honest.specs.OneLine.{OneLine}
 use Rattle.hw_honest.specs.Restart.{AreFair, MayGoOut}
 use Rattle.hw_link.specs.declared.end.SessionEnd.{SessionEnd}
@@ -30,7 +31,14 @@ use Rattle.hw_session.specs.Sessions.{Serves}
 use Rattle.hw_session.specs.Driving.{driven}
 use Rattle.hw_session.specs.Drives.{Drives}
 use Rattle.hw_session.specs.Start.{GoesOn}
-use Rattle.hw_run_laws.specs.Restart.{vertices_sent, arrivals, IsLogged, HasCutLog}
+use Rattle.hw_meeting.specs.declared.frame.MeetingFrame.TheVariants as meeting
+use Rattle.hw_meeting_node.specs.declared.end.MeetEnd.{MeetEnd}
+use Rattle.hw_meeting_node.specs.declared.meeter.Side.{Side}
+use Rattle.hw_meeting_node.specs.Meeting.{met}
+use Rattle.hw_service.specs.Scene.{DoorSeen}
+use Rattle.hw_service.specs.Talk.{Talker}
+use Rattle.hw_service.specs.Meets.{NodeMeets}
+use Rattle.hw_run_laws.specs.Restart.{vertices_sent, vertices_told, arrivals, IsLogged, IsMetLogged, HasCutLog}
 
 -- ---- calls
 
@@ -49,12 +57,21 @@ pub record Standing : Type 0 where
 abbrev pub IsFairPeer : ℕ → NodeState → List ℕ → Type 0
 IsFairPeer me n read = AreFair (setting_of n.core.config) me (logged_of n) (arrivals n (vertices_sent read))
 
--- What a node does over files that tell what they hold, however it ends: the validator's `make`, or a session that it serves or drives with a
--- fair peer.
+-- The same of the vertices that another node sends by these bytes in a meeting.
+abbrev pub IsFairMet : ℕ → NodeState → List ℕ → Type 0
+IsFairMet me n read = AreFair (setting_of n.core.config) me (logged_of n) (arrivals n (vertices_told n read))
+
+-- a standing whose door tells this
+abbrev pub at_door : Standing → DoorSeen → Talker
+at_door a door = record { node = a.node; files = a.held; door = door }
+
+-- What a node does over files that tell what they hold, however it ends: the validator's `make`, a session that it serves or drives with a
+-- fair peer, or a meeting with one, which it hosts or dials.
 pub data Attempt (me : ℕ) (a b : Standing) : Type 0 where
   makes : (now : ℕ) (value : List ℕ) (result : Result (Option Plan) MakeFault) → Makes a.node (planned_by a.node me now value) b.node result → WritesOwn a.node (planned_by a.node me now value) b.node a.held b.held result → Attempt me a b
   serves : (read written : List ℕ) (ends_old ends_new : ℕ) (e : SessionEnd) → Serves a.node read written b.node true a.held b.held ends_old ends_new e → IsFairPeer me a.node read → Attempt me a b
   drives : (mark now : PeerMark) (read written : List ℕ) (ends_old ends_new : ℕ) (e : SessionEnd) → Drives a.node mark read written b.node now true a.held b.held ends_old ends_new e → IsFairPeer me a.node read → Attempt me a b
+  meets : (side : Side) (address : Option (List ℕ)) (from to : DoorSeen) (e : MeetEnd) → (does : NodeMeets side address true (at_door a from) (at_door b to) e) → IsFairMet me a.node does.meets.read → Attempt me a b
 
 -- no append failed in a `make`, and there was memory
 abbrev pub IsMade : Result (Option Plan) MakeFault → Type 0
@@ -67,6 +84,7 @@ abbrev pub IsWhole : {me : ℕ} {a b : Standing} → Attempt me a b → Type 0
 IsWhole (makes now value result does wrote) = IsMade result
 IsWhole (serves read written ends_old ends_new e does fair) = IsLogged e
 IsWhole (drives mark now read written ends_old ends_new e does fair) = IsLogged e
+IsWhole (meets side address from to e does fair) = IsMetLogged e
 
 -- The node is given up and started again, with its configuration and keys: from its log, or from what that is mended to.
 pub record StartsAgain (a b : Standing) : Type 0 where
@@ -113,6 +131,7 @@ abbrev pub IsSaid : {me : ℕ} {a b : Standing} → Attempt me a b → Vertex �
 IsSaid (makes now value result does wrote) v = ⊥
 IsSaid {me} {a} {b} (serves read written ends_old ends_new e does fair) v = (frames : List Frame) × Among frames (served a.node read).said × Among (frame.Vertex v) frames
 IsSaid {me} {a} {b} (drives mark now read written ends_old ends_new e does fair) v = (frames : List Frame) × Among frames (driven a.node mark read).said × Among (frame.Vertex v) frames
+IsSaid {me} {a} {b} (meets side address from to e does fair) v = Among (meeting.Vertex v) (met side a.node.core (verdict_of a.node.keys) does.meets.read).said
 
 -- the unit could go out of the node's log, inside evidence or not
 abbrev pub CouldGoOut : NodeState → WireUnit → Type 0

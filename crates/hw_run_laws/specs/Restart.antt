@@ -1,4 +1,4 @@
--- What sessions do to a node with a log from which it starts again: the statements.
+-- What sessions and meetings do to a node with a log from which it starts again: the statements.
 -- Source: ours.
 use Rattle.std.specs.Prelude.{◌≡◌, ◌⊎◌, ℕ, ◌<◌, Bool, true, IsTrue, List, ◌++◌, length, take, map, filter_map, Option, Some, None, Result}
 use Rattle.hw_types.specs.declared.unit.Vertex.{Vertex}
@@ -22,6 +22,15 @@ use Rattle.hw_session.specs.Serving.{served}
 use Rattle.hw_session.specs.Sessions.{Serves}
 use Rattle.hw_session.specs.Driving.{driven}
 use Rattle.hw_session.specs.Drives.{Drives}
+use Rattle.hw_meeting.specs.declared.frame.MeetingFrame.{MeetingFrame}
+use Rattle.hw_meeting.specs.declared.frame.MeetingFrame.TheVariants as meeting
+use Rattle.hw_meeting_node.specs.declared.end.MeetEnd.{MeetEnd}
+use Rattle.hw_meeting_node.specs.declared.end.MeetEnd.TheVariants as met_end
+use Rattle.hw_meeting_node.specs.declared.meeter.Side.{Side}
+use Rattle.hw_meeting_node.specs.Meeting.{met}
+use Rattle.hw_meeting_node.specs.Laws.{vertices_sent as sent_to}
+use Rattle.hw_service.specs.Talk.{Talker}
+use Rattle.hw_service.specs.Meets.{after_meeting, NodeMeets}
 
 -- ---- sessions are lives
 
@@ -81,6 +90,27 @@ abbrev pub DrivesIsALife : Type 0
 DrivesIsALife = (n m : NodeState) (mark now : PeerMark) (read written : List ℕ) (tells : Bool) (held_old held_new : List ℕ → Option (List ℕ)) (ends_old ends_new : ℕ) (e : SessionEnd)
     → Drives n mark read written m now tells held_old held_new ends_old ends_new e → IsLogged e → TakesSome n (vertices_sent read) m
 
+-- ---- meetings are lives
+
+-- the vertices that another node sends by these bytes to a node that meets it, in order
+abbrev pub vertices_told : NodeState → List ℕ → List Vertex
+vertices_told n bytes = sent_to (length n.core.config.weights) bytes
+
+-- Where a node meets another that sends these bytes, the first of their vertices reach it, and nothing else happens to it, whichever dialled.
+abbrev pub MetIsALife : Type 0
+MetIsALife = (side : Side) (n : NodeState) (bytes : List ℕ) → TakesSome n (vertices_told n bytes) (after_meeting side n bytes)
+
+-- no append failed in a meeting, and there was memory
+abbrev pub IsMetLogged : MeetEnd → Type 0
+IsMetLogged met_end.AppendFault = ⊥
+IsMetLogged met_end.OutOfMemory = ⊥
+IsMetLogged e = Unit {0}
+
+-- So it is of the bytes that were read in a meeting, where no append failed and there was memory.
+abbrev pub MeetsIsALife : Type 0
+MeetsIsALife = (side : Side) (address : Option (List ℕ)) (tells : Bool) (old new : Talker) (e : MeetEnd) → (m : NodeMeets side address tells old new e) → IsMetLogged e
+    → TakesSome old.node (vertices_told old.node m.meets.read) new.node
+
 -- ---- the log
 
 -- Such a session keeps the log of the node's journal, whether the node serves
@@ -88,10 +118,15 @@ abbrev pub ServesKeepsLog : Type 0
 ServesKeepsLog = (n m : NodeState) (read written : List ℕ) (tells : Bool) (held_old held_new : List ℕ → Option (List ℕ)) (ends_old ends_new : ℕ) (e : SessionEnd)
     → Serves n read written m tells held_old held_new ends_old ends_new e → IsLogged e → IsTrue tells → HasLog n (held_old n.log) → HasLog m (held_new m.log)
 
--- or drives.
+-- or drives,
 abbrev pub DrivesKeepsLog : Type 0
 DrivesKeepsLog = (n m : NodeState) (mark now : PeerMark) (read written : List ℕ) (tells : Bool) (held_old held_new : List ℕ → Option (List ℕ)) (ends_old ends_new : ℕ) (e : SessionEnd)
     → Drives n mark read written m now tells held_old held_new ends_old ends_new e → IsLogged e → IsTrue tells → HasLog n (held_old n.log) → HasLog m (held_new m.log)
+
+-- and so does such a meeting.
+abbrev pub MeetsKeepsLog : Type 0
+MeetsKeepsLog = (side : Side) (address : Option (List ℕ)) (tells : Bool) (old new : Talker) (e : MeetEnd) → NodeMeets side address tells old new e → IsMetLogged e → IsTrue tells
+    → HasLog old.node (old.files old.node.log) → HasLog new.node (new.files new.node.log)
 
 -- ---- calls that were cut
 
@@ -117,7 +152,7 @@ pub record WasCut (n : NodeState) (vs : List Vertex) (m : NodeState) (file : Opt
 abbrev pub LeavesLog : NodeState → List Vertex → NodeState → Option (List ℕ) → Type 0
 LeavesLog n vs m file = (TakesSome n vs m × HasLog m file) ⊎ WasCut n vs m file
 
--- However a session ends, what it leaves in the files is such a log, where the node serves,
+-- However a session or a meeting ends, what it leaves in the files is such a log, where the node serves,
 abbrev pub ServesLeavesLog : Type 0
 ServesLeavesLog = (n m : NodeState) (read written : List ℕ) (tells : Bool) (held_old held_new : List ℕ → Option (List ℕ)) (ends_old ends_new : ℕ) (e : SessionEnd)
     → Serves n read written m tells held_old held_new ends_old ends_new e → IsTrue tells → HasLog n (held_old n.log) → LeavesLog n (vertices_sent read) m (held_new m.log)
@@ -126,6 +161,11 @@ ServesLeavesLog = (n m : NodeState) (read written : List ℕ) (tells : Bool) (he
 abbrev pub DrivesLeavesLog : Type 0
 DrivesLeavesLog = (n m : NodeState) (mark now : PeerMark) (read written : List ℕ) (tells : Bool) (held_old held_new : List ℕ → Option (List ℕ)) (ends_old ends_new : ℕ) (e : SessionEnd)
     → Drives n mark read written m now tells held_old held_new ends_old ends_new e → IsTrue tells → HasLog n (held_old n.log) → LeavesLog n (vertices_sent read) m (held_new m.log)
+
+-- where it meets another node,
+abbrev pub MeetsLeavesLog : Type 0
+MeetsLeavesLog = (side : Side) (address : Option (List ℕ)) (tells : Bool) (old new : Talker) (e : MeetEnd) → (m : NodeMeets side address tells old new e) → IsTrue tells
+    → HasLog old.node (old.files old.node.log) → LeavesLog old.node (vertices_told old.node m.meets.read) new.node (new.files new.node.log)
 
 -- and, whatever it answers, where it makes a unit: the log is that of the node, or the one of the node before it, cut in the unit's entry.
 abbrev pub MakeLeavesLog : Type 0
@@ -156,3 +196,16 @@ ServesSaysOfLog = (n m : NodeState) (read written : List ℕ) (tells : Bool) (he
 abbrev pub DrivesSaysOfLog : Type 0
 DrivesSaysOfLog = (n m : NodeState) (mark now : PeerMark) (read written : List ℕ) (tells : Bool) (held_old held_new : List ℕ → Option (List ℕ)) (ends_old ends_new : ℕ) (e : SessionEnd)
     → Drives n mark read written m now tells held_old held_new ends_old ends_new e → IsLogged e → SaysOfLog (logged_of m) (driven n mark read).said
+
+-- each vertex that was said in a meeting may go out
+abbrev pub MetSaysOf : Logged → List MeetingFrame → Type 0
+MetSaysOf l said = (v : Vertex) → Among (meeting.Vertex v) said → MayGoOut l v
+
+-- What a node says in a meeting is of what stood in its log before it,
+abbrev pub MetSaysOfLog : Type 0
+MetSaysOfLog = (side : Side) (n : NodeState) (bytes : List ℕ) → MetSaysOf (logged_of n) (met side n.core (verdict_of n.keys) bytes).said
+
+-- and stands there behind a meeting, however that ended.
+abbrev pub MeetsSaysOfLog : Type 0
+MeetsSaysOfLog = (side : Side) (address : Option (List ℕ)) (tells : Bool) (old new : Talker) (e : MeetEnd) → (m : NodeMeets side address tells old new e)
+    → MetSaysOf (logged_of new.node) (met side old.node.core (verdict_of old.node.keys) m.meets.read).said

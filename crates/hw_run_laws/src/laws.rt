@@ -3,7 +3,7 @@
 ghost use Rattle.hw_replay.specs.Fates.{Sight};
 ghost use Rattle.hw_run_laws.specs.Calls.{CallsKeepOneLine, AttemptsKeepOneLine, AttemptsSayNoNew, CallsKeepApart, CutLogIsMended};
 ghost use Rattle.hw_run_laws.specs.Complete.{ServesAreComplete, DrivesAreComplete};
-ghost use Rattle.hw_run_laws.specs.Restart.{ServedIsALife, DrivenIsALife, ServesIsALife, DrivesIsALife, ServesKeepsLog, DrivesKeepsLog, ServesLeavesLog, DrivesLeavesLog, MakeLeavesLog, ServedSaysOfLog, DrivenSaysOfLog, ServesSaysOfLog, DrivesSaysOfLog};
+ghost use Rattle.hw_run_laws.specs.Restart.{ServedIsALife, DrivenIsALife, MetIsALife, ServesIsALife, DrivesIsALife, MeetsIsALife, ServesKeepsLog, DrivesKeepsLog, MeetsKeepsLog, ServesLeavesLog, DrivesLeavesLog, MeetsLeavesLog, MakeLeavesLog, ServedSaysOfLog, DrivenSaysOfLog, MetSaysOfLog, ServesSaysOfLog, DrivesSaysOfLog, MeetsSaysOfLog};
 ghost use Rattle.hw_run_laws.specs.Prefixes.{StoppedReplays, StoppedParts, CutServices, CutTurns, CutHosts, CutCalls};
 
 /// Consumers that had taken nothing, and are left where a replay or a run stops, have taken the first blocks of the
@@ -24,32 +24,38 @@ pub fn undisturbed_sessions_are_whole()
     ensures driving { DrivesAreComplete }
 {}
 
-/// What a session does to the journal and the log of a node is that the first of the peer's vertices reach it: so its
-/// life is one of those that start again without a second unit of one number.
+/// What a session or a meeting does to the journal and the log of a node is that the first of the peer's vertices reach
+/// it: so its life is one of those that start again without a second unit of one number.
 pub fn sessions_are_lives()
     ensures served { ServedIsALife }
     ensures driven { DrivenIsALife }
+    ensures met { MetIsALife }
     ensures serves { ServesIsALife }
     ensures drives { DrivesIsALife }
+    ensures meets { MeetsIsALife }
 {}
 
-/// A session keeps the log of the node's journal.
+/// A session or a meeting keeps the log of the node's journal.
 pub fn sessions_keep_the_log()
     ensures serves { ServesKeepsLog }
     ensures drives { DrivesKeepsLog }
+    ensures meets { MeetsKeepsLog }
 {}
 
 /// What goes out of a node in a session is of its log: a vertex that stands there, or evidence of two units that do.
+/// What goes out in a meeting stood there before it.
 pub fn sessions_say_what_is_logged()
     ensures served { ServedSaysOfLog }
     ensures driven { DrivenSaysOfLog }
+    ensures met { MetSaysOfLog }
     ensures serves { ServesSaysOfLog }
     ensures drives { DrivesSaysOfLog }
+    ensures meets { MeetsSaysOfLog }
 {}
 
 /// A node that begins with its own units on one line and the log of its journal keeps both through any calls of
-/// `make`, sessions with fair peers and starts; and no two different units by it of one number ever stood in its log
-/// or went out.
+/// `make`, sessions and meetings with fair peers, and starts; and no two different units by it of one number ever stood
+/// in its log or went out.
 ///
 /// Where an append fails or there is no memory, and at the end of any other call, the node may be given up, and is
 /// started again from its log, mended where that is torn. What it said until then has no unit of its own that couldn't
@@ -66,6 +72,7 @@ pub fn calls_keep_one_line()
 pub fn cut_calls_leave_a_log()
     ensures serves { ServesLeavesLog }
     ensures drives { DrivesLeavesLog }
+    ensures meets { MeetsLeavesLog }
     ensures makes { MakeLeavesLog }
 {}
 

@@ -1,8 +1,9 @@
-//! Laws of sessions and of runs of a node.
+//! Laws of sessions, of meetings and of runs of a node.
 //!
-//! A session is a life of the node's log, from which it starts again without a second unit of one number: the first of
-//! the peer's vertices reach the node, its log stays that of its journal, and what goes out stands there. A node that
-//! is given up where an append fails or there is no memory starts again from its log, mended where that is torn.
+//! A session, or a meeting of two nodes, is a life of the node's log, from which it starts again without a second unit
+//! of one number: the first of the peer's vertices reach the node, its log stays that of its journal, and what goes out
+//! stands there. A node that is given up where an append fails or there is no memory starts again from its log, mended
+//! where that is torn.
 //!
 //! A session that nothing outside disturbs, with a peer that sends what is due, ends as both said, or for want of
 //! memory.

@@ -1,5 +1,7 @@
 use Rattle.hw_run_laws.proofs.LifeLaws.{served_life, serves_life}
 use Rattle.hw_run_laws.proofs.DriverLaws.{driven_life, drives_life}
+use Rattle.hw_run_laws.proofs.MetLaws.{met_life}
+use Rattle.hw_run_laws.proofs.MeetLaws.{meets_life}
 use Rattle.hw_run_laws.proofs.laws.sessions_are_lives.Goals as goal
 
 pub returns-clause-served : goal.returns-clause-served
@@ -13,3 +15,9 @@ returns-clause-serves c = serves_life
 
 pub returns-clause-drives : goal.returns-clause-drives
 returns-clause-drives c = drives_life
+
+pub returns-clause-met : goal.returns-clause-met
+returns-clause-met c = met_life
+
+pub returns-clause-meets : goal.returns-clause-meets
+returns-clause-meets c = meets_life

@@ -1,5 +1,7 @@
 use Rattle.hw_run_laws.proofs.OutLaws.{served_says, serves_says}
 use Rattle.hw_run_laws.proofs.DriverLaws.{driven_says, drives_says}
+use Rattle.hw_run_laws.proofs.MetLaws.{met_says}
+use Rattle.hw_run_laws.proofs.MeetLaws.{meets_say}
 use Rattle.hw_run_laws.proofs.laws.sessions_say_what_is_logged.Goals as goal
 
 pub returns-clause-served : goal.returns-clause-served
@@ -13,3 +15,9 @@ returns-clause-serves c = serves_says
 
 pub returns-clause-drives : goal.returns-clause-drives
 returns-clause-drives c = drives_says
+
+pub returns-clause-met : goal.returns-clause-met
+returns-clause-met c = met_says
+
+pub returns-clause-meets : goal.returns-clause-meets
+returns-clause-meets c = meets_say
