@@ -1,5 +1,5 @@
 -- Naive units by number, and the tip that stands for all of one creator.
-use Rattle.std.specs.Prelude.{◌≡◌, ℕ, zero, suc, ◌+◌, ◌-◌, ◌*◌, ◌<◌, ◌≤◌, true, List, [], length, Option, Some, None, slice_index_or}
+use Rattle.std.specs.Prelude.{◌≡◌, ◌⊎◌, ℕ, zero, suc, ◌+◌, ◌-◌, ◌*◌, ◌<◌, ◌≤◌, true, List, [], length, Option, Some, None, slice_index_or, slice_set}
 use Rattle.hw_types.specs.declared.unit.Digest.{Digest}
 use Rattle.hw_types.specs.Below.{Among}
 use Rattle.hw_dag.specs.declared.numbers.UnitNo.{UnitNo}
@@ -8,7 +8,7 @@ use Rattle.hw_dag.specs.declared.numbers.View.TheVariants as view
 use Rattle.hw_dag.specs.Dag.{UnitGraph, unit_at, count_of, creator_of, view_at, IsPanorama}
 use Rattle.hw_dag.specs.Admission.{IsGraph}
 use Rattle.hw_dag.specs.Lanes.{is_lane_below, is_seen}
-use Rattle.hw_naivety.specs.Rows.{TipRows, IsLonger, row_tip}
+use Rattle.hw_naivety.specs.Rows.{TipRows, IsLonger, row_slot}
 pub use Rattle.hw_dag.specs.Lanes.{IsBelow}
 pub use Rattle.hw_dag.specs.Walks.{HasRoom}
 
@@ -51,7 +51,7 @@ pub record IsTip (dag : UnitGraph) (panorama : List View) (endorsed : List Diges
   pub naive : IsNaiveTip dag panorama endorsed creator tip
   pub all : (n : ℕ) → IsNaive dag panorama endorsed creator n → IsUnder dag n tip
 
--- what is kept of units: of each the place of its row, which is 0 where its tips are its slots, else one more than the row's number; so many rows are taken
+-- what is kept of units: of each the place of its row, which is 0 where its tips are its slots, else one more than the number of a row, which may be that of other units too; so many rows are taken
 pub record KeptTips : Type 0 where
   pub places : List ℕ
   pub taken : ℕ
@@ -63,10 +63,20 @@ slot_tip view.Absent = None
 slot_tip (view.Correct last) = Some last
 slot_tip view.Faulty = None
 
--- the tip of a creator: from the row of this place, or from the slot where there is no row
+-- the tip of a creator of whom the unit observes this and a row says that
+abbrev pub said_tip : View → View → Option UnitNo
+said_tip slot view.Absent = slot_tip slot
+said_tip slot (view.Correct tip) = Some tip
+said_tip slot view.Faulty = None
+
+-- what the row of this place says of a creator; where there is no row, nothing
+abbrev pub placed_slot : TipRows → ℕ → ℕ → View
+placed_slot rows creator zero = view.Absent
+placed_slot rows creator (suc row) = row_slot rows row creator
+
+-- the tip of a creator: from the row of this place, or from the slot where the row says nothing
 abbrev pub placed_tip : TipRows → View → ℕ → ℕ → Option UnitNo
-placed_tip rows slot creator zero = slot_tip slot
-placed_tip rows slot creator (suc row) = row_tip rows row creator
+placed_tip rows slot creator place = said_tip slot (placed_slot rows creator place)
 
 -- the tip that is kept of a unit and a creator
 abbrev pub tip_at : UnitGraph → KeptTips → ℕ → ℕ → Option UnitNo
@@ -157,7 +167,16 @@ pub record AreKept (old new : KeptTips) : Type 0 where
   pub taken_is : new.taken ≡ old.taken
   pub validators_are : new.rows.validators ≡ old.rows.validators
   pub length_is : length new.rows.slots ≡ length old.rows.slots
-  pub kept : (row creator : ℕ) → row < old.taken → creator < old.rows.validators → row_tip new.rows row creator ≡ row_tip old.rows row creator
+  pub kept : (row creator : ℕ) → row < old.taken → creator < old.rows.validators → row_slot new.rows row creator ≡ row_slot old.rows row creator
+
+-- the unit has a row that says what the first row says that wasn't taken, and that row may be taken now
+pub record IsRowKept (old : KeptTips) (unit : ℕ) (new : KeptTips) : Type 0 where
+  pub place : ℕ
+  pub places_are : new.places ≡ slice_set old.places unit place
+  pub rows_are : new.rows ≡ old.rows
+  pub within : place ≤ new.taken
+  pub taken_is : (new.taken ≡ old.taken) ⊎ (new.taken ≡ old.taken + 1)
+  pub says : (creator : ℕ) → creator < old.rows.validators → placed_slot old.rows creator place ≡ row_slot old.rows old.taken creator
 
 -- the unit marks nobody and endorses nothing: of each creator all that it has below it is naive and on one lane
 pub record IsPlain (panorama : List View) (endorsed : List Digest) : Type 0 where

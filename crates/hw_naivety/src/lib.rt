@@ -6,13 +6,15 @@
 //! creator are. The tips of the units that a later unit cites are all that has to be looked at.
 //!
 //! Where a unit marks nobody and endorses nothing, as mostly, its tips are what it observes. So only the
-//! other units have a row of tips; all rows stand in one list.
+//! other units have a row of tips; all rows stand in one list. A row says how the tips differ from what is
+//! observed, so most of the units that mark the same have one row, and one of them stands for all.
 #![tactic(auto)]
 
 mod fork;
 mod heir;
 mod laws;
 mod rows;
+mod shared;
 mod sight;
 mod tips;
 mod tracker;

@@ -1,27 +1,28 @@
 //! Rows of tips, one after another in one list.
 
-ghost use Rattle.std.specs.Prelude.{◌≡◌, ◌+◌, ◌*◌, ◌<◌, ◌≤◌, ◌^◌, [], length, OnOk, IfSome};
-ghost use Rattle.hw_naivety.specs.Rows.{IsLonger, row_tip, with_tip};
+ghost use Rattle.std.specs.Prelude.{◌≡◌, ◌+◌, ◌*◌, ◌<◌, ◌≤◌, [], length, IsTrue, OnOk};
+ghost use Rattle.hw_dag.specs.Slots.{HasCode};
+ghost use Rattle.hw_naivety.specs.Rows.{IsLonger, IsSameRow, row_slot, with_slot};
 
-use hw_dag::UnitNo;
+use hw_dag::{Slot, View};
 use hw_types::OutOfMemory;
 use std::alloc::Global;
 use std::marker::Model;
 
-/// Rows with a slot for each validator, four bytes a slot: 0 where there is no tip, else one more than its number.
+/// Rows with a slot for each validator, four bytes a slot. A slot of a row says what the tip is where it isn't what
+/// the unit observes: another unit, or none. So units that observe different things can have one row.
 #[derive(Drop)]
 pub struct Rows {
     validators: u32,
-    slots: Vec<u32>,
+    slots: Vec<Slot>,
 }
 
 impl Model for Rows {
-    ghost use Rattle.std.specs.Prelude.{map};
-    ghost use Rattle.hw_naivety.specs.Rows.{TipRows, tip_of};
+    ghost use Rattle.hw_naivety.specs.Rows.{TipRows};
 
     ghost Value = { TipRows };
 
-    ghost view = { λ rows. record { validators = rows.validators; slots = map tip_of rows.slots.items } };
+    ghost view = { λ rows. record { validators = rows.validators; slots = rows.slots.items } };
 }
 
 impl Rows {
@@ -43,7 +44,7 @@ impl Rows {
     {
         let wanted = rows as usize * self.validators as usize;
         let length = wanted.max(self.slots.len());
-        self.slots.resize(length, 0)?;
+        self.slots.resize(length, Slot::of(View::Absent))?;
         Ok(())
     }
 
@@ -57,31 +58,47 @@ impl Rows {
         row as usize * self.validators as usize + creator as usize
     }
 
-    /// The tip in the creator's slot of the row.
-    pub fn get(&self, row: u32, creator: u32) -> Option<UnitNo>
+    /// The creator's slot of the row.
+    fn slot(&self, row: u32, creator: u32) -> Slot
         requires row { (row + 1) * self.now.validators ≤ length self.now.slots }
         requires creator { creator < self.now.validators }
-        ensures { result ≡ row_tip self.now row creator }
+        ensures { result ≡ row_slot self.now row creator }
     {
         let place = self.place(row, creator);
-        match self.slots[place] {
-            0 => None,
-            next => Some(UnitNo(next - 1)),
-        }
+        self.slots[place]
     }
 
-    /// Puts the tip into the creator's slot of the row.
-    pub fn set(&mut self, row: u32, creator: u32, tip: Option<UnitNo>)
+    /// What the row says in the creator's slot.
+    pub fn get(&self, row: u32, creator: u32) -> View
+        requires row { (row + 1) * self.now.validators ≤ length self.now.slots }
+        requires creator { creator < self.now.validators }
+        ensures { result ≡ row_slot self.now row creator }
+    {
+        self.slot(row, creator).view()
+    }
+
+    /// Whether two rows say the same.
+    pub fn is_same(&self, row: u32, other: u32) -> bool
+        requires row { (row + 1) * self.now.validators ≤ length self.now.slots }
+        requires other { (other + 1) * self.now.validators ≤ length self.now.slots }
+        ensures { IsTrue result → IsSameRow self.now row other }
+    {
+        for creator in 0..self.validators {
+            if !self.slot(row, creator).is(self.slot(other, creator)) {
+                return false;
+            }
+        }
+        true
+    }
+
+    /// Puts this into the creator's slot of the row.
+    pub fn set(&mut self, row: u32, creator: u32, said: View)
         requires row { (row + 1) * self.old.validators ≤ length self.old.slots }
         requires creator { creator < self.old.validators }
-        requires fits { IfSome tip (λ no. no.0 + 1 < 2 ^ 32) }
-        ensures { self.new ≡ with_tip self.old row creator tip }
+        requires code { HasCode said }
+        ensures { self.new ≡ with_slot self.old row creator said }
     {
         let place = self.place(row, creator);
-        let next = match tip {
-            Some(no) => no.0 + 1,
-            None => 0,
-        };
-        self.slots[place] = next;
+        self.slots[place] = Slot::of(said);
     }
 }

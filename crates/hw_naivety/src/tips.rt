@@ -1,16 +1,19 @@
 //! The tips of noted units.
 
-ghost use Rattle.std.specs.Prelude.{◌≡◌, ℕ, ◌+◌, ◌<◌, ◌≤◌, ◌≢◌, ◌^◌, ◌*◌, [], ◌==◌, if◌then◌else◌, None, Some, length, slice_index_or, slice_set, IfOk, IfErr, IfSome, OnOk};
+ghost use Rattle.std.specs.Prelude.{◌≡◌, ℕ, ◌+◌, ◌<◌, ◌≤◌, ◌≢◌, ◌^◌, ◌*◌, [], ◌==◌, if◌then◌else◌, None, Some, length, slice_index_or, slice_set, IsTrue, IfOk, IfErr, IfSome, OnOk};
 ghost use Rattle.hw_dag.specs.Dag.{view_at, count_of};
 ghost use Rattle.hw_dag.specs.declared.numbers.View.TheVariants as view;
-ghost use Rattle.hw_naivety.specs.Rows.{row_tip, with_tip};
-ghost use Rattle.hw_naivety.specs.Tips.{IsNaiveTip, IsTip, IsSight, IsSightOf, HasRoom, HasLists, HasTips, IsRaisedOver, AreRows, IsRoomy, IsGrown, AreKept, slot_tip, tip_at};
+ghost use Rattle.hw_dag.specs.Slots.{HasCode};
+ghost use Rattle.hw_naivety.specs.Rows.{row_slot, with_slot};
+ghost use Rattle.hw_naivety.specs.Tips.{IsNaiveTip, IsTip, IsSight, IsSightOf, HasRoom, HasLists, HasTips, IsRaisedOver, AreRows, IsRoomy, IsGrown, AreKept, IsRowKept, slot_tip, said_tip, placed_slot, tip_at};
+ghost use Rattle.hw_naivety.specs.Shared.{HasPlace, IsSource, HavePlace, IsShared, StandsFor, place_seen};
 ghost use Rattle.hw_naivety.specs.Heirs.{IsListed};
 ghost use Rattle.hw_naivety.specs.Forks.{IsNaiveFork, IsForkless};
 
 use crate::fork::NaiveFork;
 use crate::heir::Listed;
 use crate::rows::Rows;
+use crate::shared::{Shared, Source, Span};
 use crate::sight::Sight;
 use hw_dag::{Marks, UnitNo, View};
 use hw_types::OutOfMemory;
@@ -18,7 +21,8 @@ use std::alloc::Global;
 use std::marker::Model;
 
 /// The tips of noted units, and places and rows for more of them. Only a unit that marks somebody or endorses
-/// something has a row: of any other one each tip is what it observes of that creator.
+/// something has a row: of any other one each tip is what it observes of that creator. Units for which the same
+/// has to be said have one row, as mostly those have that mark the same.
 #[derive(Drop)]
 pub struct Tips {
     /// Of each unit 0 where it has no row, else one more than the row's number.
@@ -43,6 +47,21 @@ fn tip_of_slot(slot: View) -> Option<UnitNo>
     match slot {
         View::Correct(last) => Some(last),
         View::Absent | View::Faulty => None,
+    }
+}
+
+/// What a row says where the unit observes this and has that tip. Of a creator that the unit marks it says the tip
+/// in any case, so that it says the same for all units with this tip.
+fn said(observed: View, tip: Option<UnitNo>) -> View
+    requires code { IfSome tip (λ no. no.0 + 2 < 2 ^ 32) }
+    ensures said { said_tip observed result ≡ tip }
+    ensures code { HasCode result }
+{
+    match tip {
+        Some(no) if observed == View::Correct(no) => View::Absent,
+        Some(no) => View::Correct(no),
+        None if observed == View::Absent => View::Absent,
+        None => View::Faulty,
     }
 }
 
@@ -76,7 +95,20 @@ impl Tips {
         Ok(())
     }
 
-    /// The tip that is kept of a unit: from its row, or its slot where it has none.
+    /// What the row of this place says of the creator.
+    fn says(&self, place: u32, creator: u32) -> View
+        requires creator { creator < self.now.rows.validators }
+        requires within { place ≤ self.now.taken }
+        requires there { self.now.taken * self.now.rows.validators ≤ length self.now.rows.slots }
+        ensures { result ≡ placed_slot self.now.rows creator place }
+    {
+        match place {
+            0 => View::Absent,
+            next => self.rows.get(next - 1, creator),
+        }
+    }
+
+    /// The tip that is kept of a unit: from its row, or its slot where the row says nothing.
     fn at(&self, sight: &Sight<'_>, no: UnitNo, creator: u32) -> Option<UnitNo>
         requires sight { IsSight sight.now.dag.now sight.now.panorama.now sight.now.validators }
         requires creator { creator < sight.now.validators }
@@ -85,32 +117,33 @@ impl Tips {
         requires noted { no.0 < length self.now.places }
         ensures { result ≡ tip_at sight.now.dag.now self.now no.0 creator }
     {
-        match self.places[no.0 as usize] {
-            0 => tip_of_slot(sight.dag.unit(no).panorama().get(creator)),
-            next => self.rows.get(next - 1, creator),
+        match self.says(self.places[no.0 as usize], creator) {
+            View::Absent => tip_of_slot(sight.dag.unit(no).panorama().get(creator)),
+            View::Correct(tip) => Some(tip),
+            View::Faulty => None,
         }
     }
 
-    /// Puts a tip into the first row that isn't taken.
-    fn put(&mut self, creator: u32, tip: Option<UnitNo>)
+    /// Puts what is said of the creator into the first row that isn't taken.
+    fn put(&mut self, creator: u32, said: View)
         requires creator { creator < self.old.rows.validators }
         requires spare { (self.old.taken + 1) * self.old.rows.validators ≤ length self.old.rows.slots }
-        requires fits { IfSome tip (λ no. no.0 + 1 < 2 ^ 32) }
+        requires code { HasCode said }
         ensures places { self.new.places ≡ self.old.places }
         ensures taken { self.new.taken ≡ self.old.taken }
-        ensures rows { self.new.rows ≡ with_tip self.old.rows self.old.taken creator tip }
+        ensures rows { self.new.rows ≡ with_slot self.old.rows self.old.taken creator said }
     {
-        self.rows.set(self.taken, creator, tip);
+        self.rows.set(self.taken, creator, said);
     }
 
-    /// Notes that the unit has no row.
-    fn pass(&mut self, no: UnitNo)
+    /// Notes that the unit has the row of this place, or none.
+    fn give(&mut self, no: UnitNo, place: u32)
         requires known { no.0 < length self.old.places }
-        ensures places { self.new.places ≡ slice_set self.old.places no.0 0 }
+        ensures places { self.new.places ≡ slice_set self.old.places no.0 place }
         ensures taken { self.new.taken ≡ self.old.taken }
         ensures rows { self.new.rows ≡ self.old.rows }
     {
-        self.places[no.0 as usize] = 0;
+        self.places[no.0 as usize] = place;
     }
 
     /// Notes that the first row that isn't taken is the unit's.
@@ -124,6 +157,121 @@ impl Tips {
     {
         self.taken += 1;
         self.places[no.0 as usize] = self.taken;
+    }
+
+    /// Keeps the first row that isn't taken as the unit's. Where the row of this place says the same, the unit has
+    /// that one.
+    fn keep_row(&mut self, no: UnitNo, place: u32)
+        requires known { no.0 < length self.old.places }
+        requires spare { (self.old.taken + 1) * self.old.rows.validators ≤ length self.old.rows.slots }
+        requires fits { self.old.taken + 1 < 2 ^ 32 }
+        requires within { place ≤ self.old.taken }
+        ensures { IsRowKept self.old no.0 self.new }
+    {
+        if place > 0 && self.rows.is_same(place - 1, self.taken) {
+            self.give(no, place);
+        } else {
+            self.take(no);
+        }
+    }
+
+    /// The place of the row of the unit that is observed in the slot, or 0 where there is none.
+    fn place_seen(&self, sight: &Sight<'_>, slot: u32) -> u32
+        requires sight { IsSight sight.now.dag.now sight.now.panorama.now sight.now.validators }
+        requires slot { slot < sight.now.validators }
+        requires tips { HasTips sight.now.dag.now sight.now.panorama.now self.now }
+        ensures { result ≡ place_seen self.now (view_at sight.now.panorama.now slot) }
+    {
+        match sight.panorama.get(slot) {
+            View::Correct(cited) => self.places[cited.0 as usize],
+            View::Absent | View::Faulty => 0,
+        }
+    }
+
+    /// A slot whose unit has the latest row of all that the observed units have.
+    fn newest(&self, sight: &Sight<'_>) -> Source
+        requires sight { IsSight sight.now.dag.now sight.now.panorama.now sight.now.validators }
+        requires rows { AreRows sight.now.validators self.now }
+        requires tips { HasTips sight.now.dag.now sight.now.panorama.now self.now }
+        ensures { IsSource sight.now.validators sight.now.panorama.now self.now result }
+    {
+        let mut source = Source { slot: 0, place: 0 };
+        for slot in 0..sight.validators {
+            let place = self.place_seen(sight, slot);
+            if place > source.place {
+                source = Source { slot, place };
+            }
+        }
+        source
+    }
+
+    /// Whether the unit that is observed in the slot, if there is one, has the row of this place.
+    fn has_place(&self, sight: &Sight<'_>, slot: u32, place: u32) -> bool
+        requires sight { IsSight sight.now.dag.now sight.now.panorama.now sight.now.validators }
+        requires slot { slot < sight.now.validators }
+        requires tips { HasTips sight.now.dag.now sight.now.panorama.now self.now }
+        ensures { IsTrue result → HasPlace sight.now.panorama.now self.now place slot }
+    {
+        match sight.panorama.get(slot) {
+            View::Correct(cited) => self.places[cited.0 as usize] == place,
+            View::Absent | View::Faulty => true,
+        }
+    }
+
+    /// The span of the slots whose units haven't the row of this place.
+    fn span_apart(&self, sight: &Sight<'_>, place: u32) -> Span
+        requires sight { IsSight sight.now.dag.now sight.now.panorama.now sight.now.validators }
+        requires tips { HasTips sight.now.dag.now sight.now.panorama.now self.now }
+        ensures { HavePlace sight.now.validators sight.now.panorama.now self.now place result }
+    {
+        let mut first = sight.validators;
+        let mut end = 0;
+        for slot in 0..sight.validators {
+            if !self.has_place(sight, slot, place) {
+                first = first.min(slot);
+                end = slot + 1;
+            }
+        }
+        Span { first, end }
+    }
+
+    /// Which of the observed units have one row. Where no validator has two lanes nobody asks for it.
+    pub fn shared(&self, sight: &Sight<'_>) -> Shared
+        requires sight { IsSight sight.now.dag.now sight.now.panorama.now sight.now.validators }
+        requires rows { AreRows sight.now.validators self.now }
+        requires tips { HasTips sight.now.dag.now sight.now.panorama.now self.now }
+        ensures { IsShared sight.now.validators sight.now.panorama.now self.now result }
+    {
+        if sight.dag.is_forked() {
+            let source = self.newest(sight);
+            let span = self.span_apart(sight, source.place);
+            Shared { source, span }
+        } else {
+            let source = Source { slot: 0, place: 0 };
+            let span = Span {
+                first: 0,
+                end: sight.validators,
+            };
+            Shared { source, span }
+        }
+    }
+
+    /// The slots whose units have to be looked at for the tip of the creator. Where the creator is marked and the
+    /// row that is shared says its tip, the unit of the source stands for those of all other slots.
+    fn span_for(&self, sight: &Sight<'_>, creator: u32, shared: &Shared) -> Span
+        requires sight { IsSight sight.now.dag.now sight.now.panorama.now sight.now.validators }
+        requires creator { creator < sight.now.validators }
+        requires rows { AreRows sight.now.validators self.now }
+        requires shared { IsShared sight.now.validators sight.now.panorama.now self.now shared.now }
+        ensures { StandsFor sight.now.validators sight.now.dag.now sight.now.panorama.now self.now creator shared.now.source.slot result }
+    {
+        match sight.panorama.get(creator) {
+            View::Faulty if self.says(shared.source.place, creator) != View::Absent => shared.span,
+            _ => Span {
+                first: 0,
+                end: sight.validators,
+            },
+        }
     }
 
     /// The unit on whose lane all naive units are that the observed unit is or has below it.
@@ -179,6 +327,7 @@ impl Tips {
         &self,
         sight: &Sight<'_>,
         creator: u32,
+        shared: &Shared,
         listed: &Listed,
         marks: &mut Marks,
     ) -> Result<Option<UnitNo>, NaiveFork>
@@ -188,13 +337,15 @@ impl Tips {
         requires rows { AreRows sight.now.validators self.now }
         requires tips { HasTips sight.now.dag.now sight.now.panorama.now self.now }
         requires lists { HasLists sight.now.dag.now sight.now.panorama.now sight.now.endorsed.now }
+        requires shared { IsShared sight.now.validators sight.now.panorama.now self.now shared.now }
         requires listed { IsListed sight.now.dag.now sight.now.panorama.now sight.now.endorsed.now listed.now }
         ensures tip { IfOk result (IsTip sight.now.dag.now sight.now.panorama.now sight.now.endorsed.now creator) }
         ensures fork { IfErr result (IsNaiveFork sight.now.dag.now sight.now.panorama.now sight.now.endorsed.now creator) }
         ensures room { marks.new ≡ marks.old }
     {
-        let mut tip = None;
-        for slot in 0..sight.validators {
+        let span = self.span_for(sight, creator, shared);
+        let mut tip = self.raise_over(sight, creator, shared.source.slot, None, listed, marks)?;
+        for slot in span.first..span.end {
             tip = self.raise_over(sight, creator, slot, tip, listed, marks)?;
         }
         Ok(tip)
@@ -239,6 +390,7 @@ impl Tips {
         sight: &Sight<'_>,
         no: UnitNo,
         creator: u32,
+        shared: &Shared,
         listed: &Listed,
         marks: &mut Marks,
     ) -> Option<UnitNo>
@@ -250,6 +402,7 @@ impl Tips {
         requires tips { HasTips sight.now.dag.now sight.now.panorama.now self.now }
         requires lists { HasLists sight.now.dag.now sight.now.panorama.now sight.now.endorsed.now }
         requires forkless { IsForkless sight.now.dag.now sight.now.panorama.now sight.now.endorsed.now }
+        requires shared { IsShared sight.now.validators sight.now.panorama.now self.now shared.now }
         requires listed { IsListed sight.now.dag.now sight.now.panorama.now sight.now.endorsed.now listed.now }
         ensures tip { IsTip sight.now.dag.now sight.now.panorama.now sight.now.endorsed.now creator result }
         ensures room { marks.new ≡ marks.old }
@@ -257,7 +410,7 @@ impl Tips {
         match sight.panorama.get(creator) {
             View::Absent => None,
             View::Correct(last) => self.tip_on(sight, no, creator, last, listed, marks),
-            View::Faulty => match self.tip_over(sight, creator, listed, marks) {
+            View::Faulty => match self.tip_over(sight, creator, shared, listed, marks) {
                 Ok(tip) => tip,
                 Err(_) => unreachable!(),
             },
@@ -265,7 +418,7 @@ impl Tips {
     }
 
     /// Puts the tips of a settled unit that has no fork into the first row that isn't taken.
-    fn fill_row(&mut self, sight: &Sight<'_>, no: UnitNo, marks: &mut Marks)
+    fn fill_row(&mut self, sight: &Sight<'_>, no: UnitNo, shared: &Shared, marks: &mut Marks)
         requires sight { IsSight sight.now.dag.now sight.now.panorama.now sight.now.validators }
         requires unit { IsSightOf sight.now.dag.now no.0 sight.now.panorama.now sight.now.endorsed.now }
         requires room { HasRoom sight.now.panorama.now marks.old }
@@ -274,15 +427,16 @@ impl Tips {
         requires tips { HasTips sight.now.dag.now sight.now.panorama.now self.old }
         requires lists { HasLists sight.now.dag.now sight.now.panorama.now sight.now.endorsed.now }
         requires forkless { IsForkless sight.now.dag.now sight.now.panorama.now sight.now.endorsed.now }
-        ensures filled { (creator : ℕ) → creator < sight.now.validators → IsTip sight.now.dag.now sight.now.panorama.now sight.now.endorsed.now creator (row_tip self.new.rows self.new.taken creator) }
+        requires shared { IsShared sight.now.validators sight.now.panorama.now self.old shared.now }
+        ensures filled { (creator : ℕ) → creator < sight.now.validators → IsTip sight.now.dag.now sight.now.panorama.now sight.now.endorsed.now creator (said_tip (view_at sight.now.panorama.now creator) (row_slot self.new.rows self.new.taken creator)) }
         ensures kept { AreKept self.old self.new }
         ensures room { marks.new ≡ marks.old }
     {
         let own = sight.dag.unit(no).signed().unit.creator;
         let listed = sight.listed(own, marks);
         for creator in 0..sight.validators {
-            let tip = self.tip_of(sight, no, creator, &listed, marks);
-            self.put(creator, tip);
+            let tip = self.tip_of(sight, no, creator, shared, &listed, marks);
+            self.put(creator, said(sight.panorama.get(creator), tip));
         }
     }
 
@@ -305,10 +459,11 @@ impl Tips {
         ensures room { marks.new ≡ marks.old }
     {
         if sight.is_plain() {
-            self.pass(no);
+            self.give(no, 0);
         } else {
-            self.fill_row(sight, no, marks);
-            self.take(no);
+            let shared = self.shared(sight);
+            self.fill_row(sight, no, &shared, marks);
+            self.keep_row(no, shared.source.place);
         }
     }
 }

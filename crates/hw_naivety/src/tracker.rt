@@ -120,9 +120,10 @@ impl Naivety {
             validators: self.validators,
         };
         let listed = sight.listed_alone(marks);
+        let shared = self.tips.shared(&sight);
         for creator in 0..self.validators {
             if let View::Faulty = self.lanes.get(creator) {
-                if let Err(fork) = self.tips.tip_over(&sight, creator, &listed, marks) {
+                if let Err(fork) = self.tips.tip_over(&sight, creator, &shared, &listed, marks) {
                     return Some(fork);
                 }
             }

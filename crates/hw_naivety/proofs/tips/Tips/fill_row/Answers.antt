@@ -1,8 +1,10 @@
-use Rattle.std.proofs.Common.{◌≡◌, ◌<◌, ℕ, inl, inr, Option, sym, subst, ◌∙◌, arith}
+use Rattle.std.proofs.Common.{◌≡◌, ◌<◌, ℕ, inl, inr, Option, sym, ap, subst, ◌∙◌, arith}
 use Rattle.std.proofs.lemmas.Bool.{cases_lt}
 use Rattle.hw_dag.specs.declared.numbers.UnitNo.{UnitNo}
-use Rattle.hw_naivety.specs.Rows.{row_tip}
-use Rattle.hw_naivety.specs.Tips.{IsTip}
+use Rattle.hw_dag.specs.declared.numbers.View.{View}
+use Rattle.hw_dag.specs.Dag.{view_at}
+use Rattle.hw_naivety.specs.Rows.{row_slot}
+use Rattle.hw_naivety.specs.Tips.{IsTip, said_tip}
 use Rattle.hw_naivety.proofs.RowLaws.{kept_put, rows_own, row_put_here, row_put_beside, tips_kept}
 use Rattle.hw_naivety.proofs.TipLaws.{tips_stay}
 use Rattle.hw_naivety.proofs.tips.Tips.fill_row.Goals as goal
@@ -18,15 +20,18 @@ tip_of-tip-requires-clause-tips c =
 pub loop-creator-preserved : goal.loop-creator-preserved
 loop-creator-preserved c =
     let i = c.loop-creator.invariant in
-    let own : c.loop-creator.creator < c.args.self.now.rows.validators = subst (λ (m : ℕ). c.loop-creator.creator < m) (sym c.requires.rows.validators_are) c.loop-creator-test.true in (
+    let sight = c.args.sight.now in
+    let next = c.put.new.self in
+    let own : c.loop-creator.creator < c.args.self.now.rows.validators = subst (λ (m : ℕ). c.loop-creator.creator < m) (sym c.requires.rows.validators_are) c.loop-creator-test.true in
+    let here = row_put_here c.args.self.now c.loop-creator.self next c.loop-creator.creator c.said.result own c.requires.spare i.1 c.put.ensures.taken c.put.ensures.rows in
+    let tip = ap (λ (w : View). said_tip (view_at sight.panorama.now c.loop-creator.creator) w) here ∙ ap (λ (w : View). said_tip w c.said.result) (sym c.get.ensures) ∙ c.said.ensures.said in (
       (λ v lt. elim (cases_lt v c.loop-creator.creator) [
-        | inl less ↦ subst (λ (o : Option UnitNo). IsTip c.args.sight.now.dag.now c.args.sight.now.panorama.now c.args.sight.now.endorsed.now v o)
-            (sym (row_put_beside c.args.self.now c.loop-creator.self c.put.new.self c.loop-creator.creator c.tip_of-tip.result own c.requires.spare i.1 c.put.ensures.taken c.put.ensures.rows v (λ e. absurd (omega arith)))) (i.0 v less)
+        | inl less ↦ subst (λ (w : View). IsTip sight.dag.now sight.panorama.now sight.endorsed.now v (said_tip (view_at sight.panorama.now v) w))
+            (sym (row_put_beside c.args.self.now c.loop-creator.self next c.loop-creator.creator c.said.result own c.requires.spare i.1 c.put.ensures.taken c.put.ensures.rows v (λ e. absurd (omega arith)))) (i.0 v less)
         | inr above ↦ (let same : c.loop-creator.creator ≡ v = omega arith in
-            subst (λ (k : ℕ). IsTip c.args.sight.now.dag.now c.args.sight.now.panorama.now c.args.sight.now.endorsed.now k (row_tip c.put.new.self.rows c.put.new.self.taken k)) same
-            (subst (λ (o : Option UnitNo). IsTip c.args.sight.now.dag.now c.args.sight.now.panorama.now c.args.sight.now.endorsed.now c.loop-creator.creator o)
-            (sym (row_put_here c.args.self.now c.loop-creator.self c.put.new.self c.loop-creator.creator c.tip_of-tip.result own c.requires.spare i.1 c.put.ensures.taken c.put.ensures.rows)) c.tip_of-tip.ensures.tip))
+            subst (λ (k : ℕ). IsTip sight.dag.now sight.panorama.now sight.endorsed.now k (said_tip (view_at sight.panorama.now k) (row_slot next.rows next.taken k))) same
+            (subst (λ (o : Option UnitNo). IsTip sight.dag.now sight.panorama.now sight.endorsed.now c.loop-creator.creator o) (sym tip) c.tip_of-tip.ensures.tip))
       ]),
-      kept_put c.args.self.now c.loop-creator.self c.put.new.self c.loop-creator.creator c.tip_of-tip.result own c.requires.spare i.1 c.put.ensures.taken c.put.ensures.rows c.put.ensures.places,
+      kept_put c.args.self.now c.loop-creator.self next c.loop-creator.creator c.said.result own c.requires.spare i.1 c.put.ensures.taken c.put.ensures.rows c.put.ensures.places,
       c.tip_of-tip.ensures.room ∙ i.2,
     )

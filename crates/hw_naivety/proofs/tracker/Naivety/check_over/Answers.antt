@@ -18,6 +18,13 @@ tip_over-requires-clause-tips c =
     has_tips c.args.dag.now c.args.panorama.now c.self.inside.count c.self.inside.tips noted.tips_are c.self.invariant.1.count_within
     (λ slot cited e. subst (λ (k : ℕ). cited.0 < k) (sym all) (c.requires.panorama.known slot cited e))
 
+pub shared-shared-requires-clause-tips : goal.shared-shared-requires-clause-tips
+shared-shared-requires-clause-tips c =
+    let noted = subst (λ (t : NaiveTips). IsNoted t c.args.dag.now) (sym c.self.view_is) c.requires.noted in
+    let all = ap (λ (t : NaiveTips). t.count) c.self.view_is ∙ c.requires.all in
+    has_tips c.args.dag.now c.args.panorama.now c.self.inside.count c.self.inside.tips noted.tips_are c.self.invariant.1.count_within
+    (λ slot cited e. subst (λ (k : ℕ). cited.0 < k) (sym all) (c.requires.panorama.known slot cited e))
+
 pub returns-in-Err-clause-none : goal.returns-in-Err-clause-none
 returns-in-Err-clause-none c = λ u h.
     let fork = subst (λ (ds : List Digest). IsNaiveFork c.args.dag.now c.args.panorama.now ds c.loop-creator.creator c.in-Err.fork) h.endorsed_is c.in-Err.ensures.fork in (
