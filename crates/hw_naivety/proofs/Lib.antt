@@ -6,3 +6,4 @@ pub mod NotedLaws
 pub mod GrowLaws
 pub mod JudgedLaws
 pub mod HeirLaws
+pub mod ConsistentLaws
