@@ -1,10 +1,8 @@
 -- Laws of what is kept.
-use Rattle.std.proofs.Common.{◌≡◌, ℕ, ◌+◌, ◌*◌, ◌^◌, ◌<◌, ◌≤◌, Bool, true, false, cond, not, ◌||◌, ◌&&◌, nat_lt, eqb, List, [], ◌∷◌, ◌++◌, length, sum, slice_index, Some, None, Result, Ok, Err, OnErr, refl, sym, ap, ◌∙◌, subst, arith, eqb-true, lt-ltb, if◌then◌else◌}
-use Rattle.std.specs.Ordering.{is_eq, is_lt}
-use Rattle.std.specs.List.{list_any, range_with_len}
+use Rattle.std.proofs.Common.{◌≡◌, ℕ, ◌+◌, ◌*◌, ◌^◌, ◌<◌, Bool, true, false, not, ◌||◌, ◌&&◌, nat_lt, eqb, List, [], ◌∷◌, ◌++◌, length, sum, slice_index, None, Result, Ok, Err, OnErr, refl, sym, ap, ◌∙◌, subst, arith, eqb-true, if◌then◌else◌}
+use Rattle.std.specs.Ordering.{is_lt}
+use Rattle.std.specs.List.{range_with_len}
 use Rattle.std.specs.List.Sorted.{IsStrictlySortedBy}
-use Rattle.std.specs.Map.{lookup}
-use Rattle.std.specs.Option.{unwrap_or}
 use Rattle.std.proofs.lemmas.Bool.{le-ltb}
 use Rattle.hw_types.specs.declared.unit.Digest.{Digest}
 use Rattle.hw_types.specs.declared.config.Config.{Config}
@@ -16,87 +14,23 @@ use Rattle.hw_types.specs.Votes.{weight_of}
 use Rattle.hw_types.proofs.LimitLaws.{within_limits}
 use Rattle.hw_types.proofs.PastLaws.{some_of, any_of}
 use Rattle.hw_types.proofs.SettledLaws.{digest_same, digest_self}
+use Rattle.hw_endorse.specs.declared.tally.Endorsers.{Endorsers}
 use Rattle.hw_endorse.specs.Told.{in_order, is_told, with_pair, has_majority, HaveMajority}
-use Rattle.hw_endorse.specs.Kept.{told_by, weight_in, is_heavy, is_listed, AreListed, IsKept}
-use Rattle.hw_endorse.proofs.KeyLaws.{order, tie, looked_up, listed_found}
+use Rattle.hw_endorse.specs.Kept.{told_by, weight_in, is_heavy, AreListed, IsKept}
+use Rattle.hw_endorse.proofs.KeyLaws.{order}
 use Rattle.hw_endorse.proofs.PairLaws.{told-append, told_again, order_same, told_in_order}
 use Rattle.hw_endorse.proofs.WeightLaws.{weight_more, weight_most, weight_one, weight_none}
 
--- ---- weights of units, and the list
+-- ---- weights of units
 
 -- a unit weighs more than before, and each other what it did
-abbrev pub Weighs : List (Digest × ℕ) → List (Digest × ℕ) → Digest → ℕ → Type 0
+abbrev pub Weighs : List (Digest × Endorsers) → List (Digest × Endorsers) → Digest → ℕ → Type 0
 Weighs old new unit w = (d : Digest) → weight_in new d ≡ weight_in old d + (if digest_eq unit d then w else 0)
 
--- what an entry that is written makes of the weights
-pub written : (old new : List (Digest × ℕ)) (unit : Digest) (was w : ℕ) → was ≡ weight_in old unit
-    → ((d : Digest) → lookup (λ e. is_eq (order d e)) new ≡ cond (is_eq (order unit d)) (Some (was + w)) (lookup (λ e. is_eq (order d e)) old)) → Weighs old new unit w
-written old new unit was w is puts d =
-    ap (λ o. unwrap_or o 0) (sym (looked_up new d) ∙ puts d ∙ ap (cond (is_eq (order unit d)) (Some (was + w))) (looked_up old d) ∙ ap (λ b. cond b (Some (was + w)) (lookup (digest_eq d) old)) (tie unit d))
-    ∙ go (digest_eq unit d) refl
-  where
-    go : (b : Bool) → digest_eq unit d ≡ b → unwrap_or (cond b (Some (was + w)) (lookup (digest_eq d) old)) 0 ≡ weight_in old d + (if b then w else 0)
-    go true same = ap (λ n. n + w) (is ∙ ap (weight_in old) (digest_same unit d same))
-    go false apart = omega arith
-
--- an entry that is written as it was changes no weight
-pub written_same : (old new : List (Digest × ℕ)) (unit : Digest) (was : ℕ) → was ≡ weight_in old unit
-    → ((d : Digest) → lookup (λ e. is_eq (order d e)) new ≡ cond (is_eq (order unit d)) (Some was) (lookup (λ e. is_eq (order d e)) old)) → (d : Digest) → weight_in new d ≡ weight_in old d
-written_same old new unit was is puts d =
-    let zero_more : was ≡ was + 0 = omega arith in
-    let more = written old new unit was 0 is (λ e. puts e ∙ ap (λ n. cond (is_eq (order unit e)) (Some n) (lookup (λ k. is_eq (order e k)) old)) zero_more) d in
-    more ∙ nothing (digest_eq unit d)
-  where
-    nothing : (b : Bool) → weight_in old d + (if b then 0 else 0) ≡ weight_in old d
-    nothing true = omega arith
-    nothing false = omega arith
-
--- the list stays where the weights do
-listed_same : (total : ℕ) (old new : List (Digest × ℕ)) (units : List Digest) → ((d : Digest) → weight_in new d ≡ weight_in old d) → AreListed total old units → AreListed total new units
-listed_same total old new units same listed d = listed d ∙ ap (λ n. nat_lt total (2 * n)) (sym (same d))
-
--- the unit has become heavy, and is put in
-listed_more : (total : ℕ) (old new : List (Digest × ℕ)) (units longer : List Digest) (unit : Digest) (w : ℕ) → total < 2 * (weight_in old unit + w) → Weighs old new unit w → AreListed total old units
-    → ((d : Digest) → list_any (λ e. is_eq (order d e)) longer ≡ cond (is_eq (order unit d)) true (list_any (λ e. is_eq (order d e)) units)) → AreListed total new longer
-listed_more total old new units longer unit w heavy weighs listed puts d =
-    sym (listed_found longer d) ∙ puts d ∙ ap (cond (is_eq (order unit d)) true) (listed_found units d) ∙ ap (λ b. cond b true (is_listed units d)) (tie unit d)
-    ∙ go (digest_eq unit d) refl ∙ ap (λ n. nat_lt total (2 * n)) (sym (weighs d))
-  where
-    go : (b : Bool) → digest_eq unit d ≡ b → cond b true (is_listed units d) ≡ nat_lt total (2 * (weight_in old d + (if digest_eq unit d then w else 0)))
-    go true same = rw same (subst (λ x. true ≡ nat_lt total (2 * (weight_in old x + w))) (digest_same unit d same) (sym (lt-ltb total _ heavy)))
-    go false apart = rw apart (let zero_more : weight_in old d ≡ weight_in old d + 0 = omega arith in listed d ∙ ap (λ n. nat_lt total (2 * n)) zero_more)
-
--- the unit is still not heavy
-listed_light : (total : ℕ) (old new : List (Digest × ℕ)) (units : List Digest) (unit : Digest) (w : ℕ) → 2 * (weight_in old unit + w) ≤ total → Weighs old new unit w → AreListed total old units → AreListed total new units
-listed_light total old new units unit w light weighs listed d = listed d ∙ go (digest_eq unit d) refl ∙ ap (λ n. nat_lt total (2 * n)) (sym (weighs d))
-  where
-    go : (b : Bool) → digest_eq unit d ≡ b → is_heavy total old d ≡ nat_lt total (2 * (weight_in old d + (if digest_eq unit d then w else 0)))
-    go true same = rw same (subst (λ x. nat_lt total (2 * weight_in old x) ≡ nat_lt total (2 * (weight_in old x + w))) (digest_same unit d same)
-        (let low : 2 * weight_in old unit ≤ total = omega arith in le-ltb total _ low ∙ sym (le-ltb total _ light)))
-    go false apart = rw apart (let zero_more : weight_in old d ≡ weight_in old d + 0 = omega arith in ap (λ n. nat_lt total (2 * n)) zero_more)
-
--- the same, as an entry is written: nothing was added,
-pub listed_unwritten : (total : ℕ) (old new : List (Digest × ℕ)) (units again : List Digest) (unit : Digest) (was : ℕ) → AreListed total old units → again ≡ units → was ≡ weight_in old unit
-    → ((d : Digest) → lookup (λ e. is_eq (order d e)) new ≡ cond (is_eq (order unit d)) (Some was) (lookup (λ e. is_eq (order d e)) old)) → AreListed total new again
-listed_unwritten total old new units again unit was listed stays is puts = subst (AreListed total new) (sym stays) (listed_same total old new units (written_same old new unit was is puts) listed)
-
--- so much that the unit is heavy,
-pub listed_heavy : (total : ℕ) (old new : List (Digest × ℕ)) (units longer again : List Digest) (unit : Digest) (was w : ℕ) → AreListed total old units → again ≡ longer → was ≡ weight_in old unit → total < 2 * (was + w)
-    → ((d : Digest) → list_any (λ e. is_eq (order d e)) longer ≡ cond (is_eq (order unit d)) true (list_any (λ e. is_eq (order d e)) units))
-    → ((d : Digest) → lookup (λ e. is_eq (order d e)) new ≡ cond (is_eq (order unit d)) (Some (was + w)) (lookup (λ e. is_eq (order d e)) old)) → AreListed total new again
-listed_heavy total old new units longer again unit was w listed becomes is heavy adds puts =
-    subst (AreListed total new) (sym becomes) (listed_more total old new units longer unit w (omega (arith, is, heavy)) (written old new unit was w is puts) listed adds)
-
--- or so little that it isn't
-pub listed_not_heavy : (total : ℕ) (old new : List (Digest × ℕ)) (units again : List Digest) (unit : Digest) (was w : ℕ) → AreListed total old units → again ≡ units → was ≡ weight_in old unit → 2 * (was + w) ≤ total
-    → ((d : Digest) → lookup (λ e. is_eq (order d e)) new ≡ cond (is_eq (order unit d)) (Some (was + w)) (lookup (λ e. is_eq (order d e)) old)) → AreListed total new again
-listed_not_heavy total old new units again unit was w listed stays is light puts =
-    subst (AreListed total new) (sym stays) (listed_light total old new units unit w (omega (arith, is, light)) (written old new unit was w is puts) listed)
-
 -- what holds holds where there is an error
-pub on_err : {T E P : Type 0} (r : Result T E) → P → OnErr r P
-on_err (Ok x) p = tt
-on_err (Err e) p = p
+pub err_is : {T E P : Type 0} (r : Result T E) → P → OnErr r P
+err_is (Ok x) p = tt
+err_is (Err e) p = p
 
 -- what a test that was turned says
 pub turned_false : (b : Bool) → not b ≡ false → b ≡ true
@@ -125,7 +59,7 @@ abbrev pub HasOneMore : List (Digest × ℕ) → List (Digest × ℕ) → Digest
 HasOneMore old new unit e = (d : Digest) (v : ℕ) → is_told new d v ≡ is_told old d v || (digest_eq unit d && eqb e v)
 
 -- what was kept, after a new pair was put in and its endorser's weight added
-pub kept_more : (weights : List ℕ) (total : ℕ) (pairs more tallies raised : List (Digest × ℕ)) (units longer : List Digest) (unit : Digest) (e : ℕ)
+pub kept_more : (weights : List ℕ) (total : ℕ) (pairs more : List (Digest × ℕ)) (tallies raised : List (Digest × Endorsers)) (units longer : List Digest) (unit : Digest) (e : ℕ)
     → IsKept weights total pairs tallies units → e < length weights → is_told pairs unit e ≡ false → HasOneMore pairs more unit e → Weighs tallies raised unit (slice_index weights e) → AreListed total raised longer
     → IsKept weights total more raised longer
 kept_more weights total pairs more tallies raised units longer unit e kept within new puts weighs listed = record {
@@ -145,7 +79,7 @@ kept_more weights total pairs more tallies raised units longer unit e kept withi
     own_weight d false apart = refl
 
 -- what was kept, where pairs, weights and list are what they were
-pub kept_same : (weights : List ℕ) (total : ℕ) (pairs again tallies after : List (Digest × ℕ)) (units listed : List Digest)
+pub kept_same : (weights : List ℕ) (total : ℕ) (pairs again : List (Digest × ℕ)) (tallies after : List (Digest × Endorsers)) (units listed : List Digest)
     → IsKept weights total pairs tallies units → ((d : Digest) (v : ℕ) → is_told again d v ≡ is_told pairs d v) → ((d : Digest) → weight_in after d ≡ weight_in tallies d) → AreListed total after listed
     → IsKept weights total again after listed
 kept_same weights total pairs again tallies after units listed kept told same are = record {
@@ -155,27 +89,38 @@ kept_same weights total pairs again tallies after units listed kept told same ar
   listed = are;
 }
 
--- the pair was put in and taken out
-pub told_back : (old more back : List (Digest × ℕ)) (unit : Digest) (e : ℕ) → is_told old unit e ≡ false → HasOneMore old more unit e
-    → ((d : Digest) (v : ℕ) → is_told back d v ≡ is_told more d v && not (digest_eq unit d && eqb e v)) → (d : Digest) (v : ℕ) → is_told back d v ≡ is_told old d v
-told_back old more back unit e new puts takes d v =
-    takes d v ∙ ap (λ b. b && not (digest_eq unit d && eqb e v)) (puts d v) ∙ go (digest_eq unit d) (eqb e v) refl refl
+-- a pair that was there is not more
+pub told_again_same : (old more : List (Digest × ℕ)) (unit : Digest) (e : ℕ) → is_told old unit e ≡ true → HasOneMore old more unit e → (d : Digest) (v : ℕ) → is_told more d v ≡ is_told old d v
+told_again_same old more unit e there puts d v = puts d v ∙ go (digest_eq unit d) (eqb e v) refl refl
   where
-    plain : (b : Bool) → (b || false) && true ≡ b
+    plain : (b : Bool) → b || false ≡ b
     plain true = refl
     plain false = refl
 
-    gone : (b : Bool) → (b || true) && false ≡ false
-    gone true = refl
-    gone false = refl
+    whole : (b : Bool) → b ≡ true → b || true ≡ b
+    whole true h = refl
+    whole false h = absurd cc
 
-    go : (a b : Bool) → digest_eq unit d ≡ a → eqb e v ≡ b → (is_told old d v || (a && b)) && not (a && b) ≡ is_told old d v
-    go true true same number = gone (is_told old d v) ∙ sym (subst (λ w. is_told old d w ≡ false) (eqb-true e v number) (subst (λ x. is_told old x e ≡ false) (digest_same unit d same) new))
+    go : (a b : Bool) → digest_eq unit d ≡ a → eqb e v ≡ b → is_told old d v || (a && b) ≡ is_told old d v
+    go true true same number = whole (is_told old d v) (subst (λ w. is_told old d w ≡ true) (eqb-true e v number) (subst (λ x. is_told old x e ≡ true) (digest_same unit d same) there))
     go true false same number = plain (is_told old d v)
     go false b same number = plain (is_told old d v)
 
+-- what was kept, after an endorser was put in, who may have been there
+pub kept_put : (weights : List ℕ) (total : ℕ) (pairs more : List (Digest × ℕ)) (tallies raised : List (Digest × Endorsers)) (units longer : List Digest) (unit : Digest) (e : ℕ) (added : Bool)
+    → IsKept weights total pairs tallies units → e < length weights → added ≡ not (is_told pairs unit e) → HasOneMore pairs more unit e
+    → Weighs tallies raised unit (if added then slice_index weights e else 0) → AreListed total raised longer → IsKept weights total more raised longer
+kept_put weights total pairs more tallies raised units longer unit e true kept within is puts weighs listed =
+    kept_more weights total pairs more tallies raised units longer unit e kept within (turned_true (is_told pairs unit e) (sym is)) puts weighs listed
+kept_put weights total pairs more tallies raised units longer unit e false kept within is puts weighs listed =
+    kept_same weights total pairs more tallies raised units longer kept (told_again_same pairs more unit e (turned_false (is_told pairs unit e) (sym is)) puts) (λ d. weighs d ∙ nothing d (digest_eq unit d)) listed
+  where
+    nothing : (d : Digest) (b : Bool) → weight_in tallies d + (if b then 0 else 0) ≡ weight_in tallies d
+    nothing d true = omega arith
+    nothing d false = omega arith
+
 -- the weight that is added fits
-pub added_fits : (weights : List ℕ) (total : ℕ) (pairs tallies : List (Digest × ℕ)) (units : List Digest) (unit : Digest) (e : ℕ)
+pub added_fits : (weights : List ℕ) (total : ℕ) (pairs : List (Digest × ℕ)) (tallies : List (Digest × Endorsers)) (units : List Digest) (unit : Digest) (e : ℕ)
     → IsKept weights total pairs tallies units → e < length weights → weight_in tallies unit + slice_index weights e < 2 ^ 63
 added_fits weights total pairs tallies units unit e kept within =
     omega (arith, kept.weighed unit, weight_most weights (is_told pairs unit), weight_one weights e within, kept.total_is, kept.total_fits)
@@ -205,19 +150,14 @@ told_repeat weights pairs unit e there =
     λ i. record { weights = weights; pairs = same i }
 
 -- whether the kept weight is a majority
-pub majority_is : (weights : List ℕ) (total : ℕ) (pairs tallies : List (Digest × ℕ)) (units : List Digest) (d : Digest) → IsKept weights total pairs tallies units
+pub majority_is : (weights : List ℕ) (total : ℕ) (pairs : List (Digest × ℕ)) (tallies : List (Digest × Endorsers)) (units : List Digest) (d : Digest) → IsKept weights total pairs tallies units
     → is_heavy total tallies d ≡ has_majority (told_by weights pairs) d
 majority_is weights total pairs tallies units d kept =
     let weighed = kept.weighed d ∙ ap (weight_of weights) (λ i v. sym (told_in_order pairs d v) i) in
     λ i. nat_lt (kept.total_is i) (2 * weighed i)
 
--- twice the kept weight fits
-pub weight_fits : (weights : List ℕ) (total : ℕ) (pairs tallies : List (Digest × ℕ)) (units : List Digest) (d : Digest) → IsKept weights total pairs tallies units → weight_in tallies d < 2 ^ 62
-weight_fits weights total pairs tallies units d kept =
-    omega (arith, kept.weighed d, weight_most weights (is_told pairs d), kept.total_is, kept.total_fits)
-
 -- the listed units have a majority
-pub listed_majority : (weights : List ℕ) (total : ℕ) (pairs tallies : List (Digest × ℕ)) (units : List Digest) → IsKept weights total pairs tallies units → HaveMajority (told_by weights pairs) units
+pub listed_majority : (weights : List ℕ) (total : ℕ) (pairs : List (Digest × ℕ)) (tallies : List (Digest × Endorsers)) (units : List Digest) → IsKept weights total pairs tallies units → HaveMajority (told_by weights pairs) units
 listed_majority weights total pairs tallies units kept = record {
   right = λ d m. sym (majority_is weights total pairs tallies units d kept) ∙ sym (kept.listed d) ∙ any_of (digest_eq d) d units m (digest_self d);
   all = λ d h.

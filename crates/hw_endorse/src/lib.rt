@@ -1,10 +1,10 @@
 //! Endorsements: which validators stand for which units, and which units have more than half of the
 //! weight behind them.
 //!
-//! The pairs of a unit's digest and an endorser stand in an ordered set, what a unit's endorsers weigh in an
-//! ordered map, and the units with more than half of the weight in an ordered set of their own. Peers choose
-//! the digests, so nothing here costs more for one digest than for another. An endorsement takes memory for
-//! itself alone, whatever the number of validators.
+//! An ordered map has each unit's endorsers and what they weigh, and an ordered set the units with more than half
+//! of the weight. Peers choose the digests, so nothing here costs more for one digest than for another. The
+//! endorsers of one unit are looked through one by one. An endorsement takes memory for itself alone, whatever the
+//! number of validators.
 //!
 //! Contracts see the weights, and the pairs of a unit's digest and an endorser that were told, each once
 //! and in one order whatever the order in which they came.
@@ -25,7 +25,7 @@ pub use laws::{majority_is_endorsed, told_in_turn};
 use std::alloc::Global;
 use std::collections::{BTreeMap, BTreeSet, btree_set};
 use std::marker::Model;
-use tally::{Pairs, Tallies, has, put, take_back, weigh, weight};
+use tally::{Tallies, has, put};
 
 /// Digests of units, which rise by their bytes.
 pub type EndorsedUnits<'a> = btree_set::Iter<'a, Digest>;
@@ -42,9 +42,9 @@ pub enum Added {
 /// The endorsements that were told.
 #[derive(Drop)]
 pub struct Endorsements {
+    alloc: Global,
     weights: WeightList,
     total: u64,
-    pairs: Pairs,
     tallies: Tallies,
     endorsed: BTreeSet<Digest>,
 }
@@ -54,11 +54,11 @@ impl Model for Endorsements {
 
     ghost Value = { Told };
 
-    ghost use Rattle.hw_endorse.specs.Kept.{told_by, IsKept};
+    ghost use Rattle.hw_endorse.specs.Kept.{told_by, pairs_in, IsKept};
 
-    ghost view = { λ e. told_by e.weights e.pairs.keys };
+    ghost view = { λ e. told_by e.weights (pairs_in e.tallies.entries) };
 
-    ghost invariant = { λ e. IsKept e.weights e.total e.pairs.keys e.tallies.entries e.endorsed.keys };
+    ghost invariant = { λ e. IsKept e.weights e.total (pairs_in e.tallies.entries) e.tallies.entries e.endorsed.keys };
 }
 
 impl Endorsements {
@@ -68,9 +68,9 @@ impl Endorsements {
         ensures { IfOk result (λ e. e ≡ record { weights = config.now.weights; pairs = [] }) }
     {
         Ok(Endorsements {
+            alloc,
             weights: config.weights.copy()?,
             total: config.total(),
-            pairs: BTreeSet::new(alloc),
             tallies: BTreeMap::new(alloc),
             endorsed: BTreeSet::new(alloc),
         })
@@ -86,22 +86,19 @@ impl Endorsements {
         ensures err { OnErr result (self.new ≡ self.old) }
     {
         let weight = self.weights.as_slice()[endorser as usize];
-        if !put(&mut self.pairs, unit, endorser)? {
-            return Ok(Added::Repeat);
-        }
-        match weigh(
+        let new = put(
             &mut self.tallies,
             &mut self.endorsed,
+            self.alloc,
             self.total,
             unit,
+            endorser,
             weight,
-        ) {
-            Ok(()) => Ok(Added::New),
-            Err(error) => {
-                take_back(&mut self.pairs, unit, endorser);
-                Err(error)
-            }
+        )?;
+        if !new {
+            return Ok(Added::Repeat);
         }
+        Ok(Added::New)
     }
 
     /// Whether the validator's endorsement of the unit of this digest is known.
@@ -109,7 +106,7 @@ impl Endorsements {
         requires { endorser < length self.now.weights }
         ensures { result ≡ is_told self.now.pairs unit.now endorser }
     {
-        has(&self.pairs, unit, endorser)
+        has(&self.tallies, unit, endorser)
     }
 
     /// Whether more than half of the total weight endorses the unit of this digest: twice the weight of
@@ -117,7 +114,7 @@ impl Endorsements {
     pub fn endorsed(&self, unit: &Digest) -> bool
         ensures { result ≡ has_majority self.now unit.now }
     {
-        2 * weight(&self.tallies, unit) > self.total
+        self.endorsed.contains(unit)
     }
 
     /// The units that more than half of the total weight endorses, each once, rising by their digests. It

@@ -1,73 +1,98 @@
-//! What the endorsers of each unit weigh, and which pairs of a unit and an endorser are known.
+//! Who endorses each unit, and what they weigh together.
 
-ghost use Rattle.std.specs.Prelude.{◌≡◌, ℕ, ◌+◌, ◌^◌, ◌<◌, ◌&&◌, ◌||◌, ◌==◌, not, IfOk, OnOk, OnErr, if◌then◌else◌};
+ghost use Rattle.std.specs.Prelude.{◌≡◌, ℕ, ◌+◌, ◌*◌, ◌^◌, ◌<◌, ◌&&◌, ◌||◌, ◌==◌, not, false, nat_lt, IfOk, OnOk, OnErr, if◌then◌else◌};
 ghost use Rattle.hw_types.specs.Graph.{digest_eq};
 ghost use Rattle.hw_types.specs.declared.unit.Digest.{Digest as Named};
-ghost use Rattle.hw_endorse.specs.Told.{is_told};
-ghost use Rattle.hw_endorse.specs.Kept.{weight_in, AreListed};
+ghost use Rattle.hw_endorse.specs.Kept.{is_one, who_in, weight_in, is_listed, AreListed};
 
 use hw_types::{Digest, OutOfMemory};
+use std::alloc::Global;
 use std::collections::{BTreeMap, BTreeSet};
 
-/// The units' digests, each with an endorser of it.
-pub type Pairs = BTreeSet<(Digest, u32)>;
-
-/// What the endorsers of each unit weigh together.
-pub type Tallies = BTreeMap<Digest, u64>;
-
-/// Puts a pair in, and answers whether it is new.
-pub fn put(pairs: &mut Pairs, unit: &Digest, endorser: u32) -> Result<bool, OutOfMemory>
-    ensures new { IfOk result (λ new. new ≡ not (is_told pairs.old.keys unit.now endorser)) }
-    ensures told { OnOk result ((d : Named) (v : ℕ) → is_told pairs.new.keys d v ≡ is_told pairs.old.keys d v || (digest_eq unit.now d && (endorser == v))) }
-    ensures err { OnErr result (pairs.new.keys ≡ pairs.old.keys) }
-{
-    Ok(pairs.insert((*unit, endorser))?)
+/// The endorsers of one unit, in the order in which they were told, and what they weigh together.
+#[derive(Drop)]
+pub struct Endorsers {
+    who: Vec<u32>,
+    weight: u64,
 }
 
-/// Takes a pair out.
-pub fn take_back(pairs: &mut Pairs, unit: &Digest, endorser: u32)
-    ensures { (d : Named) (v : ℕ) → is_told pairs.new.keys d v ≡ is_told pairs.old.keys d v && not (digest_eq unit.now d && (endorser == v)) }
-{
-    pairs.remove(&(*unit, endorser));
-}
-
-/// Whether a pair is there.
-pub fn has(pairs: &Pairs, unit: &Digest, endorser: u32) -> bool
-    ensures { result ≡ is_told pairs.now.keys unit.now endorser }
-{
-    pairs.contains(&(*unit, endorser))
-}
-
-/// What the endorsers of a unit weigh.
-pub fn weight(tallies: &Tallies, unit: &Digest) -> u64
-    ensures { result ≡ weight_in tallies.now.entries unit.now }
-{
-    match tallies.get(unit) {
-        None => 0,
-        Some(weight) => *weight,
+impl Endorsers {
+    /// Whether a validator is one of them.
+    fn has(&self, endorser: u32) -> bool
+        ensures { result ≡ is_one self.now.who.items endorser }
+    {
+        self.who.contains(&endorser)
     }
 }
 
-/// Adds an endorser's weight to that of a unit, and lists the unit where this is now more than half of the
-/// total. Where there is no memory, all units weigh what they did.
-pub fn weigh(
+/// The endorsers of each unit.
+pub type Tallies = BTreeMap<Digest, Endorsers>;
+
+/// Whether a validator's endorsement of a unit is known.
+pub fn has(tallies: &Tallies, unit: &Digest, endorser: u32) -> bool
+    ensures { result ≡ is_one (who_in tallies.now.entries unit.now) endorser }
+{
+    match tallies.get(unit) {
+        None => false,
+        Some(endorsers) => endorsers.has(endorser),
+    }
+}
+
+/// Puts an endorser to those of a unit, and lists the unit where they weigh more than half of the total now. Says
+/// whether the endorser is new. Where there is no memory, each unit has the endorsers that it had.
+pub fn put(
     tallies: &mut Tallies,
+    endorsed: &mut BTreeSet<Digest>,
+    alloc: Global,
+    total: u64,
+    unit: &Digest,
+    endorser: u32,
+    weight: u64,
+) -> Result<bool, OutOfMemory>
+    requires fits { weight_in tallies.old.entries unit.now + weight < 2 ^ 63 }
+    requires listed { AreListed total tallies.old.entries endorsed.old.keys }
+    ensures new { IfOk result (λ new. new ≡ not (is_one (who_in tallies.old.entries unit.now) endorser)) }
+    ensures told { OnOk result ((d : Named) (v : ℕ) → is_one (who_in tallies.new.entries d) v ≡ is_one (who_in tallies.old.entries d) v || (digest_eq unit.now d && (endorser == v))) }
+    ensures weighed { IfOk result (λ new. (d : Named) → weight_in tallies.new.entries d ≡ weight_in tallies.old.entries d + (if digest_eq unit.now d then (if new then weight else 0) else 0)) }
+    ensures listed { AreListed total tallies.new.entries endorsed.new.keys }
+    ensures untold { OnErr result ((d : Named) (v : ℕ) → is_one (who_in tallies.new.entries d) v ≡ is_one (who_in tallies.old.entries d) v) }
+    ensures unweighed { OnErr result ((d : Named) → weight_in tallies.new.entries d ≡ weight_in tallies.old.entries d) }
+{
+    let none = Endorsers {
+        who: Vec::new(alloc),
+        weight: 0,
+    };
+    let endorsers = tallies.entry(*unit)?.or_insert(none);
+    put_last(endorsers, endorsed, total, unit, endorser, weight)
+}
+
+/// Puts an endorser last among those of a unit, as `put` does.
+fn put_last(
+    endorsers: &mut Endorsers,
     endorsed: &mut BTreeSet<Digest>,
     total: u64,
     unit: &Digest,
+    endorser: u32,
     weight: u64,
-) -> Result<(), OutOfMemory>
-    requires fits { weight_in tallies.old.entries unit.now + weight < 2 ^ 63 }
-    requires listed { AreListed total tallies.old.entries endorsed.old.keys }
-    ensures weighed { OnOk result ((d : Named) → weight_in tallies.new.entries d ≡ weight_in tallies.old.entries d + (if digest_eq unit.now d then weight else 0)) }
-    ensures listed { AreListed total tallies.new.entries endorsed.new.keys }
-    ensures err { OnErr result ((d : Named) → weight_in tallies.new.entries d ≡ weight_in tallies.old.entries d) }
+) -> Result<bool, OutOfMemory>
+    requires fits { endorsers.old.weight + weight < 2 ^ 63 }
+    requires listed { is_listed endorsed.old.keys unit.now ≡ nat_lt total (2 * endorsers.old.weight) }
+    ensures new { IfOk result (λ new. new ≡ not (is_one endorsers.old.who.items endorser)) }
+    ensures told { OnOk result ((v : ℕ) → is_one endorsers.new.who.items v ≡ is_one endorsers.old.who.items v || (endorser == v)) }
+    ensures weighed { IfOk result (λ new. endorsers.new.weight ≡ endorsers.old.weight + (if new then weight else 0)) }
+    ensures listed { is_listed endorsed.new.keys unit.now ≡ nat_lt total (2 * endorsers.new.weight) }
+    ensures others { (d : Named) → digest_eq unit.now d ≡ false → is_listed endorsed.new.keys d ≡ is_listed endorsed.old.keys d }
+    ensures err { OnErr result ((endorsers.new.who.items ≡ endorsers.old.who.items) × (endorsers.new.weight ≡ endorsers.old.weight)) }
 {
-    let tally = tallies.entry(*unit)?.or_insert(0);
-    let sum = *tally + weight;
+    if endorsers.has(endorser) {
+        return Ok(false);
+    }
+    endorsers.who.reserve(1)?;
+    let sum = endorsers.weight + weight;
     if 2 * sum > total {
         endorsed.insert(*unit)?;
     }
-    *tally = sum;
-    Ok(())
+    endorsers.who.push_reserved(endorser);
+    endorsers.weight = sum;
+    Ok(true)
 }

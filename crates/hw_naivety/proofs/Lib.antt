@@ -7,3 +7,4 @@ pub mod GrowLaws
 pub mod JudgedLaws
 pub mod HeirLaws
 pub mod SharedLaws
+pub mod ConsistentLaws

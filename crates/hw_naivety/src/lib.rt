@@ -4,6 +4,8 @@
 //! [`Naivety`] follows a graph: after a `note` for each admission in order, `check` is that rule. For each
 //! noted unit and each creator it knows one tip, the naive unit on whose lane all naive units of that
 //! creator are. The tips of the units that a later unit cites are all that has to be looked at.
+//! A unit with a consistent panorama has no naive fork of a creator that it doesn't mark, so `check_consistent` looks
+//! only at those that it marks.
 //!
 //! Where a unit marks nobody and endorses nothing, as mostly, its tips are what it observes. So only the
 //! other units have a row of tips; all rows stand in one list. A row says how the tips differ from what is

@@ -1,8 +1,9 @@
 //! What is kept of settled units to find naive forks.
 
-ghost use Rattle.std.specs.Prelude.{◌≡◌, ℕ, ◌+◌, ◌<◌, ◌≤◌, ◌↔◌, length, OnOk, IfOk, IfSome, IsNone};
-ghost use Rattle.hw_types.specs.Graph.{Node};
-ghost use Rattle.hw_dag.specs.Dag.{UnitGraph, graph, count_of, node_at, IsPanorama};
+ghost use Rattle.std.specs.Prelude.{◌≡◌, ℕ, ◌+◌, ◌<◌, ◌≤◌, ◌↔◌, true, false, length, OnOk, IfOk, IfSome, IsNone};
+ghost use Rattle.hw_types.specs.Graph.{Node, is_consistent};
+ghost use Rattle.hw_dag.specs.declared.numbers.View.TheVariants as view;
+ghost use Rattle.hw_dag.specs.Dag.{UnitGraph, graph, count_of, node_at, view_at, observations, IsPanorama};
 ghost use Rattle.hw_dag.specs.Admission.{IsGraph, IsResolved, node_prepared};
 ghost use Rattle.hw_naivety.specs.Naivety.{KeepsEndorsed, HasNoNaiveFork, HasSight, IsLeastNaiveFork, IsNoted};
 ghost use Rattle.hw_naivety.specs.Tips.{HasLists, LanesAre};
@@ -131,6 +132,68 @@ impl Naivety {
         None
     }
 
+    /// What `check` answers of a unit whose panorama is consistent: all that is below it of a creator that it doesn't
+    /// mark is on the lane of the unit that it observes. So only creators that it marks are looked at.
+    pub fn check_consistent(
+        &self,
+        dag: &Dag,
+        prepared: &Prepared,
+        marks: &mut Marks,
+    ) -> Option<NaiveFork>
+        requires noted { IsNoted self.now dag.now }
+        requires all { self.now.count ≡ count_of dag.now }
+        requires resolved { IsResolved dag.now prepared.now }
+        requires panorama { IsPanorama dag.now prepared.now.panorama }
+        requires consistent { is_consistent (graph dag.now) prepared.now.signed.unit.panorama ≡ true }
+        requires endorsed { KeepsEndorsed (graph dag.now) (node_prepared prepared.now) }
+        requires room { count_of dag.now ≤ marks.old }
+        ensures none { IsNone result ↔ HasNoNaiveFork (graph dag.now) (node_prepared prepared.now) }
+        ensures least { IfSome result (λ fork. IsLeastNaiveFork dag.now (node_prepared prepared.now) fork) }
+        ensures room { marks.new ≡ marks.old }
+    {
+        dag.recall_graph();
+        let endorsed = prepared.signed().unit.endorsed.as_slice();
+        self.check_marked(dag, prepared.panorama(), endorsed, marks)
+    }
+
+    /// What `check_over` answers for a consistent panorama. Only creators that it marks are looked at.
+    fn check_marked(
+        &self,
+        dag: &Dag,
+        panorama: &Panorama,
+        endorsed: &[Digest],
+        marks: &mut Marks,
+    ) -> Option<NaiveFork>
+        requires noted { IsNoted self.now dag.now }
+        requires all { self.now.count ≡ count_of dag.now }
+        requires panorama { IsPanorama dag.now panorama.now }
+        requires consistent { is_consistent (graph dag.now) (observations dag.now panorama.now) ≡ true }
+        requires lists { HasLists dag.now panorama.now endorsed.now }
+        requires room { count_of dag.now ≤ marks.old }
+        ensures none { (u : Node) → HasSight dag.now panorama.now endorsed.now u → (IsNone result ↔ HasNoNaiveFork (graph dag.now) u) }
+        ensures least { (u : Node) → HasSight dag.now panorama.now endorsed.now u → IfSome result (λ fork. IsLeastNaiveFork dag.now u fork) }
+        ensures room { marks.new ≡ marks.old }
+    {
+        dag.recall_graph();
+        let sight = Sight {
+            dag,
+            panorama,
+            endorsed,
+            validators: self.validators,
+        };
+        let listed = sight.listed_alone(marks);
+        let shared = self.tips.shared(&sight);
+        for creator in 0..self.validators {
+            if !may_fork(&self.lanes, panorama, creator) {
+                continue;
+            }
+            if let Err(fork) = self.tips.tip_over(&sight, creator, &shared, &listed, marks) {
+                return Some(fork);
+            }
+        }
+        None
+    }
+
     /// Follows an admission: the unit is the first that wasn't noted. It keeps the rules of endorsed lists
     /// and of naive forks.
     pub fn note(&mut self, dag: &Dag, no: UnitNo)
@@ -155,6 +218,18 @@ impl Naivety {
         self.tips.fill(&sight, no, &mut self.marks);
         follow(&mut self.lanes, dag, no);
         self.count += 1;
+    }
+}
+
+/// Whether the creator's noted units aren't on one lane, and the panorama marks it.
+fn may_fork(lanes: &Panorama, panorama: &Panorama, creator: u32) -> bool
+    requires noted { creator < length lanes.now }
+    requires observed { creator < length panorama.now }
+    ensures { result ≡ false → view_at lanes.now creator ≡ view.Faulty → view_at panorama.now creator ≡ view.Faulty → ⊥ }
+{
+    match (lanes.get(creator), panorama.get(creator)) {
+        (View::Faulty, View::Faulty) => true,
+        _ => false,
     }
 }
 

@@ -2,6 +2,7 @@
 
 ghost use Rattle.std.specs.Prelude.{◌≡◌, ◌≤◌, true, false, IsTrue};
 ghost use Rattle.std.specs.List.{list_all};
+ghost use Rattle.hw_types.specs.Graph.{is_consistent};
 ghost use Rattle.hw_types.specs.Rules.{has_digest, has_naive_fork};
 ghost use Rattle.hw_types.specs.Tests.{first_broken};
 ghost use Rattle.hw_dag.specs.Dag.{count_of, unit_at};
@@ -26,6 +27,7 @@ pub fn endorsements(
 ) -> Result<(), Rule>
     requires case { IsCase dag.now prepared.now }
     requires slots { has_foreign_slot (below_of dag.now prepared.now) (node_prepared prepared.now) ≡ false }
+    requires consistent { is_consistent (below_of dag.now prepared.now) prepared.now.signed.unit.panorama ≡ true }
     requires seen { AllEndorseSeen dag.now }
     requires noted { IsNoted naivety.now dag.now }
     requires all { naivety.now.count ≡ count_of dag.now }
@@ -111,6 +113,7 @@ fn inherits_list(dag: &Dag, prepared: &Prepared) -> bool
 fn has_naive_fork(naivety: &Naivety, dag: &Dag, prepared: &Prepared, marks: &mut Marks) -> bool
     requires case { IsCase dag.now prepared.now }
     requires slots { has_foreign_slot (below_of dag.now prepared.now) (node_prepared prepared.now) ≡ false }
+    requires consistent { is_consistent (below_of dag.now prepared.now) prepared.now.signed.unit.panorama ≡ true }
     requires kept { drops_endorsed (below_of dag.now prepared.now) (node_prepared prepared.now) ≡ false }
     requires noted { IsNoted naivety.now dag.now }
     requires all { naivety.now.count ≡ count_of dag.now }
@@ -118,5 +121,5 @@ fn has_naive_fork(naivety: &Naivety, dag: &Dag, prepared: &Prepared, marks: &mut
     ensures naive { result ≡ has_naive_fork (below_of dag.now prepared.now) prepared.now.signed.unit.endorsed }
     ensures room { marks.new ≡ marks.old }
 {
-    naivety.check(dag, prepared, marks).is_some()
+    naivety.check_consistent(dag, prepared, marks).is_some()
 }

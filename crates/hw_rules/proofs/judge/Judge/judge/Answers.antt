@@ -2,7 +2,7 @@ use Rattle.std.proofs.Common.{List, sym, ap, subst, ◌∙◌}
 use Rattle.std.proofs.lemmas.Result.{err_from_is_err_and}
 use Rattle.hw_types.specs.declared.config.Config.{Config}
 use Rattle.hw_types.specs.Tests.{first_broken}
-use Rattle.hw_types.proofs.WordsLaws.{none_broken}
+use Rattle.hw_types.proofs.WordsLaws.{none_broken, not_false}
 use Rattle.hw_dag.specs.declared.numbers.View.{View}
 use Rattle.hw_dag.specs.Dag.{IsPanorama}
 use Rattle.hw_dag.specs.Admission.{node_prepared}
@@ -42,6 +42,11 @@ returns-in_err-rounds-clause-broken c =
 
 pub endorsements-requires-clause-case : goal.endorsements-requires-clause-case
 endorsements-requires-clause-case c = is_case c.args.self.now.config.now c.args.prepared.now c.requires.alone c.args.self.now.dag.now c.requires.weights.length_is c.recall_graph.ensures c.requires.resolved
+
+pub endorsements-requires-clause-consistent : goal.endorsements-requires-clause-consistent
+endorsements-requires-clause-consistent c =
+    let cited = ok_kept _ (sym c.citations.ensures ∙ c.in_ok-citations.was) in
+    not_false _ (none_broken (citation_tests (below_of c.args.self.now.dag.now c.args.prepared.now) (node_prepared c.args.prepared.now)) cited).1.1.0
 
 pub returns-in_err-endorsements-clause-broken : goal.returns-in_err-endorsements-clause-broken
 returns-in_err-endorsements-clause-broken c =
