@@ -9,5 +9,6 @@ pub mod NameLaws
 pub mod RunLaws
 pub mod MoreLaws
 pub mod AppendLaws
+pub mod FollowingLaws
 pub mod RangeLaws
 pub mod SpelledLaws
