@@ -3,7 +3,7 @@
 # bindings_cost.sh PROGRAM LOG. The program replays the log once; the crate delivers it once. Both read it from a file.
 # From each count that of the same with no entry is taken, which leaves the deliveries. Where the crate has all vertices
 # in one call it hashes four units at a time, as the program does of a log of version 1; where it has one a call it
-# hashes one at a time, as the program does of the same log in version 2. Each is told beside the other.
+# hashes one at a time. That is told beside the program's replay of the same log in version 2, which also hashes four.
 # What fails is named, with what it said, and the status is 1 then, or 2 where the words or a tool aren't as they should
 # be.
 set -euo pipefail
@@ -72,5 +72,5 @@ single=$cost
 deliveries "$work/log.short.hwlg" "$work/none.short.hwlg" "$program" replay
 one=$cost
 times() { python3 -c "print('%.3f' % ($1 / $2))"; }
-echo "four hashed at a time: through the crate $all, inside the program $four: $(times $all $four)"
-echo "one hashed at a time: through the crate $single, inside the program $one: $(times $single $one)"
+echo "all in one call: through the crate $all, version 1 inside the program $four: $(times $all $four)"
+echo "one in a call: through the crate $single, version 2 inside the program $one: $(times $single $one)"

@@ -60,8 +60,8 @@ class Costs(unittest.TestCase):
     def test_counts_without_entries_are_taken_off(self):
         ran = self.ran()
         self.assertEqual((ran.returncode, ran.stderr), (0, ""))
-        said = ["four hashed at a time: through the crate 900, inside the program 700: 1.286"]
-        said.append("one hashed at a time: through the crate 1200, inside the program 900: 1.333")
+        said = ["all in one call: through the crate 900, version 1 inside the program 700: 1.286"]
+        said.append("one in a call: through the crate 1200, version 2 inside the program 900: 1.333")
         self.assertEqual(ran.stdout.splitlines(), said)
 
     def test_a_log_that_is_not_migrated_is_named(self):

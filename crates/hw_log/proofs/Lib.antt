@@ -9,6 +9,7 @@ pub mod NameLaws
 pub mod RunLaws
 pub mod MoreLaws
 pub mod AppendLaws
+pub mod FollowingLaws
 pub mod RangeLaws
 pub mod SpelledLaws
 pub mod MeasureLaws

@@ -2,6 +2,7 @@ pub mod Lasts
 pub mod Log
 pub mod Causes
 pub mod Ahead
+pub mod Following
 pub mod Named
 pub mod Reader
 pub mod Whole

@@ -8,7 +8,8 @@ ghost use Rattle.hw_io.specs.Faults.{HasCause, IsCountedAbout};
 ghost use Rattle.hw_io.specs.Files.{SameFiles};
 ghost use Rattle.hw_lanes.specs.Pieces.{IsWithin, part_of};
 
-use crate::head::{HEAD_LENGTH, MAX_LENGTH, head_of};
+use crate::head::MAX_LENGTH;
+use crate::held::{HeldEntry, entry_at};
 use crate::name::{SIGNATURE_LENGTH, unit_part};
 use hw_io::{Files, IoFault, ReadBuffer};
 use hw_lanes::{Part, digests_of};
@@ -191,10 +192,23 @@ fn digests_from(alloc: Global, bytes: &[u8], first: Part) -> Result<Ahead, OutOf
     ensures digests { IfOk result (λ ahead. ahead.digests.items ≡ map (λ part. sha256 (part_of bytes.now part)) ahead.parts.items) }
 {
     let parts = parts_from(alloc, bytes, first)?;
+    let digests = digests_in(alloc, bytes, parts.as_slice())?;
+    Ok(Ahead { parts, digests })
+}
+
+/// The digests of these parts of the bytes.
+pub(crate) fn digests_in(
+    alloc: Global,
+    bytes: &[u8],
+    parts: &[Part],
+) -> Result<Vec<[u8; 32]>, OutOfMemory>
+    requires { All (IsWithin (length bytes.now)) parts.now }
+    ensures { IfOk result (λ digests. digests.items ≡ map (λ part. sha256 (part_of bytes.now part)) parts.now) }
+{
     let mut digests = Vec::new(alloc);
     digests.resize(parts.len(), [0; 32])?;
-    digests_of(bytes, parts.as_slice(), digests.as_mut_slice());
-    Ok(Ahead { parts, digests })
+    digests_of(bytes, parts, digests.as_mut_slice());
+    Ok(digests)
 }
 
 /// This part of the bytes, behind which an entry ends with a signature, and the spellings of the units in the entries
@@ -207,9 +221,9 @@ fn parts_from(alloc: Global, bytes: &[u8], first: Part) -> Result<Vec<Part>, Out
     parts.push(first)?;
     let mut at = first.end + SIGNATURE_LENGTH;
     'entries: while parts.len() < MOST {
-        match entry_ahead(bytes, at) {
+        match entry_at(bytes, at) {
             Some(entry) => {
-                if let Some(part) = entry.unit {
+                if let Some(part) = unit_of(bytes, entry) {
                     parts.push(part)?;
                 }
                 at = entry.end;
@@ -220,47 +234,18 @@ fn parts_from(alloc: Global, bytes: &[u8], first: Part) -> Result<Vec<Part>, Out
     Ok(parts)
 }
 
-/// An entry of which all bytes are held.
-#[derive(Drop)]
-struct EntryAhead {
-    /// The spelling of its unit, if it is a unit with a right verdict.
-    unit: Option<Part>,
-    /// The place behind its last byte.
-    end: usize,
-}
-
-/// The entry that begins at this place of the bytes, if they hold the whole of it.
-fn entry_ahead(bytes: &[u8], at: usize) -> Option<EntryAhead>
-    ensures unit { IfSome result (λ entry. IfSome entry.unit (IsWithin (length bytes.now))) }
-    ensures after { IfSome result (λ entry. at < entry.end) }
-    ensures within { IfSome result (λ entry. entry.end ≤ length bytes.now) }
-{
-    let rest = bytes.len().saturating_sub(at);
-    if rest < HEAD_LENGTH {
-        return None;
-    }
-    match head_of(0, &bytes[at..at + HEAD_LENGTH]) {
-        Ok(head) if head.length <= rest - HEAD_LENGTH => {
-            let start = at + HEAD_LENGTH;
-            let end = start + head.length;
-            let unit = if head.verdict {
-                unit_between(bytes, start, end)
-            } else {
-                None
-            };
-            Some(EntryAhead { unit, end })
-        }
-        Ok(_) | Err(_) => None,
-    }
-}
-
-/// The spelling of the unit in the vertex from place `start` to place `end`, if it looks like one.
-fn unit_between(bytes: &[u8], start: usize, end: usize) -> Option<Part>
-    requires order { start ≤ end }
-    requires within { end ≤ length bytes.now }
+/// The spelling of the unit of this entry, if it looks like one with a right verdict.
+fn unit_of(bytes: &[u8], entry: HeldEntry) -> Option<Part>
+    requires order { entry.start ≤ entry.end }
+    requires within { entry.end ≤ length bytes.now }
     ensures { IfSome result (IsWithin (length bytes.now)) }
 {
-    if end - start > SIGNATURE_LENGTH && bytes[start] == UNIT {
+    let HeldEntry {
+        verdict,
+        start,
+        end,
+    } = entry;
+    if verdict && end - start > SIGNATURE_LENGTH && bytes[start] == UNIT {
         Some(unit_part(start, end))
     } else {
         None

@@ -1,10 +1,12 @@
 //! The last unit of each validator, as a log goes on.
 
 ghost use Rattle.std.specs.Prelude.{◌≡◌, Some, None, Ok, set, replicate, IfOk, IfErr, IfSome};
+ghost use Rattle.std.specs.Option.{option_map};
 ghost use Rattle.hw_types.specs.Spelling.{Fits, VertexFits, digest_of};
 ghost use Rattle.hw_codec.specs.Decoded.{IsErrorOf};
 ghost use Rattle.hw_codec.specs.Last.{last_of};
 ghost use Rattle.hw_log.specs.Named.{IsNameOf, NamesUnit};
+ghost use Rattle.hw_log.specs.Spelled.{SpellsIn};
 ghost use Rattle.hw_log.specs.Lasts.{IsVersion, no_lasts, noted_in, noted_name, with_noted, vertex_bytes_in, vertex_in};
 
 use crate::head::FULL;
@@ -59,6 +61,16 @@ impl Model for Noted {
 }
 
 impl Noted {
+    /// The creator of the unit that becomes its last one, if one does.
+    pub(crate) fn creator(&self) -> Option<u32>
+        ensures { result ≡ option_map (λ kept. kept.creator) self.now }
+    {
+        match &self.kept {
+            Some(kept) => Some(kept.creator),
+            None => None,
+        }
+    }
+
     /// The name of the unit that becomes its creator's last one, if one does.
     pub fn name(&self) -> Option<Digest>
         ensures { result ≡ noted_name self.now }
@@ -94,6 +106,11 @@ impl Lasts {
         ensures known { IsVersion result }
     {
         self.version
+    }
+
+    /// Whether it keeps the last unit of this validator.
+    pub(crate) fn keeps(&self, validator: u32) -> bool {
+        (validator as usize) < self.units.len()
     }
 
     /// Where it takes its memory.
@@ -162,6 +179,7 @@ impl Lasts {
     pub(crate) fn decode(&self, bytes: &[u8]) -> Result<Vertex, CodecError>
         ensures value { IfOk result (λ vertex. vertex_in self.now bytes.now ≡ Ok vertex) }
         ensures fits { IfOk result VertexFits }
+        ensures spelled { IfOk result (SpellsIn self.now bytes.now) }
         ensures error { IfErr result (IsErrorOf (vertex_in self.now bytes.now)) }
     {
         if self.version == FULL {

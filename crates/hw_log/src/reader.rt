@@ -2,6 +2,7 @@
 
 ghost use Rattle.std.specs.Prelude.{◌≡◌, ℕ, ◌+◌, ◌≤◌, ◌<◌, ◌^◌, ◌==◌, Some, None, ◌++◌, length, take, drop, IsTrue, IfOk, IfErr, IfSome, OnOk, OnErr, box_value};
 ghost use Rattle.hw_io.specs.Files.{SameFiles, Begins};
+ghost use Rattle.hw_types.specs.declared.unit.Vertex.TheVariants.{Unit};
 ghost use Rattle.hw_types.specs.Limits.{config_fault};
 ghost use Rattle.hw_types.specs.Reading.{config_of};
 ghost use Rattle.hw_types.specs.Spelling.{ConfigFits, VertexFits};
@@ -15,6 +16,7 @@ ghost use Rattle.hw_log.specs.Reader.{Reading, lasts_with, left_of, ahead_of, en
 use crate::ahead::NamingBuffer;
 use crate::entry::{LogEntry, NamedEntry};
 use crate::error::{LogError, error_of_read};
+use crate::following::{Following, NextUnit, ReadUnit};
 use crate::head::{EntryHead, FRONT_LENGTH, Front, HEAD_LENGTH, MAX_LENGTH, front_of, head_of};
 use crate::lasts::Lasts;
 use hw_codec::decode_config;
@@ -34,7 +36,7 @@ pub struct LogReader {
     alloc: Global,
     buffer: NamingBuffer,
     config: Config,
-    lasts: Lasts,
+    lasts: Following,
     place: u64,
 }
 
@@ -95,14 +97,14 @@ impl LogReader {
         ensures said { result ≡ self.now.lasts.version }
         ensures known { IsVersion result }
     {
-        self.lasts.version()
+        self.lasts.lasts().version()
     }
 
     /// The last unit of each validator so far, and an end to the reading.
     pub fn into_lasts(self) -> Lasts
         ensures { result ≡ self.lasts }
     {
-        self.lasts
+        self.lasts.into_lasts()
     }
 
     /// That configuration, and an end to the reading.
@@ -235,7 +237,7 @@ impl LogReader {
         let at = self.place;
         let head = self.head(files)?;
         let read = self.body(files, at, head.length, named && head.verdict)?;
-        let noted = self.keep(&read.vertex)?;
+        let noted = self.keep(&read.vertex, read.name)?;
         let ReadVertex { vertex, name } = read;
         Ok(NamedEntry {
             at,
@@ -297,26 +299,54 @@ impl LogReader {
         ensures appends { F.append_faults files.new ≡ F.append_faults files.old }
     {
         need(&mut self.buffer, files, length, at)?;
-        let bytes = &self.buffer.as_slice()[..length];
-        let SpelledVertex { vertex, unit } = decoded_vertex(&self.lasts, at, bytes, named)?;
-        let name = self.buffer.name_of(unit);
+        let read = self.vertex(at, length, named)?;
         self.buffer.consume(length);
         self.place += length as u64;
+        Ok(read)
+    }
+
+    /// The vertex of the first `count` bytes that are held, in the entry that begins at `at`, with its unit's name if it
+    /// is wanted or known.
+    fn vertex(&mut self, at: u64, count: usize, named: bool) -> Result<ReadVertex, LogError>
+        requires { count ≤ length self.old.held }
+        ensures said { Gives (λ read. box_value read.vertex) result (decoded (BadVertex at) (vertex_in self.old.lasts (take count self.old.held))) }
+        ensures error { IfErr result IsOfBytes }
+        ensures fits { IfOk result (λ read. VertexFits (box_value read.vertex)) }
+        ensures name { IfOk result (λ read. IfSome read.name (IsNameOf (box_value read.vertex))) }
+        ensures same { self.new ≡ self.old }
+    {
+        match self.lasts.next_unit(self.buffer.as_slice(), count) {
+            Some(next) => boxed(self.alloc, next),
+            None => self.decoded(at, count, named),
+        }
+    }
+
+    /// The same, of what wasn't decoded ahead.
+    fn decoded(&mut self, at: u64, count: usize, named: bool) -> Result<ReadVertex, LogError>
+        requires { count ≤ length self.old.held }
+        ensures said { Gives (λ read. box_value read.vertex) result (decoded (BadVertex at) (vertex_in self.old.lasts (take count self.old.held))) }
+        ensures error { IfErr result IsOfBytes }
+        ensures fits { IfOk result (λ read. VertexFits (box_value read.vertex)) }
+        ensures name { IfOk result (λ read. IfSome read.name (IsNameOf (box_value read.vertex))) }
+        ensures same { self.new ≡ self.old }
+    {
+        let bytes = &self.buffer.as_slice()[..count];
+        let SpelledVertex { vertex, unit } = decoded_vertex(self.lasts.lasts(), at, bytes, named)?;
+        let name = self.buffer.name_of(unit);
         Ok(ReadVertex { vertex, name })
     }
 
-    /// Goes behind an entry with this vertex, and answers the name of the unit that becomes its creator's last one.
-    fn keep(&mut self, vertex: &Vertex) -> Result<Option<Digest>, LogError>
-        requires { VertexFits vertex.now }
+    /// Goes behind an entry with this vertex, whose name may be known, and answers the name of the unit that becomes its
+    /// creator's last one.
+    fn keep(&mut self, vertex: &Vertex, name: Option<Digest>) -> Result<Option<Digest>, LogError>
+        requires fits { VertexFits vertex.now }
+        requires name { IfSome name (IsNameOf vertex.now) }
         ensures name { IfOk result (λ name. name ≡ noted_name (noted_in self.old.lasts vertex.now)) }
         ensures kept { OnOk result (self.new ≡ record self.old { lasts = lasts_after self.old.lasts vertex.now }) }
         ensures same { OnErr result (self.new ≡ self.old) }
         ensures error { IfErr result (λ e. e ≡ OutOfMemory) }
     {
-        let noted = self.lasts.prepare(vertex)?;
-        let name = noted.name();
-        self.lasts.note(noted);
-        Ok(name)
+        Ok(self.lasts.keep(vertex, name)?)
     }
 }
 
@@ -358,7 +388,7 @@ fn header<F: Files>(
     need(&mut buffer, files, front.length, FRONT_LENGTH as u64)?;
     let config = checked_config(alloc, &buffer.as_slice()[..front.length])?;
     buffer.consume(front.length);
-    let lasts = Lasts::new(alloc, front.version, config.weights.len() as u32)?;
+    let lasts = Following::new(alloc, front.version, config.weights.len() as u32)?;
     Ok(LogReader {
         alloc,
         buffer,
@@ -447,6 +477,26 @@ fn decoded_config(alloc: Global, bytes: &[u8]) -> Result<Config, LogError>
         Ok(config) => Ok(config),
         Err(CodecError::OutOfMemory) => Err(LogError::OutOfMemory),
         Err(error) => Err(LogError::BadConfig(error)),
+    }
+}
+
+/// The vertex of this unit, and its name.
+fn boxed(alloc: Global, next: NextUnit) -> Result<ReadVertex, LogError>
+    ensures vertex { IfOk result (λ read. box_value read.vertex ≡ Unit next.read.signed) }
+    ensures name { IfOk result (λ read. read.name ≡ Some next.name) }
+    ensures error { IfErr result (λ e. e ≡ OutOfMemory) }
+{
+    let NextUnit { read, name } = next;
+    let ReadUnit {
+        signed,
+        bytes: _bytes,
+    } = read;
+    match Box::new(alloc, Vertex::Unit(signed)) {
+        Ok(vertex) => Ok(ReadVertex {
+            vertex,
+            name: Some(name),
+        }),
+        Err(refused) => Err(let_go(refused)),
     }
 }
 
