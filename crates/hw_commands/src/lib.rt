@@ -24,7 +24,7 @@ mod rewrite;
 mod script;
 mod texts;
 mod words;
-mod work;
+mod working;
 mod workloads;
 
 pub use check::bad_keys;
@@ -41,4 +41,4 @@ pub use laws::{
     certificates_are_answered,
 };
 pub use words::Words;
-pub use work::{APPEND_FAULT_LINE, READ_FAULT_LINE, finish, out_of_memory, work};
+pub use working::{APPEND_FAULT_LINE, READ_FAULT_LINE, finish, out_of_memory, work};

@@ -5,7 +5,7 @@ use Rattle.hw_commands.proofs.CommandLaws.{asked_for}
 use Rattle.hw_commands.proofs.DueLaws.{asked_fails}
 use Rattle.hw_commands.proofs.ShownLaws.{checked_conflict}
 use Rattle.hw_commands.proofs.EraLaws.{era_conflict_told}
-use Rattle.hw_commands.proofs.work.run.Goals as goal
+use Rattle.hw_commands.proofs.working.run.Goals as goal
 
 pub returns-in-Some-Check-clause-conflict : goal.returns-in-Some-Check-clause-conflict
 returns-in-Some-Check-clause-conflict g c = λ tells.

@@ -1,5 +1,5 @@
 use Rattle.hw_commands.proofs.RunLaws.{wrote_prefix, wrote_memory_line, rose_still}
-use Rattle.hw_commands.proofs.work.out_of_memory.Goals as goal
+use Rattle.hw_commands.proofs.working.out_of_memory.Goals as goal
 
 pub returns-clause-line : goal.returns-clause-line
 returns-clause-line g c =

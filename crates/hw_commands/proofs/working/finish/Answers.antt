@@ -1,6 +1,6 @@
 use Rattle.std.proofs.Common.{inr}
 use Rattle.hw_commands.proofs.RunLaws.{prefix_then_line}
-use Rattle.hw_commands.proofs.work.finish.Goals as goal
+use Rattle.hw_commands.proofs.working.finish.Goals as goal
 
 pub returns-in-Err-OutOfMemory : goal.returns-in-Err-OutOfMemory
 returns-in-Err-OutOfMemory g c =

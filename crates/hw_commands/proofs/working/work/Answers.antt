@@ -4,7 +4,7 @@ use Rattle.hw_replay.specs.Fates.{seen}
 use Rattle.hw_commands.specs.Program.{run_of}
 use Rattle.hw_commands.proofs.EndLaws.{finished_files, memory_files, allowed_run, allowed_end, write_failed, append_told, append_untold, finished_shown, four_shows_nothing, five_shows_nothing, seven_shows_nothing}
 use Rattle.hw_commands.proofs.WrittenLaws.{end_consumers, fault_consumers, memory_consumers, line_written, text_written, want_written}
-use Rattle.hw_commands.proofs.work.work.Goals as goal
+use Rattle.hw_commands.proofs.working.work.Goals as goal
 
 -- ---- what it leaves of the files
 
