@@ -15,3 +15,11 @@ pub mod SentLaws
 pub mod StartLaws
 pub mod AttemptLaws
 pub mod SaidLaws
+pub mod PlanLaws
+pub mod QuietLaws
+pub mod MemberLaws
+pub mod BeginLaws
+pub mod ShortLaws
+pub mod TornLaws
+pub mod TakenLaws
+pub mod DrivenLaws

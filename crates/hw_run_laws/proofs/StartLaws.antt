@@ -48,7 +48,7 @@ module _ (n : NodeState) (sound : IsSound n) where
   pub fits : All EntryFits (true_entries n.core.journal)
   fits = entries_fit n.core.journal each_fits
 
-  gives_back : (version : ℕ) → IsVersion version → GivesBack version n.core.config n.core.journal
+  pub gives_back : (version : ℕ) → IsVersion version → GivesBack version n.core.config n.core.journal
   gives_back version known =
       let P : List Vertex → Type 0 = λ j. GivesBack version n.core.config j in
       subst P (sym reached) (log_gives_back version n.core.config sound.kept.reached.deliveries known sound.kept.lawful sound.config (subst (λ (j : List Vertex). All EntryFits (true_entries j)) reached fits))

@@ -3,6 +3,7 @@
 ghost use Rattle.hw_replay.specs.Fates.{Sight};
 ghost use Rattle.hw_run_laws.specs.Calls.{CallsKeepOneLine, AttemptsKeepOneLine, AttemptsSayNoNew, CallsKeepApart, CutLogIsMended};
 ghost use Rattle.hw_run_laws.specs.Complete.{ServesAreComplete, DrivesAreComplete};
+ghost use Rattle.hw_run_laws.specs.Members.{NewNodesAreReady, OneBegins, LivesAreThere, WholeSessionsAreThere, WholeDrivesAreThere, NothingDisturbs, VerticesAreSaid, EndorsementsAreTaken, TornLogsAreThere};
 ghost use Rattle.hw_run_laws.specs.Restart.{ServedIsALife, DrivenIsALife, MetIsALife, ServesIsALife, DrivesIsALife, MeetsIsALife, ServesKeepsLog, DrivesKeepsLog, MeetsKeepsLog, ServesLeavesLog, DrivesLeavesLog, MeetsLeavesLog, MakeLeavesLog, ServedSaysOfLog, DrivenSaysOfLog, MetSaysOfLog, ServesSaysOfLog, DrivesSaysOfLog, MeetsSaysOfLog};
 ghost use Rattle.hw_run_laws.specs.Prefixes.{StoppedReplays, StoppedParts, CutServices, CutTurns, CutHosts, CutCalls};
 
@@ -79,4 +80,23 @@ pub fn cut_calls_leave_a_log()
 /// A log that a call left cut, mended, is the log of a node that goes on.
 pub fn a_cut_log_is_mended()
     ensures { CutLogIsMended }
+{}
+
+/// What these laws speak of is there, so none of them holds for want of a case.
+///
+/// A new node with its log is a beginning, and one is written out. From each beginning there is a life of whatever
+/// calls, in any order: units that are made, sessions and meetings with peers that send nothing, starts, and nodes that
+/// are given up. Each node has a whole session that nothing disturbs, dialled or, where no unit waits, dialling. It says
+/// the vertices of its journal to a peer that asks for them, and takes the endorsement of a peer. Wherever the append of a unit fails, the node may be given up, and
+/// starts again from its log, mended.
+pub fn lives_are_there()
+    ensures begins { NewNodesAreReady }
+    ensures one { OneBegins }
+    ensures lives { LivesAreThere }
+    ensures served { WholeSessionsAreThere }
+    ensures driven { WholeDrivesAreThere }
+    ensures undisturbed { NothingDisturbs }
+    ensures said { VerticesAreSaid }
+    ensures taken { EndorsementsAreTaken }
+    ensures torn { TornLogsAreThere }
 {}

@@ -1,0 +1,174 @@
+-- A peer's vertex that a node takes.
+use Rattle.std.specs.Prelude.{IsSome}
+use Rattle.std.proofs.Common.{◌≡◌, ℕ, ◌+◌, ◌≤◌, Bool, true, false, cond, List, [], ◌∷◌, ◌++◌, length, Option, Some, None, Result, Ok, Err, inl, inr, refl, sym, ap, subst, ◌∙◌, arith, length-append}
+use Rattle.std.proofs.lemmas.List.{append-nil}
+use Rattle.hw_types.specs.declared.unit.Endorsement.{Endorsement}
+use Rattle.hw_types.specs.declared.unit.Vertex.{Vertex}
+use Rattle.hw_types.specs.declared.unit.Vertex.TheVariants as vertex
+use Rattle.hw_types.specs.declared.answers.Frame.{Frame}
+use Rattle.hw_types.specs.declared.answers.Frame.TheVariants as frame
+use Rattle.hw_types.specs.declared.answers.Receipt.{Receipt}
+use Rattle.hw_types.specs.declared.answers.Receipt.TheVariants as receipt
+use Rattle.hw_types.specs.declared.answers.Cause.{Cause}
+use Rattle.hw_types.specs.declared.answers.Cause.TheVariants as cause
+use Rattle.hw_types.specs.Journal.{is_accepted}
+use Rattle.hw_types.specs.Real.{setting_of}
+use Rattle.hw_types.specs.Spelling.{u32_bytes, frame_bytes}
+use Rattle.hw_codec.specs.Ranges.{VertexInRange}
+use Rattle.hw_io.specs.Faults.{raised}
+use Rattle.hw_io.specs.Files.{bytes_of}
+use Rattle.hw_honest.specs.Restart.{AreFair}
+use Rattle.hw_link.specs.declared.end.SessionEnd.TheVariants as end
+use Rattle.hw_link.specs.Frames.{framed, byte_limit}
+use Rattle.hw_link.specs.Talk.{Reaction, Talk, goes_on, ends, said_bytes}
+use Rattle.hw_link.specs.UnderWay.{HasHeard, placed_behind}
+use Rattle.hw_link.proofs.HeardLaws.{reads_frame_by_frame}
+use Rattle.hw_session.specs.Node.{NodeState}
+use Rattle.hw_session.specs.Make.{entry_for, with_entry}
+use Rattle.hw_session.specs.Accept.{given_to, refused_by, taken_by}
+use Rattle.hw_session.specs.Grows.{GrowsBy, entries_for, Gains, Logs}
+use Rattle.hw_session.specs.Restart.{logged_of}
+use Rattle.hw_session.specs.Serving.{wanted_by, is_clash, answer_to_vertex, serve_step, served}
+use Rattle.hw_session.proofs.GrowsLaws.{gains_one, logs_counts}
+use Rattle.hw_session.proofs.ServingLaws.{before_less, plain_serves}
+use Rattle.hw_run_laws.specs.Calls.{Standing, Attempt, serves, IsFairPeer, IsWhole}
+use Rattle.hw_run_laws.specs.Members.{IsTaken, EndorsementsAreTaken}
+use Rattle.hw_run_laws.specs.Restart.{arrivals}
+use Rattle.hw_run_laws.proofs.MemberLaws.{put, put_there, put_others}
+use Rattle.hw_run_laws.proofs.ShortLaws.{hello, heard_hello, read, long, has_second, further_second, second, sent, ends_here}
+
+-- ---- what is left
+
+-- the files behind a vertex that had this answer: its entry goes last in the log where it is accepted
+abbrev files_after : NodeState → Vertex → (List ℕ → Option (List ℕ)) → Bool → List ℕ → Option (List ℕ)
+files_after n v held accepted = cond accepted (put held n.log (bytes_of (held n.log) ++ entry_for n v)) held
+
+module _ (n : NodeState) (v : Vertex) (held : List ℕ → Option (List ℕ)) where
+  abbrev Left : Result Receipt Cause → Type 0
+  Left a = Logs n (taken_by n v a) true held (files_after n v held (is_accepted a))
+
+  logs_entry : Logs n (with_entry n v) true held (files_after n v held true)
+  logs_entry = record {
+    vertices = v ∷ [];
+    gains = gains_one n v;
+    log = λ told. record {
+      holds = ap bytes_of (put_there held n.log (bytes_of (held n.log) ++ entry_for n v)) ∙ ap (λ (bytes : List ℕ). bytes_of (held n.log) ++ bytes) (sym (append-nil (entry_for n v)));
+      stays = λ there. subst (λ (file : Option (List ℕ)). IsSome file) (sym (put_there held n.log (bytes_of (held n.log) ++ entry_for n v))) refl;
+      others = put_others held n.log (bytes_of (held n.log) ++ entry_for n v);
+    };
+  }
+
+  logs_none : (m : NodeState) → Gains n [] m → Logs n m true held held
+  logs_none m gains = logs_counts true n m held held gains (λ told name. refl)
+
+  left_by : (a : Result Receipt Cause) → Left a
+  left_by (Ok (receipt.Admitted k)) = logs_entry
+  left_by (Ok (receipt.Parked k)) = logs_entry
+  left_by (Ok (receipt.Dropped rule)) = logs_entry
+  left_by (Ok receipt.Repeat) = logs_none (record n { repeats = raised n.repeats }) (record { journal = sym (append-nil n.core.journal); lasts = refl; name = refl })
+  left_by (Err cause.BadSignature) = logs_none (refused_by n v cause.BadSignature) (record { journal = sym (append-nil n.core.journal); lasts = refl; name = refl })
+  left_by (Err (cause.Local rule)) = logs_none (refused_by n v (cause.Local rule)) (record { journal = sym (append-nil n.core.journal); lasts = refl; name = refl })
+  left_by (Err (cause.Pair f)) = logs_none (refused_by n v (cause.Pair f)) (record { journal = sym (append-nil n.core.journal); lasts = refl; name = refl })
+  left_by (Err (cause.Clash d)) = logs_none (refused_by n v (cause.Clash d)) (record { journal = sym (append-nil n.core.journal); lasts = refl; name = refl })
+  left_by (Err cause.RecordsFull) = logs_none (refused_by n v cause.RecordsFull) (record { journal = sym (append-nil n.core.journal); lasts = refl; name = refl })
+  left_by (Err cause.ParkFull) = logs_none (refused_by n v cause.ParkFull) (record { journal = sym (append-nil n.core.journal); lasts = refl; name = refl })
+  left_by (Err cause.OutOfMemory) = logs_none (refused_by n v cause.OutOfMemory) (record { journal = sym (append-nil n.core.journal); lasts = refl; name = refl })
+
+-- ---- the session
+
+module _ (me : ℕ) (a : Standing) (e : Endorsement) (range : VertexInRange (vertex.Endorsement e)) where
+  abbrev n : NodeState
+  n = a.node
+
+  abbrev v : Vertex
+  v = vertex.Endorsement e
+
+  abbrev f : Frame
+  f = frame.Vertex v
+
+  some : 1 ≤ length (frame_bytes f)
+  some = omega arith
+
+  few : length (frame_bytes f) ≤ 1000
+  few =
+      let unit = range.0.size in
+      let signature = range.2.size in
+      let front : length (e.unit.0 ++ u32_bytes e.endorser) ≡ length e.unit.0 + length (u32_bytes e.endorser) = length-append e.unit.0 (u32_bytes e.endorser) in
+      let all : length (e.unit.0 ++ u32_bytes e.endorser ++ e.signature.0) ≡ length (e.unit.0 ++ u32_bytes e.endorser) + length e.signature.0 = length-append (e.unit.0 ++ u32_bytes e.endorser) e.signature.0 in
+      omega (arith, unit, signature, front, all)
+
+  abbrev bytes : List ℕ
+  bytes = read n f range tt some few
+
+  abbrev given : Result Receipt Cause
+  given = given_to n v
+
+  abbrev m : NodeState
+  m = taken_by n v given
+
+  abbrev held : List ℕ → Option (List ℕ)
+  held = files_after n v a.held (is_accepted given)
+
+  logs : Logs n m true a.held held
+  logs = left_by n v a.held given
+
+  fair : IsFairPeer me n bytes
+  fair = subst (λ (vs : List Vertex). AreFair (setting_of n.core.config) me (logged_of n) (arrivals n vs)) (sym (sent n f range tt some few)) (λ accepted u never own. absurd never, tt)
+
+  abbrev Is : Type 0
+  Is = IsTaken me a v
+
+  short : length bytes ≤ 1041
+  short = long n f range tt some few
+
+  -- the session goes on, and the peer hangs up
+  goes : (says : List Frame) → serve_step n (placed_behind (framed (hello n)) f) ≡ goes_on m says → Is
+  goes says is =
+      let size = short in
+      let said = [] ∷ (hello n ∷ []) ∷ says ∷ [] in
+      let heard = subst (λ (r : Reaction NodeState). HasHeard [] serve_step n bytes ([] ∷ (hello n ∷ []) ∷ r.says ∷ []) r.state) is
+      ((reads_frame_by_frame NodeState).leads_on serve_step [] n (framed (hello n)) ([] ∷ (hello n ∷ []) ∷ []) n (framed f) f (heard_hello n) (has_second n f range tt some few) (ap (λ (r : Reaction NodeState). r.end) is)) in
+      let whole : served n bytes ≡ record { state = m; said = said; end = end.EndOfInput } =
+      ap (served n) (sym (append-nil bytes))
+      ∙ (reads_frame_by_frame NodeState).no_frame_ends serve_step [] n bytes said m [] end.EndOfInput heard (ends_here (length bytes) (omega (arith, size)))
+      (subst (λ (b : List ℕ). length b ≤ byte_limit) (sym (append-nil bytes)) (omega (arith, size))) in
+      record {
+        next = record { node = m; held = held };
+        attempt = serves bytes (said_bytes said) 0 (raised 0) end.EndOfInput
+            (plain_serves n m true a.held held bytes (said_bytes said) said 0 (raised 0) end.EndOfInput end.EndOfInput (omega (arith, size)) whole tt (inl refl) refl (further_second n f range tt some few) refl (before_less said) logs) fair;
+        whole = tt;
+        takes = refl;
+      }
+
+  -- or it ends by a clash
+  clashes : serve_step n (placed_behind (framed (hello n)) f) ≡ ends m [] end.Clash → Is
+  clashes is =
+      let size = short in
+      let said = [] ∷ (hello n ∷ []) ∷ [] ∷ [] in
+      let over = (reads_frame_by_frame NodeState).frame_ends serve_step [] n (framed (hello n)) ([] ∷ (hello n ∷ []) ∷ []) n (framed f) f end.Clash (heard_hello n) (has_second n f range tt some few)
+      (ap (λ (r : Reaction NodeState). r.end) is) [] (subst (λ (part : List ℕ). length (framed (hello n) ++ part) ≤ byte_limit) (sym (append-nil (framed f))) (omega (arith, size))) in
+      let whole : served n bytes ≡ record { state = m; said = said; end = end.Clash } =
+      ap (λ (part : List ℕ). served n (framed (hello n) ++ part)) (sym (append-nil (framed f)))
+      ∙ over
+      ∙ ap (λ (r : Reaction NodeState). record { state = r.state; said = [] ∷ (hello n ∷ []) ∷ r.says ∷ []; end = end.Clash }) is in
+      record {
+        next = record { node = m; held = held };
+        attempt = serves bytes (said_bytes said) 0 0 end.Clash
+            (plain_serves n m true a.held held bytes (said_bytes said) said 0 0 end.Clash end.Clash (omega (arith, size)) whole tt (inl refl) tt (further_second n f range tt some few) refl (before_less said) logs) fair;
+        whole = tt;
+        takes = refl;
+      }
+
+  by_answer : (x : Result Receipt Cause) → serve_step n (placed_behind (framed (hello n)) f) ≡ answer_to_vertex m v x → Is
+  by_answer (Ok r) is = goes (frame.Want (wanted_by m.core r v) ∷ []) is
+  by_answer (Err c) is = go (is_clash c) is
+    where
+      go : (b : Bool) → serve_step n (placed_behind (framed (hello n)) f) ≡ cond b (ends m [] end.Clash) (goes_on m (frame.Want [] ∷ [])) → Is
+      go true same = clashes same
+      go false same = goes (frame.Want [] ∷ []) same
+
+  is_taken : Is
+  is_taken = by_answer given (second n f range tt some few)
+
+pub endorsements_taken : EndorsementsAreTaken
+endorsements_taken = is_taken

@@ -1,0 +1,142 @@
+-- A unit whose append fails, and a start from the log mended.
+use Rattle.std.specs.Prelude.{IsSome}
+use Rattle.std.proofs.Common.{◌≡◌, ℕ, ◌<◌, true, List, [], ◌∷◌, ◌++◌, length, take, Option, Some, None, Result, Ok, Err, inl, inr, refl, sym, ap, subst, ◌∙◌}
+use Rattle.hw_types.specs.declared.unit.Vertex.{Vertex}
+use Rattle.hw_types.specs.declared.config.Config.{Config}
+use Rattle.hw_types.specs.declared.answers.Plan.{Plan}
+use Rattle.hw_types.specs.Spelling.{VertexFits}
+use Rattle.hw_io.specs.Files.{bytes_of, Appended}
+use Rattle.hw_codec.specs.Ranges.{VertexInRange}
+use Rattle.hw_log.specs.Lasts.{LastUnits}
+use Rattle.hw_replay.specs.Replay.{replay_of}
+use Rattle.hw_replay.specs.Ends.{lasts_of_file}
+use Rattle.hw_session.specs.declared.fault.MakeFault.{MakeFault}
+use Rattle.hw_session.specs.declared.fault.MakeFault.TheVariants as fault
+use Rattle.hw_session.specs.Node.{NodeState}
+use Rattle.hw_session.specs.Make.{planned_by, own_vertex, entry_for, with_vertex, with_entry, IsToMake}
+use Rattle.hw_session.specs.Restart.{journal_log, journal_lasts}
+use Rattle.hw_session.proofs.MakeLaws.{own_accepted}
+use Rattle.hw_run_laws.specs.Calls.{IsSound, Standing, Attempt, makes, StartsAgain, IsReady, MendsTo}
+use Rattle.hw_run_laws.specs.Restart.{HasCutLog}
+use Rattle.hw_run_laws.specs.Members.{making, MayBeDone, IsTorn, TornLogsAreThere}
+use Rattle.hw_run_laws.proofs.MemberLaws.{put, put_there, put_others, is_planned, fits, in_range, made_sound}
+use Rattle.hw_run_laws.proofs.MendLaws.{cut_mended}
+use Rattle.hw_run_laws.proofs.StartLaws.{gives_back, same_some}
+
+-- an append that fails behind so many bytes
+put_cut : {T E : Type 0} (held : List ℕ → Option (List ℕ)) (name whole bytes : List ℕ) (count : ℕ) (e : E) → held name ≡ Some whole → Appended {T = T} {E = E} held (put held name (whole ++ take count bytes)) name bytes (Err e)
+put_cut held name whole bytes count e is = record {
+  whole = tt;
+  cut = (count, ap bytes_of (put_there held name (whole ++ take count bytes)) ∙ ap (λ (file : Option (List ℕ)). bytes_of file ++ take count bytes) (sym is));
+  stays = λ there. subst (λ (file : Option (List ℕ)). IsSome file) (sym (put_there held name (whole ++ take count bytes))) refl;
+  others = put_others held name (whole ++ take count bytes);
+}
+
+-- a standing behind a start from a torn log
+record Mended (c : Standing) : Type 0 where
+  next : Standing
+  again : StartsAgain c next
+  sound : IsSound next.node
+
+-- it starts as the node to whose log the file mends
+module _ (c : Standing) (k : NodeState) (sound : IsSound k) (config : k.core.config ≡ c.node.core.config) (keys : k.keys ≡ c.node.keys) (mends : MendsTo k (c.held c.node.log)) where
+  abbrev text : List ℕ
+  text = journal_log mends.log.version k.core.config k.core.journal
+
+  abbrev started : Standing
+  started = record {
+    node = record {
+      core = k.core;
+      keys = k.keys;
+      log = c.node.log;
+      lasts = journal_lasts mends.log.version k.core.config k.core.journal;
+      refused = 0;
+      repeats = 0;
+      limited = 0;
+      clash = None;
+    };
+    held = put c.held c.node.log mends.mended.bytes;
+  }
+
+  bytes_are : mends.mended.bytes ≡ text
+  bytes_are = same_some (Some mends.mended.bytes) mends.mended.bytes text refl mends.log.holds
+
+  starts_mended : Mended c
+  starts_mended =
+      let back = gives_back k sound mends.log.version mends.log.known in
+      record {
+        next = started;
+        again = record {
+          bytes = mends.mended.bytes;
+          from = inr (mends.mended, mends.is, refl);
+          there = put_there c.held c.node.log mends.mended.bytes;
+          on = record {
+            taken = ap (λ (wanted : Config). replay_of (Some wanted) mends.mended.bytes) (sym config) ∙ ap (λ (bytes : List ℕ). replay_of (Some k.core.config) bytes) bytes_are ∙ back.taken;
+            lasts = ap (λ (bytes : List ℕ). lasts_of_file (Some bytes)) bytes_are ∙ back.lasts;
+            config_is = config;
+            keys_are = keys;
+            log_is = refl;
+            limited = refl;
+            clash = refl;
+          };
+        };
+        sound = record { kept = record { lawful = sound.kept.lawful; keys = sound.kept.keys; reached = sound.kept.reached }; config = sound.config; vertices = sound.vertices };
+      }
+
+module _ (me : ℕ) (a : Standing) (now : ℕ) (value : List ℕ) (p : Plan) (count : ℕ) (validator : me < length a.node.core.config.weights) (sound : IsSound a.node) (ready : IsReady me a) (may : MayBeDone (making now value))
+    (made : IsToMake a.node (planned_by a.node me now value) p) where
+  abbrev own : Vertex
+  own = own_vertex a.node p
+
+  abbrev whole : List ℕ
+  whole = journal_log ready.log.version a.node.core.config a.node.core.journal
+
+  abbrev torn : Standing
+  torn = record { node = with_vertex a.node own; held = put a.held a.node.log (whole ++ take count (entry_for a.node own)) }
+
+  there : torn.held torn.node.log ≡ Some (whole ++ take count (entry_for a.node own))
+  there = put_there a.held a.node.log (whole ++ take count (entry_for a.node own))
+
+  abbrev cut : HasCutLog a.node own (torn.held torn.node.log)
+  cut = record {
+    whole = whole;
+    count = count;
+    has = record { version = ready.log.version; known = ready.log.known; holds = refl; lasts = ready.log.lasts };
+    accepted = own_accepted a.node p sound.kept.reached (me, now, value, is_planned me a validator sound ready now value may p made.is) made.apart made.room;
+    holds = there;
+  }
+
+  range : VertexInRange own
+  range = in_range me a validator sound ready now value may p made.is made.room
+
+  own_fits : VertexFits own
+  own_fits = fits me a validator sound ready now value may p made.is
+
+  entry_sound : IsSound (with_entry a.node own)
+  entry_sound = made_sound me a validator sound ready now value may p made
+
+  torn_sound : IsSound torn.node
+  torn_sound = record { kept = record { lawful = sound.kept.lawful; keys = sound.kept.keys; reached = entry_sound.kept.reached }; config = sound.config; vertices = entry_sound.vertices }
+
+  mended : Mended torn
+  mended = elim (cut_mended a.node own (torn.held torn.node.log) sound cut range own_fits) [
+    | inl mends ↦ starts_mended torn a.node sound refl refl mends
+    | inr mends ↦ starts_mended torn (with_entry a.node own) entry_sound refl refl mends
+  ]
+
+  is_torn : IsTorn me a own count
+  is_torn = record {
+    torn = torn;
+    attempt = makes now value (Err fault.AppendFault) (p, made, refl) (p, made.is, put_cut {T = Plan} {E = MakeFault} a.held a.node.log whole (entry_for a.node own) count fault.AppendFault ready.log.holds);
+    sound = torn_sound;
+    cut = cut;
+    place = refl;
+    range = range;
+    fits = own_fits;
+    next = mended.next;
+    again = mended.again;
+    goes = mended.sound;
+  }
+
+pub logs_torn : TornLogsAreThere
+logs_torn = is_torn
