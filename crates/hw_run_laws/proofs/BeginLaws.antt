@@ -1,8 +1,6 @@
 -- A new node, and one that there is.
 use Rattle.std.proofs.Common.{◌≡◌, ℕ, ◌<◌, ◌^◌, List, [], ◌∷◌, Option, Some, None, refl, sym, subst, arith}
 use Rattle.std.proofs.lemmas.List.Elements.{All-nil, All-from_recursion}
-use Rattle.hw_types.specs.declared.unit.Vertex.{Vertex}
-use Rattle.hw_types.specs.declared.config.Config.{Config}
 use Rattle.hw_types.specs.Limits.{config_fault}
 use Rattle.hw_types.specs.Real.{setting_of}
 use Rattle.hw_codec.specs.Ranges.{ConfigInRange, VertexInRange}
@@ -13,7 +11,7 @@ use Rattle.hw_session.specs.Node.{new_node}
 use Rattle.hw_session.specs.Make.{planned_by}
 use Rattle.hw_session.specs.Restart.{HasLog}
 use Rattle.hw_session.proofs.RestartLaws.{new_node_has_log}
-use Rattle.hw_run_laws.specs.Calls.{IsSound, Standing, IsReady}
+use Rattle.hw_run_laws.specs.Calls.{IsSound, IsReady}
 use Rattle.hw_run_laws.specs.Members.{NewNodesAreReady, alone, first_standing, first_block, OneBegins}
 
 pub new_ready : NewNodesAreReady

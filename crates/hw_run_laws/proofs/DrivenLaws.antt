@@ -1,31 +1,27 @@
 -- A whole session that a node drives.
-use Rattle.std.specs.Prelude.{◌==◌, ◌-◌, min}
-use Rattle.std.proofs.Common.{◌≡◌, ℕ, ◌<◌, ◌≤◌, ◌^◌, Bool, true, cond, List, [], ◌∷◌, ◌++◌, length, take, Option, Some, None, inl, refl, sym, ap, subst, ◌∙◌, arith, length-append}
+use Rattle.std.specs.Prelude.{◌-◌, min}
+use Rattle.std.proofs.Common.{◌≡◌, ℕ, ◌<◌, ◌≤◌, ◌^◌, Bool, true, cond, List, [], ◌∷◌, ◌++◌, length, take, Option, inl, refl, sym, ap, subst, ◌∙◌, arith, length-append}
 use Rattle.std.proofs.lemmas.Bool.{eq-eqb}
 use Rattle.std.proofs.lemmas.List.{append-nil}
 use Rattle.hw_types.specs.declared.unit.Need.{Need}
 use Rattle.hw_types.specs.declared.answers.Frame.{Frame}
 use Rattle.hw_types.specs.declared.answers.Frame.TheVariants as frame
-use Rattle.hw_types.specs.Spelling.{u32_bytes, frame_bytes, instance_of}
+use Rattle.hw_types.specs.Spelling.{instance_of}
 use Rattle.hw_types.proofs.SettledLaws.{digest_self}
-use Rattle.hw_io.specs.Faults.{raised}
 use Rattle.hw_core.specs.Readers.{unmet_in}
-use Rattle.hw_link.specs.declared.end.SessionEnd.{SessionEnd}
 use Rattle.hw_link.specs.declared.end.SessionEnd.TheVariants as end
 use Rattle.hw_link.specs.Frames.{framed, rest_at, byte_limit}
 use Rattle.hw_link.specs.Talk.{Reaction, Talk, goes_on, ends, said_bytes, before_last}
 use Rattle.hw_link.specs.UnderWay.{HasFrame, HasHeard, placed_behind}
 use Rattle.hw_link.proofs.HeardLaws.{reads_frame_by_frame}
 use Rattle.hw_session.specs.declared.stage.PeerMark.{PeerMark}
-use Rattle.hw_session.specs.declared.stage.Stage.TheVariants as stage
 use Rattle.hw_session.specs.Node.{NodeState}
-use Rattle.hw_session.specs.Driving.{Driver, waiting, want_some, want, pull, push, with_pulled, leave, drive_step, hello as first_word, greeting, driven}
+use Rattle.hw_session.specs.Driving.{Driver, want_some, want, pull, push, with_pulled, leave, drive_step, hello as first_word, greeting, driven}
 use Rattle.hw_session.specs.Sessions.{IsCutEnd, IsReadNoFurther}
 use Rattle.hw_session.proofs.FurtherLaws.{NoneBehind, frame_alone, part_cut, none_further, no_further}
 use Rattle.hw_session.proofs.GrowsLaws.{logs_nothing}
 use Rattle.hw_session.proofs.ServingLaws.{before_less, no_frame_so, cut_so_far}
 use Rattle.hw_run_laws.specs.Members.{told_all, driven_session, IsWholeDriven, WholeDrivesAreThere}
-use Rattle.hw_run_laws.proofs.PlanLaws.{instance_in_range}
 use Rattle.hw_run_laws.proofs.ShortLaws.{has_framed, hello, first_long, has_hello}
 
 -- ---- frame by frame
@@ -83,10 +79,10 @@ module _ (n : NodeState) (pulled : ℕ) (range : pulled < 2 ^ 64) (met : unmet_i
 
   -- the three places where it stands behind Hello
   abbrev at_pulling : Driver
-  at_pulling = waiting (greeting n mark) (stage.Pulling 64)
+  at_pulling = (pull (greeting n mark) 64).state
 
   abbrev at_leaving : Driver
-  at_leaving = waiting (greeting n mark) stage.Leaving
+  at_leaving = (leave (greeting n mark)).state
 
   greets : drive_step (greeting n mark) (placed_behind [] (hello n)) ≡ goes_on at_pulling (have ∷ [])
   unfolding drive_step

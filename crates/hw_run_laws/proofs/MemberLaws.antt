@@ -1,11 +1,10 @@
 -- A life of whatever calls, one after the other.
 use Rattle.std.specs.Prelude.{IsSome, bytes_eq}
-use Rattle.std.proofs.Common.{◌≡◌, ◌≢◌, ◌⊎◌, ℕ, ◌<◌, ◌≤◌, ◌^◌, Bool, true, false, cond, List, [], ◌∷◌, ◌++◌, length, Option, Some, None, Result, Ok, Err, inl, inr, refl, sym, ap, subst, ◌∙◌, arith}
+use Rattle.std.proofs.Common.{◌≡◌, ◌≢◌, ◌⊎◌, ℕ, ◌<◌, Bool, true, false, cond, List, [], ◌∷◌, ◌++◌, length, Option, Some, None, Ok, Err, inl, inr, refl, sym, ap, subst, arith}
 use Rattle.std.proofs.lemmas.Bool.{cases_lt}
 use lib.Pointwise.{bytes_decides}
 use Rattle.hw_types.specs.declared.unit.Signature.{Signature}
 use Rattle.hw_types.specs.declared.unit.Vertex.{Vertex}
-use Rattle.hw_types.specs.declared.config.Config.{Config}
 use Rattle.hw_types.specs.declared.answers.Plan.{Plan}
 use Rattle.hw_types.specs.Below.{Among}
 use Rattle.hw_types.specs.Journal.{Setting}
@@ -20,17 +19,15 @@ use Rattle.hw_honest.specs.Plans.{IsPlanned, HasNamesake}
 use Rattle.hw_honest.proofs.NewLaws.{plan_is_answered}
 use Rattle.hw_link.specs.declared.end.SessionEnd.TheVariants as end
 use Rattle.hw_link.specs.Talk.{said_bytes}
-use Rattle.hw_session.specs.declared.stage.PeerMark.{PeerMark}
 use Rattle.hw_session.specs.declared.fault.MakeFault.{MakeFault}
 use Rattle.hw_session.specs.declared.fault.MakeFault.TheVariants as fault
 use Rattle.hw_session.specs.Node.{NodeState}
-use Rattle.hw_session.specs.Make.{planned_by, own_unit, own_vertex, entry_for, with_entry, IsNamesake, IsToMake, IsTooMany, IsNothing}
+use Rattle.hw_session.specs.Make.{planned_by, own_vertex, entry_for, with_entry, IsNamesake, IsToMake, IsTooMany, IsNothing}
 use Rattle.hw_session.specs.Restart.{journal_log, journal_lasts}
 use Rattle.hw_session.specs.Driving.{hello}
 use Rattle.hw_meeting_node.specs.declared.end.MeetEnd.TheVariants as met_end
-use Rattle.hw_meeting_node.specs.declared.meeter.Side.{Side}
-use Rattle.hw_run_laws.specs.Calls.{IsSound, Standing, Attempt, makes, serves, drives, meets, IsWhole, StartsAgain, Call, goes_on, starts, gives_up, AreCalls, IsReady}
-use Rattle.hw_run_laws.specs.Members.{Deed, making, serving, driving, meeting, Turn, does, stops, drops, deed_of, turn_of, turns_of, MayBeDone, MayTurn, MayAllTurn, LivesAreThere}
+use Rattle.hw_run_laws.specs.Calls.{IsSound, Standing, Attempt, makes, serves, drives, meets, IsWhole, StartsAgain, Call, goes_on, starts, gives_up, IsReady}
+use Rattle.hw_run_laws.specs.Members.{Deed, making, serving, driving, meeting, Turn, does, stops, drops, deed_of, turn_of, MayBeDone, MayTurn, LivesAreThere}
 use Rattle.hw_run_laws.proofs.AttemptLaws.{make_lives, lives_soundly}
 use Rattle.hw_run_laws.proofs.CallLaws.{call_ready, call_validator}
 use Rattle.hw_run_laws.proofs.PlanLaws.{hash_in_range, unit_fits, unit_in_range}

@@ -1,7 +1,6 @@
 -- Sessions and meetings with a peer that sends nothing.
-use Rattle.std.proofs.Common.{◌≡◌, ℕ, ◌≤◌, Bool, true, false, List, [], ◌∷◌, ◌++◌, length, Option, Some, None, Result, Ok, Err, inl, refl, sym, ap, subst, ◌∙◌, arith}
-use Rattle.std.proofs.lemmas.List.{take_all, append-nil}
-use Rattle.hw_types.specs.declared.answers.Frame.{Frame}
+use Rattle.std.proofs.Common.{◌≡◌, ℕ, ◌≤◌, Bool, true, false, List, [], ◌∷◌, length, Option, Some, inl, refl, sym, ap, subst, arith}
+use Rattle.std.proofs.lemmas.List.{take_all}
 use Rattle.hw_types.specs.declared.unit.Vertex.{Vertex}
 use Rattle.hw_types.specs.Reading.{frame_of}
 use Rattle.hw_types.specs.Real.{CoreState, setting_of}
@@ -9,7 +8,7 @@ use Rattle.hw_io.specs.Faults.{raised}
 use Rattle.hw_keys.specs.Signed.{verdict_of}
 use Rattle.hw_honest.specs.Restart.{AreFair}
 use Rattle.hw_link.specs.declared.end.SessionEnd.TheVariants as end
-use Rattle.hw_link.specs.Frames.{Frames, rest_at, cut_end, frame_here, frames_by, frames_in, frames_from, frames_of, byte_limit}
+use Rattle.hw_link.specs.Frames.{Frames, rest_at, frame_here, frames_by, frames_in, frames_from, frames_of, byte_limit}
 use Rattle.hw_link.specs.Talk.{Talk, said_bytes, before_last}
 use Rattle.hw_link.specs.UnderWay.{EndsIn}
 use Rattle.hw_link.proofs.FrameLaws.{frame_by-none}
@@ -36,7 +35,7 @@ use Rattle.hw_meeting_node.specs.Taking.{TakingMeeting, taking_step, taking_noth
 use Rattle.hw_meeting_node.proofs.FurtherLaws.{none_further as none_met_further}
 use Rattle.hw_meeting_node.proofs.TalkLaws.{begins, heard_here}
 use Rattle.hw_service.specs.Scene.{DoorSeen, door_seen}
-use Rattle.hw_service.specs.Meets.{after_all, after_meeting, NodeMeets}
+use Rattle.hw_service.specs.Meets.{after_all, NodeMeets}
 use Rattle.hw_run_laws.specs.Calls.{Standing, at_door, IsFairPeer, IsFairMet}
 use Rattle.hw_run_laws.specs.Restart.{arrivals, vertices_among}
 
@@ -53,7 +52,7 @@ no_frames = ap (λ (bytes : List ℕ). frames_from (rest_at 0 bytes)) (take_all 
 pub fair_none : (me : ℕ) (n : NodeState) → IsFairPeer me n []
 fair_none me n = subst (λ (frames : Frames). AreFair (setting_of n.core.config) me (logged_of n) (arrivals n (vertices_among frames.given))) (sym no_frames) tt
 
-stays : (n : NodeState) (held : List ℕ → Option (List ℕ)) → Logs n n true held held
+pub stays : (n : NodeState) (held : List ℕ → Option (List ℕ)) → Logs n n true held held
 stays n held = logs_nothing true n held held (λ told name. refl)
 
 -- ---- a node that serves
@@ -101,13 +100,13 @@ module _ (side : Side) (c : CoreState) (judge : Vertex → Bool) where
   meets_quietly : met side c judge [] ≡ record { state = begun c; said = first_word side c; end = end.EndOfInput }
   meets_quietly = heard_here (length c.config.weights) (meet_step side judge) (first_word side c) (begun c) [] (first_word side c) (begun c) (begins (length c.config.weights) (meet_step side judge) (first_word side c) (begun c)) (omega arith)
 
-  none_taken : taken_in side c judge [] ≡ []
+  pub none_taken : taken_in side c judge [] ≡ []
   unfolding taken_in
   none_taken = ap (λ (t : MetTalk TakingMeeting). t.state.taken)
       (heard_here (length c.config.weights) (taking_step side judge) (first_word side c) (taking_nothing c) [] (first_word side c) (taking_nothing c)
       (begins (length c.config.weights) (taking_step side judge) (first_word side c) (taking_nothing c)) (omega arith))
 
-  quiet_talk : (ends : ℕ) → Meets side c judge [] (sent_bytes (first_word side c)) c ends (raised ends) met_end.EndOfInput
+  pub quiet_talk : (ends : ℕ) → Meets side c judge [] (sent_bytes (first_word side c)) c ends (raised ends) met_end.EndOfInput
   quiet_talk ends = record {
     within = omega arith;
     ended = inl (ap end_of (sym meets_quietly));

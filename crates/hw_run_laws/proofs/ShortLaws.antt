@@ -1,7 +1,7 @@
 -- Sessions with a peer that sends a few frames.
-use Rattle.std.specs.Prelude.{IsTrue, nat_le, ◌==◌, ◌&&◌, map}
+use Rattle.std.specs.Prelude.{nat_le, ◌==◌, map}
 use Rattle.std.specs.Int.{w32, from_be_bytes}
-use Rattle.std.proofs.Common.{◌≡◌, ◌⊎◌, ℕ, ◌+◌, ◌<◌, ◌≤◌, ◌^◌, Bool, true, false, cond, List, [], ◌∷◌, ◌++◌, length, take, Option, Some, None, Result, Ok, Err, inl, inr, refl, sym, ap, subst, ◌∙◌, arith, length-append, eqb-true}
+use Rattle.std.proofs.Common.{◌≡◌, ℕ, ◌+◌, ◌<◌, ◌≤◌, ◌^◌, Bool, true, false, cond, List, [], ◌∷◌, ◌++◌, length, Option, Result, Ok, Err, inl, inr, refl, sym, ap, subst, ◌∙◌, arith, length-append, eqb-true}
 use Rattle.std.proofs.lemmas.Bool.{le-leb, lt-leb}
 use Rattle.std.proofs.lemmas.List.{take_all, append-nil}
 use Rattle.std.proofs.lemmas.Nat.{from_be_bytes-to_be_bytes_4}
@@ -9,7 +9,6 @@ use Rattle.hw_types.specs.declared.unit.Vertex.{Vertex}
 use Rattle.hw_types.specs.declared.answers.Frame.{Frame}
 use Rattle.hw_types.specs.declared.answers.Frame.TheVariants as frame
 use Rattle.hw_types.specs.Below.{Among}
-use Rattle.hw_types.specs.Graph.{digest_eq}
 use Rattle.hw_types.specs.Limits.{is_within}
 use Rattle.hw_types.specs.Reading.{Rest, frame_of}
 use Rattle.hw_types.specs.Real.{setting_of}
@@ -24,8 +23,8 @@ use Rattle.hw_io.specs.Faults.{raised}
 use Rattle.hw_honest.specs.Restart.{AreFair}
 use Rattle.hw_link.specs.declared.end.SessionEnd.{SessionEnd}
 use Rattle.hw_link.specs.declared.end.SessionEnd.TheVariants as end
-use Rattle.hw_link.specs.Frames.{Placed, Frames, framed, rest_at, cut_end, frame_here, with_next, frames_by, frames_in, frames_from, frames_of, byte_limit}
-use Rattle.hw_link.specs.Talk.{Reaction, Talk, goes_on, ends, said_bytes}
+use Rattle.hw_link.specs.Frames.{Placed, Frames, framed, rest_at, frame_here, with_next, frames_by, frames_in, frames_from, frames_of, byte_limit}
+use Rattle.hw_link.specs.Talk.{Reaction, Talk, goes_on, ends, said_bytes, before_last}
 use Rattle.hw_link.specs.UnderWay.{HasFrame, EndsIn, HasHeard, placed_behind}
 use Rattle.hw_link.proofs.FrameLaws.{frame_by-none, frames_next}
 use Rattle.hw_link.proofs.FrameReadLaws.{frame_is_read}
@@ -33,11 +32,11 @@ use Rattle.hw_link.proofs.HeardLaws.{reads_frame_by_frame}
 use Rattle.hw_session.specs.Node.{NodeState}
 use Rattle.hw_session.specs.Restart.{logged_of}
 use Rattle.hw_session.specs.Serving.{part_from, answer_to_have, serve_first, serve_frame, serve_step, served}
-use Rattle.hw_session.specs.Sessions.{IsCutEnd, IsReadNoFurther, Serves}
-use Rattle.hw_session.proofs.FurtherLaws.{NoneBehind, frame_alone, part_cut, none_further, no_further}
+use Rattle.hw_session.specs.Sessions.{IsEndOf, IsCutEnd, IsReadNoFurther, Leaves, Serves}
+use Rattle.hw_session.proofs.FurtherLaws.{NoneBehind, frame_alone, part_cut, none_further, no_further, stops_so}
 use Rattle.hw_session.proofs.GrowsLaws.{logs_nothing}
-use Rattle.hw_session.proofs.ServingLaws.{before_less, no_frame_so, cut_so_far, plain_serves}
-use Rattle.hw_run_laws.specs.Calls.{Standing, Attempt, serves, IsFairPeer}
+use Rattle.hw_session.proofs.ServingLaws.{before_less, no_frame_so, cut_so_far, IsPlain, all_written, is_answered}
+use Rattle.hw_run_laws.specs.Calls.{serves, IsFairPeer}
 use Rattle.hw_run_laws.specs.Members.{short_session, WholeSessionsAreThere, NothingDisturbs, VerticesAreSaid}
 use Rattle.hw_run_laws.specs.Restart.{vertices_among, arrivals}
 use Rattle.hw_run_laws.proofs.PlanLaws.{instance_in_range}
@@ -68,6 +67,20 @@ ends_here k less = frame_by-none frame_of (rest_at k []) refl ∙ ap (λ (b : Bo
 none_left : (k : ℕ) → (frames_from (rest_at k [])).given ≡ []
 unfolding frames_in frames_by
 none_left k = refl
+
+-- ---- a session that came to this
+
+pub serves_so : (n m : NodeState) (held_old held_new : List ℕ → Option (List ℕ)) (read : List ℕ) (said : List (List Frame)) (ends : ℕ) (e : SessionEnd) → served n read ≡ record { state = m; said = said; end = e } → IsPlain e → length read ≤ byte_limit
+    → IsEndOf n read 0 ends e → IsReadNoFurther (λ (bytes : List ℕ). (served n bytes).end) read → Leaves e n read (said_bytes said) m true held_old held_new → Serves n read (said_bytes said) m true held_old held_new 0 ends e
+serves_so n m held_old held_new read said ends e whole plain few counted further left = record {
+  within = few;
+  ended = inl (ap (λ (t : Talk NodeState). t.end) (sym whole));
+  end_counted = counted;
+  no_further = stops_so e (λ (bytes : List ℕ). (served n bytes).end) read further;
+  wrote = all_written e (served n read).said (said_bytes said) plain (ap (λ (t : Talk NodeState). said_bytes t.said) (sym whole));
+  answered = is_answered e (served n read).said (said_bytes said) (subst (λ (t : Talk NodeState). length (said_bytes (before_last t.said)) ≤ length (said_bytes said)) (sym whole) (before_less said));
+  left = left;
+}
 
 -- ---- a node that serves
 
@@ -177,9 +190,8 @@ whole_sessions n held =
     let size = long n frame.Done tt tt (omega arith) (omega arith) in
     record {
       written = said_bytes said;
-      serves =
-          plain_serves n n true held held (short_session n) (said_bytes said) said 0 0 end.Done end.Done (omega (arith, size)) (done_whole n) tt (inl refl) tt
-          (further_second n frame.Done tt tt (omega arith) (omega arith)) refl (before_less said) (logs_nothing true n held held (λ told name. refl));
+      serves = serves_so n n held held (short_session n) said 0 end.Done (done_whole n) tt (omega (arith, size)) tt (further_second n frame.Done tt tt (omega arith) (omega arith))
+          (ap (λ (t : Talk NodeState). t.state) (sym (done_whole n)), logs_nothing true n held held (λ told name. refl));
       ended = ap (λ (t : Talk NodeState). t.end) (done_whole n);
     }
 
@@ -237,8 +249,8 @@ module _ (n : NodeState) (place : ℕ) (range : place < 2 ^ 64) where
   serves_asked : (held : List ℕ → Option (List ℕ)) → Serves n asked (said_bytes asked_said) n true held held 0 (raised 0) end.EndOfInput
   serves_asked held =
       let size = asked_long in
-      plain_serves n n true held held asked (said_bytes asked_said) asked_said 0 (raised 0) end.EndOfInput end.EndOfInput (omega (arith, size)) asked_whole tt (inl refl) refl
-      (further_second n have range tt (omega arith) (omega arith)) refl (before_less asked_said) (logs_nothing true n held held (λ told name. refl))
+      serves_so n n held held asked asked_said (raised 0) end.EndOfInput asked_whole tt (omega (arith, size)) refl (further_second n have range tt (omega arith) (omega arith))
+      (ap (λ (t : Talk NodeState). t.state) (sym asked_whole), logs_nothing true n held held (λ told name. refl))
 
 pub vertices_said : VerticesAreSaid
 vertices_said me a place v range among =

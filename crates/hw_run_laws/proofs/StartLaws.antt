@@ -63,7 +63,7 @@ module _ (n : NodeState) (sound : IsSound n) where
 same_taken : (x : Result Taken StartFault) (t u : Taken) → x ≡ Ok t → x ≡ Ok u → t ≡ u
 same_taken x t u is also = let both : Ok t ≡ Ok u = sym is ∙ also in cc
 
-same_some : {A : Type 0} (x : Option A) (a b : A) → x ≡ Some a → x ≡ Some b → a ≡ b
+pub same_some : {A : Type 0} (x : Option A) (a b : A) → x ≡ Some a → x ≡ Some b → a ≡ b
 same_some x a b is also = let both : Some a ≡ Some b = sym is ∙ also in cc
 
 module _ (n m : NodeState) (sound : IsSound n) (name bytes : List ℕ) (on : GoesOn n.core.config n.keys name bytes m) (has : HasLog n (Some bytes)) where

@@ -1,6 +1,6 @@
 -- A peer's vertex that a node takes.
 use Rattle.std.specs.Prelude.{IsSome}
-use Rattle.std.proofs.Common.{◌≡◌, ℕ, ◌+◌, ◌≤◌, Bool, true, false, cond, List, [], ◌∷◌, ◌++◌, length, Option, Some, None, Result, Ok, Err, inl, inr, refl, sym, ap, subst, ◌∙◌, arith, length-append}
+use Rattle.std.proofs.Common.{◌≡◌, ℕ, ◌+◌, ◌≤◌, Bool, true, false, cond, List, [], ◌∷◌, ◌++◌, length, Option, Result, Ok, Err, refl, sym, ap, subst, ◌∙◌, arith, length-append}
 use Rattle.std.proofs.lemmas.List.{append-nil}
 use Rattle.hw_types.specs.declared.unit.Endorsement.{Endorsement}
 use Rattle.hw_types.specs.declared.unit.Vertex.{Vertex}
@@ -26,16 +26,15 @@ use Rattle.hw_link.proofs.HeardLaws.{reads_frame_by_frame}
 use Rattle.hw_session.specs.Node.{NodeState}
 use Rattle.hw_session.specs.Make.{entry_for, with_entry}
 use Rattle.hw_session.specs.Accept.{given_to, refused_by, taken_by}
-use Rattle.hw_session.specs.Grows.{GrowsBy, entries_for, Gains, Logs}
+use Rattle.hw_session.specs.Grows.{Gains, Logs}
 use Rattle.hw_session.specs.Restart.{logged_of}
 use Rattle.hw_session.specs.Serving.{wanted_by, is_clash, answer_to_vertex, serve_step, served}
 use Rattle.hw_session.proofs.GrowsLaws.{gains_one, logs_counts}
-use Rattle.hw_session.proofs.ServingLaws.{before_less, plain_serves}
-use Rattle.hw_run_laws.specs.Calls.{Standing, Attempt, serves, IsFairPeer, IsWhole}
+use Rattle.hw_run_laws.specs.Calls.{Standing, serves, IsFairPeer}
 use Rattle.hw_run_laws.specs.Members.{IsTaken, EndorsementsAreTaken}
 use Rattle.hw_run_laws.specs.Restart.{arrivals}
 use Rattle.hw_run_laws.proofs.MemberLaws.{put, put_there, put_others}
-use Rattle.hw_run_laws.proofs.ShortLaws.{hello, heard_hello, read, long, has_second, further_second, second, sent, ends_here}
+use Rattle.hw_run_laws.proofs.ShortLaws.{hello, heard_hello, read, long, has_second, further_second, second, sent, ends_here, serves_so}
 
 -- ---- what is left
 
@@ -135,7 +134,7 @@ module _ (me : ℕ) (a : Standing) (e : Endorsement) (range : VertexInRange (ver
       record {
         next = record { node = m; held = held };
         attempt = serves bytes (said_bytes said) 0 (raised 0) end.EndOfInput
-            (plain_serves n m true a.held held bytes (said_bytes said) said 0 (raised 0) end.EndOfInput end.EndOfInput (omega (arith, size)) whole tt (inl refl) refl (further_second n f range tt some few) refl (before_less said) logs) fair;
+            (serves_so n m a.held held bytes said (raised 0) end.EndOfInput whole tt (omega (arith, size)) refl (further_second n f range tt some few) (ap (λ (t : Talk NodeState). t.state) (sym whole), logs)) fair;
         whole = tt;
         takes = refl;
       }
@@ -154,7 +153,7 @@ module _ (me : ℕ) (a : Standing) (e : Endorsement) (range : VertexInRange (ver
       record {
         next = record { node = m; held = held };
         attempt = serves bytes (said_bytes said) 0 0 end.Clash
-            (plain_serves n m true a.held held bytes (said_bytes said) said 0 0 end.Clash end.Clash (omega (arith, size)) whole tt (inl refl) tt (further_second n f range tt some few) refl (before_less said) logs) fair;
+            (serves_so n m a.held held bytes said 0 end.Clash whole tt (omega (arith, size)) tt (further_second n f range tt some few) (ap (λ (t : Talk NodeState). t.state) (sym whole), logs)) fair;
         whole = tt;
         takes = refl;
       }

@@ -1,13 +1,12 @@
 -- A unit whose append fails, and a start from the log mended.
 use Rattle.std.specs.Prelude.{IsSome}
-use Rattle.std.proofs.Common.{◌≡◌, ℕ, ◌<◌, true, List, [], ◌∷◌, ◌++◌, length, take, Option, Some, None, Result, Ok, Err, inl, inr, refl, sym, ap, subst, ◌∙◌}
+use Rattle.std.proofs.Common.{◌≡◌, ℕ, ◌<◌, List, ◌++◌, length, take, Option, Some, None, Err, inl, inr, refl, sym, ap, subst, ◌∙◌}
 use Rattle.hw_types.specs.declared.unit.Vertex.{Vertex}
 use Rattle.hw_types.specs.declared.config.Config.{Config}
 use Rattle.hw_types.specs.declared.answers.Plan.{Plan}
 use Rattle.hw_types.specs.Spelling.{VertexFits}
 use Rattle.hw_io.specs.Files.{bytes_of, Appended}
 use Rattle.hw_codec.specs.Ranges.{VertexInRange}
-use Rattle.hw_log.specs.Lasts.{LastUnits}
 use Rattle.hw_replay.specs.Replay.{replay_of}
 use Rattle.hw_replay.specs.Ends.{lasts_of_file}
 use Rattle.hw_session.specs.declared.fault.MakeFault.{MakeFault}
@@ -16,7 +15,7 @@ use Rattle.hw_session.specs.Node.{NodeState}
 use Rattle.hw_session.specs.Make.{planned_by, own_vertex, entry_for, with_vertex, with_entry, IsToMake}
 use Rattle.hw_session.specs.Restart.{journal_log, journal_lasts}
 use Rattle.hw_session.proofs.MakeLaws.{own_accepted}
-use Rattle.hw_run_laws.specs.Calls.{IsSound, Standing, Attempt, makes, StartsAgain, IsReady, MendsTo}
+use Rattle.hw_run_laws.specs.Calls.{IsSound, Standing, makes, StartsAgain, IsReady, MendsTo}
 use Rattle.hw_run_laws.specs.Restart.{HasCutLog}
 use Rattle.hw_run_laws.specs.Members.{making, MayBeDone, IsTorn, TornLogsAreThere}
 use Rattle.hw_run_laws.proofs.MemberLaws.{put, put_there, put_others, is_planned, fits, in_range, made_sound}
