@@ -126,11 +126,11 @@ module _ (n : NodeState) where
 
   -- ---- a second frame
 
-  module _ (f : Frame) (range : FrameInRange f) (fits : FrameFits f) (some : 1 ≤ length (frame_bytes f)) (few : length (frame_bytes f) ≤ 1000) where
+  module _ (f : Frame) (range : FrameInRange f) (fits : FrameFits f) (some : 1 ≤ length (frame_bytes f)) (few : length (frame_bytes f) ≤ 1048576) where
     abbrev pub read : List ℕ
     read = framed hello ++ framed f
 
-    pub long : length read ≤ 1041
+    pub long : length read ≤ 1048617
     long = let size = first_long in omega (arith, size, few, length-append (framed hello) (framed f), length-append (u32_bytes (length (frame_bytes f))) (frame_bytes f))
 
     pub has_second : HasFrame (length (framed hello)) (framed f) f
@@ -223,7 +223,7 @@ module _ (n : NodeState) (place : ℕ) (range : place < 2 ^ 64) where
   abbrev asked_said : List (List Frame)
   asked_said = [] ∷ (hello n ∷ []) ∷ answer ∷ []
 
-  asked_long : length asked ≤ 1041
+  asked_long : length asked ≤ 1048617
   asked_long = long n have range tt (omega arith) (omega arith)
 
   has_have : (k : ℕ) → HasFrame k (framed have) have

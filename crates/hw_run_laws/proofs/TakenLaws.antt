@@ -1,23 +1,26 @@
 -- A peer's vertex that a node takes.
 use Rattle.std.specs.Prelude.{IsSome}
-use Rattle.std.proofs.Common.{◌≡◌, ℕ, ◌+◌, ◌≤◌, Bool, true, false, cond, List, [], ◌∷◌, ◌++◌, length, Option, Result, Ok, Err, refl, sym, ap, subst, ◌∙◌, arith, length-append}
+use Rattle.std.proofs.Common.{◌≡◌, ◌≢◌, ℕ, ◌<◌, ◌≤◌, Bool, true, false, cond, List, [], ◌∷◌, ◌++◌, length, Option, Result, Ok, Err, inl, inr, refl, sym, ap, subst, ◌∙◌, arith}
 use Rattle.std.proofs.lemmas.List.{append-nil}
-use Rattle.hw_types.specs.declared.unit.Endorsement.{Endorsement}
+use Rattle.hw_types.specs.declared.unit.SignedUnit.{SignedUnit}
 use Rattle.hw_types.specs.declared.unit.Vertex.{Vertex}
-use Rattle.hw_types.specs.declared.unit.Vertex.TheVariants as vertex
 use Rattle.hw_types.specs.declared.answers.Frame.{Frame}
 use Rattle.hw_types.specs.declared.answers.Frame.TheVariants as frame
 use Rattle.hw_types.specs.declared.answers.Receipt.{Receipt}
 use Rattle.hw_types.specs.declared.answers.Receipt.TheVariants as receipt
 use Rattle.hw_types.specs.declared.answers.Cause.{Cause}
 use Rattle.hw_types.specs.declared.answers.Cause.TheVariants as cause
+use Rattle.hw_types.specs.Below.{Among}
+use Rattle.hw_types.specs.Culprits.{signed_in}
 use Rattle.hw_types.specs.Journal.{is_accepted}
 use Rattle.hw_types.specs.Real.{setting_of}
-use Rattle.hw_types.specs.Spelling.{u32_bytes, frame_bytes}
+use Rattle.hw_types.specs.Spelling.{frame_bytes, VertexFits}
+use Rattle.hw_types.proofs.EntryLaws.{append_cases}
 use Rattle.hw_codec.specs.Ranges.{VertexInRange}
 use Rattle.hw_io.specs.Faults.{raised}
 use Rattle.hw_io.specs.Files.{bytes_of}
 use Rattle.hw_honest.specs.Restart.{AreFair}
+use Rattle.hw_link.specs.declared.end.SessionEnd.{SessionEnd}
 use Rattle.hw_link.specs.declared.end.SessionEnd.TheVariants as end
 use Rattle.hw_link.specs.Frames.{framed, byte_limit}
 use Rattle.hw_link.specs.Talk.{Reaction, Talk, goes_on, ends, said_bytes}
@@ -29,12 +32,16 @@ use Rattle.hw_session.specs.Accept.{given_to, refused_by, taken_by}
 use Rattle.hw_session.specs.Grows.{Gains, Logs}
 use Rattle.hw_session.specs.Restart.{logged_of}
 use Rattle.hw_session.specs.Serving.{wanted_by, is_clash, answer_to_vertex, serve_step, served}
+use Rattle.hw_session.specs.Sessions.{Serves}
 use Rattle.hw_session.proofs.GrowsLaws.{gains_one, logs_counts}
-use Rattle.hw_run_laws.specs.Calls.{Standing, serves, IsFairPeer}
-use Rattle.hw_run_laws.specs.Members.{IsTaken, EndorsementsAreTaken}
-use Rattle.hw_run_laws.specs.Restart.{arrivals}
+use Rattle.hw_run_laws.specs.Calls.{IsSound, Standing, serves, IsFairPeer, IsReady}
+use Rattle.hw_run_laws.specs.Members.{IsTaken, VerticesAreTaken}
+use Rattle.hw_run_laws.specs.Restart.{arrivals, vertices_sent, IsLogged}
+use Rattle.hw_run_laws.proofs.AttemptLaws.{takes_fairly, lives_soundly}
+use Rattle.hw_run_laws.proofs.LifeLaws.{serves_life}
 use Rattle.hw_run_laws.proofs.MemberLaws.{put, put_there, put_others}
 use Rattle.hw_run_laws.proofs.ShortLaws.{hello, heard_hello, read, long, has_second, further_second, second, sent, ends_here, serves_so}
+use Rattle.hw_run_laws.proofs.StartLaws.{each_fits}
 
 -- ---- what is left
 
@@ -73,14 +80,34 @@ module _ (n : NodeState) (v : Vertex) (held : List ℕ → Option (List ℕ)) wh
   left_by (Err cause.ParkFull) = logs_none (refused_by n v cause.ParkFull) (record { journal = sym (append-nil n.core.journal); lasts = refl; name = refl })
   left_by (Err cause.OutOfMemory) = logs_none (refused_by n v cause.OutOfMemory) (record { journal = sym (append-nil n.core.journal); lasts = refl; name = refl })
 
+-- ---- what stands in its journal
+
+module _ (n : NodeState) (v : Vertex) (P : Vertex → Type 0) (old : (w : Vertex) → Among w n.core.journal → P w) (new : P v) where
+  each_entry : (w : Vertex) → Among w (n.core.journal ++ v ∷ []) → P w
+  each_entry w m = elim (append_cases w n.core.journal (v ∷ []) m) [
+    | inl before ↦ old w before
+    | inr (inl is) ↦ subst P is new
+    | inr (inr never) ↦ absurd never
+  ]
+
+  each_by : (a : Result Receipt Cause) (w : Vertex) → Among w (taken_by n v a).core.journal → P w
+  each_by (Ok (receipt.Admitted k)) = each_entry
+  each_by (Ok (receipt.Parked k)) = each_entry
+  each_by (Ok (receipt.Dropped rule)) = each_entry
+  each_by (Ok receipt.Repeat) = old
+  each_by (Err cause.BadSignature) = old
+  each_by (Err (cause.Local rule)) = old
+  each_by (Err (cause.Pair f)) = old
+  each_by (Err (cause.Clash d)) = old
+  each_by (Err cause.RecordsFull) = old
+  each_by (Err cause.ParkFull) = old
+  each_by (Err cause.OutOfMemory) = old
+
 -- ---- the session
 
-module _ (me : ℕ) (a : Standing) (e : Endorsement) (range : VertexInRange (vertex.Endorsement e)) where
+module _ (me : ℕ) (a : Standing) (v : Vertex) (range : VertexInRange v) (fits : VertexFits v) (few : length (frame_bytes (frame.Vertex v)) ≤ 1048576) (apart : (x : SignedUnit) → Among x (signed_in v) → x.unit.creator ≢ me) where
   abbrev n : NodeState
   n = a.node
-
-  abbrev v : Vertex
-  v = vertex.Endorsement e
 
   abbrev f : Frame
   f = frame.Vertex v
@@ -88,16 +115,8 @@ module _ (me : ℕ) (a : Standing) (e : Endorsement) (range : VertexInRange (ver
   some : 1 ≤ length (frame_bytes f)
   some = omega arith
 
-  few : length (frame_bytes f) ≤ 1000
-  few =
-      let unit = range.0.size in
-      let signature = range.2.size in
-      let front : length (e.unit.0 ++ u32_bytes e.endorser) ≡ length e.unit.0 + length (u32_bytes e.endorser) = length-append e.unit.0 (u32_bytes e.endorser) in
-      let all : length (e.unit.0 ++ u32_bytes e.endorser ++ e.signature.0) ≡ length (e.unit.0 ++ u32_bytes e.endorser) + length e.signature.0 = length-append (e.unit.0 ++ u32_bytes e.endorser) e.signature.0 in
-      omega (arith, unit, signature, front, all)
-
   abbrev bytes : List ℕ
-  bytes = read n f range tt some few
+  bytes = read n f range fits some few
 
   abbrev given : Result Receipt Cause
   given = given_to n v
@@ -112,13 +131,21 @@ module _ (me : ℕ) (a : Standing) (e : Endorsement) (range : VertexInRange (ver
   logs = left_by n v a.held given
 
   fair : IsFairPeer me n bytes
-  fair = subst (λ (vs : List Vertex). AreFair (setting_of n.core.config) me (logged_of n) (arrivals n vs)) (sym (sent n f range tt some few)) (λ accepted u never own. absurd never, tt)
+  fair = subst (λ (vs : List Vertex). AreFair (setting_of n.core.config) me (logged_of n) (arrivals n vs)) (sym (sent n f range fits some few)) (λ accepted x there own. absurd (apart x there own), tt)
 
   abbrev Is : Type 0
   Is = IsTaken me a v
 
-  short : length bytes ≤ 1041
-  short = long n f range tt some few
+  short : length bytes ≤ 1048617
+  short = long n f range fits some few
+
+  -- each vertex behind it is in range and fits
+  each : IsSound n → (w : Vertex) → Among w m.core.journal → VertexInRange w × VertexFits w
+  each sound = each_by n v (λ (w : Vertex). VertexInRange w × VertexFits w) (each_fits n sound) (range, fits) given
+
+  sound_behind : (written : List ℕ) (ends : ℕ) (e : SessionEnd) → Serves n bytes written m true a.held held 0 ends e → IsLogged e → me < length n.core.config.weights → IsSound n → IsReady me a → IsSound m
+  sound_behind written ends e does logged validator sound ready =
+      lives_soundly me n sound validator ready.line m (takes_fairly me n m (vertices_sent bytes) fair (serves_life n m bytes written true a.held held 0 ends e does logged)) (each sound)
 
   -- the session goes on, and the peer hangs up
   goes : (says : List Frame) → serve_step n (placed_behind (framed (hello n)) f) ≡ goes_on m says → Is
@@ -126,17 +153,18 @@ module _ (me : ℕ) (a : Standing) (e : Endorsement) (range : VertexInRange (ver
       let size = short in
       let said = [] ∷ (hello n ∷ []) ∷ says ∷ [] in
       let heard = subst (λ (r : Reaction NodeState). HasHeard [] serve_step n bytes ([] ∷ (hello n ∷ []) ∷ r.says ∷ []) r.state) is
-      ((reads_frame_by_frame NodeState).leads_on serve_step [] n (framed (hello n)) ([] ∷ (hello n ∷ []) ∷ []) n (framed f) f (heard_hello n) (has_second n f range tt some few) (ap (λ (r : Reaction NodeState). r.end) is)) in
+      ((reads_frame_by_frame NodeState).leads_on serve_step [] n (framed (hello n)) ([] ∷ (hello n ∷ []) ∷ []) n (framed f) f (heard_hello n) (has_second n f range fits some few) (ap (λ (r : Reaction NodeState). r.end) is)) in
       let whole : served n bytes ≡ record { state = m; said = said; end = end.EndOfInput } =
       ap (served n) (sym (append-nil bytes))
       ∙ (reads_frame_by_frame NodeState).no_frame_ends serve_step [] n bytes said m [] end.EndOfInput heard (ends_here (length bytes) (omega (arith, size)))
       (subst (λ (b : List ℕ). length b ≤ byte_limit) (sym (append-nil bytes)) (omega (arith, size))) in
+      let does = serves_so n m a.held held bytes said (raised 0) end.EndOfInput whole tt (omega (arith, size)) refl (further_second n f range fits some few) (ap (λ (t : Talk NodeState). t.state) (sym whole), logs) in
       record {
         next = record { node = m; held = held };
-        attempt = serves bytes (said_bytes said) 0 (raised 0) end.EndOfInput
-            (serves_so n m a.held held bytes said (raised 0) end.EndOfInput whole tt (omega (arith, size)) refl (further_second n f range tt some few) (ap (λ (t : Talk NodeState). t.state) (sym whole), logs)) fair;
+        attempt = serves bytes (said_bytes said) 0 (raised 0) end.EndOfInput does fair;
         whole = tt;
         takes = refl;
+        sound = sound_behind (said_bytes said) (raised 0) end.EndOfInput does tt;
       }
 
   -- or it ends by a clash
@@ -144,18 +172,19 @@ module _ (me : ℕ) (a : Standing) (e : Endorsement) (range : VertexInRange (ver
   clashes is =
       let size = short in
       let said = [] ∷ (hello n ∷ []) ∷ [] ∷ [] in
-      let over = (reads_frame_by_frame NodeState).frame_ends serve_step [] n (framed (hello n)) ([] ∷ (hello n ∷ []) ∷ []) n (framed f) f end.Clash (heard_hello n) (has_second n f range tt some few)
+      let over = (reads_frame_by_frame NodeState).frame_ends serve_step [] n (framed (hello n)) ([] ∷ (hello n ∷ []) ∷ []) n (framed f) f end.Clash (heard_hello n) (has_second n f range fits some few)
       (ap (λ (r : Reaction NodeState). r.end) is) [] (subst (λ (part : List ℕ). length (framed (hello n) ++ part) ≤ byte_limit) (sym (append-nil (framed f))) (omega (arith, size))) in
       let whole : served n bytes ≡ record { state = m; said = said; end = end.Clash } =
       ap (λ (part : List ℕ). served n (framed (hello n) ++ part)) (sym (append-nil (framed f)))
       ∙ over
       ∙ ap (λ (r : Reaction NodeState). record { state = r.state; said = [] ∷ (hello n ∷ []) ∷ r.says ∷ []; end = end.Clash }) is in
+      let does = serves_so n m a.held held bytes said 0 end.Clash whole tt (omega (arith, size)) tt (further_second n f range fits some few) (ap (λ (t : Talk NodeState). t.state) (sym whole), logs) in
       record {
         next = record { node = m; held = held };
-        attempt = serves bytes (said_bytes said) 0 0 end.Clash
-            (serves_so n m a.held held bytes said 0 end.Clash whole tt (omega (arith, size)) tt (further_second n f range tt some few) (ap (λ (t : Talk NodeState). t.state) (sym whole), logs)) fair;
+        attempt = serves bytes (said_bytes said) 0 0 end.Clash does fair;
         whole = tt;
         takes = refl;
+        sound = sound_behind (said_bytes said) 0 end.Clash does tt;
       }
 
   by_answer : (x : Result Receipt Cause) → serve_step n (placed_behind (framed (hello n)) f) ≡ answer_to_vertex m v x → Is
@@ -167,7 +196,7 @@ module _ (me : ℕ) (a : Standing) (e : Endorsement) (range : VertexInRange (ver
       go false same = goes (frame.Want [] ∷ []) same
 
   is_taken : Is
-  is_taken = by_answer given (second n f range tt some few)
+  is_taken = by_answer given (second n f range fits some few)
 
-pub endorsements_taken : EndorsementsAreTaken
-endorsements_taken = is_taken
+pub vertices_taken : VerticesAreTaken
+vertices_taken = is_taken

@@ -1,18 +1,18 @@
 -- That there is what these laws speak of: beginnings, lives, sessions and cut logs.
 -- Source: ours.
-use Rattle.std.specs.Prelude.{◌≡◌, ℕ, ◌<◌, ◌≤◌, ◌^◌, true, List, [], ◌∷◌, ◌++◌, length, Option, Some, None}
-use Rattle.hw_types.specs.declared.unit.Endorsement.{Endorsement}
+use Rattle.std.specs.Prelude.{◌≡◌, ◌≢◌, ℕ, ◌<◌, ◌≤◌, ◌^◌, true, List, [], ◌∷◌, ◌++◌, length, Option, Some, None}
 use Rattle.hw_types.specs.declared.unit.Obs.TheVariants.{Absent}
+use Rattle.hw_types.specs.declared.unit.SignedUnit.{SignedUnit}
 use Rattle.hw_types.specs.declared.unit.Vertex.{Vertex}
-use Rattle.hw_types.specs.declared.unit.Vertex.TheVariants as vertex
 use Rattle.hw_types.specs.declared.config.Config.{Config}
 use Rattle.hw_types.specs.declared.config.Leaders.TheVariants.{Table}
 use Rattle.hw_types.specs.declared.answers.Frame.TheVariants as frame
 use Rattle.hw_types.specs.declared.answers.Plan.{Plan}
 use Rattle.hw_types.specs.declared.answers.PlanKind.TheVariants.{Propose}
 use Rattle.hw_types.specs.Below.{Among}
+use Rattle.hw_types.specs.Culprits.{signed_in}
 use Rattle.hw_types.specs.Limits.{config_fault}
-use Rattle.hw_types.specs.Spelling.{instance_of, VertexFits}
+use Rattle.hw_types.specs.Spelling.{frame_bytes, instance_of, VertexFits}
 use Rattle.hw_codec.specs.Ranges.{AreBytes, ConfigInRange, VertexInRange}
 use Rattle.hw_core.specs.Readers.{unmet_in}
 use Rattle.hw_link.specs.declared.end.SessionEnd.TheVariants as end
@@ -156,16 +156,18 @@ abbrev pub VerticesAreSaid : Type 0
 VerticesAreSaid = (me : ℕ) (a : Standing) (place : ℕ) (v : Vertex) → place < 2 ^ 64 → Among v (part_from a.node.core.journal place)
     → (attempt : Attempt me a a) × IsSaid attempt v × IsWhole attempt
 
--- A peer sent the vertex, and the node took it, or refused it, and goes on.
+-- A peer sent the vertex, the node took or refused it, and goes on.
 pub record IsTaken (me : ℕ) (a : Standing) (v : Vertex) : Type 0 where
   pub next : Standing
   pub attempt : Attempt me a next
   pub whole : IsWhole attempt
   pub takes : next.node ≡ taken_by a.node v (given_to a.node v)
+  pub sound : me < length a.node.core.config.weights → IsSound a.node → IsReady me a → IsSound next.node
 
--- So it is of each endorsement that may stand in a frame, whoever signed it.
-abbrev pub EndorsementsAreTaken : Type 0
-EndorsementsAreTaken = (me : ℕ) (a : Standing) (e : Endorsement) → VertexInRange (vertex.Endorsement e) → IsTaken me a (vertex.Endorsement e)
+-- So it is of each vertex that has room in a frame and holds no unit by the validator, whoever signed it.
+abbrev pub VerticesAreTaken : Type 0
+VerticesAreTaken = (me : ℕ) (a : Standing) (v : Vertex) → VertexInRange v → VertexFits v → length (frame_bytes (frame.Vertex v)) ≤ 1048576
+    → ((x : SignedUnit) → Among x (signed_in v) → x.unit.creator ≢ me) → IsTaken me a v
 
 -- ---- cut logs
 

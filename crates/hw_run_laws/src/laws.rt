@@ -3,7 +3,7 @@
 ghost use Rattle.hw_replay.specs.Fates.{Sight};
 ghost use Rattle.hw_run_laws.specs.Calls.{CallsKeepOneLine, AttemptsKeepOneLine, AttemptsSayNoNew, CallsKeepApart, CutLogIsMended};
 ghost use Rattle.hw_run_laws.specs.Complete.{ServesAreComplete, DrivesAreComplete};
-ghost use Rattle.hw_run_laws.specs.Members.{NewNodesAreReady, OneBegins, LivesAreThere, WholeSessionsAreThere, WholeDrivesAreThere, NothingDisturbs, VerticesAreSaid, EndorsementsAreTaken, TornLogsAreThere};
+ghost use Rattle.hw_run_laws.specs.Members.{NewNodesAreReady, OneBegins, LivesAreThere, WholeSessionsAreThere, WholeDrivesAreThere, NothingDisturbs, VerticesAreSaid, VerticesAreTaken, TornLogsAreThere};
 ghost use Rattle.hw_run_laws.specs.Restart.{ServedIsALife, DrivenIsALife, MetIsALife, ServesIsALife, DrivesIsALife, MeetsIsALife, ServesKeepsLog, DrivesKeepsLog, MeetsKeepsLog, ServesLeavesLog, DrivesLeavesLog, MeetsLeavesLog, MakeLeavesLog, ServedSaysOfLog, DrivenSaysOfLog, MetSaysOfLog, ServesSaysOfLog, DrivesSaysOfLog, MeetsSaysOfLog};
 ghost use Rattle.hw_run_laws.specs.Prefixes.{StoppedReplays, StoppedParts, CutServices, CutTurns, CutHosts, CutCalls};
 
@@ -87,7 +87,7 @@ pub fn a_cut_log_is_mended()
 /// A new node with its log is a beginning, and one is written out. From each beginning there is a life of whatever
 /// calls, in any order: units that are made, sessions and meetings with peers that send nothing, starts, and nodes that
 /// are given up. Each node has a whole session that nothing disturbs, dialled or, where no unit waits, dialling. It says
-/// the vertices of its journal to a peer that asks for them, and takes the endorsement of a peer. Wherever the append of a unit fails, the node may be given up, and
+/// the vertices of its journal to a peer that asks for them, and takes a vertex that a peer sends. Wherever the append of a unit fails, the node may be given up, and
 /// starts again from its log, mended.
 pub fn lives_are_there()
     ensures begins { NewNodesAreReady }
@@ -97,6 +97,6 @@ pub fn lives_are_there()
     ensures driven { WholeDrivesAreThere }
     ensures undisturbed { NothingDisturbs }
     ensures said { VerticesAreSaid }
-    ensures taken { EndorsementsAreTaken }
+    ensures taken { VerticesAreTaken }
     ensures torn { TornLogsAreThere }
 {}

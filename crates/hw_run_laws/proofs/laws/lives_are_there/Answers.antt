@@ -2,7 +2,7 @@ use Rattle.hw_run_laws.proofs.BeginLaws.{new_ready, one_begins}
 use Rattle.hw_run_laws.proofs.DrivenLaws.{whole_drives}
 use Rattle.hw_run_laws.proofs.MemberLaws.{lives_there}
 use Rattle.hw_run_laws.proofs.ShortLaws.{whole_sessions, undisturbed, vertices_said}
-use Rattle.hw_run_laws.proofs.TakenLaws.{endorsements_taken}
+use Rattle.hw_run_laws.proofs.TakenLaws.{vertices_taken}
 use Rattle.hw_run_laws.proofs.TornLaws.{logs_torn}
 use Rattle.hw_run_laws.proofs.laws.lives_are_there.Goals as goal
 
@@ -31,4 +31,4 @@ pub returns-clause-torn : goal.returns-clause-torn
 returns-clause-torn c = logs_torn
 
 pub returns-clause-taken : goal.returns-clause-taken
-returns-clause-taken c = endorsements_taken
+returns-clause-taken c = vertices_taken
