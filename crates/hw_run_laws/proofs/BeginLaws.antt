@@ -1,18 +1,23 @@
 -- A new node, and one that there is.
-use Rattle.std.proofs.Common.{◌≡◌, ℕ, ◌<◌, ◌^◌, List, [], ◌∷◌, Option, Some, None, refl, sym, subst, arith}
+use Rattle.std.proofs.Common.{◌≡◌, ℕ, ◌<◌, ◌^◌, Bool, true, List, [], ◌∷◌, Option, Some, None, refl, sym, ap, subst, ◌∙◌, arith}
 use Rattle.std.proofs.lemmas.List.Elements.{All-nil, All-from_recursion}
+use lib.Pointwise.{bytes_decides}
+use Rattle.hw_types.specs.declared.unit.Digest.{Digest}
+use Rattle.hw_types.specs.Journal.{is_accepted}
 use Rattle.hw_types.specs.Limits.{config_fault}
-use Rattle.hw_types.specs.Real.{setting_of}
+use Rattle.hw_types.specs.Real.{setting_of, answer_in}
 use Rattle.hw_codec.specs.Ranges.{ConfigInRange, VertexInRange}
+use Rattle.hw_keys.specs.Signed.{endorsement_signature, verdict_of}
 use Rattle.hw_core.specs.Readers.{unmet_in}
 use Rattle.hw_log.specs.Log.{header_bytes}
 use Rattle.hw_honest.proofs.OneLineLaws.{begins}
 use Rattle.hw_session.specs.Node.{new_node}
-use Rattle.hw_session.specs.Make.{planned_by}
+use Rattle.hw_session.specs.Accept.{given_to}
+use Rattle.hw_session.specs.Make.{planned_by, IsToMake}
 use Rattle.hw_session.specs.Restart.{HasLog}
 use Rattle.hw_session.proofs.RestartLaws.{new_node_has_log}
 use Rattle.hw_run_laws.specs.Calls.{IsSound, IsReady}
-use Rattle.hw_run_laws.specs.Members.{NewNodesAreReady, alone, first_standing, first_block, OneBegins}
+use Rattle.hw_run_laws.specs.Members.{NewNodesAreReady, alone, first_standing, first_block, first_endorsement, OneBegins}
 
 pub new_ready : NewNodesAreReady
 new_ready config keys name held me lawful range long there = (
@@ -55,5 +60,20 @@ plans : (value : List ℕ) → planned_by first_standing.node 0 16 value ≡ Som
 unfolding Rattle.hw_types.specs.Graph.reach Rattle.hw_types.specs.Closure.closure_after Rattle.hw_types.specs.Closure.closure Rattle.hw_types.specs.ByName.by_name Rattle.hw_types.specs.Journal.received_of Rattle.hw_types.specs.Rounds.leader_of Rattle.hw_types.specs.Rules.has_naive_fork Rattle.hw_types.specs.Settled.equivocates Rattle.hw_types.specs.Settled.is_endorsed Rattle.hw_types.specs.Settled.settled_of Rattle.hw_types.specs.Settled.tip_of Rattle.hw_types.specs.Settled.panorama_of Rattle.hw_types.specs.Step.list_of Rattle.hw_types.specs.Step.is_fit Rattle.hw_types.specs.Step.chosen_panorama Rattle.hw_types.specs.Step.lane_units_in Rattle.hw_types.specs.Step.step_in Rattle.hw_types.specs.Step.step
 plans value = refl
 
+-- nothing else has its name, and there is room
+to_make : (value : List ℕ) → IsToMake first_standing.node (planned_by first_standing.node 0 16 value) (first_block value)
+to_make value = record { is = plans value; apart = λ namesake. namesake.1; room = omega arith }
+
+signed : (unit : Digest) → verdict_of first_standing.node.keys (first_endorsement unit) ≡ true
+unfolding verdict_of
+signed unit = (bytes_decides (endorsement_signature unit 0 []).0 (endorsement_signature unit 0 []).0).1 refl
+
+taken : (unit : Digest) → is_accepted (answer_in first_standing.node.core (first_endorsement unit) true) ≡ true
+unfolding Rattle.hw_types.specs.Journal.received_of Rattle.hw_types.specs.Journal.answer
+taken unit = refl
+
+accepts : (unit : Digest) → is_accepted (given_to first_standing.node (first_endorsement unit)) ≡ true
+accepts unit = ap (λ (verdict : Bool). is_accepted (answer_in first_standing.node.core (first_endorsement unit) verdict)) (signed unit) ∙ taken unit
+
 pub one_begins : OneBegins
-one_begins = record { validator = omega arith; sound = begun.0; ready = begun.1; waits = waits; plans = plans }
+one_begins = record { validator = omega arith; sound = begun.0; ready = begun.1; waits = waits; to_make = to_make; accepts = accepts }

@@ -1,9 +1,11 @@
 -- That there is what these laws speak of: beginnings, lives, sessions and cut logs.
 -- Source: ours.
 use Rattle.std.specs.Prelude.{◌≡◌, ◌≢◌, ℕ, ◌<◌, ◌≤◌, ◌^◌, true, List, [], ◌∷◌, ◌++◌, length, Option, Some, None}
+use Rattle.hw_types.specs.declared.unit.Digest.{Digest}
 use Rattle.hw_types.specs.declared.unit.Obs.TheVariants.{Absent}
 use Rattle.hw_types.specs.declared.unit.SignedUnit.{SignedUnit}
 use Rattle.hw_types.specs.declared.unit.Vertex.{Vertex}
+use Rattle.hw_types.specs.declared.unit.Vertex.TheVariants as vertex
 use Rattle.hw_types.specs.declared.config.Config.{Config}
 use Rattle.hw_types.specs.declared.config.Leaders.TheVariants.{Table}
 use Rattle.hw_types.specs.declared.answers.Frame.TheVariants as frame
@@ -11,9 +13,11 @@ use Rattle.hw_types.specs.declared.answers.Plan.{Plan}
 use Rattle.hw_types.specs.declared.answers.PlanKind.TheVariants.{Propose}
 use Rattle.hw_types.specs.Below.{Among}
 use Rattle.hw_types.specs.Culprits.{signed_in}
+use Rattle.hw_types.specs.Journal.{is_accepted}
 use Rattle.hw_types.specs.Limits.{config_fault}
 use Rattle.hw_types.specs.Spelling.{frame_bytes, instance_of, VertexFits}
 use Rattle.hw_codec.specs.Ranges.{AreBytes, ConfigInRange, VertexInRange}
+use Rattle.hw_keys.specs.Signed.{endorsement_signature}
 use Rattle.hw_core.specs.Readers.{unmet_in}
 use Rattle.hw_link.specs.declared.end.SessionEnd.TheVariants as end
 use Rattle.hw_link.specs.Frames.{framed}
@@ -54,13 +58,18 @@ first_block value = record {
   unit = record { instance = instance_of alone; creator = 0; seq = 0; time = 16; exponent = 4; panorama = Absent ∷ []; value = Some value; endorsed = [] };
 }
 
--- This one is sound and ready, no unit waits in it, and it has one to make.
+-- its endorsement of a unit
+abbrev pub first_endorsement : Digest → Vertex
+first_endorsement unit = vertex.Endorsement (record { unit = unit; endorser = 0; signature = endorsement_signature unit 0 [] })
+
+-- This one is sound and ready, no unit waits in it, and it has one to make. It accepts its endorsements, where a peer brings them.
 pub record OneBegins : Type 0 where
   pub validator : 0 < length first_standing.node.core.config.weights
   pub sound : IsSound first_standing.node
   pub ready : IsReady 0 first_standing
   pub waits : unmet_in first_standing.node.core ≡ []
-  pub plans : (value : List ℕ) → planned_by first_standing.node 0 16 value ≡ Some (first_block value)
+  pub to_make : (value : List ℕ) → IsToMake first_standing.node (planned_by first_standing.node 0 16 value) (first_block value)
+  pub accepts : (unit : Digest) → is_accepted (given_to first_standing.node (first_endorsement unit)) ≡ true
 
 -- ---- lives
 
