@@ -32,8 +32,8 @@ follow-self-inside-requires-clause-room c =
     let few = room_less core.decided (length (graph done.state.dag) + length done.park.waiting) (length (graph core.state.dag) + length core.park.waiting) c.in-Ok.ensures.room c.self.invariant.decided_is.room in
     room_less core.decided (length (graph done.state.dag)) (length (graph done.state.dag) + length done.park.waiting) (omega arith) few
 
-pub invariant_of-self : goal.invariant_of-self
-invariant_of-self c =
+pub invariant_of-self-in-Ok : goal.invariant_of-self-in-Ok
+invariant_of-self-in-Ok c =
     let core = c.self.inside in
     let done = c.add_endorsement-added.new in
     let e = c.in-Ok.ensures in
@@ -51,8 +51,8 @@ invariant_of-self c =
     (pairs_more core.instance core.journal.items core.names.entries core.park core.dropped.entries core.dropped.room core.state core.fork core.decided core.shown c.self.invariant v (λ e is. absurd cc))
     run.new.decided run.result followed run.new.shown run.ensures.shown run.new.state run.ensures.state
 
-pub invariant_of-self-then-settled : goal.invariant_of-self-then-settled
-invariant_of-self-then-settled c =
+pub invariant_of-self : goal.invariant_of-self
+invariant_of-self c =
     let core = c.self.inside in
     let done = c.add_endorsement-added.new in
     let e = c.in-Ok.ensures in
