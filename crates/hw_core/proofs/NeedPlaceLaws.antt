@@ -2,6 +2,7 @@
 use Rattle.std.proofs.Common.{◌≡◌, ℕ, zero, suc, ◌<◌, ◌≤◌, Bool, true, false, cond, List, [], ◌∷◌, ◌++◌, length, Option, Some, None, refl, sym, ap, subst, ◌∙◌, arith}
 use Rattle.std.specs.Prelude.{◌==◌, ◌&&◌, is_none, slice_get, Result, Ok, Err, OnOk, OnErr, if◌then◌else◌}
 use Rattle.std.specs.Map.{lookup}
+use Rattle.std.specs.Result.{is_err}
 use Rattle.std.specs.Option.{unwrap_or}
 use Rattle.std.proofs.lemmas.List.{append-nil, length-append}
 use Rattle.std.proofs.lemmas.Option.{slice_get_past}
@@ -129,3 +130,8 @@ last_gone (x ∷ xs) last (r ∷ rest) place e = both (ap heads e) (last_gone xs
 
     both : x ≡ r → xs ≡ rest → x ∷ xs ≡ r ∷ rest
     both f g i = f i ∷ g i
+
+-- what holds of an error holds, if there is one
+pub when_err : {A E P : Type 0} (r : Result A E) → is_err r ≡ true → OnErr r P → P
+when_err (Ok a) e p = absurd cc
+when_err (Err x) e p = p

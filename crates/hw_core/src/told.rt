@@ -84,12 +84,7 @@ impl Places {
 pub type Told = BTreeMap<NeedKey, Places>;
 
 /// Puts a place last under a need. Where there is no memory, nothing has changed.
-pub fn put_place(
-    told: &mut Told,
-    alloc: Global,
-    need: &Need,
-    place: u64,
-) -> Result<(), OutOfMemory>
+pub fn put_place(told: &mut Told, alloc: Global, need: &Need, place: u64) -> Result<(), OutOfMemory>
     ensures put { OnOk result (HasOnePlaceMore told.old.entries told.new.entries need.now place) }
     ensures same { OnErr result (HasSamePlaces told.old.entries told.new.entries) }
 {
@@ -109,8 +104,9 @@ pub fn take_back(told: &mut Told, need: &Need)
 fn take_last(told: &mut Told, need: &Need)
     ensures { (before : List (Key × List ℕ)) (place : ℕ) → HasOnePlaceMore before told.old.entries need.now place → HasSamePlaces before told.new.entries }
 {
-    if let Some(places) = told.get_mut(&key_of(need)) {
-        places.take_last();
+    match told.get_mut(&key_of(need)) {
+        Some(places) => places.take_last(),
+        None => {}
     }
 }
 

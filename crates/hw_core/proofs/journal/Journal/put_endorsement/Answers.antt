@@ -12,8 +12,8 @@ invariant_of-self-then-is_err c =
     subst (λ (vs : List Vertex). AreTold vs c.take_back.new.told.entries) (sym c.tell_next.ensures.items)
     (told_same inside.vertices.items inside.told.entries c.take_back.new.told.entries (c.take_back.ensures inside.told.entries (length inside.vertices.items) c.in_ok-tell_next.ensures.put) c.self.invariant)
 
-pub invariant_of-self : goal.invariant_of-self
-invariant_of-self c =
+pub invariant_of-self-2 : goal.invariant_of-self-2
+invariant_of-self-2 c =
     let inside = c.self.inside in
     let v : Vertex = vertex.Endorsement c.args.endorsement in
     subst (λ (vs : List Vertex). AreTold vs c.tell_next.new.told.entries) (sym (c.push_reserved.ensures.items ∙ ap (λ (vs : List Vertex). vs ++ v ∷ []) c.tell_next.ensures.items))

@@ -61,7 +61,7 @@ invariant_of-self c =
     let few = room_less core.decided (length (graph done.state.dag) + length done.park.waiting) (length (graph core.state.dag) + length core.park.waiting) e.room c.self.invariant.decided_is.room in
     kept_quiet core.instance core.journal.items core.names.entries core.park core.dropped.entries core.dropped.room core.state core.fork core.decided core.shown c.self.invariant
     v done.state done.park core.decided node c.add_endorsement-added.ensures.config e.grows c.dag-before.ensures.graph c.dag-after.ensures.graph (no_room_more core.decided) few
-    (same_told core.state done.state (e.quiet c.if-settled.true))
+    (same_told core.state done.state (e.quiet c.if-settled-eq0.true))
     done.journal.items e.journal core.names.entries done.dropped.entries done.dropped.room
     (table_other (setting_of core.state.config) core.journal.items core.names.entries v refl (λ u is. absurd cc) c.self.invariant.table)
     (subst (λ (vs : List Vertex). AreRules (setting_of core.state.config) vs done.dropped.entries) e.journal c.add_endorsement-added.ensures.rules) c.add_endorsement-added.ensures.places
