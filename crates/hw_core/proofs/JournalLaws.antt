@@ -1,5 +1,5 @@
 -- Laws of where in a journal evidence and endorsements stand.
-use Rattle.std.proofs.Common.{◌≡◌, ℕ, zero, suc, ◌<◌, ◌≤◌, Bool, true, false, cond, List, [], ◌∷◌, ◌++◌, length, map, filter, find, Option, Some, None, refl, sym, ap, subst, ◌∙◌, arith, Bor}
+use Rattle.std.proofs.Common.{◌≡◌, ℕ, zero, suc, ◌<◌, ◌≤◌, Bool, true, false, cond, List, [], ◌∷◌, ◌++◌, length, map, filter, find, Option, Some, None, refl, sym, ap, ◌∙◌, arith, Bor}
 use Rattle.std.specs.Prelude.{◌==◌, nat_lt, is_some, IfSome, slice_index_or, if◌then◌else◌, filter_map, slice_get}
 use Rattle.std.specs.Option.{option_map, option_map_or, option_and_then, option_copied}
 use Rattle.std.proofs.lemmas.Bool.Decides.{nat_tests}

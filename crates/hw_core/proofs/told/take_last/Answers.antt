@@ -1,4 +1,4 @@
-use Rattle.std.proofs.Common.{rules, ℕ, List, None, Some, Option, IsSome, sym, ap, subst, ◌∙◌}
+use Rattle.std.proofs.Common.{rules, ℕ, List, None, Some, Option, IsSome, sym, subst, ◌∙◌}
 use Rattle.hw_core.proofs.NeedPlaceLaws.{less_put, places_found, one_more_here, none_more}
 use Rattle.hw_core.proofs.told.take_last.Goals as goal
 

@@ -1,4 +1,4 @@
-use Rattle.std.proofs.Common.{ℕ, List, filter, Option, Some, None, sym, ap, ◌∙◌}
+use Rattle.std.proofs.Common.{ℕ, List, filter, Option, Some, sym, ap, ◌∙◌}
 use Rattle.std.specs.Prelude.{slice_get}
 use Rattle.std.specs.Option.{option_and_then, option_copied}
 use Rattle.hw_types.specs.declared.unit.Vertex.{Vertex}
