@@ -31,6 +31,7 @@ use Rattle.hw_core.specs.Settle.{HasMoreRoom}
 use Rattle.hw_core.specs.Keeps.{IsNode}
 use Rattle.hw_core.proofs.CountLaws.{graph_length}
 use Rattle.hw_core.proofs.SettleLaws.{grows_roomy}
+use Rattle.hw_core.proofs.StillLaws.{HasSameUnits}
 use Rattle.hw_core.specs.Decided.{DecidedState, IsToldOf, HasRoomFor, HasOnlyRoom, IsDecided}
 
 -- ---- lists
@@ -202,23 +203,23 @@ module _ (journal : List Vertex) (v : Vertex) (state later : NodeState) (waiting
 -- ---- after a delivery of which nothing settled
 
 module _ (journal : List Vertex) (v : Vertex) (park after : Parked PreparedUnit) (state later : NodeState) (d roomy : DecidedState) (node : IsNode journal park state) (is : IsDecided (setting_of state.config) journal state (length park.waiting) d)
-    (more : HasOnlyRoom d roomy) (longer : IsNode (journal ++ v ∷ []) after later) (f : IsGraph state.dag) (g : IsGraph later.dag) (still : HasMoreRoom state later)
+    (more : HasOnlyRoom d roomy) (longer : IsNode (journal ++ v ∷ []) after later) (f : IsGraph state.dag) (g : IsGraph later.dag) (still : HasSameUnits state later)
     (room : HasRoomFor roomy (length (graph later.dag) + length after.waiting)) where
   abbrev s : Setting
   s = setting_of later.config
 
   config_still : later.config ≡ state.config
-  config_still = ap (λ (t : NodeState). t.config) still.unchanged
+  config_still = ap (λ (t : NodeState). t.config) still
 
   grows_still : GrowsTo state.dag later.dag
-  grows_still = grows_roomy state later still
+  grows_still = subst (λ (t : NodeState). GrowsTo state.dag t.dag) (sym still) (record { validators_are = refl; more = []; units_are = append_nothing state.dag.units })
 
   settled_still : settled_of s.config (received_of s (journal ++ v ∷ [])) ≡ settled_of s.config (received_of s journal)
-  settled_still = sym longer.is_of.settled ∙ ap (λ (t : NodeState). graph t.dag) still.unchanged ∙ node.is_of.settled ∙ ap (λ (c : Config). settled_of c (received_of (setting_of c) journal)) (sym config_still)
+  settled_still = sym longer.is_of.settled ∙ ap (λ (t : NodeState). graph t.dag) still ∙ node.is_of.settled ∙ ap (λ (c : Config). settled_of c (received_of (setting_of c) journal)) (sym config_still)
 
   panorama_still : panorama_of s.config (received_of s (journal ++ v ∷ [])) ≡ panorama_of s.config (received_of s journal)
   panorama_still =
-      sym (node_panorama (journal ++ v ∷ []) after later longer) ∙ ap (λ (t : NodeState). observed_in t.config t.marked (graph t.dag)) still.unchanged
+      sym (node_panorama (journal ++ v ∷ []) after later longer) ∙ ap (λ (t : NodeState). observed_in t.config t.marked (graph t.dag)) still
       ∙ node_panorama journal park state node ∙ ap (λ (c : Config). panorama_of c (received_of (setting_of c) journal)) (sym config_still)
 
   -- the records are the decided blocks of the longer journal as they stand

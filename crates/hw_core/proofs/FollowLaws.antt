@@ -24,10 +24,11 @@ use Rattle.hw_core.proofs.UnitTakeLaws.{node_roomy}
 use Rattle.hw_core.proofs.DecidedLaws.{room_less, decided_roomy, decided_still, run_told, decided_after, decided_quiet}
 use Rattle.hw_core.proofs.ShownLaws.{shown_forgot, shown_still}
 use Rattle.hw_core.proofs.KeptLaws.{kept_with}
+use Rattle.hw_core.proofs.StillLaws.{HasSameUnits, same_roomy}
 
--- the fork choice stays where at most the room of the state changed
-choice_still : (state later : NodeState) (fork : Option UnitNo) → HasMoreRoom state later → IsChoice state fork → IsChoice later fork
-choice_still state later fork still is = subst (λ (t : NodeState). IsChoice t fork) (sym still.unchanged) (record { choice = is.choice; known = is.known })
+-- the fork choice stays where at most the room of the state and the endorsements changed
+choice_still : (state later : NodeState) (fork : Option UnitNo) → HasSameUnits state later → IsChoice state fork → IsChoice later fork
+choice_still state later fork still is = subst (λ (t : NodeState). IsChoice t fork) (sym still) (record { choice = is.choice; known = is.known })
 
 module _ (instance : Digest) (journal : List Vertex) (names : List (Digest × ℕ)) (park : Parked PreparedUnit) (rules : List (Digest × Rule)) (room : ℕ) (state : NodeState) (fork : Option UnitNo) (decided : DecidedState) (shown : ShownState)
     (kept : IsKept instance journal names park rules room state fork decided shown) where
@@ -55,7 +56,7 @@ module _ (instance : Digest) (journal : List Vertex) (names : List (Digest × �
         (shown_forgot (record { config = state.config; journal = journal }) (record { config = later.config; journal = journal ++ v ∷ [] }) state later shown forgot f g config grows forgets kept.shown_is)))
 
     -- nothing settled, and the node keeps what it should
-    pub kept_quiet : HasMoreRoom state later → (vs : List Vertex) → vs ≡ journal ++ v ∷ [] → (names' : List (Digest × ℕ)) (rules' : List (Digest × Rule)) (room' : ℕ) → IsTable (setting_of state.config) (journal ++ v ∷ []) names' → AreRules (setting_of state.config) (journal ++ v ∷ []) rules'
+    pub kept_quiet : HasSameUnits state later → (vs : List Vertex) → vs ≡ journal ++ v ∷ [] → (names' : List (Digest × ℕ)) (rules' : List (Digest × Rule)) (room' : ℕ) → IsTable (setting_of state.config) (journal ++ v ∷ []) names' → AreRules (setting_of state.config) (journal ++ v ∷ []) rules'
         → length after.waiting ≤ room' → ((w : Vertex) → Among w (journal ++ v ∷ []) → VertexFits w) → HasPairs (setting_of state.config) (journal ++ v ∷ []) → (forgot : ShownState) → forgot ≡ record shown { asked = None }
         → IsKept instance vs names' after rules' room' later fork roomy forgot
     kept_quiet still vs is names' rules' room' table are places fit pairs forgot forgets =
@@ -80,7 +81,7 @@ module _ (instance : Digest) (journal : List Vertex) (names : List (Digest × �
 
         whole : length park.waiting ≤ room' → IsKept instance journal names park rules room' later fork roomy shown
         whole fits = kept_with instance journal names park rules room state fork decided shown kept journal names park rules room' later fork roomy shown config kept.table kept.rules_are fits kept.fit kept.pairs
-            (node_roomy journal park state kept.node later still.unchanged still.kept) (choice_still state later fork still kept.fork_is)
+            (node_roomy journal park state kept.node later still.unchanged still.kept) (choice_still state later fork (same_roomy state later still) kept.fork_is)
             (decided_still (setting_of later.config) journal state later (length park.waiting) (length park.waiting) roomy f g still refl
             (subst (λ (c : Config). IsDecided (setting_of c) journal state (length park.waiting) roomy) (sym config) (decided_roomy decided roomy more (setting_of state.config) journal state (length park.waiting) kept.decided_is)))
             (subst (λ (c : Config). IsShown (record { config = c; journal = journal }) later shown) (sym config) (shown_still (record { config = state.config; journal = journal }) state later shown f g still kept.shown_is))

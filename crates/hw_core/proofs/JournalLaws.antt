@@ -1,8 +1,6 @@
 -- Laws of where in a journal evidence and endorsements stand.
-use Rattle.std.proofs.Common.{◌≡◌, ℕ, zero, suc, ◌<◌, ◌≤◌, Bool, true, false, cond, List, [], ◌∷◌, ◌++◌, length, map, filter, find, Option, Some, None, refl, sym, ap, subst, ◌∙◌, arith, Vec, Global, Bor}
-use Rattle.std.specs.Result.{is_err, is_ok}
-use Rattle.std.specs.Prelude.{◌==◌, ◌+◌, nat_lt, is_some, IfSome, slice_index_or, if◌then◌else◌, Result, Ok, Err, filter_map, slice_get, vec_capacity}
-use Rattle.std.specs.Map.{lookup}
+use Rattle.std.proofs.Common.{◌≡◌, ℕ, zero, suc, ◌<◌, ◌≤◌, Bool, true, false, cond, List, [], ◌∷◌, ◌++◌, length, map, filter, find, Option, Some, None, refl, sym, ap, ◌∙◌, arith, Bor}
+use Rattle.std.specs.Prelude.{◌==◌, nat_lt, is_some, IfSome, slice_index_or, if◌then◌else◌, filter_map, slice_get}
 use Rattle.std.specs.Option.{option_map, option_map_or, option_and_then, option_copied}
 use Rattle.std.proofs.lemmas.Bool.Decides.{nat_tests}
 use Rattle.std.proofs.lemmas.List.{map-append, append-nil}
@@ -18,11 +16,7 @@ use Rattle.hw_types.specs.declared.unit.Vertex.TheVariants as vertex
 use Rattle.hw_types.specs.Graph.{digest_eq}
 use Rattle.hw_types.specs.Settled.{need_eq}
 use Rattle.hw_park.specs.declared.key.NeedKey.{NeedKey}
-use Rattle.hw_park.specs.Numbers.{numbers_at, numbers_more, SameNumbers, HasRegistered}
-use Rattle.hw_park.specs.Keys.{key_of, ties}
-use Rattle.hw_park.proofs.KeyLaws.{key_same, need_self}
-use Rattle.hw_park.proofs.NumberLaws.{IsPut}
-use Rattle.hw_core.specs.Journal.{told_need, tells, AreTold, HasPlaceFor}
+use Rattle.hw_core.specs.Journal.{told_need, tells, places_at, AreTold, HasSamePlaces, HasOnePlaceMore}
 use Rattle.hw_core.specs.Readers.{signed_evidence, signed_endorsement}
 use Rattle.hw_core.proofs.UnmetLaws.{get_of}
 
@@ -61,19 +55,19 @@ all_more {A} xs y (p ∷ ps) (f ∷ fs) h =
 
 -- ---- the table
 
-pub told_none : (told : List (NeedKey × Vec ℕ Global)) → told ≡ [] → AreTold [] told
-told_none told e n = ap (λ (t : List (NeedKey × Vec ℕ Global)). map (slice_get []) (numbers_at t n)) e
+pub told_none : (told : List (NeedKey × List ℕ)) → told ≡ [] → AreTold [] told
+told_none told e n = ap (λ (t : List (NeedKey × List ℕ)). map (slice_get []) (places_at t n)) e
 
 -- the same places are those of the same vertices
-pub told_same : (journal : List Vertex) (old new : List (NeedKey × Vec ℕ Global)) → SameNumbers old new → AreTold journal old → AreTold journal new
+pub told_same : (journal : List Vertex) (old new : List (NeedKey × List ℕ)) → HasSamePlaces old new → AreTold journal old → AreTold journal new
 told_same journal old new same are n = ap (map (slice_get journal)) (same n) ∙ are n
 
 -- one vertex more
-told_more : (journal : List Vertex) (v : Vertex) (told : List (NeedKey × Vec ℕ Global)) → AreTold journal told → (n : Need) → map (slice_get (journal ++ v ∷ [])) (numbers_at told n) ≡ map Some (filter (tells n) journal)
-told_more journal v told are n = all_more journal v (numbers_at told n) (filter (tells n) journal) (are n)
+told_more : (journal : List Vertex) (v : Vertex) (told : List (NeedKey × List ℕ)) → AreTold journal told → (n : Need) → map (slice_get (journal ++ v ∷ [])) (places_at told n) ≡ map Some (filter (tells n) journal)
+told_more journal v told are n = all_more journal v (places_at told n) (filter (tells n) journal) (are n)
 
 -- one that tells of nothing
-pub told_unit : (journal : List Vertex) (v : Vertex) (told : List (NeedKey × Vec ℕ Global)) → told_need v ≡ None → AreTold journal told → AreTold (journal ++ v ∷ []) told
+pub told_unit : (journal : List Vertex) (v : Vertex) (told : List (NeedKey × List ℕ)) → told_need v ≡ None → AreTold journal told → AreTold (journal ++ v ∷ []) told
 told_unit journal v told none are n =
     told_more journal v told are n
     ∙ ap (map Some) (sym (append-nil (filter (tells n) journal)) ∙ ap (λ (vs : List Vertex). filter (tells n) journal ++ vs) (sym nothing) ∙ sym (filter-append (tells n) journal (v ∷ [])))
@@ -82,22 +76,22 @@ told_unit journal v told none are n =
     nothing = ap (λ (o : Option Need). cond (option_map_or (need_eq n) o false) (v ∷ []) []) none
 
 -- one that tells of this need, whose place is put under it
-pub told_put : (journal : List Vertex) (v : Vertex) (m : Need) (old new : List (NeedKey × Vec ℕ Global)) → told_need v ≡ Some m → HasRegistered old new (m ∷ []) (length journal) → AreTold journal old → AreTold (journal ++ v ∷ []) new
+pub told_put : (journal : List Vertex) (v : Vertex) (m : Need) (old new : List (NeedKey × List ℕ)) → told_need v ≡ Some m → HasOnePlaceMore old new m (length journal) → AreTold journal old → AreTold (journal ++ v ∷ []) new
 told_put journal v m old new is put are n =
     ap (map (slice_get (journal ++ v ∷ []))) (put n)
-    ∙ map-append (slice_get (journal ++ v ∷ [])) (numbers_at old n) (numbers_more (m ∷ []) n (length journal))
-    ∙ ap (λ (os : List (Option Vertex)). os ++ map (slice_get (journal ++ v ∷ [])) (numbers_more (m ∷ []) n (length journal))) (told_more journal v old are n)
+    ∙ map-append (slice_get (journal ++ v ∷ [])) (places_at old n) (if need_eq n m then length journal ∷ [] else [])
+    ∙ ap (λ (os : List (Option Vertex)). os ++ map (slice_get (journal ++ v ∷ [])) (if need_eq n m then length journal ∷ [] else [])) (told_more journal v old are n)
     ∙ ap (λ (os : List (Option Vertex)). map Some (filter (tells n) journal) ++ os) (last (need_eq n m) refl)
     ∙ sym (map-append Some (filter (tells n) journal) (filter (tells n) (v ∷ [])))
     ∙ ap (map Some) (sym (filter-append (tells n) journal (v ∷ [])))
   where
-    last : (b : Bool) → need_eq n m ≡ b → map (slice_get (journal ++ v ∷ [])) (numbers_more (m ∷ []) n (length journal)) ≡ map Some (filter (tells n) (v ∷ []))
+    last : (b : Bool) → need_eq n m ≡ b → map (slice_get (journal ++ v ∷ [])) (if need_eq n m then length journal ∷ [] else []) ≡ map Some (filter (tells n) (v ∷ []))
     last b e =
-        ap (λ (c : Bool). map (slice_get (journal ++ v ∷ [])) (map (λ _. length journal) (cond c (m ∷ []) []))) e
+        ap (λ (c : Bool). map (slice_get (journal ++ v ∷ [])) (if c then length journal ∷ [] else [])) e
         ∙ go b
         ∙ ap (λ (c : Bool). map Some (cond c (v ∷ []) [])) (sym e ∙ ap (λ (o : Option Need). option_map_or (need_eq n) o false) (sym is))
       where
-        go : (c : Bool) → map (slice_get (journal ++ v ∷ [])) (map (λ _. length journal) (cond c (m ∷ []) [])) ≡ map Some (cond c (v ∷ []) [])
+        go : (c : Bool) → map (slice_get (journal ++ v ∷ [])) (if c then length journal ∷ [] else []) ≡ map Some (cond c (v ∷ []) [])
         go true = ap (λ (o : Option Vertex). o ∷ []) (get_last journal v)
         go false = refl
 
@@ -109,10 +103,10 @@ get_map f (x ∷ xs) zero = refl
 get_map f (x ∷ xs) (suc n) = get_map f xs n
 
 -- what stands at a place that stands at a place
-pub told_found : (journal : List Vertex) (told : List (NeedKey × Vec ℕ Global)) (n : Need) (place : ℕ) → AreTold journal told
-    → option_and_then (λ p. slice_get journal p) (slice_get (numbers_at told n) place) ≡ slice_get (filter (tells n) journal) place
-told_found journal told n place are = go (slice_get (numbers_at told n) place) (slice_get (filter (tells n) journal) place)
-    (sym (get_map (slice_get journal) (numbers_at told n) place) ∙ ap (λ (os : List (Option Vertex)). slice_get os place) (are n) ∙ get_map Some (filter (tells n) journal) place)
+pub told_found : (journal : List Vertex) (told : List (NeedKey × List ℕ)) (n : Need) (place : ℕ) → AreTold journal told
+    → option_and_then (λ p. slice_get journal p) (slice_get (places_at told n) place) ≡ slice_get (filter (tells n) journal) place
+told_found journal told n place are = go (slice_get (places_at told n) place) (slice_get (filter (tells n) journal) place)
+    (sym (get_map (slice_get journal) (places_at told n) place) ∙ ap (λ (os : List (Option Vertex)). slice_get os place) (are n) ∙ get_map Some (filter (tells n) journal) place)
   where
     go : (o : Option ℕ) (r : Option Vertex) → option_map (slice_get journal) o ≡ option_map Some r → option_and_then (λ p. slice_get journal p) o ≡ r
     go None None e = refl
@@ -163,23 +157,6 @@ is_endorsement (Some x) r h e f = (let same : Some (vertex.Endorsement x) ≡ So
 pub no_endorsement : (o : Option Endorsement) (r : Option Vertex) → r ≡ option_map vertex.Endorsement o → ((e : Endorsement) → r ≡ Some (vertex.Endorsement e) → ⊥) → o ≡ None
 no_endorsement None r h none = refl
 no_endorsement (Some x) r h none = absurd (none x h)
-
--- ---- room for a place
-
--- what was put is there
-pub was_put : {U E X : Type 0} (r : Result U E) (xs ys : List X) → is_err r ≡ false → (if is_ok r then xs else ys) ≡ xs
-was_put (Ok u) xs ys e = refl
-was_put (Err x) xs ys e = absurd cc
-
--- a list that was put under a need, with room for one place more
-pub place_there : (old new : List (NeedKey × Vec ℕ Global)) (key : NeedKey) (n : Need) (places : Vec ℕ Global) → key ≡ key_of n → IsPut old new key (Some places) → length places.items + 1 ≤ vec_capacity places → HasPlaceFor new n
-place_there old new key n places of put fits =
-    let there : IsPut old new (key_of n) (Some places) = subst (λ (x : NeedKey). IsPut old new x (Some places)) of put in
-    record {
-      places = places;
-      at = there.at (key_of n) ∙ ap (λ (b : Bool). cond b (Some places) (lookup (ties (key_of n)) old)) (key_same n n ∙ need_self n);
-      room = fits;
-    }
 
 -- ---- look-ups
 

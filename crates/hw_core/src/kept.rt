@@ -324,6 +324,11 @@ impl Kept {
         let _after = self.state.dag();
         match added {
             Ok(settled) => {
+                if settled == 0 {
+                    // So the fork choice and the decided blocks stay as they are.
+                    self.shown.forget();
+                    return Ok(Receipt::Admitted { settled });
+                }
                 self.fork = follow(
                     self.journal.as_slice(),
                     &mut self.state,

@@ -1,21 +1,19 @@
-use Rattle.std.proofs.Common.{ℕ, List, filter, Option, Some, None, sym, ap, ◌∙◌}
+use Rattle.std.proofs.Common.{ℕ, List, filter, Option, Some, sym, ap, ◌∙◌}
 use Rattle.std.specs.Prelude.{slice_get}
 use Rattle.std.specs.Option.{option_and_then, option_copied}
 use Rattle.hw_types.specs.declared.unit.Vertex.{Vertex}
-use Rattle.hw_park.proofs.NumberLaws.{numbers_found}
 use Rattle.hw_core.specs.Journal.{JournalState, tells}
 use Rattle.hw_core.proofs.JournalLaws.{got, told_found}
+use Rattle.hw_core.proofs.NeedPlaceLaws.{places_found}
 use Rattle.hw_core.proofs.journal.Journal.told_at.Goals as goal
 
 pub returns-in_err-found : goal.returns-in_err-found
 returns-in_err-found c =
     let journal = c.self.inside.vertices.items in
     let told = c.self.inside.told.entries in
-    let places = c.in_ok-places.places.now in
-    let at = numbers_found told c.key_of.result c.args.need.now (Some places) c.key_of.ensures c.in_ok-places.ensures.value in
+    let at = places_found told c.key_of.result c.args.need.now (Some c.in_ok-places.places.now) c.key_of.ensures c.in_ok-places.ensures.value in
     ap (λ (o : Option _). option_copied o) c.from_residual-in_err-found.ensures
-    ∙ ap (λ (o : Option ℕ). option_and_then (λ p. slice_get journal p) o)
-    (got c.deref.result.now c.args.place None c.in_err-found.ensures.lookup.0 c.in_err-found.ensures.lookup.1 ∙ ap (λ (ns : List ℕ). slice_get ns c.args.place) (c.deref.ensures.value ∙ sym at))
+    ∙ ap (λ (o : Option ℕ). option_and_then (λ p. slice_get journal p) o) (c.in_err-found.ensures ∙ ap (λ (ns : List ℕ). slice_get ns c.args.place) (sym at))
     ∙ told_found journal told c.args.need.now c.args.place c.self.invariant
     ∙ ap (λ (j : JournalState). slice_get (filter (tells c.args.need.now) j.items) c.args.place) c.self.view_is
 
@@ -23,12 +21,10 @@ pub returns : goal.returns
 returns c =
     let journal = c.self.inside.vertices.items in
     let told = c.self.inside.told.entries in
-    let places = c.in_ok-places.places.now in
-    let found = c.in_ok-found.found.now in
-    let at = numbers_found told c.key_of.result c.args.need.now (Some places) c.key_of.ensures c.in_ok-places.ensures.value in
-    got c.deref-2.result.now found c.get-3.result c.get-3.ensures.lookup.0 c.get-3.ensures.lookup.1
-    ∙ ap (λ (vs : List Vertex). slice_get vs found) c.deref-2.ensures.value
-    ∙ ap (λ (o : Option ℕ). option_and_then (λ p. slice_get journal p) o)
-    (got c.deref.result.now c.args.place (Some c.in_ok-found.found) c.in_ok-found.ensures.lookup.0 c.in_ok-found.ensures.lookup.1 ∙ ap (λ (ns : List ℕ). slice_get ns c.args.place) (c.deref.ensures.value ∙ sym at))
+    let found = c.in_ok-found.found in
+    let at = places_found told c.key_of.result c.args.need.now (Some c.in_ok-places.places.now) c.key_of.ensures c.in_ok-places.ensures.value in
+    got c.deref.result.now found c.get-3.result c.get-3.ensures.lookup.0 c.get-3.ensures.lookup.1
+    ∙ ap (λ (vs : List Vertex). slice_get vs found) c.deref.ensures.value
+    ∙ ap (λ (o : Option ℕ). option_and_then (λ p. slice_get journal p) o) (c.in_ok-found.ensures ∙ ap (λ (ns : List ℕ). slice_get ns c.args.place) (sym at))
     ∙ told_found journal told c.args.need.now c.args.place c.self.invariant
     ∙ ap (λ (j : JournalState). slice_get (filter (tells c.args.need.now) j.items) c.args.place) c.self.view_is

@@ -13,6 +13,7 @@ use Rattle.hw_core.specs.Units.{IsNewUnit}
 use Rattle.hw_core.proofs.DecidedLaws.{mapped_length, room_less}
 use Rattle.hw_core.proofs.KeptLaws.{fit_more, pairs_more}
 use Rattle.hw_core.proofs.FollowLaws.{follow_told, follow_room, kept_followed, kept_quiet, kept_roomy}
+use Rattle.hw_core.proofs.StillLaws.{same_roomy}
 use Rattle.hw_core.proofs.TableLaws.{name_unknown, table_unit}
 use Rattle.hw_core.proofs.kept.Kept.take_unit.Goals as goal
 
@@ -94,7 +95,7 @@ invariant_of-self-in_default c =
     let few = room_less done.decided (length (graph done.state.dag) + length done.park.waiting) (length (graph core.state.dag) + (length core.park.waiting + 1)) placed.room e.blocks in
     kept_quiet core.instance core.journal.items core.names.entries core.park core.dropped.entries core.dropped.room core.state core.fork core.decided core.shown c.self.invariant
     (vertex.Unit u) done.state done.park done.decided placed.node placed.config placed.grows c.add_unit-added.ensures.graph c.dag-graph.ensures.graph c.add_unit-added.ensures.decided few
-    (placed.still c.in_default.not-Admitted)
+    (same_roomy core.state done.state (placed.still c.in_default.not-Admitted))
     listed.journal.items journal listed.names.entries done.dropped.entries done.dropped.room table placed.rules_are c.add_unit-added.ensures.places
     (fit_more core.instance core.journal.items core.names.entries core.park core.dropped.entries core.dropped.room core.state core.fork core.decided core.shown c.self.invariant (vertex.Unit u) c.requires.fits)
     (pairs_more core.instance core.journal.items core.names.entries core.park core.dropped.entries core.dropped.room core.state core.fork core.decided core.shown c.self.invariant (vertex.Unit u) (λ e is. absurd cc))
