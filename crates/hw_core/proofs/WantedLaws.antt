@@ -9,8 +9,7 @@ use Rattle.hw_types.specs.declared.unit.Need.{Need}
 use Rattle.hw_types.specs.contracts.unit.NeedPartialEq.TheImpl as test
 use Rattle.hw_types.specs.Settled.{need_eq}
 use Rattle.hw_park.specs.declared.key.NeedKey.{NeedKey}
-use Rattle.hw_park.specs.Keys.{key_of, ties}
-use Rattle.hw_park.specs.Left.{has_key}
+use Rattle.hw_park.specs.Keys.{key_of, ties, has_key}
 use Rattle.hw_park.proofs.KeyLaws.{key_same, test_same}
 use Rattle.hw_core.specs.Missing.{AreKeysBehind}
 use Rattle.hw_core.proofs.MissingLaws.{any_last}
