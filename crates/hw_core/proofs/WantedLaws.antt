@@ -1,18 +1,18 @@
 -- Needs that are looked for one by one, and by their keys behind the first few.
-use Rattle.std.proofs.Common.{◌≡◌, ℕ, ◌+◌, ◌<◌, ◌≤◌, ◌⊎◌, inl, inr, Bool, true, false, cond, List, [], ◌∷◌, ◌++◌, length, take, drop, refl, sym, ap, ◌∙◌, arith}
+use Rattle.std.proofs.Common.{◌≡◌, ℕ, ◌+◌, ◌<◌, ◌≤◌, ◌⊎◌, inl, inr, Bool, true, false, not, cond, List, [], ◌∷◌, ◌++◌, length, take, drop, Result, Ok, Err, refl, sym, ap, ◌∙◌, arith}
 use Rattle.std.specs.Prelude.{◌||◌}
 use Rattle.std.specs.List.{list_any}
-use Rattle.std.proofs.lemmas.List.{take-append-drop, drop-append-le, drop_all, length-append}
+use Rattle.std.specs.Result.{OnOk}
+use Rattle.std.proofs.lemmas.List.{take-append-drop, take_all, drop-append-le, drop_all, length-append}
 use Rattle.std.proofs.lemmas.Bool.{cases_lt}
 use Rattle.std.proofs.lemmas.List.Folds.{list_any-append}
 use Rattle.hw_types.specs.declared.unit.Need.{Need}
 use Rattle.hw_types.specs.contracts.unit.NeedPartialEq.TheImpl as test
 use Rattle.hw_types.specs.Settled.{need_eq}
 use Rattle.hw_park.specs.declared.key.NeedKey.{NeedKey}
-use Rattle.hw_park.specs.Keys.{key_of, ties}
-use Rattle.hw_park.specs.Left.{has_key}
+use Rattle.hw_park.specs.Keys.{key_of, ties, has_key}
 use Rattle.hw_park.proofs.KeyLaws.{key_same, test_same}
-use Rattle.hw_core.specs.Missing.{AreKeysBehind}
+use Rattle.hw_core.specs.Missing.{AreKeysBehind, with_need}
 use Rattle.hw_core.proofs.MissingLaws.{any_last}
 
 -- a need that goes last behind the first few, with its key
@@ -38,22 +38,61 @@ behind_few keys needs m few all n =
     let long = length-append needs (m ∷ []) in
     all n ∙ ap (list_any (λ k. need_eq k n)) (drop_all 16 needs (omega arith) ∙ sym (drop_all 16 (needs ++ m ∷ []) (omega arith)))
 
--- so many are looked through
-pub any_looked : (p : Need → Bool) (needs : List Need) (k : ℕ) → k ≤ 16 → k ≤ length needs → (k < 16 → length needs ≤ k) → list_any p needs ≡ list_any p (take k needs) || list_any p (drop 16 needs)
-any_looked p needs k few within whole =
-    ap (list_any p) (sym (take-append-drop k needs)) ∙ list_any-append p (take k needs) (drop k needs)
-    ∙ ap (λ (ns : List Need). list_any p (take k needs) || list_any p ns) (behind (cases_lt k 16))
+-- the first few that are looked through
+pub first_looked : (needs : List Need) (k : ℕ) → k ≤ 16 → k ≤ length needs → (k < 16 → length needs ≤ k) → take k needs ≡ take 16 needs
+first_looked needs k few within whole = go (cases_lt k 16)
   where
-    behind : (k < 16) ⊎ (16 ≤ k) → drop k needs ≡ drop 16 needs
-    behind (inl less) = let all = whole less in drop_all k needs all ∙ sym (drop_all 16 needs (omega arith))
-    behind (inr more) = let same : k ≡ 16 = omega arith in ap (λ (n : ℕ). drop n needs) same
+    go : (k < 16) ⊎ (16 ≤ k) → take k needs ≡ take 16 needs
+    go (inl less) = let all = whole less in take_all k needs all ∙ sym (take_all 16 needs (omega arith))
+    go (inr more) = let same : k ≡ 16 = omega arith in ap (λ (n : ℕ). take n needs) same
+
+-- what is there is among the first few or behind them
+any_parts : (n : Need) (needs : List Need) → list_any (λ m. need_eq m n) needs ≡ list_any (λ m. need_eq m n) (take 16 needs) || list_any (λ m. need_eq m n) (drop 16 needs)
+any_parts n needs = ap (list_any (λ m. need_eq m n)) (sym (take-append-drop 16 needs)) ∙ list_any-append (λ m. need_eq m n) (take 16 needs) (drop 16 needs)
+
+wanted_by : (needs : List Need) (n : Need) (b : Bool) → list_any (λ m. need_eq m n) needs ≡ b → cond b needs (needs ++ n ∷ []) ≡ with_need (λ _. false) needs n
+wanted_by needs n true e = sym (ap (λ (b : Bool). cond (not (b || false)) (needs ++ n ∷ []) needs) e)
+wanted_by needs n false e = sym (ap (λ (b : Bool). cond (not (b || false)) (needs ++ n ∷ []) needs) e)
+
+-- a need among the first few isn't put
+pub wanted_first : (needs : List Need) (n : Need) (r : Bool) → r ≡ list_any (λ m. need_eq m n) (take 16 needs) → r ≡ true → needs ≡ with_need (λ _. false) needs n
+wanted_first needs n r is there =
+    wanted_by needs n true (any_parts n needs ∙ ap (λ (b : Bool). b || list_any (λ m. need_eq m n) (drop 16 needs)) (sym is ∙ there))
+
+-- one that isn't there is put where there are few
+pub wanted_few : (needs : List Need) (n : Need) (r : Bool) → r ≡ list_any (λ m. need_eq m n) (take 16 needs) → r ≡ false → length needs < 16 → needs ++ n ∷ [] ≡ with_need (λ _. false) needs n
+wanted_few needs n r is absent few =
+    wanted_by needs n false (any_parts n needs ∙ ap (λ (b : Bool). b || list_any (λ m. need_eq m n) (drop 16 needs)) (sym is ∙ absent) ∙ ap (list_any (λ m. need_eq m n)) (drop_all 16 needs (omega (arith, few))))
+
+-- one that isn't among them is put where it isn't behind them
+pub wanted_behind : (needs : List Need) (n : Need) (r : Bool) → r ≡ list_any (λ m. need_eq m n) (take 16 needs) → r ≡ false
+    → cond (list_any (λ m. need_eq m n) (drop 16 needs)) needs (needs ++ n ∷ []) ≡ with_need (λ _. false) needs n
+wanted_behind needs n r is absent =
+    ap (λ (b : Bool). cond b needs (needs ++ n ∷ [])) (sym behind) ∙ wanted_by needs n (list_any (λ m. need_eq m n) needs) refl
+  where
+    behind : list_any (λ m. need_eq m n) needs ≡ list_any (λ m. need_eq m n) (drop 16 needs)
+    behind = any_parts n needs ∙ ap (λ (b : Bool). b || list_any (λ m. need_eq m n) (drop 16 needs)) (sym is ∙ absent)
 
 -- the derived test is that of the definitions
 pub tests_same : (n : Need) (needs : List Need) → list_any (λ m. test.eq-value.it m n) needs ≡ list_any (λ m. need_eq m n) needs
 tests_same n needs = λ i. list_any (λ m. test_same m n i) needs
 
-pub found_first : {r a whole : Bool} (b : Bool) → r ≡ a → r ≡ true → whole ≡ a || b → r ≡ whole
-found_first b first t looked = t ∙ sym (looked ∙ ap (λ (x : Bool). x || b) (sym first ∙ t))
+-- what a set says of a key that was put into it
+pub added_new : {r b c : Bool} → r ≡ not b → b ≡ c → r ≡ true → c ≡ false
+added_new {r} {b} {c} added is new = sym is ∙ go b (sym added ∙ new)
+  where
+    go : (x : Bool) → not x ≡ true → x ≡ false
+    go true e = absurd cc
+    go false e = refl
 
-pub found_behind : {r s a b whole : Bool} → r ≡ a → r ≡ false → s ≡ b → whole ≡ a || b → s ≡ whole
-found_behind {r} {s} {a} {b} first f behind looked = behind ∙ sym (looked ∙ ap (λ (x : Bool). x || b) (sym first ∙ f))
+pub added_old : {r b c : Bool} → r ≡ not b → b ≡ c → r ≡ false → c ≡ true
+added_old {r} {b} {c} added is old = sym is ∙ go b (sym added ∙ old)
+  where
+    go : (x : Bool) → not x ≡ false → x ≡ true
+    go true e = refl
+    go false e = absurd cc
+
+-- a fact about a call that succeeded, from another
+pub on_ok_then : {A E P Q : Type 0} (r : Result A E) → (P → Q) → OnOk r P → OnOk r Q
+on_ok_then (Ok v) follows fact = follows fact
+on_ok_then (Err e) follows fact = fact

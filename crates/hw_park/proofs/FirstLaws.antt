@@ -1,31 +1,27 @@
 -- Laws of the list of the first needs.
-use Rattle.std.proofs.Common.{◌≡◌, ℕ, ◌+◌, ◌<◌, ◌≤◌, Bool, true, false, not, cond, List, [], ◌∷◌, ◌++◌, length, take, drop, filter, refl, sym, ap, ◌∙◌, arith, Option, Some, None}
+use Rattle.std.proofs.Common.{◌≡◌, ℕ, ◌+◌, ◌<◌, ◌≤◌, Bool, true, false, not, cond, List, [], ◌∷◌, ◌++◌, length, take, drop, filter, refl, sym, ap, ◌∙◌, arith}
 use Rattle.std.specs.Prelude.{◌||◌, ◌&&◌, nat_le}
 use Rattle.std.specs.List.{list_any}
-use Rattle.std.specs.BTreeSet.{BTreeSet}
 use Rattle.std.proofs.lemmas.Bool.Decides.{nat_tests}
 use Rattle.std.proofs.lemmas.List.{take_at, take_all, append_assoc, append-nil, length-append}
 use Rattle.hw_types.specs.declared.unit.Need.{Need}
 use Rattle.hw_types.specs.Settled.{need_eq, distinct}
-use Rattle.hw_park.specs.declared.key.NeedKey.{NeedKey}
-use Rattle.hw_park.specs.Left.{left_of, is_left_by, left_by}
+use Rattle.hw_park.specs.Numbers.{has_number}
+use Rattle.hw_park.specs.Held.{left_of}
 use Rattle.hw_park.specs.First.{with_first, with_firsts}
 use Rattle.hw_park.proofs.KeyLaws.{need_same}
+use Rattle.hw_park.proofs.NoteLaws.{filter_both, filter_same}
 
--- one need more, which is left or not
-pub put_step : (keys : Option (BTreeSet NeedKey)) (items : List Need) (i most : ℕ) (n : Need) (ns now : List Need) (b : Bool) → drop i items ≡ n ∷ drop (i + 1) items → is_left_by keys n ≡ b
-    → now ≡ cond b (with_first most ns n) ns → with_firsts most now (left_by keys (drop (i + 1) items)) ≡ with_firsts most ns (left_by keys (drop i items))
-put_step keys items i most n ns now b more has is =
-    ap (λ (xs : List Need). with_firsts most xs (left_by keys rest)) is ∙ go b ∙ sym (ap (λ (xs : List Need). with_firsts most ns (left_by keys xs)) more ∙ ap (with_firsts most ns) (one_more keys has))
+-- one need more, for which the place is noted or not
+pub put_step : (notes : Need → List ℕ) (place : ℕ) (items : List Need) (i most : ℕ) (n : Need) (ns now : List Need) → drop i items ≡ n ∷ drop (i + 1) items
+    → now ≡ cond (has_number (notes n) place) (with_first most ns n) ns → with_firsts most now (left_of notes place (drop (i + 1) items)) ≡ with_firsts most ns (left_of notes place (drop i items))
+put_step notes place items i most n ns now more is =
+    ap (λ (xs : List Need). with_firsts most xs (left_of notes place rest)) is ∙ go (has_number (notes n) place) ∙ sym (ap (λ (xs : List Need). with_firsts most ns (left_of notes place xs)) more)
   where
     rest : List Need
     rest = drop (i + 1) items
 
-    one_more : (keys : Option (BTreeSet NeedKey)) → is_left_by keys n ≡ b → left_by keys (n ∷ rest) ≡ cond b (n ∷ left_by keys rest) (left_by keys rest)
-    one_more None has = ap (λ (b : Bool). cond b (n ∷ rest) rest) has
-    one_more (Some set) has = ap (λ (b : Bool). cond b (n ∷ left_of set.keys rest) (left_of set.keys rest)) has
-
-    go : (b : Bool) → with_firsts most (cond b (with_first most ns n) ns) (left_by keys rest) ≡ with_firsts most ns (cond b (n ∷ left_by keys rest) (left_by keys rest))
+    go : (b : Bool) → with_firsts most (cond b (with_first most ns n) ns) (left_of notes place rest) ≡ with_firsts most ns (cond b (n ∷ left_of notes place rest) (left_of notes place rest))
     go true = refl
     go false = refl
 
@@ -69,19 +65,6 @@ new_last n m ns = ap not (any_last n m ns) ∙ go (list_any (λ k. need_eq k m) 
     go true false = refl
     go false true = refl
     go false false = refl
-
--- to filter twice is to filter by both
-filter_both : (p q : Need → Bool) (ns : List Need) → filter p (filter q ns) ≡ filter (λ n. q n && p n) ns
-filter_both p q [] = refl
-filter_both p q (n ∷ ns) = go (q n) (p n) refl refl (filter_both p q ns)
-  where
-    go : (a b : Bool) → q n ≡ a → p n ≡ b → filter p (filter q ns) ≡ filter (λ n. q n && p n) ns → filter p (filter q (n ∷ ns)) ≡ filter (λ n. q n && p n) (n ∷ ns)
-    go true true e f rest = rw (e, f) (ap (λ (xs : List Need). n ∷ xs) rest)
-    go true false e f rest = rw (e, f) rest
-    go false b e f rest = rw e rest
-
-filter_same : (p q : Need → Bool) (ns : List Need) → ((n : Need) → p n ≡ q n) → filter p ns ≡ filter q ns
-filter_same p q ns same = ap (λ (f : Need → Bool). filter f ns) (λ i n. same n i)
 
 -- what is there already is no newer without it
 there_gone : (ns : List Need) (n : Need) → is_new ns n ≡ false → (m : Need) → (not (need_eq n m) && is_new ns m) ≡ is_new ns m

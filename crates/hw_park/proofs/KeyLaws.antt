@@ -1,5 +1,5 @@
 -- Laws of needs as keys.
-use Rattle.std.proofs.Common.{◌≡◌, ℕ, Bool, true, false, eqb, refl, sym, ap, ◌∙◌, eqb-true, rules, arith}
+use Rattle.std.proofs.Common.{◌≡◌, ℕ, true, eqb, refl, ap, eqb-true, rules, arith}
 use Rattle.std.specs.Ordering.{is_eq, nat_cmp}
 use Rattle.std.proofs.lemmas.Bool.Decides.{nat_tests}
 use Rattle.std.proofs.lemmas.Map.Text.{is_eq-slice_cmp}
@@ -8,8 +8,6 @@ use Rattle.hw_types.specs.declared.unit.Need.TheVariants as need
 use Rattle.hw_types.specs.contracts.unit.NeedPartialEq.TheImpl as test
 use Rattle.hw_types.specs.Settled.{need_eq}
 use Rattle.hw_types.proofs.SettledLaws.{digest_same, digest_self}
-use Rattle.hw_park.specs.declared.key.NeedKey.{NeedKey}
-use Rattle.hw_park.specs.declared.key.NeedKey.TheVariants as key
 use Rattle.hw_park.specs.Keys.{key_of, ties}
 
 number_tie : (v w : ℕ) → is_eq (nat_cmp v w) ≡ eqb v w
@@ -26,17 +24,6 @@ key_same (need.Evidence v) (need.Unit e) = refl
 key_same (need.Evidence v) (need.Endorsed e) = refl
 key_same (need.Endorsed d) (need.Unit e) = refl
 key_same (need.Endorsed d) (need.Evidence w) = refl
-
--- each key is that of a need
-abbrev pub need_of : NeedKey → Need
-need_of (key.Unit d) = need.Unit d
-need_of (key.Evidence v) = need.Evidence v
-need_of (key.Endorsed d) = need.Endorsed d
-
-pub key_of_need : (k : NeedKey) → key_of (need_of k) ≡ k
-key_of_need (key.Unit d) = refl
-key_of_need (key.Evidence v) = refl
-key_of_need (key.Endorsed d) = refl
 
 -- equal needs are one
 pub need_same : (m n : Need) → need_eq m n ≡ true → m ≡ n
@@ -55,15 +42,6 @@ pub need_self : (n : Need) → need_eq n n ≡ true
 need_self (need.Unit d) = digest_self d
 need_self (need.Evidence v) = search rules
 need_self (need.Endorsed d) = digest_self d
-
--- two needs are equal either way round
-pub need_turned : (m n : Need) → need_eq m n ≡ need_eq n m
-need_turned m n = go (need_eq m n) refl (need_eq n m) refl
-  where
-    go : (a : Bool) → need_eq m n ≡ a → (b : Bool) → need_eq n m ≡ b → need_eq m n ≡ need_eq n m
-    go true e b f = ap (λ (x : Need). need_eq m x) (sym (need_same m n e)) ∙ need_self m ∙ sym (need_self n) ∙ ap (λ (x : Need). need_eq n x) (sym (need_same m n e))
-    go false e true f = ap (λ (x : Need). need_eq m x) (need_same n m f) ∙ need_self m ∙ sym f
-    go false e false f = e ∙ sym f
 
 -- the derived test is that of the definitions
 pub test_same : (m n : Need) → test.eq-value.it m n ≡ need_eq m n

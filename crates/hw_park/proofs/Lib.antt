@@ -1,13 +1,13 @@
 pub mod KeyLaws
 pub mod NumberLaws
-pub mod LeftLaws
+pub mod NoteLaws
 pub mod ListedLaws
 pub mod ReadyLaws
-pub mod QueueLaws
 pub mod WaiterLaws
+pub mod QueueLaws
 pub mod HeldLaws
-pub mod NextLaws
 pub mod StruckLaws
+pub mod NextLaws
 pub mod StartLaws
 pub mod ParkLaws
 pub mod FirstLaws

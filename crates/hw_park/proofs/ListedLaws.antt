@@ -4,7 +4,7 @@ use Rattle.std.specs.List.{count_by}
 use Rattle.std.specs.Option.{option_map, option_map_or, option_to_list}
 use Rattle.std.proofs.lemmas.List.Sums.{sum_by-append, sum_by-cons}
 use Rattle.std.proofs.lemmas.Bool.{cases_eq, cases_lt}
-use Rattle.hw_park.specs.Kept.{listed}
+use Rattle.hw_park.specs.Kept.{listed, itself}
 
 -- the same at each number below
 pub listed-same : {W : Type 0} (f g : ℕ → Option W) (n : ℕ) → ((k : ℕ) → k < n → f k ≡ g k) → listed f n ≡ listed g n
@@ -23,12 +23,12 @@ map-optional s None = refl
 map-optional s (Some x) = refl
 
 -- each one changed
-pub listed-map : {W : Type 0} (s : W → W) (f g : ℕ → Option W) (n : ℕ) → ((k : ℕ) → k < n → g k ≡ option_map s (f k)) → listed g n ≡ map s (listed f n)
+pub listed-map : {W V : Type 0} (s : W → V) (f : ℕ → Option W) (g : ℕ → Option V) (n : ℕ) → ((k : ℕ) → k < n → g k ≡ option_map s (f k)) → listed g n ≡ map s (listed f n)
 unfolding listed
 listed-map s f g zero each = refl
-listed-map {W} s f g (suc n) each =
-    ap (λ (ws : List W). ws ++ option_to_list (g n)) (listed-map s f g n (λ k h. each k (omega arith)))
-    ∙ ap (λ (ws : List W). map s (listed f n) ++ ws) (ap (λ (o : Option W). option_to_list o) (each n (omega arith)) ∙ map-optional s (f n))
+listed-map {W} {V} s f g (suc n) each =
+    ap (λ (ws : List V). ws ++ option_to_list (g n)) (listed-map s f g n (λ k h. each k (omega arith)))
+    ∙ ap (λ (ws : List V). map s (listed f n) ++ ws) (ap (λ (o : Option V). option_to_list o) (each n (omega arith)) ∙ map-optional s (f n))
     ∙ sym (map-append s (listed f n) (option_to_list (f n)))
 
 -- one more
@@ -92,3 +92,11 @@ count-none p f (suc n) none =
     let rest = count-none p f n (λ k h. none k (omega arith)) in
     let last = ap {B = ℕ} (λ (b : Bool). if b then 1 else 0) (none n (omega arith)) in
     count-optional p (listed f n) (f n) ∙ omega (arith, rest, last)
+
+-- those that are counted by what is said of them
+pub count-mapped : {W : Type 0} (s : W → Bool) (ws : List W) → count_by itself (map s ws) ≡ count_by s ws
+count-mapped s [] = refl
+count-mapped s (w ∷ ws) =
+    let mapped = sum_by-cons (λ b. cond (itself b) 1 0) (s w) (map s ws) in
+    let plain = sum_by-cons (λ x. cond (s x) 1 0) w ws in
+    omega (arith, mapped, plain, count-mapped s ws)

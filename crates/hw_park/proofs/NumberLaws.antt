@@ -1,19 +1,16 @@
 -- Laws of the numbers that wait.
-use Rattle.std.proofs.Common.{◌≡◌, ℕ, ◌<◌, Bool, true, false, ◌||◌, nat_eq, cond, List, [], ◌∷◌, ◌++◌, map, filter, take, get_or, Option, Some, None, refl, ap, sym, ◌∙◌, subst, rules, arith, length, length-append, ◌+◌, ◌-◌, ◌==◌}
-use Rattle.std.specs.List.{list_any}
+use Rattle.std.proofs.Common.{◌≡◌, ℕ, ◌<◌, Bool, true, false, cond, List, [], ◌∷◌, ◌++◌, map, filter, take, get_or, Option, Some, None, refl, ap, sym, ◌∙◌, subst, arith, length, length-append, ◌+◌, ◌-◌, ◌==◌}
 use Rattle.std.specs.Option.{option_map_or, unwrap_or}
 use Rattle.std.specs.Map.{lookup}
 use Rattle.std.proofs.lemmas.List.{append-nil, append_assoc, map-append, take_more}
 use Rattle.std.proofs.lemmas.List.Elements.{filter-append}
-use Rattle.std.proofs.lemmas.Bool.Decides.{nat_tests}
-use Rattle.std.proofs.lemmas.List.Folds.{list_any-append}
 use Rattle.std.specs.declared.vec.Vec.{Vec}
 use Rattle.std.specs.declared.alloc.Global.{Global}
 use Rattle.hw_types.specs.declared.unit.Need.{Need}
 use Rattle.hw_types.specs.Settled.{need_eq}
 use Rattle.hw_park.specs.declared.key.NeedKey.{NeedKey}
 use Rattle.hw_park.specs.Keys.{key_of, ties}
-use Rattle.hw_park.specs.Numbers.{numbers_at, has_number, numbers_more, SameNumbers, HasRegistered}
+use Rattle.hw_park.specs.Numbers.{numbers_at, numbers_more, SameNumbers, HasRegistered}
 use Rattle.hw_park.proofs.KeyLaws.{key_same, need_same, need_self}
 
 -- a table in which one key has other numbers
@@ -37,14 +34,6 @@ numbers-other old new n m v put apart =
 -- the numbers of that need, where the key is the need's
 pub numbers-put_at : (old new : List (NeedKey × Vec ℕ Global)) (key : NeedKey) (n : Need) (v : Option (Vec ℕ Global)) → key ≡ key_of n → IsPut old new key v → numbers_at new n ≡ numbers_in v
 numbers-put_at old new key n v of put = numbers-put old new n v (subst (λ (x : NeedKey). IsPut old new x v) of put)
-
--- a number more, at the end
-pub has-more : (ns : List ℕ) (x k : ℕ) → has_number ns k ≡ true → has_number (ns ++ x ∷ []) k ≡ true
-has-more ns x k h = list_any-append (nat_eq k) ns (x ∷ []) ∙ ap (λ (b : Bool). b || has_number (x ∷ []) k) h
-
--- it is there
-pub has-last : (ns : List ℕ) (x : ℕ) → has_number (ns ++ x ∷ []) x ≡ true
-has-last ns x = search (rules, list_any-append)
 
 -- what is read of a table is what was there, or nothing
 pub read-put : (old : List (NeedKey × Vec ℕ Global)) (key : NeedKey) (n : Need) (v d : Vec ℕ Global) → key ≡ key_of n
@@ -138,38 +127,6 @@ registered-less first old new needs i k d within before last others n = go (need
         others n e ∙ whole
         ∙ ap (λ (b : Bool). (numbers_at first n ++ numbers_more (take i needs) n k) ++ map (λ _. k) (cond b (get_or needs i d ∷ []) [])) (turned (need_eq n (get_or needs i d)) refl e)
         ∙ append-nil (numbers_at first n ++ numbers_more (take i needs) n k)
-
--- what waited waits still
-pub registered-keeps : (old new : List (NeedKey × Vec ℕ Global)) (needs : List Need) (k : ℕ) → HasRegistered old new needs k
-    → (n : Need) (j : ℕ) → has_number (numbers_at old n) j ≡ true → has_number (numbers_at new n) j ≡ true
-registered-keeps old new needs k registered n j there =
-    ap (λ (ks : List ℕ). has_number ks j) (registered n) ∙ list_any-append (nat_eq j) (numbers_at old n) (numbers_more needs n k)
-    ∙ ap (λ (b : Bool). b || has_number (numbers_more needs n k) j) there
-
--- the number waits for each of the needs
-pub registered-waits : (old new : List (NeedKey × Vec ℕ Global)) (needs : List Need) (k : ℕ) → HasRegistered old new needs k
-    → (n : Need) → list_any (need_eq n) needs ≡ true → has_number (numbers_at new n) k ≡ true
-registered-waits old new needs k registered n there =
-    ap (λ (ks : List ℕ). has_number ks k) (registered n) ∙ list_any-append (nat_eq k) (numbers_at old n) (numbers_more needs n k)
-    ∙ ap (λ (b : Bool). has_number (numbers_at old n) k || b) (mine needs there) ∙ either (has_number (numbers_at old n) k)
-  where
-    either : (a : Bool) → a || true ≡ true
-    either true = refl
-    either false = refl
-
-    mine : (ms : List Need) → list_any (need_eq n) ms ≡ true → has_number (numbers_more ms n k) k ≡ true
-    mine [] h = h
-    mine (m ∷ ms) h = go (need_eq n m) refl (mine ms)
-      where
-        self : nat_eq k k ≡ true
-        self = grind (arith, nat_tests)
-
-        go : (b : Bool) → need_eq n m ≡ b → (list_any (need_eq n) ms ≡ true → has_number (numbers_more ms n k) k ≡ true)
-            → has_number (numbers_more (m ∷ ms) n k) k ≡ true
-        go true e rest = ap (λ (b : Bool). has_number (map (λ _. k) (cond b (m ∷ filter (need_eq n) ms) (filter (need_eq n) ms))) k) e ∙ ap (λ (b : Bool). b || has_number (numbers_more ms n k) k) self
-        go false e rest =
-            ap (λ (b : Bool). has_number (map (λ _. k) (cond b (m ∷ filter (need_eq n) ms) (filter (need_eq n) ms))) k) e
-            ∙ rest (sym (ap (λ (b : Bool). b || list_any (need_eq n) ms) e) ∙ h)
 
 -- nothing was registered
 pub registered-none : (old : List (NeedKey × Vec ℕ Global)) (k : ℕ) → HasRegistered old old [] k

@@ -3,7 +3,7 @@ use Rattle.std.proofs.Common.{◌≡◌, ◌≢◌, ◌⊎◌, inl, inr, ℕ, ze
 use Rattle.std.specs.List.{flat_map}
 use Rattle.std.specs.List.Sorted.{IsStrictlySortedBy}
 use Rattle.std.specs.Map.{lookup, keys_of, values_of}
-use Rattle.std.specs.Option.{option_map, option_map_or, option_to_list}
+use Rattle.std.specs.Option.{option_map, option_map_or, option_and_then, option_to_list}
 use Rattle.std.specs.Ordering.{nat_cmp}
 use Rattle.std.proofs.lemmas.Bool.{cases_eq, cases_lt}
 use Rattle.std.proofs.lemmas.Bool.Decides.{nat_tests}
@@ -12,7 +12,7 @@ use Rattle.std.proofs.lemmas.List.{append-nil, append_assoc}
 use Rattle.hw_types.specs.declared.unit.Need.{Need}
 use Rattle.hw_park.specs.declared.waiter.Waiter.{Waiter}
 use Rattle.hw_park.specs.Parked.{Waiting}
-use Rattle.hw_park.specs.Held.{Held, seen, slot_at, held, ArePlaced}
+use Rattle.hw_park.specs.Held.{Held, left_of, seen, slot_at, held, is_over, ready_at, ArePlaced}
 use Rattle.hw_park.specs.Kept.{listed}
 use Rattle.hw_park.specs.First.{needs_of_places}
 
@@ -107,29 +107,29 @@ table_gathered g f (suc m) a (e ∷ es) s i is = go (cases_eq e.0 a) (λ xs. tab
 
 -- ---- the items
 
-module _ {T : Type 0} (h : Held T) (placed : ArePlaced h.places h.slots) (n : ℕ) (beyond : (k : ℕ) → n ≤ k → held h k ≡ None) where
+module _ {T : Type 0} (h : Held T) (notes : Need → List ℕ) (placed : ArePlaced h.places h.slots) (n : ℕ) (beyond : (k : ℕ) → n ≤ k → ready_at h k ≡ None) where
   abbrev g : ℕ → List Need
-  g place = option_map_or (λ (w : Waiter T). w.needs) (slot_at h.slots place) []
+  g place = option_map_or (λ (w : Waiter T). left_of notes place w.needs.items) (slot_at h.slots place) []
 
-  at_number : (o : Option ℕ) → option_map_or (λ (w : Waiting T). w.needs) (elim o as (λ z. Option (Waiting T)) [ None ↦ None | Some place ↦ option_map seen (slot_at h.slots place) ]) [] ≡ option_map_or g o []
-  at_number None = refl
-  at_number (Some place) = go (slot_at h.slots place)
+  what_is : (o : Option ℕ) → option_map_or (λ (w : Waiting T). w.needs) (option_and_then (λ place. option_map (seen notes place) (slot_at h.slots place)) o) [] ≡ option_map_or g o []
+  what_is None = refl
+  what_is (Some place) = go (slot_at h.slots place)
     where
-      go : (s : Option (Waiter T)) → option_map_or (λ (w : Waiting T). w.needs) (option_map seen s) [] ≡ option_map_or (λ (w : Waiter T). w.needs) s []
+      go : (s : Option (Waiter T)) → option_map_or (λ (w : Waiting T). w.needs) (option_map (seen notes place) s) [] ≡ option_map_or (λ (w : Waiter T). left_of notes place w.needs.items) s []
       go None = refl
       go (Some w) = refl
 
   number_below : (k p : ℕ) → lookup (nat_eq k) h.places ≡ Some p → k < n
   number_below k p at = go (cases_lt k n)
     where
-      some_none : (s : Option (Waiter T)) → IsSome s → option_map seen s ≡ None → ⊥
+      some_none : (s : Option (Waiter T)) → IsSome s → option_map is_over s ≡ None → ⊥
       some_none None some none = absurd cc
       some_none (Some w) some none = absurd cc
 
       go : ((k < n) ⊎ (n ≤ k)) → k < n
       go (inl low) = low
       go (inr high) = absurd (some_none (slot_at h.slots p) (placed.full k p at)
-          (sym (ap (λ (o : Option ℕ). elim o as (λ z. Option (Waiting T)) [ None ↦ None | Some place ↦ option_map seen (slot_at h.slots place) ]) at) ∙ beyond k high))
+          (sym (ap (λ (o : Option ℕ). option_and_then (λ place. option_map is_over (slot_at h.slots place)) o) at) ∙ beyond k high))
 
   all_in : (es : List (ℕ × ℕ)) → ((k p : ℕ) → lookup (nat_eq k) es ≡ Some p → k < n) → IsIn 0 n es
   all_in [] below = tt
@@ -147,7 +147,7 @@ module _ {T : Type 0} (h : Held T) (placed : ArePlaced h.places h.slots) (n : �
       rest k p at false same = below k p (ap (λ (b : Bool). cond b (Some e.1) (lookup (nat_eq k) es)) same ∙ at)
 
   -- the needs in the places, by number, are those of the items in their order
-  pub places_listed : IsStrictlySortedBy nat_cmp (keys_of h.places) → needs_of_places h (values_of h.places) ≡ flat_map (λ w. w.needs) (listed (held h) n)
+  pub places_listed : IsStrictlySortedBy nat_cmp (keys_of h.places) → needs_of_places h notes (values_of h.places) ≡ flat_map (λ w. w.needs) (listed (held h notes) n)
   places_listed sorted =
-      table_gathered g (needs_at (held h)) n 0 h.places sorted (subst (λ (b : ℕ). IsIn 0 b h.places) (omega arith) (all_in h.places number_below)) (λ k le. at_number (lookup (nat_eq k) h.places))
-      ∙ sym (listed_gathered (held h) n)
+      table_gathered g (needs_at (held h notes)) n 0 h.places sorted (subst (λ (b : ℕ). IsIn 0 b h.places) (omega arith) (all_in h.places number_below)) (λ k le. what_is (lookup (nat_eq k) h.places))
+      ∙ sym (listed_gathered (held h notes) n)

@@ -1,261 +1,192 @@
 -- Laws of striking a need.
-use Rattle.std.proofs.Common.{◌≡◌, ◌≢◌, ◌⊎◌, inl, inr, ℕ, ◌+◌, ◌<◌, ◌≤◌, Bool, true, false, not, ◌&&◌, ◌||◌, cond, ◌==◌, nat_eq, List, [], ◌∷◌, length, take, get_or, Option, Some, None, refl, ap, sym, ◌∙◌, subst, arith, if◌then◌else◌}
-use Rattle.std.specs.List.{list_any}
-use Rattle.std.specs.List.Sorted.{IsPermutation}
+use Rattle.std.proofs.Common.{◌≡◌, ℕ, ◌+◌, ◌-◌, ◌<◌, Bool, true, false, cond, ◌==◌, nat_eq, List, [], ◌∷◌, map, length, take, get_or, Option, Some, None, refl, ap, sym, ◌∙◌, subst, arith, if◌then◌else◌}
+use Rattle.std.specs.List.{count_by}
+use Rattle.std.specs.Map.{lookup}
+use Rattle.std.specs.Option.{option_map, option_and_then}
 use Rattle.std.specs.declared.cmp.Reverse.{Reverse}
 use Rattle.std.specs.declared.vec.Vec.{Vec}
 use Rattle.std.specs.declared.alloc.Global.{Global}
-use Rattle.std.proofs.lemmas.Bool.{cases_eq}
-use Rattle.std.proofs.lemmas.Bool.Decides.{nat_tests}
-use Rattle.std.proofs.lemmas.List.Folds.{list_any_more}
-use Rattle.std.proofs.lemmas.List.{length-map}
-use Rattle.std.proofs.lemmas.List.Sums.{count_by-le-length}
+use Rattle.std.proofs.lemmas.List.{length-map, take_more}
 use Rattle.hw_types.specs.declared.unit.Need.{Need}
 use Rattle.hw_types.specs.Settled.{need_eq}
 use Rattle.hw_park.specs.declared.key.NeedKey.{NeedKey}
+use Rattle.hw_park.specs.declared.waiter.Waiter.{Waiter}
 use Rattle.hw_park.specs.Keys.{key_of}
 use Rattle.hw_park.specs.Numbers.{numbers_at, has_number}
-use Rattle.hw_park.specs.Parked.{Waiting, is_ready, relieved, without_need, struck}
-use Rattle.hw_park.specs.Kept.{listed, is_ready_at, relieved_at, IsQueue, IsQueueOf, IsKept, AreNoted, tally_of}
-use Rattle.hw_park.proofs.KeyLaws.{need_same, need_self}
-use Rattle.hw_park.proofs.NumberLaws.{IsPut, numbers-other}
-use Rattle.hw_park.proofs.ListedLaws.{worth, listed-map, count-step, count-all}
-use Rattle.hw_park.proofs.QueueLaws.{worth-ready, tally-more, one-self, one-other}
+use Rattle.hw_park.specs.Parked.{Waiting, is_ready, relieved, struck}
+use Rattle.hw_park.specs.Held.{Held, slot_at, left_of, seen, held, is_over, ready_at, struck_by}
+use Rattle.hw_park.specs.Kept.{listed, itself, is_so, is_ready_at, relieved_at, times_at, times_of, IsQueueOf, IsKept, AreNoted}
+use Rattle.hw_park.proofs.NumberLaws.{IsPut, numbers-put, numbers-other}
+use Rattle.hw_park.proofs.NoteLaws.{IsCleared, cleared-has, left-cleared, left-fewer, times-none, times-append}
+use Rattle.hw_park.proofs.ListedLaws.{listed-map, count-mapped}
 
--- a need that isn't there
-pub without_need-absent : (n : Need) (ns : List Need) → list_any (need_eq n) ns ≡ false → without_need n ns ≡ ns
-without_need-absent n [] absent = refl
-without_need-absent n (m ∷ ms) absent = go (need_eq n m) refl absent (without_need-absent n ms)
-  where
-    go : (b : Bool) → need_eq n m ≡ b → (need_eq n m || list_any (need_eq n) ms) ≡ false → (list_any (need_eq n) ms ≡ false → without_need n ms ≡ ms) → without_need n (m ∷ ms) ≡ m ∷ ms
-    go true e absent rest = absurd (cc (sym absent ∙ ap (λ (b : Bool). b || list_any (need_eq n) ms) e))
-    go false e absent rest =
-        ap (λ (b : Bool). cond (not b) (m ∷ without_need n ms) (without_need n ms)) e
-        ∙ ap (λ (ks : List Need). m ∷ ks) (rest (sym (ap (λ (b : Bool). b || list_any (need_eq n) ms) e) ∙ absent))
+-- ---- whether an item is ready is what its count says
 
--- one of two holds
-or_right : (a b : Bool) → b ≡ true → (a || b) ≡ true
-or_right true b e = refl
-or_right false b e = e
+module _ {T : Type 0} (h : Held T) (notes : Need → List ℕ) (noted : AreNoted h.slots notes) where
+  -- the count of an item is that of the needs that it has left
+  pub ready_is : (k : ℕ) → ready_at h k ≡ option_map is_ready (held h notes k)
+  ready_is k = go (lookup (nat_eq k) h.places)
+    where
+      at : (p : ℕ) (s : Option (Waiter T)) → slot_at h.slots p ≡ s → option_map is_over s ≡ option_map is_ready (option_map (seen notes p) s)
+      at p None e = refl
+      at p (Some w) e = ap (λ (l : ℕ). Some (l == 0)) (noted.counted p w e)
 
--- a need that is still there
-pub without_need-has : (n k : Need) (ns : List Need) → list_any (need_eq k) (without_need n ns) ≡ true → (need_eq n k ≡ false) × (list_any (need_eq k) ns ≡ true)
-without_need-has n k [] there = absurd cc
-without_need-has n k (m ∷ ms) there = go (need_eq n m) refl (need_eq k m) refl (without_need-has n k ms)
-  where
-    go : (b : Bool) → need_eq n m ≡ b → (a : Bool) → need_eq k m ≡ a
-        → (list_any (need_eq k) (without_need n ms) ≡ true → (need_eq n k ≡ false) × (list_any (need_eq k) ms ≡ true))
-        → (need_eq n k ≡ false) × ((need_eq k m || list_any (need_eq k) ms) ≡ true)
-    go true e a f rest =
-        let shorter : list_any (need_eq k) (without_need n ms) ≡ true = sym (ap (λ (b : Bool). list_any (need_eq k) (cond (not b) (m ∷ without_need n ms) (without_need n ms))) e) ∙ there in
-        let both = rest shorter in
-        (both.0, or_right (need_eq k m) (list_any (need_eq k) ms) both.1)
-    go false e true f rest = (ap (need_eq n) (need_same k m f) ∙ e, ap (λ (b : Bool). b || list_any (need_eq k) ms) f)
-    go false e false f rest =
-        let same : (need_eq k m || list_any (need_eq k) (without_need n ms)) ≡ true = sym (ap (λ (b : Bool). list_any (need_eq k) (cond (not b) (m ∷ without_need n ms) (without_need n ms))) e) ∙ there in
-        let both = rest (sym (ap (λ (b : Bool). b || list_any (need_eq k) (without_need n ms)) f) ∙ same) in
-        (both.0, or_right (need_eq k m) (list_any (need_eq k) ms) both.1)
+      go : (o : Option ℕ) → option_and_then (λ place. option_map is_over (slot_at h.slots place)) o ≡ option_map is_ready (option_and_then (λ place. option_map (seen notes place) (slot_at h.slots place)) o)
+      go None = refl
+      go (Some p) = at p (slot_at h.slots p) refl
 
--- an item without a need left has none left
-ready_stays : {T : Type 0} (n : Need) (w : Waiting T) → is_ready w ≡ true → is_ready (relieved n w) ≡ true
-ready_stays n w ready = go w.needs ready
-  where
-    go : (ns : List Need) → (length ns == 0) ≡ true → (length (without_need n ns) == 0) ≡ true
-    go [] e = refl
-    go (m ∷ ms) e = absurd (grind (arith, e))
+  pub so_ready : (k : ℕ) → is_so (ready_at h k) ≡ is_ready_at (held h notes k)
+  so_ready k = ap is_so (ready_is k) ∙ go (held h notes k)
+    where
+      go : (o : Option (Waiting T)) → is_so (option_map is_ready o) ≡ is_ready_at o
+      go None = refl
+      go (Some w) = refl
 
--- the same of what is there
-ready_stays_at : {T : Type 0} (n : Need) (o : Option (Waiting T)) → is_ready_at o ≡ true → is_ready_at (relieved_at n o) ≡ true
-ready_stays_at n None ready = ready
-ready_stays_at n (Some w) ready = ready_stays n w ready
+  pub listed_ready : (n : ℕ) → listed (ready_at h) n ≡ map is_ready (listed (held h notes) n)
+  listed_ready n = listed-map is_ready (held h notes) (ready_at h) n (λ k low. ready_is k)
 
--- as many are there
-there_stays : {T : Type 0} (n : Need) (o : Option (Waiting T)) → worth (λ _. true) (relieved_at n o) ≡ worth (λ _. true) o
-there_stays n None = refl
-there_stays n (Some w) = refl
+  -- there are as many answers as items
+  pub as_many : (n : ℕ) → length (listed (ready_at h) n) ≡ length (listed (held h notes) n)
+  as_many n = ap length (listed_ready n) ∙ length-map (listed (held h notes) n) is_ready
 
--- one item is relieved of a need
-pub record IsStruckAt {T : Type 0} (old new : ℕ → Option (Waiting T)) (n : Need) (x : ℕ) : Type 0 where
-  pub here : new x ≡ relieved_at n (old x)
-  pub others : (k : ℕ) → k ≢ x → new k ≡ old k
+  pub count_ready : (n : ℕ) → count_by itself (listed (ready_at h) n) ≡ count_by is_ready (listed (held h notes) n)
+  count_ready n = ap (count_by itself) (listed_ready n) ∙ count-mapped is_ready (listed (held h notes) n)
 
-pub struck_at : {T : Type 0} (old new : ℕ → Option (Waiting T)) (n : Need) (x : ℕ)
-    → ((k : ℕ) → new k ≡ (if k == x then relieved_at n (old k) else old k)) → IsStruckAt old new n x
-struck_at {T} old new n x each = record {
-  here = let same : (x == x) ≡ true = grind (arith, nat_tests) in each x ∙ ap (λ (b : Bool). if b then relieved_at n (old x) else old x) same;
-  others = λ k apart. let other : (k == x) ≡ false = grind (arith, nat_tests) in each k ∙ ap (λ (b : Bool). if b then relieved_at n (old k) else old k) other;
-}
+-- ---- a need is noted for no place any more
 
--- what is behind all numbers stays nothing
-struck_beyond : {T : Type 0} (old new : ℕ → Option (Waiting T)) (m : Need) (x n : ℕ) (ready : List (Reverse ℕ)) (len room : ℕ)
-    → IsQueueOf old n ready len room → IsStruckAt old new m x → n ≤ x → new x ≡ old x
-struck_beyond {T} old new m x n ready len room queue step high =
-    step.here ∙ ap (relieved_at m) (queue.below x high) ∙ sym (queue.below x high)
-
-struck_below : {T : Type 0} (old new : ℕ → Option (Waiting T)) (m : Need) (x n : ℕ) (ready : List (Reverse ℕ)) (len room : ℕ)
-    → IsQueueOf old n ready len room → IsStruckAt old new m x → (k : ℕ) → n ≤ k → new k ≡ None
-struck_below {T} old new m x n ready len room queue step k high = go (cases_eq k x)
-  where
-    go : ((k ≡ x) ⊎ (k ≢ x)) → new k ≡ None
-    go (inl e) =
-        let far : n ≤ x = omega (arith, e, high) in
-        ap new e ∙ struck_beyond old new m x n ready len room queue step far ∙ queue.below x far
-    go (inr ne) = step.others k ne ∙ queue.below k high
-
--- as many items are parked
-pub struck_length : {T : Type 0} (old new : ℕ → Option (Waiting T)) (m : Need) (x n : ℕ) (ready : List (Reverse ℕ)) (len room : ℕ)
-    → IsQueueOf old n ready len room → IsStruckAt old new m x → length (listed new n) ≡ length (listed old n)
-struck_length old new m x n ready len room queue step =
-    let counted = count-step (λ _. true) old new n x step.others (struck_beyond old new m x n ready len room queue step) in
-    let here = ap (worth (λ _. true)) step.here in
-    omega (arith, counted, here, there_stays m (old x), count-all (listed old n), count-all (listed new n))
-
--- an item that isn't the last to be relieved is ready where it was
-pub queue-same : {T : Type 0} (old new : ℕ → Option (Waiting T)) (m : Need) (x n : ℕ) (ready : List (Reverse ℕ)) (len room : ℕ)
-    → IsQueueOf old n ready len room → IsStruckAt old new m x → (not (is_ready_at (old x)) && is_ready_at (new x)) ≡ false
-    → IsQueueOf new n ready len room
-queue-same {T} old new m x n ready len room queue step last =
-    let same : is_ready_at (new x) ≡ is_ready_at (old x) = ready_same (is_ready_at (old x)) refl (is_ready_at (new x)) refl in
-    let counted = count-step is_ready old new n x step.others (struck_beyond old new m x n ready len room queue step) in
-    let here = ap {B = ℕ} (λ (b : Bool). if b then 1 else 0) same in
+pub cleared_of : (waits rest : List (NeedKey × Vec ℕ Global)) (key : NeedKey) (n : Need) → key ≡ key_of n → IsPut waits rest key None → IsCleared (numbers_at waits) (numbers_at rest) n
+cleared_of waits rest key n of put =
+    let there = subst (λ (k : NeedKey). IsPut waits rest k None) of put in
     record {
-      ordered = queue.ordered;
-      once = λ k. once k (cases_eq k x) same;
-      many = omega (arith, queue.many, counted, here);
-      fits = omega (arith, queue.fits, struck_length old new m x n ready len room queue step);
-      below = struck_below old new m x n ready len room queue step;
+      here = numbers-put waits rest n None there;
+      others = λ m apart. numbers-other waits rest n m None there apart;
     }
+
+-- ---- waiters are counted down
+
+-- one number more
+times-more : (numbers : List ℕ) (i q : ℕ) → i < length numbers → times_at (take (i + 1) numbers) q ≡ times_at (take i numbers) q + cond (nat_eq q (get_or numbers i 0)) 1 0
+times-more numbers i q within =
+    ap (λ (ns : List ℕ). times_at ns q) (take_more numbers i 0 within) ∙ times-append (take i numbers) (get_or numbers i 0 ∷ []) q
+    ∙ ap (λ (k : ℕ). times_at (take i numbers) q + k) (one (nat_eq q (get_or numbers i 0)))
   where
-    ready_same : (a : Bool) → is_ready_at (old x) ≡ a → (b : Bool) → is_ready_at (new x) ≡ b → is_ready_at (new x) ≡ is_ready_at (old x)
-    ready_same true e b f = ap is_ready_at step.here ∙ ready_stays_at m (old x) e ∙ sym e
-    ready_same false e true f = absurd (cc (sym last ∙ ap (λ (a : Bool). not a && is_ready_at (new x)) e ∙ f))
-    ready_same false e false f = f ∙ sym e
+    one : (b : Bool) → length (cond b (get_or numbers i 0 ∷ []) []) ≡ cond b 1 0
+    one true = refl
+    one false = refl
 
-    once : (k : ℕ) → ((k ≡ x) ⊎ (k ≢ x)) → is_ready_at (new x) ≡ is_ready_at (old x) → tally_of ready k ≡ (if is_ready_at (new k) then 1 else 0)
-    once k (inl e) same = queue.once k ∙ ap {B = ℕ} (λ (b : Bool). if b then 1 else 0) (ap (λ (j : ℕ). is_ready_at (old j)) e ∙ sym same ∙ sym (ap (λ (j : ℕ). is_ready_at (new j)) e))
-    once k (inr ne) same = queue.once k ∙ ap {B = ℕ} (λ (o : Option (Waiting T)). if is_ready_at o then 1 else 0) (sym (step.others k ne))
+module _ {T : Type 0} where
+  -- the waiter of each place has a need less as often as its place is among these
+  pub record IsStruck (first now : Held T) (numbers : List ℕ) : Type 0 where
+    pub places : now.places ≡ first.places
+    pub slots : (q : ℕ) → slot_at now.slots q ≡ option_map (struck_by (times_at numbers q)) (slot_at first.slots q)
 
--- an item that was relieved of its last need is ready
-pub queue-pushed : {T : Type 0} (old new : ℕ → Option (Waiting T)) (m : Need) (x n : ℕ) (ready more : List (Reverse ℕ)) (len room wider : ℕ) (r : Reverse ℕ) (longer : ℕ)
-    → IsQueueOf old n ready len room → IsStruckAt old new m x → (not (is_ready_at (old x)) && is_ready_at (new x)) ≡ true
-    → r.0 ≡ x → IsPermutation (r ∷ ready) more → IsQueue more → longer ≡ len + 1 → room ≤ wider
-    → IsQueueOf new n more longer wider
-queue-pushed {T} old new m x n ready more len room wider r longer queue step last of moved ordered grown wide =
-    let parts = both (is_ready_at (old x)) refl (is_ready_at (new x)) refl in
-    let counted = count-step is_ready old new n x step.others (struck_beyond old new m x n ready len room queue step) in
-    let was = worth-ready (old x) false parts.0 in
-    let now = worth-ready (new x) true parts.1 in
-    record {
-      ordered = ordered;
-      once = λ k. once k (cases_eq r.0 k);
-      many = omega (arith, queue.many, counted, was, now, grown);
-      fits = omega (arith, queue.fits, wide, struck_length old new m x n ready len room queue step);
-      below = struck_below old new m x n ready len room queue step;
+  pub struck_none : (h : Held T) → IsStruck h h []
+  struck_none h = record { places = refl; slots = λ q. go (slot_at h.slots q) }
+    where
+      go : (o : Option (Waiter T)) → o ≡ option_map (struck_by 0) o
+      go None = refl
+      go (Some w) = let same : w.left ≡ w.left - 0 = omega arith in ap (λ (l : ℕ). Some (record w { left = l })) same
+
+  pub struck_more : (first now new : Held T) (numbers : List ℕ) (i : ℕ) → i < length numbers → IsStruck first now (take i numbers) → new.places ≡ now.places
+      → ((q : ℕ) → slot_at new.slots q ≡ (if q == get_or numbers i 0 then option_map (struck_by 1) (slot_at now.slots q) else slot_at now.slots q)) → IsStruck first new (take (i + 1) numbers)
+  struck_more first now new numbers i within before same step = record {
+    places = same ∙ before.places;
+    slots = λ q. step q ∙ go q (nat_eq q (get_or numbers i 0)) refl (slot_at first.slots q) (before.slots q);
+  }
+    where
+      by_count : (q : ℕ) (o : Option (Waiter T)) (count : ℕ) → count ≡ times_at (take (i + 1) numbers) q → option_map (struck_by count) o ≡ option_map (struck_by (times_at (take (i + 1) numbers) q)) o
+      by_count q o count e = ap (λ (c : ℕ). option_map (struck_by c) o) e
+
+      twice : (q : ℕ) (o : Option (Waiter T)) (count : ℕ) → option_map (struck_by 1) (option_map (struck_by count) o) ≡ option_map (struck_by (count + 1)) o
+      twice q None count = refl
+      twice q (Some w) count = let same : w.left - count - 1 ≡ w.left - (count + 1) = omega arith in ap (λ (l : ℕ). Some (record w { left = l })) same
+
+      go : (q : ℕ) (b : Bool) → nat_eq q (get_or numbers i 0) ≡ b → (o : Option (Waiter T)) → slot_at now.slots q ≡ option_map (struck_by (times_at (take i numbers) q)) o
+          → (if q == get_or numbers i 0 then option_map (struck_by 1) (slot_at now.slots q) else slot_at now.slots q) ≡ option_map (struck_by (times_at (take (i + 1) numbers) q)) o
+      go q true e o was =
+          let more = times-more numbers i q within ∙ ap (λ (b : Bool). times_at (take i numbers) q + cond b 1 0) e in
+          ap (λ (b : Bool). if b then option_map (struck_by 1) (slot_at now.slots q) else slot_at now.slots q) e
+          ∙ ap (λ (s : Option (Waiter T)). option_map (struck_by 1) s) was ∙ twice q o (times_at (take i numbers) q) ∙ by_count q o (times_at (take i numbers) q + 1) (sym more)
+      go q false e o was =
+          let more = times-more numbers i q within ∙ ap (λ (b : Bool). times_at (take i numbers) q + cond b 1 0) e in
+          let level : times_at (take i numbers) q ≡ times_at (take (i + 1) numbers) q = omega (arith, more) in
+          ap (λ (b : Bool). if b then option_map (struck_by 1) (slot_at now.slots q) else slot_at now.slots q) e
+          ∙ was ∙ by_count q o (times_at (take i numbers) q) level
+
+  module _ (first now : Held T) (was new : Need → List ℕ) (n : Need) (numbers : List ℕ) (step : IsStruck first now numbers) (are : was n ≡ numbers) (cleared : IsCleared was new n) where
+    -- each item is relieved of the need
+    pub held_struck : (k : ℕ) → held now new k ≡ relieved_at n (held first was k)
+    held_struck k =
+        ap (λ (ps : List (ℕ × ℕ)). option_and_then (λ place. option_map (seen new place) (slot_at now.slots place)) (lookup (nat_eq k) ps)) step.places
+        ∙ go (lookup (nat_eq k) first.places)
+      where
+        at : (p : ℕ) (o : Option (Waiter T)) → option_map (seen new p) (option_map (struck_by (times_at numbers p)) o) ≡ relieved_at n (option_map (seen was p) o)
+        at p None = refl
+        at p (Some w) = ap (λ (ns : List Need). Some (record { needs = ns; item = w.item })) (left-cleared was new n cleared p w.needs.items)
+
+        go : (o : Option ℕ) → option_and_then (λ place. option_map (seen new place) (slot_at now.slots place)) o ≡ relieved_at n (option_and_then (λ place. option_map (seen was place) (slot_at first.slots place)) o)
+        go None = refl
+        go (Some p) = ap (λ (o : Option (Waiter T)). option_map (seen new p) o) (step.slots p) ∙ at p (slot_at first.slots p)
+
+    -- the list of all items
+    pub listed_struck : (k : ℕ) → listed (held now new) k ≡ struck n (listed (held first was) k)
+    listed_struck k = listed-map (relieved n) (held first was) (held now new) k (λ j low. held_struck j)
+
+    -- the places are noted as they should
+    pub noted_struck : AreNoted first.slots was → AreNoted now.slots new
+    noted_struck noted = record {
+      empty = λ q m none. empty q m none (slot_at first.slots q) refl;
+      wholly = λ q w m there has. wholly q w m there has (slot_at first.slots q) refl;
+      counted = λ q w there. counted q w there (slot_at first.slots q) refl;
     }
-  where
-    both : (a : Bool) → is_ready_at (old x) ≡ a → (b : Bool) → is_ready_at (new x) ≡ b → (is_ready_at (old x) ≡ false) × (is_ready_at (new x) ≡ true)
-    both true e b f = absurd (cc (sym last ∙ ap (λ (a : Bool). not a && is_ready_at (new x)) e))
-    both false e true f = (e, f)
-    both false e false f = absurd (cc (sym last ∙ ap (λ (a : Bool). not a && is_ready_at (new x)) e ∙ f))
+      where
+        either : (a b : Bool) → b ≡ false → cond a false b ≡ false
+        either true b e = refl
+        either false b e = e
 
-    once : (k : ℕ) → ((r.0 ≡ k) ⊎ (r.0 ≢ k)) → tally_of more k ≡ (if is_ready_at (new k) then 1 else 0)
-    once k (inl e) =
-        let parts = both (is_ready_at (old x)) refl (is_ready_at (new x)) refl in
-        let was = worth-ready (old x) false parts.0 in
-        let now = worth-ready (new x) true parts.1 in
-        let here : tally_of more r.0 ≡ 1 = omega (arith, tally-more r ready more moved r.0, one-self r, queue.once r.0, ap (λ (j : ℕ). worth is_ready (old j)) of, was) in
-        let there : tally_of more r.0 ≡ worth is_ready (new r.0) = omega (arith, here, ap (λ (j : ℕ). worth is_ready (new j)) of, now) in
-        subst (λ (j : ℕ). tally_of more j ≡ worth is_ready (new j)) e there
-    once k (inr ne) =
-        let same = ap (worth is_ready) (step.others k (λ e. ne (of ∙ sym e))) in
-        omega (arith, tally-more r ready more moved k, one-other r k ne, queue.once k, same)
+        -- what stands in a place of which it is known what stood there
+        here : (q : ℕ) (o : Option (Waiter T)) → slot_at first.slots q ≡ o → slot_at now.slots q ≡ option_map (struck_by (times_at numbers q)) o
+        here q o e = step.slots q ∙ ap (λ (s : Option (Waiter T)). option_map (struck_by (times_at numbers q)) s) e
 
--- there is room for the number of an item that was relieved of its last need
-pub queue-room : {T : Type 0} (old new : ℕ → Option (Waiting T)) (m : Need) (x n : ℕ) (ready : List (Reverse ℕ)) (len room : ℕ)
-    → IsQueueOf old n ready len room → IsStruckAt old new m x → (not (is_ready_at (old x)) && is_ready_at (new x)) ≡ true → len < room
-queue-room {T} old new m x n ready len room queue step last = go (is_ready_at (old x)) refl (is_ready_at (new x)) refl
-  where
-    go : (a : Bool) → is_ready_at (old x) ≡ a → (b : Bool) → is_ready_at (new x) ≡ b → len < room
-    go true e b f = absurd (cc (sym last ∙ ap (λ (a : Bool). not a && is_ready_at (new x)) e))
-    go false e false f = absurd (cc (sym last ∙ ap (λ (a : Bool). not a && is_ready_at (new x)) e ∙ f))
-    go false e true f =
-        let counted = count-step is_ready old new n x step.others (struck_beyond old new m x n ready len room queue step) in
-        omega (arith, queue.many, queue.fits, counted, worth-ready (old x) false e, worth-ready (new x) true f, struck_length old new m x n ready len room queue step, count_by-le-length is_ready (listed new n))
+        empty : (q : ℕ) (m : Need) → slot_at now.slots q ≡ None → (o : Option (Waiter T)) → slot_at first.slots q ≡ o → has_number (new m) q ≡ false
+        empty q m none None e = cleared-has was new n cleared m q ∙ either (need_eq n m) (has_number (was m) q) (noted.empty q m e)
+        empty q m none (Some v) e = absurd (cc (sym none ∙ here q (Some v) e))
 
--- a need is taken out once
-without_need-twice : (n : Need) (ns : List Need) → without_need n (without_need n ns) ≡ without_need n ns
-without_need-twice n ns = without_need-absent n (without_need n ns) (go (list_any (need_eq n) (without_need n ns)) refl)
-  where
-    go : (b : Bool) → list_any (need_eq n) (without_need n ns) ≡ b → list_any (need_eq n) (without_need n ns) ≡ false
-    go true e = absurd (cc (need_self n, (without_need-has n n ns e).0))
-    go false e = e
+        apart_from : (q : ℕ) (m : Need) (b : Bool) → need_eq n m ≡ b → has_number (new m) q ≡ true → need_eq n m ≡ false
+        apart_from q m false e has = e
+        apart_from q m true e has = absurd (cc (sym has ∙ cleared-has was new n cleared m q ∙ ap (λ (b : Bool). cond b false (has_number (was m) q)) e))
 
-relieved_twice : {T : Type 0} (n : Need) (o : Option (Waiting T)) → relieved_at n (relieved_at n o) ≡ relieved_at n o
-relieved_twice n None = refl
-relieved_twice {T} n (Some w) = ap (λ (ns : List Need). Some (record { needs = ns; item = w.item })) (without_need-twice n w.needs)
+        wholly : (q : ℕ) (w : Waiter T) (m : Need) → slot_at now.slots q ≡ Some w → has_number (new m) q ≡ true → (o : Option (Waiter T)) → slot_at first.slots q ≡ o
+            → times_at (new m) q ≡ times_of m w.needs.items
+        wholly q w m there has None e = absurd (cc (sym there ∙ here q None e))
+        wholly q w m there has (Some v) e =
+            let it : Some (struck_by (times_at numbers q) v) ≡ Some w = sym (here q (Some v) e) ∙ there in
+            let one : struck_by (times_at numbers q) v ≡ w = cc it in
+            let same = cleared.others m (apart_from q m (need_eq n m) refl has) in
+            ap (λ (ns : List ℕ). times_at ns q) same ∙ noted.wholly q v m e (ap (λ (ns : List ℕ). has_number ns q) (sym same) ∙ has)
+            ∙ ap (λ (x : Waiter T). times_of m x.needs.items) one
 
--- one number more whose item is relieved
-pub each_more : {T : Type 0} (first now new : ℕ → Option (Waiting T)) (m : Need) (numbers : List ℕ) (i : ℕ) → i < length numbers
-    → ((k : ℕ) → now k ≡ (if has_number (take i numbers) k then relieved_at m (first k) else first k))
-    → ((k : ℕ) → new k ≡ (if k == get_or numbers i 0 then relieved_at m (now k) else now k))
-    → (k : ℕ) → new k ≡ (if has_number (take (i + 1) numbers) k then relieved_at m (first k) else first k)
-each_more {T} first now new m numbers i within before step k =
-    go (has_number (take i numbers) k) refl (nat_eq k (get_or numbers i 0)) refl
-    ∙ sym (ap (λ (b : Bool). if b then relieved_at m (first k) else first k) (list_any_more (nat_eq k) numbers i 0 within))
-  where
-    go : (a : Bool) → has_number (take i numbers) k ≡ a → (b : Bool) → nat_eq k (get_or numbers i 0) ≡ b
-        → new k ≡ (if has_number (take i numbers) k || nat_eq k (get_or numbers i 0) then relieved_at m (first k) else first k)
-    go true e true f =
-        let was = before k ∙ ap (λ (b : Bool). if b then relieved_at m (first k) else first k) e in
-        step k ∙ ap (λ (b : Bool). if b then relieved_at m (now k) else now k) f ∙ ap (relieved_at m) was ∙ relieved_twice m (first k)
-        ∙ sym (ap (λ (b : Bool). if b || nat_eq k (get_or numbers i 0) then relieved_at m (first k) else first k) e)
-    go true e false f =
-        let was = before k ∙ ap (λ (b : Bool). if b then relieved_at m (first k) else first k) e in
-        step k ∙ ap (λ (b : Bool). if b then relieved_at m (now k) else now k) f ∙ was
-        ∙ sym (ap (λ (b : Bool). if b || nat_eq k (get_or numbers i 0) then relieved_at m (first k) else first k) e)
-    go false e b f =
-        let was = before k ∙ ap (λ (b : Bool). if b then relieved_at m (first k) else first k) e in
-        step k ∙ ap (λ (o : Option (Waiting T)). if k == get_or numbers i 0 then relieved_at m o else o) was
-        ∙ sym (ap (λ (b : Bool). if b || nat_eq k (get_or numbers i 0) then relieved_at m (first k) else first k) e)
+        times : (q : ℕ) (v : Waiter T) → slot_at first.slots q ≡ Some v → (b : Bool) → has_number (was n) q ≡ b → times_at (was n) q ≡ cond (has_number (was n) q) (times_of n v.needs.items) 0
+        times q v e true has = noted.wholly q v n e has ∙ sym (ap (λ (b : Bool). cond b (times_of n v.needs.items) 0) has)
+        times q v e false has = times-none (was n) q has ∙ sym (ap (λ (b : Bool). cond b (times_of n v.needs.items) 0) has)
 
--- all items are relieved, since only these wait for the need
-pub struck_all : {T : Type 0} (first new : ℕ → Option (Waiting T)) (m : Need) (numbers : List ℕ) (waits : List (NeedKey × Vec ℕ Global))
-    → AreNoted first waits → numbers_at waits m ≡ numbers → ((k : ℕ) → new k ≡ (if has_number numbers k then relieved_at m (first k) else first k))
-    → (k : ℕ) → new k ≡ relieved_at m (first k)
-struck_all {T} first new m numbers waits noted are each k = go (has_number numbers k) refl
-  where
-    waits_not : (w : Waiting T) → first k ≡ Some w → has_number numbers k ≡ false → (b : Bool) → list_any (need_eq m) w.needs ≡ b → list_any (need_eq m) w.needs ≡ false
-    waits_not w here absent true e = absurd (cc (absent, sym (ap (λ (ns : List ℕ). has_number ns k) are) ∙ noted k w m here e))
-    waits_not w here absent false e = e
+        counted : (q : ℕ) (w : Waiter T) → slot_at now.slots q ≡ Some w → (o : Option (Waiter T)) → slot_at first.slots q ≡ o → w.left ≡ length (left_of new q w.needs.items)
+        counted q w there None e = absurd (cc (sym there ∙ here q None e))
+        counted q w there (Some v) e =
+            let it : Some (struck_by (times_at numbers q) v) ≡ Some w = sym (here q (Some v) e) ∙ there in
+            let one : struck_by (times_at numbers q) v ≡ w = cc it in
+            let fewer = left-fewer was new n cleared q v.needs.items in
+            let often = times q v e (has_number (was n) q) refl in
+            let same : times_at numbers q ≡ times_at (was n) q = ap (λ (ns : List ℕ). times_at ns q) (sym are) in
+            let left : v.left - times_at numbers q ≡ length (left_of new q v.needs.items) = omega (arith, noted.counted q v e, fewer, often, same) in
+            subst (λ (x : Waiter T). x.left ≡ length (left_of new q x.needs.items)) one left
 
-    same : has_number numbers k ≡ false → (o : Option (Waiting T)) → first k ≡ o → o ≡ relieved_at m o
-    same absent None here = refl
-    same absent (Some w) here =
-        ap (λ (ns : List Need). Some (record { needs = ns; item = w.item })) (sym (without_need-absent m w.needs (waits_not w here absent (list_any (need_eq m) w.needs) refl)))
-
-    go : (b : Bool) → has_number numbers k ≡ b → new k ≡ relieved_at m (first k)
-    go true e = each k ∙ ap (λ (b : Bool). if b then relieved_at m (first k) else first k) e
-    go false e = each k ∙ ap (λ (b : Bool). if b then relieved_at m (first k) else first k) e ∙ same e (first k) refl
-
--- the list of all items
-pub listed_struck : {T : Type 0} (first new : ℕ → Option (Waiting T)) (m : Need) (n : ℕ) → ((k : ℕ) → new k ≡ relieved_at m (first k)) → listed new n ≡ struck m (listed first n)
-listed_struck first new m n each = listed-map (relieved m) first new n (λ k h. each k)
-
--- the tables still belong together
-pub kept_struck : {T : Type 0} (limit count n : ℕ) (first new : ℕ → Option (Waiting T)) (m : Need) (waits rest : List (NeedKey × Vec ℕ Global)) (ready more : List (Reverse ℕ)) (len room longer wider : ℕ)
-    → IsKept limit count n first waits ready len room → ((k : ℕ) → new k ≡ relieved_at m (first k)) → IsPut waits rest (key_of m) None → IsQueueOf new n more longer wider
-    → IsKept limit count n new rest more longer wider
-kept_struck {T} limit count n first new m waits rest ready more len room longer wider kept each put queue = record {
-  counted = kept.counted ∙ sym (ap length (listed_struck first new m n each) ∙ length-map (listed first n) (relieved m));
-  within = kept.within;
-  noted = λ k w q there has. noted k w q (first k) refl (sym (each k) ∙ there) has;
-  queue = queue;
-}
-  where
-    noted : (k : ℕ) (w : Waiting T) (q : Need) (o : Option (Waiting T)) → first k ≡ o → relieved_at m (first k) ≡ Some w → list_any (need_eq q) w.needs ≡ true → has_number (numbers_at rest q) k ≡ true
-    noted k w q None here there has = absurd (cc (there, ap (relieved_at m) here))
-    noted k w q (Some v) here there has =
-        let same : relieved m v ≡ w = cc (there, ap (relieved_at m) here) in
-        let needs : list_any (need_eq q) (without_need m v.needs) ≡ true = ap (λ (u : Waiting T). list_any (need_eq q) u.needs) same ∙ has in
-        let parts = without_need-has m q v.needs needs in
-        ap (λ (ns : List ℕ). has_number ns k) (numbers-other waits rest m q None put parts.0) ∙ kept.noted k v q here parts.1
+    -- the tables still belong together
+    pub kept_struck : (limit count k : ℕ) (ready more : List (Reverse ℕ)) (len room longer wider : ℕ) → IsKept limit count k first was ready len room → IsQueueOf (ready_at now) k more longer wider
+        → IsKept limit count k now new more longer wider
+    kept_struck limit count k ready more len room longer wider kept queue = record {
+      counted = kept.counted ∙ sym (ap length (listed_struck k) ∙ length-map (listed (held first was) k) (relieved n));
+      within = kept.within;
+      noted = noted_struck kept.noted;
+      queue = queue;
+    }

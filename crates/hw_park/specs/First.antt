@@ -4,7 +4,7 @@ use Rattle.std.specs.List.{list_any, flat_map}
 use Rattle.std.specs.Option.{option_map_or}
 use Rattle.hw_types.specs.declared.unit.Need.{Need}
 use Rattle.hw_types.specs.Settled.{need_eq}
-use Rattle.hw_park.specs.Held.{Held, slot_at}
+use Rattle.hw_park.specs.Held.{Held, slot_at, left_of}
 
 -- the list, and the need last, unless it is there or the list is as long as may be
 abbrev pub with_first : ℕ → List Need → Need → List Need
@@ -16,5 +16,5 @@ with_firsts most ns [] = ns
 with_firsts most ns (m ∷ ms) = with_firsts most (with_first most ns m) ms
 
 -- the needs that the items in these places have left
-abbrev pub needs_of_places : {T : Type 0} → Held T → List ℕ → List Need
-needs_of_places h places = flat_map (λ place. option_map_or (λ w. w.needs) (slot_at h.slots place) []) places
+abbrev pub needs_of_places : {T : Type 0} → Held T → (Need → List ℕ) → List ℕ → List Need
+needs_of_places h notes places = flat_map (λ place. option_map_or (λ w. left_of notes place w.needs.items) (slot_at h.slots place) []) places

@@ -1,6 +1,5 @@
 pub mod Parked
 pub mod Keys
-pub mod Left
 pub mod Held
 pub mod Numbers
 pub mod Kept

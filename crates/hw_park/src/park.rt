@@ -2,13 +2,11 @@
 
 ghost use Rattle.std.specs.Prelude.{◌≡◌, ◌+◌, ◌<◌, ◌≤◌, ◌++◌, ◌∷◌, [], ◌↔◌, ◌≢◌, length, take, All, OnOk, OnErr, IfOk, IfErr, IfNone, IsNone};
 ghost use Rattle.std.specs.BinaryHeap.{heap_items, heap_len, heap_capacity};
-ghost use Rattle.hw_park.specs.Numbers.{SameNumbers, HasRegistered};
 ghost use Rattle.hw_park.specs.Parked.{struck, next_item, without_next, awaited};
 
 use crate::key::key_of;
-use crate::left::NeedsLeft;
 use crate::waiter::{Waiter, Waiters};
-use crate::waits::{Waits, register, withdraw};
+use crate::waits::Waits;
 use hw_types::{Need, OutOfMemory};
 use std::alloc::Global;
 use std::cmp::Reverse;
@@ -53,12 +51,12 @@ impl<T> Model for Park<T> {
     ghost Value = { Parked T };
 
     ghost use Rattle.std.specs.BinaryHeap.{heap_items, heap_len, heap_capacity};
-    ghost use Rattle.hw_park.specs.Held.{held};
+    ghost use Rattle.hw_park.specs.Numbers.{numbers_at};
     ghost use Rattle.hw_park.specs.Kept.{parked_by, IsKept};
 
-    ghost view = { λ p. parked_by p.limit p.next p.waiters };
+    ghost view = { λ p. parked_by p.limit p.next p.waiters (numbers_at p.waits.entries) };
 
-    ghost invariant = { λ p. IsKept p.limit p.count p.next (held p.waiters) p.waits.entries (heap_items p.ready) (heap_len p.ready) (heap_capacity p.ready) };
+    ghost invariant = { λ p. IsKept p.limit p.count p.next p.waiters (numbers_at p.waits.entries) (heap_items p.ready) (heap_len p.ready) (heap_capacity p.ready) };
 }
 
 impl<T: Drop> Park<T> {
@@ -90,7 +88,7 @@ impl<T: Drop> Park<T> {
         ensures within { result ≤ length list.old }
         ensures first { take result list.new ≡ take (length list.old) (awaited self.now.waiting) }
     {
-        self.waiters.first_needs(list)
+        self.waiters.first_needs(&self.waits, list)
     }
 
     /// Strikes a need from those of all items. It takes no memory.
@@ -101,13 +99,13 @@ impl<T: Drop> Park<T> {
         if self.count == 0 {
             return;
         }
-        let Some(numbers) = self.waits.remove(&key_of(need)) else {
+        let Some(places) = self.waits.remove(&key_of(need)) else {
             return;
         };
-        for number in &numbers {
-            if self.waiters.strike(*number, need) {
+        for place in &places {
+            if let Some(number) = self.waiters.strike(*place) {
                 // There is room, which was made when the item was parked.
-                let _ = self.ready.push(Reverse(*number));
+                let _ = self.ready.push(Reverse(number));
             }
         }
     }
@@ -147,53 +145,42 @@ impl<T: Drop> Park<T> {
         let Some(next) = number.checked_add(1) else {
             return Err(refused(ParkCause::OutOfMemory, item));
         };
-        let Ok(left) = prepare(
-            &mut self.waits,
-            &mut self.ready,
-            self.alloc,
-            needs,
-            number,
-            self.count,
-        ) else {
+        let Ok(own) = prepare(&mut self.ready, self.alloc, needs, self.count) else {
             return Err(refused(ParkCause::OutOfMemory, item));
         };
-        match self.waiters.insert(number, Waiter { needs: left, item }) {
+        let waiter = Waiter {
+            number,
+            needs: own,
+            left: needs.len(),
+            item,
+        };
+        match self.waiters.insert(&mut self.waits, self.alloc, waiter) {
             Ok(()) => {
                 self.count += 1;
                 self.next = next;
                 Ok(())
             }
-            Err(waiter) => {
-                withdraw(&mut self.waits, needs);
-                Err(refused(ParkCause::OutOfMemory, waiter.into_item()))
-            }
+            Err(waiter) => Err(refused(ParkCause::OutOfMemory, waiter.into_item())),
         }
     }
 }
 
-// Takes the memory that one item more will need, but for its own place, and notes its needs. Where there
-// is not enough, none are noted.
+// Takes the memory that one item more will need, but for its own place and its notes, and copies its needs.
 fn prepare(
-    waits: &mut Waits,
     ready: &mut Ready,
     alloc: Global,
     needs: &[Need],
-    number: u64,
     count: u32,
-) -> Result<NeedsLeft, OutOfMemory>
+) -> Result<Vec<Need>, OutOfMemory>
     requires { heap_len ready.old ≤ count }
     ensures items { heap_items ready.new ≡ heap_items ready.old }
     ensures len { heap_len ready.new ≡ heap_len ready.old }
     ensures capacity { heap_capacity ready.old ≤ heap_capacity ready.new }
     ensures room { OnOk result (count + 1 ≤ heap_capacity ready.new) }
-    ensures noted { OnOk result (HasRegistered waits.old.entries waits.new.entries needs.now number) }
-    ensures err { OnErr result (SameNumbers waits.old.entries waits.new.entries) }
-    ensures left { IfOk result (λ left. left ≡ needs.now) }
+    ensures copied { IfOk result (λ own. own.items ≡ needs.now) }
 {
     ready.reserve(count as usize + 1)?;
-    let left = NeedsLeft::new(alloc, needs)?;
-    register(waits, alloc, needs, number)?;
-    Ok(left)
+    Ok(Vec::from_slice(alloc, needs)?)
 }
 
 fn refused<T>(cause: ParkCause, item: T) -> ParkRefused<T>

@@ -7,4 +7,4 @@ use Rattle.hw_park.proofs.waits.withdraw.Given as goal
 
 -- the needs that are still noted
 abbrev pub invariant-loop-index : goal.invariant-loop-index
-invariant-loop-index l = (before : List (NeedKey × Vec ℕ Global)) (number : ℕ) → HasRegistered before l.initial.waits.entries l.needs number → HasRegistered before l.waits.entries (take l.index l.needs) number
+invariant-loop-index l = (before : List (NeedKey × Vec ℕ Global)) (place : ℕ) → HasRegistered before l.initial.waits.entries l.needs place → HasRegistered before l.waits.entries (take l.index l.needs) place

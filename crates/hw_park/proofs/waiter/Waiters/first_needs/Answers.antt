@@ -3,7 +3,8 @@ use Rattle.std.specs.List.{flat_map}
 use Rattle.std.specs.Option.{option_map_or}
 use Rattle.hw_types.specs.declared.unit.Need.{Need}
 use Rattle.hw_park.specs.declared.waiter.Waiter.{Waiter}
-use Rattle.hw_park.specs.Held.{Held, held}
+use Rattle.hw_park.specs.Held.{Held, left_of, held, ready_at}
+use Rattle.hw_park.specs.Numbers.{numbers_at}
 use Rattle.hw_park.specs.Kept.{listed}
 use Rattle.hw_park.specs.First.{with_firsts, needs_of_places}
 use Rattle.hw_park.specs.Parked.{Waiting, awaited}
@@ -18,17 +19,18 @@ loop-place-preserved-in-Some-get g c =
     let h : Held g.row.T.Denot = record { places = c.self.inside.places.entries; slots = c.self.inside.items.slots } in
     let place = c.in-Some.place.now in
     let now = c.in-Some-get.waiter.now in
-    let e = c.put_into-filled.ensures in
+    let e = c.put_left-filled.ensures in
     let k = c.loop-place.invariant in
     let was = take c.loop-place.filled c.loop-place.list in
-    let later = needs_of_places h c.next.new.self in
+    let notes = numbers_at c.args.waits.now.entries in
+    let later = needs_of_places h notes c.next.new.self in
     record {
       within = let a = e.within in let b = e.long in omega arith;
       long = e.long ∙ k.long;
-      put = ap (λ (ns : List Need). with_firsts most ns later) (e.put ∙ ap (λ (m : ℕ). with_firsts m was now.needs) k.long)
-          ∙ sym (firsts-append most was now.needs later)
-          ∙ ap (λ (o : Option W). with_firsts most was (option_map_or (λ (w : W). w.needs) o [] ++ later)) c.in-Some-get.ensures
-          ∙ ap (λ (ps : List ℕ). with_firsts most was (needs_of_places h ps)) (sym c.in-Some.ensures.steps)
+      put = ap (λ (ns : List Need). with_firsts most ns later) (e.put ∙ ap (λ (ns : List Need). with_firsts (length c.loop-place.list) was (left_of notes place ns)) c.as_slice.ensures.value ∙ ap (λ (m : ℕ). with_firsts m was (left_of notes place now.needs.items)) k.long)
+          ∙ sym (firsts-append most was (left_of notes place now.needs.items) later)
+          ∙ ap (λ (o : Option W). with_firsts most was (option_map_or (λ (w : W). left_of notes place w.needs.items) o [] ++ later)) c.in-Some-get.ensures
+          ∙ ap (λ (ps : List ℕ). with_firsts most was (needs_of_places h notes ps)) (sym c.in-Some.ensures.steps)
           ∙ k.put;
     }
 
@@ -37,14 +39,16 @@ loop-place-preserved g c =
     let W : Type 0 = Waiter g.row.T.Denot in
     let most = length c.args.list.now in
     let h : Held g.row.T.Denot = record { places = c.self.inside.places.entries; slots = c.self.inside.items.slots } in
+    let place = c.in-Some.place.now in
     let k = c.loop-place.invariant in
     let was = take c.loop-place.filled c.loop-place.list in
-    let later = needs_of_places h c.next.new.self in
+    let notes = numbers_at c.args.waits.now.entries in
+    let later = needs_of_places h notes c.next.new.self in
     record {
       within = k.within;
       long = k.long;
-      put = ap (λ (o : Option W). with_firsts most was (option_map_or (λ (w : W). w.needs) o [] ++ later)) c.in_default.ensures
-          ∙ ap (λ (ps : List ℕ). with_firsts most was (needs_of_places h ps)) (sym c.in-Some.ensures.steps)
+      put = ap (λ (o : Option W). with_firsts most was (option_map_or (λ (w : W). left_of notes place w.needs.items) o [] ++ later)) c.in_default.ensures
+          ∙ ap (λ (ps : List ℕ). with_firsts most was (needs_of_places h notes ps)) (sym c.in-Some.ensures.steps)
           ∙ k.put;
     }
 
@@ -57,9 +61,10 @@ returns-clause-put g c n beyond =
     let h : Held g.row.T.Denot = record { places = c.self.inside.places.entries; slots = c.self.inside.items.slots } in
     let k = c.loop-place.invariant in
     let was = take c.loop-place.filled c.loop-place.list in
-    ap (λ (ps : List ℕ). with_firsts most was (needs_of_places h ps)) (sym c.in-None.ensures.steps.0)
+    let notes = numbers_at c.args.waits.now.entries in
+    ap (λ (ps : List ℕ). with_firsts most was (needs_of_places h notes ps)) (sym c.in-None.ensures.steps.0)
     ∙ k.put
-    ∙ ap (λ (ps : List ℕ). with_firsts most [] (needs_of_places h ps)) (c.into_iter-place-iterator.ensures.into_iter_gives ∙ c.values-place-items.ensures.rest)
-    ∙ ap (λ (ns : List Need). with_firsts most [] ns) (places_listed h c.self.invariant n (λ j le. ap (λ (x : Held g.row.T.Denot). held x j) c.self.view_is ∙ beyond j le) c.values-place-items.ensures.ordered)
-    ∙ firsts_of most (flat_map (λ (w : Waiting g.row.T.Denot). w.needs) (listed (held h) n))
-    ∙ ap (λ (x : Held g.row.T.Denot). take most (awaited (listed (held x) n))) c.self.view_is
+    ∙ ap (λ (ps : List ℕ). with_firsts most [] (needs_of_places h notes ps)) (c.into_iter-place-iterator.ensures.into_iter_gives ∙ c.values-place-items.ensures.rest)
+    ∙ ap (λ (ns : List Need). with_firsts most [] ns) (places_listed h notes c.self.invariant n (λ j le. ap (λ (x : Held g.row.T.Denot). ready_at x j) c.self.view_is ∙ beyond j le) c.values-place-items.ensures.ordered)
+    ∙ firsts_of most (flat_map (λ (w : Waiting g.row.T.Denot). w.needs) (listed (held h notes) n))
+    ∙ ap (λ (x : Held g.row.T.Denot). take most (awaited (listed (held x notes) n))) c.self.view_is

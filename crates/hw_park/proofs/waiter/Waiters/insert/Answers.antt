@@ -1,10 +1,18 @@
-use Rattle.std.proofs.Common.{◌≡◌, ℕ, Some, ap, sym, ◌∙◌, ◌==◌, if◌then◌else◌}
+use Rattle.std.proofs.Common.{◌≡◌, ℕ, List, Some, ap, sym, refl, subst, ◌∙◌}
+use Rattle.hw_types.specs.declared.unit.Need.{Need}
+use Rattle.hw_park.specs.Numbers.{HasRegistered}
 use Rattle.slab.specs.Slab.{Slab}
 use Rattle.hw_park.specs.declared.waiter.Waiter.{Waiter}
-use Rattle.hw_park.specs.Held.{Held, seen, slot_at, held}
-use Rattle.hw_park.proofs.HeldLaws.{IsSlotSet, moved, held_put, placed_put}
+use Rattle.hw_park.specs.Held.{Held, seen, is_over, slot_at, ready_at, IsSlotSet}
+use Rattle.hw_park.proofs.HeldLaws.{moved, number_put, placed_put, no_place}
 use Rattle.hw_park.proofs.ParkLaws.{not_err}
 use Rattle.hw_park.proofs.waiter.Waiters.insert.Goals as goal
+
+pub returns-then-is_err-3-clause-unnoted : goal.returns-then-is_err-3-clause-unnoted
+returns-then-is_err-3-clause-unnoted g c =
+    let noted = not_err c.register.result (sym c.is_err-2.ensures.value ∙ c.if-is_err-2.false) c.register.ensures.noted in
+    c.withdraw.ensures c.args.waits.now.entries c.vacant_key-place.result
+    (subst (λ (needs : List Need). HasRegistered c.args.waits.now.entries c.register.new.waits.entries needs c.vacant_key-place.result) (c.as_slice.ensures.value ∙ sym c.as_slice-then-is_err-3.ensures.value) noted)
 
 pub invariant_of-self-2 : goal.invariant_of-self-2
 invariant_of-self-2 g c =
@@ -18,11 +26,13 @@ invariant_of-self-2 g c =
       here = ap (slot_at new.slots) at ∙ c.insert_reserved.ensures.updates.changed;
       others = λ q apart. c.insert_reserved.ensures.updates.others q (λ e. apart (e ∙ sym at)) ∙ kept q;
     } in
-    let updates = not_err c.insert.result (sym c.is_err-2.ensures.value ∙ c.if-is_err-2.false) c.insert.ensures.updates in
-    placed_put old new c.args.number place c.args.waiter c.self.invariant (sym (kept place) ∙ c.vacant_key-place.ensures.vacant) (moved old.places new.places c.args.number (Some place) updates.0) set
+    let updates = not_err c.insert.result (sym c.is_err-3.ensures.value ∙ c.if-is_err-3.false) c.insert.ensures.updates in
+    let fresh = no_place old c.args.waiter.number c.self.invariant (ap (λ (h : Held g.row.T.Denot). ready_at h c.args.waiter.number) c.self.view_is ∙ c.requires) in
+    placed_put old new c.args.waiter.number place c.args.waiter c.self.invariant (sym (kept place) ∙ c.vacant_key-place.ensures.vacant) fresh refl
+    (moved old.places new.places c.args.waiter.number (Some place) updates.0) set
 
-pub returns-clause-held : goal.returns-clause-held
-returns-clause-held g c = λ k.
+pub returns-clause-put : goal.returns-clause-put
+returns-clause-put g c =
     let W : Type 0 = Waiter g.row.T.Denot in
     let place = c.vacant_key-place.result in
     let old : Held g.row.T.Denot = record { places = c.self.inside.places.entries; slots = c.self.inside.items.slots } in
@@ -33,6 +43,15 @@ returns-clause-held g c = λ k.
       here = ap (slot_at new.slots) at ∙ c.insert_reserved.ensures.updates.changed;
       others = λ q apart. c.insert_reserved.ensures.updates.others q (λ e. apart (e ∙ sym at)) ∙ kept q;
     } in
-    let updates = not_err c.insert.result (sym c.is_err-2.ensures.value ∙ c.if-is_err-2.false) c.insert.ensures.updates in
-    held_put old new c.args.number place c.args.waiter c.self.invariant (sym (kept place) ∙ c.vacant_key-place.ensures.vacant) (moved old.places new.places c.args.number (Some place) updates.0) set k
-    ∙ ap (λ (h : Held g.row.T.Denot). if k == c.args.number then Some (seen c.args.waiter) else held h k) c.self.view_is
+    let free = sym (kept place) ∙ c.vacant_key-place.ensures.vacant in
+    let updates = not_err c.insert.result (sym c.is_err-3.ensures.value ∙ c.if-is_err-3.false) c.insert.ensures.updates in
+    let move = moved old.places new.places c.args.waiter.number (Some place) updates.0 in
+    rw (← c.self.view_is) (record {
+      place = place;
+      free = free;
+      slots = set;
+      ready = number_put (λ _ w. is_over w) old new c.args.waiter.number place c.args.waiter c.self.invariant free move set;
+      items = λ notes. number_put (seen notes) old new c.args.waiter.number place c.args.waiter c.self.invariant free move set;
+      noted = subst (λ (needs : List Need). HasRegistered c.args.waits.now.entries c.register.new.waits.entries needs place) c.as_slice.ensures.value
+          (not_err c.register.result (sym c.is_err-2.ensures.value ∙ c.if-is_err-2.false) c.register.ensures.noted);
+    })
