@@ -1,5 +1,5 @@
 -- One part of a run after another: what becomes of the count of reads that failed, and of the files.
-use Rattle.std.proofs.Common.{◌≡◌, ℕ, ◌≤◌, List, Option, Some, Result, Ok, Err, IfErr, subst, ◌∙◌}
+use Rattle.std.proofs.Common.{◌≡◌, ℕ, ◌≤◌, List, Option, Result, Ok, Err, IfErr, subst, ◌∙◌}
 use Rattle.hw_io.specs.Faults.{subject_of, FailsOrLacks}
 use Rattle.hw_io.proofs.About.{fails-or-lacks}
 use Rattle.hw_log.specs.declared.error.LogError.TheVariants as log
