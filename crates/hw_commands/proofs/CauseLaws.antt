@@ -1,15 +1,17 @@
 -- One part of a run after another: what becomes of the count of reads that failed, and of the files.
-use Rattle.std.proofs.Common.{◌≡◌, ℕ, ◌≤◌, List, Option, Some, Result, Ok, Err, IfErr, subst, ◌∙◌}
-use Rattle.hw_io.specs.Faults.{Rose}
+use Rattle.std.proofs.Common.{◌≡◌, ℕ, ◌≤◌, List, Option, Result, Ok, Err, IfErr, subst, ◌∙◌}
+use Rattle.hw_io.specs.Faults.{subject_of, FailsOrLacks}
+use Rattle.hw_io.proofs.About.{fails-or-lacks}
 use Rattle.hw_log.specs.declared.error.LogError.TheVariants as log
 use Rattle.hw_replay.specs.declared.fault.StartFault.{StartFault}
 use Rattle.hw_replay.specs.declared.fault.StartFault.TheVariants as start
-use Rattle.hw_replay.specs.Causes.{IsReplayAbout}
+use Rattle.hw_replay.specs.Causes.{IsFaultAbout, IsReplayAbout}
 use Rattle.hw_io.specs.Files.{SameFiles}
 use Rattle.hw_commands.specs.declared.ended.Ended.{Ended}
 use Rattle.hw_commands.specs.declared.ended.RunFault.{RunFault}
 use Rattle.hw_commands.specs.declared.ended.RunFault.TheVariants.{Read, Append, OutOfMemory}
-use Rattle.hw_commands.specs.Faults.{HasReadFault}
+use Rattle.hw_types.specs.Below.{Among}
+use Rattle.hw_commands.specs.Faults.{HasReadFault, FailsAmong}
 
 -- a part before it left the count
 pub fault_then : (before mid now : ℕ) (r : Result Ended RunFault) → mid ≡ before → HasReadFault mid now r → HasReadFault before now r
@@ -28,11 +30,17 @@ files_then old mid new first second = λ name. second name ∙ first name
 
 -- ---- counts for a file
 
--- a failed read of the log that stopped a replay was counted for it
-pub read_about : (name : List ℕ) (before now : List ℕ → ℕ) (fault : StartFault) (r : Result Ended RunFault) → IsReplayAbout {T = Unit {0}} (Some name) before now (Err fault)
-    → IfErr r (λ f. f ≡ Read → fault ≡ start.Log log.ReadFault) → IfErr r (λ f. f ≡ Read → Rose (before name) (now name))
-read_about name before now fault (Ok e) about read = tt
-read_about name before now fault (Err f) about read = λ is. subst (λ (x : StartFault). IsReplayAbout {T = Unit {0}} (Some name) before now (Err x)) (read is) about
+-- a failed read of the log that stopped a replay was counted for it, or it isn't there
+pub read_about : (file : Option (List ℕ)) (name : List ℕ) (before now : List ℕ → ℕ) (fault : StartFault) (r : Result Ended RunFault) → IsReplayAbout {T = Unit {0}} (subject_of file name) before now (Err fault)
+    → IfErr r (λ f. f ≡ Read → fault ≡ start.Log log.ReadFault) → IfErr r (λ f. f ≡ Read → FailsOrLacks file name before now)
+read_about file name before now fault (Ok e) about read = tt
+read_about file name before now fault (Err f) about read = λ is. fails-or-lacks file name before now (subst (IsFaultAbout (subject_of file name) before now) (read is) about)
+
+-- and so is one of these logs
+pub stopped_about : (logs : List (List ℕ)) (held : List ℕ → Option (List ℕ)) (name : List ℕ) (before now : List ℕ → ℕ) (fault : StartFault) (r : Result Ended RunFault) → Among name logs → IsFaultAbout (subject_of (held name) name) before now fault
+    → IfErr r (λ f. f ≡ Read → fault ≡ start.Log log.ReadFault) → IfErr r (λ f. f ≡ Read → FailsAmong logs held before now)
+stopped_about logs held name before now fault (Ok e) among about read = tt
+stopped_about logs held name before now fault (Err f) among about read = λ is. (name, (among, fails-or-lacks (held name) name before now (subst (IsFaultAbout (subject_of (held name) name) before now) (read is) about)))
 
 -- no read failed
 pub no_read : (P : Type 0) (r : Result Ended RunFault) → IfErr r (λ f. f ≡ OutOfMemory) → IfErr r (λ f. f ≡ Read → P)

@@ -4,7 +4,7 @@ use Rattle.std.specs.Prelude.{◌*◌, ◌++◌, ◌∷◌, length, nat_lt, if�
 use Rattle.std.specs.Option.{option_or}
 use Rattle.std.proofs.lemmas.Bool.{ltb-false}
 use Rattle.std.proofs.lemmas.Slice.Eq.{bytes_eq-Decides}
-use Rattle.hw_io.specs.Faults.{Rose}
+use Rattle.hw_io.specs.Faults.{FailsOrLacks}
 use Rattle.hw_io.specs.Files.{SameFiles}
 use Rattle.hw_types.specs.declared.config.Config.{Config}
 use Rattle.hw_types.specs.declared.config.ConfigFault.{ConfigFault}
@@ -227,10 +227,11 @@ beside_due held file c core name = due_first (λ h o. elim o as (λ z. Part (Lis
 -- ---- a failed read, by what a call answered
 
 -- of a file that is due
-pub due_fails : (said : Held → Part Ended) (held : Held) (name : Word) (before mid now : Word → ℕ) (r : Result Ended RunFault) → IsDue said held name → mid ≡ before → IfErr r (λ f. f ≡ Read → Rose (mid name) (now name))
-    → IfErr r (λ f. f ≡ Read → FailsDue said held before now)
-due_fails said held name before mid now (Ok e) due same read = tt
-due_fails said held name before mid now (Err f) due same read = λ is. (name, due, subst (λ (b : Word → ℕ). Rose (b name) (now name)) same (read is))
+pub due_fails : (said : Held → Part Ended) (held : Held) (name : Word) (file : Option (List ℕ)) (before mid now : Word → ℕ) (r : Result Ended RunFault) → IsDue said held name → file ≡ held name → mid ≡ before
+    → IfErr r (λ f. f ≡ Read → FailsOrLacks file name mid now) → IfErr r (λ f. f ≡ Read → FailsDue said held before now)
+due_fails said held name file before mid now (Ok e) due here same read = tt
+due_fails said held name file before mid now (Err f) due here same read = λ is.
+    (name, due, subst (λ (o : Option (List ℕ)). FailsOrLacks o name before now) here (subst (λ (b : Word → ℕ). FailsOrLacks file name b now) same (read is)))
 
 -- of a file that is due behind a part that left files and counts
 pub then_fails : (P Q : Held → Part Ended) (held mid : Held) (before between now : Word → ℕ) (r : Result Ended RunFault) → SameFiles held mid → between ≡ before → ((name : Word) → IsDue P held name → IsDue Q held name)
@@ -242,7 +243,7 @@ then_fails P Q held mid before between now (Err f) same counts lift read = λ is
     (fails.0, lift fails.0 fails.1, fails.2)
 
 -- of a file that is due, where no part was read before
-pub first_fails : (said : Held → Part Ended) (held : Held) (name : Word) (before now : Word → ℕ) (fault : RunFault) → IsDue said held name → IsReadOf {T = Unit {0}} name before now (Err fault) → fault ≡ Read → FailsDue said held before now
+pub first_fails : (said : Held → Part Ended) (held : Held) (name : Word) (before now : Word → ℕ) (fault : RunFault) → IsDue said held name → IsReadOf {T = Unit {0}} (held name) name before now (Err fault) → fault ≡ Read → FailsDue said held before now
 first_fails said held name before now Read due read is = (name, due, read)
 first_fails said held name before now Append due read is = absurd cc
 first_fails said held name before now OutOfMemory due read is = absurd cc

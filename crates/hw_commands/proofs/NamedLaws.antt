@@ -1,4 +1,4 @@
--- The file of a failed read is one that the request names.
+-- The file of a failed read is one that the request names, and so is one that is due and isn't there.
 use Rattle.std.proofs.Common.{◌≡◌, ℕ, Bool, true, false, List, [], ◌∷◌, ◌++◌, codes, bytes_eq, Option, Some, None, Result, Ok, Err, refl, sym, ap, ◌∙◌, inl, inr}
 use Rattle.std.specs.Prelude.{◌⊎◌, length}
 use Rattle.std.proofs.lemmas.Slice.Eq.{bytes_eq-Decides}
@@ -53,7 +53,7 @@ named_or_same held name f g (other ∷ names) = go (bytes_eq other name) refl (n
     go false is (inl among) = inl (inr among)
     go false is (inr same) = inr (file_elsewhere held name other f is ∙ sym (file_elsewhere held name other g is), same)
 
-due_named : (names : List Word) (said : Held → Part Ended) → HangsOn names said → (held : Held) (before now : Word → ℕ) → FailsDue said held before now → FailsAmong names before now
+due_named : (names : List Word) (said : Held → Part Ended) → HangsOn names said → (held : Held) (before now : Word → ℕ) → FailsDue said held before now → FailsAmong names held before now
 due_named names said hangs held before now (name, due, rose) = (name, (go (named_or_same held name None (Some []) names), rose))
   where
     go : Among name names ⊎ AreSame (with_file held name None) (with_file held name (Some [])) names → Among name names
@@ -132,17 +132,17 @@ files_of (Some (Eras logs)) = logs
 files_of (Some (EraAudit left right)) = left ++ right
 files_of request = []
 
-pub fails_named : (held : Held) (request : Option Request) (before now : Word → ℕ) → FailsOf held request before now → FailsAmong (files_of request) before now
+pub fails_named : (held : Held) (request : Option Request) (before now : Word → ℕ) → FailsOf held request before now → FailsAmong (files_of request) held before now
 fails_named held None before now fails = due_named [] (λ h. request_said h None) (λ h k same. refl) held before now fails
 fails_named held (Some (Replay log)) before now fails = due_named (log ∷ []) (λ h. request_said h (Some (Replay log))) (of_log log (λ t. done (report_of t))) held before now fails
 fails_named held (Some (Explain log)) before now fails = due_named (log ∷ []) (λ h. request_said h (Some (Explain log))) (of_log log (λ t. done (explained_in t.core))) held before now fails
 fails_named held (Some (Audit left right)) before now fails = due_named (left ∷ right ∷ []) (λ h. audit_said h left right) (of_logs left right) held before now fails
 fails_named held (Some (Script file)) before now fails = due_named (file ∷ []) (λ h. script_said h file) (of_script file) held before now fails
-fails_named held (Some (Mend log new)) before now (inl rose) = (new, (inr (inl refl), rose))
+fails_named held (Some (Mend log new)) before now (inl rose) = (new, (inr (inl refl), inl rose))
 fails_named held (Some (Mend log new)) before now (inr fails) = due_named (log ∷ new ∷ []) (λ h. request_said h (Some (Mend log new))) (of_rewritten mended_of (codes "mended") log new) held before now fails
-fails_named held (Some (Migrate log new)) before now (inl rose) = (new, (inr (inl refl), rose))
+fails_named held (Some (Migrate log new)) before now (inl rose) = (new, (inr (inl refl), inl rose))
 fails_named held (Some (Migrate log new)) before now (inr fails) = due_named (log ∷ new ∷ []) (λ h. request_said h (Some (Migrate log new))) (of_rewritten migrated_of (codes "migrated") log new) held before now fails
-fails_named held (Some (Certify log block new)) before now (inl rose) = (new, (inr (inl refl), rose))
+fails_named held (Some (Certify log block new)) before now (inl rose) = (new, (inr (inl refl), inl rose))
 fails_named held (Some (Certify log block new)) before now (inr fails) = due_named (log ∷ new ∷ []) (λ h. certify_said h log block new) (of_certified log block new) held before now fails
 fails_named held (Some (Check file keys log)) before now fails = due_named (file ∷ keys ∷ named log) (λ h. check_said h file keys log) (of_checked file keys log) held before now fails
 fails_named held (Some (Gen number rounds)) before now fails = due_named [] (λ h. request_said h (Some (Gen number rounds))) (λ h k same. refl) held before now fails

@@ -177,13 +177,13 @@ module _ (rewritten_of : List ℕ → Result Rewritten LogError) (word : List �
   AboutBy (Some Read) = Rose (before new) (now new) ⊎ FailsDue (λ h. rewrite_said rewritten_of word h old new) held before now
   AboutBy o = Unit {0}
 
-  about_by : (f : RewriteFault) → IsFaultAbout (held new) old new before now f → AboutBy (rewrite_fault_of f)
+  about_by : (f : RewriteFault) → IsFaultAbout (held old) (held new) old new before now f → AboutBy (rewrite_fault_of f)
   about_by rewrite.Exists h = tt
   about_by (rewrite.Log log.ReadFault) (inl h) = inr (old, rewritten_due rewritten_of word error empty held old new h.0, h.1)
   about_by (rewrite.Log log.ReadFault) (inr h) = inl h
   about_by (rewrite.Log e) h = tt
 
-  pub failed_about : (f : RewriteFault) (result : Result Ended RunFault) → IsFaultAbout (held new) old new before now f → IfErr result (IsFaultOf f) → IfErr result (λ x. x ≡ Read → AboutBy (Some Read))
+  pub failed_about : (f : RewriteFault) (result : Result Ended RunFault) → IsFaultAbout (held old) (held new) old new before now f → IfErr result (IsFaultOf f) → IfErr result (λ x. x ≡ Read → AboutBy (Some Read))
   failed_about f (Ok e) about err = tt
   failed_about f (Err x) about err = λ is. let P : RunFault → Type 0 = λ y. AboutBy (Some y) in subst P is (by_fault AboutBy f (about_by f about) x err (λ h. tt))
 

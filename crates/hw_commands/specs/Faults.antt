@@ -1,7 +1,7 @@
 -- When a run up to its text has which fault.
 use Rattle.std.specs.Prelude.{◌≡◌, ℕ, ◌≤◌, ◌⊎◌, List, Option, Some, None, Result, Ok, Err}
 use Rattle.hw_types.specs.Below.{Among}
-use Rattle.hw_io.specs.Faults.{Rose}
+use Rattle.hw_io.specs.Faults.{Rose, FailsOrLacks}
 use Rattle.hw_commands.specs.declared.ended.Ended.{Ended}
 use Rattle.hw_commands.specs.Commands.{Word, Request, Replay, Explain, Audit, Script, Mend, Migrate, Certify, Check, Gen, Sim, Eras, EraAudit}
 use Rattle.hw_commands.specs.Texts.{usage_line}
@@ -41,15 +41,15 @@ pub record HasRunFault {T : Type 0} (reads_before reads appends_before appends :
   pub later_appends : appends_before ≤ appends
   pub appends_counted : IsAppendCounted appends_before appends result
 
--- a failed read is counted for this file, and where the answer has no fault no count changes
-abbrev pub IsReadOf : {T : Type 0} → Word → (List ℕ → ℕ) → (List ℕ → ℕ) → Result T RunFault → Type 0
-IsReadOf name before now (Ok x) = now ≡ before
-IsReadOf name before now (Err Read) = Rose (before name) (now name)
-IsReadOf name before now (Err fault) = Unit {0}
+-- a failed read is counted for this file, unless it isn't there, and where the answer has no fault no count changes
+abbrev pub IsReadOf : {T : Type 0} → Option (List ℕ) → Word → (List ℕ → ℕ) → (List ℕ → ℕ) → Result T RunFault → Type 0
+IsReadOf file name before now (Ok x) = now ≡ before
+IsReadOf file name before now (Err Read) = FailsOrLacks file name before now
+IsReadOf file name before now (Err fault) = Unit {0}
 
--- a call about one of the files failed
-abbrev pub FailsAmong : List Word → (List ℕ → ℕ) → (List ℕ → ℕ) → Type 0
-FailsAmong names before now = (name : Word) × (Among name names × Rose (before name) (now name))
+-- a call about one of the files failed, or one of them isn't there
+abbrev pub FailsAmong : List Word → (List ℕ → Option (List ℕ)) → (List ℕ → ℕ) → (List ℕ → ℕ) → Type 0
+FailsAmong names held before now = (name : Word) × (Among name names × FailsOrLacks (held name) name before now)
 
 -- a command that reads logs does all, or ends by what is wrong with one: its bytes, a limit that it meets, or a clash
 abbrev pub IsReadEnd : ℕ → Type 0

@@ -1,7 +1,7 @@
 //! `audit`: what two logs say of each other.
 
 ghost use Rattle.std.specs.Prelude.{◌≡◌, ℕ, List, None, Some, Ok, Err, true, IsTrue, IfOk, IfErr};
-ghost use Rattle.hw_io.specs.Faults.{Rose};
+ghost use Rattle.hw_io.specs.Faults.{subject_of, FailsOrLacks};
 ghost use Rattle.hw_io.specs.Files.{SameFiles};
 ghost use Rattle.hw_replay.specs.Taken.{Taken};
 ghost use Rattle.hw_log.specs.declared.error.LogError.TheVariants as LogErrors;
@@ -111,7 +111,7 @@ fn audit_against<F: Files>(
     ensures audited { IsTrue F.tells → (bytes : List ℕ) (taken : Taken) → replay_of None bytes ≡ Ok taken → taken.core ≡ left.now → IfOk result (λ e. IsAudited (F.held files.old) left.now right.now e) }
     ensures status { IfOk result (λ e. IsAuditEnd e.status) }
     ensures fault { HasReadFault (F.read_faults files.old) (F.read_faults files.new) result }
-    ensures about { IsTrue F.tells → IfErr result (λ fault. fault ≡ RunFaults.Read → Rose (F.faults_about files.old right.now) (F.faults_about files.new right.now)) }
+    ensures about { IsTrue F.tells → IfErr result (λ fault. fault ≡ RunFaults.Read → FailsOrLacks (F.held files.old right.now) right.now (F.faults_about files.old) (F.faults_about files.new)) }
 
     ensures files { SameFiles (F.held files.old) (F.held files.new) }
     ensures appends { F.append_faults files.new ≡ F.append_faults files.old }
@@ -143,7 +143,7 @@ fn replay_against<F: Files>(
 ) -> Result<Replay, StartFault>
     ensures said { IsTrue F.tells → Replays (Some left.now.config) (F.held files.old right.now) result }
     ensures cause { HasReplayCause (F.read_faults files.old) (F.read_faults files.new) result }
-    ensures about { IsTrue F.tells → IsReplayAbout (Some right.now) (F.faults_about files.old) (F.faults_about files.new) result }
+    ensures about { IsTrue F.tells → IsReplayAbout (subject_of (F.held files.old right.now) right.now) (F.faults_about files.old) (F.faults_about files.new) result }
 
     ensures files { SameFiles (F.held files.old) (F.held files.new) }
     ensures appends { F.append_faults files.new ≡ F.append_faults files.old }

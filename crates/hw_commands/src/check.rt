@@ -71,7 +71,7 @@ fn certificate_in<F: Files>(
     ensures fits { IfOk result (λ part. IfOk part (λ certificate. All VertexFits certificate.vertices)) }
     ensures status { IfOk result (λ part. IfErr part (λ e. e.status ≡ 2)) }
     ensures fault { HasReadFault (F.read_faults files.old) (F.read_faults files.new) result }
-    ensures about { IsTrue F.tells → IsReadOf file.now (F.faults_about files.old) (F.faults_about files.new) result }
+    ensures about { IsTrue F.tells → IsReadOf (F.held files.old file.now) file.now (F.faults_about files.old) (F.faults_about files.new) result }
 
     ensures files { SameFiles (F.held files.old) (F.held files.new) }
     ensures appends { F.append_faults files.new ≡ F.append_faults files.old }
@@ -180,7 +180,7 @@ fn keys_in<F: Files>(
     ensures said { IsTrue F.tells → IfOk result (λ part. part ≡ keys_said (F.held files.old) name.now validators) }
     ensures status { IfOk result (λ part. IfErr part (λ e. e.status ≡ 2)) }
     ensures fault { HasReadFault (F.read_faults files.old) (F.read_faults files.new) result }
-    ensures about { IsTrue F.tells → IsReadOf name.now (F.faults_about files.old) (F.faults_about files.new) result }
+    ensures about { IsTrue F.tells → IsReadOf (F.held files.old name.now) name.now (F.faults_about files.old) (F.faults_about files.new) result }
 
     ensures files { SameFiles (F.held files.old) (F.held files.new) }
     ensures appends { F.append_faults files.new ≡ F.append_faults files.old }

@@ -38,7 +38,7 @@ pub fn usage(alloc: Global) -> Result<Ended, OutOfMemory>
 pub fn bytes_of<F: Files>(alloc: Global, files: &mut F, name: &str) -> Result<Bytes, RunFault>
     ensures whole { IsTrue F.tells → IfOk result (λ bytes. F.held files.old name.now ≡ Some bytes) }
     ensures fault { HasReadFault (F.read_faults files.old) (F.read_faults files.new) result }
-    ensures about { IsTrue F.tells → IsReadOf name.now (F.faults_about files.old) (F.faults_about files.new) result }
+    ensures about { IsTrue F.tells → IsReadOf (F.held files.old name.now) name.now (F.faults_about files.old) (F.faults_about files.new) result }
 
     ensures files { SameFiles (F.held files.old) (F.held files.new) }
     ensures appends { F.append_faults files.new ≡ F.append_faults files.old }

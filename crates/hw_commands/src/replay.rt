@@ -1,7 +1,7 @@
 //! `replay`: the report on a log, of which consumers are told the decided blocks.
 
 ghost use Rattle.std.specs.Prelude.{◌≡◌, ◌≤◌, ◌++◌, None, length, IsTrue, IfOk, IfErr};
-ghost use Rattle.hw_io.specs.Faults.{Rose};
+ghost use Rattle.hw_io.specs.Faults.{FailsOrLacks};
 ghost use Rattle.hw_io.specs.Files.{SameFiles};
 ghost use Rattle.hw_replay.specs.Replay.{taken_in};
 ghost use Rattle.hw_replay.specs.Fates.{seen, AreServed};
@@ -58,7 +58,7 @@ fn replay_told<F: Files>(
     ensures told { IsReplayTold (seen (λ b. consumed b) (λ b. faults b) (λ b. wants b) (λ b. b.vtable)) F.tells (F.held files.old log.now) (status_of result) consumers.old.items consumers.new.items }
     ensures status { IfOk result (λ e. IsReadEnd e.status) }
     ensures fault { HasReadFault (F.read_faults files.old) (F.read_faults files.new) result }
-    ensures about { IsTrue F.tells → IfErr result (λ fault. fault ≡ RunFaults.Read → Rose (F.faults_about files.old log.now) (F.faults_about files.new log.now)) }
+    ensures about { IsTrue F.tells → IfErr result (λ fault. fault ≡ RunFaults.Read → FailsOrLacks (F.held files.old log.now) log.now (F.faults_about files.old) (F.faults_about files.new)) }
 
     ensures files { SameFiles (F.held files.old) (F.held files.new) }
     ensures appends { F.append_faults files.new ≡ F.append_faults files.old }

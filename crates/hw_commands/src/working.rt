@@ -63,7 +63,7 @@ pub fn work<F: Files, S: Sink>(
     ensures grammar { request_of words.now ≡ None → (result ≡ 1) ⊎ (result ≡ 7) }
 
     // 4 and 5 come only where a count of faults rose in this run, 4 only where a call about a file that is due
-    // failed, and 5 only in place of a text that was whole.
+    // failed or such a file isn't there, and 5 only in place of a text that was whole.
     ensures read_fault { result ≡ 4 → Rose (F.read_faults files.old) (F.read_faults files.new) }
     ensures read_about { IsTrue F.tells → result ≡ 4 → FailsOf (F.held files.old) (request_of words.now) (F.faults_about files.old) (F.faults_about files.new) }
     ensures write_fault { result ≡ 5 → Rose (S.faults out.old) (S.faults out.new) ⊎ Rose (F.append_faults files.old) (F.append_faults files.new) }

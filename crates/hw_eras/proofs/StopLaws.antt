@@ -1,5 +1,5 @@
 -- What stops a run over logs of eras, and what is left of it.
-use Rattle.std.proofs.Common.{◌≡◌, ℕ, zero, suc, ◌+◌, ◌-◌, ◌≤◌, ◌<◌, inl, inr, List, [], ◌∷◌, ◌++◌, length, map, drop, take, get_or, Option, Some, Result, Ok, refl, sym, ap, subst, ◌∙◌, arith}
+use Rattle.std.proofs.Common.{◌≡◌, ℕ, zero, suc, ◌+◌, ◌-◌, ◌≤◌, ◌<◌, inl, inr, List, [], ◌∷◌, ◌++◌, length, map, drop, take, get_or, Option, Some, Result, Ok, Err, refl, sym, ap, subst, ◌∙◌, arith}
 use Rattle.std.proofs.lemmas.List.{take_all}
 use Rattle.hw_io.specs.Files.{SameFiles}
 use Rattle.hw_types.specs.declared.config.Config.{Config}
@@ -94,8 +94,10 @@ named_behind first logs e is = named_right (first ∷ []) logs e is
 pub cause_then : {T : Type 0} (old mid new : ℕ) (r : Result T EraStop) → mid ≡ old → HasEraCause mid new r → HasEraCause old new r
 cause_then {T} old mid new r same cause = subst (λ (n : ℕ). HasEraCause {T = T} n new r) same cause
 
-pub about_then : {T : Type 0} (old mid new : List ℕ → ℕ) (r : Result T EraStop) → mid ≡ old → IsEraAbout mid new r → IsEraAbout old new r
-about_then {T} old mid new r same about = subst (λ (n : List ℕ → ℕ). IsEraAbout {T = T} n new r) same about
+pub about_then : (held now : Held) (old mid new : List ℕ → ℕ) (e : EraStop) → SameFiles held now → mid ≡ old → IsEraAbout {T = Unit {0}} now mid new (Err e) → IsEraAbout {T = Unit {0}} held old new (Err e)
+about_then held now old mid new e files same about =
+    let one : now ≡ held = λ i name. files name i in
+    subst (λ (h : Held). IsEraAbout {T = Unit {0}} h old new (Err e)) one (subst (λ (n : List ℕ → ℕ). IsEraAbout {T = Unit {0}} now n new (Err e)) same about)
 
 -- the files are the same
 pub same_held : (old mid : Held) → SameFiles old mid → mid ≡ old

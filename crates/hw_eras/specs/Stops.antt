@@ -1,6 +1,7 @@
 -- When a run over logs of eras stops by what.
 -- Source: ours.
-use Rattle.std.specs.Prelude.{◌≡◌, ℕ, ◌≤◌, ◌⊎◌, List, Some, Result, Ok, Err, IfErr}
+use Rattle.std.specs.Prelude.{◌≡◌, ℕ, ◌≤◌, ◌⊎◌, List, Option, Result, Ok, Err, IfErr}
+use Rattle.hw_io.specs.Faults.{subject_of}
 use Rattle.hw_types.specs.Below.{Among}
 use Rattle.hw_replay.specs.Replay.{IsOutside}
 use Rattle.hw_replay.specs.Causes.{IsFaultCounted, IsFaultAbout, IsOfReplay}
@@ -46,9 +47,9 @@ pub record HasEraCause {T : Type 0} (before now : ℕ) (result : Result T EraSto
   pub counted : IsReadCounted before now result
   pub error : IfErr result IsOfEras
 
--- a failed read of this log is counted for it, and nothing else changes a count
-abbrev pub IsEraAbout : {T : Type 0} → (List ℕ → ℕ) → (List ℕ → ℕ) → Result T EraStop → Type 0
-IsEraAbout before now (Ok x) = now ≡ before
-IsEraAbout before now (Err (stop.NoEra log)) = now ≡ before
-IsEraAbout before now (Err (stop.Stopped log e)) = IsFaultAbout (Some log.now) before now e
-IsEraAbout before now (Err stop.OutOfMemory) = now ≡ before
+-- a failed read of this log is counted for it, where it is there, and nothing else changes a count
+abbrev pub IsEraAbout : {T : Type 0} → (List ℕ → Option (List ℕ)) → (List ℕ → ℕ) → (List ℕ → ℕ) → Result T EraStop → Type 0
+IsEraAbout held before now (Ok x) = now ≡ before
+IsEraAbout held before now (Err (stop.NoEra log)) = now ≡ before
+IsEraAbout held before now (Err (stop.Stopped log e)) = IsFaultAbout (subject_of (held log.now) log.now) before now e
+IsEraAbout held before now (Err stop.OutOfMemory) = now ≡ before

@@ -55,7 +55,7 @@ pub fn audit_logs<'a, F: Files>(
     ensures status { IfOk result (λ e. IsAuditEnd e.status) }
     ensures named { IfErr result (IsOfLogs (map string_bytes left.now ++ map string_bytes right.now)) }
     ensures cause { HasEraCause (F.read_faults files.old) (F.read_faults files.new) result }
-    ensures about { IsTrue F.tells → IsEraAbout (F.faults_about files.old) (F.faults_about files.new) result }
+    ensures about { IsTrue F.tells → IsEraAbout (F.held files.old) (F.faults_about files.old) (F.faults_about files.new) result }
 
     ensures files { SameFiles (F.held files.old) (F.held files.new) }
     ensures appends { F.append_faults files.new ≡ F.append_faults files.old }

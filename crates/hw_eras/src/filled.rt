@@ -51,7 +51,7 @@ impl Filled {
         ensures said { IsTrue F.tells → Fills (eras_of (F.held files.old) None (map string_bytes logs.now)) result }
         ensures named { IfErr result (IsOfLogs (map string_bytes logs.now)) }
         ensures cause { HasEraCause (F.read_faults files.old) (F.read_faults files.new) result }
-        ensures about { IsTrue F.tells → IsEraAbout (F.faults_about files.old) (F.faults_about files.new) result }
+        ensures about { IsTrue F.tells → IsEraAbout (F.held files.old) (F.faults_about files.old) (F.faults_about files.new) result }
 
         ensures files { SameFiles (F.held files.old) (F.held files.new) }
         ensures appends { F.append_faults files.new ≡ F.append_faults files.old }
@@ -74,7 +74,7 @@ impl Filled {
         ensures like { IfOk result (λ filled. first_config filled.eras ≡ Some core.now.config) }
         ensures named { IfErr result (IsOfLogs (map string_bytes logs.now)) }
         ensures cause { HasEraCause (F.read_faults files.old) (F.read_faults files.new) result }
-        ensures about { IsTrue F.tells → IsEraAbout (F.faults_about files.old) (F.faults_about files.new) result }
+        ensures about { IsTrue F.tells → IsEraAbout (F.held files.old) (F.faults_about files.old) (F.faults_about files.new) result }
 
         ensures files { SameFiles (F.held files.old) (F.held files.new) }
         ensures appends { F.append_faults files.new ≡ F.append_faults files.old }
@@ -95,7 +95,7 @@ impl Filled {
         ensures one { IfOk result (λ filled. logs_in filled ≡ 1) }
         ensures named { IfErr result (IsOfLogs (log.now ∷ [])) }
         ensures cause { HasEraCause (F.read_faults files.old) (F.read_faults files.new) result }
-        ensures about { IsTrue F.tells → IsEraAbout (F.faults_about files.old) (F.faults_about files.new) result }
+        ensures about { IsTrue F.tells → IsEraAbout (F.held files.old) (F.faults_about files.old) (F.faults_about files.new) result }
 
         ensures files { SameFiles (F.held files.old) (F.held files.new) }
         ensures appends { F.append_faults files.new ≡ F.append_faults files.old }
@@ -119,7 +119,7 @@ impl Filled {
         ensures like { IfOk result (λ filled. first_config filled.eras ≡ Some core.now.config) }
         ensures named { IfErr result (IsOfLogs (log.now ∷ [])) }
         ensures cause { HasEraCause (F.read_faults files.old) (F.read_faults files.new) result }
-        ensures about { IsTrue F.tells → IsEraAbout (F.faults_about files.old) (F.faults_about files.new) result }
+        ensures about { IsTrue F.tells → IsEraAbout (F.held files.old) (F.faults_about files.old) (F.faults_about files.new) result }
 
         ensures files { SameFiles (F.held files.old) (F.held files.new) }
         ensures appends { F.append_faults files.new ≡ F.append_faults files.old }
@@ -141,7 +141,7 @@ impl Filled {
         ensures first { OnOk result (first_config self.new.eras ≡ first_config self.old.eras) }
         ensures named { IfErr result (IsOfLogs (map string_bytes logs.now)) }
         ensures cause { HasEraCause (F.read_faults files.old) (F.read_faults files.new) result }
-        ensures about { IsTrue F.tells → IsEraAbout (F.faults_about files.old) (F.faults_about files.new) result }
+        ensures about { IsTrue F.tells → IsEraAbout (F.held files.old) (F.faults_about files.old) (F.faults_about files.new) result }
 
         ensures files { SameFiles (F.held files.old) (F.held files.new) }
         ensures appends { F.append_faults files.new ≡ F.append_faults files.old }
@@ -162,7 +162,7 @@ impl Filled {
         ensures first { OnOk result (first_config self.new.eras ≡ first_config self.old.eras) }
         ensures named { IfErr result (IsOfLogs (log.now ∷ [])) }
         ensures cause { HasEraCause (F.read_faults files.old) (F.read_faults files.new) result }
-        ensures about { IsTrue F.tells → IsEraAbout (F.faults_about files.old) (F.faults_about files.new) result }
+        ensures about { IsTrue F.tells → IsEraAbout (F.held files.old) (F.faults_about files.old) (F.faults_about files.new) result }
 
         ensures files { SameFiles (F.held files.old) (F.held files.new) }
         ensures appends { F.append_faults files.new ≡ F.append_faults files.old }
@@ -221,7 +221,7 @@ fn replay_like<'a, F: Files>(
     ensures made { IfOk result (λ replay. IsMadeAgain replay.core) }
     ensures named { IfErr result (IsOfLogs (log.now ∷ [])) }
     ensures cause { HasEraCause (F.read_faults files.old) (F.read_faults files.new) result }
-    ensures about { IsTrue F.tells → IsEraAbout (F.faults_about files.old) (F.faults_about files.new) result }
+    ensures about { IsTrue F.tells → IsEraAbout (F.held files.old) (F.faults_about files.old) (F.faults_about files.new) result }
 
     ensures files { SameFiles (F.held files.old) (F.held files.new) }
     ensures appends { F.append_faults files.new ≡ F.append_faults files.old }

@@ -33,7 +33,7 @@ pub fn report_logs<'a, F: Files>(
     ensures eras { IsTrue F.tells → IfOk result (AreReported (eras_of (F.held files.old) None (map string_bytes logs.now))) }
     ensures named { IfErr result (IsOfLogs (map string_bytes logs.now)) }
     ensures cause { HasEraCause (F.read_faults files.old) (F.read_faults files.new) result }
-    ensures about { IsTrue F.tells → IsEraAbout (F.faults_about files.old) (F.faults_about files.new) result }
+    ensures about { IsTrue F.tells → IsEraAbout (F.held files.old) (F.faults_about files.old) (F.faults_about files.new) result }
 
     ensures files { SameFiles (F.held files.old) (F.held files.new) }
     ensures appends { F.append_faults files.new ≡ F.append_faults files.old }

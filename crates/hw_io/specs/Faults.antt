@@ -1,5 +1,5 @@
 -- Faults and what shows them: a count of the outside.
-use Rattle.std.specs.Prelude.{◌≡◌, ◌≢◌, ℕ, ◌+◌, ◌-◌, ◌^◌, ◌≤◌, min, List, Option, Some, None, Result, Ok, Err}
+use Rattle.std.specs.Prelude.{◌≡◌, ◌≢◌, ◌⊎◌, ℕ, ◌+◌, ◌-◌, ◌^◌, ◌≤◌, min, List, Option, Some, None, Result, Ok, Err}
 use Rattle.hw_io.specs.declared.outside.IoFault.{IoFault}
 use Rattle.hw_io.specs.declared.outside.IoFault.TheVariants.{Failed, OutOfMemory}
 
@@ -34,6 +34,15 @@ IsWantCounted before now (Err OutOfMemory) = Rose before now
 abbrev pub FailsAbout : Option (List ℕ) → (List ℕ → ℕ) → (List ℕ → ℕ) → Type 0
 FailsAbout None before now = now ≡ before
 FailsAbout (Some name) before now = Rose (before name) (now name)
+
+-- the file that a beginning is about, by what is held under the name: none where there is no file of that name
+abbrev pub subject_of : Option (List ℕ) → List ℕ → Option (List ℕ)
+subject_of None name = None
+subject_of (Some bytes) name = Some name
+
+-- a call about the file of this name failed, and its count rose, or there is no such file
+abbrev pub FailsOrLacks : Option (List ℕ) → List ℕ → (List ℕ → ℕ) → (List ℕ → ℕ) → Type 0
+FailsOrLacks file name before now = Rose (before name) (now name) ⊎ (file ≡ None)
 
 -- a failure of a call about this file is counted for it, and without a failure no count changes
 abbrev pub IsCountedAbout : {T : Type 0} → Option (List ℕ) → (List ℕ → ℕ) → (List ℕ → ℕ) → Result T IoFault → Type 0

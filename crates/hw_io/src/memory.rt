@@ -3,7 +3,7 @@ ghost use Rattle.std.specs.Prelude.{◌≡◌, ◌≢◌, ◌↔◌, ◌^◌, �
 ghost use Rattle.std.specs.Option.{option_copied};
 ghost use Rattle.std.specs.Io.KnownBytes.{WriteAppends, ReadConsumes};
 ghost use Rattle.std.specs.Io.{ReadsAtMost};
-ghost use Rattle.hw_io.specs.Faults.{HasCause, IsCountedAbout, OnlyAbout, IsWantCounted, raised};
+ghost use Rattle.hw_io.specs.Faults.{HasCause, subject_of, IsCountedAbout, OnlyAbout, IsWantCounted, raised};
 ghost use Rattle.hw_io.specs.Files.{SameFiles, IsAnswer, Begins, Appended, Spends};
 ghost use Rattle.hw_io.specs.Sinks.{TakesSome};
 ghost use Rattle.hw_io.specs.Memory.{mem_held, mem_begun, mem_unread, mem_allowance, mem_read_faults, mem_append_faults, mem_faults_about, mem_planned, mem_calls, mem_next, mem_taken, mem_faults, mem_wants, sink_planned, sink_calls, planned_at, is_planned, SameCounts, CountsCall, CutAt, FailsAsPlanned, FailsForMemory};
@@ -160,8 +160,9 @@ impl MemFiles {
         Err(IoFault::Failed)
     }
 
-    /// Fails a read, and counts it for the file that was begun, where there is memory to keep the name.
-    fn fail_read<T>(&mut self) -> Result<T, IoFault>
+    /// Fails a call about the file that was begun, and counts it where there is memory to keep the name. Where
+    /// none was, it is about no file.
+    fn fail_begun<T>(&mut self) -> Result<T, IoFault>
         ensures fails { IsErr result }
         ensures cause { HasCause (mem_read_faults self.old) (mem_read_faults self.new) result }
         ensures about { IsCountedAbout (mem_begun self.old) (mem_faults_about self.old) (mem_faults_about self.new) result }
@@ -244,17 +245,20 @@ impl Files for MemFiles {
         ensures none { OnErr result (mem_begun self.new ≡ None) }
         ensures allowance { OnOk result (mem_allowance self.new ≤ 2 ^ 62) }
         ensures cause { HasCause (mem_read_faults self.old) (mem_read_faults self.new) result }
-        ensures about { IsCountedAbout (Some name.now) (mem_faults_about self.old) (mem_faults_about self.new) result }
-        ensures others { OnlyAbout (Some name.now) (mem_faults_about self.old) (mem_faults_about self.new) }
+        ensures about { IsCountedAbout (subject_of (mem_held self.old name.now) name.now) (mem_faults_about self.old) (mem_faults_about self.new) result }
+        ensures others { OnlyAbout (subject_of (mem_held self.old name.now) name.now) (mem_faults_about self.old) (mem_faults_about self.new) }
         ensures files { SameFiles (mem_held self.old) (mem_held self.new) }
         ensures appends { mem_append_faults self.new ≡ mem_append_faults self.old }
     {
-        if self.next_call().is_some() {
-            self.shelf.close();
-            return self.fail_about(name);
-        }
+        let planned = self.next_call().is_some();
         if !self.shelf.begin(name) {
-            return self.fail_about(name);
+            return self.fail_begun();
+        }
+        if planned {
+            // The file is begun only so that the failure is counted for it.
+            let failed = self.fail_begun();
+            self.shelf.close();
+            return failed;
         }
         Ok(())
     }
@@ -276,11 +280,11 @@ impl Files for MemFiles {
         ensures appends { mem_append_faults self.new ≡ mem_append_faults self.old }
     {
         if self.next_call().is_some() {
-            return self.fail_read();
+            return self.fail_begun();
         }
         match self.shelf.read(buf) {
             Ok(count) => Ok(count),
-            Err(_) => self.fail_read(),
+            Err(_) => self.fail_begun(),
         }
     }
 

@@ -3,7 +3,7 @@ ghost use Rattle.std.specs.Prelude.{◌≡◌, ◌≢◌, ℕ, ◌^◌, ◌<◌,
 ghost use Rattle.std.specs.Io.KnownBytes.{WriteAppends, ReadConsumes};
 ghost use Rattle.std.specs.Option.{option_map};
 ghost use Rattle.std.specs.Io.{ReadsAtMost};
-ghost use Rattle.hw_io.specs.Faults.{HasCause, IsCountedAbout, OnlyAbout, IsWantCounted, raised};
+ghost use Rattle.hw_io.specs.Faults.{HasCause, subject_of, IsCountedAbout, OnlyAbout, IsWantCounted, raised};
 ghost use Rattle.hw_io.specs.Files.{SameFiles, IsAnswer, Begins, Appended, Spends};
 ghost use Rattle.hw_io.specs.Sinks.{TakesSome};
 ghost use Rattle.hw_io.specs.Moments.{GivesMoment};
@@ -59,8 +59,9 @@ pub trait Files {
     ghost append_faults: { Self → ℕ };
 
     /// How many failed calls of `exists`, `begin` and `read` were about the file of a name. `exists`
-    /// and `begin` are about the name that they are handed, `read` about the file that was begun, and
-    /// about no file where none was.
+    /// is about the name that it is handed. So is `begin`, but about no file where files are told and
+    /// there is none of that name. `read` is about the file that was begun, and about no file where
+    /// none was.
     ghost faults_about: { Self → List ℕ → ℕ };
 
     /// Whether there is a file of that name.
@@ -77,7 +78,8 @@ pub trait Files {
         ensures appends { append_faults self.new ≡ append_faults self.old };
 
     /// Begins to read the file of that name from its first byte, in place of the one that was begun
-    /// before. A name that isn't there is an error, and after each error no file is begun.
+    /// before. A name that isn't there is an error, which is counted for no file. After each error no
+    /// file is begun.
     ///
     /// Reads give at most 2^62 bytes of a file, and fail then, so that a file without an end is a
     /// fault.
@@ -86,8 +88,9 @@ pub trait Files {
         ensures none { OnErr result (begun self.new ≡ None) }
         ensures allowance { OnOk result (allowance self.new ≤ 2 ^ 62) }
         ensures cause { HasCause (read_faults self.old) (read_faults self.new) result }
-        ensures about { IsCountedAbout (Some name.now) (faults_about self.old) (faults_about self.new) result }
-        ensures others { IsTrue tells → OnlyAbout (Some name.now) (faults_about self.old) (faults_about self.new) }
+        ensures about { IsTrue tells → IsCountedAbout (subject_of (held self.old name.now) name.now) (faults_about self.old) (faults_about self.new) result }
+        ensures untold { tells ≡ false → IsCountedAbout (Some name.now) (faults_about self.old) (faults_about self.new) result }
+        ensures others { IsTrue tells → OnlyAbout (subject_of (held self.old name.now) name.now) (faults_about self.old) (faults_about self.new) }
 
         ensures files { SameFiles (held self.old) (held self.new) }
         ensures appends { append_faults self.new ≡ append_faults self.old };

@@ -5,7 +5,7 @@ ghost use Rattle.std.specs.Option.{ForSome, option_copied};
 ghost use Rattle.std.specs.Io.KnownBytes.{ReadConsumes};
 ghost use Rattle.std.specs.Io.{ReadsAtMost};
 ghost use Rattle.hw_io.specs.Files.{Begins, Appended, Spends};
-ghost use Rattle.hw_io.specs.Faults.{FailsAbout, OnlyAbout};
+ghost use Rattle.hw_io.specs.Faults.{subject_of, FailsAbout, OnlyAbout};
 ghost use Rattle.hw_io.specs.Shelves.{place_in, held_in, begun_in, unread_in, allowance_of, faults_in, AddsFile};
 
 use crate::outside::{IoFault, READ_LIMIT};
@@ -78,6 +78,7 @@ impl Shelf {
         ensures there { IsTrue result ↔ IsSome (held_in self.old.files.items name.now) }
         ensures begun { OnTrue result (Begins (held_in self.old.files.items name.now) name.now
             (begun_in self.new.files.items self.new.reading) (unread_in self.new.files.items self.new.reading)) }
+        ensures subject { begun_in self.new.files.items self.new.reading ≡ subject_of (held_in self.old.files.items name.now) name.now }
         ensures none { OnFalse result (self.new.reading ≡ None) }
         ensures allowance { allowance_of self.new.reading ≤ 2 ^ 62 }
         ensures files { self.new.files ≡ self.old.files }

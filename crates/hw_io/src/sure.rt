@@ -3,7 +3,7 @@ ghost use Rattle.std.specs.Prelude.{◌≡◌, ◌≢◌, ◌↔◌, ◌^◌, �
 ghost use Rattle.std.specs.Option.{option_copied};
 ghost use Rattle.std.specs.Io.KnownBytes.{ReadConsumes};
 ghost use Rattle.std.specs.Io.{ReadsAtMost};
-ghost use Rattle.hw_io.specs.Faults.{HasCause, IsCountedAbout, OnlyAbout, raised};
+ghost use Rattle.hw_io.specs.Faults.{HasCause, subject_of, IsCountedAbout, OnlyAbout, raised};
 ghost use Rattle.hw_io.specs.Files.{SameFiles, IsAnswer, Begins, Appended, Spends};
 ghost use Rattle.hw_io.specs.Sure.{sure_held, sure_begun, sure_unread, sure_allowance, sure_read_faults, sure_faults_about, sure_taken};
 
@@ -65,22 +65,9 @@ impl SureFiles {
         self.read_faults = self.read_faults.saturating_add(1);
     }
 
-    /// Fails a call about the file of this name, and counts it where there is memory to keep the name.
-    fn fail_about<T>(&mut self, name: &str) -> Result<T, IoFault>
-        ensures fails { IsErr result }
-        ensures cause { HasCause (sure_read_faults self.old) (sure_read_faults self.new) result }
-        ensures about { IsCountedAbout (Some name.now) (sure_faults_about self.old) (sure_faults_about self.new) result }
-        ensures others { OnlyAbout (Some name.now) (sure_faults_about self.old) (sure_faults_about self.new) }
-        ensures files { self.new.shelf.files ≡ self.old.shelf.files }
-        ensures reading { self.new.shelf.reading ≡ self.old.shelf.reading }
-    {
-        self.shelf.blame(name)?;
-        self.count_read_fault();
-        Err(IoFault::Failed)
-    }
-
-    /// Fails a read, and counts it for the file that was begun, where there is memory to keep the name.
-    fn fail_read<T>(&mut self) -> Result<T, IoFault>
+    /// Fails a call about the file that was begun, and counts it where there is memory to keep the name. Where
+    /// none was, it is about no file.
+    fn fail_begun<T>(&mut self) -> Result<T, IoFault>
         ensures fails { IsErr result }
         ensures cause { HasCause (sure_read_faults self.old) (sure_read_faults self.new) result }
         ensures about { IsCountedAbout (sure_begun self.old) (sure_faults_about self.old) (sure_faults_about self.new) result }
@@ -127,12 +114,12 @@ impl Files for SureFiles {
         ensures none { OnErr result (sure_begun self.new ≡ None) }
         ensures allowance { OnOk result (sure_allowance self.new ≤ 2 ^ 62) }
         ensures cause { HasCause (sure_read_faults self.old) (sure_read_faults self.new) result }
-        ensures about { IsCountedAbout (Some name.now) (sure_faults_about self.old) (sure_faults_about self.new) result }
-        ensures others { OnlyAbout (Some name.now) (sure_faults_about self.old) (sure_faults_about self.new) }
+        ensures about { IsCountedAbout (subject_of (sure_held self.old name.now) name.now) (sure_faults_about self.old) (sure_faults_about self.new) result }
+        ensures others { OnlyAbout (subject_of (sure_held self.old name.now) name.now) (sure_faults_about self.old) (sure_faults_about self.new) }
         ensures files { SameFiles (sure_held self.old) (sure_held self.new) }
     {
         if !self.shelf.begin(name) {
-            return self.fail_about(name);
+            return self.fail_begun();
         }
         Ok(())
     }
@@ -153,7 +140,7 @@ impl Files for SureFiles {
     {
         match self.shelf.read(buf) {
             Ok(count) => Ok(count),
-            Err(_) => self.fail_read(),
+            Err(_) => self.fail_begun(),
         }
     }
 

@@ -1,6 +1,6 @@
 -- Why no log was written anew.
 use Rattle.std.specs.Prelude.{◌≡◌, ◌⊎◌, ℕ, ◌≤◌, List, Option, Some, None, IsSome, Result, Ok, Err}
-use Rattle.hw_io.specs.Faults.{Rose}
+use Rattle.hw_io.specs.Faults.{Rose, FailsOrLacks}
 use Rattle.hw_log.specs.declared.error.LogError.{LogError}
 use Rattle.hw_log.specs.declared.error.LogError.TheVariants as log
 use Rattle.hw_log.specs.declared.fault.RewriteFault.{RewriteFault}
@@ -53,12 +53,12 @@ pub record HasRewriteCause {T : Type 0} (reads_before reads appends_before appen
   pub later_appends : appends_before ≤ appends
   pub appends_counted : IsAppendCounted appends_before appends result
 
--- a failed read is counted for the new file, or, where that one isn't there, for the log; and no other fault changes a count
-abbrev pub IsFaultAbout : Option (List ℕ) → List ℕ → List ℕ → (List ℕ → ℕ) → (List ℕ → ℕ) → RewriteFault → Type 0
-IsFaultAbout target old new before now (fault.Log log.ReadFault) = ((target ≡ None) × Rose (before old) (now old)) ⊎ Rose (before new) (now new)
-IsFaultAbout target old new before now e = now ≡ before
+-- A failed read is counted for the new file, or, where that one isn't there, for the log, unless there is no log. No other fault changes a count.
+abbrev pub IsFaultAbout : Option (List ℕ) → Option (List ℕ) → List ℕ → List ℕ → (List ℕ → ℕ) → (List ℕ → ℕ) → RewriteFault → Type 0
+IsFaultAbout file target old new before now (fault.Log log.ReadFault) = ((target ≡ None) × FailsOrLacks file old before now) ⊎ Rose (before new) (now new)
+IsFaultAbout file target old new before now e = now ≡ before
 
 -- nor does an answer without one
-abbrev pub IsReadAbout : {T : Type 0} → Option (List ℕ) → List ℕ → List ℕ → (List ℕ → ℕ) → (List ℕ → ℕ) → Result T RewriteFault → Type 0
-IsReadAbout target old new before now (Ok x) = now ≡ before
-IsReadAbout target old new before now (Err e) = IsFaultAbout target old new before now e
+abbrev pub IsReadAbout : {T : Type 0} → Option (List ℕ) → Option (List ℕ) → List ℕ → List ℕ → (List ℕ → ℕ) → (List ℕ → ℕ) → Result T RewriteFault → Type 0
+IsReadAbout file target old new before now (Ok x) = now ≡ before
+IsReadAbout file target old new before now (Err e) = IsFaultAbout file target old new before now e

@@ -4,7 +4,7 @@
 //! made of them.
 
 ghost use Rattle.std.specs.Prelude.{◌≡◌, ◌+◌, ◌++◌, [], Some, IsTrue, IfOk, OnOk};
-ghost use Rattle.hw_io.specs.Faults.{HasCause, IsCountedAbout};
+ghost use Rattle.hw_io.specs.Faults.{HasCause, subject_of, IsCountedAbout};
 ghost use Rattle.hw_io.specs.Files.{SameFiles};
 
 use hw_io::{Files, IoFault};
@@ -16,12 +16,12 @@ const PIECE: usize = 4_096;
 
 /// The bytes of the file of that name.
 ///
-/// A name that isn't there is a failed read. The bytes take memory as they come.
+/// A name that isn't there is a failed read, which is counted for no file. The bytes take memory as they come.
 pub fn read_file<F: Files>(alloc: Global, files: &mut F, name: &str) -> Result<Bytes, IoFault>
     // The answer is all that the file holds, however the reads were cut.
     ensures whole { IsTrue F.tells → IfOk result (λ bytes. F.held files.old name.now ≡ Some bytes) }
     ensures cause { HasCause (F.read_faults files.old) (F.read_faults files.new) result }
-    ensures about { IsTrue F.tells → IsCountedAbout (Some name.now) (F.faults_about files.old) (F.faults_about files.new) result }
+    ensures about { IsTrue F.tells → IsCountedAbout (subject_of (F.held files.old name.now) name.now) (F.faults_about files.old) (F.faults_about files.new) result }
 
     ensures files { SameFiles (F.held files.old) (F.held files.new) }
     ensures appends { F.append_faults files.new ≡ F.append_faults files.old }

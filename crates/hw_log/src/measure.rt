@@ -1,6 +1,7 @@
 //! The whole entries of a log, counted.
 
-ghost use Rattle.std.specs.Prelude.{◌≡◌, ℕ, ◌+◌, ◌<◌, List, Some, IsTrue, IfOk};
+ghost use Rattle.std.specs.Prelude.{◌≡◌, ℕ, ◌+◌, ◌<◌, List, IsTrue, IfOk};
+ghost use Rattle.hw_io.specs.Faults.{subject_of};
 ghost use Rattle.hw_io.specs.Files.{SameFiles};
 ghost use Rattle.hw_log.specs.Log.{log_of};
 ghost use Rattle.hw_log.specs.Causes.{Gives, HasReadCause, IsReadAbout};
@@ -23,7 +24,7 @@ pub(crate) fn measure<F: Files>(
 ) -> Result<WholeEntries, LogError>
     ensures said { IsTrue F.tells → Measures (F.held files.old name.now) result }
     ensures cause { HasReadCause (F.read_faults files.old) (F.read_faults files.new) result }
-    ensures about { IsTrue F.tells → IsReadAbout (Some name.now) (F.faults_about files.old) (F.faults_about files.new) result }
+    ensures about { IsTrue F.tells → IsReadAbout (subject_of (F.held files.old name.now) name.now) (F.faults_about files.old) (F.faults_about files.new) result }
 
     ensures files { SameFiles (F.held files.old) (F.held files.new) }
     ensures appends { F.append_faults files.new ≡ F.append_faults files.old }

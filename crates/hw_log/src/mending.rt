@@ -1,6 +1,7 @@
 //! A log without its torn end.
 
 ghost use Rattle.std.specs.Prelude.{◌≡◌, ◌≢◌, ◌⊎◌, ℕ, List, Some, IsTrue, IsSome, IfOk, IfErr, OnErr, MatchResult};
+ghost use Rattle.hw_io.specs.Faults.{subject_of};
 ghost use Rattle.hw_io.specs.Files.{SameFiles};
 ghost use Rattle.hw_log.specs.Causes.{HasReadCause, IsReadAbout, IsOutside as IsUnreadError};
 ghost use Rattle.hw_log.specs.Rewritten.{mended_of, bytes_before, Says, HasRewritten, IsCutShort};
@@ -34,7 +35,7 @@ pub fn mend<F: Files>(
     ensures cut { IsTrue F.tells → OnErr result (IsCutShort mended_of (F.held files.old log.now) (F.held files.old new.now) (F.held files.new new.now)) }
     ensures others { IsTrue F.tells → (name : List ℕ) → name ≢ new.now → F.held files.new name ≡ F.held files.old name }
     ensures cause { HasRewriteCause (F.read_faults files.old) (F.read_faults files.new) (F.append_faults files.old) (F.append_faults files.new) result }
-    ensures about { IsTrue F.tells → IsRewriteAbout (F.held files.old new.now) log.now new.now (F.faults_about files.old) (F.faults_about files.new) result }
+    ensures about { IsTrue F.tells → IsRewriteAbout (F.held files.old log.now) (F.held files.old new.now) log.now new.now (F.faults_about files.old) (F.faults_about files.new) result }
 {
     absent(files, new)?;
     let mended = mended(alloc, files, log)?;
@@ -46,7 +47,7 @@ pub fn mend<F: Files>(
 fn mended<F: Files>(alloc: Global, files: &mut F, log: &str) -> Result<Rewritten, LogError>
     ensures said { IsTrue F.tells → Says mended_of (F.held files.old log.now) result }
     ensures cause { HasReadCause (F.read_faults files.old) (F.read_faults files.new) result }
-    ensures about { IsTrue F.tells → IsReadAbout (Some log.now) (F.faults_about files.old) (F.faults_about files.new) result }
+    ensures about { IsTrue F.tells → IsReadAbout (subject_of (F.held files.old log.now) log.now) (F.faults_about files.old) (F.faults_about files.new) result }
 
     ensures files { SameFiles (F.held files.old) (F.held files.new) }
     ensures appends { F.append_faults files.new ≡ F.append_faults files.old }
@@ -64,7 +65,7 @@ fn read<F: Files>(alloc: Global, files: &mut F, name: &str) -> Result<Bytes, Log
     ensures whole { IsTrue F.tells → IfOk result (λ bytes. F.held files.old name.now ≡ Some bytes) }
     ensures error { IfErr result IsUnreadError }
     ensures cause { HasReadCause (F.read_faults files.old) (F.read_faults files.new) result }
-    ensures about { IsTrue F.tells → IsReadAbout (Some name.now) (F.faults_about files.old) (F.faults_about files.new) result }
+    ensures about { IsTrue F.tells → IsReadAbout (subject_of (F.held files.old name.now) name.now) (F.faults_about files.old) (F.faults_about files.new) result }
 
     ensures files { SameFiles (F.held files.old) (F.held files.new) }
     ensures appends { F.append_faults files.new ≡ F.append_faults files.old }

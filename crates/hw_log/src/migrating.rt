@@ -1,6 +1,7 @@
 //! A log in version 2.
 
 ghost use Rattle.std.specs.Prelude.{◌≡◌, ◌≢◌, ◌⊎◌, ℕ, List, [], Some, None, IsTrue, IsSome, IfOk, IfErr, OnOk, OnErr, MatchResult};
+ghost use Rattle.hw_io.specs.Faults.{subject_of};
 ghost use Rattle.hw_io.specs.Files.{SameFiles};
 ghost use Rattle.hw_types.specs.Limits.{config_fault};
 ghost use Rattle.hw_types.specs.Spelling.{ConfigFits};
@@ -38,7 +39,7 @@ pub fn migrate<F: Files>(
     ensures cut { IsTrue F.tells → OnErr result (IsCutShort migrated_of (F.held files.old log.now) (F.held files.old new.now) (F.held files.new new.now)) }
     ensures others { IsTrue F.tells → (name : List ℕ) → name ≢ new.now → F.held files.new name ≡ F.held files.old name }
     ensures cause { HasRewriteCause (F.read_faults files.old) (F.read_faults files.new) (F.append_faults files.old) (F.append_faults files.new) result }
-    ensures about { IsTrue F.tells → IsRewriteAbout (F.held files.old new.now) log.now new.now (F.faults_about files.old) (F.faults_about files.new) result }
+    ensures about { IsTrue F.tells → IsRewriteAbout (F.held files.old log.now) (F.held files.old new.now) log.now new.now (F.faults_about files.old) (F.faults_about files.new) result }
 {
     absent(files, new)?;
     let migrated = migrated(alloc, files, log)?;
@@ -51,7 +52,7 @@ fn migrated<F: Files>(alloc: Global, files: &mut F, log: &str) -> Result<Rewritt
     ensures said { IsTrue F.tells → Says migrated_of (F.held files.old log.now) result }
     ensures same { IsTrue F.tells → IfOk result (λ r. HoldsAnew (F.held files.old log.now) (Some r.bytes)) }
     ensures cause { HasReadCause (F.read_faults files.old) (F.read_faults files.new) result }
-    ensures about { IsTrue F.tells → IsReadAbout (Some log.now) (F.faults_about files.old) (F.faults_about files.new) result }
+    ensures about { IsTrue F.tells → IsReadAbout (subject_of (F.held files.old log.now) log.now) (F.faults_about files.old) (F.faults_about files.new) result }
 
     ensures files { SameFiles (F.held files.old) (F.held files.new) }
     ensures appends { F.append_faults files.new ≡ F.append_faults files.old }

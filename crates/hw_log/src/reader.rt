@@ -1,6 +1,7 @@
 //! The reader of a log.
 
 ghost use Rattle.std.specs.Prelude.{◌≡◌, ℕ, ◌+◌, ◌≤◌, ◌<◌, ◌^◌, ◌==◌, Some, None, ◌++◌, length, take, drop, IsTrue, IfOk, IfErr, IfSome, OnOk, OnErr, box_value};
+ghost use Rattle.hw_io.specs.Faults.{subject_of};
 ghost use Rattle.hw_io.specs.Files.{SameFiles, Begins};
 ghost use Rattle.hw_types.specs.declared.unit.Vertex.TheVariants.{Unit};
 ghost use Rattle.hw_types.specs.Limits.{config_fault};
@@ -75,9 +76,10 @@ impl LogReader {
             (config_fault reader.config ≡ None) × ConfigFits reader.config) }
         ensures places { IfOk result (λ reader. PlacesFit reader (F.allowance files.new)) }
         ensures cause { HasReadCause (F.read_faults files.old) (F.read_faults files.new) result }
-        ensures about { IsTrue F.tells → IsReadAbout (Some name.now) (F.faults_about files.old) (F.faults_about files.new) result }
+        ensures about { IsTrue F.tells → IsReadAbout (subject_of (F.held files.old name.now) name.now) (F.faults_about files.old) (F.faults_about files.new) result }
 
         ensures begun { IsTrue F.tells → OnOk result (F.begun files.new ≡ Some name.now) }
+        ensures subject { IsTrue F.tells → OnOk result (F.begun files.new ≡ subject_of (F.held files.old name.now) name.now) }
         ensures files { SameFiles (F.held files.old) (F.held files.new) }
         ensures appends { F.append_faults files.new ≡ F.append_faults files.old }
     {
@@ -353,10 +355,11 @@ impl LogReader {
 /// Begins to read the file of that name.
 fn begin_file<F: Files>(files: &mut F, name: &str) -> Result<(), LogError>
     ensures whole { IsTrue F.tells → OnOk result (Begins (F.held files.old name.now) name.now (F.begun files.new) (F.unread files.new)) }
+    ensures subject { IsTrue F.tells → OnOk result (F.begun files.new ≡ subject_of (F.held files.old name.now) name.now) }
     ensures error { IfErr result IsOutside }
     ensures allowance { OnOk result (F.allowance files.new ≤ 2 ^ 62) }
     ensures cause { HasReadCause (F.read_faults files.old) (F.read_faults files.new) result }
-    ensures about { IsReadAbout (Some name.now) (F.faults_about files.old) (F.faults_about files.new) result }
+    ensures about { IsTrue F.tells → IsReadAbout (subject_of (F.held files.old name.now) name.now) (F.faults_about files.old) (F.faults_about files.new) result }
 
     ensures files { SameFiles (F.held files.old) (F.held files.new) }
     ensures appends { F.append_faults files.new ≡ F.append_faults files.old }

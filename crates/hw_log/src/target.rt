@@ -15,7 +15,7 @@ pub(crate) fn absent<F: Files>(files: &mut F, new: &str) -> Result<(), RewriteFa
     ensures there { IsTrue F.tells → IfErr result (λ fault. fault ≡ RewriteFaults.Exists → IsSome (F.held files.old new.now)) }
     ensures why { IfErr result IsAbsentFault }
     ensures cause { HasRewriteCause (F.read_faults files.old) (F.read_faults files.new) (F.append_faults files.old) (F.append_faults files.new) result }
-    ensures about { (target : Option (List ℕ)) (log : List ℕ) → IsReadAbout target log new.now (F.faults_about files.old) (F.faults_about files.new) result }
+    ensures about { (file target : Option (List ℕ)) (log : List ℕ) → IsReadAbout file target log new.now (F.faults_about files.old) (F.faults_about files.new) result }
 
     ensures files { SameFiles (F.held files.old) (F.held files.new) }
 {

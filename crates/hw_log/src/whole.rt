@@ -1,6 +1,7 @@
 //! A whole log at once.
 
 ghost use Rattle.std.specs.Prelude.{◌≡◌, ℕ, List, None, IsTrue, IfErr, IfOk, OnOk};
+ghost use Rattle.hw_io.specs.Faults.{subject_of};
 ghost use Rattle.hw_io.specs.Files.{SameFiles};
 ghost use Rattle.hw_log.specs.Log.{log_of};
 ghost use Rattle.hw_log.specs.Causes.{HasReadCause, IsReadAbout};
@@ -30,7 +31,7 @@ pub fn read_log<F: Files>(alloc: Global, files: &mut F, name: &str) -> Result<Lo
     ensures whole { IsTrue F.tells → IfOk result (SaysWhole (F.held files.old name.now)) }
     ensures fault { IsTrue F.tells → IfErr result (SaysFault (F.held files.old name.now)) }
     ensures cause { HasReadCause (F.read_faults files.old) (F.read_faults files.new) result }
-    ensures about { IsTrue F.tells → IsReadAbout (Some name.now) (F.faults_about files.old) (F.faults_about files.new) result }
+    ensures about { IsTrue F.tells → IsReadAbout (subject_of (F.held files.old name.now) name.now) (F.faults_about files.old) (F.faults_about files.new) result }
 
     ensures files { SameFiles (F.held files.old) (F.held files.new) }
     ensures appends { F.append_faults files.new ≡ F.append_faults files.old }

@@ -66,7 +66,7 @@ pub fn highway<F: Files, S: Sink, C: Clock, D: Door>(
     ensures validator { IsTrue F.tells → AsksNoValidator F.tells (service_of words.now) (F.held files.old) → (result ≡ 1) ⊎ (result ≡ 4) ⊎ (result ≡ 7) }
 
     // 4 and 5 come only where a count of faults rose in this run, 4 only where a call about a file that is due
-    // failed, and 5 only in place of a text that was whole.
+    // failed or such a file isn't there, and 5 only in place of a text that was whole.
     ensures read_fault { result ≡ 4 → Rose (F.read_faults files.old) (F.read_faults files.new) }
     ensures read_about { IsWorkedOut words.now → IsTrue F.tells → result ≡ 4 → FailsOf (F.held files.old) (request_of words.now) (F.faults_about files.old) (F.faults_about files.new) }
     ensures write_fault { result ≡ 5 → Rose (S.faults out.old) (S.faults out.new) ⊎ Rose (F.append_faults files.old) (F.append_faults files.new) }
@@ -119,8 +119,8 @@ pub fn highway<F: Files, S: Sink, C: Clock, D: Door>(
         (around (F.held files.old) (door_seen (D.sessions door.old) (D.accepts door.old) (D.dials door.old) (D.ends door.old)) (C.given clock.old) (output (S.taken out.old) (S.faults out.old) (S.wants out.old)) (counts (F.read_faults files.old) (F.append_faults files.old) (F.faults_about files.old) (D.faults door.old)) consumers.old.items)
         (around (F.held files.new) (door_seen (D.sessions door.new) (D.accepts door.new) (D.dials door.new) (D.ends door.new)) (C.given clock.new) (output (S.taken out.new) (S.faults out.new) (S.wants out.new)) (counts (F.read_faults files.new) (F.append_faults files.new) (F.faults_about files.new) (D.faults door.new)) consumers.new.items)) }
 
-    // 6 comes only where a call of the door failed in it. A read that failed was about a file that it begins from, and
-    // a count of reads or of appends that rose is told, where there is memory.
+    // 6 comes only where a call of the door failed in it. A read that failed was about a file that it begins from, or
+    // its settings or keys aren't there. A count of reads or of appends that rose is told, where there is memory.
     ensures link { result ≡ 6 → IsSome (service_of words.now) × Rose (D.faults door.old) (D.faults door.new) }
     ensures node_about { IsTrue F.tells → result ≡ 4 → IfSome (service_of words.now) (λ s. IsAbout (names_in s) (maker_in s) (F.held files.old) (F.faults_about files.old) (F.faults_about files.new)) }
     ensures node_reads { IsSome (service_of words.now) → result ≢ 4 → (F.read_faults files.new ≡ F.read_faults files.old) ⊎ (result ≡ 7) }

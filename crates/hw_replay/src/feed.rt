@@ -2,6 +2,7 @@
 
 ghost use Rattle.std.specs.Prelude.{◌≡◌, ◌≤◌, true, [], length, All, IsTrue, IfOk, IfErr, IfSome, OnOk};
 ghost use Rattle.std.specs.Option.{option_copied};
+ghost use Rattle.hw_io.specs.Faults.{subject_of};
 ghost use Rattle.hw_io.specs.Files.{SameFiles};
 ghost use Rattle.hw_types.specs.Spelling.{ConfigFits};
 ghost use Rattle.hw_replay.specs.Replay.{is_wanted, taken_in, ahead_in, TakesAll, Replays};
@@ -50,7 +51,7 @@ pub fn replay_fed<F: Files>(
     ensures room { length consumers.new.items ≤ length fanout.new.places }
 
     ensures cause { HasReplayCause (F.read_faults files.old) (F.read_faults files.new) result }
-    ensures about { IsTrue F.tells → IsReplayAbout (Some name.now) (F.faults_about files.old) (F.faults_about files.new) result }
+    ensures about { IsTrue F.tells → IsReplayAbout (subject_of (F.held files.old name.now) name.now) (F.faults_about files.old) (F.faults_about files.new) result }
 
     ensures files { SameFiles (F.held files.old) (F.held files.new) }
     ensures appends { F.append_faults files.new ≡ F.append_faults files.old }

@@ -2,6 +2,7 @@
 
 ghost use Rattle.std.specs.Prelude.{◌≡◌, ◌≢◌, ◌+◌, ◌<◌, ◌≤◌, ◌^◌, ◌⊎◌, true, false, [], Ok, Some, None, IsTrue, IfOk, IfErr, IfSome, OnOk, OnErr, box_value};
 ghost use Rattle.std.specs.Option.{option_copied};
+ghost use Rattle.hw_io.specs.Faults.{subject_of};
 ghost use Rattle.hw_io.specs.Files.{SameFiles};
 ghost use Rattle.hw_types.specs.Limits.{config_fault};
 ghost use Rattle.hw_types.specs.Spelling.{Fits, VertexFits, ConfigFits, digest_of};
@@ -73,9 +74,10 @@ impl Replay {
         ensures reached { IfOk result (λ r. IsReached r.core) }
         ensures wanted { IfOk result (λ r. is_wanted (option_copied wanted.entry) r.core.config ≡ true) }
         ensures cause { HasReplayCause (F.read_faults files.old) (F.read_faults files.new) result }
-        ensures about { IsTrue F.tells → IsReplayAbout (Some name.now) (F.faults_about files.old) (F.faults_about files.new) result }
+        ensures about { IsTrue F.tells → IsReplayAbout (subject_of (F.held files.old name.now) name.now) (F.faults_about files.old) (F.faults_about files.new) result }
 
         ensures begun { IsTrue F.tells → OnOk result (F.begun files.new ≡ Some name.now) }
+        ensures subject { IsTrue F.tells → OnOk result (F.begun files.new ≡ subject_of (F.held files.old name.now) name.now) }
         ensures files { SameFiles (F.held files.old) (F.held files.new) }
         ensures appends { F.append_faults files.new ≡ F.append_faults files.old }
     {
@@ -379,7 +381,7 @@ pub fn replay_log<F: Files>(
     ensures reached { IfOk result (λ r. IsReached r.core) }
     ensures wanted { IfOk result (λ r. is_wanted (option_copied wanted.entry) r.core.config ≡ true) }
     ensures cause { HasReplayCause (F.read_faults files.old) (F.read_faults files.new) result }
-    ensures about { IsTrue F.tells → IsReplayAbout (Some name.now) (F.faults_about files.old) (F.faults_about files.new) result }
+    ensures about { IsTrue F.tells → IsReplayAbout (subject_of (F.held files.old name.now) name.now) (F.faults_about files.old) (F.faults_about files.new) result }
 
     ensures files { SameFiles (F.held files.old) (F.held files.new) }
     ensures appends { F.append_faults files.new ≡ F.append_faults files.old }

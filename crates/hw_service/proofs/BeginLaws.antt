@@ -6,8 +6,9 @@ use Rattle.std.proofs.lemmas.List.FromFn.{length-range_with_len}
 use Rattle.hw_types.specs.declared.config.Config.{Config}
 use Rattle.hw_core.specs.Promises.{begun}
 use Rattle.hw_io.specs.Consumers.{Consumed}
-use Rattle.hw_io.specs.Faults.{FailsAbout}
+use Rattle.hw_io.specs.Faults.{FailsAbout, subject_of}
 use Rattle.hw_io.specs.Files.{SameFiles}
+use Rattle.hw_io.proofs.About.{fails-or-lacks}
 use Rattle.hw_types.specs.Real.{CoreState}
 use Rattle.hw_log.specs.declared.error.LogError.TheVariants as log
 use Rattle.hw_replay.specs.Taken.{Taken}
@@ -25,8 +26,9 @@ use Rattle.hw_session.specs.Start.{Starts, StartsLog, IsStartCounted, IsReadOfLo
 use Rattle.hw_service.specs.declared.fault.ServiceFault.{ServiceFault}
 use Rattle.hw_service.specs.declared.fault.ServiceFault.TheVariants as fault
 use Rattle.hw_service.specs.Scene.{DoorSeen, outside, scene, none_told}
-use Rattle.hw_service.specs.Counts.{IsReadCounted, IsAppendCounted}
-use Rattle.hw_service.specs.Begin.{Names, Reads, ReadsNot, HasBegun, BeginsNot, fault_of_start}
+use Rattle.hw_service.specs.Counts.{IsReadCounted, IsAppendCounted, IsReadAbout}
+use Rattle.hw_service.specs.Begun.{IsReadOf}
+use Rattle.hw_service.specs.Begin.{Names, file_settings, IsValidator, Reads, ReadsNot, HasBegun, BeginsNot, fault_of_start}
 
 -- ---- consumers that were told nothing
 
@@ -207,3 +209,34 @@ about_start name before now (start.Clash known other) is about = absurd cc
 about_start name before now (start.RecordsFull at) is about = absurd cc
 about_start name before now (start.ParkFull at) is about = absurd cc
 about_start name before now start.OutOfMemory is about = absurd cc
+
+-- ---- counts of the settings and the keys
+
+-- a failed read of the settings
+pub about_config : (T S : Type 0) (names : Names) (me : Option ℕ) (files : List ℕ → Option (List ℕ)) (before now : List ℕ → ℕ) (e : ServiceFault) → IsReadAbout {T = T} (subject_of (files names.config) names.config) before now (Err e) → IsReadOf {T = S} names me files before now (Err e)
+about_config T S names me files before now fault.Read h = inl (fails-or-lacks (files names.config) names.config before now h)
+about_config T S names me files before now (fault.Settings f) h = h
+about_config T S names me files before now fault.NoValidator h = h
+about_config T S names me files before now (fault.Keys at) h = h
+about_config T S names me files before now (fault.Log f) h = h
+about_config T S names me files before now (fault.Clash units) h = h
+about_config T S names me files before now fault.Append h = h
+about_config T S names me files before now fault.Write h = h
+about_config T S names me files before now fault.OutOfMemory h = h
+
+-- or of the keys, behind the settings
+module _ (T S : Type 0) (names : Names) (me : Option ℕ) (files mid : List ℕ → Option (List ℕ)) (before between now : List ℕ → ℕ) (config : Config) (said : file_settings (files names.config) ≡ Some (Ok config)) (is : IsValidator me config) (same : SameFiles files mid) (left : between ≡ before) where
+  by_keys : (e : ServiceFault) → IsReadAbout {T = T} (subject_of (files names.keys) names.keys) before now (Err e) → IsReadOf {T = S} names me files before now (Err e)
+  by_keys fault.Read h = inr (config, said, is, fails-or-lacks (files names.keys) names.keys before now h)
+  by_keys (fault.Settings f) h = h
+  by_keys fault.NoValidator h = h
+  by_keys (fault.Keys at) h = h
+  by_keys (fault.Log f) h = h
+  by_keys (fault.Clash units) h = h
+  by_keys fault.Append h = h
+  by_keys fault.Write h = h
+  by_keys fault.OutOfMemory h = h
+
+  pub about_keys : (e : ServiceFault) → IsReadAbout {T = T} (subject_of (mid names.keys) names.keys) between now (Err e) → IsReadOf {T = S} names me files before now (Err e)
+  about_keys e h =
+      by_keys e (subst (λ (f : Option (List ℕ)). IsReadAbout {T = T} (subject_of f names.keys) before now (Err e)) (same names.keys) (subst (λ (b : List ℕ → ℕ). IsReadAbout {T = T} (subject_of (mid names.keys) names.keys) b now (Err e)) left h))

@@ -4,7 +4,7 @@ use Rattle.std.specs.Prelude.{◌≡◌, ◌⊎◌, ℕ, Bool, true, IsTrue, Lis
 use Rattle.hw_types.specs.declared.config.Config.{Config}
 use Rattle.hw_io.specs.declared.outside.IoFault.{IoFault}
 use Rattle.hw_io.specs.declared.outside.IoFault.TheVariants as io
-use Rattle.hw_io.specs.Faults.{Rose}
+use Rattle.hw_io.specs.Faults.{Rose, FailsOrLacks}
 use Rattle.hw_log.specs.declared.error.LogError.TheVariants as log
 use Rattle.hw_replay.specs.declared.fault.StartFault.{StartFault}
 use Rattle.hw_replay.specs.declared.fault.StartFault.TheVariants as start
@@ -33,17 +33,18 @@ abbrev pub fault_of_look : IoFault → StartFault
 fault_of_look io.Failed = start.Log log.ReadFault
 fault_of_look io.OutOfMemory = start.OutOfMemory
 
--- A failed call was about one of these files, and was counted for it. It was about the keys only where the settings say a configuration of
--- which the validator is one, and about the log only where the keys are those of its validators too.
+-- A failed call was about one of these files, and was counted for it, or the settings or the keys aren't there. It was about the keys only where
+-- the settings say a configuration of which the validator is one, and about the log only where the keys are those of its validators too. A log
+-- that isn't there is no fault.
 abbrev pub IsAbout : Names → Option ℕ → (List ℕ → Option (List ℕ)) → (List ℕ → ℕ) → (List ℕ → ℕ) → Type 0
 IsAbout names me files before now =
-    Rose (before names.config) (now names.config)
-    ⊎ ((config : Config) × (file_settings (files names.config) ≡ Some (Ok config)) × IsValidator me config × Rose (before names.keys) (now names.keys))
+    FailsOrLacks (files names.config) names.config before now
+    ⊎ ((config : Config) × (file_settings (files names.config) ≡ Some (Ok config)) × IsValidator me config × FailsOrLacks (files names.keys) names.keys before now)
     ⊎ ((config : Config) × (keys : List (List ℕ)) × Reads true names me files config keys × Rose (before names.log) (now names.log))
 
--- a failed read was about the settings or the keys, and nothing else is counted for a file
+-- a failed read was about the settings or the keys, or these aren't there, and nothing else is counted for a file
 abbrev pub IsReadOf : {T : Type 0} → Names → Option ℕ → (List ℕ → Option (List ℕ)) → (List ℕ → ℕ) → (List ℕ → ℕ) → Result T ServiceFault → Type 0
 IsReadOf names me files before now (Err fault.Read) =
-    Rose (before names.config) (now names.config)
-    ⊎ ((config : Config) × (file_settings (files names.config) ≡ Some (Ok config)) × IsValidator me config × Rose (before names.keys) (now names.keys))
+    FailsOrLacks (files names.config) names.config before now
+    ⊎ ((config : Config) × (file_settings (files names.config) ≡ Some (Ok config)) × IsValidator me config × FailsOrLacks (files names.keys) names.keys before now)
 IsReadOf names me files before now _ = now ≡ before

@@ -4,6 +4,7 @@ ghost use Rattle.std.specs.Prelude.{◌≡◌, ◌≤◌, ◌<◌, ℕ, Option, 
 ghost use Rattle.std.specs.List.{range_with_len};
 ghost use Rattle.hw_types.specs.Limits.{config_fault};
 ghost use Rattle.hw_core.specs.Promises.{begun};
+ghost use Rattle.hw_io.specs.Faults.{subject_of};
 ghost use Rattle.hw_io.specs.Files.{SameFiles};
 ghost use Rattle.hw_replay.specs.declared.fault.StartFault.TheVariants as start;
 ghost use Rattle.hw_replay.specs.Chain.{told_chain};
@@ -116,7 +117,7 @@ fn read_bytes<F: Files>(alloc: Global, files: &mut F, name: &str) -> Result<Byte
     ensures whole { IsTrue F.tells → IfOk result (λ bytes. F.held files.old name.now ≡ Some bytes) }
     ensures fault { IfErr result IsOfFile }
     ensures reads { IsReadCounted (F.read_faults files.old) (F.read_faults files.new) result }
-    ensures about { IsTrue F.tells → IsReadAbout (Some name.now) (F.faults_about files.old) (F.faults_about files.new) result }
+    ensures about { IsTrue F.tells → IsReadAbout (subject_of (F.held files.old name.now) name.now) (F.faults_about files.old) (F.faults_about files.new) result }
 
     ensures files { SameFiles (F.held files.old) (F.held files.new) }
     ensures appends { F.append_faults files.new ≡ F.append_faults files.old }
@@ -134,7 +135,7 @@ fn read_config<F: Files>(alloc: Global, files: &mut F, name: &str) -> Result<Con
     ensures fault { IfErr result (IsOfSettings F.tells (F.held files.old name.now)) }
     ensures lawful { IfOk result (λ config. config_fault config ≡ None) }
     ensures reads { IsReadCounted (F.read_faults files.old) (F.read_faults files.new) result }
-    ensures about { IsTrue F.tells → IsReadAbout (Some name.now) (F.faults_about files.old) (F.faults_about files.new) result }
+    ensures about { IsTrue F.tells → IsReadAbout (subject_of (F.held files.old name.now) name.now) (F.faults_about files.old) (F.faults_about files.new) result }
 
     ensures files { SameFiles (F.held files.old) (F.held files.new) }
     ensures appends { F.append_faults files.new ≡ F.append_faults files.old }
@@ -171,7 +172,7 @@ fn read_keys<F: Files>(
     ensures count { IfOk result (λ keys. length keys ≡ length config.now.weights) }
     ensures fault { IfErr result (IsOfKeys F.tells (length config.now.weights) (F.held files.old name.now)) }
     ensures reads { IsReadCounted (F.read_faults files.old) (F.read_faults files.new) result }
-    ensures about { IsTrue F.tells → IsReadAbout (Some name.now) (F.faults_about files.old) (F.faults_about files.new) result }
+    ensures about { IsTrue F.tells → IsReadAbout (subject_of (F.held files.old name.now) name.now) (F.faults_about files.old) (F.faults_about files.new) result }
 
     ensures files { SameFiles (F.held files.old) (F.held files.new) }
     ensures appends { F.append_faults files.new ≡ F.append_faults files.old }
@@ -239,7 +240,7 @@ fn go_on_fed<F: Files>(
     ensures part { IfErr result (λ e. AreFedPart (sight_of ⟦<dyn Consumer as Consumer>⟧) F.tells (file_begun (Some config.now) (F.held files.old log.now)) e consumers.old.items consumers.new.items fanout.old fanout.new) }
     ensures room { length consumers.new.items ≤ length fanout.new.places }
     ensures cause { HasReplayCause (F.read_faults files.old) (F.read_faults files.new) result }
-    ensures about { IsTrue F.tells → IsReplayAbout (Some log.now) (F.faults_about files.old) (F.faults_about files.new) result }
+    ensures about { IsTrue F.tells → IsReplayAbout (subject_of (F.held files.old log.now) log.now) (F.faults_about files.old) (F.faults_about files.new) result }
 
     ensures files { SameFiles (F.held files.old) (F.held files.new) }
     ensures appends { F.append_faults files.new ≡ F.append_faults files.old }

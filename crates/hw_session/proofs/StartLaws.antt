@@ -18,7 +18,7 @@ use Rattle.hw_codec.specs.Ranges.{ConfigInRange}
 use Rattle.hw_codec.proofs.KindLaws.{config_kind, each_spells_one}
 use Rattle.hw_io.specs.declared.outside.IoFault.{IoFault}
 use Rattle.hw_io.specs.declared.outside.IoFault.TheVariants as io
-use Rattle.hw_io.specs.Faults.{HasCause, IsCountedAbout}
+use Rattle.hw_io.specs.Faults.{HasCause, IsCountedAbout, subject_of}
 use Rattle.hw_io.specs.Files.{SameFiles, IsAnswer, Appended, bytes_of}
 use Rattle.hw_log.specs.Log.{header_bytes}
 use Rattle.hw_log.specs.declared.error.LogError.{LogError}
@@ -29,6 +29,7 @@ use Rattle.hw_replay.specs.declared.replay.Replay.{Replay}
 use Rattle.hw_replay.specs.Replay.{is_wanted, taken_in, Replays}
 use Rattle.hw_types.specs.Real.{CoreState}
 use Rattle.hw_log.specs.Causes.{HasAppendCause}
+use Rattle.hw_replay.specs.Causes.{IsFaultAbout, IsReplayAbout}
 use Rattle.hw_replay.specs.Faults.{fault_of}
 use Rattle.hw_replay.specs.Ends.{IsReached, lasts_of_file}
 use Rattle.hw_session.specs.Node.{NodeState, IsKept, new_node}
@@ -256,3 +257,35 @@ about_by name before now (fault.ParkFull at) h = absurd h
 pub begun_about : (name : List ℕ) (before now : List ℕ → ℕ) (result : Result NodeState StartFault) → IfErr result IsUnwritten → IfErr result (IsReadOfLog name before now)
 begun_about name before now (Ok n) fault = tt
 begun_about name before now (Err e) fault = about_by name before now e fault
+
+-- a failed read of a log that is there
+there_by : (name bytes : List ℕ) (before now : List ℕ → ℕ) (e : StartFault) → IsFaultAbout (subject_of (Some bytes) name) before now e → IsReadOfLog name before now e
+there_by name bytes before now (fault.Log log.ReadFault) h = h
+there_by name bytes before now (fault.Log log.WriteFault) h = tt
+there_by name bytes before now (fault.Log log.OutOfMemory) h = tt
+there_by name bytes before now (fault.Log log.BadMagic) h = tt
+there_by name bytes before now (fault.Log (log.Version v)) h = tt
+there_by name bytes before now (fault.Log (log.Torn at)) h = tt
+there_by name bytes before now (fault.Log (log.TooLong at)) h = tt
+there_by name bytes before now (fault.Log (log.BadConfig f)) h = tt
+there_by name bytes before now (fault.Log (log.ConfigFault f)) h = tt
+there_by name bytes before now (fault.Log (log.BadEvent at)) h = tt
+there_by name bytes before now (fault.Log (log.BadVerdict at)) h = tt
+there_by name bytes before now (fault.Log (log.BadVertex at f)) h = tt
+there_by name bytes before now fault.OtherConfig h = tt
+there_by name bytes before now (fault.Clash known other) h = tt
+there_by name bytes before now (fault.RecordsFull at) h = tt
+there_by name bytes before now (fault.ParkFull at) h = tt
+there_by name bytes before now fault.OutOfMemory h = tt
+
+pub about_there : (name : List ℕ) (file : Option (List ℕ)) (before now : List ℕ → ℕ) (result : Result NodeState StartFault) → IsAnswer file true → IsReplayAbout (subject_of file name) before now result → IfErr result (IsReadOfLog name before now)
+about_there name file before now (Ok n) is about = tt
+about_there name (Some bytes) before now (Err e) is about = there_by name bytes before now e about
+about_there name None before now (Err e) is about = absurd (let no : is_some {T = List ℕ} None ≡ true = is.0 refl in cc)
+
+-- behind a test that left the files and the counts
+pub about_tested : (name : List ℕ) (file then : Option (List ℕ)) (before mid now : List ℕ → ℕ) (result : Result NodeState StartFault) → IsAnswer file true → then ≡ file → mid ≡ before → IsReplayAbout (subject_of then name) mid now result
+    → IfErr result (IsReadOfLog name before now)
+about_tested name file then before mid now result is same left about =
+    about_there name file before now result is
+    (subst (λ (f : Option (List ℕ)). IsReplayAbout (subject_of f name) before now result) same (subst (λ (b : List ℕ → ℕ). IsReplayAbout (subject_of then name) b now result) left about))

@@ -2,6 +2,7 @@
 
 ghost use Rattle.std.specs.Prelude.{◌≡◌, length, true, None, Some, IsTrue, IfOk, IfErr, string_bytes};
 ghost use Rattle.hw_types.specs.Limits.{config_fault};
+ghost use Rattle.hw_io.specs.Faults.{subject_of};
 ghost use Rattle.hw_io.specs.Files.{SameFiles, Appended};
 ghost use Rattle.hw_log.specs.Lasts.{no_lasts};
 ghost use Rattle.hw_log.specs.Log.{header_bytes};
@@ -131,7 +132,7 @@ fn go_on<F: Files>(
     ensures config { IfOk result (λ node. node.core.config ≡ config.now) }
     ensures keys { IfOk result (λ node. (node.keys ≡ keys) × (node.log ≡ log.now)) }
     ensures cause { HasReplayCause (F.read_faults files.old) (F.read_faults files.new) result }
-    ensures about { IsTrue F.tells → IsReplayAbout (Some log.now) (F.faults_about files.old) (F.faults_about files.new) result }
+    ensures about { IsTrue F.tells → IsReplayAbout (subject_of (F.held files.old log.now) log.now) (F.faults_about files.old) (F.faults_about files.new) result }
 
     ensures files { SameFiles (F.held files.old) (F.held files.new) }
     ensures appends { F.append_faults files.new ≡ F.append_faults files.old }

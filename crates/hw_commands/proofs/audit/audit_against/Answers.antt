@@ -30,4 +30,4 @@ pub returns-in-Ok-clause-about : goal.returns-in-Ok-clause-about
 returns-in-Ok-clause-about g c = λ tells. no_read _ c.or_no_memory-ended.result c.or_no_memory-ended.ensures.fault
 
 pub returns-in-Err-clause-about : goal.returns-in-Err-clause-about
-returns-in-Err-clause-about g c = λ tells. read_about c.args.right.now _ _ c.in-Err.fault c.stopped.result (c.in-Err.ensures.about tells) c.stopped.ensures.read
+returns-in-Err-clause-about g c = λ tells. read_about (g.F.Files.held c.args.files.now c.args.right.now) c.args.right.now _ _ c.in-Err.fault c.stopped.result (c.in-Err.ensures.about tells) c.stopped.ensures.read

@@ -37,5 +37,5 @@ returns-in-Err-clause-fault g c = record { later = c.in-Err.ensures.cause.later;
 pub returns-in-Err-clause-about : goal.returns-in-Err-clause-about
 returns-in-Err-clause-about g c = λ tells.
     let held = g.F.Files.held c.args.files.now in
-    due_fails _ held c.args.log.now _ _ _ c.not_beside.result (beside_due held c.args.file.now c.args.certificate.now c.args.right.now c.args.log.now) refl
-    (read_about c.args.log.now _ _ c.in-Err.fault c.not_beside.result (c.in-Err.ensures.about tells) c.not_beside.ensures.read)
+    due_fails _ held c.args.log.now _ _ _ _ c.not_beside.result (beside_due held c.args.file.now c.args.certificate.now c.args.right.now c.args.log.now) refl refl
+    (read_about (held c.args.log.now) c.args.log.now _ _ c.in-Err.fault c.not_beside.result (c.in-Err.ensures.about tells) c.not_beside.ensures.read)

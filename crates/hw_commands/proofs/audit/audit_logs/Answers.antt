@@ -41,9 +41,9 @@ returns-in-Ok-clause-about g c = λ tells.
     let held = g.F.Files.held c.args.files.now in
     let left = c.args.left.now in
     let replayed = replayed held None left (taken_in c.in-Ok.replay) (took_file None (held left) c.in-Ok.replay (c.in-Ok.ensures.said tells)) in
-    due_fails _ held c.args.right.now _ _ _ c.audit_against-ended.result (right_due held left c.args.right.now (taken_in c.in-Ok.replay) replayed) (c.in-Ok.ensures.about tells) (c.audit_against-ended.ensures.about tells)
+    due_fails _ held c.args.right.now _ _ _ _ c.audit_against-ended.result (right_due held left c.args.right.now (taken_in c.in-Ok.replay) replayed) (c.in-Ok.ensures.files c.args.right.now) (c.in-Ok.ensures.about tells) (c.audit_against-ended.ensures.about tells)
 
 pub returns-in-Err-clause-about : goal.returns-in-Err-clause-about
 returns-in-Err-clause-about g c = λ tells.
     let held = g.F.Files.held c.args.files.now in
-    due_fails _ held c.args.left.now _ _ _ c.stopped.result (left_due held c.args.left.now c.args.right.now) refl (read_about c.args.left.now _ _ c.in-Err.fault c.stopped.result (c.in-Err.ensures.about tells) c.stopped.ensures.read)
+    due_fails _ held c.args.left.now _ _ _ _ c.stopped.result (left_due held c.args.left.now c.args.right.now) refl refl (read_about (held c.args.left.now) c.args.left.now _ _ c.in-Err.fault c.stopped.result (c.in-Err.ensures.about tells) c.stopped.ensures.read)

@@ -19,5 +19,5 @@ returns-in-Err-clause-files g c = λ tells.
 pub returns-in-Err-clause-about : goal.returns-in-Err-clause-about
 returns-in-Err-clause-about g c = λ tells.
     let log = c.args.log.now in
-    due_fails _ (g.F.Files.held c.args.files.now) log _ _ _ c.stopped.result (certify_due (g.F.Files.held c.args.files.now) log c.args.block.now c.args.new.now (c.requires tells)) refl
-    (read_about log _ _ c.in-Err.fault c.stopped.result (c.in-Err.ensures.about tells) c.stopped.ensures.read)
+    due_fails _ (g.F.Files.held c.args.files.now) log _ _ _ _ c.stopped.result (certify_due (g.F.Files.held c.args.files.now) log c.args.block.now c.args.new.now (c.requires tells)) refl refl
+    (read_about (g.F.Files.held c.args.files.now log) log _ _ c.in-Err.fault c.stopped.result (c.in-Err.ensures.about tells) c.stopped.ensures.read)

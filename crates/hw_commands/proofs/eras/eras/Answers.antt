@@ -16,4 +16,4 @@ pub returns-in-Err-clause-fault : goal.returns-in-Err-clause-fault
 returns-in-Err-clause-fault g c = record { later = c.in-Err.ensures.cause.later; counted = c.logs_stopped.ensures.cause _ _ c.in-Err.ensures.cause.counted }
 
 pub returns-in-Err-clause-about : goal.returns-in-Err-clause-about
-returns-in-Err-clause-about g c = λ tells. c.logs_stopped.ensures.about _ _ _ c.in-Err.ensures.named (c.in-Err.ensures.about tells)
+returns-in-Err-clause-about g c = λ tells. c.logs_stopped.ensures.about _ (g.F.Files.held c.args.files.now) _ _ c.in-Err.ensures.named (c.in-Err.ensures.about tells)

@@ -1,7 +1,8 @@
 use Rattle.std.proofs.Common.{codes, Err, inl, inr, ap, subst, ◌∙◌}
 use Rattle.hw_eras.specs.declared.stop.EraStop.{EraStop}
-use Rattle.hw_eras.specs.Stops.{IsReadCounted}
+use Rattle.hw_eras.specs.Stops.{IsReadCounted, IsOfLogs, IsEraAbout}
 use Rattle.hw_commands.specs.declared.ended.Ended.{Ended}
+use Rattle.hw_commands.proofs.CauseLaws.{stopped_about}
 use Rattle.hw_commands.proofs.FaultLaws.{input_status}
 use Rattle.hw_commands.proofs.eras.logs_stopped.Goals as goal
 
@@ -10,3 +11,8 @@ returns-in_ok-no_era-in-NoEra-clause-status c = inr (inl (ap (λ (x : Ended). x.
 
 pub returns-in-Stopped-clause-cause : goal.returns-in-Stopped-clause-cause
 returns-in-Stopped-clause-cause c = λ before now counted. c.stopped.ensures.cause before now (subst (λ (x : EraStop). IsReadCounted {T = Unit {0}} before now (Err x)) c.in-Stopped.is counted)
+
+pub returns-in-Stopped-clause-about : goal.returns-in-Stopped-clause-about
+returns-in-Stopped-clause-about c = λ logs held before now among about.
+    stopped_about logs held c.in-Stopped.log.now before now c.in-Stopped.fault c.stopped.result (subst (λ (x : EraStop). IsOfLogs logs x) c.in-Stopped.is among)
+    (subst (λ (x : EraStop). IsEraAbout {T = Unit {0}} held before now (Err x)) c.in-Stopped.is about) c.stopped.ensures.read

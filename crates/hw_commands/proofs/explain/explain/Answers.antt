@@ -11,5 +11,5 @@ returns-in-Err-clause-fault g c = record { later = c.in-Err.ensures.cause.later;
 pub returns-in-Err-clause-about : goal.returns-in-Err-clause-about
 returns-in-Err-clause-about g c = λ tells.
     let held = g.F.Files.held c.args.files.now in
-    due_fails _ held c.args.log.now _ _ _ c.stopped.result (log_due None c.args.log.now (λ h t. done (explained_in t.core)) held) refl
-    (read_about c.args.log.now _ _ c.in-Err.fault c.stopped.result (c.in-Err.ensures.about tells) c.stopped.ensures.read)
+    due_fails _ held c.args.log.now _ _ _ _ c.stopped.result (log_due None c.args.log.now (λ h t. done (explained_in t.core)) held) refl refl
+    (read_about (held c.args.log.now) c.args.log.now _ _ c.in-Err.fault c.stopped.result (c.in-Err.ensures.about tells) c.stopped.ensures.read)

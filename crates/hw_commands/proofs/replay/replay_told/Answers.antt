@@ -3,6 +3,7 @@ use Rattle.std.proofs.lemmas.List.FromFn.{length-range_with_len}
 use Rattle.hw_replay.specs.Replay.{taken_in}
 use Rattle.hw_replay.specs.State.{FanoutState}
 use Rattle.hw_replay.specs.Fates.{seen}
+use Rattle.hw_commands.proofs.CauseLaws.{read_about}
 use Rattle.hw_commands.proofs.FedLaws.{told_all, told_some}
 use Rattle.hw_commands.proofs.ToldLaws.{of_replay, reported_text, reported_told, stopped_text, stopped_told}
 use Rattle.hw_commands.proofs.replay.replay_told.Goals as goal
@@ -47,3 +48,7 @@ returns-in-Err-clause-told g c =
 
 pub returns-in-Err-clause-fault : goal.returns-in-Err-clause-fault
 returns-in-Err-clause-fault g c = record { later = c.in-Err.ensures.cause.later; counted = c.stopped.ensures.cause _ _ c.in-Err.ensures.cause.counted }
+
+pub returns-in-Err-clause-about : goal.returns-in-Err-clause-about
+returns-in-Err-clause-about g c = λ tells.
+    read_about (g.F.Files.held c.args.files.now c.args.log.now) c.args.log.now _ _ c.in-Err.fault c.stopped.result (c.in-Err.ensures.about tells) c.stopped.ensures.read

@@ -1,7 +1,7 @@
 use Rattle.std.proofs.Common.{map}
 use Rattle.std.specs.Prelude.{string_bytes}
 use Rattle.std.proofs.lemmas.Result.{err_from_is_err_and}
-use Rattle.hw_eras.proofs.StopLaws.{named_left, named_right}
+use Rattle.hw_eras.proofs.StopLaws.{named_left, named_right, about_then}
 use Rattle.hw_eras.proofs.AgainstLaws.{right_stops, audit_is, audit_said}
 use Rattle.hw_eras.proofs.audits.audit_logs.Goals as goal
 
@@ -35,3 +35,9 @@ pub returns-clause-audit : goal.returns-clause-audit
 returns-clause-audit g c = λ tells.
     audit_is (g.F.Files.held c.args.files.now) (map string_bytes c.args.left.now) (map string_bytes c.args.right.now) c.in_ok-left.left (c.in_ok-left.ensures.said tells) c.first_core.result.now c.first_core.ensures
     (g.F.Files.held c.of_logs.new.files) c.in_ok-left.ensures.files c.in_ok-right.right c.in_ok-audited.field-0 (c.in_ok-right.ensures.said tells) c.in_ok-audited.ensures.audit
+
+pub returns-in_err-right-clause-about : goal.returns-in_err-right-clause-about
+returns-in_err-right-clause-about g c =
+    let p = err_from_is_err_and c.from_residual-in_err-right.result c.from_residual-in_err-right.ensures.1 in
+    λ tells. rw (p.1, p.2)
+    (about_then (g.F.Files.held c.args.files.now) (g.F.Files.held c.of_logs.new.files) _ _ _ c.in_err-right.field-0.0 c.in_ok-left.ensures.files (c.in_ok-left.ensures.about tells) (c.in_err-right.ensures.about tells))

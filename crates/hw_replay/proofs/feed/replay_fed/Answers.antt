@@ -61,7 +61,7 @@ returns-in_err-feed_all-clause-cause g c =
 pub returns-in_err-feed_all-clause-about : goal.returns-in_err-feed_all-clause-about
 returns-in_err-feed_all-clause-about g c =
     let p = err_from_is_err_and c.from_residual-in_err-feed_all.result c.from_residual-in_err-feed_all.ensures.1 in
-    λ tells. rw (p.1, p.2) (about_carries Replay (Some c.args.name.now) _ _ _ _ c.feed_all.result _ (c.in_ok-replay.ensures.begun tells) (c.in_ok-replay.ensures.about tells) c.in_err-feed_all.was c.feed_all.ensures.about)
+    λ tells. rw (p.1, p.2) (about_carries Replay _ _ _ _ _ c.feed_all.result _ (c.in_ok-replay.ensures.subject tells) (c.in_ok-replay.ensures.about tells) c.in_err-feed_all.was c.feed_all.ensures.about)
 
 pub returns-clause-fed : goal.returns-clause-fed
 returns-clause-fed g c = fed_first _ _ _ _ _ (ap (λ (t : Taken). t.core) c.in_ok-replay.ensures.empty) c.in_ok-feed_all.ensures.fed

@@ -24,7 +24,7 @@ returns-in_err-take_all-clause-cause g c =
 pub returns-in_err-take_all-clause-about : goal.returns-in_err-take_all-clause-about
 returns-in_err-take_all-clause-about g c =
     let p = err_from_is_err_and c.from_residual-in_err-take_all.result c.from_residual-in_err-take_all.ensures.1 in
-    λ tells. rw (p.1, p.2) (about_carries Replay (Some c.args.name.now) _ _ _ _ c.take_all.result _ (c.in_ok-replay.ensures.begun tells) (c.in_ok-replay.ensures.about tells) c.in_err-take_all.was c.take_all.ensures.about)
+    λ tells. rw (p.1, p.2) (about_carries Replay _ _ _ _ _ c.take_all.result _ (c.in_ok-replay.ensures.subject tells) (c.in_ok-replay.ensures.about tells) c.in_err-take_all.was c.take_all.ensures.about)
 
 pub returns-in_err-take_all-clause-lasts : goal.returns-in_err-take_all-clause-lasts
 returns-in_err-take_all-clause-lasts g c =

@@ -1,5 +1,5 @@
 use Rattle.std.proofs.lemmas.Result.{IfOk-weaker}
-use Rattle.hw_session.proofs.StartLaws.{writes_not}
+use Rattle.hw_session.proofs.StartLaws.{writes_not, about_tested}
 use Rattle.hw_service.proofs.BeginLaws.{room_for, fed_anew, passed_anew, whole_anew}
 use Rattle.hw_service.proofs.begin.start_fed.Goals as goal
 
@@ -26,3 +26,7 @@ returns-in-Ok-true-clause-stopped g c = rw (c.in-Ok-true.ensures.files c.args.lo
 
 pub returns-in-Ok-true-clause-part : goal.returns-in-Ok-true-clause-part
 returns-in-Ok-true-clause-part g c = rw (c.in-Ok-true.ensures.files c.args.log.now) at c.go_on_fed.ensures.part
+
+pub returns-in-Ok-true-clause-about : goal.returns-in-Ok-true-clause-about
+returns-in-Ok-true-clause-about g c = λ tells.
+    about_tested c.args.log.now _ _ _ _ _ c.go_on_fed.result (rw c.in-Ok-true.field-0-test at (c.in-Ok-true.ensures.answer tells)) (c.in-Ok-true.ensures.files c.args.log.now) c.in-Ok-true.ensures.about (c.go_on_fed.ensures.about tells)

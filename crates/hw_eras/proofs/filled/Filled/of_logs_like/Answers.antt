@@ -3,7 +3,7 @@ use Rattle.std.specs.Prelude.{string_bytes}
 use Rattle.std.proofs.lemmas.Result.{err_from_is_err_and}
 use Rattle.hw_eras.specs.Logs.{eras_of}
 use Rattle.hw_eras.specs.Stops.{StopsSo}
-use Rattle.hw_eras.proofs.StopLaws.{names_first, begun_eras, stopped_eras}
+use Rattle.hw_eras.proofs.StopLaws.{names_first, begun_eras, stopped_eras, about_then}
 use Rattle.hw_eras.proofs.filled.Filled.of_logs_like.Goals as goal
 
 pub returns-in_err-filled-clause-said : goal.returns-in_err-filled-clause-said
@@ -33,3 +33,9 @@ returns-clause-said g c = λ tells.
     ap (eras_of held (Some c.args.core.now.config)) names
     ∙ begun_eras held (Some c.args.core.now.config) c.as_str.result.now rest (g.F.Files.held c.begin_like.new.files) c.in_ok-filled.filled c.in_ok-filled.ensures.files (c.in_ok-filled.ensures.said tells)
     ∙ c.in_ok-take_all.ensures.said tells
+
+pub returns-in_err-take_all-clause-about : goal.returns-in_err-take_all-clause-about
+returns-in_err-take_all-clause-about g c =
+    let p = err_from_is_err_and c.from_residual-in_err-take_all.result c.from_residual-in_err-take_all.ensures.1 in
+    λ tells. rw (p.1, p.2)
+    (about_then (g.F.Files.held c.args.files.now) (g.F.Files.held c.begin_like.new.files) _ _ _ c.in_err-take_all.field-0.0 c.in_ok-filled.ensures.files (c.in_ok-filled.ensures.about tells) (c.in_err-take_all.ensures.about tells))

@@ -2,7 +2,7 @@ use Rattle.std.proofs.Common.{◌≡◌, ◌+◌, ◌∷◌, List, ℕ, map, dro
 use Rattle.std.specs.Prelude.{string_bytes}
 use Rattle.std.proofs.lemmas.List.{length-drop}
 use Rattle.std.proofs.lemmas.Result.{err_from_is_err_and}
-use Rattle.hw_eras.proofs.StopLaws.{names_long, names_at, name_among, named_in, same_then, taken_so, stopped_so, all_taken}
+use Rattle.hw_eras.proofs.StopLaws.{names_long, names_at, name_among, named_in, same_then, taken_so, stopped_so, all_taken, about_then}
 use Rattle.hw_eras.proofs.filled.Filled.take_all.Goals as goal
 
 pub take-requires-clause-filled : goal.take-requires-clause-filled
@@ -51,3 +51,9 @@ pub returns-clause-said : goal.returns-clause-said
 returns-clause-said g c = λ tells.
     all_taken (g.F.Files.held c.args.files.now) c.loop-log.self c.args.self.now (map string_bytes c.args.logs.now) c.loop-log.log-index c.loop-log.invariant.filled
     (let long = names_long string_bytes c.args.logs.now in let end = c.loop-log-test.false in omega arith) (c.loop-log.invariant.said tells)
+
+pub returns-in_err-take-clause-about : goal.returns-in_err-take-clause-about
+returns-in_err-take-clause-about g c =
+    let p = err_from_is_err_and c.from_residual.result c.from_residual.ensures.1 in
+    λ tells. rw (p.1, p.2)
+    (about_then (g.F.Files.held c.args.files.now) (g.F.Files.held c.loop-log.files) _ _ _ c.in_err-take.field-0.0 c.loop-log.invariant.files (c.loop-log.invariant.about tells) (c.in_err-take.ensures.about tells))

@@ -1,5 +1,5 @@
 use Rattle.std.proofs.Common.{◌∙◌}
-use Rattle.hw_session.proofs.StartLaws.{begun_said, begun_counted, begun_about, writes_not}
+use Rattle.hw_session.proofs.StartLaws.{begun_said, begun_counted, begun_about, about_tested, writes_not}
 use Rattle.hw_session.proofs.node.Node.start.Goals as goal
 
 pub returns-in-Ok-false-clause-said : goal.returns-in-Ok-false-clause-said
@@ -14,3 +14,7 @@ returns-in-Ok-false-clause-about g c = λ tells. begun_about c.args.log.now (g.F
 
 pub returns-in-Err-clause-log : goal.returns-in-Err-clause-log
 returns-in-Err-clause-log g c = λ tells. writes_not c.args.config c.args.log.now _ _ _ c.fault_of_read.result c.in-Err.ensures.files
+
+pub returns-in-Ok-true-clause-about : goal.returns-in-Ok-true-clause-about
+returns-in-Ok-true-clause-about g c = λ tells.
+    about_tested c.args.log.now _ _ _ _ _ c.go_on.result (rw c.in-Ok-true.field-0-test at (c.in-Ok-true.ensures.answer tells)) (c.in-Ok-true.ensures.files c.args.log.now) c.in-Ok-true.ensures.about (c.go_on.ensures.about tells)
