@@ -1,5 +1,5 @@
 //! A door to peers over TCP, which tells no sessions.
-ghost use Rattle.std.specs.Prelude.{◌≡◌, None, false, IfErr, IsErr, is_ok, is_some};
+ghost use Rattle.std.specs.Prelude.{◌≡◌, [], None, false, IfErr, IsErr, is_ok, is_some};
 ghost use Rattle.std.specs.Io.{ReadsAtMost};
 ghost use Rattle.hw_io.specs.Sinks.{TakesSome};
 
@@ -353,6 +353,8 @@ impl<'a, R: Net + Voice> HostDoor<'a, R> {
 
 impl<'a, R: Net + Voice> Door for HostDoor<'a, R> {
     ghost sessions = { λ _. None };
+
+    ghost asks = { λ _. [] };
 
     ghost is_open = { λ door. is_some door.session };
 

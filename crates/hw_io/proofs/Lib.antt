@@ -5,3 +5,4 @@ pub mod Given
 pub mod Last
 pub mod Blamed
 pub mod About
+pub mod Asks

@@ -1,5 +1,5 @@
 -- What a door tells: its sessions, and its numbers.
-use Rattle.std.specs.Prelude.{ℕ, ◌==◌, ◌&&◌, nat_lt, if◌then◌else◌, Bool, true, false, List, [], ◌∷◌, ◌++◌, length, take, Option, Result, Ok, Err}
+use Rattle.std.specs.Prelude.{◌≡◌, ℕ, ◌==◌, ◌&&◌, nat_lt, if◌then◌else◌, Bool, true, false, List, [], ◌∷◌, ◌++◌, length, take, Option, Some, None, Result, Ok, Err, All}
 use Rattle.hw_io.specs.Faults.{raised}
 use Rattle.hw_io.specs.declared.outside.IoFault.{IoFault}
 use Rattle.hw_io.specs.declared.outside.IoFault.TheVariants.{Failed, OutOfMemory}
@@ -51,3 +51,31 @@ in_session is_open change sessions = if is_open then with_last change sessions e
 abbrev pub ends_after : {E : Type 0} → ℕ → Result ℕ E → List ℕ → ℕ
 ends_after ends (Ok n) buf = if n == 0 && nat_lt 0 (length buf) then raised ends else ends
 ends_after ends (Err e) buf = ends
+
+-- ---- the calls of `read`
+
+-- a call of `read`: the bytes of its session that had been read when it was made, and those that had been written
+pub record Ask : Type 0 where
+  pub heard : List ℕ
+  pub said : List ℕ
+
+-- one that is made in this session as it stands
+abbrev pub ask_in : Session → Ask
+ask_in session = record { heard = session.read; said = session.written }
+
+-- one that is made in the last of these sessions
+abbrev pub ask_of : List Session → Option Ask
+ask_of [] = None
+ask_of (session ∷ []) = Some (ask_in session)
+ask_of (session ∷ next ∷ rest) = ask_of (next ∷ rest)
+
+-- it is one that is made now, of a door that tells these sessions
+abbrev pub IsAskedNow : Option (List Session) → Ask → Type 0
+IsAskedNow (Some sessions) ask = ask_of sessions ≡ Some ask
+IsAskedNow None ask = ⊥
+
+-- more calls are told, or no more, and each of them is such a one
+pub record AsksMore (IsSo : Ask → Type 0) (old new : List Ask) : Type 0 where
+  pub more : List Ask
+  pub told : new ≡ old ++ more
+  pub each : All IsSo more

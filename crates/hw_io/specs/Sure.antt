@@ -5,7 +5,8 @@ use Rattle.hw_io.specs.declared.sure.SureFiles.{SureFiles}
 use Rattle.hw_io.specs.declared.sure.SureSink.{SureSink}
 use Rattle.hw_io.specs.declared.door.SureDoor.{SureDoor}
 use Rattle.hw_io.specs.declared.door.DoorNumbers.{DoorNumbers}
-use Rattle.hw_io.specs.Doors.{Session}
+use Rattle.hw_io.specs.declared.watched.WatchedDoor.{WatchedDoor}
+use Rattle.hw_io.specs.Doors.{Session, Ask}
 
 -- what sure files hold
 abbrev pub sure_held : SureFiles → List ℕ → Option (List ℕ)
@@ -46,3 +47,11 @@ sure_is_open door = door.book.is_open
 -- its numbers
 abbrev pub sure_numbers : SureDoor → DoorNumbers
 sure_numbers door = door.numbers
+
+-- the sessions of a watched door
+abbrev pub watched_sessions : WatchedDoor → List Session
+watched_sessions door = sure_sessions door.door
+
+-- the calls of `read` in the last one, as far as they are kept
+abbrev pub watched_asks : WatchedDoor → List Ask
+watched_asks door = door.asks.items

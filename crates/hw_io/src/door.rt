@@ -240,6 +240,8 @@ impl MemDoor {
 impl Door for MemDoor {
     ghost sessions = { λ door. Some door.book.sessions.items };
 
+    ghost asks = { λ _. [] };
+
     ghost is_open = { λ door. door.book.is_open };
 
     ghost accepts = { λ door. door.numbers.accepts };
@@ -396,6 +398,8 @@ impl SureDoor {
 
 impl Door for SureDoor {
     ghost sessions = { λ door. Some door.book.sessions.items };
+
+    ghost asks = { λ _. [] };
 
     ghost is_open = { λ door. door.book.is_open };
 

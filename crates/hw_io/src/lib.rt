@@ -17,6 +17,7 @@ mod pieces;
 mod session;
 mod shelf;
 mod sure;
+mod watched;
 
 pub use buffer::{MOST_AT_ONCE, ReadBuffer};
 pub use consumer::{ListConsumer, TakenBlock};
@@ -27,3 +28,4 @@ pub use outside::{Clock, Consumer, Door, Files, IoFault, READ_LIMIT, Sink};
 pub use pieces::write_all;
 pub use session::MemSession;
 pub use sure::{SureFiles, SureSink};
+pub use watched::{MemAsk, WatchedDoor};

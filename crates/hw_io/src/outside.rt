@@ -1,5 +1,5 @@
 //! The traits of the outside.
-ghost use Rattle.std.specs.Prelude.{◌≡◌, ◌≢◌, ℕ, ◌^◌, ◌<◌, ◌≤◌, List, Option, Bool, false, is_ok, length, IsTrue, IsNone, IsSome, IsErr, OnOk, OnErr, IfOk};
+ghost use Rattle.std.specs.Prelude.{◌≡◌, ◌≢◌, ℕ, ◌^◌, ◌<◌, ◌≤◌, List, [], Option, Bool, false, is_ok, length, IsTrue, IsNone, IsSome, IsErr, OnOk, OnErr, IfOk};
 ghost use Rattle.std.specs.Io.KnownBytes.{WriteAppends, ReadConsumes};
 ghost use Rattle.std.specs.Option.{option_map};
 ghost use Rattle.std.specs.Io.{ReadsAtMost};
@@ -7,7 +7,7 @@ ghost use Rattle.hw_io.specs.Faults.{HasCause, subject_of, IsCountedAbout, OnlyA
 ghost use Rattle.hw_io.specs.Files.{SameFiles, IsAnswer, Begins, Appended, Spends};
 ghost use Rattle.hw_io.specs.Sinks.{TakesSome};
 ghost use Rattle.hw_io.specs.Moments.{GivesMoment};
-ghost use Rattle.hw_io.specs.Doors.{Session, sessions_after, after_read, after_write, in_session, ends_after};
+ghost use Rattle.hw_io.specs.Doors.{Session, Ask, sessions_after, after_read, after_write, in_session, ends_after, IsAskedNow, AsksMore};
 ghost use Rattle.hw_io.specs.Consumers.{Consumed, after_take, after_finish};
 
 use std::alloc::AllocError;
@@ -165,6 +165,10 @@ pub trait Door {
     /// The sessions so far, where they are told. The last one is the one that is there, if one is.
     ghost sessions: { Self → Option (List Session) };
 
+    /// The calls of `read` in that session, each by what had been read in it and what had been written when
+    /// it was made. A door may leave out some of them, or all.
+    ghost asks: { Self → List Ask };
+
     ghost is_open: { Self → Bool };
 
     ghost accepts: { Self → ℕ };
@@ -179,6 +183,7 @@ pub trait Door {
     /// there. A call that failed adds a session without bytes, and want of memory adds none.
     fn accept(&mut self) -> Result<(), IoFault>
         ensures sessions { sessions self.new ≡ option_map (sessions_after None result) (sessions self.old) }
+        ensures asks { asks self.new ≡ [] }
         ensures session { is_open self.new ≡ is_ok result }
         ensures accepts { accepts self.new ≡ raised (accepts self.old) }
         ensures cause { HasCause (faults self.old) (faults self.new) result }
@@ -191,6 +196,7 @@ pub trait Door {
     /// none.
     fn dial(&mut self, address: &str) -> Result<(), IoFault>
         ensures sessions { sessions self.new ≡ option_map (sessions_after (Some address.now) result) (sessions self.old) }
+        ensures asks { asks self.new ≡ [] }
         ensures session { is_open self.new ≡ is_ok result }
         ensures dials { dials self.new ≡ raised (dials self.old) }
         ensures cause { HasCause (faults self.old) (faults self.new) result }
@@ -203,6 +209,7 @@ pub trait Door {
     fn read(&mut self, buf: &mut [u8]) -> Result<usize, IoFault>
         ensures bound { ReadsAtMost result buf.new }
         ensures sessions { sessions self.new ≡ option_map (in_session (is_open self.old) (after_read result buf.new)) (sessions self.old) }
+        ensures asks { AsksMore (IsAskedNow (sessions self.old)) (asks self.old) (asks self.new) }
         ensures none { is_open self.old ≡ false → IsErr result }
         ensures ends { ends self.new ≡ ends_after (ends self.old) result buf.new }
         ensures cause { HasCause (faults self.old) (faults self.new) result }
@@ -220,6 +227,7 @@ pub trait Door {
         ensures none { is_open self.old ≡ false → IsErr result }
         ensures cause { HasCause (faults self.old) (faults self.new) result }
 
+        ensures asks { asks self.new ≡ asks self.old }
         ensures session { is_open self.new ≡ is_open self.old }
         ensures accepts { accepts self.new ≡ accepts self.old }
         ensures dials { dials self.new ≡ dials self.old }
@@ -231,6 +239,7 @@ pub trait Door {
         ensures sessions { sessions self.new ≡ sessions self.old }
         ensures faults { faults self.new ≡ faults self.old }
 
+        ensures asks { asks self.new ≡ asks self.old }
         ensures accepts { accepts self.new ≡ accepts self.old }
         ensures dials { dials self.new ≡ dials self.old }
         ensures ends { ends self.new ≡ ends self.old };

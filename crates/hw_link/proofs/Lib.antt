@@ -7,3 +7,4 @@ pub mod LengthLaws
 pub mod HearsLaws
 pub mod SentLaws
 pub mod EndLaws
+pub mod AskLaws

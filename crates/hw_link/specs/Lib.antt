@@ -4,3 +4,4 @@ pub mod UnderWay
 pub mod Links
 pub mod Heard
 pub mod Sent
+pub mod Asked

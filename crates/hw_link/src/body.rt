@@ -1,8 +1,10 @@
 //! Reading the bytes of a frame, whatever they spell.
 
 ghost use Rattle.std.specs.Prelude.{◌≡◌, ◌+◌, ◌<◌, ◌≤◌, [], true, length, IfOk};
+ghost use Rattle.hw_io.specs.Doors.{AsksMore};
 ghost use Rattle.hw_link.specs.Frames.{body_here};
 ghost use Rattle.hw_link.specs.Links.{IsLinkCounted};
+ghost use Rattle.hw_link.specs.Asked.{IsAskedInside};
 ghost use Rattle.hw_link.specs.Heard.{HearsBy, IsLength, IsFrontOf, IsFront, IsBody};
 
 use crate::end::{BYTE_LIMIT, SessionEnd, cut_end};
@@ -26,6 +28,7 @@ pub fn read_body<D: Door>(alloc: Global, door: &mut D, place: u64) -> Result<Byt
     requires place { place ≤ BYTE_LIMIT }
     requires open { D.is_open door.old ≡ true }
     ensures heard { HearsBy body_here IsBody place [] (D.sessions door.old) (D.sessions door.new) (D.ends door.old) (D.ends door.new) result }
+    ensures asks { AsksMore (IsAskedInside body_here place [] (D.sessions door.old)) (D.asks door.old) (D.asks door.new) }
     ensures size { IfOk result (λ body. (0 < length body) × (place + (4 + length body) ≤ BYTE_LIMIT)) }
     ensures cause { IsLinkCounted (D.faults door.old) (D.faults door.new) result }
 
@@ -52,6 +55,7 @@ fn read_front<D: Door>(door: &mut D, place: u64) -> Result<[u8; 4], SessionEnd>
     requires place { place ≤ BYTE_LIMIT }
     requires open { D.is_open door.old ≡ true }
     ensures heard { HearsBy body_here IsFrontOf place [] (D.sessions door.old) (D.sessions door.new) (D.ends door.old) (D.ends door.new) result }
+    ensures asks { AsksMore (IsAskedInside body_here place [] (D.sessions door.old)) (D.asks door.old) (D.asks door.new) }
     ensures cause { IsLinkCounted (D.faults door.old) (D.faults door.new) result }
 
     ensures open { D.is_open door.new ≡ true }
@@ -91,6 +95,7 @@ fn read_behind<D: Door>(
     requires front { IsLength front }
     requires open { D.is_open door.old ≡ true }
     ensures heard { HearsBy body_here IsBody place front (D.sessions door.old) (D.sessions door.new) (D.ends door.old) (D.ends door.new) result }
+    ensures asks { AsksMore (IsAskedInside body_here place front (D.sessions door.old)) (D.asks door.old) (D.asks door.new) }
     ensures size { IfOk result (λ body. (0 < length body) × (place + (4 + length body) ≤ BYTE_LIMIT)) }
     ensures cause { IsLinkCounted (D.faults door.old) (D.faults door.new) result }
 

@@ -1,7 +1,9 @@
 //! Reading so many bytes of a link.
 
 ghost use Rattle.std.specs.Prelude.{◌≡◌, ◌<◌, ◌≤◌, [], true, length, take, OnOk, OnErr};
+ghost use Rattle.hw_io.specs.Doors.{AsksMore};
 ghost use Rattle.hw_io.specs.Faults.{HasCause, raised};
+ghost use Rattle.hw_link.specs.Asked.{IsAskedWithin};
 ghost use Rattle.hw_link.specs.Links.{after_part, has_failed};
 
 use hw_io::{Door, IoFault};
@@ -21,6 +23,7 @@ pub(crate) fn fill<D: Door>(door: &mut D, bytes: &mut [u8], n: usize) -> Filled
     ensures short { OnErr result.outcome (result.end < n) }
     ensures room { n ≤ length bytes.new }
     ensures heard { D.sessions door.new ≡ after_part (take result.end bytes.new) [] (has_failed result.outcome) (D.sessions door.old) }
+    ensures asks { AsksMore (IsAskedWithin n (D.sessions door.old)) (D.asks door.old) (D.asks door.new) }
     ensures ended { OnOk result.outcome (result.end < n → D.ends door.new ≡ raised (D.ends door.old)) }
     ensures full { OnOk result.outcome (n ≤ result.end → D.ends door.new ≡ D.ends door.old) }
     ensures stopped { OnErr result.outcome (D.ends door.new ≡ D.ends door.old) }

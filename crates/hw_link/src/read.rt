@@ -2,6 +2,9 @@
 
 ghost use Rattle.std.specs.Prelude.{◌≡◌, ◌+◌, ◌<◌, ◌≤◌, [], true, length, IfOk};
 ghost use Rattle.hw_types.specs.Spelling.{FrameFits};
+ghost use Rattle.hw_io.specs.Doors.{AsksMore};
+ghost use Rattle.hw_link.specs.Frames.{frame_here};
+ghost use Rattle.hw_link.specs.Asked.{IsAskedInside};
 ghost use Rattle.hw_link.specs.Links.{IsLinkCounted};
 ghost use Rattle.hw_link.specs.Heard.{Hears, IsHeard, IsDecoded};
 
@@ -28,6 +31,7 @@ pub fn read_frame<D: Door>(alloc: Global, door: &mut D, place: u64) -> Result<He
     requires place { place ≤ BYTE_LIMIT }
     requires open { D.is_open door.old ≡ true }
     ensures heard { Hears IsHeard place [] (D.sessions door.old) (D.sessions door.new) (D.ends door.old) (D.ends door.new) result }
+    ensures asks { AsksMore (IsAskedInside frame_here place [] (D.sessions door.old)) (D.asks door.old) (D.asks door.new) }
     ensures fits { IfOk result (λ h. FrameFits h.frame) }
     ensures next { IfOk result (λ h. (place + 4 < h.next) × (h.next ≤ BYTE_LIMIT)) }
     ensures cause { IsLinkCounted (D.faults door.old) (D.faults door.new) result }

@@ -22,6 +22,7 @@ pub fn send_frame<D: Door>(alloc: Global, door: &mut D, frame: &Frame) -> Result
     ensures cause { IsLinkCounted (D.faults door.old) (D.faults door.new) result }
 
     ensures open { D.is_open door.new ≡ true }
+    ensures asks { D.asks door.new ≡ D.asks door.old }
     ensures ends { D.ends door.new ≡ D.ends door.old }
     ensures accepts { D.accepts door.new ≡ D.accepts door.old }
     ensures dials { D.dials door.new ≡ D.dials door.old }
@@ -41,6 +42,7 @@ pub fn send_body<D: Door>(alloc: Global, door: &mut D, body: &[u8]) -> Result<()
     ensures cause { IsLinkCounted (D.faults door.old) (D.faults door.new) result }
 
     ensures open { D.is_open door.new ≡ true }
+    ensures asks { D.asks door.new ≡ D.asks door.old }
     ensures ends { D.ends door.new ≡ D.ends door.old }
     ensures accepts { D.accepts door.new ≡ D.accepts door.old }
     ensures dials { D.dials door.new ≡ D.dials door.old }
@@ -69,6 +71,7 @@ fn send_all<D: Door>(door: &mut D, bytes: &[u8]) -> Result<(), IoFault>
     ensures cause { HasCause (D.faults door.old) (D.faults door.new) result }
 
     ensures open { D.is_open door.new ≡ true }
+    ensures asks { D.asks door.new ≡ D.asks door.old }
     ensures ends { D.ends door.new ≡ D.ends door.old }
     ensures accepts { D.accepts door.new ≡ D.accepts door.old }
     ensures dials { D.dials door.new ≡ D.dials door.old }

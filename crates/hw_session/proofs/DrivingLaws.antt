@@ -15,18 +15,20 @@ use Rattle.hw_types.specs.Graph.{digest_eq}
 use Rattle.hw_types.specs.Spelling.{instance_of}
 use Rattle.hw_io.specs.declared.outside.IoFault.{IoFault}
 use Rattle.hw_io.specs.declared.outside.IoFault.TheVariants.{Failed, OutOfMemory as NoMemory}
-use Rattle.hw_io.specs.Doors.{Session, fresh_session, with_failure, with_last, sessions_after}
+use Rattle.hw_io.specs.Doors.{Session, Ask, AsksMore, fresh_session, with_failure, with_last, sessions_after}
 use Rattle.hw_io.specs.Faults.{raised}
 use Rattle.hw_core.specs.Readers.{unmet_in}
 use Rattle.hw_link.specs.declared.end.SessionEnd.{SessionEnd}
 use Rattle.hw_link.specs.declared.end.SessionEnd.TheVariants as end
 use Rattle.hw_link.specs.declared.read.Heard.{Heard}
-use Rattle.hw_link.specs.Frames.{Placed, framed, sent_bytes, rest_at, frames_in, cut_end, byte_limit}
+use Rattle.hw_link.specs.Frames.{Placed, framed, sent_bytes, rest_at, frame_here, frames_in, cut_end, byte_limit}
 use Rattle.hw_link.specs.Talk.{Reaction, Talk, ends, talk, said_bytes, before_last, IsPrefixOf, IsWritten}
 use Rattle.hw_link.specs.Links.{gone_on, after_part, is_link_fault, end_of_fault}
 use Rattle.hw_link.specs.Sent.{Sends}
 use Rattle.hw_link.specs.UnderWay.{HasFrame, EndsIn, IsRefused, HasHeard, talk_from, behind_said, placed_behind}
+use Rattle.hw_link.specs.Asked.{IsAskedInside, IsAskedBehind}
 use Rattle.hw_link.specs.Heard.{Hears, Says, IsHeard, IsEndCounted}
+use Rattle.hw_link.proofs.AskLaws.{next_asked}
 use Rattle.hw_link.proofs.HeardLaws.{reads_frame_by_frame}
 use Rattle.hw_session.specs.declared.stage.PeerMark.{PeerMark}
 use Rattle.hw_session.specs.declared.stage.Onward.{Onward}
@@ -36,7 +38,7 @@ use Rattle.hw_session.specs.Node.{NodeState}
 use Rattle.hw_session.specs.Make.{with_entry}
 use Rattle.hw_session.specs.Grows.{Logs, LogsAllBut}
 use Rattle.hw_session.specs.Accept.{given_to, taken_by}
-use Rattle.hw_session.specs.Driving.{Driver, hello, greeting, want_some, want, pull, push_first, push, to_push, with_pushed, with_pulled, not_due, after_vertex, drive_told, drive_at, drive_step, driven}
+use Rattle.hw_session.specs.Driving.{Driver, hello, greeting, want_some, want, pull, push_first, push, to_push, with_pushed, with_pulled, not_due, after_vertex, drive_told, drive_at, drive_step, driven, driven_said}
 use Rattle.hw_session.specs.Handling.{Took, Stayed, WasCut, Reacts, Quits}
 use Rattle.hw_session.specs.Sessions.{EndsAs, IsCutEnd, IsReadNoFurther, IsAnswered, IsSaidSoFar}
 use Rattle.hw_session.specs.DriveHandling.{node_part, IsDue, HandlesAs}
@@ -650,6 +652,13 @@ module _ (n : NodeState) (mark : PeerMark) (d : Driver) (place : ℕ) (tells : B
   Next k now_mark held_new new ends_now ends_new result =
       (Quits {T = Onward} d.node place k tells held_now held_new now new ends_now ends_new result × (now_mark ≡ d.mark)) ⊎ HandlesAs d place k now_mark tells held_now held_new now new ends_now ends_new result
 
+  -- the reads at this place
+  pub next_asks : (begun then more : List Ask) → AsksMore (IsAskedBehind (driven_said n mark) old) begun then → AsksMore (IsAskedInside frame_here place [] now) then more → AsksMore (IsAskedBehind (driven_said n mark) old) begun more
+  next_asks begun then more so_far next =
+      next_asked frame_here (driven_said n mark) s.read (said_bytes s.said) old now s.told
+      (λ part ends few. ap (λ (t : Talk Driver). said_bytes t.said) ((reads_frame_by_frame Driver).no_frame_ends drive_step (hello n) (greeting n mark) s.read s.said d part (cut_end (rest_at (length s.read) part)) s.heard ends few))
+      place s.place_is begun then more so_far next
+
   pub next_leads : (k : NodeState) (now_mark : PeerMark) (held_new : List ℕ → Option (List ℕ)) (new : Option (List Session)) (ends_now ends_new : ℕ) (next : Onward) → Next k now_mark held_new new ends_now ends_new (Ok next)
       → IsDriving n mark (record { stage = next.stage; node = k; mark = now_mark }) next.place tells held_old held_new old new
   next_leads k now_mark held_new new ends_now ends_new next (inl q) = absurd (let is = q.0.is in cc)
@@ -669,6 +678,11 @@ module _ (d : Driver) (place : ℕ) (k : NodeState) (now_mark : PeerMark) (tells
 
   pub next_due : IsDue next.stage k now_mark
   next_due = elim is [ inl q ↦ absurd (let no_end = q.0.is in cc) | inr h ↦ h.due ]
+
+-- ---- Hello was said
+
+pub hello_out : (n : NodeState) (old new : Option (List Session)) → Sends {T = Unit {0}} (framed (frame.Hello (instance_of n.core.config))) old new (Ok tt) → new ≡ after_part [] (sent_bytes (hello n)) false old
+hello_out n old new s = s.told ∙ ap (λ (part : List ℕ). after_part [] part false old) (s.whole ∙ one_sent (frame.Hello (instance_of n.core.config)))
 
 -- ---- Hello wasn't said whole
 

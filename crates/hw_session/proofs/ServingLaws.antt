@@ -19,7 +19,7 @@ use Rattle.std.specs.Int.{w32, from_be_bytes}
 use Rattle.std.specs.Option.{option_map}
 use Rattle.hw_io.specs.declared.outside.IoFault.{IoFault}
 use Rattle.hw_io.specs.declared.outside.IoFault.TheVariants.{Failed, OutOfMemory as NoMemory}
-use Rattle.hw_io.specs.Doors.{Session, fresh_session, with_failure, with_last, sessions_after}
+use Rattle.hw_io.specs.Doors.{Session, Ask, AsksMore, fresh_session, with_failure, with_last, sessions_after}
 use Rattle.hw_io.specs.Faults.{raised, HasCause}
 use Rattle.hw_link.specs.declared.end.SessionEnd.{SessionEnd}
 use Rattle.hw_link.specs.declared.end.SessionEnd.TheVariants as end
@@ -28,14 +28,16 @@ use Rattle.hw_link.specs.Frames.{◌>>=◌, Placed, sent_bytes, rest_at, front_o
 use Rattle.hw_link.specs.Talk.{Reaction, Talk, goes_on, ends, talk, said_bytes, before_last, IsPrefixOf, IsWritten}
 use Rattle.hw_link.specs.Links.{gone_on, after_part, is_link_fault, end_of_fault, IsLinkCounted}
 use Rattle.hw_link.specs.UnderWay.{HasFrame, EndsIn, IsRefused, HasHeard, talk_from, behind_said, placed_behind}
+use Rattle.hw_link.specs.Asked.{IsAskedInside, IsAskedBehind}
 use Rattle.hw_link.specs.Heard.{Hears, Says, IsHeard, IsEndCounted}
+use Rattle.hw_link.proofs.AskLaws.{next_asked}
 use Rattle.hw_link.proofs.HeardLaws.{reads_frame_by_frame}
 use Rattle.hw_link.proofs.LinkLaws.{after_nothing, after_parts}
 use Rattle.hw_session.specs.Node.{NodeState}
 use Rattle.hw_session.specs.Make.{with_entry}
 use Rattle.hw_session.specs.Grows.{Logs, LogsAllBut}
 use Rattle.hw_session.specs.Accept.{given_to, taken_by}
-use Rattle.hw_session.specs.Serving.{is_clash, answer_to_vertex, serve_first, serve_frame, serve_step, served}
+use Rattle.hw_session.specs.Serving.{is_clash, answer_to_vertex, serve_first, serve_frame, serve_step, served, served_said}
 use Rattle.hw_session.specs.Handling.{Took, Stayed, WasCut, Reacts, Quits, Handles, IsLogCounted}
 use Rattle.hw_session.specs.Sessions.{EndsAs, IsEndOf, IsCutEnd, IsReadNoFurther, IsAnswered, IsSaidSoFar, StandsCut, Leaves, Serves, ServesThere, ServesPeer, ServesNone}
 use Rattle.hw_session.proofs.GrowsLaws.{logs_nothing, logs_then, logs_but}
@@ -646,6 +648,13 @@ module _ (n m : NodeState) (place : ℕ) (tells : Bool) (held_old held_now : Lis
   pub next_leads : (k : NodeState) (held_new : List ℕ → Option (List ℕ)) (new : Option (List Session)) (ends_now ends_new : ℕ) (next : ℕ) → Next k held_new new ends_now ends_new (Ok next) → IsServing n k next tells held_old held_new old new
   next_leads k held_new new ends_now ends_new next (inl q) = absurd (let is = q.is in cc)
   next_leads k held_new new ends_now ends_new next (inr h) = frame_leads k held_new new ends_now ends_new next h
+
+  -- the reads at this place
+  pub next_asks : (begun then more : List Ask) → AsksMore (IsAskedBehind (served_said n) old) begun then → AsksMore (IsAskedInside frame_here place [] now) then more → AsksMore (IsAskedBehind (served_said n) old) begun more
+  next_asks begun then more so_far next =
+      next_asked frame_here (served_said n) s.read (said_bytes s.said) old now s.told
+      (λ part ends few. ap (λ (t : Talk NodeState). said_bytes t.said) ((reads_frame_by_frame NodeState).no_frame_ends serve_step [] n s.read s.said m part (cut_end (rest_at (length s.read) part)) s.heard ends few))
+      place s.place_is begun then more so_far next
 
   pub next_counts : (k : NodeState) (held_new : List ℕ → Option (List ℕ)) (new : Option (List Session)) (ends_now ends_new : ℕ) (next : ℕ) → Next k held_new new ends_now ends_new (Ok next) → ends_new ≡ ends_now
   next_counts k held_new new ends_now ends_new next (inl q) = absurd (let is = q.is in cc)

@@ -13,7 +13,7 @@ use Rattle.hw_types.specs.Spelling.{instance_of}
 use Rattle.hw_core.specs.Readers.{unmet_in}
 use Rattle.hw_link.specs.declared.end.SessionEnd.TheVariants as end
 use Rattle.hw_link.specs.Frames.{Placed, frames_of}
-use Rattle.hw_link.specs.Talk.{Reaction, Talk, goes_on, ends, talk_over}
+use Rattle.hw_link.specs.Talk.{Reaction, Talk, goes_on, ends, talk_over, said_bytes}
 use Rattle.hw_session.specs.declared.stage.PeerMark.{PeerMark}
 use Rattle.hw_session.specs.declared.stage.Stage.{Stage}
 use Rattle.hw_session.specs.declared.stage.Stage.TheVariants as stage
@@ -143,3 +143,7 @@ greeting n mark = record { stage = stage.Greeting; node = n; mark = mark }
 -- The session in which a node that has these marks drives a peer that sends these bytes.
 abbrev pub driven : NodeState → PeerMark → List ℕ → Talk Driver
 driven n mark bytes = talk_over (hello n) drive_step (greeting n mark) (frames_of bytes)
+
+-- the bytes of all that is said in it
+abbrev pub driven_said : NodeState → PeerMark → List ℕ → List ℕ
+driven_said n mark bytes = said_bytes (driven n mark bytes).said

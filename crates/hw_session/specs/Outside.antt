@@ -1,18 +1,20 @@
 -- What most calls leave as it is of the outside.
 -- Source: ours.
 use Rattle.std.specs.Prelude.{ℕ, Bool, List, Option}
+use Rattle.hw_io.specs.Doors.{Ask}
 
--- what a door tells beside its sessions and its faults: whether a session is there, how often a peer's bytes ended, and how often it was asked
--- to accept and to dial a peer
+-- what a door tells beside its sessions and its faults: whether a session is there, how often a peer's bytes ended, how often it was asked
+-- to accept and to dial a peer, and the calls of `read`
 pub record DoorCalls : Type 0 where
   pub is_open : Bool
   pub ends : ℕ
   pub accepts : ℕ
   pub dials : ℕ
+  pub asks : List Ask
 
 -- these together
-abbrev pub door_calls : Bool → ℕ → ℕ → ℕ → DoorCalls
-door_calls is_open ends accepts dials = record { is_open = is_open; ends = ends; accepts = accepts; dials = dials }
+abbrev pub door_calls : Bool → ℕ → ℕ → ℕ → List Ask → DoorCalls
+door_calls is_open ends accepts dials asks = record { is_open = is_open; ends = ends; accepts = accepts; dials = dials; asks = asks }
 
 -- how far files were read: which one was begun, how many bytes of it reads may still give, and how many reads failed
 pub record Reading : Type 0 where

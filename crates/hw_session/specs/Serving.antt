@@ -17,7 +17,7 @@ use Rattle.hw_types.specs.Real.{CoreState}
 use Rattle.hw_core.specs.Readers.{missing_needs}
 use Rattle.hw_link.specs.declared.end.SessionEnd.TheVariants as end
 use Rattle.hw_link.specs.Frames.{Placed, frames_of}
-use Rattle.hw_link.specs.Talk.{Reaction, Talk, goes_on, ends, talk_over}
+use Rattle.hw_link.specs.Talk.{Reaction, Talk, goes_on, ends, talk_over, said_bytes}
 use Rattle.hw_needs.specs.Needs.{vertices_of}
 use Rattle.hw_session.specs.Node.{NodeState}
 use Rattle.hw_session.specs.Accept.{given_to, taken_by}
@@ -92,3 +92,7 @@ serve_step n f = if f.at == 0 then serve_first n f.frame else serve_frame n f.at
 -- The session in which a node serves a peer that sends these bytes.
 abbrev pub served : NodeState → List ℕ → Talk NodeState
 served n bytes = talk_over [] serve_step n (frames_of bytes)
+
+-- the bytes of all that is said in it
+abbrev pub served_said : NodeState → List ℕ → List ℕ
+served_said n bytes = said_bytes (served n bytes).said

@@ -1,18 +1,19 @@
 //! Driving a session with a peer.
 
-ghost use Rattle.std.specs.Prelude.{◌≡◌, ◌⊎◌, ◌<◌, ◌≤◌, [], ℕ, List, Option, take, true, false, length, Err, IfOk};
+ghost use Rattle.std.specs.Prelude.{◌≡◌, ◌⊎◌, ◌<◌, ◌≤◌, [], ℕ, List, Option, take, true, false, length, Err, IfOk, All};
 ghost use Rattle.hw_types.specs.Spelling.{FrameFits, VertexFits};
 ghost use Rattle.hw_types.specs.Spelling.{instance_of};
 ghost use Rattle.hw_types.specs.declared.answers.Frame.TheVariants as frame;
 ghost use Rattle.hw_io.specs.Faults.{raised};
-ghost use Rattle.hw_link.specs.Frames.{byte_limit, framed, sent_bytes};
+ghost use Rattle.hw_link.specs.Asked.{IsAskedInside, IsAskedBehind, IsPrompt};
+ghost use Rattle.hw_link.specs.Frames.{byte_limit, frame_here, framed, sent_bytes};
 ghost use Rattle.hw_link.specs.Links.{after_part, IsLinkCounted};
 ghost use Rattle.hw_link.specs.Sent.{Sends};
 ghost use Rattle.hw_session.specs.declared.stage.Stage.TheVariants as stage;
 ghost use Rattle.hw_session.specs.Node.{NodeState};
-ghost use Rattle.hw_io.specs.Doors.{Session};
+ghost use Rattle.hw_io.specs.Doors.{Session, AsksMore};
 ghost use Rattle.hw_core.specs.Readers.{unmet_in};
-ghost use Rattle.hw_session.specs.Driving.{Driver, hello, greeting, leave, want, pull, push, to_push, drive_step, drive_at, drive_greeting, drive_pushing, drive_told, drive_pulling, drive_wanting, drive_vertex};
+ghost use Rattle.hw_session.specs.Driving.{Driver, driven_said, hello, greeting, leave, want, pull, push, to_push, drive_step, drive_at, drive_greeting, drive_pushing, drive_told, drive_pulling, drive_wanting, drive_vertex};
 ghost use Rattle.hw_session.specs.Outside.{door_calls, reading};
 ghost use Rattle.hw_session.specs.Handling.{Quits, IsLogCounted, IsLogEnd, IsLinkEnd};
 ghost use Rattle.hw_session.specs.DriveHandling.{IsDue, ReactsAs, AnswersAs, HandlesAs};
@@ -57,6 +58,7 @@ impl Node {
     ) -> SessionEnd
         ensures driven { DrivesPeer self.old mark.old address.now self.new mark.new F.tells (F.held files.old) (F.held files.new) (D.sessions door.old) (D.sessions door.new) (D.ends door.old) (D.ends door.new) result
             ⊎ DrivesNone self.old mark.old self.new mark.new F.tells (F.held files.old) (F.held files.new) (D.sessions door.old) (D.sessions door.new) result }
+        ensures prompt { All (IsPrompt (driven_said self.old mark.old)) (D.asks door.new) }
         ensures link { IsLinkEnd (D.faults door.old) (D.faults door.new) result }
         ensures appends { IsLogEnd (F.append_faults files.old) (F.append_faults files.new) result }
 
@@ -86,6 +88,7 @@ impl Node {
     ) -> SessionEnd
         requires open { D.is_open door.old ≡ true }
         ensures driven { DrivesThere self.old mark.old self.new mark.new F.tells (F.held files.old) (F.held files.new) (D.sessions door.old) (D.sessions door.new) (D.ends door.old) (D.ends door.new) result }
+        ensures asks { AsksMore (IsAskedBehind (driven_said self.old mark.old) (D.sessions door.old)) (D.asks door.old) (D.asks door.new) }
         ensures link { IsLinkEnd (D.faults door.old) (D.faults door.new) result }
         ensures appends { IsLogEnd (F.append_faults files.old) (F.append_faults files.new) result }
 
@@ -105,7 +108,7 @@ impl Node {
         ensures sent { Sends (framed (frame.Hello (instance_of self.now.core.config))) (D.sessions door.old) (D.sessions door.new) result }
         ensures link { IsLinkCounted (D.faults door.old) (D.faults door.new) result }
 
-        ensures door { door_calls (D.is_open door.new) (D.ends door.new) (D.accepts door.new) (D.dials door.new) ≡ door_calls (D.is_open door.old) (D.ends door.old) (D.accepts door.old) (D.dials door.old) }
+        ensures door { door_calls (D.is_open door.new) (D.ends door.new) (D.accepts door.new) (D.dials door.new) (D.asks door.new) ≡ door_calls (D.is_open door.old) (D.ends door.old) (D.accepts door.old) (D.dials door.old) (D.asks door.old) }
     {
         let instance = self.instance()?;
         say(self.alloc, door, Frame::Hello(instance))
@@ -120,6 +123,7 @@ impl Node {
     ) -> SessionEnd
         requires open { D.is_open door.old ≡ true }
         ensures driven { (first : Option (List Session)) → D.sessions door.old ≡ after_part [] (sent_bytes (hello self.old)) false first → DrivesThere self.old mark.old self.new mark.new F.tells (F.held files.old) (F.held files.new) first (D.sessions door.new) (D.ends door.old) (D.ends door.new) result }
+        ensures asks { (first : Option (List Session)) → D.sessions door.old ≡ after_part [] (sent_bytes (hello self.old)) false first → AsksMore (IsAskedBehind (driven_said self.old mark.old) first) (D.asks door.old) (D.asks door.new) }
         ensures link { IsLinkEnd (D.faults door.old) (D.faults door.new) result }
         ensures appends { IsLogEnd (F.append_faults files.old) (F.append_faults files.new) result }
 
@@ -156,6 +160,7 @@ impl Node {
         requires open { D.is_open door.old ≡ true }
         ensures driven { (Quits self.old place self.new F.tells (F.held files.old) (F.held files.new) (D.sessions door.old) (D.sessions door.new) (D.ends door.old) (D.ends door.new) result × (mark.new ≡ mark.old))
             ⊎ HandlesAs (record { stage = stage; node = self.old; mark = mark.old }) place self.new mark.new F.tells (F.held files.old) (F.held files.new) (D.sessions door.old) (D.sessions door.new) (D.ends door.old) (D.ends door.new) result }
+        ensures asks { AsksMore (IsAskedInside frame_here place [] (D.sessions door.old)) (D.asks door.old) (D.asks door.new) }
         ensures next { IfOk result (λ onward. (place < onward.place) × (onward.place ≤ BYTE_LIMIT)) }
         ensures link { IsLinkCounted (D.faults door.old) (D.faults door.new) result }
         ensures appends { IsLogCounted (F.append_faults files.old) (F.append_faults files.new) result }
@@ -190,7 +195,7 @@ impl Node {
         ensures link { IsLinkCounted (D.faults door.old) (D.faults door.new) result }
         ensures appends { IsLogCounted (F.append_faults files.old) (F.append_faults files.new) result }
 
-        ensures door { door_calls (D.is_open door.new) (D.ends door.new) (D.accepts door.new) (D.dials door.new) ≡ door_calls (D.is_open door.old) (D.ends door.old) (D.accepts door.old) (D.dials door.old) }
+        ensures door { door_calls (D.is_open door.new) (D.ends door.new) (D.accepts door.new) (D.dials door.new) (D.asks door.new) ≡ door_calls (D.is_open door.old) (D.ends door.old) (D.accepts door.old) (D.dials door.old) (D.asks door.old) }
         ensures reading { reading (F.begun files.new) (F.allowance files.new) (F.read_faults files.new) ≡ reading (F.begun files.old) (F.allowance files.old) (F.read_faults files.old) }
     {
         match stage {
@@ -235,7 +240,7 @@ impl Node {
         ensures answers { AnswersAs self.now mark (drive_greeting (greeting self.now mark) place frame.now) (D.sessions door.old) (D.sessions door.new) result }
         ensures link { IsLinkCounted (D.faults door.old) (D.faults door.new) result }
 
-        ensures door { door_calls (D.is_open door.new) (D.ends door.new) (D.accepts door.new) (D.dials door.new) ≡ door_calls (D.is_open door.old) (D.ends door.old) (D.accepts door.old) (D.dials door.old) }
+        ensures door { door_calls (D.is_open door.new) (D.ends door.new) (D.accepts door.new) (D.dials door.new) (D.asks door.new) ≡ door_calls (D.is_open door.old) (D.ends door.old) (D.accepts door.old) (D.dials door.old) (D.asks door.old) }
     {
         match frame {
             Frame::Hello(instance) => {
@@ -262,7 +267,7 @@ impl Node {
         ensures answers { AnswersAs self.now mark (push (greeting self.now mark) left) (D.sessions door.old) (D.sessions door.new) result }
         ensures link { IsLinkCounted (D.faults door.old) (D.faults door.new) result }
 
-        ensures door { door_calls (D.is_open door.new) (D.ends door.new) (D.accepts door.new) (D.dials door.new) ≡ door_calls (D.is_open door.old) (D.ends door.old) (D.accepts door.old) (D.dials door.old) }
+        ensures door { door_calls (D.is_open door.new) (D.ends door.new) (D.accepts door.new) (D.dials door.new) (D.asks door.new) ≡ door_calls (D.is_open door.old) (D.ends door.old) (D.accepts door.old) (D.dials door.old) (D.asks door.old) }
     {
         if left == 0 || mark.pushed >= self.core.journal_count() {
             return self.pull(mark, door, MOST_AGAIN);
@@ -286,7 +291,7 @@ impl Node {
         ensures marks { mark.new ≡ (drive_pushing (record { stage = stage.Pushing left; node = self.now; mark = mark.old }) left place frame.now).state.mark }
         ensures link { IsLinkCounted (D.faults door.old) (D.faults door.new) result }
 
-        ensures door { door_calls (D.is_open door.new) (D.ends door.new) (D.accepts door.new) (D.dials door.new) ≡ door_calls (D.is_open door.old) (D.ends door.old) (D.accepts door.old) (D.dials door.old) }
+        ensures door { door_calls (D.is_open door.new) (D.ends door.new) (D.accepts door.new) (D.dials door.new) (D.asks door.new) ≡ door_calls (D.is_open door.old) (D.ends door.old) (D.accepts door.old) (D.dials door.old) (D.asks door.old) }
     {
         match frame {
             Frame::Want(_) => {
@@ -305,7 +310,7 @@ impl Node {
         ensures answers { AnswersAs self.now mark (pull (greeting self.now mark) again) (D.sessions door.old) (D.sessions door.new) result }
         ensures link { IsLinkCounted (D.faults door.old) (D.faults door.new) result }
 
-        ensures door { door_calls (D.is_open door.new) (D.ends door.new) (D.accepts door.new) (D.dials door.new) ≡ door_calls (D.is_open door.old) (D.ends door.old) (D.accepts door.old) (D.dials door.old) }
+        ensures door { door_calls (D.is_open door.new) (D.ends door.new) (D.accepts door.new) (D.dials door.new) (D.asks door.new) ≡ door_calls (D.is_open door.old) (D.ends door.old) (D.accepts door.old) (D.dials door.old) (D.asks door.old) }
     {
         say(self.alloc, door, Frame::Have(mark.pulled))?;
         Ok(Stage::Pulling(again))
@@ -327,7 +332,7 @@ impl Node {
         ensures link { IsLinkCounted (D.faults door.old) (D.faults door.new) result }
         ensures appends { IsLogCounted (F.append_faults files.old) (F.append_faults files.new) result }
 
-        ensures door { door_calls (D.is_open door.new) (D.ends door.new) (D.accepts door.new) (D.dials door.new) ≡ door_calls (D.is_open door.old) (D.ends door.old) (D.accepts door.old) (D.dials door.old) }
+        ensures door { door_calls (D.is_open door.new) (D.ends door.new) (D.accepts door.new) (D.dials door.new) (D.asks door.new) ≡ door_calls (D.is_open door.old) (D.ends door.old) (D.accepts door.old) (D.dials door.old) (D.asks door.old) }
         ensures reading { reading (F.begun files.new) (F.allowance files.new) (F.read_faults files.new) ≡ reading (F.begun files.old) (F.allowance files.old) (F.read_faults files.old) }
     {
         match frame {
@@ -350,7 +355,7 @@ impl Node {
         ensures marks { mark.new ≡ (drive_told (greeting self.now mark.old) again told).state.mark }
         ensures link { IsLinkCounted (D.faults door.old) (D.faults door.new) result }
 
-        ensures door { door_calls (D.is_open door.new) (D.ends door.new) (D.accepts door.new) (D.dials door.new) ≡ door_calls (D.is_open door.old) (D.ends door.old) (D.accepts door.old) (D.dials door.old) }
+        ensures door { door_calls (D.is_open door.new) (D.ends door.new) (D.accepts door.new) (D.dials door.new) (D.asks door.new) ≡ door_calls (D.is_open door.old) (D.ends door.old) (D.accepts door.old) (D.dials door.old) (D.asks door.old) }
     {
         let before = mark.pulled;
         mark.pulled = told;
@@ -366,7 +371,7 @@ impl Node {
         ensures answers { AnswersAs self.now mark (want (greeting self.now mark)) (D.sessions door.old) (D.sessions door.new) result }
         ensures link { IsLinkCounted (D.faults door.old) (D.faults door.new) result }
 
-        ensures door { door_calls (D.is_open door.new) (D.ends door.new) (D.accepts door.new) (D.dials door.new) ≡ door_calls (D.is_open door.old) (D.ends door.old) (D.accepts door.old) (D.dials door.old) }
+        ensures door { door_calls (D.is_open door.new) (D.ends door.new) (D.accepts door.new) (D.dials door.new) (D.asks door.new) ≡ door_calls (D.is_open door.old) (D.ends door.old) (D.accepts door.old) (D.dials door.old) (D.asks door.old) }
     {
         let needs = self.unmet()?;
         self.want_these(mark, door, needs)
@@ -385,7 +390,7 @@ impl Node {
         ensures answers { AnswersAs self.now mark (want (greeting self.now mark)) (D.sessions door.old) (D.sessions door.new) result }
         ensures link { IsLinkCounted (D.faults door.old) (D.faults door.new) result }
 
-        ensures door { door_calls (D.is_open door.new) (D.ends door.new) (D.accepts door.new) (D.dials door.new) ≡ door_calls (D.is_open door.old) (D.ends door.old) (D.accepts door.old) (D.dials door.old) }
+        ensures door { door_calls (D.is_open door.new) (D.ends door.new) (D.accepts door.new) (D.dials door.new) (D.asks door.new) ≡ door_calls (D.is_open door.old) (D.ends door.old) (D.accepts door.old) (D.dials door.old) (D.asks door.old) }
     {
         if needs.len() == 0 {
             return self.leave(mark, door);
@@ -421,7 +426,7 @@ impl Node {
         ensures link { IsLinkCounted (D.faults door.old) (D.faults door.new) result }
         ensures appends { IsLogCounted (F.append_faults files.old) (F.append_faults files.new) result }
 
-        ensures door { door_calls (D.is_open door.new) (D.ends door.new) (D.accepts door.new) (D.dials door.new) ≡ door_calls (D.is_open door.old) (D.ends door.old) (D.accepts door.old) (D.dials door.old) }
+        ensures door { door_calls (D.is_open door.new) (D.ends door.new) (D.accepts door.new) (D.dials door.new) (D.asks door.new) ≡ door_calls (D.is_open door.old) (D.ends door.old) (D.accepts door.old) (D.dials door.old) (D.asks door.old) }
         ensures reading { reading (F.begun files.new) (F.allowance files.new) (F.read_faults files.new) ≡ reading (F.begun files.old) (F.allowance files.old) (F.read_faults files.old) }
     {
         match frame {
@@ -438,7 +443,7 @@ impl Node {
         ensures answers { AnswersAs self.now mark (leave (greeting self.now mark)) (D.sessions door.old) (D.sessions door.new) result }
         ensures link { IsLinkCounted (D.faults door.old) (D.faults door.new) result }
 
-        ensures door { door_calls (D.is_open door.new) (D.ends door.new) (D.accepts door.new) (D.dials door.new) ≡ door_calls (D.is_open door.old) (D.ends door.old) (D.accepts door.old) (D.dials door.old) }
+        ensures door { door_calls (D.is_open door.new) (D.ends door.new) (D.accepts door.new) (D.dials door.new) (D.asks door.new) ≡ door_calls (D.is_open door.old) (D.ends door.old) (D.accepts door.old) (D.dials door.old) (D.asks door.old) }
     {
         say(self.alloc, door, Frame::Done)?;
         Ok(Stage::Leaving)

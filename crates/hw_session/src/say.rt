@@ -19,7 +19,7 @@ pub fn say<D: Door>(alloc: Global, door: &mut D, frame: Frame) -> Result<(), Ses
     ensures sent { Sends (framed frame) (D.sessions door.old) (D.sessions door.new) result }
     ensures cause { IsLinkCounted (D.faults door.old) (D.faults door.new) result }
 
-    ensures door { door_calls (D.is_open door.new) (D.ends door.new) (D.accepts door.new) (D.dials door.new) ≡ door_calls (D.is_open door.old) (D.ends door.old) (D.accepts door.old) (D.dials door.old) }
+    ensures door { door_calls (D.is_open door.new) (D.ends door.new) (D.accepts door.new) (D.dials door.new) (D.asks door.new) ≡ door_calls (D.is_open door.old) (D.ends door.old) (D.accepts door.old) (D.dials door.old) (D.asks door.old) }
 {
     let sent = send_frame(alloc, door, &frame);
     // For the prover: it is dropped by one call.

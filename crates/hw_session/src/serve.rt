@@ -1,15 +1,17 @@
 //! Serving a peer.
 
-ghost use Rattle.std.specs.Prelude.{◌≡◌, ◌⊎◌, ◌<◌, ◌≤◌, true, false, IfOk};
+ghost use Rattle.std.specs.Prelude.{◌≡◌, ◌⊎◌, ◌<◌, ◌≤◌, [], true, false, IfOk, All};
 ghost use Rattle.hw_types.specs.Spelling.{FrameFits, VertexFits};
 ghost use Rattle.hw_types.specs.declared.unit.Vertex.{Vertex};
 ghost use Rattle.hw_types.specs.declared.answers.Frame.TheVariants as frame;
+ghost use Rattle.hw_io.specs.Doors.{AsksMore};
 ghost use Rattle.hw_io.specs.Faults.{raised};
-ghost use Rattle.hw_link.specs.Frames.{framed};
+ghost use Rattle.hw_link.specs.Asked.{IsAskedInside, IsAskedBehind, IsPrompt};
+ghost use Rattle.hw_link.specs.Frames.{frame_here, framed};
 ghost use Rattle.hw_link.specs.Links.{IsLinkCounted};
 ghost use Rattle.hw_link.specs.Sent.{Sends};
 ghost use Rattle.hw_session.specs.Outside.{door_calls, reading};
-ghost use Rattle.hw_session.specs.Serving.{serve_first, serve_frame, serve_vertex, serve_step, wanted_by};
+ghost use Rattle.hw_session.specs.Serving.{served_said, serve_first, serve_frame, serve_vertex, serve_step, wanted_by};
 ghost use Rattle.hw_session.specs.Handling.{Reacts, Answers, hello_of, StandsLast, Quits, Handles, IsLogCounted, IsLogEnd, IsLinkEnd};
 ghost use Rattle.hw_session.specs.Sessions.{ServesThere, ServesPeer, ServesNone};
 
@@ -37,6 +39,7 @@ impl Node {
     pub fn serve_one<D: Door, F: Files>(&mut self, door: &mut D, files: &mut F) -> SessionEnd
         ensures served { ServesPeer self.old self.new F.tells (F.held files.old) (F.held files.new) (D.sessions door.old) (D.sessions door.new) (D.ends door.old) (D.ends door.new) result
             ⊎ ServesNone self.old self.new F.tells (F.held files.old) (F.held files.new) (D.sessions door.old) (D.sessions door.new) result }
+        ensures prompt { All (IsPrompt (served_said self.old)) (D.asks door.new) }
         ensures link { IsLinkEnd (D.faults door.old) (D.faults door.new) result }
         ensures appends { IsLogEnd (F.append_faults files.old) (F.append_faults files.new) result }
 
@@ -61,6 +64,7 @@ impl Node {
     fn serve<D: Door, F: Files>(&mut self, door: &mut D, files: &mut F) -> SessionEnd
         requires open { D.is_open door.old ≡ true }
         ensures served { ServesThere self.old self.new F.tells (F.held files.old) (F.held files.new) (D.sessions door.old) (D.sessions door.new) (D.ends door.old) (D.ends door.new) result }
+        ensures asks { AsksMore (IsAskedBehind (served_said self.old) (D.sessions door.old)) (D.asks door.old) (D.asks door.new) }
         ensures link { IsLinkEnd (D.faults door.old) (D.faults door.new) result }
         ensures appends { IsLogEnd (F.append_faults files.old) (F.append_faults files.new) result }
 
@@ -90,6 +94,7 @@ impl Node {
         requires open { D.is_open door.old ≡ true }
         ensures served { Quits self.old place self.new F.tells (F.held files.old) (F.held files.new) (D.sessions door.old) (D.sessions door.new) (D.ends door.old) (D.ends door.new) result
             ⊎ Handles self.old place self.new F.tells (F.held files.old) (F.held files.new) (D.sessions door.old) (D.sessions door.new) (D.ends door.old) (D.ends door.new) result }
+        ensures asks { AsksMore (IsAskedInside frame_here place [] (D.sessions door.old)) (D.asks door.old) (D.asks door.new) }
         ensures next { IfOk result (λ next. (place < next) × (next ≤ BYTE_LIMIT)) }
         ensures link { IsLinkCounted (D.faults door.old) (D.faults door.new) result }
         ensures appends { IsLogCounted (F.append_faults files.old) (F.append_faults files.new) result }
@@ -118,7 +123,7 @@ impl Node {
         ensures link { IsLinkCounted (D.faults door.old) (D.faults door.new) result }
         ensures appends { IsLogCounted (F.append_faults files.old) (F.append_faults files.new) result }
 
-        ensures door { door_calls (D.is_open door.new) (D.ends door.new) (D.accepts door.new) (D.dials door.new) ≡ door_calls (D.is_open door.old) (D.ends door.old) (D.accepts door.old) (D.dials door.old) }
+        ensures door { door_calls (D.is_open door.new) (D.ends door.new) (D.accepts door.new) (D.dials door.new) (D.asks door.new) ≡ door_calls (D.is_open door.old) (D.ends door.old) (D.accepts door.old) (D.dials door.old) (D.asks door.old) }
         ensures reading { reading (F.begun files.new) (F.allowance files.new) (F.read_faults files.new) ≡ reading (F.begun files.old) (F.allowance files.old) (F.read_faults files.old) }
     {
         if place == 0 {
@@ -134,7 +139,7 @@ impl Node {
         ensures answers { Answers (serve_first self.now frame.now) (D.sessions door.old) (D.sessions door.new) result }
         ensures link { IsLinkCounted (D.faults door.old) (D.faults door.new) result }
 
-        ensures door { door_calls (D.is_open door.new) (D.ends door.new) (D.accepts door.new) (D.dials door.new) ≡ door_calls (D.is_open door.old) (D.ends door.old) (D.accepts door.old) (D.dials door.old) }
+        ensures door { door_calls (D.is_open door.new) (D.ends door.new) (D.accepts door.new) (D.dials door.new) (D.asks door.new) ≡ door_calls (D.is_open door.old) (D.ends door.old) (D.accepts door.old) (D.dials door.old) (D.asks door.old) }
     {
         match hello_of(frame) {
             Some(instance) => self.answer_hello(door, instance),
@@ -148,7 +153,7 @@ impl Node {
         ensures answers { Answers (serve_first self.now (frame.Hello instance)) (D.sessions door.old) (D.sessions door.new) result }
         ensures link { IsLinkCounted (D.faults door.old) (D.faults door.new) result }
 
-        ensures door { door_calls (D.is_open door.new) (D.ends door.new) (D.accepts door.new) (D.dials door.new) ≡ door_calls (D.is_open door.old) (D.ends door.old) (D.accepts door.old) (D.dials door.old) }
+        ensures door { door_calls (D.is_open door.new) (D.ends door.new) (D.accepts door.new) (D.dials door.new) (D.asks door.new) ≡ door_calls (D.is_open door.old) (D.ends door.old) (D.accepts door.old) (D.dials door.old) (D.asks door.old) }
     {
         let own = self.own_instance(instance)?;
         say(self.alloc, door, Frame::Hello(own))
@@ -168,7 +173,7 @@ impl Node {
         ensures link { IsLinkCounted (D.faults door.old) (D.faults door.new) result }
         ensures appends { IsLogCounted (F.append_faults files.old) (F.append_faults files.new) result }
 
-        ensures door { door_calls (D.is_open door.new) (D.ends door.new) (D.accepts door.new) (D.dials door.new) ≡ door_calls (D.is_open door.old) (D.ends door.old) (D.accepts door.old) (D.dials door.old) }
+        ensures door { door_calls (D.is_open door.new) (D.ends door.new) (D.accepts door.new) (D.dials door.new) (D.asks door.new) ≡ door_calls (D.is_open door.old) (D.ends door.old) (D.accepts door.old) (D.dials door.old) (D.asks door.old) }
         ensures reading { reading (F.begun files.new) (F.allowance files.new) (F.read_faults files.new) ≡ reading (F.begun files.old) (F.allowance files.old) (F.read_faults files.old) }
     {
         match frame {
@@ -187,7 +192,7 @@ impl Node {
         ensures answers { Answers (serve_frame self.now 1 frame.Done) (D.sessions door.old) (D.sessions door.new) result }
         ensures link { IsLinkCounted (D.faults door.old) (D.faults door.new) result }
 
-        ensures door { door_calls (D.is_open door.new) (D.ends door.new) (D.accepts door.new) (D.dials door.new) ≡ door_calls (D.is_open door.old) (D.ends door.old) (D.accepts door.old) (D.dials door.old) }
+        ensures door { door_calls (D.is_open door.new) (D.ends door.new) (D.accepts door.new) (D.dials door.new) (D.asks door.new) ≡ door_calls (D.is_open door.old) (D.ends door.old) (D.accepts door.old) (D.dials door.old) (D.asks door.old) }
     {
         say(self.alloc, door, Frame::Done)?;
         Err(SessionEnd::Done)
@@ -207,7 +212,7 @@ impl Node {
         ensures link { IsLinkCounted (D.faults door.old) (D.faults door.new) result }
         ensures appends { IsLogCounted (F.append_faults files.old) (F.append_faults files.new) result }
 
-        ensures door { door_calls (D.is_open door.new) (D.ends door.new) (D.accepts door.new) (D.dials door.new) ≡ door_calls (D.is_open door.old) (D.ends door.old) (D.accepts door.old) (D.dials door.old) }
+        ensures door { door_calls (D.is_open door.new) (D.ends door.new) (D.accepts door.new) (D.dials door.new) (D.asks door.new) ≡ door_calls (D.is_open door.old) (D.ends door.old) (D.accepts door.old) (D.dials door.old) (D.asks door.old) }
         ensures reading { reading (F.begun files.new) (F.allowance files.new) (F.read_faults files.new) ≡ reading (F.begun files.old) (F.allowance files.old) (F.read_faults files.old) }
     {
         let taken = self.receive(files, vertex)?;
@@ -223,7 +228,7 @@ impl Node {
         ensures sent { (v : Vertex) → StandsLast receipt v self.now.core.journal → Sends (framed (frame.Want (wanted_by self.now.core receipt v))) (D.sessions door.old) (D.sessions door.new) result }
         ensures link { IsLinkCounted (D.faults door.old) (D.faults door.new) result }
 
-        ensures door { door_calls (D.is_open door.new) (D.ends door.new) (D.accepts door.new) (D.dials door.new) ≡ door_calls (D.is_open door.old) (D.ends door.old) (D.accepts door.old) (D.dials door.old) }
+        ensures door { door_calls (D.is_open door.new) (D.ends door.new) (D.accepts door.new) (D.dials door.new) (D.asks door.new) ≡ door_calls (D.is_open door.old) (D.ends door.old) (D.accepts door.old) (D.dials door.old) (D.asks door.old) }
     {
         let needs = wanted(self.alloc, &self.core, receipt)?;
         say(self.alloc, door, Frame::Want(needs))

@@ -10,6 +10,9 @@ use Rattle.hw_link.specs.Heard.{HearsBy, IsBody}
 use Rattle.hw_link.proofs.FrameReadLaws.{cut_body}
 use Rattle.hw_link.proofs.LinkLaws.{after_nothing}
 use Rattle.hw_link.proofs.HearsLaws.{hears_cut, hears_fault, hears_nothing, hears_whole, cut_uncounted, not_at_limit}
+use Rattle.hw_link.specs.Asked.{IsAskedInside}
+use Rattle.hw_io.proofs.Asks.{asks_none}
+use Rattle.hw_link.proofs.AskLaws.{behind_asks}
 use Rattle.hw_link.proofs.body.read_behind.Goals as goal
 
 pub returns-in_err-filled-clause-heard : goal.returns-in_err-filled-clause-heard
@@ -78,3 +81,24 @@ returns-in_err-body-clause-heard g c =
     rw (p.1, p.2)
     (hears_nothing body_here IsBody c.args.place c.args.front [] (g.D.Door.sessions c.args.door.now) (g.D.Door.sessions c.args.door.now) (g.D.Door.ends c.args.door.now) (g.D.Door.ends c.args.door.now)
     (omega (arith, length-append c.args.front [], c.requires.front.four, c.requires.place)) (sym (after_nothing (g.D.Door.sessions c.args.door.now))))
+
+pub returns-in_err-filled-clause-asks : goal.returns-in_err-filled-clause-asks
+returns-in_err-filled-clause-asks g c =
+    let f = c.fill-filled in
+    behind_asks c.args.place c.room_behind-room.result c.args.front (g.D.Door.sessions c.args.door.now) c.requires.front (omega (arith, c.room_behind-room.ensures.most, c.from_be_bytes-length.ensures)) c.room_behind-room.ensures.within
+    (g.D.Door.asks c.args.door.now) (g.D.Door.asks f.new.door) f.ensures.asks
+
+pub returns-then-filled-length-clause-asks : goal.returns-then-filled-length-clause-asks
+returns-then-filled-length-clause-asks g c =
+    let f = c.fill-filled in
+    behind_asks c.args.place c.room_behind-room.result c.args.front (g.D.Door.sessions c.args.door.now) c.requires.front (omega (arith, c.room_behind-room.ensures.most, c.from_be_bytes-length.ensures)) c.room_behind-room.ensures.within
+    (g.D.Door.asks c.args.door.now) (g.D.Door.asks f.new.door) f.ensures.asks
+
+pub returns-clause-asks : goal.returns-clause-asks
+returns-clause-asks g c =
+    let f = c.fill-filled in
+    behind_asks c.args.place c.room_behind-room.result c.args.front (g.D.Door.sessions c.args.door.now) c.requires.front (omega (arith, c.room_behind-room.ensures.most, c.from_be_bytes-length.ensures)) c.room_behind-room.ensures.within
+    (g.D.Door.asks c.args.door.now) (g.D.Door.asks f.new.door) f.ensures.asks
+
+pub returns-in_err-body-clause-asks : goal.returns-in_err-body-clause-asks
+returns-in_err-body-clause-asks g c = asks_none (IsAskedInside body_here c.args.place c.args.front (g.D.Door.sessions c.args.door.now)) (g.D.Door.asks c.args.door.now)

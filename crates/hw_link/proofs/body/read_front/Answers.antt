@@ -9,6 +9,7 @@ use Rattle.hw_link.specs.Links.{after_part, has_failed}
 use Rattle.hw_link.specs.Heard.{HearsBy, IsFrontOf}
 use Rattle.hw_link.proofs.FrameReadLaws.{cut_length}
 use Rattle.hw_link.proofs.HearsLaws.{hears_cut, hears_fault, hears_front, cut_uncounted, not_at_limit}
+use Rattle.hw_link.proofs.AskLaws.{front_asks}
 use Rattle.hw_link.proofs.body.read_front.Goals as goal
 
 pub returns-then-filled-lt-FRONT-clause-heard : goal.returns-then-filled-lt-FRONT-clause-heard
@@ -58,3 +59,18 @@ returns-clause-heard g c =
     (omega (arith, f.ensures.within, c.room_behind-room.ensures.within, c.if-filled-lt-FRONT.false))
     (f.ensures.heard ∙ heard ∙ whole)
     (rw c.in_ok-filled.was at f.ensures.full (omega (arith, c.room_behind-room.ensures.most, c.if-filled-lt-FRONT.false)))
+
+pub returns-in_err-filled-clause-asks : goal.returns-in_err-filled-clause-asks
+returns-in_err-filled-clause-asks g c =
+    let f = c.fill-filled in
+    front_asks c.args.place c.room_behind-room.result (g.D.Door.sessions c.args.door.now) c.room_behind-room.ensures.most c.room_behind-room.ensures.within (g.D.Door.asks c.args.door.now) (g.D.Door.asks f.new.door) f.ensures.asks
+
+pub returns-then-filled-lt-FRONT-clause-asks : goal.returns-then-filled-lt-FRONT-clause-asks
+returns-then-filled-lt-FRONT-clause-asks g c =
+    let f = c.fill-filled in
+    front_asks c.args.place c.room_behind-room.result (g.D.Door.sessions c.args.door.now) c.room_behind-room.ensures.most c.room_behind-room.ensures.within (g.D.Door.asks c.args.door.now) (g.D.Door.asks f.new.door) f.ensures.asks
+
+pub returns-clause-asks : goal.returns-clause-asks
+returns-clause-asks g c =
+    let f = c.fill-filled in
+    front_asks c.args.place c.room_behind-room.result (g.D.Door.sessions c.args.door.now) c.room_behind-room.ensures.most c.room_behind-room.ensures.within (g.D.Door.asks c.args.door.now) (g.D.Door.asks f.new.door) f.ensures.asks

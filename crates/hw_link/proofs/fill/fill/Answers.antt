@@ -6,6 +6,9 @@ use Rattle.hw_io.proofs.Windows.{take-read_behind, length-read_behind}
 use Rattle.hw_link.specs.Links.{after_part, has_failed}
 use Rattle.hw_link.proofs.LinkLaws.{after_nothing, read_on}
 use Rattle.hw_link.proofs.HearsLaws.{failed_alike}
+use Rattle.hw_link.specs.Asked.{IsAskedWithin}
+use Rattle.hw_io.proofs.Asks.{asks_none}
+use Rattle.hw_link.proofs.AskLaws.{read_asks}
 use Rattle.hw_link.proofs.EndLaws.{no_end}
 use Rattle.hw_link.proofs.fill.fill.Goals as goal
 
@@ -18,6 +21,7 @@ loop-end-init g c = record {
   within = omega arith;
   room = c.requires.room;
   heard = sym (after_nothing (g.D.Door.sessions c.args.door.now));
+  asks = asks_none (IsAskedWithin c.args.n (g.D.Door.sessions c.args.door.now)) (g.D.Door.asks c.args.door.now);
   session = c.requires.open;
   ends = refl;
   faults = refl;
@@ -38,6 +42,8 @@ loop-end-preserved g c =
       room = (let long = length-read_behind l.end room (length gave) l.bytes gave (omega (arith, l.invariant.within, l.invariant.room)) (omega arith) in omega (arith, long));
       heard = subst (λ (xs : List ℕ). g.D.Door.sessions c.read.new.self ≡ after_part xs [] false (g.D.Door.sessions c.args.door.now)) (sym front)
           (read_on (g.D.Door.is_open l.door) l.invariant.session (Ok count) gave (take l.end l.bytes) (g.D.Door.sessions c.args.door.now) (g.D.Door.sessions l.door) (g.D.Door.sessions c.read.new.self) l.invariant.heard c.in-Ok.ensures.sessions);
+      asks = read_asks c.args.n (g.D.Door.sessions c.args.door.now) (g.D.Door.sessions l.door) (take l.end l.bytes) l.invariant.heard (omega (arith, length-take-le l.end l.bytes (omega (arith, l.invariant.within, l.invariant.room)), c.loop-end-test.true))
+          (g.D.Door.asks c.args.door.now) (g.D.Door.asks l.door) (g.D.Door.asks c.read.new.self) l.invariant.asks c.in-Ok.ensures.asks;
       session = c.in-Ok.ensures.session ∙ l.invariant.session;
       ends = c.in-Ok.ensures.ends ∙ no_end count (g.D.Door.ends l.door) gave c.in-Ok.count-test.1 ∙ l.invariant.ends;
       faults = c.in-Ok.ensures.cause.failed ∙ l.invariant.faults;
@@ -71,3 +77,15 @@ returns-in-Ok-eq0-clause-heard g c =
     on
     ∙ ap (λ (xs : List ℕ). after_part (take l.end l.bytes ++ xs) [] false o) none
     ∙ ap (λ (xs : List ℕ). after_part xs [] false o) (append-nil (take l.end l.bytes) ∙ sym same)
+
+pub returns-in-Err-clause-asks : goal.returns-in-Err-clause-asks
+returns-in-Err-clause-asks g c =
+    let l = c.loop-end in
+    read_asks c.args.n (g.D.Door.sessions c.args.door.now) (g.D.Door.sessions l.door) (take l.end l.bytes) l.invariant.heard (omega (arith, length-take-le l.end l.bytes (omega (arith, l.invariant.within, l.invariant.room)), c.loop-end-test.true))
+    (g.D.Door.asks c.args.door.now) (g.D.Door.asks l.door) (g.D.Door.asks c.read.new.self) l.invariant.asks c.in-Err.ensures.asks
+
+pub returns-in-Ok-eq0-clause-asks : goal.returns-in-Ok-eq0-clause-asks
+returns-in-Ok-eq0-clause-asks g c =
+    let l = c.loop-end in
+    read_asks c.args.n (g.D.Door.sessions c.args.door.now) (g.D.Door.sessions l.door) (take l.end l.bytes) l.invariant.heard (omega (arith, length-take-le l.end l.bytes (omega (arith, l.invariant.within, l.invariant.room)), c.loop-end-test.true))
+    (g.D.Door.asks c.args.door.now) (g.D.Door.asks l.door) (g.D.Door.asks c.read.new.self) l.invariant.asks c.in-Ok-eq0.ensures.asks

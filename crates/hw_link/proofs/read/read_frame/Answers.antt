@@ -2,6 +2,7 @@ use Rattle.std.proofs.Common.{ℕ, List, subst}
 use Rattle.std.proofs.lemmas.Result.{err_from_is_err_and}
 use Rattle.hw_link.specs.Heard.{IsDecoded}
 use Rattle.hw_link.proofs.HearsLaws.{hears_no_frame, hears_frame}
+use Rattle.hw_link.proofs.AskLaws.{frame_asks}
 use Rattle.hw_link.proofs.read.read_frame.Goals as goal
 
 pub returns-in_err-body-clause-heard : goal.returns-in_err-body-clause-heard
@@ -14,3 +15,9 @@ pub returns-clause-heard : goal.returns-clause-heard
 returns-clause-heard g c =
     hears_frame c.args.place (g.D.Door.sessions c.args.door.now) (g.D.Door.sessions c.read_body.new.door) (g.D.Door.ends c.args.door.now) (g.D.Door.ends c.read_body.new.door) c.in_ok-body.body c.decoded.result
     (subst (λ (body : List ℕ). IsDecoded c.args.place body c.decoded.result) c.as_slice.ensures c.decoded.ensures.said) c.in_ok-body.ensures.heard
+
+pub returns-in_err-body-clause-asks : goal.returns-in_err-body-clause-asks
+returns-in_err-body-clause-asks g c = frame_asks c.args.place (g.D.Door.sessions c.args.door.now) (g.D.Door.asks c.args.door.now) (g.D.Door.asks c.read_body.new.door) c.in_err-body.ensures.asks
+
+pub returns-clause-asks : goal.returns-clause-asks
+returns-clause-asks g c = frame_asks c.args.place (g.D.Door.sessions c.args.door.now) (g.D.Door.asks c.args.door.now) (g.D.Door.asks c.read_body.new.door) c.in_ok-body.ensures.asks

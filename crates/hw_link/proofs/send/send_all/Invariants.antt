@@ -9,6 +9,7 @@ invariant-loop-done g l =
       within : l.done ≤ length l.bytes;
       told : d.sessions l.door ≡ after_part [] (take l.done l.bytes) false (d.sessions l.initial.door);
       session : d.is_open l.door ≡ true;
+      asks : d.asks l.door ≡ d.asks l.initial.door;
       ends : d.ends l.door ≡ d.ends l.initial.door;
       faults : d.faults l.door ≡ d.faults l.initial.door;
       accepts : d.accepts l.door ≡ d.accepts l.initial.door;

@@ -15,6 +15,6 @@ invariant-loop-need g l =
       sent : Sends {T = Unit {0}} (sent_bytes (flat_map (λ need. sent_for need (vertices_of l.core need)) (take l.need-index l.needs))) (d.sessions l.initial.door) (d.sessions l.door) (Ok tt);
       pairs : ArePairs l.core l.pairs;
       faults : d.faults l.door ≡ d.faults l.initial.door;
-      door : door_calls (d.is_open l.door) (d.ends l.door) (d.accepts l.door) (d.dials l.door) ≡ door_calls (d.is_open l.initial.door) (d.ends l.initial.door) (d.accepts l.initial.door) (d.dials l.initial.door);
+      door : door_calls (d.is_open l.door) (d.ends l.door) (d.accepts l.door) (d.dials l.door) (d.asks l.door) ≡ door_calls (d.is_open l.initial.door) (d.ends l.initial.door) (d.accepts l.initial.door) (d.dials l.initial.door) (d.asks l.initial.door);
       session : d.is_open l.door ≡ true;
     }

@@ -13,6 +13,6 @@ invariant-loop-at g l =
       start : l.place ≤ l.at;
       sent : Sends {T = Unit {0}} (sent_bytes (map frame.Vertex (take (l.at - l.place) (part_from l.core.journal l.place)))) (d.sessions l.initial.door) (d.sessions l.door) (Ok tt);
       faults : d.faults l.door ≡ d.faults l.initial.door;
-      door : door_calls (d.is_open l.door) (d.ends l.door) (d.accepts l.door) (d.dials l.door) ≡ door_calls (d.is_open l.initial.door) (d.ends l.initial.door) (d.accepts l.initial.door) (d.dials l.initial.door);
+      door : door_calls (d.is_open l.door) (d.ends l.door) (d.accepts l.door) (d.dials l.door) (d.asks l.door) ≡ door_calls (d.is_open l.initial.door) (d.ends l.initial.door) (d.accepts l.initial.door) (d.dials l.initial.door) (d.asks l.initial.door);
       session : d.is_open l.door ≡ true;
     }

@@ -1,4 +1,6 @@
-use Rattle.std.proofs.Common.{inl}
+use Rattle.std.proofs.Common.{Some, inl}
+use Rattle.hw_link.proofs.AskLaws.{all_prompt, none_prompt}
+use Rattle.hw_session.specs.Driving.{driven_said}
 use Rattle.hw_session.proofs.ServingLaws.{fault_counted, fault_unlogged}
 use Rattle.hw_session.proofs.DrivingLaws.{drives_dialled, drives_nobody}
 use Rattle.hw_session.proofs.node.Node.drive_one.Goals as goal
@@ -15,3 +17,11 @@ returns-in-Err-clause-link g c = rw c.from.ensures (fault_counted _ _ c.in-Err.f
 
 pub returns-in-Err-clause-appends : goal.returns-in-Err-clause-appends
 returns-in-Err-clause-appends g c = rw c.from.ensures (fault_unlogged _ c.in-Err.fault)
+
+pub returns-in-Ok-clause-prompt : goal.returns-in-Ok-clause-prompt
+returns-in-Ok-clause-prompt g c =
+    all_prompt (driven_said c.args.self.now c.args.mark.now) (Some c.args.address.now) (g.D.Door.sessions c.args.door.now) (g.D.Door.sessions c.dial.new.self) c.in-Ok.ensures.sessions
+    (g.D.Door.asks c.dial.new.self) (g.D.Door.asks c.drive-end.new.door) (g.D.Door.asks c.hang_up.new.self) c.in-Ok.ensures.asks c.drive-end.ensures.asks c.hang_up.ensures.asks
+
+pub returns-in-Err-clause-prompt : goal.returns-in-Err-clause-prompt
+returns-in-Err-clause-prompt g c = none_prompt (driven_said c.args.self.now c.args.mark.now) (g.D.Door.asks c.dial.new.self) c.in-Err.ensures.asks

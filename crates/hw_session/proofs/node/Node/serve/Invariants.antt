@@ -1,5 +1,8 @@
 use Rattle.std.proofs.Common.{◌≡◌, ◌≤◌, ◌-◌, true}
+use Rattle.hw_io.specs.Doors.{AsksMore}
+use Rattle.hw_link.specs.Asked.{IsAskedBehind}
 use Rattle.hw_session.specs.Outside.{reading}
+use Rattle.hw_session.specs.Serving.{served_said}
 use Rattle.hw_session.proofs.ServingLaws.{IsServing}
 use Rattle.hw_session.proofs.node.Node.serve.Given as goal
 
@@ -9,6 +12,7 @@ invariant-loop-place g l =
     let f = g.F.Files in
     record {
       serving : IsServing l.initial.self l.self l.place f.tells (f.held l.initial.files) (f.held l.files) (d.sessions l.initial.door) (d.sessions l.door);
+      asks : AsksMore (IsAskedBehind (served_said l.initial.self) (d.sessions l.initial.door)) (d.asks l.initial.door) (d.asks l.door);
       within : l.place ≤ 268435456;
       session : d.is_open l.door ≡ true;
       ends : d.ends l.door ≡ d.ends l.initial.door;

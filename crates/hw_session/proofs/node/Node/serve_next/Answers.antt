@@ -1,5 +1,8 @@
-use Rattle.std.proofs.Common.{ℕ, inl, inr, refl, ap}
+use Rattle.std.proofs.Common.{ℕ, [], inl, inr, refl, ap}
 use Rattle.std.proofs.lemmas.Result.{err_from_is_err_and}
+use Rattle.hw_io.proofs.Asks.{asks_still}
+use Rattle.hw_link.specs.Asked.{IsAskedInside}
+use Rattle.hw_link.specs.Frames.{frame_here}
 use Rattle.hw_session.specs.Outside.{DoorCalls}
 use Rattle.hw_session.proofs.NextLaws.{handles_whole, handles_end}
 use Rattle.hw_session.proofs.ServingLaws.{heard_unlogged}
@@ -19,6 +22,16 @@ pub returns-in_err-answer-clause-served : goal.returns-in_err-answer-clause-serv
 returns-in_err-answer-clause-served g c =
     let p = err_from_is_err_and c.from_residual-in_err-answer.result c.from_residual-in_err-answer.ensures.1 in
     rw (p.1, p.2) (inr (handles_end _ c.args.place _ _ _ _ _ _ _ _ _ _ c.in_ok-heard.heard c.in_ok-heard.ensures.heard (ap (λ (d : DoorCalls). d.ends) c.in_err-answer.ensures.door) c.in_err-answer.field-0.0 c.in_err-answer.ensures.reacts))
+
+pub returns-in_err-answer-clause-asks : goal.returns-in_err-answer-clause-asks
+returns-in_err-answer-clause-asks g c =
+    asks_still (IsAskedInside frame_here c.args.place [] (g.D.Door.sessions c.args.door.now)) (g.D.Door.asks c.args.door.now) (g.D.Door.asks c.read_frame.new.door) (g.D.Door.asks c.answer.new.door)
+    c.in_ok-heard.ensures.asks (ap (λ (d : DoorCalls). d.asks) c.in_err-answer.ensures.door)
+
+pub returns-clause-asks : goal.returns-clause-asks
+returns-clause-asks g c =
+    asks_still (IsAskedInside frame_here c.args.place [] (g.D.Door.sessions c.args.door.now)) (g.D.Door.asks c.args.door.now) (g.D.Door.asks c.read_frame.new.door) (g.D.Door.asks c.answer.new.door)
+    c.in_ok-heard.ensures.asks (ap (λ (d : DoorCalls). d.asks) c.in_ok-answer.ensures.door)
 
 pub returns-clause-served : goal.returns-clause-served
 returns-clause-served g c = inr (handles_whole _ c.args.place _ _ _ _ _ _ _ _ _ _ c.in_ok-heard.heard c.in_ok-heard.ensures.heard (ap (λ (d : DoorCalls). d.ends) c.in_ok-answer.ensures.door) c.in_ok-answer.ensures.reacts)

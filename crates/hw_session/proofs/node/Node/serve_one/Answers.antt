@@ -1,4 +1,6 @@
-use Rattle.std.proofs.Common.{inl}
+use Rattle.std.proofs.Common.{None, inl}
+use Rattle.hw_link.proofs.AskLaws.{all_prompt, none_prompt}
+use Rattle.hw_session.specs.Serving.{served_said}
 use Rattle.hw_session.proofs.ServingLaws.{serves_accepted, serves_nobody, fault_counted, fault_unlogged}
 use Rattle.hw_session.proofs.node.Node.serve_one.Goals as goal
 
@@ -14,3 +16,11 @@ returns-in-Err-clause-link g c = rw c.from.ensures (fault_counted _ _ c.in-Err.f
 
 pub returns-in-Err-clause-appends : goal.returns-in-Err-clause-appends
 returns-in-Err-clause-appends g c = rw c.from.ensures (fault_unlogged _ c.in-Err.fault)
+
+pub returns-in-Ok-clause-prompt : goal.returns-in-Ok-clause-prompt
+returns-in-Ok-clause-prompt g c =
+    all_prompt (served_said c.args.self.now) None (g.D.Door.sessions c.args.door.now) (g.D.Door.sessions c.accept.new.self) c.in-Ok.ensures.sessions
+    (g.D.Door.asks c.accept.new.self) (g.D.Door.asks c.serve-end.new.door) (g.D.Door.asks c.hang_up.new.self) c.in-Ok.ensures.asks c.serve-end.ensures.asks c.hang_up.ensures.asks
+
+pub returns-in-Err-clause-prompt : goal.returns-in-Err-clause-prompt
+returns-in-Err-clause-prompt g c = none_prompt (served_said c.args.self.now) (g.D.Door.asks c.accept.new.self) c.in-Err.ensures.asks
