@@ -32,7 +32,7 @@ use Rattle.hw_audit.specs.declared.culprits.Blamed.{Blamed}
 use Rattle.hw_audit.specs.declared.chains.Parting.{Parting}
 use Rattle.hw_audit.specs.Held.{HeldUnit, node_held}
 use Rattle.hw_audit.specs.Clashes.{UnitPair, other_of_name, clash_with, first_clash}
-use Rattle.hw_audit.specs.Forks.{PairUnits}
+use Rattle.hw_audit.specs.Twins.{PairUnits}
 use Rattle.hw_audit.specs.Shown.{IsShownBy, ShowsFirst}
 use Rattle.hw_audit.specs.Chains.{parting_of}
 use Rattle.hw_audit.specs.Read.{units_of, IsRead, IsConflict, IsAnswer}
@@ -249,10 +249,10 @@ module _ (config : Config) (left right : List Vertex) (dl dr : List Decision) (w
       record { is_verdict = (none e, record { begins = agree.begins; shorter = shorter }); shows_first = tt }
 
   pub conflict_verdict : None ≡ first_clash l r → (p : Parting) → Some p ≡ parting_of left_chain right_chain → (v : Verdict)
-      → ((nodes : List Node) → Rattle.hw_audit.specs.Forks.AreShown units nodes → IsConflict units nodes weights p.height p.left p.right v) → IsAnswer config left right dl dr v
+      → ((nodes : List Node) → Rattle.hw_audit.specs.Twins.AreShown units nodes → IsConflict units nodes weights p.height p.left p.right v) → IsAnswer config left right dl dr v
   conflict_verdict e p f v told =
       let chains : parting_of (chain_of dl) (chain_of dr) ≡ Some p = ap (λ (ds : List Digest). parting_of ds (chain_of dr)) (sym read.left_is) ∙ ap (λ (ds : List Digest). parting_of left_chain ds) (sym read.right_is) ∙ sym f in
-      let shown = subst (λ (us : List HeldUnit). Rattle.hw_audit.specs.Forks.AreShown us (shown_in_either (setting_of config) left right)) (sym read.units_are) (both_shown config left right) in
+      let shown = subst (λ (us : List HeldUnit). Rattle.hw_audit.specs.Twins.AreShown us (shown_in_either (setting_of config) left right)) (sym read.units_are) (both_shown config left right) in
       let c = told (shown_in_either (setting_of config) left right) shown in
       let shows : ShowsFirst (units_of config left ++ units_of config right) (shown_in_either (setting_of config) left right) config.weights (length config.weights) c.blamed =
       subst (λ (us : List HeldUnit). ShowsFirst us (shown_in_either (setting_of config) left right) config.weights (length config.weights) c.blamed) read.units_are

@@ -10,7 +10,7 @@ use Rattle.hw_types.specs.Graph.{Node}
 use Rattle.hw_audit.specs.declared.culprits.Blamed.{Blamed}
 use Rattle.hw_types.proofs.OrderedLaws.{among_all}
 use Rattle.hw_audit.specs.Held.{HeldUnit}
-use Rattle.hw_audit.specs.Forks.{PairUnits, IsPairOf}
+use Rattle.hw_audit.specs.Twins.{PairUnits, IsPairOf}
 use Rattle.hw_safety.specs.Pairs.{is_culprit}
 use Rattle.hw_audit.specs.Shown.{shown_as, IsShownBy, first_culprits, ShowsFirst}
 

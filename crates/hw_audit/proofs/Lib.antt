@@ -1,6 +1,6 @@
 pub mod UnitLaws
 pub mod KnownLaws
-pub mod ForkLaws
+pub mod TwinLaws
 pub mod NotedLaws
 pub mod PairLaws
 pub mod BlameLaws

@@ -28,7 +28,7 @@ use Rattle.hw_safety.specs.Verdicts.{held_in}
 use Rattle.hw_safety.proofs.FrontLaws.{front_more}
 use Rattle.hw_safety.proofs.ClashLaws.{among_held, held_among}
 use Rattle.hw_audit.specs.Held.{HeldUnit, node_held, is_settled, held_as, held_by, held_units}
-use Rattle.hw_audit.specs.Forks.{AreShown}
+use Rattle.hw_audit.specs.Twins.{AreShown}
 use Rattle.hw_audit.specs.Read.{units_of}
 
 -- ---- lists of lists

@@ -1,6 +1,6 @@
 pub mod Held
 pub mod Clashes
-pub mod Forks
+pub mod Twins
 pub mod Shown
 pub mod Chains
 pub mod First

@@ -8,7 +8,7 @@ use Rattle.hw_types.specs.Spelling.{signed_bytes}
 use Rattle.hw_types.specs.Culprits.{pair_of}
 use Rattle.hw_audit.specs.declared.culprits.Blamed.{Blamed}
 use Rattle.hw_audit.specs.Held.{HeldUnit, node_held}
-use Rattle.hw_audit.specs.Forks.{PairUnits}
+use Rattle.hw_audit.specs.Twins.{PairUnits}
 use Rattle.hw_safety.specs.Pairs.{is_culprit}
 
 -- the validator with the bytes of its pair

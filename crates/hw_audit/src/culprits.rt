@@ -4,10 +4,10 @@ ghost use Rattle.std.specs.Prelude.{◌≡◌, ◌+◌, ◌<◌, ◌≤◌, ◌^
 ghost use Rattle.hw_types.specs.Graph.{Node};
 ghost use Rattle.hw_types.specs.Spelling.{signed_bytes};
 ghost use Rattle.hw_audit.specs.Held.{HeldUnit};
-ghost use Rattle.hw_audit.specs.Forks.{AreNoted, AreShown};
+ghost use Rattle.hw_audit.specs.Twins.{AreNoted, AreShown};
 ghost use Rattle.hw_audit.specs.Shown.{shown_as, ShowsFirst};
 
-use crate::forks::{Equivocations, Pair};
+use crate::twins::{Equivocations, Pair};
 use crate::held::Held;
 use hw_codec::encode_unit;
 use hw_types::{Bytes, Culprit, CulpritList, OutOfMemory};
@@ -54,7 +54,7 @@ fn blame(
     requires validators { length equivocations.now.least.items ≡ length weights.now }
     requires fits { sum weights.now < 2 ^ 64 }
     requires few { blamed.old.weight ≤ sum (take validator weights.now) }
-    ensures shown { OnOk result ((units : List HeldUnit) (nodes : List Node) → AreNoted equivocations.now.forks.entries equivocations.now.least.items units → AreShown units nodes
+    ensures shown { OnOk result ((units : List HeldUnit) (nodes : List Node) → AreNoted equivocations.now.twins.entries equivocations.now.least.items units → AreShown units nodes
         → ShowsFirst units nodes weights.now validator blamed.old → ShowsFirst units nodes weights.now (validator + 1) blamed.new) }
     ensures few { OnOk result (blamed.new.weight ≤ sum (take (validator + 1) weights.now)) }
 {
@@ -74,7 +74,7 @@ pub fn culprits(
     requires validators { length equivocations.now.least.items ≡ length weights.now }
     requires many { length weights.now < 2 ^ 32 }
     requires fits { sum weights.now < 2 ^ 64 }
-    ensures { IfOk result (λ blamed. (units : List HeldUnit) (nodes : List Node) → AreNoted equivocations.now.forks.entries equivocations.now.least.items units → AreShown units nodes
+    ensures { IfOk result (λ blamed. (units : List HeldUnit) (nodes : List Node) → AreNoted equivocations.now.twins.entries equivocations.now.least.items units → AreShown units nodes
         → ShowsFirst units nodes weights.now (length weights.now) blamed) }
 {
     let mut blamed = Blamed {

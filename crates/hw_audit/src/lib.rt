@@ -12,11 +12,11 @@
 mod chains;
 mod clash;
 mod culprits;
-mod forks;
 mod held;
 mod nodes;
 mod same;
 mod text;
+mod twins;
 mod verdict;
 
 pub use hw_safety::Verdict;

@@ -5,13 +5,13 @@ ghost use Rattle.hw_types.specs.declared.unit.Vertex.{Vertex};
 ghost use Rattle.hw_types.specs.declared.config.Config.{Config as Configured};
 ghost use Rattle.hw_types.specs.declared.answers.Decision.{Decision};
 ghost use Rattle.hw_types.specs.Graph.{Node};
-ghost use Rattle.hw_audit.specs.Forks.{AreShown};
+ghost use Rattle.hw_audit.specs.Twins.{AreShown};
 ghost use Rattle.hw_audit.specs.Read.{IsRead, IsConflict, IsAnswer};
 
 use crate::chains::{Parting, first_parting};
 use crate::clash::first_clash;
 use crate::culprits::culprits;
-use crate::forks::Equivocations;
+use crate::twins::Equivocations;
 use crate::held::Held;
 use hw_safety::Verdict;
 use hw_types::{Digest, OutOfMemory};

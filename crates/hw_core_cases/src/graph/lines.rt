@@ -41,12 +41,12 @@ fn moved(answer: &mut Answer, state: &mut State, kind: &str, words: &[&str]) {
         "show" => show(answer, state),
         "chain" => chain(answer, state, words),
         "make" => make(answer, state, words),
-        _ => told(answer, state, kind, words),
+        _ => read_state(answer, state, kind, words),
     }
 }
 
 /// The answer of the state that stays as it is.
-fn told(answer: &mut Answer, state: &State, kind: &str, words: &[&str]) {
+fn read_state(answer: &mut Answer, state: &State, kind: &str, words: &[&str]) {
     match kind {
         "choice" => choice(answer, state, words),
         "consistent" => consistency(answer, state.dag(), words),

@@ -28,11 +28,11 @@ pub fn chain(answer: &mut Answer, instance: Digest, core: &mut Core, words: &[&s
         units.reverse();
     }
     let sums = delivered(answer, core, units);
-    told(answer, count, sums);
+    put_sums(answer, count, sums);
 }
 
 /// What became of so many units, as a line.
-fn told(answer: &mut Answer, count: &str, sums: Sums) {
+fn put_sums(answer: &mut Answer, count: &str, sums: Sums) {
     answer.put("chain ");
     answer.put(count);
     answer.fill(

@@ -60,14 +60,14 @@ fn became(answer: &mut Answer, core: &mut Core, vertex: &Vertex, verdict: bool) 
     match delivery(core, vertex, verdict) {
         Some(Outcome::Refused(Cause::OutOfMemory)) => {
             answer.put("memory ");
-            told(answer, delivery(core, vertex, verdict));
+            put_outcome(answer, delivery(core, vertex, verdict));
         }
-        outcome => told(answer, outcome),
+        outcome => put_outcome(answer, outcome),
     }
 }
 
 /// The outcome in words, at the end of its line.
-fn told(answer: &mut Answer, outcome: Option<Outcome>) {
+fn put_outcome(answer: &mut Answer, outcome: Option<Outcome>) {
     match outcome {
         Some(outcome) => outcome_text(answer, outcome),
         None => answer.refuse(),

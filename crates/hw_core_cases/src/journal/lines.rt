@@ -94,12 +94,12 @@ fn moved(answer: &mut Answer, node: &mut Node, kind: &str, words: &[&str]) {
         "summit" => summit(answer, &mut node.core, words),
         "starts" => starts(answer, &mut node.core, words),
         "explain" => explain(answer, &mut node.core, words),
-        _ => told(answer, node, kind, words),
+        _ => looked_up(answer, node, kind, words),
     }
 }
 
 /// The answer of the node that stays as it is.
-fn told(answer: &mut Answer, node: &Node, kind: &str, words: &[&str]) {
+fn looked_up(answer: &mut Answer, node: &Node, kind: &str, words: &[&str]) {
     match kind {
         "place" => place(answer, node, words),
         "missing" => missing(answer, node, words),

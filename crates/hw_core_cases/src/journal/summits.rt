@@ -10,7 +10,7 @@ pub fn summit(answer: &mut Answer, core: &mut Core, words: &[&str]) {
     for word in words {
         put_asked(answer, "summit ", word);
         answer.put(" ");
-        told(answer, core, number(word));
+        put_stands(answer, core, number(word));
         answer.put("\n");
     }
 }
@@ -20,7 +20,7 @@ fn put_asked(answer: &mut Answer, kind: &str, word: &str) {
     answer.put(word);
 }
 
-fn told(answer: &mut Answer, core: &mut Core, index: u64) {
+fn put_stands(answer: &mut Answer, core: &mut Core, index: u64) {
     if index < core.decision_count() {
         answer.truth(core.summit_now(index));
     } else {

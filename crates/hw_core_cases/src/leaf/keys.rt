@@ -20,7 +20,7 @@ pub fn keyed(answer: &mut Answer, kind: &str, words: &[&str]) {
 /// What the keys of this text answer.
 fn read(answer: &mut Answer, kind: &str, text: &[u8], validators: u32, words: &[&str]) {
     match Keys::read(answer.alloc(), text, validators) {
-        Ok(keys) => told(answer, kind, &keys, validators, words),
+        Ok(keys) => put_read(answer, kind, &keys, validators, words),
         Err(KeysFault::At(place)) => {
             answer.put("at ");
             answer.number(place);
@@ -30,7 +30,7 @@ fn read(answer: &mut Answer, kind: &str, text: &[u8], validators: u32, words: &[
 }
 
 /// What the keys answer.
-fn told(answer: &mut Answer, kind: &str, keys: &Keys, validators: u32, words: &[&str])
+fn put_read(answer: &mut Answer, kind: &str, keys: &Keys, validators: u32, words: &[&str])
     requires { length keys.now ≡ validators }
 {
     match words {

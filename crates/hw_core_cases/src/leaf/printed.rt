@@ -8,7 +8,7 @@ pub fn number_text(answer: &mut Answer, of: u64) {
     let mut out = Bytes::new(answer.alloc());
     let first = put_word(&mut out, "number ");
     let second = put_number(&mut out, of);
-    told(answer, &out, first.and(second));
+    put_text(answer, &out, first.and(second));
 }
 
 pub fn digest_text(answer: &mut Answer, word: &str) {
@@ -19,11 +19,11 @@ pub fn digest_text(answer: &mut Answer, word: &str) {
         Some(digest) => put_digest(&mut out, &Digest(*digest)),
         None => Ok(()),
     };
-    told(answer, &out, first.and(second));
+    put_text(answer, &out, first.and(second));
 }
 
 /// Puts the bytes as a text, where there was memory for all of them.
-fn told(answer: &mut Answer, out: &Bytes, put: Result<(), OutOfMemory>) {
+fn put_text(answer: &mut Answer, out: &Bytes, put: Result<(), OutOfMemory>) {
     match (put, std::str::from_utf8(out.as_slice())) {
         (Ok(()), Ok(text)) => answer.put(text),
         (Ok(()), Err(_)) => answer.put("no text"),

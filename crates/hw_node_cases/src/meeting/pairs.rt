@@ -20,14 +20,14 @@ pub fn met(answer: &mut Answer, nodes: &mut Vec<Core>, config: &str, left: &str,
         [first, second] => {
             deliver_all(answer, first, left);
             deliver_all(answer, second, right);
-            told(answer, first, second);
+            put_pair(answer, first, second);
         }
         _ => answer.put("no node"),
     }
 }
 
 /// What the two tell, what is torn for each, and what each owes.
-fn told(answer: &mut Answer, left: &Core, right: &Core) {
+fn put_pair(answer: &mut Answer, left: &Core, right: &Core) {
     let left_parts = summary_of(answer.alloc(), left);
     let right_parts = summary_of(answer.alloc(), right);
     match (left_parts, right_parts) {

@@ -21,13 +21,13 @@ pub fn put_certificate(
 ) {
     let bytes = answer.bytes(digits);
     match decode_certificate(answer.alloc(), bytes.as_slice()) {
-        Ok(certificate) => told(answer, nodes, kind, &certificate, bytes.as_slice(), word),
+        Ok(certificate) => put_read(answer, nodes, kind, &certificate, bytes.as_slice(), word),
         Err(error) => not_read(answer, kind, error),
     }
 }
 
 /// The answer of this kind to a certificate that was read.
-fn told(
+fn put_read(
     answer: &mut Answer,
     nodes: &mut Vec<Core>,
     kind: &str,

@@ -29,7 +29,7 @@ fn replayed(
     if let Ok(mut replay) = Replay::begin(alloc, &mut files, "LOG", None) {
         pass_along(&mut files, &mut replay, &mut fanout, consumers, each);
     }
-    told(alloc, consumers.len(), &fanout)
+    drops_text(alloc, consumers.len(), &fanout)
 }
 
 /// How many are left, and the lines of those that were dropped, where consumers of these plans are fed while the log is
@@ -71,7 +71,7 @@ fn log_file(alloc: Global, log: &str) -> Result<MemFiles, OutOfMemory> {
 }
 
 /// How many are left, and where the others were dropped.
-fn told(alloc: Global, left: usize, fanout: &Fanout) -> Result<String, OutOfMemory> {
+fn drops_text(alloc: Global, left: usize, fanout: &Fanout) -> Result<String, OutOfMemory> {
     let mut text = format!(in alloc; "left {left}")?;
     for index in 0..fanout.drop_count() {
         let (place, height, fault) = fanout.drop_at(index);

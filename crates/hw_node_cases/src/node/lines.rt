@@ -60,13 +60,13 @@ fn of_one(answer: &mut Answer, nodes: &mut Vec<Core>, kind: &str, word: &str) {
 /// The answer of the node that began last.
 fn asked(answer: &mut Answer, nodes: &mut [Core], kind: &str, word: &str) {
     match nodes {
-        [.., core] => told(answer, core, kind, word),
+        [.., core] => node_answer(answer, core, kind, word),
         [] => answer.put("no node"),
     }
 }
 
 /// The answer of the node, which a delivery may change.
-fn told(answer: &mut Answer, core: &mut Core, kind: &str, word: &str) {
+fn node_answer(answer: &mut Answer, core: &mut Core, kind: &str, word: &str) {
     match kind {
         "deliver" => deliver(answer, core, word),
         "against" => against(answer, core, small(word)),

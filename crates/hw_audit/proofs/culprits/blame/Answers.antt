@@ -1,5 +1,5 @@
 use Rattle.std.proofs.Common.{◌+◌, Option, refl, subst, arith}
-use Rattle.hw_audit.specs.Forks.{PairUnits, IsPairOf}
+use Rattle.hw_audit.specs.Twins.{PairUnits, IsPairOf}
 use Rattle.hw_audit.proofs.BlameLaws.{shows_none, shows_more, sum_more, sum_part}
 use Rattle.hw_audit.proofs.culprits.blame.Goals as goal
 

@@ -3,7 +3,7 @@ use Rattle.hw_types.specs.declared.config.Config.{Config}
 use Rattle.hw_types.proofs.LimitLaws.{within_limits}
 use Rattle.hw_audit.specs.Held.{HeldUnit}
 use Rattle.hw_audit.specs.Read.{units_of}
-use Rattle.hw_audit.proofs.ForkLaws.{ok_so}
+use Rattle.hw_audit.proofs.TwinLaws.{ok_so}
 use Rattle.hw_audit.proofs.TopLaws.{read_is}
 use Rattle.hw_audit.proofs.nodes.verdict_on.Goals as goal
 

@@ -1,5 +1,5 @@
 use Rattle.std.proofs.Common.{sym, ◌∙◌}
-use Rattle.hw_audit.proofs.ForkLaws.{ok_so}
+use Rattle.hw_audit.proofs.TwinLaws.{ok_so}
 use Rattle.hw_audit.proofs.AnswerLaws.{clash_verdict, agree_verdict, conflict_verdict}
 use Rattle.hw_audit.proofs.verdict.verdict.Goals as goal
 

@@ -6,7 +6,7 @@ ghost use Rattle.std.specs.Map.{lookup};
 ghost use Rattle.hw_types.specs.Graph.{Node};
 ghost use Rattle.hw_types.specs.Culprits.{stands_before};
 ghost use Rattle.hw_audit.specs.Held.{HeldUnit, node_held};
-ghost use Rattle.hw_audit.specs.Forks.{place_of, place_eq, Precedes, AreOne, IsLesser, IsFork, IsForkAt, AreForks, HasFork, IsLowered, AreNoted, AreShown, pair_in, IsPairOf};
+ghost use Rattle.hw_audit.specs.Twins.{place_of, place_eq, Precedes, AreOne, IsLesser, AreTwins, AreTwinsAt, AreTwinsOfEach, HasTwins, IsLowered, AreNoted, AreShown, pair_in, IsPairOf};
 ghost use Rattle.hw_safety.specs.Pairs.{lower_of};
 
 use crate::held::{Held, are_one};
@@ -18,23 +18,23 @@ use std::marker::Model;
 
 /// Where a unit stands: its creator and its sequence number.
 #[derive(Clone, Copy, PartialEq, Eq, Hash)]
-pub struct Place {
+pub struct LanePlace {
     creator: u32,
     seq: u64,
 }
 
 /// The first unit of a place, by name and then by spelling, and the first of those that differ from it.
 #[derive(Drop)]
-pub struct Fork<'a> {
+pub struct Twins<'a> {
     first: &'a Held<'a>,
     second: Option<&'a Held<'a>>,
 }
 
-impl<'a> Model for Fork<'a> {
+impl<'a> Model for Twins<'a> {
     ghost use Rattle.std.specs.Option.{option_map};
-    ghost use Rattle.hw_audit.specs.Forks.{ForkUnits};
+    ghost use Rattle.hw_audit.specs.Twins.{TwinUnits};
 
-    ghost Value = { ForkUnits };
+    ghost Value = { TwinUnits };
 
     ghost view = { λ f. record {
       first = f.first.now;
@@ -44,11 +44,11 @@ impl<'a> Model for Fork<'a> {
 
 impl Held<'_> {
     /// Where it stands.
-    fn place(&self) -> Place
+    fn place(&self) -> LanePlace
         ensures { result ≡ place_of self.now }
     {
         let unit = self.unit();
-        Place {
+        LanePlace {
             creator: unit.creator,
             seq: unit.seq,
         }
@@ -86,7 +86,7 @@ fn lesser<'a>(
     }
 }
 
-impl<'a> Fork<'a> {
+impl<'a> Twins<'a> {
     fn first(&self) -> &'a Held<'a>
         ensures { result.now ≡ self.now.first }
     {
@@ -113,60 +113,60 @@ impl<'a> Fork<'a> {
     }
 
     /// With one unit more of the place.
-    fn with(&self, alloc: Global, unit: &'a Held<'a>) -> Result<Fork<'a>, OutOfMemory>
-        ensures { IfOk result (λ f. (ys : List HeldUnit) → IsFork ys self.now → IsFork (ys ++ unit.now ∷ []) f) }
+    fn with(&self, alloc: Global, unit: &'a Held<'a>) -> Result<Twins<'a>, OutOfMemory>
+        ensures { IfOk result (λ f. (ys : List HeldUnit) → AreTwins ys self.now → AreTwins (ys ++ unit.now ∷ []) f) }
     {
         let first = self.first();
         if are_one(first.unit(), unit.unit()) {
-            return Ok(make_fork(first, self.second()));
+            return Ok(make_twins(first, self.second()));
         }
         if comes_before(alloc, unit, first)? {
-            return Ok(make_fork(unit, Some(first)));
+            return Ok(make_twins(unit, Some(first)));
         }
         match self.second() {
-            None => Ok(make_fork(first, Some(unit))),
-            Some(second) => Ok(make_fork(first, Some(lesser(alloc, second, unit)?))),
+            None => Ok(make_twins(first, Some(unit))),
+            Some(second) => Ok(make_twins(first, Some(lesser(alloc, second, unit)?))),
         }
     }
 }
 
 /// These two units of a place.
-fn make_fork<'a>(first: &'a Held<'a>, second: Option<&'a Held<'a>>) -> Fork<'a>
+fn make_twins<'a>(first: &'a Held<'a>, second: Option<&'a Held<'a>>) -> Twins<'a>
     ensures { result ≡ record { first = first.now; second = option_copied second.entry } }
 {
-    Fork { first, second }
+    Twins { first, second }
 }
 
-/// The forks by their places.
-type Forks<'a> = HashMap<Place, Fork<'a>>;
+/// The twins of each place.
+type TwinsByPlace<'a> = HashMap<LanePlace, Twins<'a>>;
 
-/// The fork of the unit's place, with this unit.
-fn fork_with<'a>(
+/// The twins of the unit's place, with this unit.
+fn twins_with<'a>(
     alloc: Global,
-    forks: &Forks<'a>,
+    twins: &TwinsByPlace<'a>,
     unit: &'a Held<'a>,
-) -> Result<Fork<'a>, OutOfMemory>
-    ensures { IfOk result (λ f. (ys : List HeldUnit) → IsForkAt ys (lookup (place_eq (place_of unit.now)) forks.now.entries) → IsFork (ys ++ unit.now ∷ []) f) }
+) -> Result<Twins<'a>, OutOfMemory>
+    ensures { IfOk result (λ f. (ys : List HeldUnit) → AreTwinsAt ys (lookup (place_eq (place_of unit.now)) twins.now.entries) → AreTwins (ys ++ unit.now ∷ []) f) }
 {
-    match forks.get(&unit.place()) {
-        Some(fork) => fork.with(alloc, unit),
-        None => Ok(make_fork(unit, None)),
+    match twins.get(&unit.place()) {
+        Some(known) => known.with(alloc, unit),
+        None => Ok(make_twins(unit, None)),
     }
 }
 
 /// Notes one unit more, and says whether two different units stand at its place now.
-fn note_fork<'a>(
+fn note_twins<'a>(
     alloc: Global,
-    forks: &mut Forks<'a>,
+    twins: &mut TwinsByPlace<'a>,
     unit: &'a Held<'a>,
 ) -> Result<bool, OutOfMemory>
     requires { unit.now.is_shown ≡ true }
-    ensures forks { OnOk result ((units : List HeldUnit) → AreForks forks.old.entries units → AreForks forks.new.entries (units ++ unit.now ∷ [])) }
-    ensures two { IfOk result (λ two. (units : List HeldUnit) → AreForks forks.old.entries units → IsTrue two ↔ HasFork (units ++ unit.now ∷ []) (place_of unit.now)) }
+    ensures twins { OnOk result ((units : List HeldUnit) → AreTwinsOfEach twins.old.entries units → AreTwinsOfEach twins.new.entries (units ++ unit.now ∷ [])) }
+    ensures two { IfOk result (λ two. (units : List HeldUnit) → AreTwinsOfEach twins.old.entries units → IsTrue two ↔ HasTwins (units ++ unit.now ∷ []) (place_of unit.now)) }
 {
-    let fork = fork_with(alloc, forks, unit)?;
-    let two = fork.second().is_some();
-    forks.insert(unit.place(), fork)?;
+    let known = twins_with(alloc, twins, unit)?;
+    let two = known.second().is_some();
+    twins.insert(unit.place(), known)?;
     Ok(two)
 }
 
@@ -192,7 +192,7 @@ fn lesser_number(known: Option<u64>, seq: u64) -> u64
 /// The units that two journals show, by creator and sequence number.
 #[derive(Drop)]
 pub struct Equivocations<'a> {
-    forks: Forks<'a>,
+    twins: TwinsByPlace<'a>,
     /// The least number at which each validator has two different units.
     least: Vec<Option<u64>>,
 }
@@ -205,7 +205,7 @@ pub struct Pair<'a> {
 }
 
 impl<'a> Model for Pair<'a> {
-    ghost use Rattle.hw_audit.specs.Forks.{PairUnits};
+    ghost use Rattle.hw_audit.specs.Twins.{PairUnits};
 
     ghost Value = { PairUnits };
 
@@ -231,11 +231,11 @@ impl<'a> Pair<'a> {
 impl<'a> Equivocations<'a> {
     /// No unit, of so many validators.
     fn new(alloc: Global, validators: usize) -> Result<Equivocations<'a>, OutOfMemory>
-        ensures noted { IfOk result (λ e. AreNoted e.forks.entries e.least.items []) }
+        ensures noted { IfOk result (λ e. AreNoted e.twins.entries e.least.items []) }
         ensures validators { IfOk result (λ e. length e.least.items ≡ validators) }
     {
         Ok(Equivocations {
-            forks: HashMap::new(alloc),
+            twins: HashMap::new(alloc),
             least: Vec::from_elem(alloc, None, validators)?,
         })
     }
@@ -246,7 +246,7 @@ impl<'a> Equivocations<'a> {
         validators: usize,
         units: &'a [Held<'a>],
     ) -> Result<Equivocations<'a>, OutOfMemory>
-        ensures noted { IfOk result (λ e. AreNoted e.forks.entries e.least.items units.now) }
+        ensures noted { IfOk result (λ e. AreNoted e.twins.entries e.least.items units.now) }
         ensures validators { IfOk result (λ e. length e.least.items ≡ validators) }
     {
         let mut equivocations = Equivocations::new(alloc, validators)?;
@@ -258,13 +258,13 @@ impl<'a> Equivocations<'a> {
 
     /// Notes one unit more, where it is shown.
     fn note(&mut self, alloc: Global, unit: &'a Held<'a>) -> Result<(), OutOfMemory>
-        ensures noted { OnOk result ((units : List HeldUnit) → AreNoted self.old.forks.entries self.old.least.items units → AreNoted self.new.forks.entries self.new.least.items (units ++ unit.now ∷ [])) }
+        ensures noted { OnOk result ((units : List HeldUnit) → AreNoted self.old.twins.entries self.old.least.items units → AreNoted self.new.twins.entries self.new.least.items (units ++ unit.now ∷ [])) }
         ensures validators { OnOk result (length self.new.least.items ≡ length self.old.least.items) }
     {
         if !unit.is_shown() {
             return Ok(());
         }
-        if note_fork(alloc, &mut self.forks, unit)? {
+        if note_twins(alloc, &mut self.twins, unit)? {
             let place = unit.place();
             lower(&mut self.least, place.creator, place.seq);
         }
@@ -275,12 +275,12 @@ impl<'a> Equivocations<'a> {
     /// name and then by spelling. None where it didn't equivocate.
     pub fn pair_of(&self, validator: u32) -> Option<Pair<'a>>
         requires { validator < length self.now.least.items }
-        ensures { (units : List HeldUnit) (nodes : List Node) → AreNoted self.now.forks.entries self.now.least.items units → AreShown units nodes → IsPairOf units nodes validator result }
+        ensures { (units : List HeldUnit) (nodes : List Node) → AreNoted self.now.twins.entries self.now.least.items units → AreShown units nodes → IsPairOf units nodes validator result }
     {
         match self.least[validator as usize] {
             Some(seq) => pair_at(
-                &self.forks,
-                &Place {
+                &self.twins,
+                &LanePlace {
                     creator: validator,
                     seq,
                 },
@@ -291,11 +291,11 @@ impl<'a> Equivocations<'a> {
 }
 
 /// The first two different units of the place.
-fn pair_at<'a>(forks: &Forks<'a>, place: &Place) -> Option<Pair<'a>>
-    ensures { result ≡ pair_in (lookup (place_eq place.now) forks.now.entries) }
+fn pair_at<'a>(twins: &TwinsByPlace<'a>, place: &LanePlace) -> Option<Pair<'a>>
+    ensures { result ≡ pair_in (lookup (place_eq place.now) twins.now.entries) }
 {
-    match forks.get(place) {
-        Some(fork) => fork.pair(),
+    match twins.get(place) {
+        Some(known) => known.pair(),
         None => None,
     }
 }

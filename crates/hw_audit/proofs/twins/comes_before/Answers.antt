@@ -7,7 +7,7 @@ use Rattle.hw_audit.specs.Held.{node_held}
 use Rattle.hw_codec.specs.Ranges.{UnitInRange}
 use Rattle.hw_codec.proofs.KindLaws.{unit_kind, each_spells_one}
 use Rattle.hw_safety.proofs.UnitOrderLaws.{same_name, same_name_behind, other_name, other_name_behind}
-use Rattle.hw_audit.proofs.forks.comes_before.Goals as goal
+use Rattle.hw_audit.proofs.twins.comes_before.Goals as goal
 
 one_name : (c : goal.After-drop-left-inside-then-eq) → digest_eq c.args.left.now.name c.args.right.now.name ≡ true
 one_name c =

@@ -8,7 +8,7 @@ use Rattle.hw_types.proofs.EntryLaws.{append_cases}
 use Rattle.hw_types.proofs.UnionLaws.{from_left, from_right}
 use Rattle.hw_types.proofs.OrderLaws.{unit_same}
 use Rattle.hw_audit.specs.Held.{HeldUnit, node_held}
-use Rattle.hw_audit.specs.Forks.{Precedes, AreOne, Differ, IsLesser, ForkUnits, IsSecond, IsFork}
+use Rattle.hw_audit.specs.Twins.{Precedes, AreOne, Differ, IsLesser, TwinUnits, IsSecond, AreTwins}
 use Rattle.hw_safety.proofs.CulpritPairLaws.{unit_turned}
 use Rattle.hw_safety.proofs.UnitOrderLaws.{comes_trans}
 
@@ -38,9 +38,9 @@ before_one x y z p e = subst (λ (n : Node). Rattle.hw_types.specs.Culprits.stan
 before_far : (x y z : HeldUnit) → Precedes x y → Precedes y z → Precedes x z
 before_far x y z = comes_trans (node_held x) (node_held y) (node_held z)
 
--- ---- the fork with one unit more
+-- ---- the twins with one unit more
 
-module _ (ys : List HeldUnit) (f : ForkUnits) (h : HeldUnit) (is : IsFork ys f) where
+module _ (ys : List HeldUnit) (f : TwinUnits) (h : HeldUnit) (is : AreTwins ys f) where
   in_more : (y : HeldUnit) → Among y ys → Among y (ys ++ h ∷ [])
   in_more y m = from_left y ys (h ∷ []) m
 
@@ -49,16 +49,16 @@ module _ (ys : List HeldUnit) (f : ForkUnits) (h : HeldUnit) (is : IsFork ys f) 
   second_one (Some b) s one = (in_more b s.0, s.1, each_last (λ y. AreOne y f.first ⊎ (AreOne y b ⊎ Precedes b y)) ys h s.2 (inl one))
 
   -- it is the first one again
-  pub fork_one : AreOne h f.first → IsFork (ys ++ h ∷ []) (record { first = f.first; second = f.second })
-  fork_one one = record {
+  pub twins_one : AreOne h f.first → AreTwins (ys ++ h ∷ []) (record { first = f.first; second = f.second })
+  twins_one one = record {
     first_in = in_more f.first is.first_in;
     first_is = each_last (λ y. AreOne y f.first ⊎ Precedes f.first y) ys h is.first_is (inl one);
     second_is = second_one f.second is.second_is one;
   }
 
   -- it comes first
-  pub fork_before : Precedes h f.first → Differ f.first h → IsFork (ys ++ h ∷ []) (record { first = h; second = Some f.first })
-  fork_before before differ = record {
+  pub twins_before : Precedes h f.first → Differ f.first h → AreTwins (ys ++ h ∷ []) (record { first = h; second = Some f.first })
+  twins_before before differ = record {
     first_in = last_in ys h;
     first_is = each_last (λ y. AreOne y h ⊎ Precedes h y) ys h (λ y m. inr (elim (is.first_is y m) [ inl one ↦ before_one h f.first y before one | inr later ↦ before_far h f.first y before later ])) (inl refl);
     second_is = (
@@ -69,8 +69,8 @@ module _ (ys : List HeldUnit) (f : ForkUnits) (h : HeldUnit) (is : IsFork ys f) 
   }
 
   -- it is the first of the others
-  pub fork_second : AreOne h f.first ⊎ Precedes f.first h → Differ f.first h → f.second ≡ None → IsFork (ys ++ h ∷ []) (record { first = f.first; second = Some h })
-  fork_second behind differ none = record {
+  pub twins_second : AreOne h f.first ⊎ Precedes f.first h → Differ f.first h → f.second ≡ None → AreTwins (ys ++ h ∷ []) (record { first = f.first; second = Some h })
+  twins_second behind differ none = record {
     first_in = in_more f.first is.first_in;
     first_is = each_last (λ y. AreOne y f.first ⊎ Precedes f.first y) ys h is.first_is behind;
     second_is = (
@@ -84,8 +84,8 @@ module _ (ys : List HeldUnit) (f : ForkUnits) (h : HeldUnit) (is : IsFork ys f) 
       alone = subst (λ (o : Option HeldUnit). IsSecond ys f.first o) none is.second_is
 
   -- or it is compared with the first of the others
-  pub fork_lesser : AreOne h f.first ⊎ Precedes f.first h → Differ f.first h → (b l : HeldUnit) → f.second ≡ Some b → IsLesser b h l → IsFork (ys ++ h ∷ []) (record { first = f.first; second = Some l })
-  fork_lesser behind differ b l some lesser = record {
+  pub twins_lesser : AreOne h f.first ⊎ Precedes f.first h → Differ f.first h → (b l : HeldUnit) → f.second ≡ Some b → IsLesser b h l → AreTwins (ys ++ h ∷ []) (record { first = f.first; second = Some l })
+  twins_lesser behind differ b l some lesser = record {
     first_in = in_more f.first is.first_in;
     first_is = each_last (λ y. AreOne y f.first ⊎ Precedes f.first y) ys h is.first_is behind;
     second_is = go lesser;
@@ -113,8 +113,8 @@ module _ (ys : List HeldUnit) (f : ForkUnits) (h : HeldUnit) (is : IsFork ys f) 
       go (inr p) = subst (λ (x : HeldUnit). IsSecond (ys ++ h ∷ []) f.first (Some x)) (sym p.0) (older p.1)
 
 -- the first unit of a place
-pub fork_new : (ys : List HeldUnit) (h : HeldUnit) → ((y : HeldUnit) → Among y ys → ⊥) → IsFork (ys ++ h ∷ []) (record { first = h; second = None })
-fork_new ys h none = record {
+pub twins_new : (ys : List HeldUnit) (h : HeldUnit) → ((y : HeldUnit) → Among y ys → ⊥) → AreTwins (ys ++ h ∷ []) (record { first = h; second = None })
+twins_new ys h none = record {
   first_in = last_in ys h;
   first_is = each_last (λ y. AreOne y h ⊎ Precedes h y) ys h (λ y m. absurd (none y m)) (inl refl);
   second_is = each_last (λ y. AreOne y h) ys h (λ y m. absurd (none y m)) refl;

@@ -7,19 +7,19 @@ use Rattle.hw_types.specs.Below.{Among}
 use Rattle.hw_types.specs.Same.{unit_eq}
 use Rattle.hw_types.specs.Culprits.{stands_before, pair_of}
 use Rattle.hw_safety.specs.Pairs.{is_culprit, lower_of}
-use Rattle.hw_audit.specs.declared.forks.Place.{Place}
+use Rattle.hw_audit.specs.declared.twins.LanePlace.{LanePlace}
 use Rattle.hw_audit.specs.Held.{HeldUnit, node_held}
 
 -- where a unit stands
-abbrev pub place_of : HeldUnit → Place
+abbrev pub place_of : HeldUnit → LanePlace
 place_of h = record { creator = h.signed.unit.creator; seq = h.signed.unit.seq }
 
 -- the two places are one
-abbrev pub place_eq : Place → Place → Bool
+abbrev pub place_eq : LanePlace → LanePlace → Bool
 place_eq p q = (p.creator == q.creator) && (p.seq == q.seq)
 
 -- a unit that is shown at this place
-abbrev pub stands_at : Place → HeldUnit → Bool
+abbrev pub stands_at : LanePlace → HeldUnit → Bool
 stands_at p h = h.is_shown && place_eq (place_of h) p
 
 -- the one comes before the other, by name and then by spelling
@@ -39,7 +39,7 @@ abbrev pub IsLesser : HeldUnit → HeldUnit → HeldUnit → Type 0
 IsLesser known unit h = ((h ≡ unit) × Precedes unit known) ⊎ ((h ≡ known) × (AreOne unit known ⊎ Precedes known unit))
 
 -- two units of one place, or one
-pub record ForkUnits : Type 0 where
+pub record TwinUnits : Type 0 where
   pub first : HeldUnit
   pub second : Option HeldUnit
 
@@ -49,32 +49,32 @@ IsSecond ys a None = (y : HeldUnit) → Among y ys → AreOne y a
 IsSecond ys a (Some b) = Among b ys × Differ a b × ((y : HeldUnit) → Among y ys → AreOne y a ⊎ (AreOne y b ⊎ Precedes b y))
 
 -- the first of these units, and the first of the others
-pub record IsFork (ys : List HeldUnit) (f : ForkUnits) : Type 0 where
+pub record AreTwins (ys : List HeldUnit) (f : TwinUnits) : Type 0 where
   pub first_in : Among f.first ys
   pub first_is : (y : HeldUnit) → Among y ys → AreOne y f.first ⊎ Precedes f.first y
   pub second_is : IsSecond ys f.first f.second
 
--- the fork of these units, or there are none
-abbrev pub IsForkAt : List HeldUnit → Option ForkUnits → Type 0
-IsForkAt ys None = (y : HeldUnit) → Among y ys → ⊥
-IsForkAt ys (Some f) = IsFork ys f
+-- the twins of these units, or there are none
+abbrev pub AreTwinsAt : List HeldUnit → Option TwinUnits → Type 0
+AreTwinsAt ys None = (y : HeldUnit) → Among y ys → ⊥
+AreTwinsAt ys (Some f) = AreTwins ys f
 
 -- the shown units of a place
-abbrev pub shown_at : Place → List HeldUnit → List HeldUnit
+abbrev pub shown_at : LanePlace → List HeldUnit → List HeldUnit
 shown_at p hs = filter (stands_at p) hs
 
--- the table has the fork of each place
-abbrev pub AreForks : List (Place × ForkUnits) → List HeldUnit → Type 0
-AreForks entries hs = (p : Place) → IsForkAt (shown_at p hs) (lookup (place_eq p) entries)
+-- the table has the twins of each place
+abbrev pub AreTwinsOfEach : List (LanePlace × TwinUnits) → List HeldUnit → Type 0
+AreTwinsOfEach entries hs = (p : LanePlace) → AreTwinsAt (shown_at p hs) (lookup (place_eq p) entries)
 
 -- two different units are shown at this place
-abbrev pub HasFork : List HeldUnit → Place → Type 0
-HasFork hs p = (x : HeldUnit) × (y : HeldUnit) × Among x (shown_at p hs) × Among y (shown_at p hs) × Differ x y
+abbrev pub HasTwins : List HeldUnit → LanePlace → Type 0
+HasTwins hs p = (x : HeldUnit) × (y : HeldUnit) × Among x (shown_at p hs) × Among y (shown_at p hs) × Differ x y
 
 -- the least number at which the validator has two different units, or it has none
 abbrev pub IsLeast : List HeldUnit → ℕ → Option ℕ → Type 0
-IsLeast hs v None = (n : ℕ) → HasFork hs (record { creator = v; seq = n }) → ⊥
-IsLeast hs v (Some n) = HasFork hs (record { creator = v; seq = n }) × ((m : ℕ) → HasFork hs (record { creator = v; seq = m }) → n ≤ m)
+IsLeast hs v None = (n : ℕ) → HasTwins hs (record { creator = v; seq = n }) → ⊥
+IsLeast hs v (Some n) = HasTwins hs (record { creator = v; seq = n }) × ((m : ℕ) → HasTwins hs (record { creator = v; seq = m }) → n ≤ m)
 
 -- the least numbers of all validators
 abbrev pub AreLeast : List (Option ℕ) → List HeldUnit → Type 0
@@ -87,8 +87,8 @@ pub record IsLowered (old new : List (Option ℕ)) (creator seq : ℕ) : Type 0 
   pub others : (v : ℕ) → v ≢ creator → slice_index_or new v None ≡ slice_index_or old v None
 
 -- what is kept of these units
-pub record AreNoted (entries : List (Place × ForkUnits)) (least : List (Option ℕ)) (hs : List HeldUnit) : Type 0 where
-  pub forks : AreForks entries hs
+pub record AreNoted (entries : List (LanePlace × TwinUnits)) (least : List (Option ℕ)) (hs : List HeldUnit) : Type 0 where
+  pub twins : AreTwinsOfEach entries hs
   pub least_are : AreLeast least hs
 
 -- ---- pairs
@@ -99,7 +99,7 @@ pub record PairUnits : Type 0 where
   pub second : HeldUnit
 
 -- both units of a place, where there are two
-abbrev pub pair_in : Option ForkUnits → Option PairUnits
+abbrev pub pair_in : Option TwinUnits → Option PairUnits
 pair_in None = None
 pair_in (Some f) = option_map (λ b. record { first = f.first; second = b }) f.second
 

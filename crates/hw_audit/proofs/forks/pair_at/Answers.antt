@@ -1,6 +1,0 @@
-use Rattle.std.proofs.Common.{Option, ap, ◌∙◌}
-use Rattle.hw_audit.specs.Forks.{ForkUnits, pair_in}
-use Rattle.hw_audit.proofs.forks.pair_at.Goals as goal
-
-pub returns-in-Some : goal.returns-in-Some
-returns-in-Some c = c.pair.ensures ∙ ap (λ (o : Option ForkUnits). pair_in o) c.in-Some.ensures.value
