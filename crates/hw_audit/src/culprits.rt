@@ -7,8 +7,8 @@ ghost use Rattle.hw_audit.specs.Held.{HeldUnit};
 ghost use Rattle.hw_audit.specs.Twins.{AreNoted, AreShown};
 ghost use Rattle.hw_audit.specs.Shown.{shown_as, ShowsFirst};
 
-use crate::twins::{Equivocations, Pair};
 use crate::held::Held;
+use crate::twins::{Equivocations, Pair};
 use hw_codec::encode_unit;
 use hw_types::{Bytes, Culprit, CulpritList, OutOfMemory};
 use std::alloc::Global;
