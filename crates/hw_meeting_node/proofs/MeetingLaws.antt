@@ -10,7 +10,7 @@ use Rattle.hw_types.specs.declared.config.Config.{Config}
 use Rattle.hw_types.specs.Real.{CoreState}
 use Rattle.hw_io.specs.declared.outside.IoFault.{IoFault}
 use Rattle.hw_io.specs.declared.outside.IoFault.TheVariants.{Failed, OutOfMemory as NoMemory}
-use Rattle.hw_io.specs.Doors.{Session, fresh_session, with_last, sessions_after}
+use Rattle.hw_io.specs.Doors.{Session, Ask, AsksMore, fresh_session, with_last, sessions_after}
 use Rattle.hw_io.specs.Faults.{raised, HasCause}
 use Rattle.hw_link.specs.declared.end.SessionEnd.{SessionEnd}
 use Rattle.hw_link.specs.declared.end.SessionEnd.TheVariants as by
@@ -18,16 +18,18 @@ use Rattle.hw_link.specs.Frames.{rest_at, byte_limit, cut_end}
 use Rattle.hw_link.specs.Talk.{IsPrefixOf}
 use Rattle.hw_link.specs.Links.{gone_on, after_part, is_link_fault, end_of_fault, IsLinkCounted}
 use Rattle.hw_link.specs.Sent.{Sends}
+use Rattle.hw_link.specs.Asked.{IsAskedInside, IsAskedBehind}
+use Rattle.hw_link.proofs.AskLaws.{next_asked}
 use Rattle.hw_link.proofs.LinkLaws.{after_parts}
 use Rattle.hw_meeting.specs.declared.frame.MeetingFrame.{MeetingFrame}
 use Rattle.hw_meeting_node.specs.declared.read.HeardMeeting.{HeardMeeting}
-use Rattle.hw_meeting_node.specs.Frames.{Placed, framed, sent_bytes, HasFrame, EndsIn, IsRefused}
+use Rattle.hw_meeting_node.specs.Frames.{Placed, framed, sent_bytes, frame_here, HasFrame, EndsIn, IsRefused}
 use Rattle.hw_meeting_node.specs.Heard.{Says, IsEndCounted, Hears, IsHeard}
 use Rattle.hw_meeting_node.specs.declared.end.MeetEnd.{MeetEnd}
 use Rattle.hw_meeting_node.specs.declared.end.MeetEnd.TheVariants as end
 use Rattle.hw_meeting_node.specs.declared.meeter.Side.{Side}
 use Rattle.hw_meeting_node.specs.Talk.{Reaction, Talk, HasHeard, placed_behind}
-use Rattle.hw_meeting_node.specs.Meeting.{Meeting, first_word, begun, meet_step, met}
+use Rattle.hw_meeting_node.specs.Meeting.{Meeting, first_word, begun, meet_step, met, met_said}
 use Rattle.hw_meeting_node.specs.Sessions.{meet_end, IsOfOutside, EndsAs, IsFinal, IsEndOf, IsCutEnd, IsReadNoFurther, IsWritten, Leaves, Meets, is_link_end, MeetsPeer, MeetsNone, IsLinkEnd, IsTakerEnd}
 use Rattle.hw_meeting_node.specs.Handling.{Reacts, Quits, Handles, IsTakerCounted}
 use Rattle.hw_meeting_node.specs.Taking.{vertex_at, taken_in, TakeStep, TakesAll, Took, TakesThere, TakesPeer, TakesNone, TakesOf, GoesNext}
@@ -294,6 +296,13 @@ module _ {A : Type 0} (taking : TakeStep A) (side : Side) (c : CoreState) (judge
               };
               took = inl (takes_first taking side c judge t m s.read u s.took h.part few);
             }
+
+    -- the reads at this place
+    pub next_asks : (started then more : List Ask) → AsksMore (IsAskedBehind (met_said side c judge) old) started then → AsksMore (IsAskedInside (frame_here n) place [] now) then more → AsksMore (IsAskedBehind (met_said side c judge) old) started more
+    next_asks started then more so_far next =
+        next_asked (frame_here n) (met_said side c judge) s.read (sent_bytes s.said) old now s.told
+        (λ part ends few. ap (λ (t : Talk Meeting). sent_bytes t.said) (no_frame_ends n step first (begun c) s.read s.said m s.heard part (cut_end (rest_at (length s.read) part)) ends few))
+        place s.place_is started then more so_far next
 
     quit_meets : {T : Type 0} (k : Meeting) (new : Option (List Session)) (ends_now ends_new : ℕ) (e : SessionEnd) → Quits {T = T} n place m k now new ends_now ends_new (Err e) → TakesThere taking side c judge k.core t u old new ends_now ends_new (meet_end e k.refused)
     quit_meets k new ends_now ends_new e q =

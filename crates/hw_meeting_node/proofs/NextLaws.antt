@@ -2,12 +2,14 @@
 use Rattle.std.proofs.Common.{◌≡◌, ℕ, Bool, false, List, [], Option, Some, None, Result, Ok, Err, inl, inr, refl, subst, ◌∙◌}
 use Rattle.hw_types.specs.declared.unit.Vertex.{Vertex}
 use Rattle.hw_types.specs.Real.{CoreState}
-use Rattle.hw_io.specs.Doors.{Session}
+use Rattle.hw_io.specs.Doors.{Session, Ask, AsksMore}
+use Rattle.hw_io.proofs.Asks.{asks_still}
 use Rattle.hw_link.specs.declared.end.SessionEnd.{SessionEnd}
 use Rattle.hw_link.specs.declared.end.SessionEnd.TheVariants as end
+use Rattle.hw_link.specs.Asked.{IsAskedInside}
 use Rattle.hw_link.specs.Links.{after_part}
 use Rattle.hw_meeting_node.specs.declared.read.HeardMeeting.{HeardMeeting}
-use Rattle.hw_meeting_node.specs.Frames.{Placed}
+use Rattle.hw_meeting_node.specs.Frames.{Placed, frame_here}
 use Rattle.hw_meeting_node.specs.Heard.{Hears, IsHeard}
 use Rattle.hw_meeting_node.specs.declared.meeter.Side.{Side}
 use Rattle.hw_meeting_node.specs.Talk.{Reaction}
@@ -93,3 +95,8 @@ module _ {A : Type 0} (taking : TakeStep A) (t u : A) (n count place : ℕ) (sid
     },
     takes_alike (Unit {0}) ℕ taking (vertex_at m.stage h.frame) t u e takes,
   )
+
+-- the reads of a frame, where there are as many validators
+pub asks_among : (n m place : ℕ) (now : Option (List Session)) (old mid new : List Ask) → n ≡ m → AsksMore (IsAskedInside (frame_here n) place [] now) old mid → new ≡ mid → AsksMore (IsAskedInside (frame_here m) place [] now) old new
+asks_among n m place now old mid new same asks stays =
+    asks_still (IsAskedInside (frame_here m) place [] now) old mid new (subst (λ (k : ℕ). AsksMore (IsAskedInside (frame_here k) place [] now) old mid) same asks) stays

@@ -15,7 +15,7 @@ use Rattle.hw_agree.specs.Converge.{summaries, torn_for, due_of}
 use Rattle.hw_link.specs.declared.end.SessionEnd.TheVariants as end
 use Rattle.hw_meeting.specs.declared.frame.MeetingFrame.{MeetingFrame}
 use Rattle.hw_meeting.specs.declared.frame.MeetingFrame.TheVariants as frame
-use Rattle.hw_meeting_node.specs.Frames.{Placed}
+use Rattle.hw_meeting_node.specs.Frames.{Placed, sent_bytes}
 use Rattle.hw_meeting_node.specs.declared.meeter.Side.{Side}
 use Rattle.hw_meeting_node.specs.declared.meeter.Side.TheVariants.{Caller, Host}
 use Rattle.hw_meeting_node.specs.declared.meeter.Stage.{Stage}
@@ -166,3 +166,7 @@ meet_step side judge m f = at_stage m.stage side judge m f.at f.frame
 -- The session of a node on this side that had received this, and gives vertices these verdicts, with a peer that sends these bytes.
 abbrev pub met : Side → CoreState → (Vertex → Bool) → List ℕ → Talk Meeting
 met side c judge bytes = talk_over (length c.config.weights) (first_word side c) (meet_step side judge) (begun c) bytes
+
+-- the bytes of all that it says in it
+abbrev pub met_said : Side → CoreState → (Vertex → Bool) → List ℕ → List ℕ
+met_said side c judge bytes = sent_bytes (met side c judge bytes).said

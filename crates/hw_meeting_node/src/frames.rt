@@ -40,6 +40,7 @@ pub(crate) fn at_hello<D: Door>(
     ensures stored { (count : ℕ) → IsTakerCounted count count result }
 
     ensures open { D.is_open door.new ≡ true }
+    ensures asks { D.asks door.new ≡ D.asks door.old }
     ensures ends { D.ends door.new ≡ D.ends door.old }
     ensures accepts { D.accepts door.new ≡ D.accepts door.old }
     ensures dials { D.dials door.new ≡ D.dials door.old }
@@ -67,6 +68,7 @@ fn answer_hello<D: Door>(
     ensures cause { IsLinkCounted (D.faults door.old) (D.faults door.new) result }
 
     ensures open { D.is_open door.new ≡ true }
+    ensures asks { D.asks door.new ≡ D.asks door.old }
     ensures ends { D.ends door.new ≡ D.ends door.old }
     ensures accepts { D.accepts door.new ≡ D.accepts door.old }
     ensures dials { D.dials door.new ≡ D.dials door.old }
@@ -96,6 +98,7 @@ pub(crate) fn at_summary<D: Door>(
     ensures stored { (count : ℕ) → IsTakerCounted count count result }
 
     ensures open { D.is_open door.new ≡ true }
+    ensures asks { D.asks door.new ≡ D.asks door.old }
     ensures ends { D.ends door.new ≡ D.ends door.old }
     ensures accepts { D.accepts door.new ≡ D.accepts door.old }
     ensures dials { D.dials door.new ≡ D.dials door.old }
@@ -121,6 +124,7 @@ fn answer_summary<D: Door>(
     ensures cause { IsLinkCounted (D.faults door.old) (D.faults door.new) result }
 
     ensures open { D.is_open door.new ≡ true }
+    ensures asks { D.asks door.new ≡ D.asks door.old }
     ensures ends { D.ends door.new ≡ D.ends door.old }
     ensures accepts { D.accepts door.new ≡ D.accepts door.old }
     ensures dials { D.dials door.new ≡ D.dials door.old }
@@ -150,6 +154,7 @@ pub(crate) fn at_torn<D: Door>(
     ensures stored { (count : ℕ) → IsTakerCounted count count result }
 
     ensures open { D.is_open door.new ≡ true }
+    ensures asks { D.asks door.new ≡ D.asks door.old }
     ensures ends { D.ends door.new ≡ D.ends door.old }
     ensures accepts { D.accepts door.new ≡ D.accepts door.old }
     ensures dials { D.dials door.new ≡ D.dials door.old }
@@ -206,6 +211,7 @@ fn answer_torn<D: Door>(
     ensures cause { IsLinkCounted (D.faults door.old) (D.faults door.new) result }
 
     ensures open { D.is_open door.new ≡ true }
+    ensures asks { D.asks door.new ≡ D.asks door.old }
     ensures ends { D.ends door.new ≡ D.ends door.old }
     ensures accepts { D.accepts door.new ≡ D.accepts door.old }
     ensures dials { D.dials door.new ≡ D.dials door.old }
@@ -238,6 +244,7 @@ pub(crate) fn at_done<D: Door>(
     ensures stored { (count : ℕ) → IsTakerCounted count count result }
 
     ensures open { D.is_open door.new ≡ true }
+    ensures asks { D.asks door.new ≡ D.asks door.old }
     ensures ends { D.ends door.new ≡ D.ends door.old }
     ensures accepts { D.accepts door.new ≡ D.accepts door.old }
     ensures dials { D.dials door.new ≡ D.dials door.old }

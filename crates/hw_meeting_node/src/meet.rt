@@ -1,14 +1,15 @@
 //! A meeting, frame by frame.
 
-ghost use Rattle.std.specs.Prelude.{◌≡◌, ◌⊎◌, ◌<◌, ◌≤◌, [], ℕ, List, Option, Some, None, true, false, length, OnOk, IfOk};
+ghost use Rattle.std.specs.Prelude.{◌≡◌, ◌⊎◌, ◌<◌, ◌≤◌, [], ℕ, List, Option, Some, None, true, false, length, OnOk, IfOk, All};
 ghost use Rattle.hw_types.specs.Real.{CoreState};
-ghost use Rattle.hw_io.specs.Doors.{Session};
+ghost use Rattle.hw_io.specs.Doors.{Session, AsksMore};
 ghost use Rattle.hw_io.specs.Faults.{raised};
+ghost use Rattle.hw_link.specs.Asked.{IsAskedInside, IsAskedBehind, IsPrompt};
 ghost use Rattle.hw_link.specs.Links.{after_part, IsLinkCounted};
 ghost use Rattle.hw_link.specs.Sent.{Sends};
 ghost use Rattle.hw_meeting.specs.Frames.{IsSaid};
-ghost use Rattle.hw_meeting_node.specs.Frames.{sent_bytes};
-ghost use Rattle.hw_meeting_node.specs.Meeting.{begun, first_word, meet_step, at_stage};
+ghost use Rattle.hw_meeting_node.specs.Frames.{frame_here, sent_bytes};
+ghost use Rattle.hw_meeting_node.specs.Meeting.{begun, first_word, meet_step, at_stage, met_said};
 ghost use Rattle.hw_meeting_node.specs.Handling.{meeting_of, IsKept, Reacts, IsTakerCounted};
 ghost use Rattle.hw_meeting_node.specs.Sessions.{CallsPeer, HostsPeer, MeetsNone, IsLinkEnd, IsTakerEnd};
 ghost use Rattle.hw_meeting_node.specs.Taking.{vertex_at, TakesThere, TakesPeer, TakesNone, TakesOf, GoesNext};
@@ -50,6 +51,7 @@ pub fn meet_one<D: Door, T: Taker>(
         ⊎ MeetsNone (T.received taker.old) (T.received taker.new) (D.sessions door.old) (D.sessions door.new) result }
     ensures took { TakesPeer T.steps side.Caller (Some address.now) (T.received taker.old) (T.verdict taker.old) (T.received taker.new) taker.old taker.new (D.sessions door.old) (D.sessions door.new) (D.ends door.old) (D.ends door.new) result
         ⊎ TakesNone (T.received taker.old) (T.received taker.new) taker.old taker.new (D.sessions door.old) (D.sessions door.new) result }
+    ensures prompt { All (IsPrompt (met_said side.Caller (T.received taker.old) (T.verdict taker.old))) (D.asks door.new) }
     ensures link { IsLinkEnd (D.faults door.old) (D.faults door.new) result }
     ensures appends { IsTakerEnd (T.faults taker.old) (T.faults taker.new) result }
 
@@ -76,6 +78,7 @@ pub fn host_one<D: Door, T: Taker>(alloc: Global, taker: &mut T, door: &mut D) -
         ⊎ MeetsNone (T.received taker.old) (T.received taker.new) (D.sessions door.old) (D.sessions door.new) result }
     ensures took { TakesPeer T.steps side.Host None (T.received taker.old) (T.verdict taker.old) (T.received taker.new) taker.old taker.new (D.sessions door.old) (D.sessions door.new) (D.ends door.old) (D.ends door.new) result
         ⊎ TakesNone (T.received taker.old) (T.received taker.new) taker.old taker.new (D.sessions door.old) (D.sessions door.new) result }
+    ensures prompt { All (IsPrompt (met_said side.Host (T.received taker.old) (T.verdict taker.old))) (D.asks door.new) }
     ensures link { IsLinkEnd (D.faults door.old) (D.faults door.new) result }
     ensures appends { IsTakerEnd (T.faults taker.old) (T.faults taker.new) result }
 
@@ -100,6 +103,7 @@ pub fn host_one<D: Door, T: Taker>(alloc: Global, taker: &mut T, door: &mut D) -
 fn meet<D: Door, T: Taker>(alloc: Global, taker: &mut T, door: &mut D, side: Side) -> MeetEnd
     requires open { D.is_open door.old ≡ true }
     ensures met { TakesThere T.steps side (T.received taker.old) (T.verdict taker.old) (T.received taker.new) taker.old taker.new (D.sessions door.old) (D.sessions door.new) (D.ends door.old) (D.ends door.new) result }
+    ensures asks { AsksMore (IsAskedBehind (met_said side (T.received taker.old) (T.verdict taker.old)) (D.sessions door.old)) (D.asks door.old) (D.asks door.new) }
     ensures link { IsLinkEnd (D.faults door.old) (D.faults door.new) result }
     ensures appends { IsTakerEnd (T.faults taker.old) (T.faults taker.new) result }
 
@@ -129,6 +133,7 @@ fn say_first<D: Door>(
     ensures cause { IsLinkCounted (D.faults door.old) (D.faults door.new) result }
 
     ensures open { D.is_open door.new ≡ true }
+    ensures asks { D.asks door.new ≡ D.asks door.old }
     ensures ends { D.ends door.new ≡ D.ends door.old }
     ensures accepts { D.accepts door.new ≡ D.accepts door.old }
     ensures dials { D.dials door.new ≡ D.dials door.old }
@@ -150,6 +155,7 @@ fn first_word<D: Door>(
     ensures cause { IsLinkCounted (D.faults door.old) (D.faults door.new) result }
 
     ensures open { D.is_open door.new ≡ true }
+    ensures asks { D.asks door.new ≡ D.asks door.old }
     ensures ends { D.ends door.new ≡ D.ends door.old }
     ensures accepts { D.accepts door.new ≡ D.accepts door.old }
     ensures dials { D.dials door.new ≡ D.dials door.old }
@@ -173,6 +179,8 @@ fn meet_frames<D: Door, T: Taker>(
     requires open { D.is_open door.old ≡ true }
     ensures met { (first : Option (List Session)) → D.sessions door.old ≡ after_part [] (sent_bytes (first_word side (T.received taker.old))) false first
         → TakesThere T.steps side (T.received taker.old) (T.verdict taker.old) (T.received taker.new) taker.old taker.new first (D.sessions door.new) (D.ends door.old) (D.ends door.new) result }
+    ensures asks { (first : Option (List Session)) → D.sessions door.old ≡ after_part [] (sent_bytes (first_word side (T.received taker.old))) false first
+        → AsksMore (IsAskedBehind (met_said side (T.received taker.old) (T.verdict taker.old)) first) (D.asks door.old) (D.asks door.new) }
     ensures link { IsLinkEnd (D.faults door.old) (D.faults door.new) result }
     ensures appends { IsTakerEnd (T.faults taker.old) (T.faults taker.new) result }
 
@@ -206,6 +214,7 @@ fn meet_next<D: Door, T: Taker>(
     requires kept { IsKept meeter.old (T.received taker.old) }
     requires open { D.is_open door.old ≡ true }
     ensures met { GoesNext T.steps (length (T.received taker.old).config.weights) place (meeting_of meeter.old (T.received taker.old)) (meet_step side (T.verdict taker.old) (meeting_of meeter.old (T.received taker.old))) (meeting_of meeter.new (T.received taker.new)) taker.old taker.new (D.sessions door.old) (D.sessions door.new) (D.ends door.old) (D.ends door.new) result }
+    ensures asks { AsksMore (IsAskedInside (frame_here (length (T.received taker.old).config.weights)) place [] (D.sessions door.old)) (D.asks door.old) (D.asks door.new) }
     ensures kept { OnOk result (IsKept meeter.new (T.received taker.new)) }
     ensures next { IfOk result (λ next. (place < next) × (next ≤ BYTE_LIMIT)) }
     ensures link { IsLinkCounted (D.faults door.old) (D.faults door.new) result }
@@ -247,6 +256,7 @@ fn meet_frame<D: Door, T: Taker>(
     ensures verdict { T.verdict taker.new ≡ T.verdict taker.old }
     ensures holds { T.holds taker.new ≡ T.holds taker.old }
     ensures open { D.is_open door.new ≡ true }
+    ensures asks { D.asks door.new ≡ D.asks door.old }
     ensures ends { D.ends door.new ≡ D.ends door.old }
     ensures accepts { D.accepts door.new ≡ D.accepts door.old }
     ensures dials { D.dials door.new ≡ D.dials door.old }

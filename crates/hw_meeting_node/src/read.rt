@@ -1,8 +1,11 @@
 //! Reading a frame of a node that is met.
 
 ghost use Rattle.std.specs.Prelude.{◌≡◌, ◌+◌, ◌<◌, ◌≤◌, [], true, length, IfOk};
+ghost use Rattle.hw_io.specs.Doors.{AsksMore};
+ghost use Rattle.hw_link.specs.Asked.{IsAskedInside};
 ghost use Rattle.hw_link.specs.Links.{IsLinkCounted};
 ghost use Rattle.hw_meeting.specs.Frames.{IsSaid};
+ghost use Rattle.hw_meeting_node.specs.Frames.{frame_here};
 ghost use Rattle.hw_meeting_node.specs.Heard.{Hears, IsHeard, IsDecoded};
 
 use hw_io::Door;
@@ -31,6 +34,7 @@ pub fn read_meeting<D: Door>(
     requires place { place ≤ BYTE_LIMIT }
     requires open { D.is_open door.old ≡ true }
     ensures heard { Hears validators (IsHeard validators) place [] (D.sessions door.old) (D.sessions door.new) (D.ends door.old) (D.ends door.new) result }
+    ensures asks { AsksMore (IsAskedInside (frame_here validators) place [] (D.sessions door.old)) (D.asks door.old) (D.asks door.new) }
     ensures fits { IfOk result (λ h. IsSaid validators h.frame) }
     ensures next { IfOk result (λ h. (place + 4 < h.next) × (h.next ≤ BYTE_LIMIT)) }
     ensures cause { IsLinkCounted (D.faults door.old) (D.faults door.new) result }

@@ -33,6 +33,7 @@ pub(crate) fn say_hello<D: Door>(alloc: Global, core: &Core, door: &mut D) -> Re
     ensures cause { IsLinkCounted (D.faults door.old) (D.faults door.new) result }
 
     ensures open { D.is_open door.new ≡ true }
+    ensures asks { D.asks door.new ≡ D.asks door.old }
     ensures ends { D.ends door.new ≡ D.ends door.old }
     ensures accepts { D.accepts door.new ≡ D.accepts door.old }
     ensures dials { D.dials door.new ≡ D.dials door.old }
@@ -54,6 +55,7 @@ pub(crate) fn say_summary<D: Door>(
     ensures cause { IsLinkCounted (D.faults door.old) (D.faults door.new) result }
 
     ensures open { D.is_open door.new ≡ true }
+    ensures asks { D.asks door.new ≡ D.asks door.old }
     ensures ends { D.ends door.new ≡ D.ends door.old }
     ensures accepts { D.accepts door.new ≡ D.accepts door.old }
     ensures dials { D.dials door.new ≡ D.dials door.old }
@@ -76,6 +78,7 @@ pub(crate) fn say_torn<D: Door>(
     ensures cause { IsLinkCounted (D.faults door.old) (D.faults door.new) result }
 
     ensures open { D.is_open door.new ≡ true }
+    ensures asks { D.asks door.new ≡ D.asks door.old }
     ensures ends { D.ends door.new ≡ D.ends door.old }
     ensures accepts { D.accepts door.new ≡ D.accepts door.old }
     ensures dials { D.dials door.new ≡ D.dials door.old }
@@ -97,6 +100,7 @@ pub(crate) fn say_due<D: Door>(
     ensures cause { IsLinkCounted (D.faults door.old) (D.faults door.new) result }
 
     ensures open { D.is_open door.new ≡ true }
+    ensures asks { D.asks door.new ≡ D.asks door.old }
     ensures ends { D.ends door.new ≡ D.ends door.old }
     ensures accepts { D.accepts door.new ≡ D.accepts door.old }
     ensures dials { D.dials door.new ≡ D.dials door.old }
@@ -118,6 +122,7 @@ fn send_vertices<D: Door>(
     ensures cause { IsLinkCounted (D.faults door.old) (D.faults door.new) result }
 
     ensures open { D.is_open door.new ≡ true }
+    ensures asks { D.asks door.new ≡ D.asks door.old }
     ensures ends { D.ends door.new ≡ D.ends door.old }
     ensures accepts { D.accepts door.new ≡ D.accepts door.old }
     ensures dials { D.dials door.new ≡ D.dials door.old }
@@ -141,6 +146,7 @@ fn send_vertex<D: Door>(
     ensures cause { IsLinkCounted (D.faults door.old) (D.faults door.new) result }
 
     ensures open { D.is_open door.new ≡ true }
+    ensures asks { D.asks door.new ≡ D.asks door.old }
     ensures ends { D.ends door.new ≡ D.ends door.old }
     ensures accepts { D.accepts door.new ≡ D.accepts door.old }
     ensures dials { D.dials door.new ≡ D.dials door.old }
@@ -162,6 +168,7 @@ fn send<D: Door>(
     ensures cause { IsLinkCounted (D.faults door.old) (D.faults door.new) result }
 
     ensures open { D.is_open door.new ≡ true }
+    ensures asks { D.asks door.new ≡ D.asks door.old }
     ensures ends { D.ends door.new ≡ D.ends door.old }
     ensures accepts { D.accepts door.new ≡ D.accepts door.old }
     ensures dials { D.dials door.new ≡ D.dials door.old }

@@ -28,6 +28,7 @@ pub fn send_meeting<D: Door>(
     ensures cause { IsLinkCounted (D.faults door.old) (D.faults door.new) result }
 
     ensures open { D.is_open door.new ≡ true }
+    ensures asks { D.asks door.new ≡ D.asks door.old }
     ensures ends { D.ends door.new ≡ D.ends door.old }
     ensures accepts { D.accepts door.new ≡ D.accepts door.old }
     ensures dials { D.dials door.new ≡ D.dials door.old }

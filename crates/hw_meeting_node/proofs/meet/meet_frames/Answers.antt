@@ -1,6 +1,11 @@
-use Rattle.std.proofs.Common.{ℕ, Ok, Err, refl, subst, arith, ◌∙◌}
-use Rattle.hw_meeting_node.proofs.MeetingLaws.{meeting_begins, next_same, next_leads, next_meets, next_counts, limit_meets, link_ended, taker_ended}
+use Rattle.std.proofs.Common.{ℕ, length, Ok, Err, refl, ap, subst, arith, ◌∙◌}
+use Rattle.hw_meeting_node.proofs.MeetingLaws.{meeting_begins, next_asks, next_same, next_leads, next_meets, next_counts, limit_meets, link_ended, taker_ended}
+use Rattle.hw_io.proofs.Asks.{asks_none}
+use Rattle.hw_types.specs.declared.config.Config.{Config}
+use Rattle.hw_link.specs.Asked.{IsAskedBehind}
 use Rattle.hw_link.specs.Links.{IsLinkCounted}
+use Rattle.hw_meeting_node.specs.Meeting.{met_said}
+use Rattle.hw_meeting_node.proofs.NextLaws.{asks_among}
 use Rattle.hw_meeting_node.specs.declared.end.MeetEnd.TheVariants.{ByteLimit}
 use Rattle.hw_meeting_node.specs.Taking.{TakesThere}
 use Rattle.hw_meeting_node.specs.Handling.{IsTakerCounted}
@@ -9,6 +14,7 @@ use Rattle.hw_meeting_node.proofs.meet.meet_frames.Goals as goal
 pub loop-place-init : goal.loop-place-init
 loop-place-init g c = record {
   meeting = λ first told. meeting_begins _ c.args.side _ _ _ _ first _ c.requires.begins told;
+  asks = λ first told. asks_none (IsAskedBehind (met_said c.args.side (g.T.Taker.received c.args.taker.now) (g.T.Taker.verdict c.args.taker.now)) first) (g.D.Door.asks c.args.door.now);
   kept = c.requires.kept;
   within = omega arith;
   session = c.requires.open;
@@ -29,6 +35,9 @@ loop-place-preserved g c =
     let i = l.invariant in
     record {
       meeting = λ first told. next_leads _ _ _ _ _ _ _ _ _ _ (i.meeting first told) _ _ _ _ _ c.in-Ok.next (next_same _ _ _ _ _ _ _ _ _ _ (i.meeting first told) _ _ i.config i.verdict _ _ _ _ _ (Ok c.in-Ok.next) e.met);
+      asks = λ first told.
+          next_asks _ _ _ _ _ _ _ _ _ _ (i.meeting first told) (g.D.Door.asks c.args.door.now) (g.D.Door.asks l.door) (g.D.Door.asks c.meet_next.new.door) (i.asks first told)
+          (asks_among _ _ l.place (g.D.Door.sessions l.door) (g.D.Door.asks l.door) (g.D.Door.asks c.meet_next.new.door) (g.D.Door.asks c.meet_next.new.door) (ap (λ (x : Config). length x.weights) i.config) e.asks refl);
       kept = e.kept;
       within = e.next.1;
       session = e.open;
@@ -47,6 +56,14 @@ returns-in-Err-clause-met g c =
     let l = c.loop-place in
     let i = l.invariant in
     λ first told. rw c.meet_end.ensures (next_meets _ _ _ _ _ _ _ _ _ _ (i.meeting first told) _ _ _ _ _ _ c.in-Err.end i.ends (next_same _ _ _ _ _ _ _ _ _ _ (i.meeting first told) _ _ i.config i.verdict _ _ _ _ _ (Err c.in-Err.end) c.in-Err.ensures.met))
+
+pub returns-in-Err-clause-asks : goal.returns-in-Err-clause-asks
+returns-in-Err-clause-asks g c =
+    let l = c.loop-place in
+    let i = l.invariant in
+    λ first told.
+    next_asks _ _ _ _ _ _ _ _ _ _ (i.meeting first told) (g.D.Door.asks c.args.door.now) (g.D.Door.asks l.door) (g.D.Door.asks c.meet_next.new.door) (i.asks first told)
+    (asks_among _ _ l.place (g.D.Door.sessions l.door) (g.D.Door.asks l.door) (g.D.Door.asks c.meet_next.new.door) (g.D.Door.asks c.meet_next.new.door) (ap (λ (x : Config). length x.weights) i.config) c.in-Err.ensures.asks refl)
 
 pub returns-in-Err-clause-link : goal.returns-in-Err-clause-link
 returns-in-Err-clause-link g c = rw c.meet_end.ensures (link_ended ℕ _ _ c.in-Err.end _ (subst (λ (x : ℕ). IsLinkCounted {T = ℕ} x (g.D.Door.faults c.meet_next.new.door) (Err c.in-Err.end)) c.loop-place.invariant.faults c.in-Err.ensures.link))

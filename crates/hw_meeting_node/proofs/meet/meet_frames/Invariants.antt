@@ -1,8 +1,9 @@
 use Rattle.std.proofs.Common.{◌≡◌, ◌≤◌, ◌-◌, true, false, List, [], Option}
-use Rattle.hw_io.specs.Doors.{Session}
+use Rattle.hw_io.specs.Doors.{Session, AsksMore}
+use Rattle.hw_link.specs.Asked.{IsAskedBehind}
 use Rattle.hw_link.specs.Links.{after_part}
 use Rattle.hw_meeting_node.specs.Frames.{sent_bytes}
-use Rattle.hw_meeting_node.specs.Meeting.{first_word}
+use Rattle.hw_meeting_node.specs.Meeting.{first_word, met_said}
 use Rattle.hw_meeting_node.specs.Handling.{meeting_of, IsKept}
 use Rattle.hw_meeting_node.proofs.MeetingLaws.{IsMeeting}
 use Rattle.hw_meeting_node.proofs.meet.meet_frames.Given as goal
@@ -14,6 +15,8 @@ invariant-loop-place g l =
     record {
       meeting : (first : Option (List Session)) → d.sessions l.initial.door ≡ after_part [] (sent_bytes (first_word l.side (t.received l.initial.taker))) false first
           → IsMeeting t.steps l.side (t.received l.initial.taker) (t.verdict l.initial.taker) l.initial.taker (meeting_of l.meeter (t.received l.taker)) l.place l.taker first (d.sessions l.door);
+      asks : (first : Option (List Session)) → d.sessions l.initial.door ≡ after_part [] (sent_bytes (first_word l.side (t.received l.initial.taker))) false first
+          → AsksMore (IsAskedBehind (met_said l.side (t.received l.initial.taker) (t.verdict l.initial.taker)) first) (d.asks l.initial.door) (d.asks l.door);
       kept : IsKept l.meeter (t.received l.taker);
       within : l.place ≤ 268435456;
       session : d.is_open l.door ≡ true;

@@ -1,5 +1,7 @@
 use Rattle.std.proofs.Common.{Some, inl}
 use Rattle.hw_meeting_node.specs.declared.meeter.Side.TheVariants.{Caller}
+use Rattle.hw_link.proofs.AskLaws.{all_prompt, none_prompt}
+use Rattle.hw_meeting_node.specs.Meeting.{met_said}
 use Rattle.hw_meeting_node.proofs.MeetingLaws.{meets_peer, meets_nobody, only_meets}
 use Rattle.hw_meeting_node.proofs.meet.meet_one.Goals as goal
 
@@ -14,3 +16,11 @@ returns-in-Err-clause-took g c = rw (c.meet_end.ensures, c.from.ensures) (meets_
 
 pub returns-in-Err-clause-met : goal.returns-in-Err-clause-met
 returns-in-Err-clause-met g c = only_meets _ Caller _ _ _ (Some c.args.address.now) _ _ _ _ _ _ c.meet_end.result (returns-in-Err-clause-took g c)
+
+pub returns-in-Ok-clause-prompt : goal.returns-in-Ok-clause-prompt
+returns-in-Ok-clause-prompt g c =
+    all_prompt (met_said Caller (g.T.Taker.received c.args.taker.now) (g.T.Taker.verdict c.args.taker.now)) (Some c.args.address.now) (g.D.Door.sessions c.args.door.now) (g.D.Door.sessions c.dial.new.self) c.in-Ok.ensures.sessions
+    (g.D.Door.asks c.dial.new.self) (g.D.Door.asks c.meet-end.new.door) (g.D.Door.asks c.hang_up.new.self) c.in-Ok.ensures.asks c.meet-end.ensures.asks c.hang_up.ensures.asks
+
+pub returns-in-Err-clause-prompt : goal.returns-in-Err-clause-prompt
+returns-in-Err-clause-prompt g c = none_prompt (met_said Caller (g.T.Taker.received c.args.taker.now) (g.T.Taker.verdict c.args.taker.now)) (g.D.Door.asks c.dial.new.self) c.in-Err.ensures.asks

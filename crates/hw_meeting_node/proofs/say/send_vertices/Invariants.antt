@@ -10,6 +10,7 @@ invariant-loop-place g l =
     record {
       sent : Sends {T = Unit {0}} (sent_bytes (sent_at l.core.journal (take l.place-index l.places))) (d.sessions l.initial.door) (d.sessions l.door) (Ok tt);
       session : d.is_open l.door ≡ true;
+      asks : d.asks l.door ≡ d.asks l.initial.door;
       ends : d.ends l.door ≡ d.ends l.initial.door;
       faults : d.faults l.door ≡ d.faults l.initial.door;
       accepts : d.accepts l.door ≡ d.accepts l.initial.door;
