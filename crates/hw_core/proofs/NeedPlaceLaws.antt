@@ -10,8 +10,19 @@ use Rattle.hw_types.specs.declared.unit.Need.{Need}
 use Rattle.hw_types.specs.Settled.{need_eq}
 use Rattle.hw_park.specs.declared.key.NeedKey.{NeedKey}
 use Rattle.hw_park.specs.Keys.{key_of, ties}
-use Rattle.hw_park.proofs.KeyLaws.{key_same, need_same, need_self, need_turned}
+use Rattle.hw_park.proofs.KeyLaws.{key_same, need_same, need_self}
 use Rattle.hw_core.specs.Journal.{with_last, places_at, HasSamePlaces, HasOnePlaceMore}
+
+-- ---- two needs
+
+-- the test of two needs has no side
+need_turned : (m n : Need) → need_eq m n ≡ need_eq n m
+need_turned m n = go (need_eq m n) refl (need_eq n m) refl
+  where
+    go : (a : Bool) → need_eq m n ≡ a → (b : Bool) → need_eq n m ≡ b → need_eq m n ≡ need_eq n m
+    go true e b f = ap (λ (x : Need). need_eq m x) (sym (need_same m n e)) ∙ need_self m ∙ sym (need_self n) ∙ ap (λ (x : Need). need_eq n x) (sym (need_same m n e))
+    go false e true f = ap (λ (x : Need). need_eq m x) (need_same n m f) ∙ need_self m ∙ sym f
+    go false e false f = e ∙ sym f
 
 -- ---- places, of which the last stands apart
 
