@@ -45,10 +45,10 @@ fn put_ran(answer: &mut Answer, files: &mut MemFiles, take: &str, write: &str, c
     let mut out = MemSink::in_pieces(answer.alloc(), number(take) as usize);
     fail_write(answer, &mut out, write);
     let status = run(answer, files, &mut out, command);
-    answer.fill(
-        "# faults # #\n",
-        &[status, files.read_faults(), out.faults()],
-    );
+    answer.number(status);
+    answer.labelled(" faults ", files.read_faults());
+    answer.labelled(" ", out.faults());
+    answer.put("\n");
     answer.utf8(out.taken());
 }
 
@@ -69,10 +69,10 @@ fn anew(rt: HostRuntime, answer: &mut Answer, names: &str, words: &[&str]) {
 fn put_anew(answer: &mut Answer, files: &mut MemFiles, command: &[&str]) {
     let mut out = MemSink::new(answer.alloc());
     let status = run(answer, files, &mut out, command);
-    answer.fill(
-        "# faults # #\n",
-        &[status, files.read_faults(), files.append_faults()],
-    );
+    answer.number(status);
+    answer.labelled(" faults ", files.read_faults());
+    answer.labelled(" ", files.append_faults());
+    answer.put("\n");
     answer.utf8(out.taken());
 }
 
@@ -100,7 +100,8 @@ fn put_read(answer: &mut Answer, files: &mut MemFiles, call: u64, command: &[&st
     plan(answer, files, call, 0);
     let mut out = MemSink::new(answer.alloc());
     let status = run(answer, files, &mut out, command);
-    answer.fill("# ", &[status]);
+    answer.number(status);
+    answer.put(" ");
 }
 
 /// The statuses where each of the first writes fails in turn, each with the number of bytes that were taken.
@@ -120,7 +121,9 @@ fn put_write(answer: &mut Answer, files: &mut MemFiles, take: &str, write: u64, 
     let planned = out.fail_at(write);
     answer.keep(planned);
     let status = run(answer, files, &mut out, command);
-    answer.fill("#:# ", &[status, out.taken().len() as u64]);
+    answer.number(status);
+    answer.labelled(":", out.taken().len() as u64);
+    answer.put(" ");
 }
 
 /// The statuses where each of the first writes finds no memory in turn, each with the number of bytes that were taken.
@@ -138,7 +141,9 @@ fn each_want(rt: HostRuntime, answer: &mut Answer, names: &str, words: &[&str]) 
 fn put_want(answer: &mut Answer, files: &mut MemFiles, write: u64, command: &[&str]) {
     let mut out = ShortSink::new(answer.alloc(), write);
     let status = run(answer, files, &mut out, command);
-    answer.fill("#:# ", &[status, out.taken_count()]);
+    answer.number(status);
+    answer.labelled(":", out.taken_count());
+    answer.put(" ");
 }
 
 /// The status, what was written, and how many consumers are left, where there is one for each of the plans.
@@ -172,7 +177,8 @@ fn put_fed(
         }
     }
     let status = run_with(answer, files, out, &mut consumers, command);
-    answer.fill("#\n", &[status]);
+    answer.number(status);
+    answer.put("\n");
     answer.utf8(out.taken());
-    answer.fill("left #", &[consumers.len() as u64]);
+    answer.labelled("left ", consumers.len() as u64);
 }

@@ -68,7 +68,8 @@ fn run_in(answer: &mut Answer, outside: &mut Outside, moments: &str, command: &[
         door,
         &mut consumers,
     );
-    answer.fill("#\n", &[status]);
+    answer.number(status);
+    answer.put("\n");
     answer.utf8(out.taken());
 }
 

@@ -53,13 +53,10 @@ impl Answer {
         self.keep(put);
     }
 
-    /// Puts the text last, with the numbers in turn in the places of its `#`.
-    pub fn fill(&mut self, text: &str, numbers: &[u64]) {
-        let mut left = text;
-        for number in numbers {
-            left = self.fill_one(left, *number);
-        }
-        self.put(left);
+    /// Puts the label last, and the number behind it.
+    pub fn labelled(&mut self, label: &str, number: u64) {
+        self.put(label);
+        self.number(number);
     }
 
     /// Puts the text before its first `#` last, and the number: the text behind that is left.
@@ -77,7 +74,8 @@ impl Answer {
     /// The text with the number in the place of its `#`; none where there is no memory for it.
     pub fn filled(&mut self, text: &str, number: u64) -> String {
         let mut part = Answer::new(self.alloc);
-        part.fill(text, &[number]);
+        let left = part.fill_one(text, number);
+        part.put(left);
         match part.finish() {
             Some(text) => text,
             None => {

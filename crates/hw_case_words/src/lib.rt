@@ -11,5 +11,6 @@ pub use answer::Answer;
 pub use config::config_of;
 pub use unit::{own_observation, plain_unit, signed, told_number, unit_of};
 pub use words::{
-    after, byte, lines_of, named, number, number_of, small, until_key, with_line_feeds,
+    after, byte, digest_of_byte, lines_of, named, no_signature, number, number_of, small,
+    until_key, with_line_feeds,
 };

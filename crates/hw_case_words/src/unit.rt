@@ -1,8 +1,8 @@
 //! The unit of a line.
 
 use crate::answer::Answer;
-use crate::words::{after, number_of};
-use hw_types::{Bytes, Digest, DigestList, Obs, ObsList, Signature, SignedUnit, WireUnit};
+use crate::words::{after, digest_of_byte, no_signature, number_of};
+use hw_types::{Bytes, Digest, DigestList, Obs, ObsList, SignedUnit, WireUnit};
 
 /// The unit that the words tell, with this panorama, this list and this number. It is of another instance where they
 /// say `foreign`, and has the bytes of the word behind `block` as its value, where that is there.
@@ -30,7 +30,7 @@ pub fn unit_of(
 pub fn signed(unit: WireUnit) -> SignedUnit {
     SignedUnit {
         unit,
-        signature: Signature([0; 32]),
+        signature: no_signature(),
     }
 }
 
@@ -89,7 +89,7 @@ fn exponent_of(words: &[&str]) -> u8 {
 fn instance_of(words: &[&str], instance: Digest) -> Digest {
     for word in words {
         if *word == "foreign" {
-            return Digest([9; 32]);
+            return digest_of_byte(9);
         }
     }
     instance

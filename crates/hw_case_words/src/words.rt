@@ -1,7 +1,7 @@
 //! Lists of words, and words as names.
 
 use crate::answer::Answer;
-use hw_types::Digest;
+use hw_types::{Digest, Signature};
 use std::alloc::Global;
 
 /// The words behind this one, none where it isn't there.
@@ -54,6 +54,16 @@ pub fn until_key<'a, 'b>(words: &'a [&'b str]) -> &'a [&'b str] {
         }
     }
     words
+}
+
+/// A digest of which each byte is this one.
+pub fn digest_of_byte(byte: u8) -> Digest {
+    Digest([byte; 32])
+}
+
+/// A signature of zeros.
+pub fn no_signature() -> Signature {
+    Signature([0; 32])
 }
 
 /// A word of up to 32 bytes as a digest.

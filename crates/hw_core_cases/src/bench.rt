@@ -34,7 +34,8 @@ fn measure(rt: HostRuntime, answer: &mut Answer, sample: &Sample, rounds: u32) {
     let read = time_of(rt, answer, sample, Work::Read, rounds);
     let written = time_of(rt, answer, sample, Work::Write, rounds);
     let named = time_of(rt, answer, sample, Work::Name, rounds);
-    answer.fill("checksum #\n", &[read.sum ^ written.sum ^ named.sum]);
+    answer.labelled("checksum ", read.sum ^ written.sum ^ named.sum);
+    answer.put("\n");
     put_rate(answer, "read ", rounds, read.micros);
     put_rate(answer, "written ", rounds, written.micros);
     put_rate(answer, "named ", rounds, named.micros);

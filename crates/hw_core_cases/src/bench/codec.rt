@@ -1,8 +1,8 @@
 //! A unit with 100 observations, that is read, written and named.
 
-use hw_case_words::{Answer, plain_unit};
+use hw_case_words::{Answer, digest_of_byte, plain_unit};
 use hw_codec::{decode_unit, digest_of, encode_unit, fits};
-use hw_types::{Bytes, Digest, DigestList, Obs, ObsList, SignedUnit, WireUnit};
+use hw_types::{Bytes, DigestList, Obs, ObsList, SignedUnit, WireUnit};
 use std::alloc::Global;
 
 const OBSERVATIONS: u8 = 100;
@@ -32,11 +32,11 @@ pub fn sample_of(answer: &mut Answer) -> Sample {
 fn unit_of(answer: &mut Answer) -> SignedUnit {
     let mut seen = Vec::new(answer.alloc());
     for validator in 0..OBSERVATIONS {
-        answer.push_to(&mut seen, Obs::Correct(Digest([validator; 32])));
+        answer.push_to(&mut seen, Obs::Correct(digest_of_byte(validator)));
     }
     let endorsed = DigestList::new(answer.alloc());
     let panorama = ObsList::from_vec(seen);
-    plain_unit(Digest([0; 32]), 0, 1, 1_000, panorama, None, endorsed)
+    plain_unit(digest_of_byte(0), 0, 1, 1_000, panorama, None, endorsed)
 }
 
 fn spelling(answer: &mut Answer, unit: &WireUnit) -> Bytes {

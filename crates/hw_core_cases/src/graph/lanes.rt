@@ -28,7 +28,7 @@ pub fn chain(answer: &mut Answer, state: &mut State, words: &[&str]) {
             None => answer.refuse(),
         }
     }
-    answer.fill("admitted #", &[admitted]);
+    answer.labelled("admitted ", admitted);
 }
 
 /// Admits the block of this height.

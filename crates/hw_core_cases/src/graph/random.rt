@@ -185,10 +185,9 @@ fn compared(answer: &mut Answer, state: &State, lots: &mut Lots, panoramas: u32)
         last = fork;
     }
     let often = panoramas / 4 < changes;
-    answer.fill(
-        "# of # are the same, changes often ",
-        &[same as u64, panoramas as u64],
-    );
+    answer.number(same as u64);
+    answer.labelled(" of ", panoramas as u64);
+    answer.put(" are the same, changes often ");
     answer.truth(often);
 }
 

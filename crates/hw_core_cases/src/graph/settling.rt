@@ -38,7 +38,10 @@ pub fn unit(answer: &mut Answer, state: &mut State, words: &[&str]) {
 /// What became of a unit.
 pub fn put_outcome(answer: &mut Answer, outcome: Option<Outcome>) {
     match outcome {
-        Some(Outcome::Admitted(no)) => answer.fill("Admitted(UnitNo(#))", &[no.0 as u64]),
+        Some(Outcome::Admitted(no)) => {
+            answer.labelled("Admitted(UnitNo(", no.0 as u64);
+            answer.put("))");
+        }
         Some(Outcome::Broken(rule)) => put_broken(answer, rule),
         Some(Outcome::Repeat) => answer.put("Repeat"),
         Some(Outcome::Waits) => answer.put("Waits"),

@@ -72,15 +72,11 @@ fn put_plan(answer: &mut Answer, plan: &Plan) {
 }
 
 fn put_numbers(answer: &mut Answer, unit: &WireUnit) {
-    answer.fill(
-        " number # by # at # exp # cites",
-        &[
-            unit.seq,
-            unit.creator as u64,
-            unit.time,
-            unit.exponent as u64,
-        ],
-    );
+    answer.labelled(" number ", unit.seq);
+    answer.labelled(" by ", unit.creator as u64);
+    answer.labelled(" at ", unit.time);
+    answer.labelled(" exp ", unit.exponent as u64);
+    answer.put(" cites");
 }
 
 fn put_observation(answer: &mut Answer, observation: Obs) {

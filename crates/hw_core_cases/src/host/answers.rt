@@ -88,6 +88,7 @@ pub fn put_within(answer: &mut Answer, found: u64, bounds: &str) {
         answer.number(most);
     } else {
         put_word(answer, "");
-        answer.fill("from # to #", &[least, most]);
+        answer.labelled("from ", least);
+        answer.labelled(" to ", most);
     }
 }

@@ -56,10 +56,10 @@ fn at_door(
 
 fn put_numbers(answer: &mut Answer, numbers: DoorNumbers) {
     put_word(answer, "");
-    answer.fill(
-        "accepts # dials # ends # faults #",
-        &[numbers.accepts, numbers.dials, numbers.ends, numbers.faults],
-    );
+    answer.labelled("accepts ", numbers.accepts);
+    answer.labelled(" dials ", numbers.dials);
+    answer.labelled(" ends ", numbers.ends);
+    answer.labelled(" faults ", numbers.faults);
 }
 
 /// Takes the steps.

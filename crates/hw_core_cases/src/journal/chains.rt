@@ -35,16 +35,12 @@ pub fn chain(answer: &mut Answer, instance: Digest, core: &mut Core, words: &[&s
 fn put_sums(answer: &mut Answer, count: &str, sums: Sums) {
     answer.put("chain ");
     answer.put(count);
-    answer.fill(
-        " admitted # settled # parked # missing # other #\n",
-        &[
-            sums.admitted as u64,
-            sums.settled as u64,
-            sums.parked as u64,
-            sums.missing as u64,
-            sums.other as u64,
-        ],
-    );
+    answer.labelled(" admitted ", sums.admitted as u64);
+    answer.labelled(" settled ", sums.settled as u64);
+    answer.labelled(" parked ", sums.parked as u64);
+    answer.labelled(" missing ", sums.missing as u64);
+    answer.labelled(" other ", sums.other as u64);
+    answer.put("\n");
 }
 
 /// Delivers the units, the first one first.

@@ -2,9 +2,9 @@
 
 use crate::journal::names::{Named, Node, digest_named, find};
 use crate::journal::outcome::{Outcome, delivery, outcome_text};
-use hw_case_words::{Answer, small};
+use hw_case_words::{Answer, no_signature, small};
 use hw_core::Core;
-use hw_types::{Cause, Digest, Endorsement, Signature, Vertex};
+use hw_types::{Cause, Digest, Endorsement, Vertex};
 
 /// Delivers each of the named vertices with this verdict, and tells what became of it.
 pub fn deliver(answer: &mut Answer, node: &mut Node, words: &[&str], verdict: bool) {
@@ -49,7 +49,7 @@ fn endorsed(answer: &mut Answer, core: &mut Core, unit: Digest, endorser: u32) {
     let vertex = Vertex::Endorsement(Endorsement {
         unit,
         endorser,
-        signature: Signature([0; 32]),
+        signature: no_signature(),
     });
     became(answer, core, &vertex, true);
 }

@@ -9,7 +9,7 @@ use crate::journal::summits::{explain, starts, summit};
 use crate::journal::units::{evidence, unit};
 use crate::journal::wanted::{against, endorsers, unmet};
 use hw_admit::StateStart;
-use hw_case_words::{Answer, config_of};
+use hw_case_words::{Answer, config_of, digest_of_byte};
 use hw_codec::instance_of;
 use hw_core::Core;
 use hw_types::{Config, Digest};
@@ -70,7 +70,7 @@ fn begins(answer: &mut Answer, nodes: &mut Vec<Node>, core: Core, instance: Dige
 fn instance_in_limits(alloc: Global, config: &Config) -> Option<Digest> {
     match config.check() {
         Ok(()) => instance_of(alloc, config).ok(),
-        Err(_) => Some(Digest([0; 32])),
+        Err(_) => Some(digest_of_byte(0)),
     }
 }
 

@@ -102,23 +102,20 @@ fn finals(answer: &mut Answer, core: &Core, names: &[Named]) {
 }
 
 fn final_line(answer: &mut Answer, names: &[Named], decision: &Decision) {
-    answer.fill("final # ", &[decision.height]);
+    answer.labelled("final ", decision.height);
+    answer.put(" ");
     answer.put(word_of(names, &decision.block));
-    answer.fill(
-        " level # quorum # at #\n",
-        &[decision.level as u64, decision.quorum, decision.at],
-    );
+    answer.labelled(" level ", decision.level as u64);
+    answer.labelled(" quorum ", decision.quorum);
+    answer.labelled(" at ", decision.at);
+    answer.put("\n");
 }
 
 /// How many units there are of each kind, and the faulty weight.
 fn counts(answer: &mut Answer, core: &Core) {
-    answer.fill(
-        "settled # parked # dropped # faulty weight #\n",
-        &[
-            core.settled_count() as u64,
-            core.parked_count() as u64,
-            core.dropped_count() as u64,
-            core.faulty_weight(),
-        ],
-    );
+    answer.labelled("settled ", core.settled_count() as u64);
+    answer.labelled(" parked ", core.parked_count() as u64);
+    answer.labelled(" dropped ", core.dropped_count() as u64);
+    answer.labelled(" faulty weight ", core.faulty_weight());
+    answer.put("\n");
 }

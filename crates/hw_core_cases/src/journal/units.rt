@@ -1,7 +1,9 @@
 //! Units and evidence as lines define them.
 
 use crate::journal::names::{Named, digest_named, unit_named, with_digest};
-use hw_case_words::{Answer, after, own_observation, told_number, unit_of, until_key};
+use hw_case_words::{
+    Answer, after, digest_of_byte, own_observation, told_number, unit_of, until_key,
+};
 use hw_codec::{digest_of, fits};
 use hw_types::{Digest, DigestList, Evidence, Obs, ObsList, SignedUnit, Vertex, WireUnit};
 use std::alloc::Global;
@@ -112,7 +114,7 @@ fn digest_of_word(answer: &mut Answer, names: &[Named], name: &str) -> Digest {
         Some(digest) => digest,
         None => {
             answer.refuse();
-            Digest([0; 32])
+            digest_of_byte(0)
         }
     }
 }

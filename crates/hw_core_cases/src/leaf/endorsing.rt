@@ -4,12 +4,12 @@ ghost use Rattle.std.specs.Prelude.{◌≡◌, length, None};
 ghost use Rattle.hw_types.specs.Limits.{config_fault};
 
 use crate::leaf::configs::config_of;
-use hw_case_words::{Answer, byte, small};
+use hw_case_words::{Answer, byte, digest_of_byte, small};
 use hw_endorse::{Added, Endorsements};
 use hw_types::{Config, Digest};
 
 fn unit_of(word: &str) -> Digest {
-    Digest([byte(word); 32])
+    digest_of_byte(byte(word))
 }
 
 /// Adds an endorsement, and says whether it is new.
@@ -126,7 +126,7 @@ fn endorsers_in(answer: &mut Answer, config: &Config)
     let validators = u32::try_from(config.weights.len());
     match (Endorsements::new(answer.alloc(), config), validators) {
         (Ok(mut told), Ok(validators)) => {
-            let before = count(&mut told, validators, &Digest([7; 32]));
+            let before = count(&mut told, validators, &digest_of_byte(7));
             answer.number(before as u64);
         }
         _ => answer.refuse(),

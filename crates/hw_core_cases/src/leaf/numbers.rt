@@ -1,9 +1,9 @@
 //! Quorums, rounds, jumps and pairs.
 
-use hw_case_words::{Answer, byte, number, plain_unit, small};
+use hw_case_words::{Answer, byte, digest_of_byte, number, plain_unit, small};
 use hw_dag::{jump, pointer_count};
 use hw_rounds::{changes_lawfully, check_pair, round_id, witness_time};
-use hw_types::{Digest, DigestList, Evidence, MAX_TOTAL, ObsList, SignedUnit, quorum};
+use hw_types::{DigestList, Evidence, MAX_TOTAL, ObsList, SignedUnit, quorum};
 
 const NOT_ALLOWED: &str = "not allowed";
 
@@ -66,7 +66,7 @@ fn unit_of(answer: &mut Answer, word: &str) -> SignedUnit {
     };
     let alloc = answer.alloc();
     plain_unit(
-        Digest([instance; 32]),
+        digest_of_byte(instance),
         creator,
         seq,
         time,
@@ -79,6 +79,6 @@ fn unit_of(answer: &mut Answer, word: &str) -> SignedUnit {
 pub fn pair_text(answer: &mut Answer, validators: u32, left: &str, right: &str) {
     let left = unit_of(answer, left);
     let right = unit_of(answer, right);
-    let told = check_pair(&Evidence { left, right }, &Digest([1; 32]), validators);
+    let told = check_pair(&Evidence { left, right }, &digest_of_byte(1), validators);
     answer.debug(&told);
 }

@@ -1,14 +1,14 @@
 //! Items that wait for needs.
 
-use hw_case_words::{Answer, byte, small};
+use hw_case_words::{Answer, byte, digest_of_byte, small};
 use hw_park::{Park, ParkCause};
 use hw_types::{Digest, Need};
 
 /// The need of a word: `uN` a unit, `dN` a unit endorsed, else evidence against a validator.
 fn need_of(word: &str) -> Need {
     match word.split_at_checked(1) {
-        Some(("u", rest)) => Need::Unit(Digest([byte(rest); 32])),
-        Some(("d", rest)) => Need::Endorsed(Digest([byte(rest); 32])),
+        Some(("u", rest)) => Need::Unit(digest_of_byte(byte(rest))),
+        Some(("d", rest)) => Need::Endorsed(digest_of_byte(byte(rest))),
         Some((_, rest)) => Need::Evidence(small(rest)),
         None => Need::Evidence(0),
     }
@@ -139,9 +139,11 @@ fn parks_text(answer: &mut Answer, park: &mut Park<u32>, count: u32) {
     let first = in_order(park, count, 2, 6);
     let late = park.next_ready();
     let left = park.count();
-    answer.fill("parked # then ", &[parked as u64]);
+    answer.labelled("parked ", parked as u64);
+    answer.put(" then ");
     answer.debug(&early);
-    answer.fill(" in order # then ", &[first as u64]);
+    answer.labelled(" in order ", first as u64);
+    answer.put(" then ");
     answer.debug(&late);
-    answer.fill(" left #", &[left as u64]);
+    answer.labelled(" left ", left as u64);
 }

@@ -52,15 +52,11 @@ fn config_text(answer: &mut Answer, config: &Config) {
 }
 
 fn rounds_text(answer: &mut Answer, config: &Config) {
-    answer.fill(
-        " threshold # levels # exponents # # ",
-        &[
-            config.ftt,
-            config.levels as u64,
-            config.min_exponent as u64,
-            config.max_exponent as u64,
-        ],
-    );
+    answer.labelled(" threshold ", config.ftt);
+    answer.labelled(" levels ", config.levels as u64);
+    answer.labelled(" exponents ", config.min_exponent as u64);
+    answer.labelled(" ", config.max_exponent as u64);
+    answer.put(" ");
 }
 
 fn leaders_text(answer: &mut Answer, leaders: &Leaders) {
@@ -83,10 +79,8 @@ fn table_text(answer: &mut Answer, entries: &[u32]) {
 
 /// What is kept, and the last block's height.
 fn room_text(answer: &mut Answer, config: &Config) {
-    answer.fill(
-        " records # parked #",
-        &[config.max_records as u64, config.max_parked as u64],
-    );
+    answer.labelled(" records ", config.max_records as u64);
+    answer.labelled(" parked ", config.max_parked as u64);
     if let Some(end) = config.end {
         answer.put(" end ");
         answer.number(end);

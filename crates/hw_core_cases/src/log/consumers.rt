@@ -10,10 +10,8 @@ pub fn consumer_text(answer: &mut Answer, calls: &str, steps: &str) {
     plan(answer, &mut consumer, calls);
     walk(answer, &mut consumer, steps);
     put_blocks(answer, consumer.blocks());
-    answer.fill(
-        "finishes # faults #",
-        &[consumer.finishes(), consumer.faults()],
-    );
+    answer.labelled("finishes ", consumer.finishes());
+    answer.labelled(" faults ", consumer.faults());
 }
 
 /// Plans the calls that fail.

@@ -91,8 +91,8 @@ fn put_sessions(answer: &mut Answer, sessions: &[MemSession]) {
 }
 
 fn put_numbers(answer: &mut Answer, numbers: DoorNumbers) {
-    answer.fill(
-        "accepts # dials # ends # faults #",
-        &[numbers.accepts, numbers.dials, numbers.ends, numbers.faults],
-    );
+    answer.labelled("accepts ", numbers.accepts);
+    answer.labelled(" dials ", numbers.dials);
+    answer.labelled(" ends ", numbers.ends);
+    answer.labelled(" faults ", numbers.faults);
 }

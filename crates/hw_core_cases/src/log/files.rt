@@ -53,17 +53,16 @@ fn memory_text(answer: &mut Answer) {
     let mut files = MemFiles::new(answer.alloc());
     put_exchange(answer, &mut files);
     put_file(answer, files.file("log"));
-    answer.fill(
-        " calls # faults # #",
-        &[files.calls(), files.read_faults(), files.append_faults()],
-    );
+    answer.labelled(" calls ", files.calls());
+    answer.labelled(" faults ", files.read_faults());
+    answer.labelled(" ", files.append_faults());
 }
 
 fn sure_text(answer: &mut Answer) {
     let mut files = SureFiles::new(answer.alloc());
     put_exchange(answer, &mut files);
     put_file(answer, files.file("log"));
-    answer.fill(" faults #", &[files.read_faults()]);
+    answer.labelled(" faults ", files.read_faults());
 }
 
 fn planned_text(answer: &mut Answer, call: u64) {

@@ -142,7 +142,8 @@ fn put_count(answer: &mut Answer, count: Result<usize, LogError>) {
 
 /// The faults counted.
 fn put_faults(answer: &mut Answer, files: &MemFiles) {
-    answer.fill(" faults # #", &[files.read_faults(), files.append_faults()]);
+    answer.labelled(" faults ", files.read_faults());
+    answer.labelled(" ", files.append_faults());
 }
 
 /// Copies the log entry by entry into a log of this version, and puts down the places of the entries.
@@ -203,11 +204,24 @@ fn copy_entry(
     ensures { mem_allowance files.new ≡ mem_allowance files.old }
 {
     places.push(entry.at)?;
-    let bytes = entry_bytes(alloc, lasts, entry.verdict, &entry.vertex)?;
+    append_copy(alloc, files, lasts, entry)?;
     let noted = lasts.prepare(&entry.vertex)?;
-    append_entry(files, "COPY", &bytes)?;
     lasts.note(noted);
     Ok(())
+}
+
+/// Appends the entry behind these last units.
+fn append_copy(
+    alloc: Global,
+    files: &mut MemFiles,
+    lasts: &Lasts,
+    entry: &LogEntry,
+) -> Result<(), LogError>
+    requires { VertexFits entry.now.vertex }
+    ensures { mem_allowance files.new ≡ mem_allowance files.old }
+{
+    let bytes = entry_bytes(alloc, lasts, entry.verdict, &entry.vertex)?;
+    append_entry(files, "COPY", &bytes)
 }
 
 /// Copies a log, and tells the places of its entries or the error, how much was copied, and the faults counted.
@@ -226,7 +240,9 @@ fn copy_text(answer: &mut Answer, files: &MemFiles, log: &[u8]) {
     match files.file("COPY") {
         None => answer.put("no copy"),
         Some(copy) => {
-            answer.fill("# of # ", &[copy.len() as u64, log.len() as u64]);
+            answer.number(copy.len() as u64);
+            answer.labelled(" of ", log.len() as u64);
+            answer.put(" ");
             answer.truth(log.starts_with(copy));
         }
     }
@@ -250,7 +266,8 @@ pub fn cuts(answer: &mut Answer, parts: &str) {
     for length in 0..=log.len() {
         let count = count_of(answer, 100, None, &log.as_slice()[..length]);
         if count != last {
-            answer.fill("# ", &[length as u64]);
+            answer.number(length as u64);
+            answer.put(" ");
             put_count(answer, count);
             answer.put(" ");
             last = count;
@@ -265,7 +282,8 @@ pub fn faults(answer: &mut Answer, parts: &str) {
     let _ = count(answer.alloc(), &mut files, "LOG");
     let calls = files.calls();
     let faults = read_faults(answer, calls, log.as_slice());
-    answer.fill("calls # read faults #", &[calls, faults]);
+    answer.labelled("calls ", calls);
+    answer.labelled(" read faults ", faults);
 }
 
 /// How many of the calls of a reading, each failing alone, end it as a read fault.

@@ -28,10 +28,9 @@ pub fn rewritten(answer: &mut Answer, command: &str, call: &str, left: &str, new
 
 /// The faults counted, and what the new file holds.
 fn files_text(answer: &mut Answer, files: &MemFiles) {
-    answer.fill(
-        " faults # # ",
-        &[files.read_faults(), files.append_faults()],
-    );
+    answer.labelled(" faults ", files.read_faults());
+    answer.labelled(" ", files.append_faults());
+    answer.put(" ");
     match files.file("NEW") {
         Some(bytes) => answer.hex(bytes),
         None => answer.put("-"),
@@ -53,7 +52,8 @@ pub fn failed_in_turn(answer: &mut Answer, command: &str, log: &str) {
             Some(_) => others = others.saturating_add(1),
         }
     }
-    answer.fill("appends # others #", &[appends, others]);
+    answer.labelled("appends ", appends);
+    answer.labelled(" others ", others);
 }
 
 /// What a run answers whose call of this number fails, None where it doesn't come to that call.

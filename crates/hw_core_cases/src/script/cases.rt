@@ -19,7 +19,10 @@ pub fn tell(rt: HostRuntime, answer: &mut Answer, kind: &str, word: &str) {
 fn run(answer: &mut Answer, text: &[u8]) {
     match run_script(answer.alloc(), text) {
         Ok(output) => answer.utf8(output.as_slice()),
-        Err(ScriptError::Line(number)) => answer.fill("line #\n", &[number as u64]),
+        Err(ScriptError::Line(number)) => {
+            answer.labelled("line ", number as u64);
+            answer.put("\n");
+        }
         Err(ScriptError::OutOfMemory) => answer.refuse(),
     }
 }

@@ -3,7 +3,7 @@
 ghost use Rattle.std.specs.Prelude.{◌≡◌, None};
 ghost use Rattle.hw_types.specs.Limits.{config_fault};
 
-use hw_case_words::Answer;
+use hw_case_words::{Answer, digest_of_byte};
 use hw_codec::{decode_config, encode_config};
 use hw_eras::next_config;
 use hw_types::{CodecError, Config, Digest};
@@ -50,7 +50,7 @@ fn digest_of(answer: &mut Answer, digits: &str) -> Digest {
     let bytes = answer.bytes(digits);
     match bytes.as_slice().first_chunk::<32>() {
         Some(digest) => Digest(*digest),
-        None => Digest([0; 32]),
+        None => digest_of_byte(0),
     }
 }
 

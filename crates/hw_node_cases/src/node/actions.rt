@@ -6,12 +6,12 @@ ghost use Rattle.hw_types.specs.Spelling.{VertexFits};
 ghost use Rattle.hw_cluster.specs.Nodes.{ClusterState, nodes_in, CanAct};
 
 use hw_admit::StateStart;
-use hw_case_words::{number, small};
+use hw_case_words::{no_signature, number, small};
 use hw_cluster::{Acted, Action, Cluster};
 use hw_codec::{fits, instance_of};
 use hw_types::{
     Bytes, Config, Digest, DigestList, Endorsement, Evidence, IndexList, Leaders, Obs, ObsList,
-    OutOfMemory, PlanKind, Receipt, Signature, SignedUnit, Vertex, WeightList, WireUnit,
+    OutOfMemory, PlanKind, Receipt, SignedUnit, Vertex, WeightList, WireUnit,
 };
 use std::alloc::Global;
 
@@ -158,7 +158,7 @@ fn action_of(alloc: Global, instance: Digest, word: &str) -> Result<Option<Actio
             vertex: Vertex::Endorsement(Endorsement {
                 unit: instance,
                 endorser: who,
-                signature: Signature([0; 32]),
+                signature: no_signature(),
             }),
         }),
         _ => None,
@@ -188,7 +188,7 @@ fn block(
             value: Some(Bytes::from_vec(Vec::from_slice(alloc, &[value])?)),
             endorsed: DigestList::new(alloc),
         },
-        signature: Signature([0; 32]),
+        signature: no_signature(),
     })
 }
 

@@ -6,7 +6,7 @@ use crate::node::clusters::{put_generated, put_simulated};
 use crate::node::feeds::{fed, passed};
 use crate::node::nodes::{begin, deliver};
 use crate::node::wanted::{against, put_needed};
-use hw_case_words::{Answer, number, small};
+use hw_case_words::{Answer, digest_of_byte, number, small};
 use hw_core::Core;
 use hw_types::{Digest, Need, OutOfMemory};
 
@@ -90,7 +90,7 @@ fn digest_of(answer: &mut Answer, digits: &str) -> Digest {
     let bytes = answer.bytes(digits);
     match bytes.as_slice().first_chunk::<32>() {
         Some(digest) => Digest(*digest),
-        None => Digest([0; 32]),
+        None => digest_of_byte(0),
     }
 }
 
