@@ -1,6 +1,6 @@
 use Rattle.std.proofs.Common.{None, refl, ◌∙◌}
 use Rattle.hw_replay.specs.Replay.{taken_in}
-use Rattle.hw_audit.proofs.ForkLaws.{ok_so}
+use Rattle.hw_audit.proofs.TwinLaws.{ok_so}
 use Rattle.hw_commands.proofs.CauseLaws.{fault_then, files_then, read_about}
 use Rattle.hw_commands.proofs.AuditLaws.{logs_ok, logs_not}
 use Rattle.hw_commands.proofs.DueLaws.{left_due, right_due, due_fails}

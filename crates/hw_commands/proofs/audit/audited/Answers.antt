@@ -3,7 +3,7 @@ use Rattle.hw_types.specs.declared.config.Config.{Config}
 use Rattle.hw_types.specs.Limits.{config_fault}
 use Rattle.hw_codec.specs.Ranges.{ConfigInRange}
 use Rattle.hw_audit.specs.declared.nodes.AuditError.{AuditError}
-use Rattle.hw_audit.proofs.ForkLaws.{ok_so}
+use Rattle.hw_audit.proofs.TwinLaws.{ok_so}
 use Rattle.hw_commands.specs.declared.ended.Ended.{Ended}
 use Rattle.hw_commands.specs.Audited.{verdict_ended}
 use Rattle.hw_commands.proofs.FaultLaws.{input_status}
