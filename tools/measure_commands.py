@@ -1,0 +1,298 @@
+#!/usr/bin/env python3
+"""Measures what a built program's other commands cost: beside another program, beside its own replay, or beside a log's bytes.
+
+    python3 tools/measure_commands.py PROGRAM [--beside OTHER] [--runs 15] [--logs FOLDER] [--instructions] [NAME ..]
+    python3 tools/measure_commands.py --list
+
+    explain, audit, script, gen, sim    processor seconds, and their ratio to those of OTHER
+    version2-even, version2-wide        processor seconds of a replay in version 2, and their ratio to those in version 1
+    memory-10, memory-100               the most memory of a replay in MB, and how many times the log that is
+    serve                               seconds in which a node takes signed vertices over loopback, and their ratio to a
+                                        replay of the log that it wrote
+
+Seconds are medians, of processor time (user and system) but for `serve`, which is by the clock. Ratios are medians of the ratios of two
+runs that followed each other. With --instructions the commands and the versions are counted once each by `valgrind --tool=callgrind`, in
+millions, in place of seconds. Logs are made by tools/worst_logs.py and kept in FOLDER.
+
+The status is 0, and 2 where the words aren't understood or a run ends with another status than it should. It stands outside the gate and
+proves nothing.
+"""
+import argparse
+import contextlib
+import hashlib
+import json
+import math
+import os
+import pathlib
+import re
+import socket
+import statistics
+import subprocess
+import sys
+import tempfile
+import time
+from dataclasses import replace
+
+from lens_log import ABSENT, read_log, spelled_vertex, unit_signature
+from measure_replay import Failed, made, table
+from rejoin import free_port
+
+EVEN = "rounds --validators 10 --rounds 1000"
+WIDE = "rounds --validators 100 --rounds 40"
+SCRIPTED = "rounds --validators 10 --rounds 100"
+SERVED = "rounds --validators 10 --rounds 200"
+HELLO, VERTEX, DONE = b"\1", b"\2", b"\5"
+
+
+def run(program, *words, status=0):
+    """What a run used: processor seconds, and the most memory in bytes."""
+    with tempfile.TemporaryDirectory() as folder:
+        started = subprocess.Popen([program, *map(str, words)], cwd=folder, stdout=subprocess.DEVNULL, stderr=subprocess.PIPE)
+        said = started.stderr.read()
+        _, ended, used = os.wait4(started.pid, 0)
+        started.returncode = os.waitstatus_to_exitcode(ended)
+        started.stderr.close()
+    if started.returncode != status:
+        raise Failed(f"{program} {words[0]}: status {started.returncode}: {said.decode(errors='replace').strip()}")
+    return used.ru_utime + used.ru_stime, used.ru_maxrss * 1024
+
+
+def counted(program, *words):
+    """The instructions of a run, in millions."""
+    with tempfile.TemporaryDirectory() as folder:
+        counter = ["valgrind", "--tool=callgrind", "--callgrind-out-file=counts"]
+        ran = subprocess.run([*counter, program, *map(str, words)], cwd=folder, capture_output=True, text=True, check=False)
+    found = re.search(r"Collected : (\d+)", ran.stderr)
+    if ran.returncode or not found:
+        raise Failed(f"{program} {words[0]} under valgrind: status {ran.returncode}: {ran.stderr.strip()}")
+    return int(found[1]) / 1e6
+
+
+def cost(options, program, *words):
+    """What a run costs: instructions where they are asked for, else seconds."""
+    return counted(program, *words) if options.instructions else run(program, *words)[0]
+
+
+def medians(options, one, other):
+    """The medians of the costs of two calls in turn, and of their ratios."""
+    ours, others = [], []
+    for _ in range(1 if options.instructions else options.runs):
+        ours.append(one())
+        others.append(other())
+    ratios = [left / right if right else math.inf for left, right in zip(ours, others)]
+    return statistics.median(ours), statistics.median(others), statistics.median(ratios)
+
+
+# ---- scripts
+
+def cited(slot, names):
+    """The word for one slot of a panorama."""
+    if isinstance(slot, bytes):
+        return names[slot]
+    return "-" if slot == ABSENT else "!"
+
+
+def script_of(log):
+    """The units of a log as a script that defines and delivers each of them."""
+    config, names = log.config, {}
+    yield f"weights {' '.join(map(str, config.weights))}\nftt {config.threshold}\nlevels {config.levels}\n"
+    yield f"exponents {config.least} {config.greatest}\nleaders {' '.join(map(str, config.leaders))}\n"
+    for place, entry in enumerate(log.entries):
+        unit, name = entry.vertex.unit, f"u{place}"
+        words = ["unit", name, "by", unit.creator, "at", unit.time, "exp", unit.exponent, "cites"]
+        words += [cited(slot, names) for slot in unit.panorama]
+        words += ["block", unit.value.hex()[:64]] if unit.value is not None else []
+        names[unit.digest] = name
+        yield f"{' '.join(map(str, words))}\ndeliver {name}\n"
+    yield "show final\n"
+
+
+def script_file(folder):
+    """The file of a script."""
+    log = made(folder, SCRIPTED)
+    path = log.path.with_suffix(".script")
+    path.write_text("".join(script_of(read_log(log.path))), encoding="ascii")
+    return path
+
+
+# ---- a session
+
+def keys_of(validators):
+    """A key for each validator."""
+    return [hashlib.sha256(bytes([number])).digest() for number in range(validators)]
+
+
+def framed(body):
+    """A frame with its length."""
+    return len(body).to_bytes(4) + body
+
+
+def signed_frames(log):
+    """Hello, each unit of the log signed, and Done."""
+    keys = keys_of(len(log.config.weights))
+    yield framed(HELLO + log.entries[0].vertex.unit.instance)
+    for entry in log.entries:
+        unit = entry.vertex.unit
+        signed = replace(entry.vertex, signature=unit_signature(keys[unit.creator], unit))
+        yield framed(VERTEX + spelled_vertex(signed))
+    yield framed(DONE)
+
+
+def settings_of(config):
+    """The settings of a configuration, as `serve` reads them."""
+    said = {"weights": list(config.weights), "threshold": config.threshold, "levels": config.levels}
+    said |= {"exponents": [config.least, config.greatest], "leaders": list(config.leaders)}
+    return json.dumps(said | {"records": config.records, "parked": config.parked})
+
+
+def connected(address, node):
+    """A connection to a node once it listens."""
+    until = time.monotonic() + 30
+    while time.monotonic() < until and node.poll() is None:
+        with contextlib.suppress(OSError):
+            return socket.create_connection(address)
+        time.sleep(0.01)
+    raise Failed("serve: it doesn't listen")
+
+
+def served(program, folder, log, frames):
+    """The seconds of one session in which a new node takes these frames. Its log stays in the folder."""
+    folder.mkdir()
+    (folder / "settings.json").write_text(settings_of(log.config), encoding="ascii")
+    (folder / "keys").write_text("".join(f"{key.hex()}\n" for key in keys_of(len(log.config.weights))), encoding="ascii")
+    port = free_port()
+    words = [program, "serve", "settings.json", "keys", "node.log", f"127.0.0.1:{port}", "1"]
+    with subprocess.Popen(words, cwd=folder, stdout=subprocess.PIPE, stderr=subprocess.PIPE) as node:
+        with connected(("127.0.0.1", port), node) as link:
+            began = time.perf_counter()
+            link.sendall(frames)
+            while link.recv(1 << 16):
+                pass
+            took = time.perf_counter() - began
+        said, _ = node.communicate(timeout=60)
+    if node.returncode or f"units {len(log.entries)} ".encode() not in said:
+        raise Failed(f"serve: status {node.returncode}: {said.decode(errors='replace').strip()}")
+    return took
+
+
+def replayed(program, log):
+    """The seconds of a replay by the clock."""
+    began = time.perf_counter()
+    run(program, "replay", log)
+    return time.perf_counter() - began
+
+
+def serve_row(options):
+    """A session beside a replay of the log that it wrote."""
+    log = read_log(made(options.logs, SERVED).path)
+    frames, sessions, replays = b"".join(signed_frames(log)), [], []
+    with tempfile.TemporaryDirectory() as room:
+        for number in range(options.runs):
+            folder = pathlib.Path(room) / str(number)
+            sessions.append(served(options.program, folder, log, frames))
+            replays.append(replayed(options.program, folder / "node.log"))
+    ratio = statistics.median(one / other for one, other in zip(sessions, replays))
+    return [f"{len(log.entries)} vertices", *shown(statistics.median(sessions), statistics.median(replays), ratio)]
+
+
+# ---- the rows
+
+def shown(one, other, ratio):
+    """Two numbers of seconds with their ratio."""
+    return [f"{one:.3f}", f"{other:.3f}", f"{ratio:.2f}"]
+
+
+def words_of(name, folder):
+    """The words of a command that both programs know."""
+    if name == "explain":
+        return ["explain", made(folder, EVEN).path]
+    if name == "audit":
+        return ["audit", *[made(folder, EVEN).path] * 2]
+    if name == "script":
+        return ["script", script_file(folder)]
+    return {"gen": ["gen", "10", "3000"], "sim": ["sim", "10", "10", "16384"]}[name]
+
+
+def beside_row(options, name):
+    """A command beside that of the other program."""
+    words = words_of(name, options.logs)
+    said = " ".join(str(word.name) if isinstance(word, pathlib.Path) else word for word in words)
+    if not options.beside:
+        return [said, f"{statistics.median(cost(options, options.program, *words) for _ in range(options.runs)):.3f}", "", ""]
+    return [said, *shown(*medians(options, lambda: cost(options, options.program, *words), lambda: cost(options, options.beside, *words)))]
+
+
+def version_row(options, words):
+    """A replay of a log in version 2 beside that in version 1."""
+    log = made(options.logs, words).path
+    newer = log.with_suffix(".version2")
+    if not newer.exists():
+        run(options.program, "migrate", log, newer)
+    one, other = (lambda: cost(options, options.program, "replay", newer)), (lambda: cost(options, options.program, "replay", log))
+    return [words, *shown(*medians(options, one, other))]
+
+
+def memory_row(options, words):
+    """The most memory of a replay beside the bytes of its log, in MB."""
+    log = made(options.logs, words)
+    most = run(options.program, "replay", log.path)[1]
+    return [words, f"{most / 1e6:.1f}", f"{log.size / 1e6:.1f}", f"{most / log.size:.2f}"]
+
+
+ROWS = {
+    **{name: (lambda name: lambda options: beside_row(options, name))(name) for name in ("explain", "audit", "script", "gen", "sim")},
+    "version2-even": lambda options: version_row(options, EVEN),
+    "version2-wide": lambda options: version_row(options, WIDE),
+    "memory-10": lambda options: memory_row(options, EVEN),
+    "memory-100": lambda options: memory_row(options, WIDE),
+    "serve": serve_row,
+}
+
+
+def options_of(words):
+    """What the words ask for. Words that aren't understood end the program with status 2."""
+    parser = argparse.ArgumentParser(prog="measure_commands.py", description=__doc__.splitlines()[0])
+    parser.add_argument("program", metavar="PROGRAM", nargs="?", help="the built program")
+    parser.add_argument("names", metavar="NAME", nargs="*", help="which rows (all)")
+    parser.add_argument("--beside", metavar="OTHER", help="another program, which is run in turn with it")
+    parser.add_argument("--runs", type=int, default=15, help="how many runs of each (15)")
+    parser.add_argument("--logs", type=pathlib.Path, default=pathlib.Path("logs"), help="the folder of the logs (logs)")
+    parser.add_argument("--instructions", action="store_true", help="count instructions, with valgrind, in place of seconds")
+    parser.add_argument("--list", action="store_true", help="the names of the rows")
+    options = parser.parse_intermixed_args(words)
+    if options.list:
+        return options
+    if options.program is None:
+        parser.error("the following arguments are required: PROGRAM")
+    for program in (options.program, options.beside):
+        if program and not os.access(program, os.X_OK):
+            parser.error(f"{program} isn't a program")
+    for name in options.names:
+        if name not in ROWS:
+            parser.error(f"{name} isn't one of {', '.join(ROWS)}")
+    if options.runs < 1:
+        parser.error("argument --runs: at least 1")
+    options.program = os.path.abspath(options.program)
+    options.beside = options.beside and os.path.abspath(options.beside)
+    options.logs, options.names = options.logs.absolute(), options.names or list(ROWS)
+    return options
+
+
+def main(words):
+    """Measures what the words ask for, and prints a row as soon as it is measured."""
+    options = options_of(words)
+    if options.list:
+        print("\n".join(ROWS))
+        return 0
+    try:
+        print("\n".join(table([["row", "of", "this", "beside", "ratio"]])), flush=True)
+        for name in options.names:
+            print("| " + " | ".join([name, *ROWS[name](options)]) + " |", flush=True)
+    except Failed as failed:
+        print(failed, file=sys.stderr)
+        return 2
+    return 0
+
+
+if __name__ == "__main__":
+    sys.exit(main(sys.argv[1:]))
