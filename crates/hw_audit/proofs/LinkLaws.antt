@@ -1,7 +1,9 @@
 -- The units that an audit reads are those of the journals.
-use Rattle.std.proofs.Common.{◌≡◌, ℕ, zero, suc, ◌+◌, take, arith, inl, inr, true, List, [], ◌∷◌, ◌++◌, Some, refl, sym, ap, subst, ◌∙◌}
+use Rattle.std.proofs.Common.{◌≡◌, ℕ, zero, suc, ◌+◌, take, drop, arith, inl, inr, true, List, [], ◌∷◌, ◌++◌, Some, refl, sym, ap, subst, ◌∙◌}
 use Rattle.std.specs.Prelude.{◌&&◌, map, slice_get}
 use Rattle.std.proofs.lemmas.List.{map-append, append-nil}
+use Rattle.std.proofs.Math.Seq.{drop-cons}
+use Rattle.std.proofs.lemmas.Option.{slice_get_within, get_or_from_slice_get}
 use Rattle.std.proofs.lemmas.Grind.{flat_map-append}
 use Rattle.hw_types.specs.declared.unit.WireUnit.{WireUnit}
 use Rattle.hw_types.specs.declared.unit.SignedUnit.{SignedUnit}
@@ -76,6 +78,13 @@ signed_held settled u journal m =
     let v = held_among u journal m in
     let h = signed_by settled u v.0 v.2 in
     (h.0, among_flat settled h.0 v.0 journal v.1 h.1, h.2)
+
+-- what comes from a place on begins with what stands there
+pub rest_more : {A : Type 0} (xs : List A) (n : ℕ) (x : A) → Some x ≡ slice_get xs n → drop n xs ≡ x ∷ drop (n + 1) xs
+rest_more xs n x e =
+    drop-cons xs n x (slice_get_within xs n x (sym e))
+    ∙ (λ i. get_or_from_slice_get xs n x x (sym e) i ∷ drop (suc n) xs)
+    ∙ (let next : suc n ≡ n + 1 = omega arith in ap (λ k. x ∷ drop k xs) next)
 
 -- in the same order
 pub signed_units : (settled : List Node) (journal : List Vertex) → map (λ (h : HeldUnit). h.signed) (held_units settled journal) ≡ held_in journal

@@ -1,9 +1,11 @@
 //! The units that stand in a journal.
 
-ghost use Rattle.std.specs.Prelude.{◌≡◌, ◌++◌, true, OnOk, IfOk};
+ghost use Rattle.std.specs.Prelude.{◌≡◌, List, ◌∷◌, ◌++◌, true, OnOk, IfOk};
+ghost use Rattle.hw_types.specs.declared.unit.Vertex.{Vertex as Accepted};
 ghost use Rattle.hw_types.specs.Same.{unit_eq};
 ghost use Rattle.hw_types.specs.Spelling.{Fits, VertexFits, digest_of};
 ghost use Rattle.hw_dag.specs.Dag.{graph};
+ghost use Rattle.hw_core.specs.Readers.{names_of};
 ghost use Rattle.hw_audit.specs.Held.{held_as, held_by, is_settled};
 
 use hw_codec::digest_of;
@@ -105,29 +107,36 @@ fn is_settled(dag: &Dag, name: &Digest, unit: &WireUnit) -> bool
     }
 }
 
-/// Puts the units of the vertex last. The graph has the settled ones.
-pub fn put_units<'a>(
+/// Puts the units of the vertex last. The graph has the settled ones. The names are those of this and the following
+/// vertices, as the node keeps them, and those of the following ones are handed back. It keeps none for evidence.
+pub fn put_units<'a, 'n>(
     alloc: Global,
     dag: &Dag,
     vertex: &'a Vertex,
+    names: &'n [Digest],
     units: &mut Vec<Held<'a>>,
-) -> Result<(), OutOfMemory>
-    requires { VertexFits vertex.now }
-    ensures { OnOk result (units.new.items ≡ units.old.items ++ held_by (graph dag.now) vertex.now) }
+) -> Result<&'n [Digest], OutOfMemory>
+    requires fits { VertexFits vertex.now }
+    requires names { (following : List Accepted) × (names.now ≡ names_of (vertex.now ∷ following)) }
+    ensures units { OnOk result (units.new.items ≡ units.old.items ++ held_by (graph dag.now) vertex.now) }
+    ensures names { IfOk result (λ rest. (following : List Accepted) → names.now ≡ names_of (vertex.now ∷ following) → rest.now ≡ names_of following) }
 {
     match vertex {
         Vertex::Unit(signed) => {
-            let name = digest_of(alloc, &signed.unit)?;
-            let is_shown = is_settled(dag, &name, &signed.unit);
-            units.push(named(name, signed, is_shown))?;
+            let Some((name, rest)) = names.split_first() else {
+                unreachable!()
+            };
+            let is_shown = is_settled(dag, name, &signed.unit);
+            units.push(named(*name, signed, is_shown))?;
+            Ok(rest)
         }
         Vertex::Evidence(evidence) => {
             units.push(shown(alloc, &evidence.left)?)?;
             units.push(shown(alloc, &evidence.right)?)?;
+            Ok(names)
         }
-        Vertex::Endorsement(_) => {}
+        Vertex::Endorsement(_) => Ok(names),
     }
-    Ok(())
 }
 
 /// A unit of an evidence.

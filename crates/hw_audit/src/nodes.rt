@@ -103,8 +103,9 @@ fn put_journal<'a>(
     ensures { OnOk result (units.new.items ≡ units.old.items ++ units_of core.now.config core.now.journal) }
 {
     let dag = core.state().dag();
+    let mut names = core.unit_names();
     for place in 0..core.journal_count() {
-        put_units(alloc, dag, core.journal_at(place), units)?;
+        names = put_units(alloc, dag, core.journal_at(place), names, units)?;
     }
     Ok(())
 }

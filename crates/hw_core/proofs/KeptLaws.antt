@@ -1,7 +1,8 @@
 -- What a node keeps as its journal grows.
 use Rattle.std.proofs.Common.{◌≡◌, ◌⊎◌, inl, inr, ℕ, zero, suc, List, [], ◌∷◌, ◌++◌, ◌≤◌, length, Option, Some, None, refl, sym, ap, subst, ◌∙◌, arith}
-use Rattle.std.specs.Prelude.{◌||◌, slice_get}
+use Rattle.std.specs.Prelude.{◌||◌, map, filter_map, slice_get}
 use Rattle.std.proofs.lemmas.Option.{slice_get_past}
+use Rattle.std.proofs.lemmas.List.{map-append, append-nil}
 use Rattle.std.proofs.lemmas.List.Elements.{filter_map-append}
 use Rattle.hw_types.specs.declared.unit.Digest.{Digest}
 use Rattle.hw_types.specs.declared.unit.SignedUnit.{SignedUnit}
@@ -31,6 +32,7 @@ use Rattle.hw_admit.specs.State.{NodeState, is_faulty_in}
 use Rattle.hw_park.specs.Parked.{Parked}
 use Rattle.hw_core.specs.Decided.{DecidedState, IsDecided}
 use Rattle.hw_core.specs.Shown.{ShownState, IsShown}
+use Rattle.hw_core.specs.Readers.{signed_unit}
 use Rattle.hw_core.specs.Keeps.{IsNode, IsTable, AreRules, IsChoice, IsKept}
 
 pub get_append : {A : Type 0} (xs ys : List A) (n : ℕ) (x : A) → slice_get xs n ≡ Some x → slice_get (xs ++ ys) n ≡ Some x
@@ -45,11 +47,24 @@ get_last_or [] y (suc n) x h = absurd (let none : None ≡ Some x = sym (slice_g
 get_last_or (z ∷ zs) y zero x h = inl h
 get_last_or (z ∷ zs) y (suc n) x h = elim (get_last_or zs y n x h) [ inl k ↦ inl k | inr k ↦ inr (ap suc k.0, k.1) ]
 
+-- one vertex more, and what is read of it
+pub units_more : (journal : List Vertex) (v : Vertex) (name : SignedUnit → Digest) → map name (filter_map signed_unit (journal ++ v ∷ [])) ≡ map name (filter_map signed_unit journal) ++ map name (filter_map signed_unit (v ∷ []))
+units_more journal v name =
+    ap (λ (us : List SignedUnit). map name us) (filter_map-append signed_unit journal (v ∷ []))
+    ∙ map-append name (filter_map signed_unit journal) (filter_map signed_unit (v ∷ []))
+
+-- what is no unit has no unit
+none_signed : (v : Vertex) → ((u : SignedUnit) → v ≡ vertex.Unit u → ⊥) → filter_map signed_unit (v ∷ []) ≡ []
+none_signed (vertex.Unit u) other = absurd (other u refl)
+none_signed (vertex.Evidence e) other = refl
+none_signed (vertex.Endorsement e) other = refl
+
 -- a vertex that is no unit leaves the table as it was
 pub table_other : (s : Setting) (journal : List Vertex) (names : List (Digest × ℕ)) (v : Vertex) → units_in s (v ∷ []) ≡ [] → ((u : SignedUnit) → v ≡ vertex.Unit u → ⊥) → IsTable s journal names
     → IsTable s (journal ++ v ∷ []) names
 table_other s journal names v none other table = record {
   placed = λ n u h. elim (get_last_or journal v n (vertex.Unit u) h) [ inl old ↦ table.placed n u old | inr new ↦ absurd (other u new.1) ];
+  ordered = table.ordered ∙ sym (units_more journal v name ∙ ap (λ (us : List SignedUnit). map name (filter_map signed_unit journal) ++ map name us) (none_signed v other) ∙ append-nil (map name (filter_map signed_unit journal)));
   known = λ d n h. let k = table.known d n h in (k.0, get_append journal (v ∷ []) n (vertex.Unit k.0) k.1, k.2, subst (λ (xs : List Node). Among (named s k.0.unit) xs) (sym units) (from_left (named s k.0.unit) (units_in s journal) (units_in s (v ∷ [])) k.3));
   unknown = λ d h x m. elim (append_cases x (units_in s journal) (units_in s (v ∷ [])) (subst (λ (xs : List Node). Among x xs) units m)) [
     | inl old ↦ table.unknown d h x old
@@ -57,6 +72,9 @@ table_other s journal names v none other table = record {
   ];
 }
   where
+    name : SignedUnit → Digest
+    name u = s.name u.unit
+
     units : units_in s (journal ++ v ∷ []) ≡ units_in s journal ++ units_in s (v ∷ [])
     units = filter_map-append (unit_of_vertex s) journal (v ∷ [])
 

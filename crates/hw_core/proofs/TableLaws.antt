@@ -2,6 +2,7 @@
 use Rattle.std.proofs.Common.{◌≡◌, ◌≢◌, ◌⊎◌, inl, inr, ℕ, Bool, true, false, cond, List, [], ◌∷◌, ◌++◌, length, Option, Some, None, refl, sym, ap, subst, ◌∙◌}
 use Rattle.std.specs.Prelude.{slice_get}
 use Rattle.std.specs.Map.{lookup}
+use Rattle.std.proofs.lemmas.List.{map-append}
 use Rattle.std.proofs.lemmas.List.Elements.{filter_map-append}
 use Rattle.hw_core.specs.Entries.{insert_entry}
 use Rattle.hw_types.specs.declared.unit.Digest.{Digest}
@@ -19,7 +20,7 @@ use Rattle.hw_types.proofs.EntryLaws.{append_cases}
 use Rattle.hw_types.proofs.WordsLaws.{either, never_both}
 use Rattle.hw_core.specs.Keeps.{IsTable}
 use Rattle.hw_core.proofs.EntryLaws.{inserted_new}
-use Rattle.hw_core.proofs.KeptLaws.{get_append, get_last_or}
+use Rattle.hw_core.proofs.KeptLaws.{get_append, get_last_or, units_more}
 
 module _ (eq : Digest → Digest → Bool) (same : (a b : Digest) → eq a b ≡ true → a ≡ b) (self : (a : Digest) → eq a a ≡ true) where
   alike : (a b : Digest) → a ≡ b → eq a b ≡ true
@@ -59,6 +60,7 @@ name_unknown s journal names name fresh table = go (lookup (digest_eq name) name
 pub table_unit : (s : Setting) (journal : List Vertex) (names : List (Digest × ℕ)) (u : SignedUnit) (name : Digest) → name ≡ s.name u.unit → local_rule s.config s.instance u.unit ≡ None
     → ((x : Node) → Among x (units_in s journal) → x.digest ≢ name) → IsTable s journal names → IsTable s (journal ++ vertex.Unit u ∷ []) (names ++ (name, length journal) ∷ [])
 table_unit s journal names u name is none fresh table = record {
+  ordered = map-append (λ (e : Digest × ℕ). e.0) names ((name, length journal) ∷ []) ∙ (λ i. table.ordered i ++ is i ∷ []) ∙ sym (units_more journal (vertex.Unit u) (λ (w : SignedUnit). s.name w.unit));
   placed = λ n w h. placed n w h;
   known = λ d n h. known d n (either (digest_eq d name)) (sym (looked d) ∙ h);
   unknown = λ d h x m. unknown d (either (digest_eq d name)) (sym (looked d) ∙ h) x (append_cases x (units_in s journal) (units_in s (vertex.Unit u ∷ [])) (subst (λ (xs : List Node). Among x xs) units m));

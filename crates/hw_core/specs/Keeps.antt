@@ -1,7 +1,7 @@
 -- What a node keeps beside its journal, and how it stands to the journal.
-use Rattle.std.specs.Prelude.{◌≡◌, ◌≢◌, ℕ, ◌<◌, ◌≤◌, List, [], ◌∷◌, ◌++◌, length, Option, Some, None, IfSome, slice_get}
+use Rattle.std.specs.Prelude.{◌≡◌, ◌≢◌, ℕ, ◌<◌, ◌≤◌, List, [], ◌∷◌, ◌++◌, length, Option, Some, None, IfSome, map, filter_map, slice_get}
 use Rattle.std.specs.Option.{option_map}
-use Rattle.std.specs.Map.{lookup}
+use Rattle.std.specs.Map.{keys_of, lookup}
 use Rattle.hw_types.specs.declared.unit.Digest.{Digest}
 use Rattle.hw_types.specs.declared.unit.SignedUnit.{SignedUnit}
 use Rattle.hw_types.specs.declared.unit.Vertex.{Vertex}
@@ -23,6 +23,7 @@ use Rattle.hw_dag.specs.Admission.{PreparedUnit}
 use Rattle.hw_admit.specs.State.{NodeState, is_marked}
 use Rattle.hw_park.specs.Parked.{Waiting, Parked}
 use Rattle.hw_core.specs.Order.{settling_order}
+use Rattle.hw_core.specs.Readers.{signed_unit}
 use Rattle.hw_core.specs.Settle.{CanSettle, IsPart, IsOnce, admitted_in, waiting_nodes, rule_in}
 use Rattle.hw_core.specs.Deliver.{HasCome}
 use Rattle.hw_core.specs.Decided.{DecidedState, IsDecided}
@@ -63,11 +64,12 @@ pub record IsNode (journal : List Vertex) (park : Parked PreparedUnit) (state : 
   pub come : HasCome state.config journal
   pub is_of : IsOf (setting_of state.config) journal state park.waiting
 
--- The table has the place of each unit of the journal by its name, and no other name.
+-- The table has the place of each unit of the journal by its name, and no other name. Its names stand in the journal's order.
 pub record IsTable (s : Setting) (journal : List Vertex) (names : List (Digest × ℕ)) : Type 0 where
   pub known : (d : Digest) (n : ℕ) → lookup (digest_eq d) names ≡ Some n → (u : SignedUnit) × (slice_get journal n ≡ Some (vertex.Unit u)) × (s.name u.unit ≡ d) × Among (named s u.unit) (units_in s journal)
   pub unknown : (d : Digest) → lookup (digest_eq d) names ≡ None → (x : Node) → Among x (units_in s journal) → x.digest ≢ d
   pub placed : (n : ℕ) (u : SignedUnit) → slice_get journal n ≡ Some (vertex.Unit u) → lookup (digest_eq (s.name u.unit)) names ≡ Some n
+  pub ordered : keys_of names ≡ map (λ u. s.name u.unit) (filter_map signed_unit journal)
 
 -- The table has the rule of each dropped unit of the journal by its name, and no other name.
 pub record AreRules (s : Setting) (journal : List Vertex) (rules : List (Digest × Rule)) : Type 0 where

@@ -1,5 +1,5 @@
 -- What a node tells of its journal.
-use Rattle.std.specs.Prelude.{◌≡◌, ℕ, ◌<◌, ◌==◌, nat_lt, true, List, [], length, find, filter, filter_map, slice_get, Option, Some, None, if◌then◌else◌}
+use Rattle.std.specs.Prelude.{◌≡◌, ℕ, ◌<◌, ◌==◌, nat_lt, true, List, [], length, map, find, filter, filter_map, slice_get, Option, Some, None, if◌then◌else◌}
 use Rattle.std.specs.List.{flat_map}
 use Rattle.std.specs.Option.{option_map}
 use Rattle.hw_types.specs.declared.unit.Digest.{Digest}
@@ -27,6 +27,10 @@ abbrev pub signed_unit : Vertex → Option SignedUnit
 signed_unit (vertex.Unit u) = Some u
 signed_unit (vertex.Evidence e) = None
 signed_unit (vertex.Endorsement e) = None
+
+-- the names of the units of these vertices, in their order
+abbrev pub names_of : List Vertex → List Digest
+names_of journal = map (λ u. digest_of u.unit) (filter_map signed_unit journal)
 
 -- the journal's unit of this name, as it was signed
 unfoldable pub unit_in : CoreState → Digest → Option SignedUnit

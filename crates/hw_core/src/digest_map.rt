@@ -57,6 +57,13 @@ impl<V: Drop> DigestMap<V> {
         self.values.len()
     }
 
+    /// The names, in the order in which they came.
+    pub fn names(&self) -> &[Digest]
+        ensures { result.now ≡ keys_of self.now.entries }
+    {
+        self.names.as_slice()
+    }
+
     /// The value of a name, or None where it has none.
     pub fn get(&self, name: &Digest) -> Option<&V>
         ensures value { option_copied result ≡ lookup (digest_eq name.now) self.now.entries }

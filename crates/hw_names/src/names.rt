@@ -65,6 +65,16 @@ impl NameTable {
         self.hidden.as_ref()?.get().find(name)
     }
 
+    /// The names, in the order in which they came.
+    pub fn as_slice(&self) -> &[Digest]
+        ensures { result.now ≡ self.now.names }
+    {
+        match &self.hidden {
+            Some(hidden) => hidden.get().as_slice(),
+            None => &[],
+        }
+    }
+
     /// Puts a new name last. It takes no memory.
     pub fn push(&mut self, name: Digest)
         requires room { 1 ≤ self.old.room }

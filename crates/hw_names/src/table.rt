@@ -57,6 +57,13 @@ impl Table {
         self.set.get_index_of(name)
     }
 
+    /// The names, in their order.
+    pub(crate) fn as_slice(&self) -> &[Digest]
+        ensures { result.now ≡ self.now.names }
+    {
+        self.set.as_slice()
+    }
+
     /// Puts a new name last.
     pub(crate) fn push(&mut self, name: Digest)
         requires room { 1 ≤ self.old.room }

@@ -18,7 +18,7 @@ ghost use Rattle.hw_core.specs.Promises.{IsSound};
 ghost use Rattle.hw_core.specs.Settle.{admitted_in};
 ghost use Rattle.hw_core.specs.Shown.{HasSummitNow, IsStartNow, IsStartOf};
 ghost use Rattle.hw_types.specs.declared.unit.Vertex.TheVariants as vertex;
-ghost use Rattle.hw_core.specs.Readers.{unit_in, missing_needs, unmet_in, evidence_of, endorsements_of, IsPlace, IsUnsettled, fork_in, exceeded_in};
+ghost use Rattle.hw_core.specs.Readers.{unit_in, names_of, missing_needs, unmet_in, evidence_of, endorsements_of, IsPlace, IsUnsettled, fork_in, exceeded_in};
 
 use super::Kept;
 use crate::place::Place;
@@ -43,6 +43,13 @@ impl Kept {
         ensures fits { VertexFits result.now }
     {
         self.journal.at(place)
+    }
+
+    /// The names of the journal's units, in the journal's order.
+    pub(crate) fn unit_names(&self) -> &[Digest]
+        ensures { result.now ≡ names_of self.now.journal }
+    {
+        self.names.names()
     }
 
     /// What became of the journal's unit of this digest.
