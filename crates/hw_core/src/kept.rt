@@ -16,7 +16,9 @@ ghost use Rattle.hw_core.specs.Units.{IsNewUnit};
 
 use crate::decided::Decided;
 use crate::digest_map::DigestMap;
-use crate::endorsements::{add_endorsement, test_endorsement};
+use crate::endorsements::{
+    EndorsementRefused, add_endorsement, endorsement_back, test_endorsement,
+};
 use crate::evidence::{add_evidence, test_evidence};
 use crate::follow::follow;
 use crate::journal::Journal;
@@ -146,7 +148,10 @@ impl Kept {
         match vertex {
             Vertex::Unit(unit) => self.deliver_unit(unit),
             Vertex::Evidence(evidence) => self.deliver_evidence(evidence),
-            Vertex::Endorsement(endorsement) => self.deliver_endorsement(endorsement),
+            Vertex::Endorsement(endorsement) => match self.deliver_endorsement(endorsement) {
+                Ok(receipt) => Ok(receipt),
+                Err(refused) => Err(endorsement_sent_back(refused)),
+            },
         }
     }
 
@@ -288,26 +293,29 @@ impl Kept {
     }
 
     /// Takes an endorsement whose signature is right.
-    fn deliver_endorsement(&mut self, endorsement: Endorsement) -> Result<Receipt, Refused>
+    pub(crate) fn deliver_endorsement(
+        &mut self,
+        endorsement: Endorsement,
+    ) -> Result<Receipt, EndorsementRefused>
         ensures accepted { IfOk result (λ receipt. answer_in self.old (vertex.Endorsement endorsement) true ≡ Ok receipt) }
         ensures refused { IfErr result (λ r. IsRefusal r.cause (answer_in self.old (vertex.Endorsement endorsement) true)) }
-        ensures returned { IfErr result (λ r. r.vertex ≡ vertex.Endorsement endorsement) }
+        ensures returned { IfErr result (λ r. r.endorsement ≡ endorsement) }
         ensures journal { OnOk result (self.new ≡ after_in self.old (vertex.Endorsement endorsement) true) }
         ensures unchanged { OnErr result (self.new ≡ self.old) }
     {
         match test_endorsement(self.journal.as_slice(), &self.state, &endorsement) {
             Ok(true) => Ok(Receipt::Repeat),
             Ok(false) => self.take_endorsement(endorsement),
-            Err(cause) => Err(sent_back(cause, Vertex::Endorsement(endorsement))),
+            Err(cause) => Err(endorsement_back(cause, endorsement)),
         }
     }
 
     /// Takes an endorsement that passed the tests.
-    fn take_endorsement(&mut self, endorsement: Endorsement) -> Result<Receipt, Refused>
+    fn take_endorsement(&mut self, endorsement: Endorsement) -> Result<Receipt, EndorsementRefused>
         requires { IsTaken self.old.config self.old.journal (vertex.Endorsement endorsement) }
         ensures accepted { IfOk result (λ receipt. answer_in self.old (vertex.Endorsement endorsement) true ≡ Ok receipt) }
         ensures refused { IfErr result (λ r. IsRefusal r.cause (answer_in self.old (vertex.Endorsement endorsement) true)) }
-        ensures returned { IfErr result (λ r. r.vertex ≡ vertex.Endorsement endorsement) }
+        ensures returned { IfErr result (λ r. r.endorsement ≡ endorsement) }
         ensures journal { OnOk result (self.new ≡ after_in self.old (vertex.Endorsement endorsement) true) }
         ensures unchanged { OnErr result (self.new ≡ self.old) }
     {
@@ -337,10 +345,7 @@ impl Kept {
                 );
                 Ok(Receipt::Admitted { settled })
             }
-            Err(OutOfMemory) => Err(sent_back(
-                Cause::OutOfMemory,
-                Vertex::Endorsement(endorsement),
-            )),
+            Err(OutOfMemory) => Err(endorsement_back(Cause::OutOfMemory, endorsement)),
         }
     }
 
@@ -415,4 +420,12 @@ fn unit_sent_back(refused: UnitRefused) -> Refused
 {
     let UnitRefused { cause, unit } = refused;
     sent_back(cause, Vertex::Unit(unit))
+}
+
+/// An endorsement that was refused, as a vertex.
+fn endorsement_sent_back(refused: EndorsementRefused) -> Refused
+    ensures { result ≡ record { cause = refused.cause; vertex = vertex.Endorsement refused.endorsement } }
+{
+    let EndorsementRefused { cause, endorsement } = refused;
+    sent_back(cause, Vertex::Endorsement(endorsement))
 }

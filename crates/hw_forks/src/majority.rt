@@ -24,7 +24,8 @@ struct Leader {
 /// The highest block that has the majority: that votes of more than half of the weight are for or
 /// descend from. It is the place where no higher one has it. Where a block has the majority, each of its
 /// ancestors has it too, so the height is found by bisection. The search begins at the highest vote and
-/// goes down in steps that double, since most votes are near the top.
+/// goes down in steps that double, since most votes are near the top. After two of them the lowest height is
+/// asked: chains that swing part there, and nothing between is asked then.
 pub fn majority_block(votes: &[Vote], dag: &Dag, top: Vote, place: Option<UnitNo>) -> Option<UnitNo>
     requires votes { AreVotes dag.now votes.now }
     requires top { Among top votes.now }
@@ -39,7 +40,7 @@ pub fn majority_block(votes: &[Vote], dag: &Dag, top: Vote, place: Option<UnitNo
     let mut low = children_height(dag, place);
     let mut high = top.height;
     while low <= high {
-        let middle = high - ((high - low) / 2).min(top.height - high);
+        let middle = next_height(low, high, top.height - high, found == place);
         match majority_at(votes, dag, top, weight, middle) {
             Some(block) => {
                 found = Some(block);
@@ -50,6 +51,23 @@ pub fn majority_block(votes: &[Vote], dag: &Dag, top: Vote, place: Option<UnitNo
         }
     }
     found
+}
+
+// How many heights are passed over once two steps from the top have failed.
+const TWO_STEPS: u64 = 3;
+
+// The height that is asked next, where `passed` heights below the top are passed over. `is_first` says that nothing
+// was found yet.
+fn next_height(low: u64, high: u64, passed: u64, is_first: bool) -> u64
+    requires { low ≤ high }
+    ensures low { low ≤ result }
+    ensures high { result ≤ high }
+{
+    if is_first && passed == TWO_STEPS {
+        low
+    } else {
+        high - ((high - low) / 2).min(passed)
+    }
 }
 
 // The weight of the votes.

@@ -54,10 +54,16 @@ fn are_on_one_chain(votes: &[Vote], dag: &Dag, top: Vote) -> bool
     requires highest { (other : Voted) → Among other votes.now → other.height ≤ top.height }
     ensures { IsTrue result → (vote : Voted) → Among vote votes.now → IsAncestor dag.now vote.block.0 top.block.0 }
 {
+    // Mostly a vote below the top is for the block of the one before it, to which no way has to be walked again.
+    let mut known = top.block;
     for vote in votes {
+        if vote.block == known || vote.block == top.block {
+            continue;
+        }
         if !leads_up(dag, vote, top.block) {
             return false;
         }
+        known = vote.block;
     }
     true
 }
@@ -69,5 +75,5 @@ fn leads_up(dag: &Dag, vote: &Vote, top: UnitNo) -> bool
     requires within { vote.now.height ≤ height_at dag.now top.0 }
     ensures { IsTrue result → IsAncestor dag.now vote.now.block.0 top.0 }
 {
-    vote.block == top || dag.ancestor(top, vote.height) == vote.block
+    dag.ancestor(top, vote.height) == vote.block
 }

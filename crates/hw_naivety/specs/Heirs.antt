@@ -1,5 +1,5 @@
 -- What is taken over from the creator's previous unit.
-use Rattle.std.specs.Prelude.{◌≡◌, ℕ, ◌<◌, true, List, Some}
+use Rattle.std.specs.Prelude.{◌≡◌, ℕ, ◌<◌, true, List, [], ◌∷◌, Some}
 use Rattle.hw_types.specs.declared.unit.Digest.{Digest}
 use Rattle.hw_types.specs.Below.{Among}
 use Rattle.hw_dag.specs.declared.numbers.UnitNo.{UnitNo}
@@ -24,8 +24,14 @@ pub record IsBequeathed (dag : UnitGraph) (panorama : List View) (endorsed : Lis
   pub list_is : (unit_at dag before.0).signed.unit.endorsed ≡ endorsed
   pub list_below : HasListBelow dag (unit_at dag before.0).panorama endorsed
 
+-- the list has the name of this unit alone
+pub record IsOnly (dag : UnitGraph) (endorsed : List Digest) (no : UnitNo) : Type 0 where
+  pub known : no.0 < count_of dag
+  pub list_is : endorsed ≡ (unit_at dag no.0).digest ∷ []
+
 -- what is known of a list is right
 pub record IsListed (dag : UnitGraph) (panorama : List View) (endorsed : List Digest) (listed : Listed) : Type 0 where
   pub end : IsEndOfList dag endorsed listed.end
+  pub only : (no : UnitNo) → listed.only ≡ Some no → IsOnly dag endorsed no
   pub heir : (before : UnitNo) → listed.heir ≡ Some before → IsBequeathed dag panorama endorsed before
   pub below : listed.is_below ≡ true → HasListBelow dag panorama endorsed

@@ -4,7 +4,7 @@ ghost use Rattle.std.specs.Prelude.{◌≡◌, ◌<◌, ◌≤◌, IsTrue, IfSom
 ghost use Rattle.hw_dag.specs.Dag.{count_of, unit_at, view_at};
 ghost use Rattle.hw_naivety.specs.Tips.{IsSight, HasRoom};
 ghost use Rattle.hw_dag.specs.declared.numbers.View.TheVariants as view;
-ghost use Rattle.hw_naivety.specs.Heirs.{HasListBelow, IsBequeathed, IsListed};
+ghost use Rattle.hw_naivety.specs.Heirs.{HasListBelow, IsBequeathed, IsListed, IsOnly};
 
 use crate::sight::Sight;
 use hw_dag::{Marks, UnitNo, View};
@@ -14,6 +14,9 @@ use hw_dag::{Marks, UnitNo, View};
 pub struct Listed {
     /// One more than the greatest number of a unit of the list, or 0 where no unit of it is there.
     pub end: u32,
+    /// The unit of the list, where the list has one name and a unit of that name is there. Mostly a list that units
+    /// carry on has one name, which then isn't looked up for each slot.
+    pub only: Option<UnitNo>,
     /// The creator's previous unit, where it has the same list and all of it below.
     pub heir: Option<UnitNo>,
     /// Whether all of the list is known to be below.
@@ -32,6 +35,7 @@ impl Sight<'_> {
         let heir = self.heir(creator, marks);
         Listed {
             end: self.end_of_list(),
+            only: self.only(),
             heir,
             is_below: heir.is_some() || self.has_list(marks),
         }
@@ -48,15 +52,28 @@ impl Sight<'_> {
         if self.dag.is_forked() {
             Listed {
                 end: self.end_of_list(),
+                only: self.only(),
                 heir: None,
                 is_below: self.has_list(marks),
             }
         } else {
             Listed {
                 end: self.dag.count(),
+                only: None,
                 heir: None,
                 is_below: false,
             }
+        }
+    }
+
+    /// The unit of the list, where the list has one name and a unit of that name is there.
+    fn only(&self) -> Option<UnitNo>
+        requires sight { IsSight self.now.dag.now self.now.panorama.now self.now.validators }
+        ensures only { IfSome result (IsOnly self.now.dag.now self.now.endorsed.now) }
+    {
+        match self.endorsed {
+            [name] => self.dag.find(name),
+            _ => None,
         }
     }
 

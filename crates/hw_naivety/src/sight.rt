@@ -4,7 +4,7 @@ ghost use Rattle.std.specs.Prelude.{◌≡◌, ◌<◌, ◌≤◌, ◌↔◌, So
 ghost use Rattle.hw_dag.specs.Dag.{unit_at, count_of, creator_of};
 ghost use Rattle.hw_naivety.specs.Tips.{IsBelow, IsBelowNamed, IsBelowEndorsed, IsNaiveTip, IsSight, IsEndOfList, IsPlain, HasRoom, IsRaised};
 ghost use Rattle.hw_naivety.specs.Forks.{IsNaiveFork};
-ghost use Rattle.hw_naivety.specs.Heirs.{IsListed};
+ghost use Rattle.hw_naivety.specs.Heirs.{HasListBelow, IsListed};
 
 use crate::fork::NaiveFork;
 use crate::heir::Listed;
@@ -85,9 +85,25 @@ impl Sight<'_> {
         ensures room { marks.new ≡ marks.old }
     {
         if listed.is_below {
-            self.dag.is_below_named(self.endorsed, no, marks)
+            self.is_below_whole(no, listed, marks)
         } else {
             self.is_below_one_by_one(no, marks)
+        }
+    }
+
+    /// `is_below_endorsed`, where all of the list is below.
+    fn is_below_whole(&self, no: UnitNo, listed: &Listed, marks: &mut Marks) -> bool
+        requires sight { IsSight self.now.dag.now self.now.panorama.now self.now.validators }
+        requires known { no.0 < count_of self.now.dag.now }
+        requires room { HasRoom self.now.panorama.now marks.old }
+        requires listed { IsListed self.now.dag.now self.now.panorama.now self.now.endorsed.now listed.now }
+        requires below { HasListBelow self.now.dag.now self.now.panorama.now self.now.endorsed.now }
+        ensures below { IsTrue result ↔ IsBelowEndorsed self.now.dag.now self.now.panorama.now self.now.endorsed.now no.0 }
+        ensures room { marks.new ≡ marks.old }
+    {
+        match listed.only {
+            Some(only) => self.dag.sees(only, no, marks),
+            None => self.dag.is_below_named(self.endorsed, no, marks),
         }
     }
 

@@ -20,10 +20,12 @@ ghost use Rattle.hw_replay.specs.Ends.{lasts_of_file, lasts_ahead, LeadsLasts, I
 
 use crate::fault::{StartFault, fault_of};
 use hw_codec::{encode_config, encode_unit};
-use hw_core::{Core, Refused, UnitRefused};
+use hw_core::{Core, EndorsementRefused, Refused, UnitRefused};
 use hw_io::Files;
 use hw_log::{Lasts, LogReader, NamedEntry};
-use hw_types::{Bytes, Cause, Config, Digest, OutOfMemory, Receipt, SignedUnit, Vertex};
+use hw_types::{
+    Bytes, Cause, Config, Digest, Endorsement, OutOfMemory, Receipt, SignedUnit, Vertex,
+};
 use std::alloc::Global;
 
 /// A log that is being replayed into a node.
@@ -152,7 +154,52 @@ impl Replay {
         } = named;
         match name {
             Some(name) if verdict => self.take_named(at, vertex, name),
+            Some(_) | None => self.take_unnamed(at, vertex, verdict),
+        }
+    }
+
+    /// Takes the vertex of an entry at that byte, with its verdict. An endorsement stays apart from the rest, which has
+    /// room for the two units of an evidence.
+    fn take_unnamed(
+        &mut self,
+        at: u64,
+        vertex: Box<Vertex>,
+        verdict: bool,
+    ) -> Result<(), StartFault>
+        requires fits { VertexFits (box_value vertex) }
+        requires room { self.old.refused + self.old.repeats < 2 ^ 62 }
+        ensures taken { OnOk result (entry_taken (taken_in self.old) (record { at = at; verdict = verdict; vertex = box_value vertex }) ≡ Ok (taken_in self.new)) }
+        ensures stopped { IfErr result (λ e. IsStop e (entry_taken (taken_in self.old) (record { at = at; verdict = verdict; vertex = box_value vertex }))) }
+        ensures fault { IfErr result IsOfEntry }
+        ensures grows { GrowsByOne self.old.core self.new.core }
+        ensures reached { IsReached self.old.core → IsReached self.new.core }
+        ensures counts { self.new.refused + self.new.repeats ≤ self.old.refused + self.old.repeats + 1 }
+        ensures reader { self.new.reader ≡ self.old.reader }
+    {
+        match endorsement_in(&vertex) {
+            Some(endorsement) if verdict => self.take_endorsement(at, endorsement),
             Some(_) | None => self.take_any(at, Box::into_inner(vertex), verdict),
+        }
+    }
+
+    /// Takes the endorsement of an entry at that byte, whose verdict is right.
+    #[tactic(auto, using(crate::proofs::TakeLaws::grows_accepted, crate::proofs::TakeLaws::stop_is_of_entry, crate::proofs::EndLaws::reached_after))]
+    fn take_endorsement(&mut self, at: u64, endorsement: Endorsement) -> Result<(), StartFault>
+        requires room { self.old.refused + self.old.repeats < 2 ^ 62 }
+        ensures taken { OnOk result (entry_taken (taken_in self.old) (record { at = at; verdict = true; vertex = Vertices.Endorsement endorsement }) ≡ Ok (taken_in self.new)) }
+        ensures stopped { IfErr result (λ e. IsStop e (entry_taken (taken_in self.old) (record { at = at; verdict = true; vertex = Vertices.Endorsement endorsement }))) }
+        ensures fault { IfErr result IsOfEntry }
+        ensures grows { GrowsByOne self.old.core self.new.core }
+        ensures reached { IsReached self.old.core → IsReached self.new.core }
+        ensures counts { self.new.refused + self.new.repeats ≤ self.old.refused + self.old.repeats + 1 }
+        ensures reader { self.new.reader ≡ self.old.reader }
+    {
+        match self.core.deliver_endorsement(endorsement) {
+            Ok(receipt) => {
+                self.count(receipt);
+                Ok(())
+            }
+            Err(refused) => self.refuse_endorsement(at, refused),
         }
     }
 
@@ -246,6 +293,19 @@ impl Replay {
         self.refuse(at, Refused { cause, vertex })
     }
 
+    /// Counts a refused endorsement, unless it stops the replay. The entry is at that byte.
+    fn refuse_endorsement(&mut self, at: u64, refused: EndorsementRefused) -> Result<(), StartFault>
+        requires room { self.old.refused < 2 ^ 62 }
+        ensures counted { OnOk result (self.new ≡ record self.old { refused = self.old.refused + 1 }) }
+        ensures goes_on { OnOk result ((stop_of self.old.core at (Vertices.Endorsement refused.endorsement) refused.cause ≡ None) × (refused.cause ≢ Causes.OutOfMemory)) }
+        ensures stops { IfErr result (λ e. (e ≡ Faults.OutOfMemory) ⊎ (stop_of self.old.core at (Vertices.Endorsement refused.endorsement) refused.cause ≡ Some e)) }
+        ensures unchanged { OnErr result (self.new ≡ self.old) }
+    {
+        let EndorsementRefused { cause, endorsement } = refused;
+        let vertex = Vertex::Endorsement(endorsement);
+        self.refuse(at, Refused { cause, vertex })
+    }
+
     /// Counts a refused entry, unless it stops the replay. The entry is at that byte.
     fn refuse(&mut self, at: u64, refused: Refused) -> Result<(), StartFault>
         requires fits { VertexFits refused.vertex }
@@ -258,6 +318,16 @@ impl Replay {
         stop(self.alloc, &self.core, at, refused.cause, &refused.vertex)?;
         self.refused += 1;
         Ok(())
+    }
+}
+
+/// The endorsement that the vertex is, if it is one.
+fn endorsement_in(vertex: &Vertex) -> Option<Endorsement>
+    ensures { IfSome result (λ endorsement. vertex.now ≡ Vertices.Endorsement endorsement) }
+{
+    match vertex {
+        Vertex::Endorsement(endorsement) => Some(*endorsement),
+        Vertex::Unit(_) | Vertex::Evidence(_) => None,
     }
 }
 
