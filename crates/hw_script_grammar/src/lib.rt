@@ -13,6 +13,7 @@ mod digests;
 mod evidence;
 mod fault;
 mod head;
+mod laws;
 mod lines;
 mod lists;
 mod named;
@@ -27,6 +28,7 @@ mod words;
 
 pub use acts::{Act, Acts};
 pub use fault::ScriptError;
+pub use laws::writes_is_script_of;
 pub use named::Named;
 pub use names::Names;
 pub use numbers::number_up_to;
