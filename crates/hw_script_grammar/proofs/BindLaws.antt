@@ -1,8 +1,8 @@
 -- Words that are read one after the other, taken apart.
-use Rattle.std.proofs.Common.{◌≡◌, ◌⊎◌, ℕ, zero, suc, ◌^◌, List, [], ◌∷◌, ◌++◌, length, drop, codes, bytes_eq, Option, Some, None, Bool, true, false, cond, refl, sym, ap, ◌∙◌, subst, if◌then◌else◌}
+use Rattle.std.proofs.Common.{◌≡◌, ℕ, zero, suc, List, [], ◌∷◌, ◌++◌, length, drop, bytes_eq, Option, Some, None, Bool, true, false, cond, refl, sym, ap, ◌∙◌, subst}
 use Rattle.std.proofs.lemmas.Slice.Eq.{bytes_eq-Decides}
 use Rattle.hw_script_grammar.specs.Numbers.{number_below}
-use Rattle.hw_script_grammar.specs.Words.{Word, Read, ◌>>=◌, next_word, begins_with, keyword, optional, number, number_behind, each, one_or_more, next_each, is_end, nothing_more}
+use Rattle.hw_script_grammar.specs.Words.{Word, Read, ◌>>=◌, next_word, begins_with, keyword, optional, number, number_behind, each, next_each, nothing_more}
 use Rattle.hw_script_grammar.specs.Grammar.{Perhaps}
 
 -- what comes of a value comes of one that is there
@@ -92,10 +92,12 @@ optional_is {A = A} k meaning read same ws x e = go (begins_with k ws) refl e wh
   there vs y at is same_x =
       let w = one_word_is meaning vs y (sym (same vs) ∙ is) in
       subst (λ (z : Option A × List Word). (front : List Word) × (ws ≡ front ++ z.1) × Perhaps k meaning front z.0) same_x
-        (k ∷ w.0 ∷ [], at ∙ ap (λ us. k ∷ us) w.1, (w.0, refl, w.2))
+      (k ∷ w.0 ∷ [], at ∙ ap (λ us. k ∷ us) w.1, (w.0, refl, w.2))
+
   head : (vs : List Word) → begins_with k vs ≡ true → vs ≡ k ∷ drop 1 vs
   head [] h = absurd cc
   head (v ∷ vs) h = ap (λ u. u ∷ vs) ((bytes_eq-Decides v k).0 h)
+
   go : (b : Bool) → begins_with k ws ≡ b → cond b (read (drop 1 ws) >>= λ y. Some (Some y.0, y.1)) (Some (None, ws)) ≡ Some x → (front : List Word) × (ws ≡ front ++ x.1) × Perhaps k meaning front x.0
   go true at e =
       let b = bind_some (read (drop 1 ws)) (λ y. Some (Some y.0, y.1)) x e in
@@ -124,10 +126,13 @@ next_each_is {A = A} read (suc n) (w ∷ ws) x e =
     let more = bind_some (next_each read n ws) (λ ys. Some (one.0 ∷ ys.0, ys.1)) x one.2 in
     let rest = next_each_is read n ws more.0 more.1 in
     subst (λ (z : List A × List Word). (front : List Word) × (w ∷ ws ≡ front ++ z.1) × (length front ≡ suc n) × (each read front ≡ Some z.0))
-      (inside (one.0 ∷ more.0.0, more.0.1) x more.2)
-      (w ∷ rest.0, ap (λ vs. w ∷ vs) rest.1, ap suc rest.2,
-        bound (read w) (λ y. each read rest.0 >>= λ ys. Some (y ∷ ys)) one.0 (Some (one.0 ∷ more.0.0)) one.1
-          (bound (each read rest.0) (λ ys. Some (one.0 ∷ ys)) more.0.0 (Some (one.0 ∷ more.0.0)) rest.3 refl))
+    (inside (one.0 ∷ more.0.0, more.0.1) x more.2) (
+      w ∷ rest.0,
+      ap (λ vs. w ∷ vs) rest.1,
+      ap suc rest.2,
+      bound (read w) (λ y. each read rest.0 >>= λ ys. Some (y ∷ ys)) one.0 (Some (one.0 ∷ more.0.0)) one.1
+          (bound (each read rest.0) (λ ys. Some (one.0 ∷ ys)) more.0.0 (Some (one.0 ∷ more.0.0)) rest.3 refl),
+    )
 
 pub next_each_there : {A : Type 0} (read : Word → Option A) (front ws : List Word) (xs : List A) → each read front ≡ Some xs → next_each read (length front) (front ++ ws) ≡ Some (xs, ws)
 unfolding next_each each
@@ -136,5 +141,5 @@ next_each_there read (w ∷ front) ws xs e =
     let one = bind_some (read w) (λ y. each read front >>= λ ys. Some (y ∷ ys)) xs e in
     let more = bind_some (each read front) (λ ys. Some (one.0 ∷ ys)) xs one.2 in
     bound (read w) (λ y. next_each read (length front) (front ++ ws) >>= λ ys. Some (y ∷ ys.0, ys.1)) one.0 (Some (xs, ws)) one.1
-      (bound (next_each read (length front) (front ++ ws)) (λ ys. Some (one.0 ∷ ys.0, ys.1)) (more.0, ws) (Some (xs, ws)) (next_each_there read front ws more.0 more.1)
-        (ap (λ zs. Some (zs, ws)) (inside (one.0 ∷ more.0) xs more.2)))
+    (bound (next_each read (length front) (front ++ ws)) (λ ys. Some (one.0 ∷ ys.0, ys.1)) (more.0, ws) (Some (xs, ws)) (next_each_there read front ws more.0 more.1)
+    (ap (λ zs. Some (zs, ws)) (inside (one.0 ∷ more.0) xs more.2)))

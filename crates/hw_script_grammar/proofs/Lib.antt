@@ -15,3 +15,4 @@ pub mod SettingLaws
 pub mod UnitReadLaws
 pub mod LineReadLaws
 pub mod WritesLaws
+pub mod ReadLaws

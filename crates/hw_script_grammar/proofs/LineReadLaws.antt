@@ -1,5 +1,5 @@
 -- Lines behind the settings, as the grammar has them and as they are read.
-use Rattle.std.proofs.Common.{◌≡◌, ◌⊎◌, inl, inr, ℕ, ◌^◌, List, [], ◌∷◌, codes, Option, Some, None, Bool, true, false, cond, refl, sym, ap, ◌∙◌, subst}
+use Rattle.std.proofs.Common.{◌≡◌, inl, inr, ◌^◌, List, [], ◌∷◌, codes, Some, None, refl, sym, ap, ◌∙◌, subst}
 use Rattle.hw_types.specs.declared.unit.WireUnit.{WireUnit}
 use Rattle.hw_types.specs.declared.unit.Vertex.TheVariants as vertex
 use Rattle.hw_types.specs.Journal.{Setting}
@@ -12,12 +12,12 @@ use Rattle.hw_script_grammar.specs.declared.adds.LineKind.{LineKind}
 use Rattle.hw_script_grammar.specs.declared.adds.LineKind.TheVariants as kind
 use Rattle.hw_script_grammar.specs.declared.body.Said.{Said}
 use Rattle.hw_script_grammar.specs.Numbers.{number_below}
-use Rattle.hw_script_grammar.specs.Words.{Word, Read, ◌>>=◌, next_word, keyword, each, one_or_more, nothing_more}
+use Rattle.hw_script_grammar.specs.Words.{Word, ◌>>=◌, next_word, keyword, one_or_more, nothing_more}
 use Rattle.hw_script_grammar.specs.Names.{unit_as, digest_as, unsigned}
 use Rattle.hw_script_grammar.specs.Units.{new_name, unit_line, next_unit, evidence_line}
-use Rattle.hw_script_grammar.specs.Acts.{delivery_of, deliver_line, endorsements_of, endorse_line, shown_by, show_line, line_kind, adds_behind, line_adds}
+use Rattle.hw_script_grammar.specs.Acts.{deliver_line, endorsements_of, endorse_line, shown_by, show_line, line_kind, adds_behind, line_adds}
 use Rattle.hw_script_grammar.specs.Body.{with_more, with_line}
-use Rattle.hw_script_grammar.specs.Grammar.{SaysUnit, SaysEvidence, SaysDeliver, SaysEndorse, SaysShow, Says, SaysMore}
+use Rattle.hw_script_grammar.specs.Grammar.{SaysEvidence, SaysEndorse, SaysShow, Says, SaysMore}
 use Rattle.hw_script_grammar.proofs.BindLaws.{bind_some, bound, inside, next_word_is, keyword_is, keyword_there, end_is, one_word_is, one_word_there}
 use Rattle.hw_script_grammar.proofs.SettingLaws.{by_word}
 use Rattle.hw_script_grammar.proofs.UnitReadLaws.{new_is, new_there, unit_is, unit_there}
@@ -45,10 +45,18 @@ evidence_is names ws n e =
     let second = unit_next names left.0.1 right.0 right.1 in
     let made : Named = record { name = name.0.0; vertex = vertex.Evidence (record { left = unsigned left.0.0; right = unsigned right.0.0 }); digest = None } in
     record {
-      name = name.0.0; first = first.0; second = second.0;
+      name = name.0.0;
+      first = first.0;
+      second = second.0;
       words = ap (λ vs. codes "evidence" ∷ vs) (new.0 ∙ ap (λ vs. name.0.0 ∷ vs) (keyword_is (codes "of") name.0.1 of.0 of.1 ∙ ap (λ vs. codes "of" ∷ vs)
-        (first.1 ∙ ap (λ vs. first.0 ∷ vs) (second.1 ∙ ap (λ vs. second.0 ∷ vs) (end_is right.0.1 end.0 end.1)))));
-      is_new = new.1; left = left.0.0; right = right.0.0; is_left = first.2; is_right = second.2; named = sym (inside made n end.2) }
+          (first.1 ∙ ap (λ vs. first.0 ∷ vs) (second.1 ∙ ap (λ vs. second.0 ∷ vs) (end_is right.0.1 end.0 end.1)))));
+      is_new = new.1;
+      left = left.0.0;
+      right = right.0.0;
+      is_left = first.2;
+      is_right = second.2;
+      named = sym (inside made n end.2);
+    }
 
 evidence_there : (names : List Named) (ws : List Word) (n : Named) (says : SaysEvidence names ws n) → evidence_line names (says.name ∷ codes "of" ∷ says.first ∷ says.second ∷ []) ≡ Some n
 unfolding evidence_line
@@ -69,9 +77,15 @@ endorse_is names ws acts e =
     let by = bind_some (keyword (codes "by") name.0.1) _ acts d.2 in
     let vs = bind_some (one_or_more (number_below (2 ^ 32)) by.0) _ acts by.2 in
     record {
-      name = name.0.0; by = by.0;
+      name = name.0.0;
+      by = by.0;
       words = ap (λ us. codes "endorse" ∷ us) (next_word_is ws name.0 name.1 ∙ ap (λ us. name.0.0 ∷ us) (keyword_is (codes "by") name.0.1 by.0 by.1));
-      digest = d.0; is_unit = d.1; validators = vs.0; are = vs.1; all = sym (inside (endorsements_of name.0.0 d.0 vs.0) acts vs.2) }
+      digest = d.0;
+      is_unit = d.1;
+      validators = vs.0;
+      are = vs.1;
+      all = sym (inside (endorsements_of name.0.0 d.0 vs.0) acts vs.2);
+    }
 
 endorse_there : (names : List Named) (ws : List Word) (acts : List Act) (says : SaysEndorse names ws acts) → endorse_line names (says.name ∷ codes "by" ∷ says.by) ≡ Some acts
 unfolding endorse_line

@@ -1,5 +1,5 @@
 -- Settings lines, as the grammar has them and as they are read.
-use Rattle.std.proofs.Common.{◌≡◌, ℕ, ◌^◌, List, [], ◌∷◌, codes, bytes_eq, Option, Some, None, Bool, true, false, cond, refl, sym, ap, ◌∙◌, subst}
+use Rattle.std.proofs.Common.{◌≡◌, ℕ, ◌^◌, List, [], ◌∷◌, codes, bytes_eq, Option, Some, Bool, true, false, cond, refl, sym, ap, ◌∙◌, subst}
 use Rattle.std.proofs.lemmas.Slice.Eq.{bytes_eq-Decides}
 use Rattle.hw_script_grammar.specs.declared.lines.Line.{Line}
 use Rattle.hw_script_grammar.specs.declared.setting.Kind.{Kind}
@@ -79,7 +79,7 @@ exponents_said ws x e =
     let v = number_is (2 ^ 8) ws least.0 least.1 in
     let w = one_number_is (2 ^ 8) least.0.1 greatest.0 greatest.1 in
     subst (SaysSetting (codes "exponents" ∷ ws)) (inside (sets.Exponents least.0.0 greatest.0) x greatest.2)
-      (v.0, w.0, ap (λ vs. codes "exponents" ∷ vs) (v.1 ∙ ap (λ vs. v.0 ∷ vs) w.1), v.2, w.2)
+    (v.0, w.0, ap (λ vs. codes "exponents" ∷ vs) (v.1 ∙ ap (λ vs. v.0 ∷ vs) w.1), v.2, w.2)
 
 behind_said : (k : Kind) (ws : List Word) (x : Set) → setting_behind k ws ≡ Some x → SaysSetting (kind_word k ∷ ws) x
 unfolding setting_behind
@@ -104,7 +104,7 @@ exponents_there : (v w : Word) (least greatest : ℕ) → number_below (2 ^ 8) v
 unfolding two_exponents
 exponents_there v w least greatest a b =
     bound (number (2 ^ 8) (v ∷ w ∷ [])) (λ least. one_number (2 ^ 8) least.1 >>= λ greatest. Some (sets.Exponents least.0 greatest)) (least, w ∷ []) (Some (sets.Exponents least greatest))
-      (number_there (2 ^ 8) v (w ∷ []) least a) (ap (λ o. o >>= λ greatest. Some (sets.Exponents least greatest)) (one_number_there (2 ^ 8) w greatest b))
+    (number_there (2 ^ 8) v (w ∷ []) least a) (ap (λ o. o >>= λ greatest. Some (sets.Exponents least greatest)) (one_number_there (2 ^ 8) w greatest b))
 
 setting_there : (ws : List Word) (x : Set) → SaysSetting ws x → setting_of ws ≡ Some x
 unfolding setting_of kind_of setting_behind

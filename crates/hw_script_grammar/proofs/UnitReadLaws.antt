@@ -1,5 +1,5 @@
 -- Unit lines, as the grammar has them and as they are read.
-use Rattle.std.proofs.Common.{◌≡◌, ◌≤◌, ◌⊎◌, inl, inr, ℕ, ◌^◌, List, [], ◌∷◌, ◌++◌, length, map, codes, Option, Some, None, Bool, true, false, cond, not, ◌&&◌, refl, sym, ap, ◌∙◌, subst, le-leb, leb-true}
+use Rattle.std.proofs.Common.{◌≡◌, inl, inr, ℕ, ◌^◌, List, [], ◌∷◌, ◌++◌, length, map, codes, Option, Some, None, Bool, true, false, cond, not, ◌&&◌, refl, sym, ap, ◌∙◌, subst, le-leb, leb-true}
 use Rattle.std.specs.Prelude.{slice_get, nat_le}
 use Rattle.hw_types.specs.declared.unit.Digest.{Digest}
 use Rattle.hw_types.specs.declared.unit.WireUnit.{WireUnit}
@@ -9,7 +9,7 @@ use Rattle.hw_script_grammar.specs.declared.named.Named.{Named}
 use Rattle.hw_script_grammar.specs.declared.citation.Citation.{Citation}
 use Rattle.hw_script_grammar.specs.declared.unit.UnitNumbers.{UnitNumbers}
 use Rattle.hw_script_grammar.specs.Numbers.{number_below}
-use Rattle.hw_script_grammar.specs.Words.{Word, Read, ◌>>=◌, next_word, begins_with, keyword, optional, number, number_behind, each, one_or_more, next_each, is_end}
+use Rattle.hw_script_grammar.specs.Words.{Word, ◌>>=◌, next_word, begins_with, keyword, optional, number, number_behind, each, one_or_more, next_each}
 use Rattle.hw_script_grammar.specs.Wording.{is_name, is_value}
 use Rattle.hw_script_grammar.specs.Names.{is_taken, digest_as, has_unit, unsigned}
 use Rattle.hw_script_grammar.specs.Units.{new_name, unit_numbers, citation_of, citations, unit_number, value_text, unit_value, in_order, endorsed_names, unit_endorsed, unit_behind, named_unit, unit_line}
@@ -65,10 +65,17 @@ numbers_are ws x e =
     let exp = number_behind_is (codes "exp") (2 ^ 8) t.0.1 p.0 p.1 in
     let seq = optional_is (codes "seq") (number_below (2 ^ 64)) (number (2 ^ 64)) reads_number p.0.1 q.0 q.1 in
     subst (λ (y : UnitNumbers × List Word). NumbersSay ws y.0 y.1) (inside (record { creator = c.0.0; time = t.0.0; exponent = p.0.0; seq = q.0.0 }, q.0.1) x q.2)
-      (record {
-        by = by.0; at = at.0; exp = exp.0; seq = seq.0;
-        words = by.1 ∙ ap (λ vs. codes "by" ∷ by.0 ∷ vs) (at.1 ∙ ap (λ vs. codes "at" ∷ at.0 ∷ vs) (exp.1 ∙ ap (λ vs. codes "exp" ∷ exp.0 ∷ vs) seq.1));
-        creator = by.2; time = at.2; exponent = exp.2; given = seq.2 })
+    (record {
+      by = by.0;
+      at = at.0;
+      exp = exp.0;
+      seq = seq.0;
+      words = by.1 ∙ ap (λ vs. codes "by" ∷ by.0 ∷ vs) (at.1 ∙ ap (λ vs. codes "at" ∷ at.0 ∷ vs) (exp.1 ∙ ap (λ vs. codes "exp" ∷ exp.0 ∷ vs) seq.1));
+      creator = by.2;
+      time = at.2;
+      exponent = exp.2;
+      given = seq.2;
+    })
 
 numbers_there : (by at exp : Word) (seq behind : List Word) (creator time exponent : ℕ) (given : Option ℕ)
     → number_below (2 ^ 32) by ≡ Some creator → number_below (2 ^ 63) at ≡ Some time → number_below (2 ^ 8) exp ≡ Some exponent
@@ -146,8 +153,15 @@ unit_is s names ws n e =
     let value = bind_some (unit_value cited.0.1) _ u.0 seq.2 in
     let list = bind_some (unit_endorsed names value.0.1) _ u.0 value.2 in
     let made : WireUnit = record {
-      instance = s.instance; creator = numbers.0.0.creator; seq = seq.0; time = numbers.0.0.time; exponent = numbers.0.0.exponent;
-      panorama = map (λ (c : Citation). c.observation) cited.0.0; value = value.0.0; endorsed = list.0 } in
+      instance = s.instance;
+      creator = numbers.0.0.creator;
+      seq = seq.0;
+      time = numbers.0.0.time;
+      exponent = numbers.0.0.exponent;
+      panorama = map (λ (c : Citation). c.observation) cited.0.0;
+      value = value.0.0;
+      endorsed = list.0;
+    } in
     let new = new_is names ws name.0 name.1 in
     let say = numbers_are name.0.1 numbers.0 numbers.1 in
     let cites = cites_are names (length s.config.weights) numbers.0.1 cited.0 cited.1 in
@@ -156,12 +170,34 @@ unit_is s names ws n e =
     let first = subst (λ v. named_unit s.name names name.0.0 v ≡ Some n) (sym is) u.2 in
     let named = named_is (has_unit names made) (record { name = name.0.0; vertex = vertex.Unit (unsigned made); digest = Some (s.name made) }) n first in
     record {
-      name = name.0.0; by = say.by; at = say.at; exp = say.exp; seq = say.seq; cites = cites.0; block = block.0; endorsed = value.0.1;
+      name = name.0.0;
+      by = say.by;
+      at = say.at;
+      exp = say.exp;
+      seq = say.seq;
+      cites = cites.0;
+      block = block.0;
+      endorsed = value.0.1;
       words = ap (λ vs. codes "unit" ∷ vs) (new.0 ∙ ap (λ vs. name.0.0 ∷ vs) (say.words ∙
-        ap (λ vs. codes "by" ∷ say.by ∷ codes "at" ∷ say.at ∷ codes "exp" ∷ say.exp ∷ (say.seq ++ vs)) (cites.1 ∙ ap (λ vs. codes "cites" ∷ (cites.0 ++ vs)) block.1)));
-      is_new = new.1; unit = made; instance = refl; creator = say.creator; time = say.time; exponent = say.exponent;
-      given = numbers.0.0.seq; perhaps_given = say.given; cited = cited.0.0; one_each = cites.2; citations = cites.3; number = seq.1; panorama = refl;
-      value = block.2; list = list_is names value.0.1 list.0 list.1; is_first = named.0; named = sym named.1 }
+          ap (λ vs. codes "by" ∷ say.by ∷ codes "at" ∷ say.at ∷ codes "exp" ∷ say.exp ∷ (say.seq ++ vs)) (cites.1 ∙ ap (λ vs. codes "cites" ∷ (cites.0 ++ vs)) block.1)));
+      is_new = new.1;
+      unit = made;
+      instance = refl;
+      creator = say.creator;
+      time = say.time;
+      exponent = say.exponent;
+      given = numbers.0.0.seq;
+      perhaps_given = say.given;
+      cited = cited.0.0;
+      one_each = cites.2;
+      citations = cites.3;
+      number = seq.1;
+      panorama = refl;
+      value = block.2;
+      list = list_is names value.0.1 list.0 list.1;
+      is_first = named.0;
+      named = sym named.1;
+    }
   where
     named_is : (b : Bool) (x y : Named) → cond b None (Some x) ≡ Some y → (b ≡ false) × (x ≡ y)
     named_is true x y e = absurd cc
@@ -174,15 +210,22 @@ behind_there s names ws n says =
     let u = says.unit in
     let cites : List Word = codes "cites" ∷ (says.cites ++ (says.block ++ says.endorsed)) in
     bound _ _ (record { creator = u.creator; time = u.time; exponent = u.exponent; seq = says.given }, cites) _
-      (numbers_there says.by says.at says.exp says.seq cites u.creator u.time u.exponent says.given says.creator says.time says.exponent says.perhaps_given refl)
+    (numbers_there says.by says.at says.exp says.seq cites u.creator u.time u.exponent says.given says.creator says.time says.exponent says.perhaps_given refl)
     (bound _ _ (says.cited, says.block ++ says.endorsed) _ (cites_there names (length s.config.weights) says.cites (says.block ++ says.endorsed) says.cited says.one_each says.citations)
     (bound _ _ u.seq _ says.number
     (bound _ _ (u.value, says.endorsed) _
-      (optional_there (codes "block") value_as value_text reads_value says.block says.endorsed u.value (no_block names says.endorsed u.endorsed says.list) says.value)
+    (optional_there (codes "block") value_as value_text reads_value says.block says.endorsed u.value (no_block names says.endorsed u.endorsed says.list) says.value)
     (bound _ _ u.endorsed _ (list_there names says.endorsed u.endorsed says.list)
     (λ i. Some (record {
-      instance = sym says.instance i; creator = u.creator; seq = u.seq; time = u.time; exponent = u.exponent;
-      panorama = sym says.panorama i; value = u.value; endorsed = u.endorsed }))))))
+      instance = sym says.instance i;
+      creator = u.creator;
+      seq = u.seq;
+      time = u.time;
+      exponent = u.exponent;
+      panorama = sym says.panorama i;
+      value = u.value;
+      endorsed = u.endorsed;
+    }))))))
 
 pub unit_there : (s : Setting) (names : List Named) (ws : List Word) (n : Named) (says : SaysUnit s names ws n)
     → unit_line s names (says.name ∷ codes "by" ∷ says.by ∷ codes "at" ∷ says.at ∷ codes "exp" ∷ says.exp ∷ (says.seq ++ codes "cites" ∷ (says.cites ++ (says.block ++ says.endorsed)))) ≡ Some n

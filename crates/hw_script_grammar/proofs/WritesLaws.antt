@@ -155,7 +155,7 @@ module _ (setting : Config → Setting) (text : List ℕ) where
   explain_head (Ok x) (before, parts, all, number, first) =
       let finish : Result Config ℕ → Result Script ℕ = λ r. r >>= λ c. lines_add (setting c) nothing_said x.1 >>= λ said. Ok (record { config = c; names = said.names; acts = said.acts }) in
       subst (λ r. Explained setting text (finish r)) (sym (of_config (number_behind text) x.0 x.1))
-        (explain_config before x.0.settings x.0.last x.1 (config_of x.0.settings) (record { lines = parts; set = all; first = first }) number refl)
+      (explain_config before x.0.settings x.0.last x.1 (config_of x.0.settings) (record { lines = parts; set = all; first = first }) number refl)
   explain_head (Err n) (before, l, behind, end, parts, all, is, wrong, number) = sets_wrong before end l behind parts all is wrong number
 
   explain : Explained setting text (script_in setting text)
@@ -204,13 +204,13 @@ module _ (setting : Config → Setting) (text : List ℕ) where
   wrong_there n (breaks head t behind config parted is breaks_it number) =
       bound_ok _ _ (head_at t (last_number head), behind) _ (parted_there head t behind parted)
       (bound_err _ _ (last_number head)
-        (of_config (number_behind text) (head_at t (last_number head)) behind ∙ ap (by_config (number_behind text) (last_number head) behind) is ∙ broken (last_number head) config breaks_it))
+      (of_config (number_behind text) (head_at t (last_number head)) behind ∙ ap (by_config (number_behind text) (last_number head) behind) is ∙ broken (last_number head) config breaks_it))
       ∙ ap Err (sym number)
   wrong_there n (says_wrong head t config before said l behind parted is all wrong number) =
       bound_ok _ _ (head_at t (last_number head), before ++ l ∷ behind) _ (parted_there head t (before ++ l ∷ behind) parted)
       (bound_ok _ _ config _ (config_there (number_behind text) (last_number head) (before ++ l ∷ behind) t config is)
       (bound_err _ _ l.number
-        (said_there (setting config) nothing_said before (l ∷ behind) said all ∙ BodyLaws.line_fails fault.Grammar (setting config) said (l ∷ behind) behind l refl (not_said (setting config) said l wrong))))
+      (said_there (setting config) nothing_said before (l ∷ behind) said all ∙ BodyLaws.line_fails fault.Grammar (setting config) said (l ∷ behind) behind l refl (not_said (setting config) said l wrong))))
       ∙ ap Err (sym number)
 
   pub written_is : (script : Script) → script_in setting text ≡ Ok script → WritesIn setting text script

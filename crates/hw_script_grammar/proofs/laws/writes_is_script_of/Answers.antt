@@ -6,4 +6,5 @@ returns c = record {
   read = λ setting text script. (written_is setting text script, written_there setting text script);
   wrong = λ setting text n. (wrong_is setting text n, wrong_there setting text n);
   one = one_is_written;
-  all = all_is_read }
+  all = all_is_read;
+}
