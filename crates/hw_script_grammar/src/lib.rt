@@ -2,7 +2,8 @@
 //!
 //! A script is a text that sets a configuration, defines units and evidence by name, and says what is
 //! delivered and shown. Reading one gives the configuration, all that is defined, and what is done, step by
-//! step; or the number of the first line outside the grammar. `specs/` says the same over the text's bytes.
+//! step; or the number of the first line outside the grammar. `specs/Grammar.antt` says which text writes which
+//! script, and which line is the first that is wrong.
 #![tactic(auto)]
 
 mod acts;
