@@ -16,3 +16,4 @@ pub mod UnitReadLaws
 pub mod LineReadLaws
 pub mod WritesLaws
 pub mod ReadLaws
+pub mod NumeralLaws

@@ -29,7 +29,7 @@ mod words;
 
 pub use acts::{Act, Acts};
 pub use fault::ScriptError;
-pub use laws::writes_is_script_of;
+pub use laws::{numbers_are_decimal, writes_is_script_of};
 pub use named::Named;
 pub use names::Names;
 pub use numbers::number_up_to;
