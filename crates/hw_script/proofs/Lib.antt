@@ -3,3 +3,4 @@ pub mod ToldLaws
 pub mod AnswerLaws
 pub mod ShowLaws
 pub mod RunLaws
+pub mod PrintLaws

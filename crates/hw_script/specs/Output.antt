@@ -1,6 +1,6 @@
 -- What a script prints.
 -- Source: ours.
-use Rattle.std.specs.Prelude.{ℕ, true, List, [], ◌∷◌, ◌++◌, codes, Result, Ok}
+use Rattle.std.specs.Prelude.{◌≡◌, ◌↔◌, ℕ, true, List, [], ◌∷◌, ◌++◌, codes, Result, Ok, Err}
 use Rattle.hw_types.specs.declared.unit.Digest.{Digest}
 use Rattle.hw_types.specs.declared.unit.Vertex.{Vertex}
 use Rattle.hw_types.specs.declared.unit.Vertex.TheVariants as vertex
@@ -15,6 +15,7 @@ use Rattle.hw_script_grammar.specs.declared.named.Named.{Named}
 use Rattle.hw_script_grammar.specs.declared.acts.Act.{Act}
 use Rattle.hw_script_grammar.specs.declared.acts.Act.TheVariants as act
 use Rattle.hw_script_grammar.specs.declared.script.Script.{Script}
+use Rattle.hw_script_grammar.specs.Grammar.{Writes, IsFirstWrong}
 use Rattle.hw_script_grammar.specs.Names.{no_signature}
 use Rattle.hw_script_grammar.specs.Script.{◌>>=◌, script_in}
 use Rattle.hw_script.specs.Answers.{answer_text}
@@ -59,3 +60,17 @@ output_in setting text = script_in setting text >>= λ (script : Script). Ok (ac
 -- with names by SHA-256
 abbrev pub output_of : List ℕ → Result (List ℕ) ℕ
 output_of text = output_in setting_of text
+
+-- ---- the same in the words of the grammar
+
+-- the text writes a script that prints this
+abbrev pub Prints : List ℕ → List ℕ → Type 0
+Prints text output = (script : Script) × Writes text script × (output ≡ acts_text script.names (setting_of script.config) [] script.acts)
+
+-- the output is exactly what the script that the text writes prints
+abbrev pub ThatOutputIsPrinted : Type 0
+ThatOutputIsPrinted = (text output : List ℕ) → (output_of text ≡ Ok output) ↔ Prints text output
+
+-- and a line is named exactly where it is the first that is wrong
+abbrev pub ThatWrongIsNamed : Type 0
+ThatWrongIsNamed = (text : List ℕ) (n : ℕ) → (output_of text ≡ Err n) ↔ IsFirstWrong text n

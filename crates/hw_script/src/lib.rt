@@ -6,10 +6,12 @@
 
 mod answers;
 mod finals;
+mod laws;
 mod named;
 mod run;
 mod shows;
 mod steps;
 
 pub use hw_script_grammar::ScriptError;
+pub use laws::output_is_printed;
 pub use run::run_script;

@@ -10,3 +10,10 @@ pub mod ValueLaws
 pub mod ActLaws
 pub mod BodyLaws
 pub mod FormatLaws
+pub mod BindLaws
+pub mod SettingLaws
+pub mod UnitReadLaws
+pub mod LineReadLaws
+pub mod WritesLaws
+pub mod ReadLaws
+pub mod NumeralLaws

@@ -1,4 +1,5 @@
 -- What the lines of a script define and do.
+-- Grammar takes `delivery_of`, `endorsements_of` and `shown_by` from here; the rest is for the prover: the reader's steps.
 -- Source: ours.
 use Rattle.std.specs.Prelude.{ℕ, ◌+◌, ◌^◌, List, [], ◌∷◌, ◌++◌, length, map, codes, bytes_eq, Option, Some, None, Result, Ok, Err, if◌then◌else◌}
 use Rattle.hw_types.specs.declared.unit.Digest.{Digest}

@@ -30,3 +30,8 @@ Stops error.OutOfMemory given = Unit {0}
 abbrev pub Reads : {X Y : Type 0} → (X → Y) → Result X ScriptError → Result Y ℕ → Type 0
 Reads view (Ok x) given = given ≡ Ok (view x)
 Reads view (Err e) given = Stops e given
+
+-- the error names a line that is so, or there is no memory
+abbrev pub IsLine : (ℕ → Type 0) → ScriptError → Type 0
+IsLine Is (error.Line number) = Is number
+IsLine Is error.OutOfMemory = Unit {0}

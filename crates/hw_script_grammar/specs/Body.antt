@@ -1,4 +1,5 @@
 -- What the lines behind the settings say.
+-- Grammar takes `nothing_said` and `with_more` from here; the rest is for the prover: the reader's steps.
 -- Source: ours.
 use Rattle.std.specs.Prelude.{ℕ, List, [], ◌∷◌, ◌++◌, Option, Some, None, Result, Ok, Err}
 use Rattle.hw_types.specs.Journal.{Setting}

@@ -10,5 +10,7 @@ pub mod Fits
 pub mod Acts
 pub mod Body
 pub mod Script
+pub mod Grammar
+pub mod Laws
 pub mod Answers
 pub mod Samples

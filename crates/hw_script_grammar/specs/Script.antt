@@ -1,4 +1,5 @@
 -- What a text says, or the first line outside the grammar.
+-- For the prover: the reader's steps. What a reader believes is Grammar; the law `writes_is_script_of` says that the two are one.
 -- Source: ours.
 use Rattle.std.specs.Prelude.{ℕ, ◌+◌, List, length, Some, Result, Ok, Err}
 use Rattle.hw_types.specs.declared.config.Config.{Config}

@@ -1,4 +1,5 @@
 -- The settings at the head of a script.
+-- Grammar takes `no_settings`, `with_setting` and `config_of` from here; the rest is for the prover: the reader's steps.
 -- Source: ours.
 use Rattle.std.specs.Prelude.{ℕ, ◌^◌, List, [], ◌∷◌, codes, bytes_eq, unwrap_or, Option, Some, None, Result, Ok, Err, if◌then◌else◌}
 use Rattle.hw_types.specs.declared.config.Config.{Config}

@@ -1,4 +1,5 @@
 -- Lines that define units and evidence.
+-- Grammar takes `citation_of`, `unit_number` and `in_order` from here; the rest is for the prover: the reader's steps.
 -- Source: ours.
 use Rattle.std.specs.Prelude.{ℕ, ◌+◌, ◌^◌, nat_le, nat_lt, not, ◌&&◌, List, [], ◌∷◌, ◌++◌, length, map, fold, codes, bytes_eq, slice_get, Option, Some, None, if◌then◌else◌}
 use Rattle.hw_types.specs.declared.unit.Digest.{Digest}

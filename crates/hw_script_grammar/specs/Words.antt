@@ -1,4 +1,5 @@
 -- The words of a line, and reading them one after the other.
+-- Grammar takes `Word`, `words_of`, `each` and `one_or_more` from here; the rest is for the prover: the reader's steps.
 -- Source: ours.
 use Rattle.std.specs.Prelude.{◌≡◌, ℕ, zero, suc, Bool, true, false, ◌==◌, List, [], ◌∷◌, drop, bytes_eq, Option, Some, None, if◌then◌else◌}
 use Rattle.std.specs.List.{slice_split}

@@ -2,7 +2,8 @@
 //!
 //! A script is a text that sets a configuration, defines units and evidence by name, and says what is
 //! delivered and shown. Reading one gives the configuration, all that is defined, and what is done, step by
-//! step; or the number of the first line outside the grammar. `specs/` says the same over the text's bytes.
+//! step; or the number of the first line outside the grammar. `specs/Grammar.antt` says which text writes which
+//! script, and which line is the first that is wrong.
 #![tactic(auto)]
 
 mod acts;
@@ -13,6 +14,7 @@ mod digests;
 mod evidence;
 mod fault;
 mod head;
+mod laws;
 mod lines;
 mod lists;
 mod named;
@@ -27,6 +29,7 @@ mod words;
 
 pub use acts::{Act, Acts};
 pub use fault::ScriptError;
+pub use laws::{numbers_are_decimal, writes_is_script_of};
 pub use named::Named;
 pub use names::Names;
 pub use numbers::number_up_to;

@@ -1,9 +1,10 @@
 //! A whole script.
 
-ghost use Rattle.std.specs.Prelude.{◌≡◌, None, IfOk};
+ghost use Rattle.std.specs.Prelude.{◌≡◌, None, IfOk, IfErr};
 ghost use Rattle.hw_types.specs.Limits.{config_fault};
 ghost use Rattle.hw_script_grammar.specs.Script.{script_of};
-ghost use Rattle.hw_script_grammar.specs.Answers.{Reads};
+ghost use Rattle.hw_script_grammar.specs.Grammar.{Writes, IsFirstWrong};
+ghost use Rattle.hw_script_grammar.specs.Answers.{Reads, IsLine};
 
 use crate::acts::Acts;
 use crate::body::read_body;
@@ -22,11 +23,23 @@ pub struct Script {
     pub acts: Acts,
 }
 
-/// Reads a script, whose configuration then keeps its limits. `Line` names the first line outside the
-/// grammar.
-#[tactic(auto, unfolding(crate::specs::Script::script_in))]
+/// Reads the script that the text writes, whose configuration then keeps its limits. `Line` names the first
+/// line outside the grammar.
+#[tactic(auto, using(crate::proofs::ReadLaws::is_written, crate::proofs::ReadLaws::is_wrong))]
 pub fn read_script(alloc: Global, text: &[u8]) -> Result<Script, ScriptError>
-    ensures script { Reads (λ script. script) result (script_of text.now) }
+    ensures script { IfOk result (Writes text.now) }
+    ensures line { IfErr result (IsLine (IsFirstWrong text.now)) }
+    // The same by the reader's steps, which `writes_is_script_of` says are one with the grammar.
+    ensures steps { Reads (λ script. script) result (script_of text.now) }
+    ensures lawful { IfOk result (λ script. config_fault script.config ≡ None) }
+{
+    script_of(alloc, text)
+}
+
+/// The same, as it is read step by step.
+#[tactic(auto, unfolding(crate::specs::Script::script_in))]
+fn script_of(alloc: Global, text: &[u8]) -> Result<Script, ScriptError>
+    ensures steps { Reads (λ script. script) result (script_of text.now) }
     ensures lawful { IfOk result (λ script. config_fault script.config ≡ None) }
 {
     let mut lines = Lines::new(text);
