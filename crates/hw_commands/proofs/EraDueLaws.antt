@@ -10,7 +10,7 @@ use Rattle.hw_replay.specs.declared.fault.StartFault.TheVariants as start
 use Rattle.hw_replay.specs.Taken.{Taken}
 use Rattle.hw_eras.specs.Nodes.{next_of, first_config}
 use Rattle.hw_eras.specs.Logs.{Held, Stop, Stopped, ◌>>=◌, file_left, or_stopped, log_left, eras_from, eras_of, nodes_of}
-use Rattle.hw_eras.specs.Reports.{reports_of, logs_reported}
+use Rattle.hw_eras.specs.Reports.{reports_of}
 use Rattle.hw_eras.specs.declared.audits.EraAudit.{EraAudit}
 use Rattle.hw_eras.specs.Audits.{eras_audited, audited_against, logs_audited}
 use Rattle.hw_eras.specs.Turns.{HasTurnFrom, HasTurnOf, HasTurnIn}

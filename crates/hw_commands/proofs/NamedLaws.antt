@@ -36,7 +36,7 @@ use Rattle.hw_commands.proofs.EraDueLaws.{reported_alike, audited_alike}
 
 -- a call about one of the files failed, or one of them isn't there
 abbrev pub FailsAmong : List Word → Held → (Word → ℕ) → (Word → ℕ) → Type 0
-FailsAmong names held before now = (name : Word) × Among name names × FailsOrLacks (held name) name before now
+FailsAmong names held before now = (name : Word) × (Among name names × FailsOrLacks (held name) name before now)
 
 -- ---- a file that isn't named isn't due
 

@@ -1,5 +1,5 @@
 -- The turn of the log at which a run over logs of eras stops.
-use Rattle.std.proofs.Common.{◌≡◌, ◌⊎◌, ℕ, ◌<◌, inl, inr, List, [], ◌∷◌, drop, Option, Some, None, Result, Ok, Err, refl, sym, ap, subst, ◌∙◌}
+use Rattle.std.proofs.Common.{◌≡◌, ◌⊎◌, ℕ, ◌<◌, inl, inr, List, [], ◌∷◌, drop, Option, Some, None, Ok, refl, sym, ap, subst, ◌∙◌}
 use Rattle.std.specs.Prelude.{slice_get}
 use Rattle.std.specs.Option.{option_map}
 use Rattle.hw_io.specs.Files.{SameFiles}
@@ -69,9 +69,9 @@ pub behind_first : (held now : Held) (wanted : Option Config) (names : List (Lis
 behind_first held now wanted names log logs f e same is has at =
     at_then (HasTurnFrom now (next_in f) logs) (HasTurnOf held wanted names) e
     (λ name turn.
-        let here = subst (λ (h : Held). HasTurnFrom h (next_in f) logs name) (same_held held now same) turn in
-        let next = subst (λ (o : Option Config). HasTurnFrom held o logs name) (next_first f has.0 has.2) here in
-        subst (λ (ns : List (List ℕ)). HasTurnOf held wanted ns name) (sym is) (inr (has.0, has.1, next)))
+    let here = subst (λ (h : Held). HasTurnFrom h (next_in f) logs name) (same_held held now same) turn in
+    let next = subst (λ (o : Option Config). HasTurnFrom held o logs name) (next_first f has.0 has.2) here in
+    subst (λ (ns : List (List ℕ)). HasTurnOf held wanted ns name) (sym is) (inr (has.0, has.1, next)))
     at
 
 -- ---- two nodes
