@@ -10,8 +10,10 @@ use Rattle.hw_io.specs.Files.{SameFiles}
 use Rattle.hw_commands.specs.declared.ended.Ended.{Ended}
 use Rattle.hw_commands.specs.declared.ended.RunFault.{RunFault}
 use Rattle.hw_commands.specs.declared.ended.RunFault.TheVariants.{Read, Append, OutOfMemory}
-use Rattle.hw_types.specs.Below.{Among}
-use Rattle.hw_commands.specs.Faults.{HasReadFault, FailsAmong}
+use Rattle.hw_commands.specs.Commands.{Word}
+use Rattle.hw_commands.specs.Faults.{HasReadFault}
+use Rattle.hw_commands.specs.Program.{Held, Part}
+use Rattle.hw_commands.specs.Due.{IsDue, FailsDue}
 
 -- a part before it left the count
 pub fault_then : (before mid now : ℕ) (r : Result Ended RunFault) → mid ≡ before → HasReadFault mid now r → HasReadFault before now r
@@ -36,11 +38,11 @@ pub read_about : (file : Option (List ℕ)) (name : List ℕ) (before now : List
 read_about file name before now fault (Ok e) about read = tt
 read_about file name before now fault (Err f) about read = λ is. fails-or-lacks file name before now (subst (IsFaultAbout (subject_of file name) before now) (read is) about)
 
--- and so is one of these logs
-pub stopped_about : (logs : List (List ℕ)) (held : List ℕ → Option (List ℕ)) (name : List ℕ) (before now : List ℕ → ℕ) (fault : StartFault) (r : Result Ended RunFault) → Among name logs → IsFaultAbout (subject_of (held name) name) before now fault
-    → IfErr r (λ f. f ≡ Read → fault ≡ start.Log log.ReadFault) → IfErr r (λ f. f ≡ Read → FailsAmong logs held before now)
-stopped_about logs held name before now fault (Ok e) among about read = tt
-stopped_about logs held name before now fault (Err f) among about read = λ is. (name, (among, fails-or-lacks (held name) name before now (subst (IsFaultAbout (subject_of (held name) name) before now) (read is) about)))
+-- and the log is due
+pub stopped_about : (said : Held → Part Ended) (held : Held) (name : Word) (before now : Word → ℕ) (fault : StartFault) (r : Result Ended RunFault) → IsDue said held name → IsFaultAbout (subject_of (held name) name) before now fault
+    → IfErr r (λ f. f ≡ Read → fault ≡ start.Log log.ReadFault) → IfErr r (λ f. f ≡ Read → FailsDue said held before now)
+stopped_about said held name before now fault (Ok e) due about read = tt
+stopped_about said held name before now fault (Err f) due about read = λ is. (name, due, fails-or-lacks (held name) name before now (subst (IsFaultAbout (subject_of (held name) name) before now) (read is) about))
 
 -- no read failed
 pub no_read : (P : Type 0) (r : Result Ended RunFault) → IfErr r (λ f. f ≡ OutOfMemory) → IfErr r (λ f. f ≡ Read → P)

@@ -49,7 +49,7 @@ use Rattle.hw_commands.proofs.FileLaws.{file_replayed}
 
 -- ---- files
 
-file_there : (held : Held) (name : Word) (file : Option (List ℕ)) → with_file held name file name ≡ file
+pub file_there : (held : Held) (name : Word) (file : Option (List ℕ)) → with_file held name file name ≡ file
 file_there held name file = ap (λ (b : Bool). if b then file else held name) ((bytes_eq-Decides name name).1 refl)
 
 pub file_elsewhere : (held : Held) (name other : Word) (file : Option (List ℕ)) → bytes_eq other name ≡ false → with_file held name file other ≡ held other
@@ -64,7 +64,7 @@ abbrev pub GoesOn : (Option (List ℕ) → Part Ended) → Type 0
 GoesOn reads = (status (reads None) ≡ 4) × (status (reads (Some [])) ≢ 4)
 
 -- a line of a file's fault is no failed read
-not_input : (name text : List ℕ) → (input_ended name text).status ≢ 4
+pub not_input : (name text : List ℕ) → (input_ended name text).status ≢ 4
 not_input name text four = let two : ◌≡◌ {A = ℕ} 2 4 = sym (input_status name text) ∙ four in omega (arith, two)
 
 -- ---- what is due
@@ -114,7 +114,7 @@ due_behind_test reads file new held goes absent = record {
 
 -- ---- empty files
 
-no_log : (wanted : Option Config) → replay_of wanted [] ≡ Err (start.Log log.BadMagic)
+pub no_log : (wanted : Option Config) → replay_of wanted [] ≡ Err (start.Log log.BadMagic)
 unfolding replay_of header_of front_of
 no_log wanted = refl
 

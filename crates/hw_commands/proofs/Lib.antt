@@ -8,6 +8,7 @@ pub mod FileLaws
 pub mod ScriptLaws
 pub mod CauseLaws
 pub mod DueLaws
+pub mod EraDueLaws
 pub mod NamedLaws
 pub mod AuditLaws
 pub mod AuditedLaws

@@ -1,10 +1,11 @@
 -- The file of a failed read is one that the request names, and so is one that is due and isn't there.
-use Rattle.std.proofs.Common.{◌≡◌, ℕ, Bool, true, false, List, [], ◌∷◌, ◌++◌, codes, bytes_eq, Option, Some, None, Result, Ok, Err, refl, sym, ap, ◌∙◌, inl, inr}
+use Rattle.std.proofs.Common.{◌≡◌, ℕ, Bool, true, false, List, [], ◌∷◌, ◌++◌, codes, bytes_eq, Option, Some, None, Result, Ok, Err, refl, sym, ap, subst, ◌∙◌, inl, inr}
 use Rattle.std.specs.Prelude.{◌⊎◌, length}
 use Rattle.std.proofs.lemmas.Slice.Eq.{bytes_eq-Decides}
 use Rattle.hw_types.specs.declared.config.ConfigFault.{ConfigFault}
 use Rattle.hw_types.specs.declared.unit.Digest.{Digest}
 use Rattle.hw_types.specs.Below.{Among}
+use Rattle.hw_io.specs.Faults.{FailsOrLacks}
 use Rattle.hw_types.specs.Limits.{config_fault}
 use Rattle.hw_types.specs.Real.{CoreState, setting_of}
 use Rattle.hw_log.specs.declared.error.LogError.{LogError}
@@ -27,11 +28,15 @@ use Rattle.hw_commands.specs.Texts.{input_ended, read_fault_ended}
 use Rattle.hw_commands.specs.Scripted.{script_ended}
 use Rattle.hw_commands.specs.Told.{told_ended}
 use Rattle.hw_commands.specs.Audited.{audit_ended}
-use Rattle.hw_commands.specs.Faults.{FailsAmong}
-use Rattle.hw_commands.specs.Program.{◌>>=◌, Held, Part, done, report_of, or_unwritten, or_parted, log_replayed, audited_against, audit_said, script_said, rewrite_said, certify_said, yes_said, answer_said, checked_said, check_said, request_said}
+use Rattle.hw_commands.specs.Program.{◌>>=◌, Held, Part, done, report_of, or_unwritten, or_parted, log_replayed, audited_against, audit_said, script_said, rewrite_said, certify_said, yes_said, answer_said, checked_said, check_said, eras_said, era_audit_said, request_said}
 use Rattle.hw_commands.specs.Due.{with_file, FailsDue, FailsOf}
 use Rattle.hw_commands.proofs.FileLaws.{file_replayed}
 use Rattle.hw_commands.proofs.DueLaws.{status, file_elsewhere, certificate_in, keys_told}
+use Rattle.hw_commands.proofs.EraDueLaws.{reported_alike, audited_alike}
+
+-- a call about one of the files failed, or one of them isn't there
+abbrev pub FailsAmong : List Word → Held → (Word → ℕ) → (Word → ℕ) → Type 0
+FailsAmong names held before now = (name : Word) × (Among name names × FailsOrLacks (held name) name before now)
 
 -- ---- a file that isn't named isn't due
 
@@ -117,6 +122,22 @@ of_checked file keys log h k same =
         ap (λ (o : Option (List ℕ)). keys_told keys (length c.config.weights) o >>= λ given. answer_said h file c log (checked_of c (verdicts_by given c.vertices))) same.1.0
         ∙ ap (λ (f : List (List ℕ) → Part Ended). keys_told keys (length c.config.weights) (k keys) >>= f) (λ i given. answered c (checked_of c (verdicts_by given c.vertices)) i)
 
+-- each of the files under these names
+same_at : (h k : Held) (names : List Word) → AreSame h k names → (name : Word) → Among name names → h name ≡ k name
+same_at h k [] same name m = absurd m
+same_at h k (other ∷ names) same name (inl is) = subst (λ (w : Word). h w ≡ k w) is same.0
+same_at h k (other ∷ names) same name (inr m) = same_at h k names same.1 name m
+
+of_eras : (logs : List Word) → HangsOn logs (λ h. eras_said h logs)
+of_eras logs h k same = reported_alike h k logs (same_at h k logs same)
+
+of_era_audit : (left right : List Word) → HangsOn (left ++ right) (λ h. era_audit_said h left right)
+of_era_audit left right h k same = (let both = parts left same in audited_alike h k left right (same_at h k left both.0) (same_at h k right both.1))
+  where
+    parts : (names : List Word) → AreSame h k (names ++ right) → AreSame h k names × AreSame h k right
+    parts [] all = (tt, all)
+    parts (name ∷ names) all = (let rest = parts names all.1 in ((all.0, rest.0), rest.1))
+
 -- ---- the files that a request names
 
 abbrev pub files_of : Option Request → List Word
@@ -147,5 +168,5 @@ fails_named held (Some (Certify log block new)) before now (inr fails) = due_nam
 fails_named held (Some (Check file keys log)) before now fails = due_named (file ∷ keys ∷ named log) (λ h. check_said h file keys log) (of_checked file keys log) held before now fails
 fails_named held (Some (Gen number rounds)) before now fails = due_named [] (λ h. request_said h (Some (Gen number rounds))) (λ h k same. refl) held before now fails
 fails_named held (Some (Sim number nodes steps)) before now fails = due_named [] (λ h. request_said h (Some (Sim number nodes steps))) (λ h k same. refl) held before now fails
-fails_named held (Some (Eras logs)) before now fails = fails
-fails_named held (Some (EraAudit left right)) before now fails = fails
+fails_named held (Some (Eras logs)) before now fails = due_named logs (λ h. eras_said h logs) (of_eras logs) held before now fails
+fails_named held (Some (EraAudit left right)) before now fails = due_named (left ++ right) (λ h. era_audit_said h left right) (of_era_audit left right) held before now fails

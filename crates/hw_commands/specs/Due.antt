@@ -1,11 +1,10 @@
 -- Which file a read that failed was about.
 -- Source: ours.
-use Rattle.std.specs.Prelude.{◌≡◌, ◌≢◌, ◌⊎◌, ℕ, List, [], ◌++◌, bytes_eq, Option, Some, None, if◌then◌else◌}
+use Rattle.std.specs.Prelude.{◌≡◌, ◌≢◌, ◌⊎◌, ℕ, List, [], bytes_eq, Option, Some, None, if◌then◌else◌}
 use Rattle.hw_io.specs.Faults.{Rose, FailsOrLacks}
 use Rattle.hw_commands.specs.declared.ended.Ended.{Ended}
-use Rattle.hw_commands.specs.Commands.{Word, Request, Mend, Migrate, Certify, Eras, EraAudit}
+use Rattle.hw_commands.specs.Commands.{Word, Request, Mend, Migrate, Certify}
 use Rattle.hw_commands.specs.Program.{Held, Part, ended, mend_said, migrate_said, certify_said, request_said}
-use Rattle.hw_commands.specs.Faults.{FailsAmong}
 
 -- the files, with this one under the name, or none there
 abbrev pub with_file : Held → Word → Option (List ℕ) → Held
@@ -21,11 +20,8 @@ abbrev pub FailsDue : (Held → Part Ended) → Held → (List ℕ → ℕ) → 
 FailsDue said held before now = (name : Word) × IsDue said held name × FailsOrLacks (held name) name before now
 
 -- The call that failed was about a file that is due, or tested whether the file that is to be new is there, or a file that is due isn't there.
--- With eras it was about any of their logs: a run over those doesn't say which ones it had replayed.
 abbrev pub FailsOf : Held → Option Request → (List ℕ → ℕ) → (List ℕ → ℕ) → Type 0
 FailsOf held (Some (Mend log new)) before now = Rose (before new) (now new) ⊎ FailsDue (λ h. mend_said h log new) held before now
 FailsOf held (Some (Migrate log new)) before now = Rose (before new) (now new) ⊎ FailsDue (λ h. migrate_said h log new) held before now
 FailsOf held (Some (Certify log block new)) before now = Rose (before new) (now new) ⊎ FailsDue (λ h. certify_said h log block new) held before now
-FailsOf held (Some (Eras logs)) before now = FailsAmong logs held before now
-FailsOf held (Some (EraAudit left right)) before now = FailsAmong (left ++ right) held before now
 FailsOf held request before now = FailsDue (λ h. request_said h request) held before now

@@ -1,6 +1,5 @@
 -- When a run up to its text has which fault.
 use Rattle.std.specs.Prelude.{◌≡◌, ℕ, ◌≤◌, ◌⊎◌, List, Option, Some, None, Result, Ok, Err}
-use Rattle.hw_types.specs.Below.{Among}
 use Rattle.hw_io.specs.Faults.{Rose, FailsOrLacks}
 use Rattle.hw_commands.specs.declared.ended.Ended.{Ended}
 use Rattle.hw_commands.specs.Commands.{Word, Request, Replay, Explain, Audit, Script, Mend, Migrate, Certify, Check, Gen, Sim, Eras, EraAudit}
@@ -46,10 +45,6 @@ abbrev pub IsReadOf : {T : Type 0} → Option (List ℕ) → Word → (List ℕ 
 IsReadOf file name before now (Ok x) = now ≡ before
 IsReadOf file name before now (Err Read) = FailsOrLacks file name before now
 IsReadOf file name before now (Err fault) = Unit {0}
-
--- a call about one of the files failed, or one of them isn't there
-abbrev pub FailsAmong : List Word → (List ℕ → Option (List ℕ)) → (List ℕ → ℕ) → (List ℕ → ℕ) → Type 0
-FailsAmong names held before now = (name : Word) × (Among name names × FailsOrLacks (held name) name before now)
 
 -- a command that reads logs does all, or ends by what is wrong with one: its bytes, a limit that it meets, or a clash
 abbrev pub IsReadEnd : ℕ → Type 0

@@ -1,12 +1,15 @@
 //! `eras` and `era-audit`: what the logs of eras leave, and what the eras of two nodes say of each other.
 
-ghost use Rattle.std.specs.Prelude.{◌≡◌, ℕ, ◌≤◌, ◌++◌, List, Option, length, map, string_bytes, codes, Err, IsTrue, IfOk, IfErr};
+ghost use Rattle.std.specs.Prelude.{◌≡◌, ℕ, ◌≤◌, List, length, map, string_bytes, codes, Err, IsTrue, IfOk, IfErr};
 ghost use Rattle.hw_io.specs.Files.{SameFiles};
-ghost use Rattle.hw_eras.specs.Stops.{IsOfLogs, IsEraAbout, IsReadCounted as IsEraCounted};
-ghost use Rattle.hw_commands.specs.Faults.{HasReadFault, IsReadCounted, FailsAmong, IsReadEnd, IsAuditEnd};
+ghost use Rattle.hw_eras.specs.Stops.{IsEraAbout, IsReadCounted as IsEraCounted};
+ghost use Rattle.hw_eras.specs.Turns.{StopsAt};
+ghost use Rattle.hw_commands.specs.Faults.{HasReadFault, IsReadCounted, IsReadEnd, IsAuditEnd};
+ghost use Rattle.hw_commands.specs.Due.{IsDue, FailsDue};
 ghost use Rattle.hw_commands.specs.Texts.{input_ended};
 ghost use Rattle.hw_commands.specs.Eras.{EndsBy, IsEraConflictOf};
-ghost use Rattle.hw_commands.specs.Program.{ended, eras_said, era_audit_said};
+ghost use Rattle.hw_commands.specs.Program.{Held, Part, ended, eras_said, era_audit_said};
+ghost use Rattle.hw_commands.specs.declared.ended.Ended.{Ended as RunEnd};
 ghost use Rattle.hw_commands.specs.declared.ended.RunFault.TheVariants as RunFaults;
 
 use crate::ended::{DONE, Ended, INPUT, RunFault};
@@ -24,7 +27,7 @@ pub fn eras<F: Files>(alloc: Global, files: &mut F, logs: &[String]) -> Result<E
     ensures said { IsTrue F.tells → IfOk result (λ e. e ≡ ended (eras_said (F.held files.old) (map string_bytes logs.now))) }
     ensures status { IfOk result (λ e. IsReadEnd e.status) }
     ensures fault { HasReadFault (F.read_faults files.old) (F.read_faults files.new) result }
-    ensures about { IsTrue F.tells → IfErr result (λ fault. fault ≡ RunFaults.Read → FailsAmong (map string_bytes logs.now) (F.held files.old) (F.faults_about files.old) (F.faults_about files.new)) }
+    ensures about { IsTrue F.tells → IfErr result (λ fault. fault ≡ RunFaults.Read → FailsDue (λ h. eras_said h (map string_bytes logs.now)) (F.held files.old) (F.faults_about files.old) (F.faults_about files.new)) }
 
     ensures files { SameFiles (F.held files.old) (F.held files.new) }
     ensures appends { F.append_faults files.new ≡ F.append_faults files.old }
@@ -52,7 +55,7 @@ pub fn audit_eras<F: Files>(
     ensures conflict { IsTrue F.tells → IfOk result (λ e. e.status ≡ 3 → IsEraConflictOf (F.held files.old) (map string_bytes left.now) (map string_bytes right.now) e.text) }
     ensures status { IfOk result (λ e. IsAuditEnd e.status) }
     ensures fault { HasReadFault (F.read_faults files.old) (F.read_faults files.new) result }
-    ensures about { IsTrue F.tells → IfErr result (λ fault. fault ≡ RunFaults.Read → FailsAmong (map string_bytes left.now ++ map string_bytes right.now) (F.held files.old) (F.faults_about files.old) (F.faults_about files.new)) }
+    ensures about { IsTrue F.tells → IfErr result (λ fault. fault ≡ RunFaults.Read → FailsDue (λ h. era_audit_said h (map string_bytes left.now) (map string_bytes right.now)) (F.held files.old) (F.faults_about files.old) (F.faults_about files.new)) }
 
     ensures files { SameFiles (F.held files.old) (F.held files.new) }
     ensures appends { F.append_faults files.new ≡ F.append_faults files.old }
@@ -71,7 +74,7 @@ fn logs_stopped(alloc: Global, stop: EraStop<'_>) -> Result<Ended, RunFault>
     ensures said { IfOk result (EndsBy stop.entry) }
     ensures status { IfOk result (λ e. IsReadEnd e.status) }
     ensures cause { (before now : ℕ) → IsEraCounted {T = Unit {0}} before now (Err stop.entry) → IsReadCounted before now result }
-    ensures about { (logs : List (List ℕ)) (held : List ℕ → Option (List ℕ)) (before now : List ℕ → ℕ) → IsOfLogs logs stop.entry → IsEraAbout {T = Unit {0}} held before now (Err stop.entry) → IfErr result (λ fault. fault ≡ RunFaults.Read → FailsAmong logs held before now) }
+    ensures about { (said : Held → Part RunEnd) (held : Held) (before now : List ℕ → ℕ) → StopsAt (IsDue said held) stop.entry → IsEraAbout {T = Unit {0}} held before now (Err stop.entry) → IfErr result (λ fault. fault ≡ RunFaults.Read → FailsDue said held before now) }
 {
     match stop {
         EraStop::NoEra(log) => Ok(no_era(alloc, log)?),

@@ -1,5 +1,5 @@
 -- The eras of a node, as logs fill them.
-use Rattle.std.proofs.Common.{◌≡◌, ℕ, zero, suc, ◌+◌, ◌-◌, ◌≤◌, ◌<◌, ◌↔◌, Bool, true, false, cond, List, [], ◌∷◌, ◌++◌, length, take, Option, Some, None, Result, Ok, Err, IfSome, OnOk, refl, sym, ap, subst, ◌∙◌, arith, append_assoc}
+use Rattle.std.proofs.Common.{◌≡◌, ◌⊎◌, inl, inr, ℕ, zero, suc, ◌+◌, ◌-◌, ◌≤◌, ◌<◌, ◌↔◌, Bool, true, false, cond, List, [], ◌∷◌, ◌++◌, length, take, Option, Some, None, Result, Ok, Err, IfSome, OnOk, refl, sym, ap, subst, ◌∙◌, arith, append_assoc}
 use Rattle.std.proofs.Math.ListN.{set, length-set}
 use Rattle.std.proofs.Math.Seq.{take-append-add}
 use Rattle.std.specs.Prelude.{◌==◌, slice_get}
@@ -189,6 +189,14 @@ module _ (f g : Filled) (t : Taken) (few : logs_in f < 64) (filled : IsFilled f)
   first_opened None = refl
   first_opened (Some config) = refl
 
+  -- the next era is the one that was named, or there is none behind the 64th log
+  pub next_taken : (next_in g ≡ None) ⊎ (next_in g ≡ next_of t.core)
+  next_taken = go (logs_in g == 64) refl
+    where
+      go : (b : Bool) → (logs_in g == 64) ≡ b → (next_in g ≡ None) ⊎ (next_in g ≡ next_of t.core)
+      go true e = inl (ap (option_map (λ (c : CoreState). c.config)) (behind ∙ ap (λ (b : Bool). slice_get (cond b [] (opened (next_of t.core))) 0) e))
+      go false e = inr (ap (option_map (λ (c : CoreState). c.config)) (behind ∙ ap (λ (b : Bool). slice_get (cond b [] (opened (next_of t.core))) 0) e) ∙ first_opened (next_of t.core))
+
   -- so the eras that will be there are the same
   pub ahead_same : (held : Held) (log : List ℕ) (logs : List (List ℕ)) (config : Config) → next_in f ≡ Some config → log_left held (Some config) log ≡ Ok t → logs_in f + 1 + length logs ≤ 64
       → ahead_in held f (log ∷ logs) ≡ ahead_in held g logs
@@ -294,24 +302,27 @@ module _ (f : Filled) (t : Taken) (has : HasFirst f t) where
             empty = λ c is. (let both : Some (begun config) ≡ Some c = sym at ∙ is in let same : begun config ≡ c = cc in sym same ∙ ap (λ (k : CoreState). begun k.config) same);
           }
 
+  -- the next era is the one that was named
+  pub next_first : next_in f ≡ next_of t.core
+  next_first =
+      ap (λ (cs : List CoreState). option_map (λ (c : CoreState). c.config) (slice_get cs (logs_in f))) has.eras
+      ∙ ap (λ (n : ℕ). option_map (λ (c : CoreState). c.config) (slice_get (t.core ∷ opened (next_of t.core)) n)) one_log
+      ∙ next_opened (next_of t.core)
+    where
+      next_opened : (o : Option Config) → option_map (λ (c : CoreState). c.config) (slice_get (t.core ∷ opened o) 1) ≡ o
+      next_opened None = refl
+      next_opened (Some config) = refl
+
   pub begun_ahead : (held : Held) (wanted : Option Config) (log : List ℕ) (logs : List (List ℕ)) → log_left held wanted log ≡ Ok t → eras_of held wanted (log ∷ logs) ≡ ahead_in held f logs
   unfolding eras_of
   begun_ahead held wanted log logs left =
-      let next_is : next_in f ≡ next_of t.core =
-      ap (λ (cs : List CoreState). option_map (λ (c : CoreState). c.config) (slice_get cs (logs_in f))) has.eras
-      ∙ ap (λ (n : ℕ). option_map (λ (c : CoreState). c.config) (slice_get (t.core ∷ opened (next_of t.core)) n)) one_log
-      ∙ next_opened (next_of t.core) in
       let first : take (logs_in f) (eras_in f) ≡ t ∷ [] =
       ap (λ (n : ℕ). take n (eras_in f)) one_log
       ∙ ap (λ (cs : List CoreState). take 1 (counted cs f.counts.items)) has.eras
       ∙ ap (λ (cs : List EraCounts). take 1 (counted (t.core ∷ opened (next_of t.core)) cs)) has.counts in
       ap (λ (r : Result Taken Stop). r >>= λ u. eras_from held (next_of u.core) logs >>= λ ts. Ok (take 64 (u ∷ ts))) left
       ∙ ap (λ (us : List Taken). eras_from held (next_of t.core) logs >>= λ ts. Ok (take 64 (us ++ ts))) (sym first)
-      ∙ ap (λ (o : Option Config). eras_from held o logs >>= λ ts. Ok (take 64 (take (logs_in f) (eras_in f) ++ ts))) (sym next_is)
-    where
-      next_opened : (o : Option Config) → option_map (λ (c : CoreState). c.config) (slice_get (t.core ∷ opened o) 1) ≡ o
-      next_opened None = refl
-      next_opened (Some config) = refl
+      ∙ ap (λ (o : Option Config). eras_from held o logs >>= λ ts. Ok (take 64 (take (logs_in f) (eras_in f) ++ ts))) (sym next_first)
 
 -- ---- all logs were taken
 

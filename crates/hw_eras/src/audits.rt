@@ -6,6 +6,7 @@ ghost use Rattle.hw_eras.specs.Nodes.{first_config};
 ghost use Rattle.hw_eras.specs.declared.verdict.EraVerdict.TheVariants as EraVerdicts;
 ghost use Rattle.hw_eras.specs.Audits.{agreed, status_of, TellsVerdict, logs_audited, IsAudit, IsAuditOfLogs, IsAuditEnd};
 ghost use Rattle.hw_eras.specs.Stops.{Says, IsOfLogs, HasEraCause, IsEraAbout};
+ghost use Rattle.hw_eras.specs.Turns.{HasTurnIn, StopsAt};
 
 use crate::filled::Filled;
 use crate::reports::put_era;
@@ -56,6 +57,7 @@ pub fn audit_logs<'a, F: Files>(
     ensures named { IfErr result (IsOfLogs (map string_bytes left.now ++ map string_bytes right.now)) }
     ensures cause { HasEraCause (F.read_faults files.old) (F.read_faults files.new) result }
     ensures about { IsTrue F.tells → IsEraAbout (F.held files.old) (F.faults_about files.old) (F.faults_about files.new) result }
+    ensures turn { IsTrue F.tells → IfErr result (StopsAt (HasTurnIn (F.held files.old) (map string_bytes left.now) (map string_bytes right.now))) }
 
     ensures files { SameFiles (F.held files.old) (F.held files.new) }
     ensures appends { F.append_faults files.new ≡ F.append_faults files.old }

@@ -8,7 +8,8 @@ ghost use Rattle.hw_eras.specs.Nodes.{IsMadeAgain, next_of, first_config, last_c
 ghost use Rattle.hw_replay.specs.Replay.{taken_in};
 ghost use Rattle.hw_eras.specs.Logs.{log_left, eras_of};
 ghost use Rattle.hw_eras.specs.Stops.{IsOfLogs, HasEraCause, IsEraAbout};
-ghost use Rattle.hw_eras.specs.Filled.{logs_in, ahead_in, IsFilled, opened, HasTaken, HasFirst, Leaves, HasBegun, TakesLog, TakesAll, Fills};
+ghost use Rattle.hw_eras.specs.Filled.{logs_in, next_in, ahead_in, IsFilled, opened, HasTaken, HasFirst, Leaves, HasBegun, TakesLog, TakesAll, Fills};
+ghost use Rattle.hw_eras.specs.Turns.{HasTurnFrom, HasTurnOf, StopsAt, TakesTurn};
 
 use crate::stop::EraStop;
 use crate::{EraOpen, Eras};
@@ -52,6 +53,7 @@ impl Filled {
         ensures named { IfErr result (IsOfLogs (map string_bytes logs.now)) }
         ensures cause { HasEraCause (F.read_faults files.old) (F.read_faults files.new) result }
         ensures about { IsTrue F.tells → IsEraAbout (F.held files.old) (F.faults_about files.old) (F.faults_about files.new) result }
+        ensures turn { IsTrue F.tells → IfErr result (StopsAt (HasTurnOf (F.held files.old) None (map string_bytes logs.now))) }
 
         ensures files { SameFiles (F.held files.old) (F.held files.new) }
         ensures appends { F.append_faults files.new ≡ F.append_faults files.old }
@@ -75,6 +77,7 @@ impl Filled {
         ensures named { IfErr result (IsOfLogs (map string_bytes logs.now)) }
         ensures cause { HasEraCause (F.read_faults files.old) (F.read_faults files.new) result }
         ensures about { IsTrue F.tells → IsEraAbout (F.held files.old) (F.faults_about files.old) (F.faults_about files.new) result }
+        ensures turn { IsTrue F.tells → IfErr result (StopsAt (HasTurnOf (F.held files.old) (Some core.now.config) (map string_bytes logs.now))) }
 
         ensures files { SameFiles (F.held files.old) (F.held files.new) }
         ensures appends { F.append_faults files.new ≡ F.append_faults files.old }
@@ -142,6 +145,7 @@ impl Filled {
         ensures named { IfErr result (IsOfLogs (map string_bytes logs.now)) }
         ensures cause { HasEraCause (F.read_faults files.old) (F.read_faults files.new) result }
         ensures about { IsTrue F.tells → IsEraAbout (F.held files.old) (F.faults_about files.old) (F.faults_about files.new) result }
+        ensures turn { IsTrue F.tells → IfErr result (StopsAt (HasTurnFrom (F.held files.old) (next_in self.old) (map string_bytes logs.now))) }
 
         ensures files { SameFiles (F.held files.old) (F.held files.new) }
         ensures appends { F.append_faults files.new ≡ F.append_faults files.old }
@@ -163,6 +167,7 @@ impl Filled {
         ensures named { IfErr result (IsOfLogs (log.now ∷ [])) }
         ensures cause { HasEraCause (F.read_faults files.old) (F.read_faults files.new) result }
         ensures about { IsTrue F.tells → IsEraAbout (F.held files.old) (F.faults_about files.old) (F.faults_about files.new) result }
+        ensures turn { IsTrue F.tells → TakesTurn (F.held files.old) self.old log.now self.new result }
 
         ensures files { SameFiles (F.held files.old) (F.held files.new) }
         ensures appends { F.append_faults files.new ≡ F.append_faults files.old }

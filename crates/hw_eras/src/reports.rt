@@ -6,6 +6,7 @@ ghost use Rattle.hw_eras.specs.Nodes.{AreNodeEras};
 ghost use Rattle.hw_eras.specs.Logs.{eras_of};
 ghost use Rattle.hw_eras.specs.Reports.{era_line, era_report, reports_from, logs_reported, AreReported};
 ghost use Rattle.hw_eras.specs.Stops.{Says, IsOfLogs, HasEraCause, IsEraAbout};
+ghost use Rattle.hw_eras.specs.Turns.{HasTurnOf, StopsAt};
 ghost use Rattle.hw_eras.specs.Filled.{eras_in, counts_at};
 
 use crate::filled::{EraCounts, Filled};
@@ -34,6 +35,7 @@ pub fn report_logs<'a, F: Files>(
     ensures named { IfErr result (IsOfLogs (map string_bytes logs.now)) }
     ensures cause { HasEraCause (F.read_faults files.old) (F.read_faults files.new) result }
     ensures about { IsTrue F.tells → IsEraAbout (F.held files.old) (F.faults_about files.old) (F.faults_about files.new) result }
+    ensures turn { IsTrue F.tells → IfErr result (StopsAt (HasTurnOf (F.held files.old) None (map string_bytes logs.now))) }
 
     ensures files { SameFiles (F.held files.old) (F.held files.new) }
     ensures appends { F.append_faults files.new ≡ F.append_faults files.old }

@@ -1,8 +1,13 @@
 use Rattle.std.proofs.Common.{refl, sym, ap}
 use Rattle.std.specs.Prelude.{map, string_bytes}
 use Rattle.hw_eras.specs.Audits.{logs_audited}
+use Rattle.hw_eras.specs.Turns.{HasTurnIn}
+use Rattle.hw_eras.proofs.TurnLaws.{at_then}
 use Rattle.hw_commands.specs.declared.ended.Ended.{Ended}
 use Rattle.hw_commands.specs.Eras.{era_audit_ended, IsEraConflictOf}
+use Rattle.hw_commands.specs.Program.{era_audit_said}
+use Rattle.hw_commands.specs.Due.{IsDue}
+use Rattle.hw_commands.proofs.EraDueLaws.{era_audit_due}
 use Rattle.hw_commands.proofs.EraLaws.{ends_so, stopped_untold, era_conflict}
 use Rattle.hw_commands.proofs.eras.audit_eras.Goals as goal
 
@@ -25,4 +30,9 @@ pub returns-in-Err-clause-fault : goal.returns-in-Err-clause-fault
 returns-in-Err-clause-fault g c = record { later = c.in-Err.ensures.cause.later; counted = c.logs_stopped.ensures.cause _ _ c.in-Err.ensures.cause.counted }
 
 pub returns-in-Err-clause-about : goal.returns-in-Err-clause-about
-returns-in-Err-clause-about g c = λ tells. c.logs_stopped.ensures.about _ (g.F.Files.held c.args.files.now) _ _ c.in-Err.ensures.named (c.in-Err.ensures.about tells)
+returns-in-Err-clause-about g c = λ tells.
+    let held = g.F.Files.held c.args.files.now in
+    let left = map string_bytes c.args.left.now in
+    let right = map string_bytes c.args.right.now in
+    c.logs_stopped.ensures.about (λ h. era_audit_said h left right) held _ _
+    (at_then (HasTurnIn held left right) (IsDue (λ h. era_audit_said h left right) held) c.in-Err.stop (era_audit_due held left right) (c.in-Err.ensures.turn tells)) (c.in-Err.ensures.about tells)

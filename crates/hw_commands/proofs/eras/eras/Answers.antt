@@ -1,8 +1,13 @@
-use Rattle.std.proofs.Common.{refl, sym, ap}
+use Rattle.std.proofs.Common.{None, refl, sym, ap}
 use Rattle.std.specs.Prelude.{map, string_bytes}
 use Rattle.hw_eras.specs.Reports.{logs_reported}
+use Rattle.hw_eras.specs.Turns.{HasTurnOf}
+use Rattle.hw_eras.proofs.TurnLaws.{at_then}
 use Rattle.hw_commands.specs.Eras.{eras_ended}
+use Rattle.hw_commands.specs.Program.{eras_said}
+use Rattle.hw_commands.specs.Due.{IsDue}
 use Rattle.hw_commands.proofs.EraLaws.{ends_so}
+use Rattle.hw_commands.proofs.EraDueLaws.{eras_due}
 use Rattle.hw_commands.proofs.eras.eras.Goals as goal
 
 pub returns-in-Ok-clause-said : goal.returns-in-Ok-clause-said
@@ -16,4 +21,8 @@ pub returns-in-Err-clause-fault : goal.returns-in-Err-clause-fault
 returns-in-Err-clause-fault g c = record { later = c.in-Err.ensures.cause.later; counted = c.logs_stopped.ensures.cause _ _ c.in-Err.ensures.cause.counted }
 
 pub returns-in-Err-clause-about : goal.returns-in-Err-clause-about
-returns-in-Err-clause-about g c = λ tells. c.logs_stopped.ensures.about _ (g.F.Files.held c.args.files.now) _ _ c.in-Err.ensures.named (c.in-Err.ensures.about tells)
+returns-in-Err-clause-about g c = λ tells.
+    let held = g.F.Files.held c.args.files.now in
+    let logs = map string_bytes c.args.logs.now in
+    c.logs_stopped.ensures.about (λ h. eras_said h logs) held _ _
+    (at_then (HasTurnOf held None logs) (IsDue (λ h. eras_said h logs) held) c.in-Err.stop (eras_due held logs) (c.in-Err.ensures.turn tells)) (c.in-Err.ensures.about tells)

@@ -1,6 +1,8 @@
 use Rattle.std.proofs.Common.{codes, Err, inl, inr, ap, subst, ◌∙◌}
 use Rattle.hw_eras.specs.declared.stop.EraStop.{EraStop}
-use Rattle.hw_eras.specs.Stops.{IsReadCounted, IsOfLogs, IsEraAbout}
+use Rattle.hw_eras.specs.Stops.{IsReadCounted, IsEraAbout}
+use Rattle.hw_eras.specs.Turns.{StopsAt}
+use Rattle.hw_commands.specs.Due.{IsDue}
 use Rattle.hw_commands.specs.declared.ended.Ended.{Ended}
 use Rattle.hw_commands.proofs.CauseLaws.{stopped_about}
 use Rattle.hw_commands.proofs.FaultLaws.{input_status}
@@ -13,6 +15,6 @@ pub returns-in-Stopped-clause-cause : goal.returns-in-Stopped-clause-cause
 returns-in-Stopped-clause-cause c = λ before now counted. c.stopped.ensures.cause before now (subst (λ (x : EraStop). IsReadCounted {T = Unit {0}} before now (Err x)) c.in-Stopped.is counted)
 
 pub returns-in-Stopped-clause-about : goal.returns-in-Stopped-clause-about
-returns-in-Stopped-clause-about c = λ logs held before now among about.
-    stopped_about logs held c.in-Stopped.log.now before now c.in-Stopped.fault c.stopped.result (subst (λ (x : EraStop). IsOfLogs logs x) c.in-Stopped.is among)
+returns-in-Stopped-clause-about c = λ said held before now at about.
+    stopped_about said held c.in-Stopped.log.now before now c.in-Stopped.fault c.stopped.result (subst (StopsAt (IsDue said held)) c.in-Stopped.is at)
     (subst (λ (x : EraStop). IsEraAbout {T = Unit {0}} held before now (Err x)) c.in-Stopped.is about) c.stopped.ensures.read
