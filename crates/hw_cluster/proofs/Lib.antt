@@ -2,6 +2,7 @@ pub mod StepLaws
 pub mod NodesLaws
 pub mod CountLaws
 pub mod TogetherLaws
+pub mod ApartLaws
 pub mod RunLaws
 pub mod ActLaws
 pub mod WorkedLaws

@@ -1,14 +1,15 @@
 -- The units of a round.
-use Rattle.std.proofs.Common.{◌≡◌, ℕ, zero, suc, ◌+◌, ◌*◌, ◌^◌, ◌<◌, ◌≤◌, ◌==◌, not, inl, inr, Bool, cond, List, [], ◌∷◌, ◌++◌, length, map, Option, Some, None, refl, sym, ap, subst, ◌∙◌, arith, append_assoc, eq-eqb}
+use Rattle.std.proofs.Common.{◌≡◌, ℕ, zero, suc, ◌+◌, ◌*◌, ◌^◌, ◌<◌, ◌≤◌, ◌==◌, not, inl, inr, Bool, cond, List, [], ◌∷◌, ◌++◌, length, map, drop, get_or, Option, Some, None, refl, sym, ap, subst, ◌∙◌, arith, append_assoc, eq-eqb}
 use Rattle.std.specs.Prelude.{fold, filter, IfSome}
 use Rattle.std.specs.Option.{option_map}
 use Rattle.std.specs.List.{range_with_len}
 use Rattle.std.proofs.Math.ListN.{length-set}
-use Rattle.std.proofs.lemmas.List.{length-map, map-append}
+use Rattle.std.proofs.lemmas.List.{length-map, map-append, drop_all}
 use Rattle.std.proofs.lemmas.Bool.{cases_eq, ne_eqb}
 use Rattle.std.proofs.lemmas.List.FromFn.{length-range_with_len}
 use Rattle.std.proofs.lemmas.Simd.{map-map}
 use Rattle.hw_types.specs.declared.config.Config.{Config}
+use Rattle.hw_types.specs.declared.unit.Digest.{Digest}
 use Rattle.hw_types.specs.declared.unit.WireUnit.{WireUnit}
 use Rattle.hw_types.specs.declared.unit.Vertex.{Vertex}
 use Rattle.hw_types.specs.Below.{Among}
@@ -16,7 +17,8 @@ use Rattle.hw_types.specs.Graph.{Node}
 use Rattle.hw_types.specs.Real.{setting_of}
 use Rattle.hw_types.specs.Rounds.{leader_of}
 use Rattle.hw_types.specs.Settled.{validators}
-use Rattle.hw_types.specs.Spelling.{u32_bytes, digest_of, Fits, VertexFits}
+use Rattle.sha2.specs.Sha256.{sha256}
+use Rattle.hw_types.specs.Spelling.{u32_bytes, unit_bytes, digest_of, Fits, VertexFits}
 use Rattle.hw_types.proofs.ClosureLaws.{Among-filter}
 use Rattle.hw_types.proofs.EntryLaws.{map_among, append_cases}
 use Rattle.hw_types.proofs.WordsLaws.{range_below}
@@ -27,6 +29,14 @@ use Rattle.hw_cluster.specs.Made.{lanes_of, made_over, vertices_of, AreBelow, Ar
 use Rattle.hw_cluster.specs.Nodes.{AllFit}
 use Rattle.hw_cluster.proofs.LanesLaws.{highest_at, highest_set, lanes_length, lanes_all, next_is, AreUnits}
 
+-- the digest of the unit's spelling
+abbrev pub hash_of : WireUnit → List ℕ
+hash_of u = sha256 (unit_bytes u)
+
+pub name_is : (u : WireUnit) (digest : List ℕ) → digest ≡ hash_of u → (let name : Digest = record { 0 = digest } in name ≡ digest_of u)
+unfolding digest_of
+name_is u digest e = ap (λ (d : List ℕ). record { 0 = d }) e
+
 -- ---- notes
 
 pub notes_length : (lanes : LanesState) (units : List WireUnit) → length (fold with_unit lanes units).last ≡ length lanes.last
@@ -36,6 +46,16 @@ notes_length lanes (u ∷ us) = notes_length (with_unit lanes u) us ∙ length-s
 pub notes_low : (lanes : LanesState) (units : List WireUnit) (m : ℕ) → highest lanes.last ≤ m → ((u : WireUnit) → Among u units → u.seq + 1 ≤ m) → highest (fold with_unit lanes units).last ≤ m
 notes_low lanes [] m low each = low
 notes_low lanes (u ∷ us) m low each = notes_low (with_unit lanes u) us m (highest_set lanes.last u.creator _ m low (each u (inl refl))) (λ w n. each w (inr n))
+
+-- the digest in a place, where those from there on are of these units
+pub next_of : (digests : List (List ℕ)) (k : ℕ) (u : WireUnit) (us : List WireUnit) → drop k digests ≡ hash_of u ∷ map hash_of us
+    → (k < length digests) × ((d : List ℕ) → get_or digests k d ≡ hash_of u) × (drop (k + 1) digests ≡ map hash_of us)
+next_of [] k u us e = (let none = sym (drop_all k [] (omega arith)) ∙ e in absurd cc)
+next_of (d ∷ ds) zero u us e = (omega arith, λ other. cc, cc)
+next_of (d ∷ ds) (suc k) u us e =
+    let rest = next_of ds k u us e in
+    let behind : suc k + 1 ≡ suc (k + 1) = omega arith in
+    (omega (arith, rest.0), rest.1, ap (λ (n : ℕ). drop n (d ∷ ds)) behind ∙ rest.2)
 
 -- ---- the units of some makers
 

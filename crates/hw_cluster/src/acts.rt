@@ -1,24 +1,23 @@
 //! What an action does to the nodes and to what was sent.
 
-ghost use Rattle.std.specs.Prelude.{◌≡◌, ◌+◌, ◌^◌, ◌<◌, ◌≤◌, [], ◌∷◌, ◌++◌, true, None, List, length, vec_capacity, IfOk, IfSome, OnOk, OnErr, if◌then◌else◌};
+ghost use Rattle.std.specs.Prelude.{◌≡◌, ◌+◌, ◌^◌, ◌<◌, ◌≤◌, [], ◌∷◌, ◌++◌, None, List, length, vec_capacity, IfOk, IfSome, OnOk, OnErr, if◌then◌else◌};
 ghost use Rattle.hw_types.specs.declared.config.Config.{Config as Configuration};
 ghost use Rattle.hw_types.specs.declared.unit.Vertex.{Vertex as AVertex};
 ghost use Rattle.hw_types.specs.Below.{Among};
 ghost use Rattle.hw_types.specs.Limits.{config_fault};
-ghost use Rattle.hw_types.specs.Real.{setting_of, answer_in, after_in};
+ghost use Rattle.hw_types.specs.Real.{setting_of};
 ghost use Rattle.hw_types.specs.Spelling.{VertexFits, Fits};
 ghost use Rattle.hw_honest.specs.declared.cluster.Action.TheVariants as action;
 ghost use Rattle.hw_honest.specs.declared.cluster.Acted.TheVariants as acted;
 ghost use Rattle.hw_honest.specs.Cluster.{signed, value_at, answer_at, after_delivery, after_own, is_admitted, is_foreign, heard, outcome};
 ghost use Rattle.hw_cluster.specs.Nodes.{nodes_of, state_of, HaveConfig, AllFit, AreNodes, CanAct, acted_in, left_by, plan_in};
 
-use hw_core::{Core, Refused};
+use crate::named::{Answer, NamedVertex};
+use hw_codec::digest_of;
+use hw_core::Core;
 use hw_honest::{Acted, Action};
 use hw_rounds::round_id;
-use hw_types::{
-    Bytes, Cause, Config, OutOfMemory, Plan, PlanKind, Receipt, Signature, SignedUnit, Vertex,
-    WireUnit,
-};
+use hw_types::{Bytes, Config, OutOfMemory, Plan, PlanKind, Receipt, Vertex, WireUnit};
 use hw_validator::next_unit;
 use std::alloc::Global;
 
@@ -26,7 +25,7 @@ use std::alloc::Global;
 pub fn act_on(
     config: &Config,
     nodes: &mut Vec<Core>,
-    sent: &mut Vec<Vertex>,
+    sent: &mut Vec<NamedVertex>,
     action: Action,
 ) -> Result<Acted, OutOfMemory>
     requires nodes { AreNodes config.now nodes.old.items sent.old.items }
@@ -47,7 +46,7 @@ pub fn act_on(
 fn step(
     config: &Config,
     nodes: &mut Vec<Core>,
-    sent: &mut Vec<Vertex>,
+    sent: &mut Vec<NamedVertex>,
     node: u32,
     now: u64,
 ) -> Result<Acted, OutOfMemory>
@@ -60,7 +59,7 @@ fn step(
 {
     let alloc = *sent.allocator();
     match plan_of(alloc, config, &nodes[node as usize], node, now)? {
-        Some(plan) => make(nodes, sent, node, plan.kind, signed(plan.unit)),
+        Some(plan) => make(nodes, sent, node, plan.kind, named(alloc, plan.unit)?),
         None => Ok(Acted::Idle),
     }
 }
@@ -68,10 +67,10 @@ fn step(
 /// Gives a unit to the node that made it, and sends it where that node admits it.
 fn make(
     nodes: &mut Vec<Core>,
-    sent: &mut Vec<Vertex>,
+    sent: &mut Vec<NamedVertex>,
     node: u32,
     kind: PlanKind,
-    vertex: Vertex,
+    vertex: NamedVertex,
 ) -> Result<Acted, OutOfMemory>
     requires node { node < length nodes.old.items }
     requires fits { VertexFits vertex }
@@ -98,9 +97,9 @@ fn make(
 /// Makes room for one more sent vertex, and gives a copy of this one to the node that made it.
 fn give_copy(
     nodes: &mut Vec<Core>,
-    sent: &mut Vec<Vertex>,
+    sent: &mut Vec<NamedVertex>,
     node: u32,
-    vertex: &Vertex,
+    vertex: &NamedVertex,
 ) -> Result<Answer, OutOfMemory>
     requires node { node < length nodes.old.items }
     requires fits { VertexFits vertex.now }
@@ -121,7 +120,7 @@ fn give_copy(
 /// Gives the sent vertex of this number to a node.
 fn pass(
     nodes: &mut Vec<Core>,
-    sent: &[Vertex],
+    sent: &[NamedVertex],
     node: u32,
     number: u64,
 ) -> Result<Acted, OutOfMemory>
@@ -141,44 +140,21 @@ fn pass(
 }
 
 /// Sends a vertex that none of these nodes signs.
-fn forge(nodes: &[Core], sent: &mut Vec<Vertex>, vertex: Vertex) -> Result<Acted, OutOfMemory>
+fn forge(nodes: &[Core], sent: &mut Vec<NamedVertex>, vertex: Vertex) -> Result<Acted, OutOfMemory>
     ensures answer { IfOk result (λ answer. answer ≡ (if is_foreign (length nodes.now) vertex then acted.Forged else acted.NotAllowed)) }
     ensures sent { OnOk result (sent.new.items ≡ (if is_foreign (length nodes.now) vertex then sent.old.items ++ vertex ∷ [] else sent.old.items)) }
     ensures unchanged { OnErr result (sent.new.items ≡ sent.old.items) }
 {
     if is_foreign(nodes.len() as u64, &vertex) {
-        sent.push(vertex)?;
+        sent.push(NamedVertex::foreign(vertex))?;
         Ok(Acted::Forged)
     } else {
         Ok(Acted::NotAllowed)
     }
 }
 
-/// What a node answers to a vertex. Want of memory is no answer.
-pub type Answer = Result<Receipt, Cause>;
-
-/// Gives a vertex whose signatures are right to a node.
-pub fn give(core: &mut Core, vertex: Vertex) -> Result<Answer, OutOfMemory>
-    requires { VertexFits vertex }
-    ensures answer { IfOk result (λ answer. answer ≡ answer_in core.old vertex true) }
-    ensures taken { OnOk result (core.new ≡ after_in core.old vertex true) }
-    ensures unchanged { OnErr result (core.new ≡ core.old) }
-{
-    match core.deliver(vertex, true) {
-        Ok(receipt) => Ok(Ok(receipt)),
-        Err(Refused { cause, vertex }) => {
-            // As above, for the prover.
-            drop(vertex);
-            match cause {
-                Cause::OutOfMemory => Err(OutOfMemory),
-                cause => Ok(Err(cause)),
-            }
-        }
-    }
-}
-
 /// Gives a vertex whose signatures are right to one of the nodes.
-fn give_to(nodes: &mut Vec<Core>, node: u32, vertex: Vertex) -> Result<Answer, OutOfMemory>
+fn give_to(nodes: &mut Vec<Core>, node: u32, vertex: NamedVertex) -> Result<Answer, OutOfMemory>
     requires node { node < length nodes.old.items }
     requires fits { VertexFits vertex }
     ensures answer { IfOk result (λ answer. (config : Configuration) (sent : List AVertex) → HaveConfig config nodes.old.items
@@ -188,7 +164,7 @@ fn give_to(nodes: &mut Vec<Core>, node: u32, vertex: Vertex) -> Result<Answer, O
     ensures config { (config : Configuration) → HaveConfig config nodes.old.items → HaveConfig config nodes.new.items }
     ensures unchanged { OnErr result (nodes.new.items ≡ nodes.old.items) }
 {
-    give(&mut nodes[node as usize], vertex)
+    vertex.give(&mut nodes[node as usize])
 }
 
 /// The value of a node's block: its number as four bytes, and its round as eight.
@@ -224,18 +200,17 @@ fn plan_of(
     next_unit(alloc, core.state(), node, now, value.as_slice())
 }
 
-/// The unit with a signature of zero bytes.
-pub fn signed(unit: WireUnit) -> Vertex
-    ensures { result ≡ signed unit }
+/// The unit with a signature of zero bytes, under its name.
+fn named(alloc: Global, unit: WireUnit) -> Result<NamedVertex, OutOfMemory>
+    requires fits { Fits unit }
+    ensures { IfOk result (λ vertex. vertex ≡ signed unit) }
 {
-    Vertex::Unit(SignedUnit {
-        unit,
-        signature: Signature([0; 32]),
-    })
+    let name = digest_of(alloc, &unit)?;
+    Ok(NamedVertex::made(unit, name))
 }
 
 /// Puts a vertex last where it was admitted. There is room for it.
-fn send(sent: &mut Vec<Vertex>, admitted: bool, vertex: Vertex)
+fn send(sent: &mut Vec<NamedVertex>, admitted: bool, vertex: NamedVertex)
     requires room { length sent.old.items + 1 ≤ vec_capacity sent.old }
     ensures { sent.new.items ≡ (if admitted then sent.old.items ++ vertex ∷ [] else sent.old.items) }
 {
@@ -245,7 +220,7 @@ fn send(sent: &mut Vec<Vertex>, admitted: bool, vertex: Vertex)
 }
 
 /// Puts a vertex last, for which there is room.
-fn put_last(sent: &mut Vec<Vertex>, vertex: Vertex)
+fn put_last(sent: &mut Vec<NamedVertex>, vertex: NamedVertex)
     requires room { length sent.old.items + 1 ≤ vec_capacity sent.old }
     ensures { sent.new.items ≡ sent.old.items ++ vertex ∷ [] }
 {

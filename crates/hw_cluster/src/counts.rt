@@ -1,6 +1,6 @@
 //! What is counted of a cluster.
 
-ghost use Rattle.std.specs.Prelude.{◌≡◌, ◌≤◌, [], List, length, max};
+ghost use Rattle.std.specs.Prelude.{◌≡◌, ◌<◌, ◌≤◌, ℕ, false, [], List, length, max};
 ghost use Rattle.std.specs.List.{list_any};
 ghost use Rattle.hw_types.specs.declared.config.Config.{Config as Configuration};
 ghost use Rattle.hw_types.specs.declared.unit.Vertex.{Vertex as AVertex};
@@ -12,6 +12,7 @@ ghost use Rattle.hw_safety.specs.Verdicts.{held_in};
 ghost use Rattle.hw_cluster.specs.Counts.{is_other, has_other, equivocates_in};
 ghost use Rattle.hw_cluster.specs.Nodes.{nodes_of, HaveConfig};
 
+use crate::named::NamedVertex;
 use hw_core::Core;
 use hw_types::{Config, SignedUnit, Vertex, WireUnit, is_same_unit};
 
@@ -43,11 +44,11 @@ fn vertex_has_other(validator: u32, unit: &WireUnit, vertex: &Vertex) -> bool
 }
 
 /// Whether one of these vertices has such a unit.
-fn some_has_other(validator: u32, unit: &WireUnit, sent: &[Vertex]) -> bool
+fn some_has_other(validator: u32, unit: &WireUnit, sent: &[NamedVertex]) -> bool
     ensures { result ≡ list_any (is_other validator unit.now) (held_in sent.now) }
 {
     for vertex in sent {
-        if vertex_has_other(validator, unit, vertex) {
+        if vertex_has_other(validator, unit, vertex.vertex()) {
             return true;
         }
     }
@@ -55,14 +56,14 @@ fn some_has_other(validator: u32, unit: &WireUnit, sent: &[Vertex]) -> bool
 }
 
 /// Whether the unit is by the validator, and one of these vertices has another of its number.
-fn has_other(validator: u32, signed: &SignedUnit, sent: &[Vertex]) -> bool
+fn has_other(validator: u32, signed: &SignedUnit, sent: &[NamedVertex]) -> bool
     ensures { result ≡ has_other validator (held_in sent.now) signed.now }
 {
     signed.unit.creator == validator && some_has_other(validator, &signed.unit, sent)
 }
 
 /// Whether a unit of the vertex is such a one.
-fn vertex_shows(validator: u32, vertex: &Vertex, sent: &[Vertex]) -> bool
+fn vertex_shows(validator: u32, vertex: &Vertex, sent: &[NamedVertex]) -> bool
     ensures { result ≡ list_any (has_other validator (held_in sent.now)) (signed_in vertex.now) }
 {
     match vertex {
@@ -76,25 +77,28 @@ fn vertex_shows(validator: u32, vertex: &Vertex, sent: &[Vertex]) -> bool
 }
 
 /// Whether the validator has two different units of one number among these vertices.
-fn equivocates_in(validator: u32, sent: &[Vertex]) -> bool
+fn equivocates_in(validator: u32, sent: &[NamedVertex]) -> bool
     ensures { result ≡ equivocates_in sent.now validator }
 {
     for vertex in sent {
-        if vertex_shows(validator, vertex, sent) {
+        if vertex_shows(validator, vertex.vertex(), sent) {
             return true;
         }
     }
     false
 }
 
-/// How many validators have two different units of one number among these vertices.
-pub fn count_culprits(config: &Config, sent: &[Vertex]) -> u32
-    requires { length config.now.weights ≤ 1024 }
+/// How many validators have two different units of one number among these vertices. None of the nodes has, so that they
+/// aren't looked at.
+pub fn count_culprits(config: &Config, nodes: &[Core], sent: &[NamedVertex]) -> u32
+    requires few { length config.now.weights ≤ 1024 }
+    requires nodes { length nodes.now ≤ length config.now.weights }
+    requires apart { (v : ℕ) → v < length nodes.now → equivocates_in sent.now v ≡ false }
     ensures { result ≡ length (culprits_in (setting_of config.now) (nodes_of [] sent.now)) }
 {
     let validators = config.weights.len() as u32;
     let mut count = 0;
-    for validator in 0..validators {
+    for validator in nodes.len() as u32..validators {
         if equivocates_in(validator, sent) {
             count += 1;
         }

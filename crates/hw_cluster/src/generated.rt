@@ -13,7 +13,7 @@ ghost use Rattle.hw_cluster.specs.Numbers.{word_in, totals_of};
 
 use crate::lanes::Lanes;
 use crate::made::{ROUND, make_round};
-use crate::named::NamedUnit;
+use crate::named::NamedVertex;
 use crate::nodes::begin;
 use crate::order::shuffle;
 use crate::simulated::ones;
@@ -176,7 +176,7 @@ fn give_round(
 }
 
 /// Gives these units to a node, one after the other.
-fn give_all(core: &mut Core, units: Vec<NamedUnit>) -> Result<(), OutOfMemory>
+fn give_all(core: &mut Core, units: Vec<NamedVertex>) -> Result<(), OutOfMemory>
     requires { AllFit units.items }
     ensures { OnOk result (core.new ≡ given core.old units.items) }
 {

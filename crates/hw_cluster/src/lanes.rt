@@ -1,11 +1,10 @@
 //! The last unit of each validator, and the next ones over them.
 
-ghost use Rattle.std.specs.Prelude.{◌≡◌, ◌^◌, ◌<◌, ◌≤◌, length, map, replicate, slice_index_or, None, IfOk, OnOk};
+ghost use Rattle.std.specs.Prelude.{◌≡◌, ◌^◌, ◌<◌, ◌≤◌, length, map, replicate, slice_index_or, None, IfOk};
 ghost use Rattle.std.specs.List.{range_with_len};
-ghost use Rattle.hw_types.specs.Spelling.{Fits, digest_of};
+ghost use Rattle.hw_types.specs.Spelling.{digest_of};
 ghost use Rattle.hw_cluster.specs.Lanes.{seq_behind, observed, highest, unit_over, with_unit};
 
-use hw_codec::digest_of;
 use hw_types::{Bytes, Digest, DigestList, Obs, ObsList, OutOfMemory, WireUnit};
 use std::alloc::Global;
 use std::marker::Model;
@@ -101,19 +100,16 @@ impl Lanes {
         }
     }
 
-    /// Takes a unit for the last one of its creator, and answers its name.
-    pub fn note(&mut self, unit: &WireUnit) -> Result<Digest, OutOfMemory>
-        requires fits { Fits unit.now }
+    /// Takes a unit of this name for the last one of its creator.
+    pub fn note(&mut self, unit: &WireUnit, name: Digest)
         requires creator { unit.now.creator < length self.old.last }
-        ensures name { IfOk result (λ name. name ≡ digest_of unit.now) }
-        ensures noted { OnOk result (self.new ≡ with_unit self.old unit.now) }
+        requires name { name ≡ digest_of unit.now }
+        ensures noted { self.new ≡ with_unit self.old unit.now }
     {
-        let name = digest_of(self.allocator(), unit)?;
         self.last[unit.creator as usize] = Some(LastUnit {
             name,
             seq: unit.seq,
         });
-        Ok(name)
     }
 }
 

@@ -18,6 +18,7 @@ mod lanes;
 mod laws;
 mod made;
 mod named;
+mod names;
 mod nodes;
 mod order;
 mod simulated;

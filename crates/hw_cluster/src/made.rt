@@ -14,8 +14,9 @@ ghost use Rattle.hw_cluster.specs.Made.{lanes_of, made_over, vertices_of, AreOur
 ghost use Rattle.hw_cluster.specs.Nodes.{AllFit};
 
 use crate::lanes::Lanes;
-use crate::named::NamedUnit;
-use hw_types::{Bytes, OutOfMemory, WireUnit};
+use crate::named::NamedVertex;
+use crate::names::digests_of;
+use hw_types::{Bytes, Digest, OutOfMemory, WireUnit};
 use std::alloc::Global;
 
 /// A round lasts so many milliseconds.
@@ -26,7 +27,11 @@ pub const ROUND: u64 = 16;
 /// The leader makes a block at the round's beginning, with the round's number as its value; the others make a unit 1
 /// millisecond later, over the units up to that block; and all make one 10 milliseconds after the beginning, over the
 /// units up to those.
-pub fn make_round(lanes: &mut Lanes, leader: u32, round: u32) -> Result<Vec<NamedUnit>, OutOfMemory>
+pub fn make_round(
+    lanes: &mut Lanes,
+    leader: u32,
+    round: u32,
+) -> Result<Vec<NamedVertex>, OutOfMemory>
     requires many { length lanes.old.last ≤ 1024 }
     requires low { highest lanes.old.last < 2 ^ 62 }
     requires leader { leader < length lanes.old.last }
@@ -64,7 +69,7 @@ fn others(alloc: Global, validators: &[u32], leader: u32) -> Result<Vec<u32>, Ou
 /// value is a number is a block.
 fn make_units(
     lanes: &mut Lanes,
-    units: &mut Vec<NamedUnit>,
+    units: &mut Vec<NamedVertex>,
     makers: &[u32],
     time: u64,
     value: Option<u32>,
@@ -119,16 +124,20 @@ fn value_of(alloc: Global, number: Option<u32>) -> Result<Option<Bytes>, OutOfMe
 /// Takes each of these units for the last one of its creator, one after the other, and puts it last under its name.
 fn send_all(
     lanes: &mut Lanes,
-    sent: &mut Vec<NamedUnit>,
+    sent: &mut Vec<NamedVertex>,
     units: Vec<WireUnit>,
 ) -> Result<(), OutOfMemory>
     requires { AreOurs (length lanes.old.last) units.items }
     ensures noted { OnOk result (lanes.new ≡ fold with_unit lanes.old units.items) }
     ensures sent { OnOk result (sent.new.items ≡ sent.old.items ++ map signed units.items) }
 {
+    let digests = digests_of(lanes.allocator(), units.as_slice())?;
+    let mut place = 0;
     for unit in units {
-        let name = lanes.note(&unit)?;
-        sent.push(NamedUnit::new(unit, name))?;
+        let name = Digest(digests[place]);
+        lanes.note(&unit, name);
+        sent.push(NamedVertex::made(unit, name))?;
+        place += 1;
     }
     Ok(())
 }

@@ -11,10 +11,11 @@ ghost use Rattle.hw_cluster.specs.Laws.{AreApart};
 
 use crate::acts::act_on;
 use crate::counts::{count_culprits, most_decisions};
+use crate::named::NamedVertex;
 use hw_admit::StateStart;
 use hw_core::Core;
 use hw_honest::{Acted, Action};
-use hw_types::{Config, OutOfMemory, Vertex};
+use hw_types::{Config, OutOfMemory};
 use std::alloc::Global;
 use std::marker::Model;
 
@@ -25,7 +26,7 @@ use std::marker::Model;
 pub struct Cluster {
     config: Config,
     nodes: Vec<Core>,
-    sent: Vec<Vertex>,
+    sent: Vec<NamedVertex>,
 }
 
 impl Model for Cluster {
@@ -104,7 +105,7 @@ impl Cluster {
     pub fn culprit_count(&self) -> u32
         ensures { result ≡ length (culprits_in (setting_of self.now.config) self.now.cluster) }
     {
-        count_culprits(&self.config, &self.sent)
+        count_culprits(&self.config, &self.nodes, &self.sent)
     }
 
     /// The most blocks that a node has decided.

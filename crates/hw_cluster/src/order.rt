@@ -4,12 +4,12 @@ ghost use Rattle.std.specs.Prelude.{◌≡◌, ◌+◌, ◌-◌, ◌^◌, ◌≤
 ghost use Rattle.hw_honest.specs.Generated.{shuffled};
 ghost use Rattle.hw_cluster.specs.Numbers.{word_in};
 
-use crate::named::NamedUnit;
+use crate::named::NamedVertex;
 use crate::words::Words;
 
 /// Puts the units into another order: from the last place down to the second, each changes with a place up to it,
 /// which the next word names.
-pub fn shuffle(units: &mut [NamedUnit], words: &mut Words)
+pub fn shuffle(units: &mut [NamedVertex], words: &mut Words)
     requires some { 1 ≤ length units.old }
     requires words { words.old.place + length units.old ≤ 2 ^ 64 }
     ensures units { units.new ≡ shuffled (word_in words.old.key) words.old.place (length units.old - 1) units.old }

@@ -4,5 +4,6 @@ mod Bitwise
 mod Blocks
 mod Columns
 mod Lanes
+mod MessageLaws
 mod Padding
 mod Refill

@@ -2,10 +2,12 @@
 //! every x86-64 processor has.
 //!
 //! Each digest is the one that `sha2` specifies. A lane that is done with its part takes the next one, so that parts of
-//! unlike lengths may stand in any order. No memory is taken. Fewer than four parts go to `sha2`, one after the other.
+//! unlike lengths may stand in any order. It takes no memory; [`Messages`] are put together in a buffer. Fewer than four
+//! parts go to `sha2`, one after the other.
 #![tactic(auto)]
 
 mod block;
+mod messages;
 mod padded;
 mod pieces;
 mod rounds;
@@ -13,4 +15,5 @@ mod state;
 mod words;
 mod work;
 
+pub use messages::Messages;
 pub use pieces::{Part, digests_of};

@@ -18,21 +18,21 @@ plan_of-requires-clause-config c =
 pub plan_of-requires-clause-fit : goal.plan_of-requires-clause-fit
 plan_of-requires-clause-fit c = node_fit c.args.config.now c.args.nodes.now.items c.args.sent.now.items c.requires.nodes c.args.node c.requires.can.0 c.index.result.now c.index.ensures
 
-pub returns-in-Some-clause-answer : goal.returns-in-Some-clause-answer
-returns-in-Some-clause-answer c =
+pub returns-in_ok-named-in-Some-clause-answer : goal.returns-in_ok-named-in-Some-clause-answer
+returns-in_ok-named-in-Some-clause-answer c =
     let k = c.args.config.now in
     let cores = c.args.nodes.now.items in
     let sent = c.args.sent.now.items in
     let p = c.in-Some.plan in
     let lt = inside k cores sent c.requires.nodes c.args.node c.requires.can.0 in
-    if_ok c.make.result (λ answer. (config : Config) → HaveConfig config cores → answer ≡ outcome p.kind (answer_at (setting_of config) (nodes_of cores sent) c.args.node c.signed.result))
+    if_ok c.make.result (λ answer. (config : Config) → HaveConfig config cores → answer ≡ outcome p.kind (answer_at (setting_of config) (nodes_of cores sent) c.args.node c.in_ok-named-in-Some.field-0))
     (λ answer. answer ≡ acted_in (state_of k cores sent) (Step c.args.node c.args.now))
     (λ answer h. made_acted k cores sent c.requires.nodes.have c.args.node lt c.index.result.now c.index.ensures c.args.now p (sym c.in-Some.is ∙ c.in_ok-plan.ensures.plan) answer
-    (h k c.requires.nodes.have ∙ ap (λ (v : Vertex). outcome p.kind (answer_at (setting_of k) (nodes_of cores sent) c.args.node v)) c.signed.ensures))
+    (h k c.requires.nodes.have ∙ ap (λ (v : Vertex). outcome p.kind (answer_at (setting_of k) (nodes_of cores sent) c.args.node v)) c.in_ok-named-in-Some.ensures))
     c.make.ensures.answer
 
-pub returns-in-Some-clause-left : goal.returns-in-Some-clause-left
-returns-in-Some-clause-left c =
+pub returns-in_ok-named-in-Some-clause-left : goal.returns-in_ok-named-in-Some-clause-left
+returns-in_ok-named-in-Some-clause-left c =
     let k = c.args.config.now in
     let cores = c.args.nodes.now.items in
     let sent = c.args.sent.now.items in
@@ -40,14 +40,14 @@ returns-in-Some-clause-left c =
     let lt = inside k cores sent c.requires.nodes c.args.node c.requires.can.0 in
     let later = c.make.new.nodes.items in
     let more = c.make.new.sent.items in
-    on_ok c.make.result ((config : Config) → HaveConfig config cores → nodes_of later more ≡ after_own (setting_of config) (nodes_of cores sent) c.args.node c.signed.result)
+    on_ok c.make.result ((config : Config) → HaveConfig config cores → nodes_of later more ≡ after_own (setting_of config) (nodes_of cores sent) c.args.node c.in_ok-named-in-Some.field-0)
     (state_of k later more ≡ left_by (state_of k cores sent) (Step c.args.node c.args.now))
     (λ h. made_left k cores sent c.requires.nodes.have c.args.node lt c.index.result.now c.index.ensures c.args.now p (sym c.in-Some.is ∙ c.in_ok-plan.ensures.plan) later more
-    (h k c.requires.nodes.have ∙ ap (λ (v : Vertex). after_own (setting_of k) (nodes_of cores sent) c.args.node v) c.signed.ensures))
+    (h k c.requires.nodes.have ∙ ap (λ (v : Vertex). after_own (setting_of k) (nodes_of cores sent) c.args.node v) c.in_ok-named-in-Some.ensures))
     c.make.ensures.left
 
-pub returns-in-Some-clause-config : goal.returns-in-Some-clause-config
-returns-in-Some-clause-config c = c.make.ensures.config c.args.config.now c.requires.nodes.have
+pub returns-in_ok-named-in-Some-clause-config : goal.returns-in_ok-named-in-Some-clause-config
+returns-in_ok-named-in-Some-clause-config c = c.make.ensures.config c.args.config.now c.requires.nodes.have
 
 pub returns-in-None-clause-answer : goal.returns-in-None-clause-answer
 returns-in-None-clause-answer c =

@@ -3,8 +3,14 @@ use Rattle.std.specs.Prelude.{filter}
 use Rattle.std.specs.List.{range_with_len}
 use Rattle.hw_cluster.specs.Counts.{equivocates_in}
 use Rattle.hw_cluster.proofs.CountLaws.{count_more, count_all, culprits_are}
+use Rattle.hw_cluster.proofs.ApartLaws.{count_none}
 use Rattle.hw_cluster.proofs.counts.count_culprits.Goals.{then-equivocates_in, else-equivocates_in}
 use Rattle.hw_cluster.proofs.counts.count_culprits.Goals as goal
+
+pub loop-validator-init : goal.loop-validator-init
+loop-validator-init c =
+    let none = count_none (equivocates_in c.args.sent.now) (length c.args.config.now.weights) (length c.args.nodes.now) c.requires.nodes c.requires.apart in
+    (sym none, omega arith)
 
 pub loop-validator-preserved : goal.loop-validator-preserved
 loop-validator-preserved c =
