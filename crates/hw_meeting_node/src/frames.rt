@@ -12,7 +12,7 @@ ghost use Rattle.hw_meeting_node.specs.Taking.{TakesOf};
 ghost use Rattle.hw_meeting_node.specs.declared.meeter.Stage.TheVariants as stage;
 
 use crate::meeter::{Meeter, Side, Stage};
-use crate::say::{instance, say_due, say_hello, say_summary, say_torn};
+use crate::say::{say_due, say_hello, say_summary, say_torn};
 use crate::taker::{TakeFault, Taker};
 use hw_core::Core;
 use hw_io::Door;
@@ -45,8 +45,7 @@ pub(crate) fn at_hello<D: Door>(
     ensures accepts { D.accepts door.new ≡ D.accepts door.old }
     ensures dials { D.dials door.new ≡ D.dials door.old }
 {
-    let own = instance(alloc, core)?;
-    if other == own {
+    if other == *core.instance() {
         meeter.stage = Stage::Telling;
         answer_hello(alloc, core, door, side, &meeter.mine)
     } else {

@@ -11,20 +11,12 @@ ghost use Rattle.hw_meeting_node.specs.Meeting.{told_of, hello, summary, torn, a
 
 use crate::meeter::validators;
 use crate::send_meeting;
-use hw_codec::instance_of;
 use hw_core::Core;
 use hw_io::Door;
 use hw_link::SessionEnd;
 use hw_meeting::{LaneSummary, MeetingFrame, SummaryList, torn_for};
 use hw_types::{Digest, OutOfMemory, Vertex};
 use std::alloc::Global;
-
-/// The digest of a node's configuration.
-pub(crate) fn instance(alloc: Global, core: &Core) -> Result<Digest, OutOfMemory>
-    ensures { IfOk result (λ instance. instance ≡ instance_of core.now.config) }
-{
-    instance_of(alloc, core.state().config())
-}
 
 /// Says Hello.
 pub(crate) fn say_hello<D: Door>(alloc: Global, core: &Core, door: &mut D) -> Result<(), SessionEnd>
@@ -38,8 +30,7 @@ pub(crate) fn say_hello<D: Door>(alloc: Global, core: &Core, door: &mut D) -> Re
     ensures accepts { D.accepts door.new ≡ D.accepts door.old }
     ensures dials { D.dials door.new ≡ D.dials door.old }
 {
-    let instance = instance(alloc, core)?;
-    send(alloc, core, door, &MeetingFrame::Hello(instance))
+    send(alloc, core, door, &MeetingFrame::Hello(*core.instance()))
 }
 
 /// Tells what the node has of each validator.

@@ -110,8 +110,7 @@ impl Node {
 
         ensures door { door_calls (D.is_open door.new) (D.ends door.new) (D.accepts door.new) (D.dials door.new) (D.asks door.new) ≡ door_calls (D.is_open door.old) (D.ends door.old) (D.accepts door.old) (D.dials door.old) (D.asks door.old) }
     {
-        let instance = self.instance()?;
-        say(self.alloc, door, Frame::Hello(instance))
+        say(self.alloc, door, Frame::Hello(self.instance()))
     }
 
     /// Handles the frames of a peer to which it said Hello, up to the end of the session.

@@ -10,17 +10,16 @@ ghost use Rattle.hw_session.specs.Handling.{IsOfOther, Receives, IsLogCounted};
 
 use crate::fault::AcceptFault;
 use crate::node::Node;
-use hw_codec::instance_of;
 use hw_io::Files;
 use hw_link::SessionEnd;
-use hw_types::{Cause, Digest, OutOfMemory, Receipt, Vertex};
+use hw_types::{Cause, Digest, Receipt, Vertex};
 
 impl Node {
     /// The digest of its configuration.
-    pub(crate) fn instance(&self) -> Result<Digest, OutOfMemory>
-        ensures { IfOk result (λ instance. instance ≡ instance_of self.now.core.config) }
+    pub(crate) fn instance(&self) -> Digest
+        ensures { result ≡ instance_of self.now.core.config }
     {
-        instance_of(self.alloc, self.core.state().config())
+        *self.core.instance()
     }
 
     /// The own instance, where the peer is of it. Another one ends the session.
@@ -30,7 +29,7 @@ impl Node {
         ensures other { IfErr result (IsOfOther self.now peers) }
         ensures link { (count : ℕ) → IsLinkCounted count count result }
     {
-        let own = self.instance()?;
+        let own = self.instance();
         if peers == own {
             Ok(own)
         } else {

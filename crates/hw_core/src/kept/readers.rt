@@ -4,7 +4,7 @@ ghost use Rattle.std.specs.Prelude.{◌≡◌, ℕ, ◌<◌, ◌≤◌, ◌↔�
 ghost use Rattle.std.specs.Option.{option_copied};
 ghost use Rattle.hw_types.specs.Graph.{slot};
 ghost use Rattle.hw_types.specs.Settled.{has_evidence, parked_of, dropped_of};
-ghost use Rattle.hw_types.specs.Spelling.{VertexFits, Fits};
+ghost use Rattle.hw_types.specs.Spelling.{VertexFits, Fits, instance_of};
 ghost use Rattle.hw_types.specs.laws.StateLaws.{units_in, NamesApart};
 ghost use Rattle.hw_safety.specs.Safety.{HasPairs};
 ghost use Rattle.hw_types.specs.Real.{setting_of, received_in, settled_in, panorama_in, weight_in};
@@ -29,6 +29,13 @@ use hw_dag::View;
 use hw_types::{Decision, Digest, Endorsement, Evidence, Need, Obs, SignedUnit, Vertex};
 
 impl Kept {
+    /// The digest of its configuration.
+    pub(crate) fn instance(&self) -> &Digest
+        ensures { result.now ≡ instance_of self.now.config }
+    {
+        &self.instance
+    }
+
     /// How many vertices the journal has.
     pub(crate) fn journal_count(&self) -> u64
         ensures { result ≡ length self.now.journal }
