@@ -4,4 +4,5 @@ pub mod Doors
 pub mod Faults
 pub mod Files
 pub mod Moments
+pub mod Reads
 pub mod Sinks
