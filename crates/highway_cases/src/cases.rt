@@ -5,7 +5,8 @@ use crate::outside::{fail_call, fail_write, files_of, plan, run, run_with};
 use crate::planned::Planned;
 use crate::short::ShortSink;
 use hw_case_words::{Answer, number};
-use hw_io::{Consumer, MemFiles, MemSink};
+use hw_doubles::{MemFiles, MemSink};
+use hw_io::Consumer;
 
 /// Answers a line.
 pub fn tell(rt: HostRuntime, answer: &mut Answer, line: &str) {

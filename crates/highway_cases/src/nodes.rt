@@ -3,7 +3,8 @@
 use crate::cases::put_file;
 use crate::outside::{files_of, plan, run_among, words_of};
 use hw_case_words::{Answer, number};
-use hw_io::{Clock, MemDoor, MemFiles, MemSink};
+use hw_doubles::{MemDoor, MemFiles, MemSink};
+use hw_io::Clock;
 
 /// A clock that gives these moments in turn, and then the last one again.
 #[derive(Drop)]

@@ -3,8 +3,9 @@
 ghost use Rattle.std.specs.Prelude.{◌≤◌, length};
 
 use hw_case_words::{Answer, number};
+use hw_doubles::{MemFiles, MemSink, SetClock, SureDoor};
 use hw_host::HostFiles;
-use hw_io::{Clock, Consumer, Door, Files, IoFault, MemFiles, MemSink, SetClock, Sink, SureDoor};
+use hw_io::{Clock, Consumer, Door, Files, IoFault, Sink};
 use hw_program::{Words, highway};
 use std::alloc::Global;
 

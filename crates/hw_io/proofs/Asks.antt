@@ -1,16 +1,12 @@
 -- The calls of `read` that a door tells.
-use Rattle.std.proofs.Common.{◌≡◌, ◌-◌, ℕ, zero, suc, Bool, true, false, cond, List, [], ◌∷◌, ◌++◌, length, get_or, Some, sym, ap, subst, refl, ◌∙◌, arith}
+use Rattle.std.proofs.Common.{◌≡◌, List, [], ◌∷◌, ◌++◌, Some, sym, ap, subst, refl, ◌∙◌}
 use Rattle.std.proofs.lemmas.List.{append_assoc, append-nil}
-use Rattle.std.proofs.lemmas.List.Elements.{All-nil, All-cons, All-append, All-weaker}
+use Rattle.std.proofs.lemmas.List.Elements.{All-nil, All-append, All-weaker}
 use Rattle.hw_io.specs.Doors.{Session, Ask, ask_in, ask_of, AsksMore}
 
 -- no more are told
 pub asks_none : (P : Ask → Type 0) (asks : List Ask) → AsksMore P asks asks
 asks_none P asks = record { more = []; told = sym (append-nil asks); each = All-nil P }
-
--- one more is
-pub asks_one : (P : Ask → Type 0) (asks : List Ask) (ask : Ask) → P ask → AsksMore P asks (asks ++ ask ∷ [])
-asks_one P asks ask is = record { more = ask ∷ []; told = refl; each = All-cons P ask [] is (All-nil P) }
 
 -- what holds of each of them
 pub asks_as : (P Q : Ask → Type 0) → ((ask : Ask) → P ask → Q ask) → (old new : List Ask) → AsksMore P old new → AsksMore Q old new
@@ -33,20 +29,3 @@ pub ask_of-last : (session : Session) (sessions : List Session) → ask_of (sess
 ask_of-last session [] = refl
 ask_of-last session (s ∷ []) = refl
 ask_of-last session (s ∷ t ∷ rest) = ask_of-last session (t ∷ rest)
-
-pub ask_of-at : (sessions : List Session) (n : ℕ) (d : Session) → length sessions ≡ suc n → ask_of sessions ≡ Some (ask_in (get_or sessions n d))
-ask_of-at [] n d count = absurd (omega (arith, count))
-ask_of-at (s ∷ []) zero d count = refl
-ask_of-at (s ∷ []) (suc n) d count = absurd (omega (arith, count))
-ask_of-at (s ∷ t ∷ rest) zero d count = absurd (omega (arith, count))
-ask_of-at (s ∷ t ∷ rest) (suc n) d count = ask_of-at (t ∷ rest) n d (omega (arith, count))
-
--- one more is, if there was memory to keep it
-pub asks_kept : (P : Ask → Type 0) (asks : List Ask) (ask : Ask) (is_kept : Bool) (new : List Ask) → new ≡ cond is_kept (asks ++ ask ∷ []) asks → P ask → AsksMore P asks new
-asks_kept P asks ask true new told is = subst (AsksMore P asks) (sym told) (asks_one P asks ask is)
-asks_kept P asks ask false new told is = subst (AsksMore P asks) (sym told) (asks_none P asks)
-
--- a number that isn't 0
-pub one_more : (n : ℕ) → (n ≡ 0 → ⊥) → n ≡ suc (n - 1)
-one_more zero some = absurd (some refl)
-one_more (suc n) some = omega arith

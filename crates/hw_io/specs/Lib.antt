@@ -3,8 +3,6 @@ pub mod Consumers
 pub mod Doors
 pub mod Faults
 pub mod Files
-pub mod Memory
 pub mod Moments
-pub mod Shelves
+pub mod Reads
 pub mod Sinks
-pub mod Sure

@@ -1,9 +1,7 @@
 //! Reading ahead of a file, so that its next bytes can be looked at before they are used.
 ghost use Rattle.std.specs.Prelude.{◌≡◌, ℕ, ◌+◌, ◌-◌, ◌<◌, ◌≤◌, List, [], ◌++◌, length, take, drop, slice_range, IsTrue, OnOk, OnErr, IfOk, vec_len, vec_items};
-ghost use Rattle.std.specs.Io.{StartsWith};
-ghost use Rattle.hw_io.specs.Faults.{HasCause, IsCountedAbout};
-ghost use Rattle.hw_io.specs.Files.{SameFiles};
 ghost use Rattle.hw_io.specs.Buffers.{IsWindow};
+ghost use Rattle.hw_io.specs.Reads.{OnlyReads, CountsReads, HoldsMore};
 
 use crate::outside::{Files, IoFault};
 use std::alloc::{AllocError, Global};
@@ -75,15 +73,9 @@ impl ReadBuffer {
         ensures end { IsTrue F.tells → IfOk result (λ count. count < n → F.unread files.new ≡ []) }
 
         // Whatever the answer, what was held is held, and what was left is left.
-        ensures held { StartsWith self.new self.old }
-        ensures left { IsTrue F.tells → self.new ++ F.unread files.new ≡ self.old ++ F.unread files.old }
-        ensures allowance { F.allowance files.new + length self.new ≡ F.allowance files.old + length self.old }
-        ensures cause { HasCause (F.read_faults files.old) (F.read_faults files.new) result }
-        ensures about { IsCountedAbout (F.begun files.old) (F.faults_about files.old) (F.faults_about files.new) result }
-
-        ensures files { SameFiles (F.held files.old) (F.held files.new) }
-        ensures begun { F.begun files.new ≡ F.begun files.old }
-        ensures appends { F.append_faults files.new ≡ F.append_faults files.old }
+        ensures more { HoldsMore F.Files files.old files.new self.old self.new }
+        ensures counted { CountsReads F.Files files.old files.new result }
+        ensures rest { OnlyReads F.Files files.old files.new }
     {
         if self.end - self.start < n {
             self.read_more(files, n)?;
@@ -96,15 +88,9 @@ impl ReadBuffer {
         requires fewer { length self.old ≤ n }
         requires most { n ≤ MOST_AT_ONCE }
         ensures end { IsTrue F.tells → OnOk result (length self.new < n → F.unread files.new ≡ []) }
-        ensures held { StartsWith self.new self.old }
-        ensures left { IsTrue F.tells → self.new ++ F.unread files.new ≡ self.old ++ F.unread files.old }
-        ensures allowance { F.allowance files.new + length self.new ≡ F.allowance files.old + length self.old }
-        ensures cause { HasCause (F.read_faults files.old) (F.read_faults files.new) result }
-        ensures about { IsCountedAbout (F.begun files.old) (F.faults_about files.old) (F.faults_about files.new) result }
-
-        ensures files { SameFiles (F.held files.old) (F.held files.new) }
-        ensures begun { F.begun files.new ≡ F.begun files.old }
-        ensures appends { F.append_faults files.new ≡ F.append_faults files.old }
+        ensures more { HoldsMore F.Files files.old files.new self.old self.new }
+        ensures counted { CountsReads F.Files files.old files.new result }
+        ensures rest { OnlyReads F.Files files.old files.new }
     {
         let held = self.end - self.start;
         make_room(&mut self.bytes, self.start, self.end, n)?;
@@ -147,12 +133,8 @@ fn fill<F: Files>(files: &mut F, bytes: &mut [u8], held: usize, n: usize) -> Fil
     ensures held { (held ≤ result.end) × (take held bytes.new ≡ take held bytes.old) }
     ensures left { IsTrue F.tells → take result.end bytes.new ++ F.unread files.new ≡ take held bytes.old ++ F.unread files.old }
     ensures allowance { F.allowance files.new + result.end ≡ F.allowance files.old + held }
-    ensures cause { HasCause (F.read_faults files.old) (F.read_faults files.new) result.outcome }
-    ensures about { IsCountedAbout (F.begun files.old) (F.faults_about files.old) (F.faults_about files.new) result.outcome }
-
-    ensures files { SameFiles (F.held files.old) (F.held files.new) }
-    ensures begun { F.begun files.new ≡ F.begun files.old }
-    ensures appends { F.append_faults files.new ≡ F.append_faults files.old }
+    ensures counted { CountsReads F.Files files.old files.new result.outcome }
+    ensures rest { OnlyReads F.Files files.old files.new }
 {
     let mut end = held;
     while end < n {

@@ -6,26 +6,12 @@
 //! `OutOfMemory`; a sink counts it apart.
 #![tactic(auto)]
 
-mod book;
 mod buffer;
-mod consumer;
-mod door;
-mod memory;
-mod moments;
+mod numbers;
 mod outside;
 mod pieces;
-mod session;
-mod shelf;
-mod sure;
-mod watched;
 
 pub use buffer::{MOST_AT_ONCE, ReadBuffer};
-pub use consumer::{ListConsumer, TakenBlock};
-pub use door::{DoorNumbers, MemDoor, SureDoor};
-pub use memory::{MemFiles, MemSink, Planned};
-pub use moments::SetClock;
+pub use numbers::DoorNumbers;
 pub use outside::{Clock, Consumer, Door, Files, IoFault, READ_LIMIT, Sink};
 pub use pieces::write_all;
-pub use session::MemSession;
-pub use sure::{SureFiles, SureSink};
-pub use watched::{MemAsk, WatchedDoor};

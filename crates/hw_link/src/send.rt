@@ -5,7 +5,7 @@ ghost use Rattle.hw_types.specs.Spelling.{FrameFits};
 ghost use Rattle.hw_io.specs.Faults.{HasCause};
 ghost use Rattle.hw_link.specs.Frames.{behind_length, framed};
 ghost use Rattle.hw_link.specs.Links.{IsLinkCounted};
-ghost use Rattle.hw_link.specs.Sent.{Sends, SendsPart};
+ghost use Rattle.hw_link.specs.Sent.{Sends, SendsPart, OnlySends};
 
 use crate::end::SessionEnd;
 use hw_codec::{encode_frame, frame_is_in_range};
@@ -40,12 +40,7 @@ pub fn send_body<D: Door>(alloc: Global, door: &mut D, body: &[u8]) -> Result<()
     requires open { D.is_open door.old ≡ true }
     ensures sent { Sends (behind_length body.now) (D.sessions door.old) (D.sessions door.new) result }
     ensures cause { IsLinkCounted (D.faults door.old) (D.faults door.new) result }
-
-    ensures open { D.is_open door.new ≡ true }
-    ensures asks { D.asks door.new ≡ D.asks door.old }
-    ensures ends { D.ends door.new ≡ D.ends door.old }
-    ensures accepts { D.accepts door.new ≡ D.accepts door.old }
-    ensures dials { D.dials door.new ≡ D.dials door.old }
+    ensures rest { OnlySends D.Door door.old door.new }
 {
     let bytes = behind_length(alloc, body)?;
     send_all(door, bytes.as_slice())?;
@@ -69,12 +64,7 @@ fn send_all<D: Door>(door: &mut D, bytes: &[u8]) -> Result<(), IoFault>
     requires open { D.is_open door.old ≡ true }
     ensures sent { SendsPart bytes.now (D.sessions door.old) (D.sessions door.new) result }
     ensures cause { HasCause (D.faults door.old) (D.faults door.new) result }
-
-    ensures open { D.is_open door.new ≡ true }
-    ensures asks { D.asks door.new ≡ D.asks door.old }
-    ensures ends { D.ends door.new ≡ D.ends door.old }
-    ensures accepts { D.accepts door.new ≡ D.accepts door.old }
-    ensures dials { D.dials door.new ≡ D.dials door.old }
+    ensures rest { OnlySends D.Door door.old door.new }
 {
     let mut done = 0;
     while done < bytes.len() {

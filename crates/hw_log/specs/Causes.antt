@@ -1,8 +1,10 @@
 -- When the calls answer which error.
-use Rattle.std.specs.Prelude.{◌≡◌, ℕ, ◌≤◌, ◌⊎◌, List, Option, Result, Ok, Err, IfErr}
+use Rattle.std.specs.Prelude.{◌≡◌, ◌≢◌, ℕ, ◌≤◌, ◌⊎◌, List, IsTrue, Option, Some, Result, Ok, Err, IfErr}
 use Rattle.hw_io.specs.declared.outside.IoFault.{IoFault}
 use Rattle.hw_io.specs.declared.outside.IoFault.TheVariants as io
+use Rattle.hw_io.specs.declared.outside.Files.{Ghosts as Files}
 use Rattle.hw_io.specs.Faults.{Rose, FailsAbout}
+use Rattle.hw_io.specs.Files.{Appended}
 use Rattle.hw_types.specs.declared.answers.CodecError.TheVariants as codec
 use Rattle.hw_log.specs.declared.error.LogError.{LogError}
 use Rattle.hw_log.specs.declared.error.LogError.TheVariants.{BadConfig, BadVertex, ReadFault, WriteFault, OutOfMemory}
@@ -73,3 +75,14 @@ IsAppendCounted (Err e) before now = ⊥
 pub record HasAppendCause {T : Type 0} (before now : ℕ) (result : Result T LogError) : Type 0 where
   pub later : before ≤ now
   pub failed : IsAppendCounted result before now
+
+-- A call that appends to this log and nothing else: the log's file holds the bytes behind what it held, a failed append is
+-- counted, and what is read of another file stays.
+pub record AppendsLog {F T : Type 0} (tells : Files F) (old new : F) (name bytes : List ℕ) (result : Result T LogError) : Type 0 where
+  pub bytes_are : IsTrue tells.tells → Appended (tells.held old) (tells.held new) name bytes result
+  pub cause : HasAppendCause (tells.append_faults old) (tells.append_faults new) result
+  pub begun : tells.begun new ≡ tells.begun old
+  pub unread : IsTrue tells.tells → tells.begun old ≢ Some name → tells.unread new ≡ tells.unread old
+  pub allowance : tells.allowance new ≡ tells.allowance old
+  pub reads : tells.read_faults new ≡ tells.read_faults old
+  pub about : tells.faults_about new ≡ tells.faults_about old

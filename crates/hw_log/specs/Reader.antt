@@ -5,7 +5,15 @@ use Rattle.hw_log.specs.Lasts.{LastUnits, lasts_after}
 use Rattle.hw_log.specs.declared.error.LogError.{LogError}
 use Rattle.hw_log.specs.declared.entry.LogEntry.{LogEntry}
 use Rattle.hw_log.specs.Log.{Left, rest_at, header_of, Entries, entries_of, log_of}
-use Rattle.hw_log.specs.Causes.{Gives, IsOutside}
+use Rattle.hw_io.specs.declared.outside.Files.{Ghosts as Files}
+use Rattle.hw_io.specs.Reads.{OnlyReads}
+use Rattle.hw_log.specs.Causes.{Gives, IsOutside, HasReadCause, IsReadAbout}
+
+-- a call that reads of the log that was begun and changes nothing else: a failed read is counted, for this log
+pub record ReadsLog {F T : Type 0} (tells : Files F) (old new : F) (result : Result T LogError) : Type 0 where
+  pub cause : HasReadCause (tells.read_faults old) (tells.read_faults new) result
+  pub about : IsReadAbout (tells.begun old) (tells.faults_about old) (tells.faults_about new) result
+  pub rest : OnlyReads tells old new
 
 -- what a reader knows: the log's configuration, the last units so far, the place of the next entry, and what was read of the file and not yet used
 pub record Reading : Type 0 where

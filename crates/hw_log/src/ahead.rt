@@ -1,11 +1,9 @@
 //! The bytes of a log that are held, and the names of the units that stand ahead in them.
 
 ghost use Rattle.std.specs.Prelude.{◌≡◌, ◌+◌, ◌<◌, ◌≤◌, [], ◌++◌, length, drop, map, All, IsTrue, IfOk, IfSome};
-ghost use Rattle.std.specs.Io.{StartsWith};
 ghost use Rattle.std.specs.Option.{option_map};
 ghost use Rattle.sha2.specs.Sha256.{sha256};
-ghost use Rattle.hw_io.specs.Faults.{HasCause, IsCountedAbout};
-ghost use Rattle.hw_io.specs.Files.{SameFiles};
+ghost use Rattle.hw_io.specs.Reads.{OnlyReads, CountsReads, HoldsMore};
 ghost use Rattle.hw_lanes.specs.Pieces.{IsWithin, part_of};
 
 use crate::head::MAX_LENGTH;
@@ -98,16 +96,9 @@ impl NamingBuffer {
         requires { n ≤ MAX_LENGTH }
         ensures count { IfOk result (λ count. count ≡ length self.new) }
         ensures end { IsTrue F.tells → IfOk result (λ count. count < n → F.unread files.new ≡ []) }
-
-        ensures held { StartsWith self.new self.old }
-        ensures left { IsTrue F.tells → self.new ++ F.unread files.new ≡ self.old ++ F.unread files.old }
-        ensures allowance { F.allowance files.new + length self.new ≡ F.allowance files.old + length self.old }
-        ensures cause { HasCause (F.read_faults files.old) (F.read_faults files.new) result }
-        ensures about { IsCountedAbout (F.begun files.old) (F.faults_about files.old) (F.faults_about files.new) result }
-
-        ensures files { SameFiles (F.held files.old) (F.held files.new) }
-        ensures begun { F.begun files.new ≡ F.begun files.old }
-        ensures appends { F.append_faults files.new ≡ F.append_faults files.old }
+        ensures more { HoldsMore F.Files files.old files.new self.old self.new }
+        ensures counted { CountsReads F.Files files.old files.new result }
+        ensures rest { OnlyReads F.Files files.old files.new }
     {
         self.buffer.available(files, n)
     }

@@ -12,7 +12,7 @@ ghost use Rattle.hw_log.specs.Lasts.{IsVersion, lasts_after, noted_in, noted_nam
 ghost use Rattle.hw_log.specs.Log.{rest_at, bytes_at, decoded, front_of, checked_config, header_of, head_at, body_at, entry_at, next_at};
 ghost use Rattle.hw_log.specs.Causes.{Fails, IsOutside, IsOfBytes, Gives, HasReadCause, IsReadAbout};
 ghost use Rattle.hw_log.specs.Named.{IsNameOf, NamesUnit, entry_in, unnamed};
-ghost use Rattle.hw_log.specs.Reader.{Reading, lasts_with, left_of, ahead_of, end_of, PlacesFit, Opens};
+ghost use Rattle.hw_log.specs.Reader.{ReadsLog, Reading, lasts_with, left_of, ahead_of, end_of, PlacesFit, Opens};
 
 use crate::ahead::NamingBuffer;
 use crate::entry::{LogEntry, NamedEntry};
@@ -180,12 +180,7 @@ impl LogReader {
         // After an entry fewer bytes may still come.
         ensures nearer { IfOk result (λ named. IfSome named (λ n.
             ahead_of self.new (F.allowance files.new) < ahead_of self.old (F.allowance files.old))) }
-        ensures cause { HasReadCause (F.read_faults files.old) (F.read_faults files.new) result }
-        ensures about { IsReadAbout (F.begun files.old) (F.faults_about files.old) (F.faults_about files.new) result }
-
-        ensures files { SameFiles (F.held files.old) (F.held files.new) }
-        ensures begun { F.begun files.new ≡ F.begun files.old }
-        ensures appends { F.append_faults files.new ≡ F.append_faults files.old }
+        ensures reads { ReadsLog F.Files files.old files.new result }
     {
         if self.is_at_end(files)? {
             Ok(None)
@@ -203,12 +198,7 @@ impl LogReader {
         ensures lasts { self.new.lasts ≡ self.old.lasts }
         ensures config { self.new.config ≡ self.old.config }
         ensures end { end_of self.new (F.allowance files.new) ≡ end_of self.old (F.allowance files.old) }
-        ensures cause { HasReadCause (F.read_faults files.old) (F.read_faults files.new) result }
-        ensures about { IsReadAbout (F.begun files.old) (F.faults_about files.old) (F.faults_about files.new) result }
-
-        ensures files { SameFiles (F.held files.old) (F.held files.new) }
-        ensures begun { F.begun files.new ≡ F.begun files.old }
-        ensures appends { F.append_faults files.new ≡ F.append_faults files.old }
+        ensures reads { ReadsLog F.Files files.old files.new result }
     {
         match self.buffer.available(files, 1) {
             Ok(held) => Ok(held == 0),
@@ -229,12 +219,7 @@ impl LogReader {
         ensures place { OnOk result (self.old.place < self.new.place) }
         ensures config { self.new.config ≡ self.old.config }
         ensures end { end_of self.new (F.allowance files.new) ≡ end_of self.old (F.allowance files.old) }
-        ensures cause { HasReadCause (F.read_faults files.old) (F.read_faults files.new) result }
-        ensures about { IsReadAbout (F.begun files.old) (F.faults_about files.old) (F.faults_about files.new) result }
-
-        ensures files { SameFiles (F.held files.old) (F.held files.new) }
-        ensures begun { F.begun files.new ≡ F.begun files.old }
-        ensures appends { F.append_faults files.new ≡ F.append_faults files.old }
+        ensures reads { ReadsLog F.Files files.old files.new result }
     {
         let at = self.place;
         let head = self.head(files)?;
@@ -259,12 +244,7 @@ impl LogReader {
         ensures place { OnOk result (self.old.place < self.new.place) }
         ensures config { self.new.config ≡ self.old.config }
         ensures end { end_of self.new (F.allowance files.new) ≡ end_of self.old (F.allowance files.old) }
-        ensures cause { HasReadCause (F.read_faults files.old) (F.read_faults files.new) result }
-        ensures about { IsReadAbout (F.begun files.old) (F.faults_about files.old) (F.faults_about files.new) result }
-
-        ensures files { SameFiles (F.held files.old) (F.held files.new) }
-        ensures begun { F.begun files.new ≡ F.begun files.old }
-        ensures appends { F.append_faults files.new ≡ F.append_faults files.old }
+        ensures reads { ReadsLog F.Files files.old files.new result }
     {
         let at = self.place;
         need(&mut self.buffer, files, HEAD_LENGTH, at)?;
@@ -293,12 +273,7 @@ impl LogReader {
         ensures place { OnOk result (self.old.place ≤ self.new.place) }
         ensures config { self.new.config ≡ self.old.config }
         ensures end { end_of self.new (F.allowance files.new) ≡ end_of self.old (F.allowance files.old) }
-        ensures cause { HasReadCause (F.read_faults files.old) (F.read_faults files.new) result }
-        ensures about { IsReadAbout (F.begun files.old) (F.faults_about files.old) (F.faults_about files.new) result }
-
-        ensures files { SameFiles (F.held files.old) (F.held files.new) }
-        ensures begun { F.begun files.new ≡ F.begun files.old }
-        ensures appends { F.append_faults files.new ≡ F.append_faults files.old }
+        ensures reads { ReadsLog F.Files files.old files.new result }
     {
         need(&mut self.buffer, files, length, at)?;
         let read = self.vertex(at, length, named)?;
@@ -380,12 +355,7 @@ fn header<F: Files>(
     ensures said { IsTrue F.tells → Gives (λ reader. (reader.config, left_of reader (F.unread files.new))) result (header_of (buffer ++ F.unread files.old)) }
     ensures checked { IfOk result (λ reader. (config_fault reader.config ≡ None) × ConfigFits reader.config) }
     ensures end { IfOk result (λ reader. end_of reader (F.allowance files.new) ≡ length buffer + F.allowance files.old) }
-    ensures cause { HasReadCause (F.read_faults files.old) (F.read_faults files.new) result }
-    ensures about { IsReadAbout (F.begun files.old) (F.faults_about files.old) (F.faults_about files.new) result }
-
-    ensures files { SameFiles (F.held files.old) (F.held files.new) }
-    ensures begun { F.begun files.new ≡ F.begun files.old }
-    ensures appends { F.append_faults files.new ≡ F.append_faults files.old }
+    ensures reads { ReadsLog F.Files files.old files.new result }
 {
     let front = front(&mut buffer, files)?;
     need(&mut buffer, files, front.length, FRONT_LENGTH as u64)?;
@@ -409,12 +379,7 @@ fn front<F: Files>(buffer: &mut NamingBuffer, files: &mut F) -> Result<Front, Lo
     ensures limit { IfOk result (λ said. said.length ≤ MAX_LENGTH) }
     ensures version { IfOk result (λ said. IsVersion said.version) }
     ensures ahead { OnOk result (F.allowance files.new + length buffer.new + FRONT_LENGTH ≡ F.allowance files.old + length buffer.old) }
-    ensures cause { HasReadCause (F.read_faults files.old) (F.read_faults files.new) result }
-    ensures about { IsReadAbout (F.begun files.old) (F.faults_about files.old) (F.faults_about files.new) result }
-
-    ensures files { SameFiles (F.held files.old) (F.held files.new) }
-    ensures begun { F.begun files.new ≡ F.begun files.old }
-    ensures appends { F.append_faults files.new ≡ F.append_faults files.old }
+    ensures reads { ReadsLog F.Files files.old files.new result }
 {
     match buffer.available(files, FRONT_LENGTH) {
         Ok(held) => {
@@ -438,12 +403,7 @@ fn need<F: Files>(
     ensures torn { IsTrue F.tells → IfErr result (λ e. (place : ℕ) → Fails e (bytes_at n (Torn at) (rest_at place (buffer.old ++ F.unread files.old)))) }
     ensures left { IsTrue F.tells → buffer.new ++ F.unread files.new ≡ buffer.old ++ F.unread files.old }
     ensures ahead { F.allowance files.new + length buffer.new ≡ F.allowance files.old + length buffer.old }
-    ensures cause { HasReadCause (F.read_faults files.old) (F.read_faults files.new) result }
-    ensures about { IsReadAbout (F.begun files.old) (F.faults_about files.old) (F.faults_about files.new) result }
-
-    ensures files { SameFiles (F.held files.old) (F.held files.new) }
-    ensures begun { F.begun files.new ≡ F.begun files.old }
-    ensures appends { F.append_faults files.new ≡ F.append_faults files.old }
+    ensures reads { ReadsLog F.Files files.old files.new result }
 {
     match buffer.available(files, n) {
         Ok(held) => {

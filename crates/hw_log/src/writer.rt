@@ -5,7 +5,7 @@ ghost use Rattle.hw_io.specs.Files.{Appended};
 ghost use Rattle.hw_types.specs.Spelling.{ConfigFits, VertexFits};
 ghost use Rattle.hw_log.specs.Lasts.{IsVersion};
 ghost use Rattle.hw_log.specs.Log.{header_bytes, entry_bytes};
-ghost use Rattle.hw_log.specs.Causes.{HasAppendCause};
+ghost use Rattle.hw_log.specs.Causes.{HasAppendCause, AppendsLog};
 
 use crate::error::{LogError, error_of_append};
 use crate::head::{MAGIC, VERTEX_EVENT};
@@ -73,31 +73,14 @@ pub fn entry_bytes(
 /// Its errors are `WriteFault`, where the append failed, and want of memory. After an error the file
 /// holds what it held and a prefix of the entry.
 pub fn append_entry<F: Files>(files: &mut F, name: &str, entry: &Bytes) -> Result<(), LogError>
-    ensures bytes { IsTrue F.tells →
-        Appended (F.held files.old) (F.held files.new) name.now entry.now result }
-    ensures cause { HasAppendCause (F.append_faults files.old) (F.append_faults files.new) result }
-
-    ensures begun { F.begun files.new ≡ F.begun files.old }
-    ensures unread { IsTrue F.tells → F.begun files.old ≢ Some name.now
-        → F.unread files.new ≡ F.unread files.old }
-    ensures allowance { F.allowance files.new ≡ F.allowance files.old }
-    ensures reads { F.read_faults files.new ≡ F.read_faults files.old }
-    ensures about { F.faults_about files.new ≡ F.faults_about files.old }
+    ensures appends { AppendsLog F.Files files.old files.new name.now entry.now result }
 {
     append(files, name, entry.as_slice())
 }
 
 /// Appends bytes to the file of that name.
 fn append<F: Files>(files: &mut F, name: &str, bytes: &[u8]) -> Result<(), LogError>
-    ensures bytes { IsTrue F.tells → Appended (F.held files.old) (F.held files.new) name.now bytes.now result }
-    ensures cause { HasAppendCause (F.append_faults files.old) (F.append_faults files.new) result }
-
-    ensures begun { F.begun files.new ≡ F.begun files.old }
-    ensures unread { IsTrue F.tells → F.begun files.old ≢ Some name.now
-        → F.unread files.new ≡ F.unread files.old }
-    ensures allowance { F.allowance files.new ≡ F.allowance files.old }
-    ensures reads { F.read_faults files.new ≡ F.read_faults files.old }
-    ensures about { F.faults_about files.new ≡ F.faults_about files.old }
+    ensures appends { AppendsLog F.Files files.old files.new name.now bytes.now result }
 {
     match files.append(name, bytes) {
         Ok(()) => Ok(()),

@@ -4,7 +4,7 @@ ghost use Rattle.std.specs.Prelude.{◌≡◌, ◌<◌, ℕ, List, Option, Some,
 ghost use Rattle.hw_types.specs.Spelling.{VertexFits};
 ghost use Rattle.hw_io.specs.Doors.{Session};
 ghost use Rattle.hw_link.specs.Links.{IsLinkCounted};
-ghost use Rattle.hw_link.specs.Sent.{Sends};
+ghost use Rattle.hw_link.specs.Sent.{Sends, OnlySends};
 ghost use Rattle.hw_meeting_node.specs.Frames.{sent_bytes};
 ghost use Rattle.hw_meeting_node.specs.Meeting.{told_of, owed_by, to_hello, to_summary, to_torn, greeted, told, given_torn, given_vertex, finished};
 ghost use Rattle.hw_meeting_node.specs.Handling.{meeting_of, IsKept, Reacts, IsTakerCounted};
@@ -38,12 +38,7 @@ pub(crate) fn at_hello<D: Door>(
     ensures kept { OnOk result (IsKept meeter.new core.now) }
     ensures cause { IsLinkCounted (D.faults door.old) (D.faults door.new) result }
     ensures stored { (count : ℕ) → IsTakerCounted count count result }
-
-    ensures open { D.is_open door.new ≡ true }
-    ensures asks { D.asks door.new ≡ D.asks door.old }
-    ensures ends { D.ends door.new ≡ D.ends door.old }
-    ensures accepts { D.accepts door.new ≡ D.accepts door.old }
-    ensures dials { D.dials door.new ≡ D.dials door.old }
+    ensures rest { OnlySends D.Door door.old door.new }
 {
     if other == *core.instance() {
         meeter.stage = Stage::Telling;
@@ -65,12 +60,7 @@ fn answer_hello<D: Door>(
     requires open { D.is_open door.old ≡ true }
     ensures sent { Sends (sent_bytes (to_hello side core.now)) (D.sessions door.old) (D.sessions door.new) result }
     ensures cause { IsLinkCounted (D.faults door.old) (D.faults door.new) result }
-
-    ensures open { D.is_open door.new ≡ true }
-    ensures asks { D.asks door.new ≡ D.asks door.old }
-    ensures ends { D.ends door.new ≡ D.ends door.old }
-    ensures accepts { D.accepts door.new ≡ D.accepts door.old }
-    ensures dials { D.dials door.new ≡ D.dials door.old }
+    ensures rest { OnlySends D.Door door.old door.new }
 {
     match side {
         Side::Caller => say_summary(alloc, core, door, mine),
@@ -95,12 +85,7 @@ pub(crate) fn at_summary<D: Door>(
     ensures kept { OnOk result (IsKept meeter.new core.now) }
     ensures cause { IsLinkCounted (D.faults door.old) (D.faults door.new) result }
     ensures stored { (count : ℕ) → IsTakerCounted count count result }
-
-    ensures open { D.is_open door.new ≡ true }
-    ensures asks { D.asks door.new ≡ D.asks door.old }
-    ensures ends { D.ends door.new ≡ D.ends door.old }
-    ensures accepts { D.accepts door.new ≡ D.accepts door.old }
-    ensures dials { D.dials door.new ≡ D.dials door.old }
+    ensures rest { OnlySends D.Door door.old door.new }
 {
     let answer = answer_summary(alloc, core, door, side, &meeter.mine, theirs.as_slice());
     meeter.theirs = theirs;
@@ -121,12 +106,7 @@ fn answer_summary<D: Door>(
     requires open { D.is_open door.old ≡ true }
     ensures sent { Sends (sent_bytes (to_summary side core.now theirs.now)) (D.sessions door.old) (D.sessions door.new) result }
     ensures cause { IsLinkCounted (D.faults door.old) (D.faults door.new) result }
-
-    ensures open { D.is_open door.new ≡ true }
-    ensures asks { D.asks door.new ≡ D.asks door.old }
-    ensures ends { D.ends door.new ≡ D.ends door.old }
-    ensures accepts { D.accepts door.new ≡ D.accepts door.old }
-    ensures dials { D.dials door.new ≡ D.dials door.old }
+    ensures rest { OnlySends D.Door door.old door.new }
 {
     match side {
         Side::Caller => say_torn(alloc, core, door, mine.as_slice(), theirs),
@@ -151,12 +131,7 @@ pub(crate) fn at_torn<D: Door>(
     ensures kept { OnOk result (IsKept meeter.new core.now) }
     ensures cause { IsLinkCounted (D.faults door.old) (D.faults door.new) result }
     ensures stored { (count : ℕ) → IsTakerCounted count count result }
-
-    ensures open { D.is_open door.new ≡ true }
-    ensures asks { D.asks door.new ≡ D.asks door.old }
-    ensures ends { D.ends door.new ≡ D.ends door.old }
-    ensures accepts { D.accepts door.new ≡ D.accepts door.old }
-    ensures dials { D.dials door.new ≡ D.dials door.old }
+    ensures rest { OnlySends D.Door door.old door.new }
 {
     let due = owed(
         alloc,
@@ -208,12 +183,7 @@ fn answer_torn<D: Door>(
     requires open { D.is_open door.old ≡ true }
     ensures sent { Sends (sent_bytes (to_torn side core.now meeter.now.theirs (filter_map (slice_get core.now.journal) meeter.now.due))) (D.sessions door.old) (D.sessions door.new) result }
     ensures cause { IsLinkCounted (D.faults door.old) (D.faults door.new) result }
-
-    ensures open { D.is_open door.new ≡ true }
-    ensures asks { D.asks door.new ≡ D.asks door.old }
-    ensures ends { D.ends door.new ≡ D.ends door.old }
-    ensures accepts { D.accepts door.new ≡ D.accepts door.old }
-    ensures dials { D.dials door.new ≡ D.dials door.old }
+    ensures rest { OnlySends D.Door door.old door.new }
 {
     match side {
         Side::Caller => say_due(alloc, core, door, meeter.due.as_slice()),
@@ -241,12 +211,7 @@ pub(crate) fn at_done<D: Door>(
     ensures reacts { Reacts core.now (finished side (meeting_of meeter.now core.now)) (meeting_of meeter.now core.now) (D.sessions door.old) (D.sessions door.new) result }
     ensures cause { IsLinkCounted (D.faults door.old) (D.faults door.new) result }
     ensures stored { (count : ℕ) → IsTakerCounted count count result }
-
-    ensures open { D.is_open door.new ≡ true }
-    ensures asks { D.asks door.new ≡ D.asks door.old }
-    ensures ends { D.ends door.new ≡ D.ends door.old }
-    ensures accepts { D.accepts door.new ≡ D.accepts door.old }
-    ensures dials { D.dials door.new ≡ D.dials door.old }
+    ensures rest { OnlySends D.Door door.old door.new }
 {
     match side {
         Side::Caller => Err(SessionEnd::Done),

@@ -6,7 +6,7 @@ ghost use Rattle.hw_io.specs.Doors.{Session, AsksMore};
 ghost use Rattle.hw_io.specs.Faults.{raised};
 ghost use Rattle.hw_link.specs.Asked.{IsAskedInside, IsAskedBehind, IsPrompt};
 ghost use Rattle.hw_link.specs.Links.{after_part, IsLinkCounted};
-ghost use Rattle.hw_link.specs.Sent.{Sends};
+ghost use Rattle.hw_link.specs.Sent.{Sends, OnlySends};
 ghost use Rattle.hw_meeting.specs.Frames.{IsSaid};
 ghost use Rattle.hw_meeting_node.specs.Frames.{frame_here, sent_bytes};
 ghost use Rattle.hw_meeting_node.specs.Meeting.{begun, first_word, meet_step, at_stage, met_said};
@@ -131,12 +131,7 @@ fn say_first<D: Door>(
     ensures kept { IfOk result (λ meeter. IsKept meeter core.now) }
     ensures sent { Sends (sent_bytes (first_word side core.now)) (D.sessions door.old) (D.sessions door.new) result }
     ensures cause { IsLinkCounted (D.faults door.old) (D.faults door.new) result }
-
-    ensures open { D.is_open door.new ≡ true }
-    ensures asks { D.asks door.new ≡ D.asks door.old }
-    ensures ends { D.ends door.new ≡ D.ends door.old }
-    ensures accepts { D.accepts door.new ≡ D.accepts door.old }
-    ensures dials { D.dials door.new ≡ D.dials door.old }
+    ensures rest { OnlySends D.Door door.old door.new }
 {
     let meeter = begin(alloc, core)?;
     first_word(alloc, core, door, side)?;
@@ -153,12 +148,7 @@ fn first_word<D: Door>(
     requires open { D.is_open door.old ≡ true }
     ensures sent { Sends (sent_bytes (first_word side core.now)) (D.sessions door.old) (D.sessions door.new) result }
     ensures cause { IsLinkCounted (D.faults door.old) (D.faults door.new) result }
-
-    ensures open { D.is_open door.new ≡ true }
-    ensures asks { D.asks door.new ≡ D.asks door.old }
-    ensures ends { D.ends door.new ≡ D.ends door.old }
-    ensures accepts { D.accepts door.new ≡ D.accepts door.old }
-    ensures dials { D.dials door.new ≡ D.dials door.old }
+    ensures rest { OnlySends D.Door door.old door.new }
 {
     match side {
         Side::Caller => say_hello(alloc, core, door),

@@ -3,7 +3,7 @@
 ghost use Rattle.std.specs.Prelude.{◌≡◌, ◌<◌, [], ◌∷◌, true, length, map, filter_map, slice_get, All, IfOk};
 ghost use Rattle.hw_types.specs.Spelling.{VertexFits, instance_of};
 ghost use Rattle.hw_link.specs.Links.{IsLinkCounted};
-ghost use Rattle.hw_link.specs.Sent.{Sends};
+ghost use Rattle.hw_link.specs.Sent.{Sends, OnlySends};
 ghost use Rattle.hw_meeting.specs.declared.frame.MeetingFrame.TheVariants as frame;
 ghost use Rattle.hw_meeting.specs.Frames.{IsSaid};
 ghost use Rattle.hw_meeting_node.specs.Frames.{sent_bytes};
@@ -23,12 +23,7 @@ pub(crate) fn say_hello<D: Door>(alloc: Global, core: &Core, door: &mut D) -> Re
     requires open { D.is_open door.old ≡ true }
     ensures sent { Sends (sent_bytes (hello core.now)) (D.sessions door.old) (D.sessions door.new) result }
     ensures cause { IsLinkCounted (D.faults door.old) (D.faults door.new) result }
-
-    ensures open { D.is_open door.new ≡ true }
-    ensures asks { D.asks door.new ≡ D.asks door.old }
-    ensures ends { D.ends door.new ≡ D.ends door.old }
-    ensures accepts { D.accepts door.new ≡ D.accepts door.old }
-    ensures dials { D.dials door.new ≡ D.dials door.old }
+    ensures rest { OnlySends D.Door door.old door.new }
 {
     send(alloc, core, door, &MeetingFrame::Hello(*core.instance()))
 }
@@ -44,12 +39,7 @@ pub(crate) fn say_summary<D: Door>(
     requires open { D.is_open door.old ≡ true }
     ensures sent { Sends (sent_bytes (summary core.now)) (D.sessions door.old) (D.sessions door.new) result }
     ensures cause { IsLinkCounted (D.faults door.old) (D.faults door.new) result }
-
-    ensures open { D.is_open door.new ≡ true }
-    ensures asks { D.asks door.new ≡ D.asks door.old }
-    ensures ends { D.ends door.new ≡ D.ends door.old }
-    ensures accepts { D.accepts door.new ≡ D.accepts door.old }
-    ensures dials { D.dials door.new ≡ D.dials door.old }
+    ensures rest { OnlySends D.Door door.old door.new }
 {
     let parts = mine.copy()?;
     send(alloc, core, door, &MeetingFrame::Summary(parts))
@@ -67,12 +57,7 @@ pub(crate) fn say_torn<D: Door>(
     requires open { D.is_open door.old ≡ true }
     ensures sent { Sends (sent_bytes (torn core.now theirs.now)) (D.sessions door.old) (D.sessions door.new) result }
     ensures cause { IsLinkCounted (D.faults door.old) (D.faults door.new) result }
-
-    ensures open { D.is_open door.new ≡ true }
-    ensures asks { D.asks door.new ≡ D.asks door.old }
-    ensures ends { D.ends door.new ≡ D.ends door.old }
-    ensures accepts { D.accepts door.new ≡ D.accepts door.old }
-    ensures dials { D.dials door.new ≡ D.dials door.old }
+    ensures rest { OnlySends D.Door door.old door.new }
 {
     let torn = torn_for(alloc, core, mine, theirs)?;
     send(alloc, core, door, &MeetingFrame::Torn(torn))
@@ -89,12 +74,7 @@ pub(crate) fn say_due<D: Door>(
     requires open { D.is_open door.old ≡ true }
     ensures sent { Sends (sent_bytes (all_due (filter_map (slice_get core.now.journal) places.now))) (D.sessions door.old) (D.sessions door.new) result }
     ensures cause { IsLinkCounted (D.faults door.old) (D.faults door.new) result }
-
-    ensures open { D.is_open door.new ≡ true }
-    ensures asks { D.asks door.new ≡ D.asks door.old }
-    ensures ends { D.ends door.new ≡ D.ends door.old }
-    ensures accepts { D.accepts door.new ≡ D.accepts door.old }
-    ensures dials { D.dials door.new ≡ D.dials door.old }
+    ensures rest { OnlySends D.Door door.old door.new }
 {
     send_vertices(alloc, core, door, places)?;
     send(alloc, core, door, &MeetingFrame::Done)
@@ -111,12 +91,7 @@ fn send_vertices<D: Door>(
     requires open { D.is_open door.old ≡ true }
     ensures sent { Sends (sent_bytes (map frame.Vertex (filter_map (slice_get core.now.journal) places.now))) (D.sessions door.old) (D.sessions door.new) result }
     ensures cause { IsLinkCounted (D.faults door.old) (D.faults door.new) result }
-
-    ensures open { D.is_open door.new ≡ true }
-    ensures asks { D.asks door.new ≡ D.asks door.old }
-    ensures ends { D.ends door.new ≡ D.ends door.old }
-    ensures accepts { D.accepts door.new ≡ D.accepts door.old }
-    ensures dials { D.dials door.new ≡ D.dials door.old }
+    ensures rest { OnlySends D.Door door.old door.new }
 {
     for place in places {
         send_vertex(alloc, core, door, core.journal_at(*place))?;
@@ -135,12 +110,7 @@ fn send_vertex<D: Door>(
     requires open { D.is_open door.old ≡ true }
     ensures sent { Sends (sent_bytes (frame.Vertex vertex.now ∷ [])) (D.sessions door.old) (D.sessions door.new) result }
     ensures cause { IsLinkCounted (D.faults door.old) (D.faults door.new) result }
-
-    ensures open { D.is_open door.new ≡ true }
-    ensures asks { D.asks door.new ≡ D.asks door.old }
-    ensures ends { D.ends door.new ≡ D.ends door.old }
-    ensures accepts { D.accepts door.new ≡ D.accepts door.old }
-    ensures dials { D.dials door.new ≡ D.dials door.old }
+    ensures rest { OnlySends D.Door door.old door.new }
 {
     let copy = vertex.copy()?;
     send(alloc, core, door, &MeetingFrame::Vertex(copy))
@@ -157,12 +127,7 @@ fn send<D: Door>(
     requires open { D.is_open door.old ≡ true }
     ensures sent { Sends (sent_bytes (frame.now ∷ [])) (D.sessions door.old) (D.sessions door.new) result }
     ensures cause { IsLinkCounted (D.faults door.old) (D.faults door.new) result }
-
-    ensures open { D.is_open door.new ≡ true }
-    ensures asks { D.asks door.new ≡ D.asks door.old }
-    ensures ends { D.ends door.new ≡ D.ends door.old }
-    ensures accepts { D.accepts door.new ≡ D.accepts door.old }
-    ensures dials { D.dials door.new ≡ D.dials door.old }
+    ensures rest { OnlySends D.Door door.old door.new }
 {
     send_meeting(alloc, door, validators(core), frame)
 }

@@ -2,7 +2,7 @@
 
 ghost use Rattle.std.specs.Prelude.{◌≡◌, ◌≤◌, true};
 ghost use Rattle.hw_link.specs.Links.{IsLinkCounted};
-ghost use Rattle.hw_link.specs.Sent.{Sends};
+ghost use Rattle.hw_link.specs.Sent.{Sends, OnlySends};
 ghost use Rattle.hw_meeting.specs.Frames.{IsSaid};
 ghost use Rattle.hw_meeting_node.specs.Frames.{framed};
 
@@ -26,12 +26,7 @@ pub fn send_meeting<D: Door>(
     requires open { D.is_open door.old ≡ true }
     ensures sent { Sends (framed frame.now) (D.sessions door.old) (D.sessions door.new) result }
     ensures cause { IsLinkCounted (D.faults door.old) (D.faults door.new) result }
-
-    ensures open { D.is_open door.new ≡ true }
-    ensures asks { D.asks door.new ≡ D.asks door.old }
-    ensures ends { D.ends door.new ≡ D.ends door.old }
-    ensures accepts { D.accepts door.new ≡ D.accepts door.old }
-    ensures dials { D.dials door.new ≡ D.dials door.old }
+    ensures rest { OnlySends D.Door door.old door.new }
 {
     let body = encode_meeting(alloc, validators, frame)?;
     // For the prover: each number is in the range of its type. It does nothing.

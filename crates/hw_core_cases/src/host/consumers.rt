@@ -2,8 +2,9 @@
 
 use crate::host::answers::{put_bytes, put_done, put_word};
 use hw_case_words::Answer;
+use hw_doubles::MemSink;
 use hw_host::{BlockCount, HostFiles, HostSink, ValueFile};
-use hw_io::{Consumer, MemSink};
+use hw_io::Consumer;
 
 /// What a consumer answers that is given these blocks, and told then that none follows.
 fn feed<C: Consumer>(answer: &mut Answer, consumer: &mut C, blocks: &str) {

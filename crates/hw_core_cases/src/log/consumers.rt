@@ -2,7 +2,8 @@
 
 use crate::log::counts::{Count, done, put_count};
 use hw_case_words::{Answer, number};
-use hw_io::{Consumer, ListConsumer, TakenBlock};
+use hw_doubles::{ListConsumer, TakenBlock};
+use hw_io::Consumer;
 
 /// What a consumer answers to the steps, and what it took.
 pub fn consumer_text(answer: &mut Answer, calls: &str, steps: &str) {

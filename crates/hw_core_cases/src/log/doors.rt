@@ -2,7 +2,8 @@
 
 use crate::log::counts::{Count, done, put_count};
 use hw_case_words::{Answer, number};
-use hw_io::{Door, DoorNumbers, MemDoor, MemSession, SureDoor};
+use hw_doubles::{MemDoor, MemSession, SureDoor};
+use hw_io::{Door, DoorNumbers};
 
 /// What a door answers to the steps, and what it tells then.
 pub fn door_text(answer: &mut Answer, piece: &str, calls: &str, peers: &str, steps: &str) {

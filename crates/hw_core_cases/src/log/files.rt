@@ -4,7 +4,8 @@ ghost use Rattle.std.specs.Prelude.{◌≤◌};
 
 use crate::log::counts::{Count, asked, done, put_count, put_file};
 use hw_case_words::Answer;
-use hw_io::{Files, MemFiles, ReadBuffer, SureFiles};
+use hw_doubles::{MemFiles, SureFiles};
+use hw_io::{Files, ReadBuffer};
 
 /// Reads a file before it is there, makes it by two appends, and reads it to its end.
 const EXCHANGE: [&str; 9] = [

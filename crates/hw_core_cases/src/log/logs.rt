@@ -1,13 +1,14 @@
 //! Logs of worked parts.
 
 ghost use Rattle.std.specs.Prelude.{◌≡◌};
-ghost use Rattle.hw_io.specs.Memory.{mem_allowance};
+ghost use Rattle.hw_doubles.specs.Memory.{mem_allowance};
 ghost use Rattle.hw_types.specs.Spelling.{ConfigFits, VertexFits};
 ghost use Rattle.hw_log.specs.Lasts.{IsVersion};
 ghost use Rattle.hw_log.specs.Reader.{PlacesFit};
 
 use hw_case_words::{Answer, number};
-use hw_io::{Files, MemFiles};
+use hw_doubles::MemFiles;
+use hw_io::Files;
 use hw_log::{
     Lasts, LogEntry, LogError, LogReader, append_entry, append_header, entry_bytes, read_log,
 };

@@ -1,7 +1,7 @@
 //! Logs that are written anew, over files in memory.
 
 use hw_case_words::{Answer, number};
-use hw_io::MemFiles;
+use hw_doubles::MemFiles;
 use hw_log::{LogError, RewriteFault, mend, migrate};
 use std::alloc::Global;
 

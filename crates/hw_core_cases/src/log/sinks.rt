@@ -2,7 +2,8 @@
 
 use crate::log::counts::{done, put_count};
 use hw_case_words::Answer;
-use hw_io::{Clock, MemSink, SetClock, Sink, SureSink, write_all};
+use hw_doubles::{MemSink, SetClock, SureSink};
+use hw_io::{Clock, Sink, write_all};
 
 /// A sink in pieces of three whose write of that number fails, or one that is sure.
 pub fn sink_text(answer: &mut Answer, call: Option<u64>) {

@@ -1,8 +1,8 @@
 //! Runs over the logs of eras, and how they end.
 
 use hw_case_words::{Answer, number};
+use hw_doubles::MemFiles;
 use hw_eras::{EraStop, audit_logs, report_logs};
-use hw_io::MemFiles;
 use hw_log::LogError;
 use hw_replay::StartFault;
 use std::alloc::AllocError;

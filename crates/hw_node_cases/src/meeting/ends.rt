@@ -2,7 +2,7 @@
 
 use hw_case_words::Answer;
 use hw_core::Core;
-use hw_io::MemDoor;
+use hw_doubles::MemDoor;
 use hw_link::SessionEnd;
 use hw_meeting_node::MeetEnd;
 

@@ -5,7 +5,7 @@ use crate::meeting::nodes::{begin, deliver_all};
 use hw_case_words::{Answer, number};
 use hw_codec::decode_vertex;
 use hw_core::Core;
-use hw_io::MemDoor;
+use hw_doubles::MemDoor;
 use hw_meeting_node::{MemTaker, Taker, VertexList, host_one, meet_one};
 use hw_types::CodecError;
 

@@ -2,7 +2,8 @@
 
 use crate::node::passes::pass_along;
 use crate::node::planned::consumer_of;
-use hw_io::{Consumer, IoFault, MemFiles};
+use hw_doubles::MemFiles;
+use hw_io::{Consumer, IoFault};
 use hw_replay::{Fanout, Replay, put_drops, replay_fed};
 use hw_types::{Bytes, OutOfMemory};
 use std::alloc::Global;

@@ -1,14 +1,15 @@
 //! Passes while a log is replayed.
 
 ghost use Rattle.std.specs.Prelude.{◌≤◌, ◌<◌, IsTrue, length};
-ghost use Rattle.hw_io.specs.Memory.{mem_allowance};
+ghost use Rattle.hw_doubles.specs.Memory.{mem_allowance};
 ghost use Rattle.hw_log.specs.Reader.{ahead_of};
 ghost use Rattle.hw_replay.specs.Replay.{GrowsByOne};
 ghost use Rattle.hw_replay.specs.Steps.{HasRoom};
 ghost use Rattle.hw_replay.specs.Chain.{told_chain};
 
 use hw_core::Core;
-use hw_io::{Consumer, MemFiles};
+use hw_doubles::MemFiles;
+use hw_io::Consumer;
 use hw_replay::{Fanout, Replay};
 
 /// Passes the decided blocks on after each entry of the log that is left, or after the last one, and tells the

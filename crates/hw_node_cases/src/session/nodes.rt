@@ -8,7 +8,7 @@ use crate::session::outside::{plan_files, put_log};
 use crate::session::peers::{accept, drive, serve};
 use hw_case_words::{Answer, number, small, with_line_feeds};
 use hw_codec::decode_config;
-use hw_io::MemFiles;
+use hw_doubles::MemFiles;
 use hw_session::{Keys, MakeFault, Node, StartFault};
 use hw_types::{Config, Plan};
 

@@ -1,7 +1,8 @@
 //! The outside of one run, in memory.
 
 use hw_case_words::{Answer, number, with_line_feeds};
-use hw_io::{Clock, ListConsumer, MemDoor, MemFiles, MemSink};
+use hw_doubles::{ListConsumer, MemDoor, MemFiles, MemSink};
+use hw_io::Clock;
 use std::alloc::AllocError;
 
 /// Files, output and door of a run.

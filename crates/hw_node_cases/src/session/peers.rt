@@ -3,7 +3,7 @@
 use crate::session::outside::expect;
 use hw_case_words::{Answer, number};
 use hw_codec::decode_vertex;
-use hw_io::{MemDoor, MemFiles};
+use hw_doubles::{MemDoor, MemFiles};
 use hw_session::{AcceptFault, Node, PeerMark, SessionEnd};
 use hw_types::Receipt;
 

@@ -17,7 +17,9 @@ loop-end-preserved g c =
       allowance = omega (arith, l.invariant.allowance, c.in-Ok.ensures.allowance);
       faults = c.in-Ok.ensures.cause.failed ∙ l.invariant.faults;
       about = c.in-Ok.ensures.about ∙ l.invariant.about;
-      files = λ name. c.read.ensures.files name ∙ l.invariant.files name;
-      begun = c.read.ensures.begun ∙ l.invariant.begun;
-      appends = c.read.ensures.appends ∙ l.invariant.appends;
+      rest = record {
+        files = λ name. c.read.ensures.files name ∙ l.invariant.rest.files name;
+        begun = c.read.ensures.begun ∙ l.invariant.rest.begun;
+        appends = c.read.ensures.appends ∙ l.invariant.rest.appends;
+      };
     }

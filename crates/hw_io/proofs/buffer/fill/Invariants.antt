@@ -1,5 +1,5 @@
 use Rattle.std.proofs.Common.{◌≡◌, ◌+◌, ◌-◌, ◌≤◌, IsTrue, length, take, ◌++◌}
-use Rattle.hw_io.specs.Files.{SameFiles}
+use Rattle.hw_io.specs.Reads.{OnlyReads}
 use Rattle.hw_io.proofs.buffer.fill.Given as goal
 
 abbrev pub invariant-loop-end : goal.invariant-loop-end
@@ -13,9 +13,7 @@ invariant-loop-end g l =
       allowance : f.allowance l.files + l.end ≡ f.allowance l.initial.files + l.held;
       faults : f.read_faults l.files ≡ f.read_faults l.initial.files;
       about : f.faults_about l.files ≡ f.faults_about l.initial.files;
-      files : SameFiles (f.held l.initial.files) (f.held l.files);
-      begun : f.begun l.files ≡ f.begun l.initial.files;
-      appends : f.append_faults l.files ≡ f.append_faults l.initial.files;
+      rest : OnlyReads f l.initial.files l.files;
     }
 
 abbrev pub decreases-loop-end : goal.decreases-loop-end

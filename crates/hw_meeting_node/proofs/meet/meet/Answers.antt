@@ -15,7 +15,7 @@ returns-in-Ok-clause-met g c =
     let core = g.T.Taker.received c.args.taker.now in
     let judge = g.T.Taker.verdict c.args.taker.now in
     let now = c.meet_frames.new in
-    subst (λ (x : ℕ). TakesThere g.T.Taker.steps c.args.side core judge (g.T.Taker.received now.taker) c.args.taker.now now.taker (d.sessions c.args.door.now) (d.sessions now.door) x (d.ends now.door) c.meet_frames.result) c.in-Ok.ensures.ends
+    subst (λ (x : ℕ). TakesThere g.T.Taker.steps c.args.side core judge (g.T.Taker.received now.taker) c.args.taker.now now.taker (d.sessions c.args.door.now) (d.sessions now.door) x (d.ends now.door) c.meet_frames.result) c.in-Ok.ensures.rest.ends
     (c.meet_frames.ensures.met (d.sessions c.args.door.now) (first_sent g.T.Taker.steps c.args.side core judge c.args.taker.now Meeter (d.sessions c.args.door.now) (d.sessions c.say_first.new.door) c.in-Ok.meeter (rw c.core.ensures at c.in-Ok.ensures.sent)))
 
 pub returns-in-Err-clause-met : goal.returns-in-Err-clause-met
@@ -24,7 +24,7 @@ returns-in-Err-clause-met g c =
     let core = g.T.Taker.received c.args.taker.now in
     let judge = g.T.Taker.verdict c.args.taker.now in
     rw c.meet_end.ensures
-    (subst (λ (x : ℕ). TakesThere g.T.Taker.steps c.args.side core judge core c.args.taker.now c.args.taker.now (d.sessions c.args.door.now) (d.sessions c.say_first.new.door) (d.ends c.args.door.now) x (meet_end c.in-Err.end 0)) (sym c.in-Err.ensures.ends)
+    (subst (λ (x : ℕ). TakesThere g.T.Taker.steps c.args.side core judge core c.args.taker.now c.args.taker.now (d.sessions c.args.door.now) (d.sessions c.say_first.new.door) (d.ends c.args.door.now) x (meet_end c.in-Err.end 0)) (sym c.in-Err.ensures.rest.ends)
     (first_cut g.T.Taker.steps c.args.side core judge c.args.taker.now Meeter (d.sessions c.args.door.now) (d.sessions c.say_first.new.door) (d.ends c.args.door.now) c.in-Err.end (rw c.core.ensures at c.in-Err.ensures.sent)))
 
 pub returns-in-Ok-clause-asks : goal.returns-in-Ok-clause-asks
@@ -32,11 +32,11 @@ returns-in-Ok-clause-asks g c =
     let d = g.D.Door in
     let core = g.T.Taker.received c.args.taker.now in
     let judge = g.T.Taker.verdict c.args.taker.now in
-    subst (λ (begun : List Ask). AsksMore (IsAskedBehind (met_said c.args.side core judge) (d.sessions c.args.door.now)) begun (d.asks c.meet_frames.new.door)) c.in-Ok.ensures.asks
+    subst (λ (begun : List Ask). AsksMore (IsAskedBehind (met_said c.args.side core judge) (d.sessions c.args.door.now)) begun (d.asks c.meet_frames.new.door)) c.in-Ok.ensures.rest.asks
     (c.meet_frames.ensures.asks (d.sessions c.args.door.now) (first_sent g.T.Taker.steps c.args.side core judge c.args.taker.now Meeter (d.sessions c.args.door.now) (d.sessions c.say_first.new.door) c.in-Ok.meeter (rw c.core.ensures at c.in-Ok.ensures.sent)))
 
 pub returns-in-Err-clause-asks : goal.returns-in-Err-clause-asks
 returns-in-Err-clause-asks g c =
     let P = IsAskedBehind (met_said c.args.side (g.T.Taker.received c.args.taker.now) (g.T.Taker.verdict c.args.taker.now)) (g.D.Door.sessions c.args.door.now) in
     let begun = g.D.Door.asks c.args.door.now in
-    asks_still P begun begun (g.D.Door.asks c.say_first.new.door) (asks_none P begun) c.in-Err.ensures.asks
+    asks_still P begun begun (g.D.Door.asks c.say_first.new.door) (asks_none P begun) c.in-Err.ensures.rest.asks

@@ -29,10 +29,10 @@ loop-place-preserved g c =
       sent =
           sends_next c.args.core.now.journal c.args.places.now (g.D.Door.sessions c.args.door.now) (g.D.Door.sessions l.door) (g.D.Door.sessions c.send_vertex.new.door) l.place-index l.invariant.sent _ c.journal_at.result.now
           (at_index c.args.places.now l.place-index 0 (omega (arith, c.loop-place-test.true))) (sym c.journal_at.ensures.vertex) e.sent;
-      session = e.open;
-      asks = e.asks ∙ l.invariant.asks;
-      ends = e.ends ∙ l.invariant.ends;
+      session = e.rest.there;
+      asks = e.rest.asks ∙ l.invariant.asks;
+      ends = e.rest.ends ∙ l.invariant.ends;
       faults = e.cause ∙ l.invariant.faults;
-      accepts = e.accepts ∙ l.invariant.accepts;
-      dials = e.dials ∙ l.invariant.dials;
+      accepts = e.rest.accepts ∙ l.invariant.accepts;
+      dials = e.rest.dials ∙ l.invariant.dials;
     }

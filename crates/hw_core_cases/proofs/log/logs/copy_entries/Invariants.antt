@@ -1,4 +1,4 @@
-use Rattle.hw_io.specs.Memory.{mem_allowance}
+use Rattle.hw_doubles.specs.Memory.{mem_allowance}
 use Rattle.hw_log.specs.Reader.{PlacesFit, ahead_of}
 use Rattle.hw_core_cases.proofs.log.logs.copy_entries.Given as goal
 

@@ -1,5 +1,5 @@
 use Rattle.std.proofs.Common.{◌≤◌, length}
-use Rattle.hw_io.specs.Memory.{mem_allowance}
+use Rattle.hw_doubles.specs.Memory.{mem_allowance}
 use Rattle.hw_log.specs.Reader.{ahead_of}
 use Rattle.hw_replay.specs.Steps.{HasRoom}
 use Rattle.hw_replay.specs.Chain.{told_chain}

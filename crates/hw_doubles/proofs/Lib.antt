@@ -1,0 +1,5 @@
+pub mod Stored
+pub mod Given
+pub mod Last
+pub mod Blamed
+pub mod Kept

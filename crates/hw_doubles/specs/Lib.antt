@@ -1,0 +1,4 @@
+pub mod Memory
+pub mod SetMoments
+pub mod Shelves
+pub mod Sure
