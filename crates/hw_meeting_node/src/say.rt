@@ -1,7 +1,7 @@
 //! What a node says at a meeting.
 
-ghost use Rattle.std.specs.Prelude.{◌≡◌, ◌<◌, [], ◌∷◌, true, length, map, filter_map, slice_get, All, IfOk};
-ghost use Rattle.hw_types.specs.Spelling.{VertexFits, instance_of};
+ghost use Rattle.std.specs.Prelude.{◌≡◌, ◌<◌, [], ◌∷◌, true, length, map, filter_map, slice_get, All};
+ghost use Rattle.hw_types.specs.Spelling.{VertexFits};
 ghost use Rattle.hw_link.specs.Links.{IsLinkCounted};
 ghost use Rattle.hw_link.specs.Sent.{Sends, OnlySends};
 ghost use Rattle.hw_meeting.specs.declared.frame.MeetingFrame.TheVariants as frame;
@@ -15,7 +15,7 @@ use hw_core::Core;
 use hw_io::Door;
 use hw_link::SessionEnd;
 use hw_meeting::{LaneSummary, MeetingFrame, SummaryList, torn_for};
-use hw_types::{Digest, OutOfMemory, Vertex};
+use hw_types::Vertex;
 use std::alloc::Global;
 
 /// Says Hello.
