@@ -108,7 +108,7 @@ unfolding digest_of
 name_range = hash_in_range (unit_bytes its_unit)
 
 abbrev may : (16 < 2 ^ 63) × (length {A = ℕ} (120 ∷ []) ≤ 4096) × AreBytes (120 ∷ [])
-may = (omega arith, (omega arith, All-from_recursion (λ (b : ℕ). b < 2 ^ 8) (120 ∷ []) (omega arith, tt)))
+may = (omega arith, omega arith, All-from_recursion (λ (b : ℕ). b < 2 ^ 8) (120 ∷ []) (omega arith, tt))
 
 block_range : VertexInRange one_block
 block_range = in_range 0 first_standing one_begins.validator one_begins.sound one_begins.ready 16 (120 ∷ []) may (first_block (120 ∷ [])) (one_begins.to_make (120 ∷ [])).is (one_begins.to_make (120 ∷ [])).room

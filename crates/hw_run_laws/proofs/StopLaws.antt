@@ -34,7 +34,7 @@ use Rattle.hw_run_laws.proofs.StartLaws.{renewed, renews}
 -- ---- consumers that are all left
 
 module _ (from to : Consumed → Consumed) where
-  fates : ℕ → List Consumed → List (Fate Consumed)
+  abbrev fates : ℕ → List Consumed → List (Fate Consumed)
   fates k [] = []
   fates k (c ∷ cs) = record { place = k; before = from c; after = to c; ended = None } ∷ fates (k + 1) cs
 
@@ -212,8 +212,8 @@ module _ (a : Standing) (config keys written : List ℕ) (cs : List Consumed) (n
   abbrev after : Scene Consumed
   after = first a config keys written cs None sound has reads (door_asked (raised 0) (raised 0))
 
-  quiet : HoldsSession plain_sight (ServesOne true) (codes "session") number before after (Err fault.Write)
-  quiet = record {
+  quiet : (k : ℕ) → HoldsSession plain_sight (ServesOne true) (codes "session") k before after (Err fault.Write)
+  quiet k = record {
     end = end.EndOfInput;
     talked = record {
       served = inl (record { read = []; written = []; serves = quiet_serves (renewed a.node (a.held a.node.log) has) a.held 0; told = refl });
@@ -225,7 +225,7 @@ module _ (a : Standing) (config keys written : List ℕ) (cs : List Consumed) (n
 
   one_step : TakesUntil (serves_session plain_sight true) number 1 (before, tt) (after, tt) fault.Write
   unfolding AreTaken
-  one_step = record { taken = []; fewer = omega arith; before = (before, tt); each = refl; ends = quiet }
+  one_step = record { taken = []; fewer = omega arith; before = (before, tt); each = refl; ends = quiet (number + 0) }
 
   cut_at_session : RunsPart plain_sight true (named_as config keys a) None (serves_session plain_sight true) number 1 (outside_at a (door_asked 0 0) written cs)
       (outside_at a (door_asked (raised 0) (raised 0)) written (all_took (told_chain a.node.core) cs)) tt tt fault.Write

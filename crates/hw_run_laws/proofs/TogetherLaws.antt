@@ -32,15 +32,15 @@ use Rattle.hw_meeting.proofs.FrameLaws.{meeting_again}
 use Rattle.hw_meeting_node.specs.declared.end.MeetEnd.TheVariants as end
 use Rattle.hw_meeting_node.specs.declared.meeter.Side.{Side}
 use Rattle.hw_meeting_node.specs.declared.meeter.Side.TheVariants.{Caller, Host}
-use Rattle.hw_meeting_node.specs.declared.meeter.Stage.TheVariants as stage
 use Rattle.hw_meeting_node.specs.Frames.{framed, sent_bytes, Placed, HasFrame}
 use Rattle.hw_meeting_node.specs.Talk.{Reaction, Talk, goes_on, ends, talk_over, HasHeard, placed_behind}
-use Rattle.hw_meeting_node.specs.Meeting.{Meeting, begun, told_of, torn_by, owed_by, first_word, to_hello, to_summary, to_torn, to_done, answered, meet_step, met}
+use Rattle.hw_meeting_node.specs.Meeting.{Meeting, begun, told_of, torn_by, owed_by, first_word, to_hello, to_summary, to_torn, to_done, answered, greeted, told, given_torn, meet_step, met}
 use Rattle.hw_meeting_node.specs.Sessions.{IsCutEnd, IsReadNoFurther, IsFinal, Meets, end_of}
 use Rattle.hw_meeting_node.specs.Taking.{TakingMeeting, taken_then, vertex_at, taking_step, taking_nothing, taken_in}
 use Rattle.hw_meeting_node.specs.Laws.{judged, node_of, HaveMet}
 use Rattle.hw_meeting_node.proofs.EndLaws.{no_frame_so}
 use Rattle.hw_meeting_node.proofs.FurtherLaws.{NoneBehind, frame_alone, part_cut, cut_so_far, none_further, no_further}
+use Rattle.hw_meeting_node.proofs.ReactLaws.{greeted_by}
 use Rattle.hw_meeting_node.proofs.TalkLaws.{begins, leads_on, frame_ends, no_frame_ends}
 use Rattle.hw_run_laws.specs.MeetMembers.{MayBeSaid, words_to, with_all, MayBeTold, MeetingsAreThere}
 
@@ -90,10 +90,10 @@ module _ {S : Type 0} (n : ℕ) (few : n ≤ 1024) (step : S → Placed → Reac
 
     pub further_by : Further (read ++ framed f)
     further_by = no_further (λ (bytes : List ℕ). (over bytes).end) read (framed f) stands.further (λ front back is some.
-      let (e, none) = part_cut n (length read) (framed f) front back is some (frame_alone n (length read) (framed f) f has) in
-      let all : length (read ++ (front ++ back)) ≤ byte_limit = subst (λ (p : List ℕ). length (read ++ p) ≤ byte_limit) is within in
-      let fewer : length (read ++ front) ≤ byte_limit = omega (arith, all, length-append read (front ++ back), length-append front back, length-append read front) in
-      subst IsCutEnd (sym (ap (λ (t : Talk S). t.end) (no_frame_ends n step first start read said state stands.heard front e none fewer))) (cut_so_far (rest_at (length read) front) e (no_frame_so n (length read) front e none)))
+        let (e, none) = part_cut n (length read) (framed f) front back is some (frame_alone n (length read) (framed f) f has) in
+        let all : length (read ++ (front ++ back)) ≤ byte_limit = subst (λ (p : List ℕ). length (read ++ p) ≤ byte_limit) is within in
+        let fewer : length (read ++ front) ≤ byte_limit = omega (arith, all, length-append read (front ++ back), length-append front back, length-append read front) in
+        subst IsCutEnd (sym (ap (λ (t : Talk S). t.end) (no_frame_ends n step first start read said state stands.heard front e none fewer))) (cut_so_far (rest_at (length read) front) e (no_frame_so n (length read) front e none)))
 
     -- a frame that leads on
     pub next : (says : List MeetingFrame) (then : S) → step state (placed_behind read f) ≡ goes_on then says → Stands (read ++ framed f) (said ++ says) then
@@ -106,9 +106,7 @@ module _ {S : Type 0} (n : ℕ) (few : n ≤ 1024) (step : S → Placed → Reac
     pub over_by : (e : SessionEnd) (says : List MeetingFrame) (then : S) → step state (placed_behind read f) ≡ ends then says e → (more : List ℕ) → length ((read ++ framed f) ++ more) ≤ byte_limit
         → over ((read ++ framed f) ++ more) ≡ record { state = then; said = said ++ says; end = e }
     over_by e says then is more short =
-        let same = append_assoc read (framed f) more in
-        ap over same
-        ∙ frame_ends n step first start read said state stands.heard (framed f) f has e (ap (λ (r : Reaction S). r.end) is) more (subst (λ (b : List ℕ). length b ≤ byte_limit) same short)
+        frame_ends n step first start read said state stands.heard (framed f) f has e (ap (λ (r : Reaction S). r.end) is) more short
         ∙ ap (λ (r : Reaction S). record { state = r.state; said = said ++ r.says; end = e }) is
 
 -- ---- one of two nodes
@@ -135,7 +133,7 @@ module _ (config : Config) (lawful : config_fault config ≡ None) (side : Side)
   abbrev n : ℕ
   n = length config.weights
 
-  few : n ≤ 1024
+  pub few : n ≤ 1024
   few = (within_limits config lawful).few
 
   -- what it owes the other, and what the other owes it
@@ -145,23 +143,27 @@ module _ (config : Config) (lawful : config_fault config ≡ None) (side : Side)
   abbrev gets : List Vertex
   gets = due_to s theirs mine
 
-  abbrev taking : List Vertex → Meeting
-  taking journal = record { stage = stage.Taking; core = record { config = config; journal = journal }; refused = 0; theirs = told_of d; due = due }
-
+  -- where it stands behind the other's Hello, behind what the other tells, and while it takes vertices
   abbrev telling : Meeting
-  telling = record (begun c) { stage = stage.Telling }
+  telling = (greeted side (begun c) (instance_of config)).state
 
   abbrev tearing : Meeting
-  tearing = record (begun c) { stage = stage.Tearing; theirs = told_of d }
+  tearing = (told side (begun c) (told_of d)).state
+
+  abbrev taking : List Vertex → Meeting
+  taking journal = record (given_torn side tearing (torn_by d (told_of c))).state { core = record { config = config; journal = journal } }
 
   -- its steps
   greets : (k : ℕ) → meet_step side judge (begun c) (record { at = k; frame = frame.Hello (instance_of config) }) ≡ goes_on telling (to_hello side c)
   unfolding meet_step
-  greets k = ap (λ (b : Bool). cond b (goes_on telling (to_hello side c)) (ends (begun c) [] by.WrongInstance)) (digest_self (instance_of config))
+  greets k = subst (λ (r : Reaction Meeting). r ≡ goes_on r.state (to_hello side c)) (sym (greeted_by side (begun c) (instance_of config) true (digest_self (instance_of config)))) refl
 
   tells : (k : ℕ) → meet_step side judge telling (record { at = k; frame = frame.Summary (told_of d) }) ≡ goes_on tearing (to_summary side c (told_of d))
   unfolding meet_step
-  tells k = refl
+  tells k = subst (λ (r : Reaction Meeting). meet_step side judge r.state (record { at = k; frame = frame.Summary (told_of d) }) ≡ goes_on tearing (to_summary side c (told_of d))) (sym (greeted_by side (begun c) (instance_of config) true (digest_self (instance_of config)))) refl
+
+  tells_none : vertex_at telling.stage (frame.Summary (told_of d)) ≡ None
+  tells_none = subst (λ (r : Reaction Meeting). vertex_at r.state.stage (frame.Summary (told_of d)) ≡ None) (sym (greeted_by side (begun c) (instance_of config) true (digest_self (instance_of config)))) refl
 
   tears : (k : ℕ) → meet_step side judge tearing (record { at = k; frame = frame.Torn (torn_by d (told_of c)) }) ≡ goes_on (taking mine) (to_torn side c (told_of d) due)
   unfolding meet_step
@@ -241,10 +243,10 @@ module _ (config : Config) (lawful : config_fault config ≡ None) (side : Side)
       At read said m vs = Stands n few step (first_word side c) (at (begun c) []) read said (at m vs)
 
       leads : (read : List ℕ) (said : List MeetingFrame) (m : Meeting) (vs : List Vertex) → At read said m vs → (f : MeetingFrame) → MayBeSaid n f → length (read ++ framed f) ≤ byte_limit → (says : List MeetingFrame) (then : Meeting)
-          → meet_step side judge m (placed_behind read f) ≡ goes_on then says → At (read ++ framed f) (said ++ says) then (taken_then vs (vertex_at m.stage f))
-      leads read said m vs stands f may fits says then is =
-          next n few step (first_word side c) (at (begun c) []) read said (at m vs) stands f may fits says (at then (taken_then vs (vertex_at m.stage f)))
-          (steps m vs (placed_behind read f) ∙ ap (λ (r : Reaction Meeting). lifted at r (taken_then vs (vertex_at m.stage f))) is)
+          → meet_step side judge m (placed_behind read f) ≡ goes_on then says → (due : Option Vertex) → vertex_at m.stage f ≡ due → At (read ++ framed f) (said ++ says) then (taken_then vs due)
+      leads read said m vs stands f may fits says then is due taken =
+          next n few step (first_word side c) (at (begun c) []) read said (at m vs) stands f may fits says (at then (taken_then vs due))
+          (steps m vs (placed_behind read f) ∙ ap (λ (o : Option Vertex). lifted at (meet_step side judge m (placed_behind read f)) (taken_then vs o)) taken ∙ ap (λ (r : Reaction Meeting). lifted at r (taken_then vs due)) is)
 
       takes : (more vs journal : List Vertex) (read : List ℕ) (said : List MeetingFrame) → At read said (taking journal) vs → AllByRecursion (λ a. IsOk a) (answers_from s journal (judged judge more)) → AllByRecursion (MayBeSaid n) (map frame.Vertex more)
           → length (read ++ sent_bytes (map frame.Vertex more)) ≤ byte_limit → At (read ++ sent_bytes (map frame.Vertex more)) said (taking (fold (journal_after s) journal (judged judge more))) (vs ++ more)
@@ -258,7 +260,7 @@ module _ (config : Config) (lawful : config_fault config ≡ None) (side : Side)
           let assoc = append_assoc read (framed f) bytes in
           let long : length ((read ++ framed f) ++ bytes) ≤ byte_limit = subst (λ (b : List ℕ). length b ≤ byte_limit) (sym assoc) fits in
           let here : length (read ++ framed f) ≤ byte_limit = omega (arith, long, length-append (read ++ framed f) bytes) in
-          let one = leads read said (taking journal) vs stands f may.0 here [] (taking after) (takes_one (length read) journal v oks.0) in
+          let one = leads read said (taking journal) vs stands f may.0 here [] (taking after) (takes_one (length read) journal v oks.0) (Some v) refl in
           let same = subst (λ (xs : List MeetingFrame). At (read ++ framed f) xs (taking after) (vs ++ v ∷ [])) (append-nil said) one in
           let rest = takes more (vs ++ v ∷ []) after (read ++ framed f) said same oks.1 may.1 long in
           subst (λ (b : List ℕ). At b said (taking (fold (journal_after s) after (judged judge more))) (vs ++ v ∷ more)) assoc
@@ -266,9 +268,9 @@ module _ (config : Config) (lawful : config_fault config ≡ None) (side : Side)
 
       at_taking : At ((hello ++ summary) ++ torn) said_before (taking mine) []
       at_taking =
-          let one = leads [] (first_word side c) (begun c) [] (starts n few step (first_word side c) (at (begun c) [])) (frame.Hello (instance_of config)) told.words.0 within_hello (to_hello side c) telling (greets 0) in
-          let two = leads hello (first_word side c ++ to_hello side c) telling [] one (frame.Summary (told_of d)) told.words.1.0 within_summary (to_summary side c (told_of d)) tearing (tells (length hello)) in
-          leads (hello ++ summary) ((first_word side c ++ to_hello side c) ++ to_summary side c (told_of d)) tearing [] two (frame.Torn (torn_by d (told_of c))) told.words.1.1.0 within_torn (to_torn side c (told_of d) due) (taking mine) (tears (length (hello ++ summary)))
+          let one = leads [] (first_word side c) (begun c) [] (starts n few step (first_word side c) (at (begun c) [])) (frame.Hello (instance_of config)) told.words.0 within_hello (to_hello side c) telling (greets 0) None refl in
+          let two = leads hello (first_word side c ++ to_hello side c) telling [] one (frame.Summary (told_of d)) told.words.1.0 within_summary (to_summary side c (told_of d)) tearing (tells (length hello)) None tells_none in
+          leads (hello ++ summary) ((first_word side c ++ to_hello side c) ++ to_summary side c (told_of d)) tearing [] two (frame.Torn (torn_by d (told_of c))) told.words.1.1.0 within_torn (to_torn side c (told_of d) due) (taking mine) (tears (length (hello ++ summary))) None refl
 
       pub at_end : At before said_before (taking now) gets
       at_end = takes gets [] mine ((hello ++ summary) ++ torn) said_before at_taking told.takes (first_of gets words).0 within_all

@@ -53,7 +53,7 @@ unended : IsUnended (begun next_brief)
 unended end d ends m is = let none : Among d [] = subst (λ (ds : List Decision). Among d ds) nothing_decided m in none
 
 eras : AreNodeEras two_nodes
-eras = record { some = omega arith; few = omega arith; eras = (refl, again, next, refl, tt) }
+eras = record { some = omega arith; few = omega arith; eras = (refl, again, (next, refl, tt)) }
 
 last_unended : IsLastUnended two_nodes
 last_unended core is = let same : begun next_brief ≡ core = cc in subst IsUnended same unended

@@ -15,7 +15,7 @@ use Rattle.hw_light.specs.Keys.{keys_of}
 use Rattle.hw_light.specs.Spelling.{certificate_bytes}
 use Rattle.hw_commands.specs.Commands.{Audit, Certify, Check, request_of}
 use Rattle.hw_commands.specs.Program.{log_replayed, or_stopped}
-use Rattle.hw_commands.specs.Shown.{CanBeChecked}
+use Rattle.hw_commands.specs.Shown.{CanBeChecked, CanBeReplayed}
 use Rattle.hw_commands.proofs.ConflictLaws.{conflict_is_told}
 use Rattle.hw_commands.proofs.ShownLaws.{log_is_answered, check_is_answered}
 use Rattle.hw_samples.specs.Words.{equal_three, unfold_answers, unfold_decisions, unfold_names, unfold_reading}
@@ -29,7 +29,7 @@ unfold_log = Unit {0}
 
 -- how words ask
 unfoldable unfold_words : Type 0
-unfolding request_of Rattle.hw_commands.specs.Commands.of_few Rattle.hw_commands.specs.Commands.of_two Rattle.hw_commands.specs.Commands.of_three Rattle.hw_commands.specs.Commands.digest_told
+unfolding request_of Rattle.hw_commands.specs.Commands.of_few Rattle.hw_commands.specs.Commands.of_two Rattle.hw_commands.specs.Commands.of_three Rattle.hw_commands.specs.Commands.digest_told Rattle.hex.specs.Hex.decode_pairs
 unfold_words = Unit {0}
 
 -- ---- logs
@@ -106,7 +106,7 @@ unfolding unfold_reading unfold_names Rattle.hw_light.specs.Reading.part_at Ratt
 read = refl
 
 keys_read : keys_of 3 three_lines ≡ Ok (zeros ∷ zeros ∷ zeros ∷ [])
-unfolding keys_of Rattle.hw_light.specs.Keys.keys_in
+unfolding keys_of Rattle.hw_light.specs.Keys.keys_in Rattle.hex.specs.Hex.decode_pairs
 keys_read = refl
 
 can_be_checked : CanBeChecked four_files (codes "shown") (codes "keys") signed_four
@@ -114,7 +114,7 @@ can_be_checked = record { bytes = certificate_bytes signed_four; there = refl; r
 
 pub certificates_are_in_files : CertificatesAreInFiles
 certificates_are_in_files =
-    let replayed = (log_of_all real_other_side, took_all real_other_side, refl, right_replayed) in
+    let replayed : CanBeReplayed four_files signed_four (Some (codes "right")) = (log_of_all real_other_side, took_all real_other_side, refl, right_replayed) in
     record {
       asked = certify_asked;
       absent = refl;
