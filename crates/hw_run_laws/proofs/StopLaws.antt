@@ -1,7 +1,7 @@
 -- Consumers that take what they are told, in replays and runs that are cut short.
-use Rattle.std.specs.List.{range_with_len, All, AllByRecursion}
+use Rattle.std.specs.List.{range_with_len, AllByRecursion}
 use Rattle.std.specs.Prelude.{filter, filter_map, codes}
-use Rattle.std.proofs.Common.{◌≡◌, ℕ, ◌+◌, true, false, List, [], ◌∷◌, ◌++◌, length, map, take, Option, Some, None, Ok, Err, inl, inr, refl, sym, ap, subst, ◌∙◌, arith}
+use Rattle.std.proofs.Common.{◌≡◌, ℕ, ◌+◌, true, false, List, [], ◌∷◌, ◌++◌, length, map, Option, Some, None, Ok, Err, inl, inr, refl, sym, ap, subst, arith}
 use Rattle.std.proofs.lemmas.List.{take_all, append-nil}
 use Rattle.std.proofs.lemmas.List.Elements.{All-from_recursion}
 use Rattle.hw_types.specs.Real.{CoreState}
@@ -15,10 +15,10 @@ use Rattle.hw_replay.specs.Feed.{Moment, moment, first_moment, IsPassed, ArePass
 use Rattle.hw_replay.proofs.TellingLaws.{took_none}
 use Rattle.hw_link.specs.declared.end.SessionEnd.TheVariants as end
 use Rattle.hw_session.specs.Node.{NodeState}
-use Rattle.hw_session.specs.Restart.{HasLog, journal_log, journal_lasts}
+use Rattle.hw_session.specs.Restart.{HasLog}
 use Rattle.hw_session.specs.Start.{Starts, StartsLog}
 use Rattle.hw_service.specs.declared.fault.ServiceFault.TheVariants as fault
-use Rattle.hw_service.specs.Scene.{DoorSeen, Outside, Scene, scene, moment_of, none_told}
+use Rattle.hw_service.specs.Scene.{DoorSeen, Scene, scene, none_told}
 use Rattle.hw_service.specs.Begin.{Reads, HasBegun}
 use Rattle.hw_service.specs.Run.{StepOver, RunsPart, ReportsPart}
 use Rattle.hw_service.specs.Serve.{ServesOne, serves_session}
@@ -27,7 +27,7 @@ use Rattle.hw_service.specs.Runs.{hosts_session, calls_peer}
 use Rattle.hw_service.specs.Steps.{AreTaken, TakesAll, TakesUntil}
 use Rattle.hw_service.specs.Told.{HoldsSession}
 use Rattle.hw_run_laws.specs.Calls.{IsSound, Standing}
-use Rattle.hw_run_laws.specs.CutMembers.{plain_sight, all_took, all_finished, none_dropped, ReplaysAreFed, ReplaysStop, named_as, door_asked, outside_at, IsCutAtReport, ServicesAreCut, RunsAreCut}
+use Rattle.hw_run_laws.specs.CutMembers.{plain_sight, all_took, all_finished, none_dropped, ReplaysAreFed, ReplaysStop, named_as, door_asked, outside_at, IsCutAtReport, RunsAreCut}
 use Rattle.hw_run_laws.proofs.QuietLaws.{quiet_serves}
 use Rattle.hw_run_laws.proofs.StartLaws.{renewed, renews}
 

@@ -1,8 +1,8 @@
 -- Two nodes that meet and tell each other all that is due.
 use Rattle.std.specs.Prelude.{fold, IsOk, map, nat_le}
 use Rattle.std.specs.Int.{w32, from_be_bytes}
-use Rattle.std.specs.List.{flat_map, All, AllByRecursion}
-use Rattle.std.proofs.Common.{◌≡◌, ◌≢◌, ℕ, ◌+◌, ◌<◌, ◌≤◌, Bool, true, false, cond, List, [], ◌∷◌, ◌++◌, length, Option, Some, None, Result, Ok, Err, inl, inr, refl, sym, ap, subst, ◌∙◌, arith, length-append}
+use Rattle.std.specs.List.{All, AllByRecursion}
+use Rattle.std.proofs.Common.{◌≡◌, ℕ, ◌≤◌, Bool, true, List, [], ◌∷◌, ◌++◌, length, Option, Some, None, Result, Ok, Err, inl, refl, sym, ap, subst, ◌∙◌, arith, length-append}
 use Rattle.std.proofs.lemmas.Bool.{le-leb}
 use Rattle.std.proofs.lemmas.List.{append-nil, append_assoc}
 use Rattle.std.proofs.lemmas.List.Elements.{All-from_recursion}
@@ -11,7 +11,6 @@ use Rattle.hw_types.specs.declared.config.Config.{Config}
 use Rattle.hw_types.specs.declared.unit.Vertex.{Vertex}
 use Rattle.hw_types.specs.declared.answers.Receipt.{Receipt}
 use Rattle.hw_types.specs.declared.answers.Cause.{Cause}
-use Rattle.hw_types.specs.Graph.{digest_eq}
 use Rattle.hw_types.specs.Journal.{Setting, answer, journal_after, answers_from}
 use Rattle.hw_types.specs.Limits.{is_within, config_fault}
 use Rattle.hw_types.specs.Spelling.{u32_bytes, instance_of}
@@ -23,7 +22,6 @@ use Rattle.hw_link.specs.declared.end.SessionEnd.{SessionEnd}
 use Rattle.hw_link.specs.declared.end.SessionEnd.TheVariants as by
 use Rattle.hw_link.specs.Frames.{rest_at, byte_limit}
 use Rattle.hw_link.proofs.FrameReadLaws.{frame_by-is_read}
-use Rattle.hw_agree.specs.declared.summary.LaneSummary.{LaneSummary}
 use Rattle.hw_agree.specs.Converge.{due_to}
 use Rattle.hw_meeting.specs.declared.frame.MeetingFrame.{MeetingFrame}
 use Rattle.hw_meeting.specs.declared.frame.MeetingFrame.TheVariants as frame
@@ -35,11 +33,11 @@ use Rattle.hw_meeting_node.specs.declared.meeter.Side.TheVariants.{Caller, Host}
 use Rattle.hw_meeting_node.specs.Frames.{framed, sent_bytes, Placed, HasFrame}
 use Rattle.hw_meeting_node.specs.Talk.{Reaction, Talk, goes_on, ends, talk_over, HasHeard, placed_behind}
 use Rattle.hw_meeting_node.specs.Meeting.{Meeting, begun, told_of, torn_by, owed_by, first_word, to_hello, to_summary, to_torn, to_done, answered, greeted, told, given_torn, meet_step, met}
-use Rattle.hw_meeting_node.specs.Sessions.{IsCutEnd, IsReadNoFurther, IsFinal, Meets, end_of}
+use Rattle.hw_meeting_node.specs.Sessions.{IsCutEnd, IsReadNoFurther, Meets, end_of}
 use Rattle.hw_meeting_node.specs.Taking.{TakingMeeting, taken_then, vertex_at, taking_step, taking_nothing, taken_in}
-use Rattle.hw_meeting_node.specs.Laws.{judged, node_of, HaveMet}
+use Rattle.hw_meeting_node.specs.Laws.{judged, node_of}
 use Rattle.hw_meeting_node.proofs.EndLaws.{no_frame_so}
-use Rattle.hw_meeting_node.proofs.FurtherLaws.{NoneBehind, frame_alone, part_cut, cut_so_far, none_further, no_further}
+use Rattle.hw_meeting_node.proofs.FurtherLaws.{frame_alone, part_cut, cut_so_far, none_further, no_further}
 use Rattle.hw_meeting_node.proofs.ReactLaws.{greeted_by}
 use Rattle.hw_meeting_node.proofs.TalkLaws.{begins, leads_on, frame_ends, no_frame_ends}
 use Rattle.hw_run_laws.specs.MeetMembers.{MayBeSaid, words_to, with_all, MayBeTold, MeetingsAreThere}

@@ -1,6 +1,6 @@
 -- That there are replays and runs that are cut short, with consumers that were told by then: the statements.
 -- Source: ours.
-use Rattle.std.specs.Prelude.{◌≡◌, ℕ, true, List, [], ◌∷◌, ◌++◌, length, map, Option, Some, None, Ok, Err}
+use Rattle.std.specs.Prelude.{◌≡◌, ℕ, true, List, [], length, map, Option, Some, None, Ok, Err}
 use Rattle.std.specs.List.{range_with_len}
 use Rattle.hw_types.specs.declared.config.Config.{Config}
 use Rattle.hw_types.specs.Real.{CoreState}
@@ -23,7 +23,7 @@ use Rattle.hw_service.specs.Scene.{DoorSeen, door_seen, Outside, outside, none_t
 use Rattle.hw_service.specs.Begin.{Names, Reads}
 use Rattle.hw_service.specs.Run.{StepOver, RunsPart}
 use Rattle.hw_service.specs.Serve.{serves_session}
-use Rattle.hw_service.specs.Turns.{Turning, TakesTurn}
+use Rattle.hw_service.specs.Turns.{TakesTurn}
 use Rattle.hw_service.specs.Runs.{hosts_session, calls_peer}
 use Rattle.hw_run_laws.specs.Calls.{IsSound, Standing}
 

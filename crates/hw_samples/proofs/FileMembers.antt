@@ -1,6 +1,7 @@
 -- Two logs in conflict, a certificate and keys in files, worked.
 use Rattle.std.proofs.Common.{◌≡◌, ◌⊎◌, ◌++◌, ℕ, true, false, List, [], ◌∷◌, Some, None, Ok, refl, sym, ap, subst}
-use Rattle.std.specs.Prelude.{codes}
+use Rattle.std.specs.Prelude.{codes, map}
+use Rattle.hw_keys.specs.Signed.{verdict_of}
 use Rattle.hw_types.specs.declared.unit.Digest.{Digest}
 use Rattle.hw_types.specs.declared.answers.Decision.{Decision}
 use Rattle.hw_types.specs.Graph.{digest_eq}
@@ -109,6 +110,10 @@ keys_read : keys_of 3 three_lines ≡ Ok (zeros ∷ zeros ∷ zeros ∷ [])
 unfolding keys_of Rattle.hw_light.specs.Keys.keys_in Rattle.hex.specs.Hex.decode_pairs
 keys_read = refl
 
+signed : map (verdict_of (zeros ∷ zeros ∷ zeros ∷ [])) signed_four.vertices ≡ true ∷ true ∷ true ∷ true ∷ []
+unfolding unfold_names verdict_of
+signed = refl
+
 can_be_checked : CanBeChecked four_files (codes "shown") (codes "keys") signed_four
 can_be_checked = record { bytes = certificate_bytes signed_four; there = refl; reads = read; text = three_lines; keys_there = refl; given = zeros ∷ zeros ∷ zeros ∷ []; keys_are = keys_read }
 
@@ -120,6 +125,7 @@ certificates_are_in_files =
       absent = refl;
       checks = check_asked;
       can_be_checked = can_be_checked;
+      signed = signed;
       can_be_replayed = replayed;
       told = log_is_answered certify_words four_files (codes "left") a0_name (codes "new") (took_all real_in_order) certify_asked refl in_left;
       answered = check_is_answered check_words four_files (codes "shown") (codes "keys") (Some (codes "right")) signed_four check_asked can_be_checked replayed;

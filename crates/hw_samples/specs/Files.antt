@@ -6,7 +6,7 @@ use Rattle.hw_types.specs.declared.unit.WireUnit.{WireUnit}
 use Rattle.hw_types.specs.declared.unit.Vertex.{Vertex}
 use Rattle.hw_types.specs.declared.unit.Vertex.TheVariants as vertex
 use Rattle.hw_types.specs.declared.unit.Digest.{Digest}
-use Rattle.hw_keys.specs.Signed.{unit_signature}
+use Rattle.hw_keys.specs.Signed.{unit_signature, verdict_of}
 use Rattle.hw_log.specs.Log.{log_bytes}
 use Rattle.hw_safety.specs.Chain.{Begins}
 use Rattle.hw_safety.specs.Verdicts.{journals_clash, chain_of}
@@ -85,6 +85,7 @@ pub record CertificatesAreInFiles : Type 0 where
   -- one is checked against the right log
   pub checks : request_of check_words ≡ Some (Check (codes "shown") (codes "keys") (Some (codes "right")))
   pub can_be_checked : CanBeChecked four_files (codes "shown") (codes "keys") signed_four
+  pub signed : map (verdict_of (zeros ∷ zeros ∷ zeros ∷ [])) signed_four.vertices ≡ true ∷ true ∷ true ∷ true ∷ []
   pub can_be_replayed : CanBeReplayed four_files signed_four (Some (codes "right"))
   -- so the laws hold of them
   pub told : ((run_of certify_words four_files).status ≡ 0) ⊎ ((run_of certify_words four_files).status ≡ 10)
