@@ -116,8 +116,8 @@ pub fn cut_runs_are_there()
 
 /// There are meetings of two nodes behind their first words.
 ///
-/// Two nodes of one configuration, each of which takes what is due to it, have met, whatever both hold: so the law on
-/// them has a case wherever it can have one. Two nodes are written out, of which one brings the other a block.
+/// Two nodes of one configuration have met, wherever what they say keeps its limits and neither refuses what is due to
+/// it. Two nodes with logs are written out, of which one brings the other a block.
 pub fn meetings_are_there()
     ensures all { MeetingsAreThere }
     ensures one { OneMeets }
