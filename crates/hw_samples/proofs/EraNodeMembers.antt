@@ -1,18 +1,17 @@
 -- The nodes of two eras, worked.
-use Rattle.std.proofs.Common.{◌≡◌, ℕ, ◌≤◌, true, false, List, [], ◌∷◌, ◌++◌, Option, Some, None, Ok, Err, inl, refl, sym, subst, arith}
+use Rattle.std.proofs.Common.{◌≡◌, true, false, List, [], ◌∷◌, Some, Ok, Err, inl, refl, sym, subst, arith}
 use Rattle.std.specs.Prelude.{slice_set}
 use Rattle.hw_types.specs.declared.answers.Decision.{Decision}
 use Rattle.hw_types.specs.declared.answers.Cause.TheVariants as cause
 use Rattle.hw_types.specs.declared.answers.Receipt.TheVariants.{Admitted}
-use Rattle.hw_types.specs.declared.config.Config.{Config}
 use Rattle.hw_types.specs.Below.{Among}
 use Rattle.hw_types.specs.Spelling.{digest_of, instance_of}
-use Rattle.hw_types.specs.Real.{CoreState, setting_of, answer_in, after_in}
+use Rattle.hw_types.specs.Real.{setting_of, answer_in, after_in}
 use Rattle.hw_types.specs.Journal.{named}
 use Rattle.hw_core.specs.Decided.{decided_in}
 use Rattle.hw_core.specs.Promises.{begun}
 use Rattle.hw_eras.specs.Eras.{last_block}
-use Rattle.hw_eras.specs.Nodes.{era_of, IsMadeAgain, next_of, IsUnended, IsLastBlock, AreNodeEras, IsLastUnended}
+use Rattle.hw_eras.specs.Nodes.{era_of, IsMadeAgain, next_of, IsUnended, AreNodeEras, IsLastUnended}
 use Rattle.hw_eras.proofs.NodeLaws.{nodes_eras}
 use Rattle.hw_samples.specs.Words.{unfold_answers, unfold_decisions, unfold_names, unfold_reading}
 use Rattle.hw_samples.specs.RealNames.{sends}

@@ -1,9 +1,8 @@
 -- Two logs in conflict, a certificate and keys in files, worked.
-use Rattle.std.proofs.Common.{◌≡◌, ◌⊎◌, ◌++◌, ℕ, true, false, List, [], ◌∷◌, Some, None, Ok, refl, sym, ap, subst}
+use Rattle.std.proofs.Common.{◌≡◌, true, false, List, [], ◌∷◌, Some, None, Ok, refl, sym, ap, subst}
 use Rattle.std.specs.Prelude.{codes, map}
 use Rattle.hw_keys.specs.Signed.{verdict_of}
 use Rattle.hw_types.specs.declared.unit.Digest.{Digest}
-use Rattle.hw_types.specs.declared.answers.Decision.{Decision}
 use Rattle.hw_types.specs.Graph.{digest_eq}
 use Rattle.hw_types.proofs.SettledLaws.{digest_self}
 use Rattle.hw_types.proofs.WordsLaws.{never_both}

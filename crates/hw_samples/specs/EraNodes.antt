@@ -1,6 +1,6 @@
 -- The nodes of two eras: the first has decided its last block, the second has received nothing.
 -- Source: ours.
-use Rattle.std.specs.Prelude.{◌≡◌, ℕ, true, false, ◌∷◌, [], List, map, replicate, Some, None}
+use Rattle.std.specs.Prelude.{◌≡◌, true, false, ◌∷◌, [], List, map, replicate, Some, None}
 use Rattle.hw_types.specs.declared.unit.Digest.{Digest}
 use Rattle.hw_types.specs.declared.unit.Obs.TheVariants.{Absent, Correct}
 use Rattle.hw_types.specs.declared.unit.WireUnit.{WireUnit}

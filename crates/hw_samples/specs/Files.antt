@@ -1,7 +1,6 @@
 -- Two logs in conflict, a certificate and keys in files: what the laws of commands speak of.
 -- Source: ours.
-use Rattle.std.specs.Prelude.{◌≡◌, ◌⊎◌, ℕ, true, false, ◌∷◌, [], List, ◌++◌, map, bytes_eq, codes, replicate, Option, Some, None, Ok, if◌then◌else◌}
-use Rattle.std.specs.List.{flat_map}
+use Rattle.std.specs.Prelude.{◌≡◌, ◌⊎◌, ℕ, true, false, ◌∷◌, [], List, ◌++◌, map, bytes_eq, codes, replicate, Some, None, Ok, if◌then◌else◌}
 use Rattle.hw_types.specs.declared.unit.WireUnit.{WireUnit}
 use Rattle.hw_types.specs.declared.unit.Vertex.{Vertex}
 use Rattle.hw_types.specs.declared.unit.Vertex.TheVariants as vertex
