@@ -32,7 +32,7 @@ new_ready config keys name held me lawful range long there = (
   },
 )
 
-lawful : config_fault alone ≡ None
+pub lawful : config_fault alone ≡ None
 unfolding config_fault
 lawful = refl
 

@@ -23,3 +23,6 @@ pub mod ShortLaws
 pub mod TornLaws
 pub mod TakenLaws
 pub mod DrivenLaws
+pub mod StopLaws
+pub mod TogetherLaws
+pub mod OneMeetLaws

@@ -23,7 +23,7 @@ use Rattle.hw_session.specs.declared.fault.MakeFault.{MakeFault}
 use Rattle.hw_session.specs.declared.fault.MakeFault.TheVariants as fault
 use Rattle.hw_session.specs.Node.{NodeState}
 use Rattle.hw_session.specs.Make.{planned_by, own_vertex, entry_for, with_entry, IsNamesake, IsToMake, IsTooMany, IsNothing}
-use Rattle.hw_session.specs.Restart.{journal_log, journal_lasts}
+use Rattle.hw_session.specs.Restart.{journal_log}
 use Rattle.hw_session.specs.Driving.{hello}
 use Rattle.hw_meeting_node.specs.declared.end.MeetEnd.TheVariants as met_end
 use Rattle.hw_run_laws.specs.Calls.{IsSound, Standing, Attempt, makes, serves, drives, meets, IsWhole, StartsAgain, Call, goes_on, starts, gives_up, IsReady}
@@ -32,7 +32,7 @@ use Rattle.hw_run_laws.proofs.AttemptLaws.{make_lives, lives_soundly}
 use Rattle.hw_run_laws.proofs.CallLaws.{call_ready, call_validator}
 use Rattle.hw_run_laws.proofs.PlanLaws.{hash_in_range, unit_fits, unit_in_range}
 use Rattle.hw_run_laws.proofs.QuietLaws.{fair_none, quiet_serves, quiet_drives, before_meeting, behind_meeting, quiet_meets, fair_met}
-use Rattle.hw_run_laws.proofs.StartLaws.{reached, each_fits, gives_back}
+use Rattle.hw_run_laws.proofs.StartLaws.{reached, each_fits, renewed, renews}
 
 -- ---- files
 
@@ -181,29 +181,15 @@ module _ (me : ℕ) (a : Standing) (validator : me < length a.node.core.config.w
 
   -- the standing behind a start from its log
   abbrev started : Standing
-  started = record {
-    node = record {
-      core = a.node.core;
-      keys = a.node.keys;
-      log = a.node.log;
-      lasts = journal_lasts ready.log.version a.node.core.config a.node.core.journal;
-      refused = 0;
-      repeats = 0;
-      limited = 0;
-      clash = None;
-    };
-    held = a.held;
-  }
+  started = record { node = renewed a.node (a.held a.node.log) ready.log; held = a.held }
 
   starts_again : StartsAgain a started
-  starts_again =
-      let back = gives_back a.node sound ready.log.version ready.log.known in
-      record {
-        bytes = journal_log ready.log.version a.node.core.config a.node.core.journal;
-        from = inl ready.log.holds;
-        there = ready.log.holds;
-        on = record { taken = back.taken; lasts = back.lasts; config_is = refl; keys_are = refl; log_is = refl; limited = refl; clash = refl };
-      }
+  starts_again = record {
+    bytes = journal_log ready.log.version a.node.core.config a.node.core.journal;
+    from = inl ready.log.holds;
+    there = ready.log.holds;
+    on = renews a.node (a.held a.node.log) ready.log sound;
+  }
 
   started_sound : IsSound started.node
   started_sound = record { kept = record { lawful = sound.kept.lawful; keys = sound.kept.keys; reached = sound.kept.reached }; config = sound.config; vertices = sound.vertices }

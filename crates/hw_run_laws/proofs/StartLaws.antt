@@ -96,6 +96,26 @@ module _ (n m : NodeState) (sound : IsSound n) (name bytes : List ℕ) (on : Goe
     lasts = same_lasts ∙ ap (λ (c : CoreState). journal_lasts has.version c.config c.journal) (sym same_core);
   }
 
+-- ---- a node started anew
+
+-- the node that a start from the log of this one gives
+abbrev pub renewed : (n : NodeState) (file : Option (List ℕ)) → HasLog n file → NodeState
+renewed n file has = record {
+  core = n.core;
+  keys = n.keys;
+  log = n.log;
+  lasts = journal_lasts has.version n.core.config n.core.journal;
+  refused = 0;
+  repeats = 0;
+  limited = 0;
+  clash = None;
+}
+
+pub renews : (n : NodeState) (file : Option (List ℕ)) (has : HasLog n file) → IsSound n → GoesOn n.core.config n.keys n.log (journal_log has.version n.core.config n.core.journal) (renewed n file has)
+renews n file has sound =
+    let back = gives_back n sound has.version has.known in
+    record { taken = back.taken; lasts = back.lasts; config_is = refl; keys_are = refl; log_is = refl; limited = refl; clash = refl }
+
 -- ---- a log from which a node starts
 
 -- behind the entries there is no error

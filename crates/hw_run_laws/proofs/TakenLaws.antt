@@ -53,7 +53,7 @@ module _ (n : NodeState) (v : Vertex) (held : List ℕ → Option (List ℕ)) wh
   abbrev Left : Result Receipt Cause → Type 0
   Left a = Logs n (taken_by n v a) true held (files_after n v held (is_accepted a))
 
-  logs_entry : Logs n (with_entry n v) true held (files_after n v held true)
+  pub logs_entry : Logs n (with_entry n v) true held (files_after n v held true)
   logs_entry = record {
     vertices = v ∷ [];
     gains = gains_one n v;

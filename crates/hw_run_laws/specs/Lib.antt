@@ -1,5 +1,7 @@
 pub mod Calls
 pub mod Complete
+pub mod CutMembers
+pub mod MeetMembers
 pub mod Members
 pub mod Prefixes
 pub mod Restart

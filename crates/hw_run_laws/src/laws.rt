@@ -3,6 +3,8 @@
 ghost use Rattle.hw_replay.specs.Fates.{Sight};
 ghost use Rattle.hw_run_laws.specs.Calls.{CallsKeepOneLine, AttemptsKeepOneLine, AttemptsSayNoNew, CallsKeepApart, CutLogIsMended};
 ghost use Rattle.hw_run_laws.specs.Complete.{ServesAreComplete, DrivesAreComplete};
+ghost use Rattle.hw_run_laws.specs.CutMembers.{ReplaysAreFed, ReplaysStop, RunsAreCut};
+ghost use Rattle.hw_run_laws.specs.MeetMembers.{MeetingsAreThere, OneMeets};
 ghost use Rattle.hw_run_laws.specs.Members.{NewNodesAreReady, OneBegins, LivesAreThere, WholeSessionsAreThere, WholeDrivesAreThere, NothingDisturbs, VerticesAreSaid, VerticesAreTaken, TornLogsAreThere};
 ghost use Rattle.hw_run_laws.specs.Restart.{ServedIsALife, DrivenIsALife, MetIsALife, ServesIsALife, DrivesIsALife, MeetsIsALife, ServesKeepsLog, DrivesKeepsLog, MeetsKeepsLog, ServesLeavesLog, DrivesLeavesLog, MeetsLeavesLog, MakeLeavesLog, ServedSaysOfLog, DrivenSaysOfLog, MetSaysOfLog, ServesSaysOfLog, DrivesSaysOfLog, MeetsSaysOfLog};
 ghost use Rattle.hw_run_laws.specs.Prefixes.{StoppedReplays, StoppedParts, CutServices, CutTurns, CutHosts, CutCalls};
@@ -99,4 +101,24 @@ pub fn lives_are_there()
     ensures said { VerticesAreSaid }
     ensures taken { VerticesAreTaken }
     ensures torn { TornLogsAreThere }
+{}
+
+/// There are replays and runs that are cut short, with consumers that take what they are told.
+///
+/// Wherever a replay comes to, they were passed what its entries so far decide, and where an entry or the log's error
+/// stops it, no more. A run over the files of whatever node with its log, whose settings and keys are read, can be cut at
+/// its report, and one that serves at the line of a session.
+pub fn cut_runs_are_there()
+    ensures fed { ReplaysAreFed }
+    ensures stopped { ReplaysStop }
+    ensures runs { RunsAreCut }
+{}
+
+/// There are meetings of two nodes behind their first words.
+///
+/// Two nodes of one configuration have met, wherever what they say keeps its limits and neither refuses what is due to
+/// it. Two nodes with logs are written out, of which one brings the other a block.
+pub fn meetings_are_there()
+    ensures all { MeetingsAreThere }
+    ensures one { OneMeets }
 {}

@@ -15,7 +15,7 @@
 mod laws;
 
 pub use laws::{
-    a_cut_log_is_mended, calls_keep_one_line, cut_calls_leave_a_log, cut_runs_leave_prefixes,
-    lives_are_there, sessions_are_lives, sessions_keep_the_log, sessions_say_what_is_logged,
-    undisturbed_sessions_are_whole,
+    a_cut_log_is_mended, calls_keep_one_line, cut_calls_leave_a_log, cut_runs_are_there,
+    cut_runs_leave_prefixes, lives_are_there, meetings_are_there, sessions_are_lives,
+    sessions_keep_the_log, sessions_say_what_is_logged, undisturbed_sessions_are_whole,
 };

@@ -1,8 +1,6 @@
 -- A cluster of three nodes, worked.
-use Rattle.std.proofs.Common.{◌≡◌, ◌<◌, ◌≤◌, ℕ, Bool, true, List, [], ◌∷◌, ◌++◌, Option, Some, None, Result, Ok, Err, refl, sym, ap, ◌∙◌, arith, ltb-true}
+use Rattle.std.proofs.Common.{◌≡◌, ◌≤◌, ℕ, Bool, true, [], ◌∷◌, ◌++◌, Option, Some, None, Result, Ok, refl, sym, ap, ◌∙◌, arith, ltb-true}
 use Rattle.std.specs.Prelude.{replicate, nat_lt, if◌then◌else◌}
-use Rattle.std.specs.List.{list_all}
-use Rattle.hw_types.specs.declared.unit.Vertex.{Vertex}
 use Rattle.hw_types.specs.declared.answers.Plan.{Plan}
 use Rattle.hw_types.specs.declared.answers.Receipt.{Receipt}
 use Rattle.hw_types.specs.declared.answers.Receipt.TheVariants.{Admitted}
@@ -13,7 +11,7 @@ use Rattle.hw_types.specs.Real.{setting_of}
 use Rattle.hw_types.proofs.WordsLaws.{all_of}
 use Rattle.hw_honest.specs.declared.cluster.Action.{Action}
 use Rattle.hw_honest.specs.declared.cluster.Action.TheVariants.{Step, Deliver, Forge}
-use Rattle.hw_honest.specs.Cluster.{Cluster, begun, signed, value_at, with_journal, with_sent, plan_at, after_own, is_admitted, is_foreign, after, cluster_of}
+use Rattle.hw_honest.specs.Cluster.{Cluster, begun, signed, value_at, with_journal, with_sent, plan_at, after_own, is_admitted, after, cluster_of}
 use Rattle.hw_honest.specs.Plans.{IsPlanned, HasNamesake}
 use Rattle.hw_honest.specs.Laws.{IsPossible, IsRun, weight_of_others}
 use Rattle.hw_honest.proofs.NewLaws.{plan_is_answered}

@@ -1,23 +1,18 @@
 -- A certificate that is answered yes, worked from what four units are answered and decide.
-use Rattle.std.proofs.Common.{◌≡◌, ◌≢◌, ◌≤◌, ℕ, Bool, true, false, List, [], ◌∷◌, ◌++◌, Some, Result, Ok, Err, refl, sym, ap, subst, inl, inr, ◌∙◌, arith, append-nil, append_assoc}
+use Rattle.std.proofs.Common.{◌≡◌, ◌≢◌, ◌≤◌, true, List, [], ◌∷◌, ◌++◌, refl, sym, ap, subst, inl, inr, ◌∙◌, append-nil, append_assoc}
 use Rattle.std.specs.Prelude.{All, Any, IsOk, is_ok, fold}
 use Rattle.std.specs.List.{list_all}
 use Rattle.std.proofs.lemmas.List.Elements.{All-head}
 use Rattle.std.proofs.lemmas.List.Quantifiers.{Any-push}
 use Rattle.hw_types.specs.declared.unit.Digest.{Digest}
-use Rattle.hw_types.specs.declared.unit.Evidence.{Evidence}
 use Rattle.hw_types.specs.declared.unit.Vertex.{Vertex}
-use Rattle.hw_types.specs.declared.unit.Vertex.TheVariants as vertex
 use Rattle.hw_types.specs.declared.answers.Decision.{Decision}
-use Rattle.hw_types.specs.declared.answers.Receipt.{Receipt}
-use Rattle.hw_types.specs.declared.answers.Cause.{Cause}
 use Rattle.hw_types.specs.Graph.{digest_eq}
 use Rattle.hw_types.specs.Below.{Among}
 use Rattle.hw_types.specs.Settled.{settled_of, faulty_weight}
 use Rattle.hw_types.specs.Summit.{Stands}
-use Rattle.hw_types.specs.Journal.{Setting, received_of, is_accepted, answer, answers_from, journal_after, journal_of}
+use Rattle.hw_types.specs.Journal.{Setting, received_of, is_accepted, answer, answers_from, journal_after}
 use Rattle.hw_types.specs.Decisions.{AreDecisions, IsRecord}
-use Rattle.hw_types.specs.Real.{setting_of}
 use Rattle.hw_types.proofs.SettledLaws.{digest_self}
 use Rattle.hw_types.proofs.StableLaws.{and_parts}
 use Rattle.hw_types.proofs.WordsLaws.{all_of, never_both, find_node_is}

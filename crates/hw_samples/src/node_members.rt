@@ -2,6 +2,8 @@
 
 ghost use Rattle.hw_samples.specs.Cluster.{ClusterIsReached};
 ghost use Rattle.hw_samples.specs.Light.{YesMeetsAnother};
+ghost use Rattle.hw_samples.specs.EraNodes.{EraNodesAreThere};
+ghost use Rattle.hw_samples.specs.Files.{LogsAreInConflict, CertificatesAreInFiles};
 
 /// Three nodes are a cluster beside a validator that may be faulty, and two of them have the block that one made.
 pub fn a_cluster_is_reached()
@@ -11,4 +13,19 @@ pub fn a_cluster_is_reached()
 /// A certificate is answered yes, and another node decided another block of that height.
 pub fn a_yes_meets_another_block()
     ensures { YesMeetsAnother }
+{}
+
+/// A node decided the last block of its era, and the next one is opened.
+pub fn era_nodes_are_there()
+    ensures { EraNodesAreThere }
+{}
+
+/// Two logs report conflicting final blocks, and the audit says so.
+pub fn logs_are_in_conflict()
+    ensures { LogsAreInConflict }
+{}
+
+/// A certificate is asked of a log, and another is checked by keys, against a log in conflict with it.
+pub fn certificates_are_in_files()
+    ensures { CertificatesAreInFiles }
 {}
