@@ -168,6 +168,28 @@ impl Answer {
         }
     }
 
+    /// So many bytes 0; none where there is no memory for them.
+    pub fn zeros(&mut self, count: usize) -> Vec<u8> {
+        match vec![in self.alloc; 0u8; count] {
+            Ok(bytes) => bytes,
+            Err(_) => {
+                self.refuse();
+                Vec::new(self.alloc)
+            }
+        }
+    }
+
+    /// The numbers between the commas; a word that is none is left out.
+    pub fn numbers(&mut self, words: &str) -> Vec<u64> {
+        let mut numbers = Vec::new(self.alloc);
+        for word in words.split(',') {
+            if let Ok(number) = word.parse() {
+                self.push_to(&mut numbers, number);
+            }
+        }
+        numbers
+    }
+
     /// A list of these items; none where there is no memory for it.
     pub fn list<T: Copy>(&mut self, items: &[T]) -> Items<T> {
         match Vec::from_slice(self.alloc, items) {

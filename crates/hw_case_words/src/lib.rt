@@ -9,8 +9,8 @@ mod words;
 
 pub use answer::Answer;
 pub use config::config_of;
-pub use unit::{own_observation, plain_unit, signed, told_number, unit_of};
+pub use unit::{own_observation, panorama_of, plain_unit, signed, told_number, unit_of};
 pub use words::{
-    after, byte, digest_of_byte, lines_of, named, no_signature, number, number_of, small,
-    until_key, with_line_feeds,
+    after, byte, digest_of_byte, digest_with, lines_of, named, no_signature, number, number_of,
+    patch, put_at, small, until_key, with_line_feeds,
 };

@@ -56,6 +56,16 @@ pub fn plain_unit(
     })
 }
 
+/// This observation of validator 0, and of the others none.
+pub fn panorama_of(answer: &mut Answer, validators: usize, own: Obs) -> ObsList {
+    let mut panorama = Vec::new(answer.alloc());
+    answer.push_to(&mut panorama, own);
+    for _ in 1..validators {
+        answer.push_to(&mut panorama, Obs::Absent);
+    }
+    ObsList::from_vec(panorama)
+}
+
 /// What a unit of these words observes of its creator.
 pub fn own_observation(panorama: &ObsList, words: &[&str]) -> Obs {
     match panorama.as_slice().get(creator_of(words) as usize) {

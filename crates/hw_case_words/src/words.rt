@@ -75,6 +75,31 @@ pub fn named(word: &str) -> Digest {
     Digest(bytes)
 }
 
+/// A digest of which each byte is this one, but for the four of the number from this place on.
+pub fn digest_with(byte: u8, place: usize, number: u32) -> Digest {
+    let mut bytes = [byte; 32];
+    for (offset, part) in number.to_be_bytes().as_slice().iter().enumerate() {
+        bytes[place.saturating_add(offset) % 32] = *part;
+    }
+    Digest(bytes)
+}
+
+/// Puts bytes at places, as the words `place:byte` between commas say.
+pub fn patch(bytes: &mut [u8], patches: &str) {
+    for word in patches.split(',') {
+        if let Some((place, of)) = word.split_once(':') {
+            put_at(bytes, number(place) as usize, byte(of));
+        }
+    }
+}
+
+/// Puts the byte at this place, where there is one.
+pub fn put_at(bytes: &mut [u8], place: usize, byte: u8) {
+    if let Some(old) = bytes.get_mut(place) {
+        *old = byte;
+    }
+}
+
 /// The text with line feeds where it has this sign.
 pub fn lines_of(answer: &mut Answer, text: &str, sign: u8) -> Vec<u8> {
     let mut bytes = Vec::new(answer.alloc());

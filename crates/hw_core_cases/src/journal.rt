@@ -54,6 +54,5 @@ mod summits;
 mod units;
 mod wanted;
 
-pub use self::chains::panorama_of;
 pub use self::lines::tell;
 pub use self::names::Node;

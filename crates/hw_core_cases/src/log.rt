@@ -1,22 +1,20 @@
 //! What the log reader and writer, the rewriting of logs and the outside in memory answer for the lines of its input,
 //! one line for each.
 //!
-//! PARTS are letters, one for each part of a log: `H` a header of three validators of weight 1, `A` their first block,
-//! `B` a unit that cites it, `C` and `D` two units that cite both, `E` an evidence of `A`'s unit and another, `0` a
-//! byte 0; `h` the header in version 2, and `c` and `d` the last two units as version 2 tells them. ONE and TWO are one
-//! log in both versions, as hexadecimal digits. PIECE is how many bytes a read gives at most. CALL is the number of the
-//! call of the files that fails, counted from 0, or `-`; a failing append takes LEFT bytes. COMMAND is `mend` or
-//! `migrate`. LOG, NEW and what is held then are the bytes of files as hexadecimal digits, or `-` for a file that isn't
-//! there.
+//! LOG, NEW, ONE, TWO and what is held then are the bytes of files as hexadecimal digits, or `-` for a file that isn't
+//! there. ONE and TWO are one log in both versions. The worked logs have three validators of weight 1: behind the header
+//! stand a first block, a unit that cites it, and units that cite both. PIECE is how many bytes a read gives at most.
+//! CALL is the number of the call of the files that fails, counted from 0, or `-`; a failing append takes LEFT bytes.
+//! COMMAND is `mend` or `migrate`.
 //!
 //! | Line | Answer |
 //! |---|---|
-//! | `count PIECE CALL PATCHES PARTS` | how many entries the log has, or its first error, and the faults counted; PATCHES are `-` or bytes put at places, as `74:2,75:2` |
-//! | `copy PIECE CALL LEFT PARTS` | the places of the entries copied, or the error; the length of the copy, and whether the log begins with it |
+//! | `count PIECE CALL PATCHES LOG` | how many entries the log has, or its first error, and the faults counted; PATCHES are `-` or bytes put at places, as `74:2,75:2` |
+//! | `copy PIECE CALL LEFT LOG` | the places of the entries copied, or the error; the length of the copy, and whether the log begins with it |
 //! | `both ONE TWO` | of each of the two the places of the entries, and whether its copies in its own version and in the other one are as given |
-//! | `cuts PARTS` | each length from which a cut log is answered in another way |
-//! | `faults PARTS` | how many calls a reading takes, and how many of them, failing alone, end as a read fault |
-//! | `other PARTS` | what reading a file that isn't there answers |
+//! | `cuts LOG` | each length from which a cut log is answered in another way |
+//! | `faults LOG` | how many calls a reading takes, and how many of them, failing alone, end as a read fault |
+//! | `other LOG` | what reading a file that isn't there answers |
 //! | `COMMAND CALL LEFT NEW LOG` | a log is written anew: how many entries were written, or why none were; the faults counted; what the new file holds then |
 //! | `faults COMMAND LOG` | each call of the files fails in turn: how many runs end with a failed append, and how many with neither that nor a failed read |
 //! | `files KIND` | an exchange with files of the kind `memory` or `sure`; for a number four calls of which the one of that number fails |

@@ -137,20 +137,11 @@ pub fn consistent_of(alloc: Global, dag: &Dag, words: &[&str]) -> Option<Panoram
     }
 }
 
-/// The first half of the words.
-fn first_half<'a, 'b>(words: &'a [&'b str]) -> &'a [&'b str] {
-    &words[..words.len() / 2]
-}
-
-/// The second half of the words.
-fn second_half<'a, 'b>(words: &'a [&'b str]) -> &'a [&'b str] {
-    &words[words.len() / 2..]
-}
-
 /// Whether the first panorama is at most the second.
 pub fn at_most_of(answer: &mut Answer, dag: &Dag, words: &[&str]) {
-    let left = panorama_of(answer.alloc(), dag, first_half(words));
-    let right = panorama_of(answer.alloc(), dag, second_half(words));
+    let (left, right) = words.split_at(words.len() / 2);
+    let left = panorama_of(answer.alloc(), dag, left);
+    let right = panorama_of(answer.alloc(), dag, right);
     match (left, right) {
         (Some(left), Some(right)) => answer.truth(at_most(dag, &left, &right)),
         _ => answer.refuse(),
@@ -159,8 +150,9 @@ pub fn at_most_of(answer: &mut Answer, dag: &Dag, words: &[&str]) {
 
 /// The least panorama above both.
 pub fn joined(answer: &mut Answer, dag: &Dag, words: &[&str]) {
-    let left = consistent_of(answer.alloc(), dag, first_half(words));
-    let right = consistent_of(answer.alloc(), dag, second_half(words));
+    let (left, right) = words.split_at(words.len() / 2);
+    let left = consistent_of(answer.alloc(), dag, left);
+    let right = consistent_of(answer.alloc(), dag, right);
     match (left, right) {
         (Some(mut left), Some(right)) => {
             join(dag, &mut left, &right);

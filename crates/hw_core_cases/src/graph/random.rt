@@ -8,9 +8,9 @@ use crate::graph::plain::Plain;
 use crate::graph::settling::{Outcome, settle};
 use crate::graph::units::{INSTANCE, next_number};
 use hw_admit::State;
-use hw_case_words::{Answer, number, plain_unit, small};
+use hw_case_words::{Answer, digest_with, number, panorama_of, plain_unit, small};
 use hw_dag::{Dag, Panorama, Unit, UnitNo, View};
-use hw_types::{Bytes, Config, Digest, DigestList, IndexList, Leaders, Obs, ObsList, SignedUnit};
+use hw_types::{Bytes, Config, DigestList, IndexList, Leaders, Obs, ObsList, SignedUnit};
 use std::alloc::Global;
 
 /// Ties are wanted, so the weights are small.
@@ -89,7 +89,7 @@ fn leaders_of(answer: &mut Answer, lots: &mut Lots, units: u32) -> IndexList {
 fn grow(answer: &mut Answer, state: &mut State, lots: &mut Lots, units: u32) -> bool {
     for number in 0..units {
         let unit = next_unit(answer, state, lots, number);
-        match settle(state, numbered(number), unit) {
+        match settle(state, digest_with(0, 0, number), unit) {
             Some(Outcome::Admitted(_)) => {}
             _ => return false,
         }
@@ -144,7 +144,7 @@ fn own_observation(panorama: &ObsList, creator: u32) -> Obs {
 /// What one of the last units has seen, and that unit.
 fn seen_by(answer: &mut Answer, dag: &Dag, lots: &mut Lots, number: u32) -> ObsList {
     if number == 0 || dag.count() < number {
-        return ObsList::from_vec(answer.list(&[Obs::Absent; 5]).into_vec());
+        return panorama_of(answer, 5, Obs::Absent);
     }
     let no = UnitNo(number - 1 - lots.below(number.min(8)));
     seen_with(answer, dag.unit(no))
@@ -160,15 +160,6 @@ fn seen_with(answer: &mut Answer, unit: &Unit) -> ObsList {
         *own = Obs::Correct(*unit.digest());
     }
     ObsList::from_vec(seen)
-}
-
-/// A number as a name.
-fn numbered(number: u32) -> Digest {
-    let mut bytes = [0; 32];
-    for (place, byte) in number.to_be_bytes().into_iter().enumerate() {
-        bytes[place % 32] = byte;
-    }
-    Digest(bytes)
 }
 
 /// Compares the fork choices of so many panoramas.

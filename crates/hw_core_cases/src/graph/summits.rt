@@ -89,9 +89,32 @@ fn search(
     requires validators { horizons.old.validators ≡ dag.now.validators }
     requires walks { AreKept dag.now horizons.old.walks }
 {
-    let first = horizons.greatest(dag, weights, panorama, block, level, quorum);
-    let again = horizons.greatest(dag, weights, panorama, block, level, quorum);
+    let first = search_once(dag, weights, horizons, panorama, block, level, quorum);
+    let again = search_once(dag, weights, horizons, panorama, block, level, quorum);
     first && again
+}
+
+fn search_once(
+    dag: &Dag,
+    weights: &WeightList,
+    horizons: &mut Horizons,
+    panorama: &Panorama,
+    block: UnitNo,
+    level: u32,
+    quorum: u64,
+) -> bool
+    requires panorama { IsPanorama dag.now panorama.now }
+    requires consistent { IsTrue (is_consistent (graph dag.now) (observations dag.now panorama.now)) }
+    requires weights { AreWeights weights.now dag.now }
+    requires known { block.0 < count_of dag.now }
+    requires level { level ≤ horizons.old.levels }
+    requires validators { horizons.old.validators ≡ dag.now.validators }
+    requires walks { AreKept dag.now horizons.old.walks }
+    ensures levels { horizons.new.levels ≡ horizons.old.levels }
+    ensures validators { horizons.new.validators ≡ horizons.old.validators }
+    ensures walks { AreKept dag.now horizons.new.walks }
+{
+    horizons.greatest(dag, weights, panorama, block, level, quorum)
 }
 
 /// For each validator with a start, its starts from level 0 on.

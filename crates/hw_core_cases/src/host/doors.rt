@@ -163,21 +163,19 @@ fn begin_clock(rt: HostRuntime, answer: &mut Answer, peers: &mut Peers) {
 
 /// Reads at most so many bytes, or sixteen.
 fn read<D: Door>(answer: &mut Answer, door: &mut D, count: usize) {
-    let mut buf = [0u8; 16];
-    let piece = &mut buf[..count.min(16)];
-    let outcome = door.read(piece);
-    put_read(answer, outcome, piece);
+    let mut piece = answer.zeros(count.min(16));
+    let outcome = door.read(piece.as_mut_slice());
+    put_read(answer, outcome, piece.as_slice());
 }
 
 /// The last peer hears at most so many bytes, or sixteen.
 fn hear(answer: &mut Answer, peers: &mut Peers, count: usize) {
-    let mut buf = [0u8; 16];
-    let piece = &mut buf[..count.min(16)];
-    let outcome = match peers.hear(piece) {
+    let mut piece = answer.zeros(count.min(16));
+    let outcome = match peers.hear(piece.as_mut_slice()) {
         Ok(count) => Ok(count),
         Err(_) => Err(IoFault::Failed),
     };
-    put_read(answer, outcome, piece);
+    put_read(answer, outcome, piece.as_slice());
 }
 
 /// Writes 65,536 bytes again and again until that fails, 64 MiB at most.

@@ -62,10 +62,9 @@ fn take_pair<F: Files>(
 
 /// Reads at most so many bytes, or sixteen.
 fn read<F: Files>(answer: &mut Answer, files: &mut F, count: usize) {
-    let mut buf = [0u8; 16];
-    let piece = &mut buf[..count.min(16)];
-    let outcome = files.read(piece);
-    put_read(answer, outcome, piece);
+    let mut piece = answer.zeros(count.min(16));
+    let outcome = files.read(piece.as_mut_slice());
+    put_read(answer, outcome, piece.as_slice());
 }
 
 fn append<F: Files>(answer: &mut Answer, files: &mut F, name: &str, text: &str) {

@@ -2,7 +2,7 @@
 
 use crate::journal::outcome::{Outcome, delivery};
 use crate::journal::units::digest_in_format;
-use hw_case_words::{Answer, plain_unit, small};
+use hw_case_words::{Answer, panorama_of, plain_unit, small};
 use hw_core::Core;
 use hw_types::{Bytes, Digest, DigestList, Obs, ObsList, Receipt, SignedUnit, Vertex};
 use std::alloc::Global;
@@ -121,14 +121,4 @@ fn unit_at(alloc: Global, instance: Digest, number: u32, panorama: ObsList) -> S
     let (seq, time) = (number as u64, number as u64 * 16);
     let endorsed = DigestList::new(alloc);
     plain_unit(instance, 0, seq, time, panorama, value, endorsed)
-}
-
-/// This observation of validator 0, and of the others none.
-pub fn panorama_of(answer: &mut Answer, validators: usize, own: Obs) -> ObsList {
-    let mut panorama = Vec::new(answer.alloc());
-    answer.push_to(&mut panorama, own);
-    for _ in 1..validators {
-        answer.push_to(&mut panorama, Obs::Absent);
-    }
-    ObsList::from_vec(panorama)
 }

@@ -12,14 +12,23 @@ pub fn unmet(answer: &mut Answer, node: &Node, words: &[&str]) {
     let [word] = words else {
         return answer.refuse();
     };
-    let mut needs = [Need::Evidence(0); 8];
-    let most = number(word).min(8) as usize;
-    let count = node.core.first_unmet(&mut needs[..most]);
+    let mut needs = room_for(answer, number(word).min(8));
+    let count = node.core.first_unmet(needs.as_mut_slice());
+    needs.truncate(count);
     answer.put("unmet");
-    for need in needs.as_slice().iter().take(count) {
+    for need in needs.as_slice() {
         put_need(answer, node.names.as_slice(), *need);
     }
     ended(answer, count == 0);
+}
+
+/// Room for so many needs.
+fn room_for(answer: &mut Answer, count: u64) -> Vec<Need> {
+    let mut needs = Vec::new(answer.alloc());
+    for _ in 0..count {
+        answer.push_to(&mut needs, Need::Evidence(0));
+    }
+    needs
 }
 
 /// The evidence that the journal has against each of these validators.

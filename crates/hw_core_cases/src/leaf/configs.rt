@@ -76,6 +76,14 @@ pub fn checked(answer: &mut Answer, weights: &str, words: &[&str]) {
     answer.debug(&config.check());
 }
 
+/// The threshold, the levels, and the least and the greatest exponent, behind their words.
+pub fn limits_text(answer: &mut Answer, ftt: u64, levels: u8, least: u8, greatest: u8) {
+    answer.labelled(" threshold ", ftt);
+    answer.labelled(" levels ", levels as u64);
+    answer.labelled(" exponents ", least as u64);
+    answer.labelled(" ", greatest as u64);
+}
+
 pub fn led(answer: &mut Answer, weights: &str, leaders: &str, count: u64) {
     let config = config_of(answer, weights, leaders);
     match config.check() {

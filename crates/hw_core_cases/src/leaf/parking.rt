@@ -1,6 +1,6 @@
 //! Items that wait for needs.
 
-use hw_case_words::{Answer, byte, digest_of_byte, small};
+use hw_case_words::{Answer, byte, digest_of_byte, digest_with, small};
 use hw_park::{Park, ParkCause};
 use hw_types::{Digest, Need};
 
@@ -83,13 +83,7 @@ fn walk(answer: &mut Answer, park: &mut Park<u32>, steps: &[&str]) {
 
 /// A digest that differs from others of its kind in its last bytes alone, as a peer may choose them.
 fn chosen(number: u32) -> Digest {
-    let mut bytes = [7; 32];
-    let [a, b, c, d] = number.to_be_bytes();
-    bytes[28] = a;
-    bytes[29] = b;
-    bytes[30] = c;
-    bytes[31] = d;
-    Digest(bytes)
+    digest_with(7, 28, number)
 }
 
 /// Parks so many items, each for a unit of its own and one of seven validators' evidence.

@@ -1,5 +1,6 @@
 //! Settings.
 
+use crate::leaf::configs::limits_text;
 use hw_case_words::Answer;
 use hw_settings::{SettingsFault, read_settings};
 use hw_types::{Config, ConfigFault, Leaders};
@@ -46,17 +47,11 @@ fn config_text(answer: &mut Answer, config: &Config) {
         answer.put(" ");
         answer.number(*weight);
     }
-    rounds_text(answer, config);
+    let (least, greatest) = (config.min_exponent, config.max_exponent);
+    limits_text(answer, config.ftt, config.levels, least, greatest);
+    answer.put(" ");
     leaders_text(answer, &config.leaders);
     room_text(answer, config);
-}
-
-fn rounds_text(answer: &mut Answer, config: &Config) {
-    answer.labelled(" threshold ", config.ftt);
-    answer.labelled(" levels ", config.levels as u64);
-    answer.labelled(" exponents ", config.min_exponent as u64);
-    answer.labelled(" ", config.max_exponent as u64);
-    answer.put(" ");
 }
 
 fn leaders_text(answer: &mut Answer, leaders: &Leaders) {

@@ -17,11 +17,10 @@ pub fn consumer_text(answer: &mut Answer, calls: &str, steps: &str) {
 
 /// Plans the calls that fail.
 fn plan(answer: &mut Answer, consumer: &mut ListConsumer, calls: &str) {
-    for call in calls.split(',') {
-        if let Ok(call) = call.parse() {
-            let planned = consumer.fail_at(call);
-            answer.keep(planned);
-        }
+    let calls = answer.numbers(calls);
+    for call in calls.as_slice() {
+        let planned = consumer.fail_at(*call);
+        answer.keep(planned);
     }
 }
 

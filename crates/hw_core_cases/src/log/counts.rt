@@ -14,7 +14,8 @@ pub fn done(outcome: Result<(), IoFault>) -> Count {
 
 pub fn asked(outcome: Result<bool, IoFault>) -> Count {
     match outcome {
-        Ok(is_there) => Ok(usize::from(is_there)),
+        Ok(false) => Ok(0),
+        Ok(true) => Ok(1),
         Err(fault) => Err(fault),
     }
 }

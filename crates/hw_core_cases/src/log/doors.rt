@@ -17,11 +17,10 @@ pub fn door_text(answer: &mut Answer, piece: &str, calls: &str, peers: &str, ste
 
 /// Plans the calls that fail.
 fn plan(answer: &mut Answer, door: &mut MemDoor, calls: &str) {
-    for call in calls.split(',') {
-        if let Ok(call) = call.parse() {
-            let planned = door.fail_at(call);
-            answer.keep(planned);
-        }
+    let calls = answer.numbers(calls);
+    for call in calls.as_slice() {
+        let planned = door.fail_at(*call);
+        answer.keep(planned);
     }
 }
 
@@ -57,14 +56,15 @@ fn expect_surely(answer: &mut Answer, door: &mut SureDoor, peers: &str) {
 /// Takes the steps, and puts down what is answered to each.
 fn walk<D: Door>(answer: &mut Answer, door: &mut D, steps: &str) {
     for step in steps.split(',') {
-        put_count(answer, take_step(door, step));
+        let count = take_step(answer, door, step);
+        put_count(answer, count);
     }
 }
 
-fn take_step<D: Door>(door: &mut D, step: &str) -> Count {
+fn take_step<D: Door>(answer: &mut Answer, door: &mut D, step: &str) -> Count {
     match step.split_once(':') {
         Some(("dial", address)) => done(door.dial(address)),
-        Some(("read", count)) => read(door, number(count) as usize),
+        Some(("read", count)) => read(answer, door, number(count) as usize),
         Some((_, piece)) => door.write(piece.as_bytes()),
         None if step == "accept" => done(door.accept()),
         None => {
@@ -75,9 +75,9 @@ fn take_step<D: Door>(door: &mut D, step: &str) -> Count {
 }
 
 /// Reads at most so many bytes, or sixteen.
-fn read<D: Door>(door: &mut D, count: usize) -> Count {
-    let mut buf = [0u8; 16];
-    door.read(&mut buf[..count.min(16)])
+fn read<D: Door>(answer: &mut Answer, door: &mut D, count: usize) -> Count {
+    let mut buf = answer.zeros(count.min(16));
+    door.read(buf.as_mut_slice())
 }
 
 fn put_sessions(answer: &mut Answer, sessions: &[MemSession]) {

@@ -1,4 +1,4 @@
-//! Logs of worked parts.
+//! Logs.
 
 ghost use Rattle.std.specs.Prelude.{◌≡◌};
 ghost use Rattle.hw_doubles.specs.Memory.{mem_allowance};
@@ -6,7 +6,7 @@ ghost use Rattle.hw_types.specs.Spelling.{ConfigFits, VertexFits};
 ghost use Rattle.hw_log.specs.Lasts.{IsVersion};
 ghost use Rattle.hw_log.specs.Reader.{PlacesFit};
 
-use hw_case_words::{Answer, number};
+use hw_case_words::{Answer, number, patch};
 use hw_doubles::MemFiles;
 use hw_io::Files;
 use hw_log::{
@@ -14,74 +14,6 @@ use hw_log::{
 };
 use hw_types::Items;
 use std::alloc::Global;
-
-/// The header of a log of three validators of weight 1.
-const HEADER: &str =
-    "48574c4701000000410100000003000000000000000100000000000000010000000000000001000000000000000001040800000000030000000000000000000000020002000000001000";
-
-/// Its first block, a unit that cites it, and two units that cite both.
-const A0: &str =
-    "010100000067014a778c0d210e148c19822a9479adaed1e477fbef865d79c08d948ba4c76707de00000000000000000000000000000000000000100400000003000000010000000178000000000000000000000000000000000000000000000000000000000000000000000000";
-
-const B0: &str =
-    "010100000082014a778c0d210e148c19822a9479adaed1e477fbef865d79c08d948ba4c76707de000000010000000000000000000000000000001104000000030141f3cb4d41701b06b152c089d6e26690acbfd300899c7ba57bdb7de70f39315f000000000000000000000000000000000000000000000000000000000000000000000000000000";
-
-const A1: &str =
-    "0101000000a2014a778c0d210e148c19822a9479adaed1e477fbef865d79c08d948ba4c76707de000000000000000000000001000000000000001b04000000030141f3cb4d41701b06b152c089d6e26690acbfd300899c7ba57bdb7de70f39315f01779d0c3744c7c493bb39049229de0cc15761586919f443ced5dff26307474b870000000000000000000000000000000000000000000000000000000000000000000000000000";
-
-const B1: &str =
-    "0101000000a2014a778c0d210e148c19822a9479adaed1e477fbef865d79c08d948ba4c76707de000000010000000000000001000000000000001b04000000030141f3cb4d41701b06b152c089d6e26690acbfd300899c7ba57bdb7de70f39315f01779d0c3744c7c493bb39049229de0cc15761586919f443ced5dff26307474b870000000000000000000000000000000000000000000000000000000000000000000000000000";
-
-/// The header in version 2, and the last two units as that version tells them.
-const HEADER_2: &str =
-    "48574c4702000000410100000003000000000000000100000000000000010000000000000001000000000000000001040800000000030000000000000000000000020002000000001000";
-
-const A1_COMPACT: &str =
-    "01010000006404000000000000000000000001000000000000001b04000000010000000101779d0c3744c7c493bb39049229de0cc15761586919f443ced5dff26307474b8700000000000000000000000000000000000000000000000000000000000000000000000000";
-
-const B1_COMPACT: &str =
-    "01010000003f04000000010000000000000001000000000000001b040000000000000000000000000000000000000000000000000000000000000000000000000000000000";
-
-/// An evidence of the first block and another unit of its creator and number.
-const EVIDENCE: &str =
-    "0101000000cd024a778c0d210e148c19822a9479adaed1e477fbef865d79c08d948ba4c76707de000000000000000000000000000000000000001004000000030000000100000001780000000000000000000000000000000000000000000000000000000000000000000000004a778c0d210e148c19822a9479adaed1e477fbef865d79c08d948ba4c76707de00000000000000000000000000000000000000110400000003000000010000000178000000000000000000000000000000000000000000000000000000000000000000000000";
-
-fn part(letter: char) -> &'static str {
-    match letter {
-        'H' => HEADER,
-        'A' => A0,
-        'B' => B0,
-        'C' => A1,
-        'D' => B1,
-        'E' => EVIDENCE,
-        'h' => HEADER_2,
-        'c' => A1_COMPACT,
-        'd' => B1_COMPACT,
-        _ => "00",
-    }
-}
-
-/// The bytes of the parts, one after the other.
-fn log_of(answer: &mut Answer, parts: &str) -> Vec<u8> {
-    let mut bytes = Vec::new(answer.alloc());
-    for letter in parts.chars() {
-        let decoded = answer.bytes(part(letter));
-        let put = bytes.extend_from_slice(decoded.as_slice());
-        answer.keep(put);
-    }
-    bytes
-}
-
-/// Puts bytes at places, as the words `place:byte` say.
-fn patch(bytes: &mut [u8], patches: &str) {
-    for word in patches.split(',') {
-        if let Some((place, byte)) = word.split_once(':') {
-            if let Some(old) = bytes.get_mut(number(place) as usize) {
-                *old = byte.parse().unwrap_or(0);
-            }
-        }
-    }
-}
 
 /// Files with this log, whose call of that number fails after some bytes.
 fn files_of(
@@ -121,8 +53,8 @@ fn count_of(
 }
 
 /// How many entries a log has whose bytes are patched, and the faults counted.
-pub fn counted(answer: &mut Answer, piece: &str, call: &str, patches: &str, parts: &str) {
-    let mut log = log_of(answer, parts);
+pub fn counted(answer: &mut Answer, piece: &str, call: &str, patches: &str, digits: &str) {
+    let mut log = answer.bytes(digits);
     patch(&mut log, patches);
     let piece = number(piece) as usize;
     let mut files = files_of(answer, piece, call.parse().ok(), 0, log.as_slice());
@@ -221,13 +153,15 @@ fn append_copy(
     requires { VertexFits entry.now.vertex }
     ensures { mem_allowance files.new ≡ mem_allowance files.old }
 {
-    let bytes = entry_bytes(alloc, lasts, entry.verdict, &entry.vertex)?;
-    append_entry(files, "COPY", &bytes)
+    match entry_bytes(alloc, lasts, entry.verdict, &entry.vertex) {
+        Ok(bytes) => append_entry(files, "COPY", &bytes),
+        Err(_) => Err(LogError::OutOfMemory),
+    }
 }
 
 /// Copies a log, and tells the places of its entries or the error, how much was copied, and the faults counted.
-pub fn copied(answer: &mut Answer, piece: &str, call: &str, left: &str, parts: &str) {
-    let log = log_of(answer, parts);
+pub fn copied(answer: &mut Answer, piece: &str, call: &str, left: &str, digits: &str) {
+    let log = answer.bytes(digits);
     let (piece, left) = (number(piece) as usize, number(left) as usize);
     let mut files = files_of(answer, piece, call.parse().ok(), left, log.as_slice());
     copy_places(answer, &mut files, 1);
@@ -261,8 +195,8 @@ fn copy_places(answer: &mut Answer, files: &mut MemFiles, version: u8)
 }
 
 /// Each length from which a cut log is answered in another way.
-pub fn cuts(answer: &mut Answer, parts: &str) {
-    let log = log_of(answer, parts);
+pub fn cuts(answer: &mut Answer, digits: &str) {
+    let log = answer.bytes(digits);
     let mut last = Ok(usize::MAX);
     for length in 0..=log.len() {
         let count = count_of(answer, 100, None, &log.as_slice()[..length]);
@@ -277,8 +211,8 @@ pub fn cuts(answer: &mut Answer, parts: &str) {
 }
 
 /// How many calls a reading takes, and how many of them, each failing alone, end it as a read fault.
-pub fn faults(answer: &mut Answer, parts: &str) {
-    let log = log_of(answer, parts);
+pub fn faults(answer: &mut Answer, digits: &str) {
+    let log = answer.bytes(digits);
     let mut files = files_of(answer, 100, None, 0, log.as_slice());
     let _ = count(answer.alloc(), &mut files, "LOG");
     let calls = files.calls();
@@ -299,8 +233,8 @@ fn read_faults(answer: &mut Answer, calls: u64, log: &[u8]) -> u64 {
 }
 
 /// What reading a file answers that isn't there.
-pub fn missing(answer: &mut Answer, parts: &str) {
-    let log = log_of(answer, parts);
+pub fn missing(answer: &mut Answer, digits: &str) {
+    let log = answer.bytes(digits);
     let mut files = files_of(answer, 100, None, 0, log.as_slice());
     let count = count(answer.alloc(), &mut files, "other");
     put_count(answer, count);

@@ -1,9 +1,8 @@
 //! The lines.
 
 use hw_case_words::{Answer, lines_of};
-use hw_host::HostFiles;
-use hw_io::{Files, IoFault};
 use hw_script::{ScriptError, run_script};
+use std::fs;
 
 /// What the script of this word prints.
 pub fn tell(rt: HostRuntime, answer: &mut Answer, kind: &str, word: &str) {
@@ -29,20 +28,11 @@ fn run(answer: &mut Answer, text: &[u8]) {
 
 /// The bytes of a file.
 fn read(rt: HostRuntime, answer: &mut Answer, name: &str) -> Vec<u8> {
-    let mut bytes = Vec::new(answer.alloc());
-    let mut files = HostFiles::new(&rt);
-    if files.begin(name).is_err() || read_all(&mut files, &mut bytes).is_err() {
-        answer.refuse();
+    match fs::read(&rt, name) {
+        Ok(bytes) => bytes,
+        Err(_) => {
+            answer.refuse();
+            Vec::new(answer.alloc())
+        }
     }
-    bytes
-}
-
-/// At most a hundred pieces of the file that is begun.
-fn read_all(files: &mut impl Files, bytes: &mut Vec<u8>) -> Result<(), IoFault> {
-    let mut piece = [0u8; 4_096];
-    for _ in 0..100 {
-        let count = files.read(&mut piece)?;
-        bytes.extend_from_slice(&piece[..count])?;
-    }
-    Ok(())
 }
