@@ -23,6 +23,7 @@
 //! | `clock MOMENTS` | the first four moments of a clock that has these, or none for `-` |
 //! | `door PIECE CALLS PEERS STEPS` | what a door answers to the steps, its sessions and its numbers; the calls of these numbers fail, a read gives at most PIECE bytes, and the peers say these words |
 //! | `sure PEERS STEPS` | the same of a sure door |
+//! | `watched PEERS STEPS` | the same of one that tells the calls of `read` in its last session: each as `HEARD/WRITTEN`, what had been by then, and how many |
 //! | `consumer CALLS STEPS` | what a consumer answers to the steps, and what it took; the calls of these numbers fail |
 //!
 //! CALLS and PEERS are lists with commas between, or `-`. A step of a door is `accept`, `dial:ADDRESS`, `read:COUNT`,

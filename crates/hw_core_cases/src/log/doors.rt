@@ -2,7 +2,7 @@
 
 use crate::log::counts::{Count, done, put_count};
 use hw_case_words::{Answer, number};
-use hw_doubles::{MemDoor, MemSession, SureDoor};
+use hw_doubles::{MemAsk, MemDoor, MemSession, SureDoor, WatchedDoor};
 use hw_io::{Door, DoorNumbers};
 
 /// What a door answers to the steps, and what it tells then.
@@ -96,4 +96,28 @@ fn put_numbers(answer: &mut Answer, numbers: DoorNumbers) {
     answer.labelled(" dials ", numbers.dials);
     answer.labelled(" ends ", numbers.ends);
     answer.labelled(" faults ", numbers.faults);
+}
+
+/// The same of a door that tells the calls of `read` in its last session, and with how much read and written each came.
+pub fn watched_text(answer: &mut Answer, peers: &str, steps: &str) {
+    let mut door = WatchedDoor::new(answer.alloc());
+    for peer in peers.split(',') {
+        if peer != "-" {
+            let expected = door.expect(peer.as_bytes());
+            answer.keep(expected);
+        }
+    }
+    walk(answer, &mut door, steps);
+    put_sessions(answer, door.sessions());
+    put_asks(answer, door.asks());
+}
+
+fn put_asks(answer: &mut Answer, asks: &[MemAsk]) {
+    for ask in asks {
+        answer.characters(ask.heard());
+        answer.put("/");
+        answer.characters(ask.said());
+        answer.put(" ");
+    }
+    answer.labelled("asks ", asks.len() as u64);
 }

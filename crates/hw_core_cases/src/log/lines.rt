@@ -1,7 +1,7 @@
 //! Lines of words.
 
 use crate::log::consumers::consumer_text;
-use crate::log::doors::{door_text, sure_text};
+use crate::log::doors::{door_text, sure_text, watched_text};
 use crate::log::files::{buffered, files_text};
 use crate::log::logs::{both, copied, counted, cuts, faults, missing};
 use crate::log::rewritten::{failed_in_turn, rewritten};
@@ -41,6 +41,7 @@ fn of_two(answer: &mut Answer, kind: &str, first: &str, second: &str) {
         "both" => both(answer, first, second),
         "faults" => failed_in_turn(answer, first, second),
         "sure" => sure_text(answer, first, second),
+        "watched" => watched_text(answer, first, second),
         "consumer" => consumer_text(answer, first, second),
         _ => answer.refuse(),
     }
