@@ -172,7 +172,7 @@ def main(words):
         return 2
     print("\n".join(["", "processor seconds:", *table(costs)]))
     minutes = f"{sum(costs.values()) / 60:.0f} processor minutes, {clock / 60:.0f} by the clock"
-    print(f"{minutes}, {os.cpu_count()} processors")
+    print(f"{minutes}, {len(os.sched_getaffinity(0))} processors")
     return status
 
 
