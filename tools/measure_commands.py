@@ -19,12 +19,12 @@ proves nothing.
 """
 import argparse
 import contextlib
+import functools
 import hashlib
 import json
 import math
 import os
 import pathlib
-import re
 import socket
 import statistics
 import subprocess
@@ -34,7 +34,7 @@ import time
 from dataclasses import replace
 
 from lens_log import ABSENT, read_log, spelled_vertex, unit_signature
-from measure_replay import Failed, made, table
+from measure_replay import Failed, instructions_of, made, seconds_of, table, used
 from rejoin import free_port
 
 EVEN = "rounds --validators 10 --rounds 1000"
@@ -44,39 +44,20 @@ SERVED = "rounds --validators 10 --rounds 200"
 HELLO, VERTEX, DONE = b"\1", b"\2", b"\5"
 
 
-def run(program, *words, status=0):
-    """What a run used: processor seconds, and the most memory in bytes."""
-    with tempfile.TemporaryDirectory() as folder:
-        started = subprocess.Popen([program, *map(str, words)], cwd=folder, stdout=subprocess.DEVNULL, stderr=subprocess.PIPE)
-        said = started.stderr.read()
-        _, ended, used = os.wait4(started.pid, 0)
-        started.returncode = os.waitstatus_to_exitcode(ended)
-        started.stderr.close()
-    if started.returncode != status:
-        raise Failed(f"{program} {words[0]}: status {started.returncode}: {said.decode(errors='replace').strip()}")
-    return used.ru_utime + used.ru_stime, used.ru_maxrss * 1024
-
-
-def counted(program, *words):
-    """The instructions of a run, in millions."""
-    with tempfile.TemporaryDirectory() as folder:
-        counter = ["valgrind", "--tool=callgrind", "--callgrind-out-file=counts"]
-        ran = subprocess.run([*counter, program, *map(str, words)], cwd=folder, capture_output=True, text=True, check=False)
-    found = re.search(r"Collected : (\d+)", ran.stderr)
-    if ran.returncode or not found:
-        raise Failed(f"{program} {words[0]} under valgrind: status {ran.returncode}: {ran.stderr.strip()}")
-    return int(found[1]) / 1e6
-
-
 def cost(options, program, *words):
-    """What a run costs: instructions where they are asked for, else seconds."""
-    return counted(program, *words) if options.instructions else run(program, *words)[0]
+    """What a run costs: millions of instructions where they are asked for, else seconds."""
+    return instructions_of(program, *words) / 1e6 if options.instructions else seconds_of(program, *words)
+
+
+def runs_of(options):
+    """How many runs there are of each: instructions are counted once."""
+    return 1 if options.instructions else options.runs
 
 
 def medians(options, one, other):
     """The medians of the costs of two calls in turn, and of their ratios."""
     ours, others = [], []
-    for _ in range(1 if options.instructions else options.runs):
+    for _ in range(runs_of(options)):
         ours.append(one())
         others.append(other())
     ratios = [left / right if right else math.inf for left, right in zip(ours, others)]
@@ -178,7 +159,7 @@ def served(program, folder, log, frames):
 def replayed(program, log):
     """The seconds of a replay by the clock."""
     began = time.perf_counter()
-    run(program, "replay", log)
+    used(program, "replay", log)
     return time.perf_counter() - began
 
 
@@ -218,7 +199,7 @@ def beside_row(options, name):
     words = words_of(name, options.logs)
     said = " ".join(str(word.name) if isinstance(word, pathlib.Path) else word for word in words)
     if not options.beside:
-        return [said, f"{statistics.median(cost(options, options.program, *words) for _ in range(options.runs)):.3f}", "", ""]
+        return [said, f"{statistics.median(cost(options, options.program, *words) for _ in range(runs_of(options))):.3f}", "", ""]
     return [said, *shown(*medians(options, lambda: cost(options, options.program, *words), lambda: cost(options, options.beside, *words)))]
 
 
@@ -227,7 +208,7 @@ def version_row(options, words):
     log = made(options.logs, words).path
     newer = log.with_suffix(".version2")
     if not newer.exists():
-        run(options.program, "migrate", log, newer)
+        used(options.program, "migrate", log, newer)
     one, other = (lambda: cost(options, options.program, "replay", newer)), (lambda: cost(options, options.program, "replay", log))
     return [words, *shown(*medians(options, one, other))]
 
@@ -235,12 +216,12 @@ def version_row(options, words):
 def memory_row(options, words):
     """The most memory of a replay beside the bytes of its log, in MB."""
     log = made(options.logs, words)
-    most = run(options.program, "replay", log.path)[1]
+    most = used(options.program, "replay", log.path).ru_maxrss * 1024
     return [words, f"{most / 1e6:.1f}", f"{log.size / 1e6:.1f}", f"{most / log.size:.2f}"]
 
 
 ROWS = {
-    **{name: (lambda name: lambda options: beside_row(options, name))(name) for name in ("explain", "audit", "script", "gen", "sim")},
+    **{name: functools.partial(beside_row, name=name) for name in ("explain", "audit", "script", "gen", "sim")},
     "version2-even": lambda options: version_row(options, EVEN),
     "version2-wide": lambda options: version_row(options, WIDE),
     "memory-10": lambda options: memory_row(options, EVEN),

@@ -95,28 +95,46 @@ def made(folder, words):
     return Log(path, path.stat().st_size)
 
 
-def seconds(program, log):
-    """The processor seconds of one replay of the log."""
+def used(program, *words):
+    """What a run of a program used of the machine, as `os.wait4` has it."""
     with tempfile.TemporaryDirectory() as folder:
-        running = subprocess.Popen([program, "replay", str(log.path)], cwd=folder, stdout=subprocess.DEVNULL, stderr=subprocess.PIPE)
+        running = subprocess.Popen([program, *map(str, words)], cwd=folder, stdout=subprocess.DEVNULL, stderr=subprocess.PIPE)
         said = running.stderr.read()
-        _, ended, used = os.wait4(running.pid, 0)
+        _, ended, usage = os.wait4(running.pid, 0)
         running.returncode = os.waitstatus_to_exitcode(ended)
         running.stderr.close()
     if running.returncode:
-        raise Failed(f"{program} replay {log.path}: status {running.returncode}: {said.decode(errors='replace').strip()}")
-    return used.ru_utime + used.ru_stime
+        told = " ".join(map(str, words))
+        raise Failed(f"{program} {told}: status {running.returncode}: {said.decode(errors='replace').strip()}")
+    return usage
+
+
+def seconds_of(program, *words):
+    """The processor seconds of a run, user and system."""
+    usage = used(program, *words)
+    return usage.ru_utime + usage.ru_stime
+
+
+def instructions_of(program, *words):
+    """The instructions of a run."""
+    with tempfile.TemporaryDirectory() as folder:
+        counter = ["valgrind", "--tool=callgrind", "--callgrind-out-file=counts"]
+        ran = subprocess.run([*counter, program, *map(str, words)], cwd=folder, capture_output=True, text=True, check=False)
+    counted = re.search(r"Collected : (\d+)", ran.stderr)
+    if ran.returncode or not counted:
+        told = " ".join(map(str, words))
+        raise Failed(f"{program} {told} under valgrind: status {ran.returncode}: {ran.stderr.strip()}")
+    return int(counted[1])
+
+
+def seconds(program, log):
+    """The processor seconds of one replay of the log."""
+    return seconds_of(program, "replay", log.path)
 
 
 def instructions(program, log):
     """The instructions of one replay of the log."""
-    with tempfile.TemporaryDirectory() as folder:
-        counter = ["valgrind", "--tool=callgrind", "--callgrind-out-file=counts"]
-        ran = subprocess.run([*counter, program, "replay", str(log.path)], cwd=folder, capture_output=True, text=True, check=False)
-    counted = re.search(r"Collected : (\d+)", ran.stderr)
-    if ran.returncode or not counted:
-        raise Failed(f"{program} replay {log.path} under valgrind: status {ran.returncode}: {ran.stderr.strip()}")
-    return int(counted[1])
+    return instructions_of(program, "replay", log.path)
 
 
 def compared(options, log):

@@ -63,7 +63,7 @@ class Measured(unittest.TestCase):
     def test_a_run_that_fails(self):
         status, _, err = said_by([*self.words(self.program("bad", "echo no >&2; exit 8")), "gen"])
         self.assertEqual(status, 2)
-        self.assertRegex(err, r"bad gen: status 8: no")
+        self.assertRegex(err, r"bad gen 10 3000: status 8: no")
 
     def test_memory(self):
         status, out, _ = said_by([*self.words(self.program("good", "exit 0")), "memory-10"])
