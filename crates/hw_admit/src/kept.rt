@@ -1,7 +1,6 @@
 //! A fork choice that is kept for its panorama.
 
-ghost use Rattle.std.specs.Prelude.{◌≡◌, ◌≤◌, ◌<◌, length, true, ℕ, List, IfOk, IsTrue};
-ghost use Rattle.std.specs.Option.{option_map};
+ghost use Rattle.std.specs.{Prelude.{◌≡◌, ◌≤◌, ◌<◌, length, true, ℕ, List, IfOk, IsTrue}, Option.{option_map}};
 ghost use Rattle.hw_types.specs.Votes.{fork_of};
 ghost use Rattle.hw_dag.specs.declared.numbers.UnitNo.{UnitNo as Number};
 ghost use Rattle.hw_dag.specs.Dag.{UnitGraph, graph, observations, node_at, IsPanorama};

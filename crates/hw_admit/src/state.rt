@@ -15,11 +15,9 @@ ghost use Rattle.hw_dag.specs.Dag.{UnitGraph, graph, count_of, node_at, view_at,
 ghost use Rattle.hw_dag.specs.Admission.{IsGraph, IsNew, IsResolved, IsFork, node_prepared};
 ghost use Rattle.hw_dag.specs.Lanes.{AreWeights};
 ghost use Rattle.hw_endorse.specs.Told.{added_of, is_told, with_pair, has_majority, HaveMajority};
-ghost use Rattle.hw_naivety.specs.Naivety.{KeepsEndorsed, IsNoted, HasNoNaiveFork, HasSight, IsLeastNaiveFork};
-ghost use Rattle.hw_naivety.specs.Tips.{HasLists};
+ghost use Rattle.hw_naivety.specs.{Naivety.{KeepsEndorsed, IsNoted, HasNoNaiveFork, HasSight, IsLeastNaiveFork}, Tips.{HasLists}};
 ghost use Rattle.hw_rules.specs.Judged.{KeepsLocalRules};
-ghost use Rattle.hw_admit.specs.Kept.{IsKept};
-ghost use Rattle.hw_admit.specs.State.{NodeState, IsState, IsStartFault, IsAdmitted, MarksAreMet, is_faulty_in, is_marked, observed_in, told_in};
+ghost use Rattle.hw_admit.specs.{Kept.{IsKept}, State.{NodeState, IsState, IsStartFault, IsAdmitted, MarksAreMet, is_faulty_in, is_marked, observed_in, told_in}};
 
 use crate::kept::KeptFork;
 use crate::start::StateStart;

@@ -1,13 +1,9 @@
 //! Units of the two journals that differ and have one digest.
 
-ghost use Rattle.std.specs.Prelude.{◌≡◌, List, [], ◌∷◌, ◌++◌, Some, IfOk, OnOk};
-ghost use Rattle.std.specs.Option.{option_map};
-ghost use Rattle.std.specs.Map.{lookup};
-ghost use Rattle.hw_types.specs.Graph.{digest_eq};
-ghost use Rattle.hw_types.specs.Spelling.{unit_bytes};
+ghost use Rattle.std.specs.{Prelude.{◌≡◌, List, [], ◌∷◌, ◌++◌, Some, IfOk, OnOk}, Option.{option_map}, Map.{lookup}};
+ghost use Rattle.hw_types.specs.{Graph.{digest_eq}, Spelling.{unit_bytes}};
 ghost use Rattle.hw_safety.specs.declared.verdict.Verdict.TheVariants as Verdict;
-ghost use Rattle.hw_audit.specs.Clashes.{AreKnown, known_with, unlike, clash_with, first_clash};
-ghost use Rattle.hw_audit.specs.Held.{HeldUnit};
+ghost use Rattle.hw_audit.specs.{Clashes.{AreKnown, known_with, unlike, clash_with, first_clash}, Held.{HeldUnit}};
 
 use crate::held::{Held, are_one};
 use hw_codec::encode_unit;

@@ -1,11 +1,8 @@
 //! The validators that equivocated, each with the two units that show it.
 
 ghost use Rattle.std.specs.Prelude.{◌≡◌, ◌+◌, ◌<◌, ◌≤◌, ◌^◌, List, length, sum, take, slice_index, IfOk, OnOk};
-ghost use Rattle.hw_types.specs.Graph.{Node};
-ghost use Rattle.hw_types.specs.Spelling.{signed_bytes};
-ghost use Rattle.hw_audit.specs.Held.{HeldUnit};
-ghost use Rattle.hw_audit.specs.Twins.{AreNoted, AreShown};
-ghost use Rattle.hw_audit.specs.Shown.{shown_as, ShowsFirst};
+ghost use Rattle.hw_types.specs.{Graph.{Node}, Spelling.{signed_bytes}};
+ghost use Rattle.hw_audit.specs.{Held.{HeldUnit}, Twins.{AreNoted, AreShown}, Shown.{shown_as, ShowsFirst}};
 
 use crate::held::Held;
 use crate::twins::{Equivocations, Pair};

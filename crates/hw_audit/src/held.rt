@@ -1,9 +1,7 @@
 //! The units that stand in a journal.
 
 ghost use Rattle.std.specs.Prelude.{◌≡◌, List, ◌∷◌, ◌++◌, true, OnOk, IfOk};
-ghost use Rattle.hw_types.specs.declared.unit.Vertex.{Vertex as Accepted};
-ghost use Rattle.hw_types.specs.Same.{unit_eq};
-ghost use Rattle.hw_types.specs.Spelling.{Fits, VertexFits, digest_of};
+ghost use Rattle.hw_types.specs.{declared.unit.Vertex.{Vertex as Accepted}, Same.{unit_eq}, Spelling.{Fits, VertexFits, digest_of}};
 ghost use Rattle.hw_dag.specs.Dag.{graph};
 ghost use Rattle.hw_core.specs.Readers.{names_of};
 ghost use Rattle.hw_audit.specs.Held.{held_as, held_by, is_settled};

@@ -1,14 +1,10 @@
 //! Two nodes side by side.
 
 ghost use Rattle.std.specs.Prelude.{◌≡◌, ◌≢◌, ◌↔◌, ◌++◌, List, Err, IfOk, OnOk};
-ghost use Rattle.hw_types.specs.declared.answers.Decision.{Decision};
-ghost use Rattle.hw_types.specs.Real.{setting_of};
+ghost use Rattle.hw_types.specs.{declared.answers.Decision.{Decision}, Real.{setting_of}};
 ghost use Rattle.hw_safety.specs.Verdicts.{chain_of};
-ghost use Rattle.hw_audit.specs.Read.{units_of, IsAnswer};
-ghost use Rattle.hw_audit.specs.First.{ShowsFirstClash};
+ghost use Rattle.hw_audit.specs.{Read.{units_of, IsAnswer}, First.{ShowsFirstClash}, Audit.{IsVerdictOn, IsWeighty}, declared.nodes.AuditError.TheVariants as AuditErrors};
 ghost use Rattle.hw_core.specs.Decided.{decided_in};
-ghost use Rattle.hw_audit.specs.Audit.{IsVerdictOn, IsWeighty};
-ghost use Rattle.hw_audit.specs.declared.nodes.AuditError.TheVariants as AuditErrors;
 
 use crate::held::{Held, put_units};
 use crate::same::is_same_config;

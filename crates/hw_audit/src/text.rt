@@ -1,7 +1,6 @@
 //! The verdict as text.
 
-ghost use Rattle.std.specs.Prelude.{◌≡◌, ◌++◌, IfOk, OnOk};
-ghost use Rattle.std.specs.List.{flat_map};
+ghost use Rattle.std.specs.{Prelude.{◌≡◌, ◌++◌, IfOk, OnOk}, List.{flat_map}};
 ghost use Rattle.hex.specs.Hex.{encode_lower};
 ghost use Rattle.hw_text.specs.Text.{digest_text};
 ghost use Rattle.hw_audit.specs.Text.{name_in, culprit_line, agree_line, height_words, block_words, conflict_line, weight_line, clash_lines, audit_text};

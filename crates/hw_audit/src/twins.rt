@@ -1,10 +1,7 @@
 //! Units of one creator and one sequence number that differ.
 
-ghost use Rattle.std.specs.Prelude.{◌≡◌, ◌<◌, ◌⊎◌, ◌↔◌, List, [], ◌∷◌, ◌++◌, length, true, false, Some, IsTrue, IfOk, OnOk};
-ghost use Rattle.std.specs.Option.{option_copied};
-ghost use Rattle.std.specs.Map.{lookup};
-ghost use Rattle.hw_types.specs.Graph.{Node};
-ghost use Rattle.hw_types.specs.Culprits.{stands_before};
+ghost use Rattle.std.specs.{Prelude.{◌≡◌, ◌<◌, ◌⊎◌, ◌↔◌, List, [], ◌∷◌, ◌++◌, length, true, false, Some, IsTrue, IfOk, OnOk}, Option.{option_copied}, Map.{lookup}};
+ghost use Rattle.hw_types.specs.{Graph.{Node}, Culprits.{stands_before}};
 ghost use Rattle.hw_audit.specs.Held.{HeldUnit, node_held};
 ghost use Rattle.hw_audit.specs.Twins.{place_of, place_eq, Precedes, AreOne, IsLesser, AreTwins, AreTwinsAt, AreTwinsOfEach, HasTwins, IsLowered, AreNoted, AreShown, pair_in, IsPairOf};
 ghost use Rattle.hw_safety.specs.Pairs.{lower_of};

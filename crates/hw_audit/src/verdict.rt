@@ -1,12 +1,8 @@
 //! The verdict over the units and the decided blocks of two journals.
 
 ghost use Rattle.std.specs.Prelude.{◌≡◌, ◌<◌, ◌≤◌, ◌^◌, List, length, sum, IfOk};
-ghost use Rattle.hw_types.specs.declared.unit.Vertex.{Vertex};
-ghost use Rattle.hw_types.specs.declared.config.Config.{Config as Configured};
-ghost use Rattle.hw_types.specs.declared.answers.Decision.{Decision};
-ghost use Rattle.hw_types.specs.Graph.{Node};
-ghost use Rattle.hw_audit.specs.Twins.{AreShown};
-ghost use Rattle.hw_audit.specs.Read.{IsRead, IsConflict, IsAnswer};
+ghost use Rattle.hw_types.specs.{declared.unit.Vertex.{Vertex}, declared.config.Config.{Config as Configured}, declared.answers.Decision.{Decision}, Graph.{Node}};
+ghost use Rattle.hw_audit.specs.{Twins.{AreShown}, Read.{IsRead, IsConflict, IsAnswer}};
 
 use crate::chains::{Parting, first_parting};
 use crate::clash::first_clash;

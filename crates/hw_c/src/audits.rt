@@ -1,8 +1,7 @@
 //! What two nodes say of each other.
 
 ghost use Rattle.std.specs.Prelude.{◌≡◌, length};
-ghost use Rattle.hw_c.specs.Audits.{audited_of, IsAudit, IsAuditPut};
-ghost use Rattle.hw_c.specs.Told.{status};
+ghost use Rattle.hw_c.specs.{Audits.{audited_of, IsAudit, IsAuditPut}, Told.{status}};
 
 use crate::codes::{Fault, OK, status_of};
 use crate::put::copy_bytes;

@@ -1,8 +1,7 @@
 //! Deliveries of several vertices to one node.
 
 ghost use Rattle.std.specs.Prelude.{◌≡◌, ◌≤◌, length};
-ghost use Rattle.hw_c.specs.Deliveries.{IsDeliveryOf, AreDeliveries, AreAnswered};
-ghost use Rattle.hw_c.specs.Named.{name_of};
+ghost use Rattle.hw_c.specs.{Deliveries.{IsDeliveryOf, AreDeliveries, AreAnswered}, Named.{name_of}};
 
 use crate::calls;
 use crate::codes::Fault;

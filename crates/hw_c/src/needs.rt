@@ -2,9 +2,7 @@
 
 ghost use Rattle.std.specs.Prelude.{◌≡◌, ◌++◌, ◌≤◌, length, map, take, drop, IfOk, Option};
 ghost use Rattle.hw_types.specs.declared.unit.Need.{Need};
-ghost use Rattle.hw_c.specs.Answers.{missing_of};
-ghost use Rattle.hw_c.specs.Calls.{IsUnmet};
-ghost use Rattle.hw_c.specs.Needed.{need_of, IsForNeed};
+ghost use Rattle.hw_c.specs.{Answers.{missing_of}, Calls.{IsUnmet}, Needed.{need_of, IsForNeed}};
 
 use crate::codes::Fault;
 use hw_codec::encode_vertex;

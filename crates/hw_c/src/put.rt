@@ -1,8 +1,7 @@
 //! How an outcome goes to the caller.
 
 ghost use Rattle.std.specs.Prelude.{◌≡◌, length};
-ghost use Rattle.hw_c.specs.Told.{status, behind, Puts, PutsWith, receipt_answer};
-ghost use Rattle.hw_c.specs.Buffers.{IsWritten, copied};
+ghost use Rattle.hw_c.specs.{Told.{status, behind, Puts, PutsWith, receipt_answer}, Buffers.{IsWritten, copied}};
 
 use crate::codes::{Answer, Fault, OK, answer_of, blank, rule_number, status_of};
 use hw_types::{Bytes, Receipt};

@@ -2,8 +2,7 @@
 
 ghost use Rattle.std.specs.Prelude.{◌≡◌, IfOk};
 ghost use Rattle.hw_types.specs.Spelling.{Fits, VertexFits};
-ghost use Rattle.hw_c.specs.Answers.{signer_of, signed_of, no_signer};
-ghost use Rattle.hw_c.specs.Calls.{IsSigned};
+ghost use Rattle.hw_c.specs.{Answers.{signer_of, signed_of, no_signer}, Calls.{IsSigned}};
 
 use crate::codes::Fault;
 use hw_codec::{decode_vertex, digest_of};

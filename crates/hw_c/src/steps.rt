@@ -1,13 +1,8 @@
 //! The unit that a validator may make now.
 
 ghost use Rattle.std.specs.Prelude.{◌≡◌, ◌<◌, ◌≤◌, ◌^◌, ℕ, length, IfOk, OnOk, Option};
-ghost use Rattle.hw_types.specs.Real.{setting_of, received_in};
-ghost use Rattle.hw_types.specs.Spelling.{Fits};
-ghost use Rattle.hw_types.specs.Step.{step};
-ghost use Rattle.hw_c.specs.Answers.{plan_number};
-ghost use Rattle.hw_c.specs.Calls.{IsWithSignature};
-ghost use Rattle.hw_c.specs.Steps.{IsStep, IsSpelledStep, IsStepPut};
-ghost use Rattle.hw_c.specs.Told.{status};
+ghost use Rattle.hw_types.specs.{Real.{setting_of, received_in}, Spelling.{Fits}, Step.{step}};
+ghost use Rattle.hw_c.specs.{Answers.{plan_number}, Calls.{IsWithSignature}, Steps.{IsStep, IsSpelledStep, IsStepPut}, Told.{status}};
 
 use crate::codes::{Fault, OK, status_of};
 use crate::put::copy_bytes;

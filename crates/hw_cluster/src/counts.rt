@@ -1,7 +1,6 @@
 //! What is counted of a cluster.
 
-ghost use Rattle.std.specs.Prelude.{◌≡◌, ◌<◌, ◌≤◌, ℕ, false, [], List, length, max};
-ghost use Rattle.std.specs.List.{list_any};
+ghost use Rattle.std.specs.{Prelude.{◌≡◌, ◌<◌, ◌≤◌, ℕ, false, [], List, length, max}, List.{list_any}};
 ghost use Rattle.hw_types.specs.declared.config.Config.{Config as Configuration};
 ghost use Rattle.hw_types.specs.declared.unit.Vertex.{Vertex as AVertex};
 ghost use Rattle.hw_types.specs.Culprits.{signed_in};
@@ -9,8 +8,7 @@ ghost use Rattle.hw_types.specs.Real.{setting_of};
 ghost use Rattle.hw_types.specs.Same.{unit_eq};
 ghost use Rattle.hw_honest.specs.Simulated.{culprits_in, IsMostDecisions};
 ghost use Rattle.hw_safety.specs.Verdicts.{held_in};
-ghost use Rattle.hw_cluster.specs.Counts.{is_other, has_other, equivocates_in};
-ghost use Rattle.hw_cluster.specs.Nodes.{nodes_of, HaveConfig};
+ghost use Rattle.hw_cluster.specs.{Counts.{is_other, has_other, equivocates_in}, Nodes.{nodes_of, HaveConfig}};
 
 use crate::named::NamedVertex;
 use hw_core::Core;

@@ -3,13 +3,10 @@
 
 ghost use Rattle.std.specs.Prelude.{◌≡◌, ◌+◌, ◌<◌, ◌≤◌, length, None, IfOk, OnOk};
 ghost use Rattle.rand_chacha.specs.ChaCha.{key_of};
-ghost use Rattle.hw_types.specs.Limits.{config_fault};
-ghost use Rattle.hw_types.specs.Real.{setting_of};
+ghost use Rattle.hw_types.specs.{Limits.{config_fault}, Real.{setting_of}};
 ghost use Rattle.hw_core.specs.Promises.{begun};
 ghost use Rattle.hw_honest.specs.Generated.{gen_config, gen_key, gen_journal, journal_of_rounds, AreTotals};
-ghost use Rattle.hw_cluster.specs.Generating.{given, IsAfter};
-ghost use Rattle.hw_cluster.specs.Nodes.{AllFit};
-ghost use Rattle.hw_cluster.specs.Numbers.{word_in, totals_of};
+ghost use Rattle.hw_cluster.specs.{Generating.{given, IsAfter}, Nodes.{AllFit}, Numbers.{word_in, totals_of}};
 
 use crate::lanes::Lanes;
 use crate::made::{ROUND, make_round};

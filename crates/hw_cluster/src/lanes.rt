@@ -1,7 +1,6 @@
 //! The last unit of each validator, and the next ones over them.
 
-ghost use Rattle.std.specs.Prelude.{◌≡◌, ◌^◌, ◌<◌, ◌≤◌, length, map, replicate, slice_index_or, None, IfOk};
-ghost use Rattle.std.specs.List.{range_with_len};
+ghost use Rattle.std.specs.{Prelude.{◌≡◌, ◌^◌, ◌<◌, ◌≤◌, length, map, replicate, slice_index_or, None, IfOk}, List.{range_with_len}};
 ghost use Rattle.hw_types.specs.Spelling.{digest_of};
 ghost use Rattle.hw_cluster.specs.Lanes.{seq_behind, observed, highest, unit_over, with_unit};
 

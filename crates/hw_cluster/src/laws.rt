@@ -1,7 +1,6 @@
 //! Laws of clusters.
 
-ghost use Rattle.hw_cluster.specs.Laws.{NodesNeverEquivocate, NodesAreNeverFaulty, NodesDecideOneChain};
-ghost use Rattle.hw_cluster.specs.Worked.{NumbersAreWorkedOut, TotalsAreWorkedOut};
+ghost use Rattle.hw_cluster.specs.{Laws.{NodesNeverEquivocate, NodesAreNeverFaulty, NodesDecideOneChain}, Worked.{NumbersAreWorkedOut, TotalsAreWorkedOut}};
 
 /// Whatever the order of the actions, and whatever is forged, no node equivocates, and none is held to be
 /// faulty.

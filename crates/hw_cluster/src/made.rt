@@ -1,17 +1,9 @@
 //! The units of a round.
 
-ghost use Rattle.std.specs.Prelude.{◌≡◌, ◌+◌, ◌*◌, ◌^◌, ◌<◌, ◌≤◌, ◌==◌, not, ◌++◌, List, length, map, filter, fold, IfOk, OnOk};
-ghost use Rattle.std.specs.Option.{option_map};
-ghost use Rattle.hw_types.specs.declared.config.Config.{Config as Configuration};
-ghost use Rattle.hw_types.specs.Graph.{Node};
-ghost use Rattle.hw_types.specs.Real.{setting_of};
-ghost use Rattle.hw_types.specs.Rounds.{leader_of};
-ghost use Rattle.hw_types.specs.Spelling.{u32_bytes};
-ghost use Rattle.hw_honest.specs.Cluster.{signed};
-ghost use Rattle.hw_honest.specs.Generated.{units_of_round};
-ghost use Rattle.hw_cluster.specs.Lanes.{highest, unit_over, with_unit};
-ghost use Rattle.hw_cluster.specs.Made.{lanes_of, made_over, vertices_of, AreOurs, AreBelow};
-ghost use Rattle.hw_cluster.specs.Nodes.{AllFit};
+ghost use Rattle.std.specs.{Prelude.{◌≡◌, ◌+◌, ◌*◌, ◌^◌, ◌<◌, ◌≤◌, ◌==◌, not, ◌++◌, List, length, map, filter, fold, IfOk, OnOk}, Option.{option_map}};
+ghost use Rattle.hw_types.specs.{declared.config.Config.{Config as Configuration}, Graph.{Node}, Real.{setting_of}, Rounds.{leader_of}, Spelling.{u32_bytes}};
+ghost use Rattle.hw_honest.specs.{Cluster.{signed}, Generated.{units_of_round}};
+ghost use Rattle.hw_cluster.specs.{Lanes.{highest, unit_over, with_unit}, Made.{lanes_of, made_over, vertices_of, AreOurs, AreBelow}, Nodes.{AllFit}};
 
 use crate::lanes::Lanes;
 use crate::named::NamedVertex;

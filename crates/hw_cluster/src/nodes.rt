@@ -1,13 +1,11 @@
 //! A cluster and its actions.
 
 ghost use Rattle.std.specs.Prelude.{◌≡◌, ◌^◌, ◌<◌, ◌≤◌, [], length, replicate, None, IfOk, IfErr, OnOk, OnErr};
-ghost use Rattle.hw_types.specs.Limits.{config_fault};
-ghost use Rattle.hw_types.specs.Real.{setting_of};
+ghost use Rattle.hw_types.specs.{Limits.{config_fault}, Real.{setting_of}};
 ghost use Rattle.hw_admit.specs.State.{IsStartFault};
 ghost use Rattle.hw_core.specs.Promises.{begun as begun_core};
 ghost use Rattle.hw_honest.specs.Simulated.{culprits_in, IsMostDecisions};
-ghost use Rattle.hw_cluster.specs.Nodes.{begun_with, nodes_in, node_in, CanAct, acted_in, left_by, IsReached};
-ghost use Rattle.hw_cluster.specs.Laws.{AreApart};
+ghost use Rattle.hw_cluster.specs.{Nodes.{begun_with, nodes_in, node_in, CanAct, acted_in, left_by, IsReached}, Laws.{AreApart}};
 
 use crate::acts::act_on;
 use crate::counts::{count_culprits, most_decisions};

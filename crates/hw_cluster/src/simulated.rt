@@ -4,8 +4,7 @@ ghost use Rattle.std.specs.Prelude.{◌≡◌, ◌+◌, ◌*◌, ◌^◌, ◌<�
 ghost use Rattle.hw_types.specs.Real.{setting_of};
 ghost use Rattle.hw_honest.specs.Cluster.{Cluster as Nodes, begun, after, answers_in};
 ghost use Rattle.hw_honest.specs.Simulated.{next_action, actions_from, is_refused, sim_config, sim_key, sim_setting, sim_actions, culprits_in, IsMostDecisions, AreNumbers};
-ghost use Rattle.hw_cluster.specs.Nodes.{begun_with, nodes_in, acted_in, left_by};
-ghost use Rattle.hw_cluster.specs.Numbers.{word_in, numbers_of, action_at};
+ghost use Rattle.hw_cluster.specs.{Nodes.{begun_with, nodes_in, acted_in, left_by}, Numbers.{word_in, numbers_of, action_at}};
 
 use crate::nodes::Cluster;
 use crate::words::{Words, key_for};

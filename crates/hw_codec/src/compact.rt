@@ -1,11 +1,8 @@
 //! The compact form of a unit: what changed since its creator's last one. A log of version 2 alone
 //! has it, as a vertex of kind 4.
 
-ghost use Rattle.std.specs.Prelude.{◌≡◌, ◌≤◌, ◌<◌, ◌^◌, ◌++◌, length, slice_index, Ok, IfOk, IfErr, OnOk};
-ghost use Rattle.std.specs.Option.{option_copied, option_to_list};
-ghost use Rattle.hw_types.specs.declared.unit.Vertex.{Vertex};
-ghost use Rattle.hw_types.specs.Reading.{Gives, whole, vertex_of};
-ghost use Rattle.hw_types.specs.Spelling.{Fits, VertexFits, counted};
+ghost use Rattle.std.specs.{Prelude.{◌≡◌, ◌≤◌, ◌<◌, ◌^◌, ◌++◌, length, slice_index, Ok, IfOk, IfErr, OnOk}, Option.{option_copied, option_to_list}};
+ghost use Rattle.hw_types.specs.{declared.unit.Vertex.{Vertex}, Reading.{Gives, whole, vertex_of}, Spelling.{Fits, VertexFits, counted}};
 ghost use Rattle.hw_codec.specs.Decoded.{IsReadAs, IsErrorOf};
 ghost use Rattle.hw_codec.specs.Ranges.{VertexInRange};
 ghost use Rattle.hw_codec.specs.Last.{last_by, goes_on};

@@ -7,8 +7,7 @@ ghost use Rattle.hw_types.specs.declared.config.Config.{Config};
 ghost use Rattle.hw_types.specs.declared.answers.Frame.{Frame};
 ghost use Rattle.hw_types.specs.Reading.{Gives, unit_of, vertex_of, config_of, frame_of};
 ghost use Rattle.hw_types.specs.Spelling.{SpellsUnit, SpellsVertex, SpellsConfig, SpellsFrame};
-ghost use Rattle.hw_codec.specs.Ranges.{UnitInRange, VertexInRange, ConfigInRange, FrameInRange};
-ghost use Rattle.hw_codec.specs.Decoded.{IsReadAs, IsErrorOf};
+ghost use Rattle.hw_codec.specs.{Ranges.{UnitInRange, VertexInRange, ConfigInRange, FrameInRange}, Decoded.{IsReadAs, IsErrorOf}};
 
 use crate::config::read_config;
 use crate::frame::read_frame;

@@ -1,9 +1,7 @@
 //! What lists are made of: how one item is read and written, and how many are.
 
-ghost use Rattle.std.specs.Prelude.{◌≡◌, ◌≤◌, ◌<◌, ◌^◌, ◌/◌, ◌++◌, [], length, IfOk, OnOk, vec_capacity};
-ghost use Rattle.std.specs.Int.{w32, w64};
-ghost use Rattle.hw_types.specs.Reading.{Gives, number_at, digest_at, many_at, counted_at};
-ghost use Rattle.hw_types.specs.Spelling.{counted, u32_bytes, u64_bytes};
+ghost use Rattle.std.specs.{Prelude.{◌≡◌, ◌≤◌, ◌<◌, ◌^◌, ◌/◌, ◌++◌, [], length, IfOk, OnOk, vec_capacity}, Int.{w32, w64}};
+ghost use Rattle.hw_types.specs.{Reading.{Gives, number_at, digest_at, many_at, counted_at}, Spelling.{counted, u32_bytes, u64_bytes}};
 ghost use Rattle.std.proofs.Common.{lit<};
 
 use crate::reader::Reader;

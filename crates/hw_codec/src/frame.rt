@@ -2,8 +2,7 @@
 
 ghost use Rattle.std.specs.Prelude.{◌≡◌, ◌++◌, OnOk};
 ghost use Rattle.std.proofs.Common.{lit<};
-ghost use Rattle.hw_types.specs.Reading.{Gives, need_at, frame_at};
-ghost use Rattle.hw_types.specs.Spelling.{need_bytes, frame_bytes, FrameFits};
+ghost use Rattle.hw_types.specs.{Reading.{Gives, need_at, frame_at}, Spelling.{need_bytes, frame_bytes, FrameFits}};
 
 use crate::field::{Field, list_len, put_list, read_list};
 use crate::reader::Reader;

@@ -1,11 +1,8 @@
 //! The last unit of a validator, against which its next one is told in a log of version 2.
 
-ghost use Rattle.std.specs.Prelude.{◌≡◌, ◌≤◌, ◌<◌, length, get_or, IfOk};
-ghost use Rattle.std.specs.Option.{option_copied};
-ghost use Rattle.hw_types.specs.Spelling.{Fits, digest_of};
-ghost use Rattle.hw_types.specs.declared.unit.Obs.TheVariants.{Absent};
-ghost use Rattle.hw_codec.specs.Last.{last_of, last_by, goes_on, due};
-ghost use Rattle.hw_codec.specs.Compact.{base_of};
+ghost use Rattle.std.specs.{Prelude.{◌≡◌, ◌≤◌, ◌<◌, length, get_or, IfOk}, Option.{option_copied}};
+ghost use Rattle.hw_types.specs.{Spelling.{Fits, digest_of}, declared.unit.Obs.TheVariants.{Absent}};
+ghost use Rattle.hw_codec.specs.{Last.{last_of, last_by, goes_on, due}, Compact.{base_of}};
 
 use crate::encoding::digest_of;
 use hw_types::{Digest, Obs, ObsList, OutOfMemory, WireUnit};

@@ -1,7 +1,6 @@
 //! A cursor over bytes: it takes one field after the other, and knows where each begins.
 
-ghost use Rattle.std.specs.Prelude.{◌≡◌, ◌==◌, length, Ok, Err, if◌then◌else◌};
-ghost use Rattle.std.specs.Int.{w8, w32, w64};
+ghost use Rattle.std.specs.{Prelude.{◌≡◌, ◌==◌, length, Ok, Err, if◌then◌else◌}, Int.{w8, w32, w64}};
 ghost use Rattle.hw_types.specs.Reading.{Gives, bytes_at, number_at, count_at, digest_at};
 
 use hw_types::{CodecError, Digest};

@@ -1,8 +1,7 @@
 //! Units as bytes.
 
 ghost use Rattle.std.specs.Prelude.{◌≡◌, ◌≤◌, ◌++◌, ◌↔◌, length, IsTrue, IfOk, OnOk, IfSome};
-ghost use Rattle.hw_types.specs.Reading.{Gives, counted_at, obs_at, time_at, value_at, unit_at};
-ghost use Rattle.hw_types.specs.Spelling.{obs_bytes, value_bytes, unit_bytes, Fits};
+ghost use Rattle.hw_types.specs.{Reading.{Gives, counted_at, obs_at, time_at, value_at, unit_at}, Spelling.{obs_bytes, value_bytes, unit_bytes, Fits}};
 ghost use Rattle.std.proofs.Common.{lit<};
 
 use crate::field::{Field, list_len, put_list, read_list};

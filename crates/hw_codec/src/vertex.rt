@@ -1,8 +1,7 @@
 //! Vertices as bytes.
 
 ghost use Rattle.std.specs.Prelude.{◌≡◌, ◌++◌, OnOk};
-ghost use Rattle.hw_types.specs.Reading.{Gives, signed_at, vertex_at, vertex_behind};
-ghost use Rattle.hw_types.specs.Spelling.{signed_bytes, vertex_bytes, Fits, VertexFits};
+ghost use Rattle.hw_types.specs.{Reading.{Gives, signed_at, vertex_at, vertex_behind}, Spelling.{signed_bytes, vertex_bytes, Fits, VertexFits}};
 
 use crate::field::Field;
 use crate::reader::Reader;

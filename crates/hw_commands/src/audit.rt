@@ -1,21 +1,20 @@
 //! `audit`: what two logs say of each other.
 
 ghost use Rattle.std.specs.Prelude.{◌≡◌, ℕ, List, None, Some, Ok, Err, true, IsTrue, IfOk, IfErr};
-ghost use Rattle.hw_io.specs.Faults.{subject_of, FailsOrLacks};
-ghost use Rattle.hw_io.specs.Files.{SameFiles};
+ghost use Rattle.hw_io.specs.{Faults.{subject_of, FailsOrLacks}, Files.{SameFiles}};
 ghost use Rattle.hw_replay.specs.Taken.{Taken};
-ghost use Rattle.hw_log.specs.declared.error.LogError.TheVariants as LogErrors;
 ghost use Rattle.hw_replay.specs.declared.fault.StartFault.TheVariants as StartFaults;
 ghost use Rattle.hw_replay.specs.Replay.{same_config, replay_of, IsOutside, Replays};
 ghost use Rattle.hw_replay.specs.Causes.{HasReplayCause, IsReplayAbout, IsReadCounted as IsReplayCounted};
+ghost use Rattle.hw_log.specs.declared.error.LogError.TheVariants as LogErrors;
 ghost use Rattle.hw_commands.specs.declared.ended.RunFault.TheVariants as RunFaults;
 ghost use Rattle.hw_commands.specs.Faults.{HasReadFault, IsReadCounted, IsReadEnd, IsAuditEnd};
 ghost use Rattle.hw_commands.specs.Due.{FailsDue};
-ghost use Rattle.hw_light.specs.Checked.{IsCertified};
 ghost use Rattle.hw_commands.specs.Program.{ended, audit_said, or_parted, audited_with};
 ghost use Rattle.hw_commands.specs.Shown.{IsAlike};
 ghost use Rattle.hw_commands.specs.Audited.{status_of, verdict_ended, TellsVerdict};
 ghost use Rattle.hw_commands.specs.Conflict.{IsAudited, IsConflictOf};
+ghost use Rattle.hw_light.specs.Checked.{IsCertified};
 
 use crate::ended::{CLASH, CONFLICT, DONE, Ended, RunFault};
 use crate::faults::{other_config, stopped};

@@ -1,10 +1,8 @@
 //! `certify`: the certificate of a block that a log decided, in a new file.
 
 ghost use Rattle.std.specs.Prelude.{◌≡◌, ◌≢◌, ◌⊎◌, ◌↔◌, None, Ok, IsTrue, IsSome, IfOk, IfErr};
-ghost use Rattle.hw_io.specs.Faults.{Rose};
-ghost use Rattle.hw_io.specs.Files.{SameFiles};
-ghost use Rattle.hw_light.specs.Spelling.{CertificateFits};
-ghost use Rattle.hw_light.specs.Asked.{IfAnswered, told_in, told_of};
+ghost use Rattle.hw_io.specs.{Faults.{Rose}, Files.{SameFiles}};
+ghost use Rattle.hw_light.specs.{Spelling.{CertificateFits}, Asked.{IfAnswered, told_in, told_of}};
 ghost use Rattle.hw_commands.specs.Faults.{HasReadFault, HasRunFault, IsCertifyEnd};
 ghost use Rattle.hw_commands.specs.Due.{FailsDue};
 ghost use Rattle.hw_commands.specs.Files.{status_of};

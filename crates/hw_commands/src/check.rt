@@ -1,10 +1,7 @@
 //! `check`: what a certificate shows, by keys, and what a log says against it.
 
-ghost use Rattle.std.specs.Prelude.{◌≡◌, ◌≢◌, ◌++◌, length, codes, None, Some, Ok, IsTrue, IfOk, IfErr};
-ghost use Rattle.std.specs.List.{All};
-ghost use Rattle.std.specs.Option.{option_copied};
-ghost use Rattle.hw_types.specs.Limits.{config_fault};
-ghost use Rattle.hw_types.specs.Spelling.{VertexFits};
+ghost use Rattle.std.specs.{Prelude.{◌≡◌, ◌≢◌, ◌++◌, length, codes, None, Some, Ok, IsTrue, IfOk, IfErr}, List.{All}, Option.{option_copied}};
+ghost use Rattle.hw_types.specs.{Limits.{config_fault}, Spelling.{VertexFits}};
 ghost use Rattle.hw_io.specs.Files.{SameFiles};
 ghost use Rattle.hw_text.specs.Text.{number_text};
 ghost use Rattle.hw_light.specs.Checked.{IsCertified, IfYes};

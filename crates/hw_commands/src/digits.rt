@@ -1,7 +1,6 @@
 //! Digests as words.
 
-ghost use Rattle.std.specs.Prelude.{◌≡◌};
-ghost use Rattle.std.specs.List.{list_all};
+ghost use Rattle.std.specs.{Prelude.{◌≡◌}, List.{list_all}};
 ghost use Rattle.hw_keys.specs.Keys.{is_lower_digit};
 ghost use Rattle.hw_commands.specs.Commands.{digest_told};
 

@@ -2,8 +2,7 @@
 
 ghost use Rattle.std.specs.Prelude.{◌≡◌, ℕ, ◌≤◌, List, length, map, string_bytes, codes, Err, IsTrue, IfOk, IfErr};
 ghost use Rattle.hw_io.specs.Files.{SameFiles};
-ghost use Rattle.hw_eras.specs.Stops.{IsEraAbout, IsReadCounted as IsEraCounted};
-ghost use Rattle.hw_eras.specs.Turns.{StopsAt};
+ghost use Rattle.hw_eras.specs.{Stops.{IsEraAbout, IsReadCounted as IsEraCounted}, Turns.{StopsAt}};
 ghost use Rattle.hw_commands.specs.Faults.{HasReadFault, IsReadCounted, IsReadEnd, IsAuditEnd};
 ghost use Rattle.hw_commands.specs.Due.{IsDue, FailsDue};
 ghost use Rattle.hw_commands.specs.Texts.{input_ended};

@@ -3,12 +3,9 @@
 ghost use Rattle.std.specs.Prelude.{◌≡◌, ◌≢◌, ℕ, ◌++◌, codes, Some, IsTrue, IfOk, IfErr, OnOk};
 ghost use Rattle.hw_io.specs.Files.{SameFiles};
 ghost use Rattle.hex.specs.Hex.{encode_lower};
-ghost use Rattle.hw_text.specs.Text.{number_text};
-ghost use Rattle.hw_text.specs.Lines.{line_feed};
+ghost use Rattle.hw_text.specs.{Text.{number_text}, Lines.{line_feed}};
 ghost use Rattle.hw_log.specs.declared.error.LogError.TheVariants as LogErrors;
-ghost use Rattle.hw_replay.specs.declared.fault.StartFault.TheVariants as StartFaults;
-ghost use Rattle.hw_replay.specs.Replay.{IsOutside};
-ghost use Rattle.hw_replay.specs.Causes.{IsReadCounted as IsReplayCounted};
+ghost use Rattle.hw_replay.specs.{declared.fault.StartFault.TheVariants as StartFaults, Replay.{IsOutside}, Causes.{IsReadCounted as IsReplayCounted}};
 ghost use Rattle.hw_commands.specs.Faults.{HasReadFault, IsReadOf, IsReadCounted, IsReadEnd};
 ghost use Rattle.hw_commands.specs.Texts.{usage_line, log_text, input_ended, limit_ended, clash_ended, stopped_ended};
 ghost use Rattle.hw_commands.specs.declared.ended.RunFault.TheVariants as RunFaults;

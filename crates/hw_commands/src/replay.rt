@@ -1,13 +1,8 @@
 //! `replay`: the report on a log, of which consumers are told the decided blocks.
 
 ghost use Rattle.std.specs.Prelude.{◌≡◌, ◌≤◌, ◌++◌, None, length, IsTrue, IfOk, IfErr};
-ghost use Rattle.hw_io.specs.Faults.{FailsOrLacks};
-ghost use Rattle.hw_io.specs.Files.{SameFiles};
-ghost use Rattle.hw_replay.specs.Replay.{taken_in};
-ghost use Rattle.hw_replay.specs.Fates.{seen, AreServed};
-ghost use Rattle.hw_replay.specs.Told.{IsFinished};
-ghost use Rattle.hw_replay.specs.Feed.{file_replayed};
-ghost use Rattle.hw_replay.specs.Lines.{drop_lines};
+ghost use Rattle.hw_io.specs.{Faults.{FailsOrLacks}, Files.{SameFiles}};
+ghost use Rattle.hw_replay.specs.{Replay.{taken_in}, Fates.{seen, AreServed}, Told.{IsFinished}, Feed.{file_replayed}, Lines.{drop_lines}};
 ghost use Rattle.hw_commands.specs.Faults.{HasReadFault, IsReadEnd};
 ghost use Rattle.hw_commands.specs.Due.{FailsDue};
 ghost use Rattle.hw_commands.specs.Fed.{first_kept, IsReplayTold, IsReplayText};

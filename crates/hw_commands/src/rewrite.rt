@@ -2,10 +2,8 @@
 
 ghost use Rattle.std.specs.Prelude.{◌≡◌, ◌⊎◌, ◌++◌, codes, IsTrue, IfOk, IfErr};
 ghost use Rattle.hw_io.specs.Faults.{Rose};
-ghost use Rattle.hw_text.specs.Text.{number_text};
-ghost use Rattle.hw_text.specs.Lines.{line_feed};
-ghost use Rattle.hw_log.specs.Rewritten.{mended_of, migrated_of};
-ghost use Rattle.hw_log.specs.Migrated.{HoldsAnew};
+ghost use Rattle.hw_text.specs.{Text.{number_text}, Lines.{line_feed}};
+ghost use Rattle.hw_log.specs.{Rewritten.{mended_of, migrated_of}, Migrated.{HoldsAnew}};
 ghost use Rattle.hw_commands.specs.Faults.{HasRunFault, IsReadEnd};
 ghost use Rattle.hw_commands.specs.Due.{FailsDue};
 ghost use Rattle.hw_commands.specs.Files.{IsRewrite, status_of};

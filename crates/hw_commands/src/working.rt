@@ -1,9 +1,7 @@
 //! Commands whose end and text are worked out from their words and what the files hold.
 
 ghost use Rattle.std.specs.Prelude.{◌≡◌, ◌≢◌, ℕ, ◌≤◌, None, Some, IsTrue, IfSome, IfOk, IfErr, ◌⊎◌};
-ghost use Rattle.hw_io.specs.Faults.{Rose};
-ghost use Rattle.hw_io.specs.Files.{SameFiles};
-ghost use Rattle.hw_io.specs.Sinks.{AppendsPrefix};
+ghost use Rattle.hw_io.specs.{Faults.{Rose}, Files.{SameFiles}, Sinks.{AppendsPrefix}};
 ghost use Rattle.hw_replay.specs.Fates.{seen};
 ghost use Rattle.hw_commands.specs.Commands.{request_of, OnlyReads};
 ghost use Rattle.hw_commands.specs.Asked.{asked, IsInRange};

@@ -1,17 +1,11 @@
 //! The decided blocks of a node.
 
 ghost use Rattle.std.specs.Prelude.{◌≡◌, ℕ, ◌+◌, ◌<◌, ◌≤◌, ◌∷◌, ◌++◌, [], length, take, None, Some, slice_get, vec_capacity, IfOk, OnOk};
-ghost use Rattle.hw_types.specs.Below.{Among};
-ghost use Rattle.hw_types.specs.Limits.{config_fault};
-ghost use Rattle.hw_types.specs.Votes.{weight_of};
-ghost use Rattle.hw_dag.specs.Dag.{UnitGraph, graph, count_of, observations};
-ghost use Rattle.hw_dag.specs.Admission.{IsGraph};
+ghost use Rattle.hw_types.specs.{Below.{Among}, Limits.{config_fault}, Votes.{weight_of}};
+ghost use Rattle.hw_dag.specs.{Dag.{UnitGraph, graph, count_of, observations}, Admission.{IsGraph}};
 ghost use Rattle.hw_admit.specs.State.{is_faulty_in, observed_in};
-ghost use Rattle.hw_horizon.specs.declared.found.Found.{Found as FoundBlock};
-ghost use Rattle.hw_horizon.specs.Detected.{IsTrueOf, decision_of, decisions_of as found_in};
-ghost use Rattle.hw_horizon.specs.DetectorLaws.{DecidesOn};
-ghost use Rattle.hw_core.specs.Keeps.{IsChoice};
-ghost use Rattle.hw_core.specs.Decided.{IsToldOf, HasRoomFor, HasOnlyRoom};
+ghost use Rattle.hw_horizon.specs.{declared.found.Found.{Found as FoundBlock}, Detected.{IsTrueOf, decision_of, decisions_of as found_in}, DetectorLaws.{DecidesOn}};
+ghost use Rattle.hw_core.specs.{Keeps.{IsChoice}, Decided.{IsToldOf, HasRoomFor, HasOnlyRoom}};
 
 use hw_admit::State;
 use hw_dag::{Dag, UnitNo};

@@ -1,9 +1,6 @@
 //! Values by digest.
 
-ghost use Rattle.std.specs.Prelude.{◌≡◌, ◌+◌, ◌≤◌, [], ◌∷◌, ◌++◌, None, length, OnOk};
-ghost use Rattle.std.specs.List.{IsDistinct};
-ghost use Rattle.std.specs.Map.{keys_of, lookup};
-ghost use Rattle.std.specs.Option.{option_copied};
+ghost use Rattle.std.specs.{Prelude.{◌≡◌, ◌+◌, ◌≤◌, [], ◌∷◌, ◌++◌, None, length, OnOk}, List.{IsDistinct}, Map.{keys_of, lookup}, Option.{option_copied}};
 ghost use Rattle.hw_types.specs.Graph.{digest_eq};
 ghost use Rattle.hw_core.specs.Entries.{insert_entry};
 
@@ -26,8 +23,7 @@ impl<V> Model for DigestMap<V> {
 
     ghost Value = { Entries V };
 
-    ghost use Rattle.std.specs.Prelude.{◌≡◌, ◌-◌, length, min, zip, vec_len, vec_capacity};
-    ghost use Rattle.std.specs.List.{IsDistinct};
+    ghost use Rattle.std.specs.{Prelude.{◌≡◌, ◌-◌, length, min, zip, vec_len, vec_capacity}, List.{IsDistinct}};
     ghost use Rattle.hw_types.specs.Graph.{digest_eq};
 
     ghost view = { λ m. record {

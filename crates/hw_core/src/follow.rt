@@ -2,8 +2,7 @@
 
 ghost use Rattle.std.specs.Prelude.{◌≡◌, None, length};
 ghost use Rattle.hw_dag.specs.Dag.{graph};
-ghost use Rattle.hw_core.specs.Decided.{IsToldOf, HasRoomFor};
-ghost use Rattle.hw_core.specs.Followed.{HasFollowed};
+ghost use Rattle.hw_core.specs.{Decided.{IsToldOf, HasRoomFor}, Followed.{HasFollowed}};
 
 use crate::decided::Decided;
 use crate::shown::Shown;

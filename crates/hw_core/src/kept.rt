@@ -11,8 +11,7 @@ ghost use Rattle.hw_types.specs.Settled.{parked_of};
 ghost use Rattle.hw_types.specs.Rules.{local_rule};
 ghost use Rattle.hw_types.specs.Spelling.{VertexFits, digest_of, instance_of};
 ghost use Rattle.hw_admit.specs.State.{IsStartFault};
-ghost use Rattle.hw_core.specs.Deliver.{IsRefusal, IsTaken};
-ghost use Rattle.hw_core.specs.Units.{IsNewUnit};
+ghost use Rattle.hw_core.specs.{Deliver.{IsRefusal, IsTaken}, Units.{IsNewUnit}};
 
 use crate::decided::Decided;
 use crate::digest_map::DigestMap;

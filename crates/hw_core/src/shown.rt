@@ -1,13 +1,10 @@
 //! The summit of a decided block in the present state.
 
 ghost use Rattle.std.specs.Prelude.{◌≡◌, ℕ, ◌<◌, ◌≤◌, ◌↔◌, length, IsTrue, IfOk, Some, None, is_some, if◌then◌else◌};
-ghost use Rattle.hw_types.specs.Limits.{config_fault};
-ghost use Rattle.hw_types.specs.Summit.{HasSummit};
-ghost use Rattle.hw_dag.specs.Dag.{UnitGraph, graph, count_of, node_at, observations};
-ghost use Rattle.hw_dag.specs.Admission.{IsGraph};
+ghost use Rattle.hw_types.specs.{Limits.{config_fault}, Summit.{HasSummit}};
+ghost use Rattle.hw_dag.specs.{Dag.{UnitGraph, graph, count_of, node_at, observations}, Admission.{IsGraph}};
 ghost use Rattle.hw_admit.specs.State.{observed_in};
-ghost use Rattle.hw_horizon.specs.Search.{start_of};
-ghost use Rattle.hw_horizon.specs.Kept.{AreKept};
+ghost use Rattle.hw_horizon.specs.{Search.{start_of}, Kept.{AreKept}};
 ghost use Rattle.hw_core.specs.Shown.{IsSearchOf, IsAnswer};
 
 use hw_admit::State;

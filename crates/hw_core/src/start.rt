@@ -1,11 +1,9 @@
 //! What a node has beside its state before it has received anything.
 
 ghost use Rattle.std.specs.Prelude.{◌≡◌, [], length, None, IfOk};
-ghost use Rattle.hw_types.specs.Limits.{config_fault};
-ghost use Rattle.hw_types.specs.Spelling.{instance_of};
+ghost use Rattle.hw_types.specs.{Limits.{config_fault}, Spelling.{instance_of}};
 ghost use Rattle.hw_dag.specs.Dag.{UnitGraph};
-ghost use Rattle.hw_horizon.specs.Kept.{AreKept};
-ghost use Rattle.hw_horizon.specs.Detected.{IsTrueOf};
+ghost use Rattle.hw_horizon.specs.{Kept.{AreKept}, Detected.{IsTrueOf}};
 
 use crate::decided::Decided;
 use crate::shown::Shown;

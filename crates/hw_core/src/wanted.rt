@@ -1,7 +1,6 @@
 //! A list of needs, each once.
 
-ghost use Rattle.std.specs.Prelude.{◌≡◌, ◌<◌, ◌≤◌, false, [], ◌∷◌, ◌++◌, length, take, drop, OnOk, if◌then◌else◌};
-ghost use Rattle.std.specs.List.{list_any};
+ghost use Rattle.std.specs.{Prelude.{◌≡◌, ◌<◌, ◌≤◌, false, [], ◌∷◌, ◌++◌, length, take, drop, OnOk, if◌then◌else◌}, List.{list_any}};
 ghost use Rattle.hw_types.specs.Settled.{need_eq};
 ghost use Rattle.hw_core.specs.Missing.{with_need};
 

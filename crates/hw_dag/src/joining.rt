@@ -2,10 +2,7 @@
 
 ghost use Rattle.std.specs.Prelude.{◌≡◌, ℕ, ◌<◌, IsTrue};
 ghost use Rattle.hw_types.specs.Graph.{is_consistent};
-ghost use Rattle.hw_dag.specs.Dag.{graph, observations, view_at, IsPanorama};
-ghost use Rattle.hw_dag.specs.Admission.{IsGraph};
-ghost use Rattle.hw_dag.specs.Views.{IsKnownView};
-ghost use Rattle.hw_dag.specs.Join.{joined, IsLeastAbove};
+ghost use Rattle.hw_dag.specs.{Dag.{graph, observations, view_at, IsPanorama}, Admission.{IsGraph}, Views.{IsKnownView}, Join.{joined, IsLeastAbove}};
 
 use crate::{Dag, Panorama, View};
 

@@ -1,8 +1,7 @@
 //! Units by number, and panoramas in numbers.
 
 ghost use Rattle.std.specs.Prelude.{◌≡◌, ◌<◌, ◌↔◌, length, replicate, slice_index_or, slice_set, IsTrue, IfOk};
-ghost use Rattle.hw_dag.specs.declared.numbers.View.TheVariants as view;
-ghost use Rattle.hw_dag.specs.Slots.{HasCode, IsWithin};
+ghost use Rattle.hw_dag.specs.{declared.numbers.View.TheVariants as view, Slots.{HasCode, IsWithin}};
 
 use hw_types::OutOfMemory;
 use std::alloc::Global;
@@ -29,8 +28,7 @@ pub struct Slot(u32);
 
 impl Model for Slot {
     ghost use Rattle.std.specs.Prelude.{◌<◌, ◌^◌};
-    ghost use Rattle.hw_dag.specs.declared.numbers.View.{View};
-    ghost use Rattle.hw_dag.specs.Slots.{view_of_code, code_of_view};
+    ghost use Rattle.hw_dag.specs.{declared.numbers.View.{View}, Slots.{view_of_code, code_of_view}};
 
     ghost Value = { View };
 

@@ -2,9 +2,7 @@
 
 ghost use Rattle.std.specs.Prelude.{◌≡◌};
 ghost use Rattle.hw_types.specs.Graph.{is_at_most};
-ghost use Rattle.hw_dag.specs.Dag.{graph, observations, IsPanorama};
-ghost use Rattle.hw_dag.specs.Admission.{IsGraph};
-ghost use Rattle.hw_dag.specs.Views.{IsViewOf, is_met};
+ghost use Rattle.hw_dag.specs.{Dag.{graph, observations, IsPanorama}, Admission.{IsGraph}, Views.{IsViewOf, is_met}};
 
 use crate::{Dag, Panorama, View};
 

@@ -1,8 +1,7 @@
 //! Units on their way into the graph.
 
 ghost use Rattle.std.specs.Prelude.{◌≡◌, ◌↔◌, IsTrue, IfOk, IfErr};
-ghost use Rattle.hw_dag.specs.Dag.{graph};
-ghost use Rattle.hw_dag.specs.Admission.{IsFor, IsResolved, AllKnown, settled_as};
+ghost use Rattle.hw_dag.specs.{Dag.{graph}, Admission.{IsFor, IsResolved, AllKnown, settled_as}};
 
 use crate::graph::Dag;
 use crate::numbers::{Panorama, UnitNo};
@@ -27,8 +26,7 @@ pub struct Prepared {
 }
 
 impl Model for Prepared {
-    ghost use Rattle.hw_dag.specs.Admission.{PreparedUnit};
-    ghost use Rattle.hw_dag.specs.Tables.{HasSlots};
+    ghost use Rattle.hw_dag.specs.{Admission.{PreparedUnit}, Tables.{HasSlots}};
 
     ghost Value = { PreparedUnit };
 

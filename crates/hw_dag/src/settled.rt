@@ -1,9 +1,7 @@
 //! Settled units.
 
 ghost use Rattle.std.specs.Prelude.{◌≡◌, ◌<◌, length};
-ghost use Rattle.hw_dag.specs.Dag.{creator_of};
-ghost use Rattle.hw_dag.specs.Admission.{settled_as};
-ghost use Rattle.hw_dag.specs.Tables.{predecessor_of};
+ghost use Rattle.hw_dag.specs.{Dag.{creator_of}, Admission.{settled_as}, Tables.{predecessor_of}};
 
 use crate::numbers::{Panorama, UnitNo, View};
 use hw_types::{Digest, SignedUnit};

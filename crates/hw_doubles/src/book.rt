@@ -3,8 +3,7 @@
 ghost use Rattle.std.specs.Prelude.{◌≡◌, ◌++◌, ◌∷◌, ◌<◌, [], Some, None, true, false, IfErr, IsOk, IsErr, OnOk, OnErr, is_ok, string_bytes, vec_len};
 ghost use Rattle.std.specs.Io.{ReadsAtMost};
 ghost use Rattle.std.specs.Option.{option_map};
-ghost use Rattle.hw_io.specs.Sinks.{TakesSome};
-ghost use Rattle.hw_io.specs.Doors.{Session, sessions_after, fresh_session, with_failure, with_last, after_read, after_write, in_session};
+ghost use Rattle.hw_io.specs.{Sinks.{TakesSome}, Doors.{Session, sessions_after, fresh_session, with_failure, with_last, after_read, after_write, in_session}};
 
 use crate::session::MemSession;
 use hw_io::IoFault;

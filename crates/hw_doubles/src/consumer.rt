@@ -1,9 +1,6 @@
 //! A consumer in memory, which tells what it took.
-ghost use Rattle.std.specs.Prelude.{◌≡◌, ◌++◌, ◌∷◌, ℕ, List, [], Some, false, IsOk, OnOk, OnErr, vec_len};
-ghost use Rattle.std.specs.Option.{option_map};
-ghost use Rattle.hw_io.specs.Faults.{HasCause, IsWantCounted, raised};
-ghost use Rattle.hw_io.specs.declared.outside.IoFault.TheVariants.{OutOfMemory};
-ghost use Rattle.hw_io.specs.Consumers.{Consumed, after_take, after_finish};
+ghost use Rattle.std.specs.{Prelude.{◌≡◌, ◌++◌, ◌∷◌, ℕ, List, [], Some, false, IsOk, OnOk, OnErr, vec_len}, Option.{option_map}};
+ghost use Rattle.hw_io.specs.{Faults.{HasCause, IsWantCounted, raised}, declared.outside.IoFault.TheVariants.{OutOfMemory}, Consumers.{Consumed, after_take, after_finish}};
 ghost use Rattle.hw_doubles.specs.Memory.{is_planned, FailsAsPlanned, FailsForMemory};
 
 use hw_io::{Consumer, IoFault};

@@ -2,9 +2,7 @@
 ghost use Rattle.std.specs.Prelude.{◌≡◌, ◌++◌, ◌∷◌, ℕ, [], Some, None, true, false, IfErr, IsErr, IsOk, IsSome, OnOk, OnErr, length, is_ok};
 ghost use Rattle.std.specs.Io.{ReadsAtMost};
 ghost use Rattle.std.specs.Option.{option_map};
-ghost use Rattle.hw_io.specs.Faults.{HasCause, raised};
-ghost use Rattle.hw_io.specs.Sinks.{TakesSome};
-ghost use Rattle.hw_io.specs.Doors.{Session, sessions_after, after_read, after_write, in_session, ends_after};
+ghost use Rattle.hw_io.specs.{Faults.{HasCause, raised}, Sinks.{TakesSome}, Doors.{Session, sessions_after, after_read, after_write, in_session, ends_after}};
 ghost use Rattle.hw_doubles.specs.Memory.{is_planned, FailsAsPlanned, FailsForMemory};
 
 use crate::book::SessionBook;

@@ -1,7 +1,6 @@
 //! A clock whose moments are set beforehand.
 ghost use Rattle.std.specs.Prelude.{◌≡◌, ℕ, ◌+◌, ◌^◌, ◌<◌, List, All};
-ghost use Rattle.hw_io.specs.Faults.{raised};
-ghost use Rattle.hw_io.specs.Moments.{GivesMoment};
+ghost use Rattle.hw_io.specs.{Faults.{raised}, Moments.{GivesMoment}};
 ghost use Rattle.hw_doubles.specs.SetMoments.{SetMoments, moment_at, moments_given};
 
 use hw_io::Clock;

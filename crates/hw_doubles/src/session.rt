@@ -1,8 +1,6 @@
 //! A session in memory.
-ghost use Rattle.std.specs.Prelude.{◌≡◌, ◌≤◌, ◌++◌, length, take, string_bytes, IfErr};
-ghost use Rattle.std.specs.Option.{option_map, option_copied};
-ghost use Rattle.hw_io.specs.Sinks.{TakesSome};
-ghost use Rattle.hw_io.specs.Doors.{Session, fresh_session, with_failure, after_write};
+ghost use Rattle.std.specs.{Prelude.{◌≡◌, ◌≤◌, ◌++◌, length, take, string_bytes, IfErr}, Option.{option_map, option_copied}};
+ghost use Rattle.hw_io.specs.{Sinks.{TakesSome}, Doors.{Session, fresh_session, with_failure, after_write}};
 
 use crate::shelf::{copy_front, rest_of};
 use hw_io::IoFault;

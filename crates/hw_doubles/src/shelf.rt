@@ -4,8 +4,7 @@ ghost use Rattle.std.specs.Bool.{OnTrue, OnFalse};
 ghost use Rattle.std.specs.Option.{ForSome, option_copied};
 ghost use Rattle.std.specs.Io.KnownBytes.{ReadConsumes};
 ghost use Rattle.std.specs.Io.{ReadsAtMost};
-ghost use Rattle.hw_io.specs.Files.{Begins, Appended, Spends};
-ghost use Rattle.hw_io.specs.Faults.{subject_of, FailsAbout, OnlyAbout};
+ghost use Rattle.hw_io.specs.{Files.{Begins, Appended, Spends}, Faults.{subject_of, FailsAbout, OnlyAbout}};
 ghost use Rattle.hw_doubles.specs.Shelves.{place_in, held_in, begun_in, unread_in, allowance_of, faults_in, AddsFile};
 
 use hw_io::{IoFault, READ_LIMIT};

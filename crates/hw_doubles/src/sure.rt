@@ -3,8 +3,7 @@ ghost use Rattle.std.specs.Prelude.{◌≡◌, ◌≢◌, ◌↔◌, ◌^◌, �
 ghost use Rattle.std.specs.Option.{option_copied};
 ghost use Rattle.std.specs.Io.KnownBytes.{ReadConsumes};
 ghost use Rattle.std.specs.Io.{ReadsAtMost};
-ghost use Rattle.hw_io.specs.Faults.{HasCause, subject_of, IsCountedAbout, OnlyAbout, raised};
-ghost use Rattle.hw_io.specs.Files.{SameFiles, IsAnswer, Begins, Appended, Spends};
+ghost use Rattle.hw_io.specs.{Faults.{HasCause, subject_of, IsCountedAbout, OnlyAbout, raised}, Files.{SameFiles, IsAnswer, Begins, Appended, Spends}};
 ghost use Rattle.hw_doubles.specs.Sure.{sure_held, sure_begun, sure_unread, sure_allowance, sure_read_faults, sure_faults_about, sure_taken};
 
 use crate::shelf::Shelf;

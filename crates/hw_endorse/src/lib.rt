@@ -10,11 +10,8 @@
 //! and in one order whatever the order in which they came.
 #![tactic(auto)]
 
-ghost use Rattle.std.specs.Prelude.{◌≡◌, ◌<◌, [], true, length, None, IfOk, OnOk, OnErr};
-ghost use Rattle.std.specs.Map.Iter.{ShowsInOrder, deref};
-ghost use Rattle.hw_types.specs.declared.unit.Digest.{Digest as Named};
-ghost use Rattle.hw_types.specs.Limits.{config_fault};
-ghost use Rattle.hw_types.specs.Rules.{is_rising};
+ghost use Rattle.std.specs.{Prelude.{◌≡◌, ◌<◌, [], true, length, None, IfOk, OnOk, OnErr}, Map.Iter.{ShowsInOrder, deref}};
+ghost use Rattle.hw_types.specs.{declared.unit.Digest.{Digest as Named}, Limits.{config_fault}, Rules.{is_rising}};
 ghost use Rattle.hw_endorse.specs.Told.{added_of, is_told, with_pair, has_majority, HaveMajority};
 
 mod laws;

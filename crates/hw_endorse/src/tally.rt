@@ -1,8 +1,7 @@
 //! Who endorses each unit, and what they weigh together.
 
 ghost use Rattle.std.specs.Prelude.{◌≡◌, ℕ, ◌+◌, ◌*◌, ◌^◌, ◌<◌, ◌&&◌, ◌||◌, ◌==◌, not, false, nat_lt, IfOk, OnOk, OnErr, if◌then◌else◌};
-ghost use Rattle.hw_types.specs.Graph.{digest_eq};
-ghost use Rattle.hw_types.specs.declared.unit.Digest.{Digest as Named};
+ghost use Rattle.hw_types.specs.{Graph.{digest_eq}, declared.unit.Digest.{Digest as Named}};
 ghost use Rattle.hw_endorse.specs.Kept.{is_one, who_in, weight_in, is_listed, AreListed};
 
 use hw_types::{Digest, OutOfMemory};

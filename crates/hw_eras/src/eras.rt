@@ -1,9 +1,7 @@
 //! The eras of a node, and what comes in them.
 
-ghost use Rattle.std.specs.Prelude.{◌≡◌, ◌<◌, ◌-◌, ◌↔◌, ◌∷◌, [], length, slice_get, slice_set, None, Some, Ok, Err, IfOk, IfErr, IfSome, OnErr};
-ghost use Rattle.std.specs.Option.{option_copied};
-ghost use Rattle.hw_types.specs.Limits.{config_fault};
-ghost use Rattle.hw_types.specs.Spelling.{VertexFits};
+ghost use Rattle.std.specs.{Prelude.{◌≡◌, ◌<◌, ◌-◌, ◌↔◌, ◌∷◌, [], length, slice_get, slice_set, None, Some, Ok, Err, IfOk, IfErr, IfSome, OnErr}, Option.{option_copied}};
+ghost use Rattle.hw_types.specs.{Limits.{config_fault}, Spelling.{VertexFits}};
 ghost use Rattle.hw_admit.specs.State.{IsStartFault};
 ghost use Rattle.hw_core.specs.Promises.{begun};
 ghost use Rattle.hw_eras.specs.declared.answers.EraOpen.TheVariants as opening;

@@ -5,11 +5,11 @@ ghost use Rattle.hw_io.specs.Files.{SameFiles};
 ghost use Rattle.hw_types.specs.Real.{CoreState};
 ghost use Rattle.hw_core.specs.Promises.{begun};
 ghost use Rattle.hw_eras.specs.Nodes.{IsMadeAgain, next_of, first_config, last_core};
-ghost use Rattle.hw_replay.specs.Replay.{taken_in};
 ghost use Rattle.hw_eras.specs.Logs.{log_left, eras_of};
 ghost use Rattle.hw_eras.specs.Stops.{IsOfLogs, HasEraCause, IsEraAbout};
 ghost use Rattle.hw_eras.specs.Filled.{logs_in, next_in, ahead_in, IsFilled, opened, HasTaken, HasFirst, Leaves, HasBegun, TakesLog, TakesAll, Fills};
 ghost use Rattle.hw_eras.specs.Turns.{HasTurnFrom, HasTurnOf, StopsAt, TakesTurn};
+ghost use Rattle.hw_replay.specs.Replay.{taken_in};
 
 use crate::stop::EraStop;
 use crate::{EraOpen, Eras};

@@ -1,9 +1,7 @@
 //! The configuration of the next era.
 
-ghost use Rattle.std.specs.Prelude.{◌≡◌, None, IfOk};
-ghost use Rattle.std.specs.Option.{option_map};
-ghost use Rattle.hw_types.specs.Limits.{config_fault};
-ghost use Rattle.hw_types.specs.Reading.{Gives, whole};
+ghost use Rattle.std.specs.{Prelude.{◌≡◌, None, IfOk}, Option.{option_map}};
+ghost use Rattle.hw_types.specs.{Limits.{config_fault}, Reading.{Gives, whole}};
 ghost use Rattle.hw_eras.specs.Eras.{weights_at, named_by, drawn_by, if_lawful, next_config};
 
 use hw_codec::{Reader, read_list};

@@ -1,11 +1,8 @@
 //! The last committee of a summit, as words.
 
-ghost use Rattle.std.specs.Prelude.{◌≡◌, ◌+◌, ◌∷◌, ◌++◌, map, OnOk};
-ghost use Rattle.std.specs.List.{flat_map, range_with_len};
-ghost use Rattle.hw_text.specs.Text.{number_text};
-ghost use Rattle.hw_text.specs.Lines.{spaced};
-ghost use Rattle.hw_explain.specs.Greatest.{member_text};
-ghost use Rattle.hw_explain.specs.Searched.{start_or_zero, starts_in, words_in, part_in};
+ghost use Rattle.std.specs.{Prelude.{◌≡◌, ◌+◌, ◌∷◌, ◌++◌, map, OnOk}, List.{flat_map, range_with_len}};
+ghost use Rattle.hw_text.specs.{Text.{number_text}, Lines.{spaced}};
+ghost use Rattle.hw_explain.specs.{Greatest.{member_text}, Searched.{start_or_zero, starts_in, words_in, part_in}};
 
 use hw_horizon::Horizons;
 use hw_text::{put_numbered, put_word};

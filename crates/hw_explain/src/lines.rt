@@ -1,9 +1,7 @@
 //! The lines of a report.
 
-ghost use Rattle.std.specs.Prelude.{◌≡◌, ◌∷◌, ◌++◌, map, OnOk};
-ghost use Rattle.std.specs.List.{flat_map, join_with_byte};
-ghost use Rattle.hw_text.specs.Text.{number_text};
-ghost use Rattle.hw_text.specs.Lines.{spaced, or_dash};
+ghost use Rattle.std.specs.{Prelude.{◌≡◌, ◌∷◌, ◌++◌, map, OnOk}, List.{flat_map, join_with_byte}};
+ghost use Rattle.hw_text.specs.{Text.{number_text}, Lines.{spaced, or_dash}};
 ghost use Rattle.hw_explain.specs.Report.{counts_line, faulty_line, fork_line, final_words, final_line, exceeded_line};
 
 use hw_text::{end_line, put_digest, put_number, put_numbered, put_word};

@@ -1,13 +1,9 @@
 //! What is explained of a log.
 
 ghost use Rattle.std.specs.Prelude.{◌≡◌, [], IsTrue, IfOk, OnOk};
-ghost use Rattle.hw_io.specs.Faults.{subject_of};
-ghost use Rattle.hw_io.specs.Files.{SameFiles};
-ghost use Rattle.hw_replay.specs.Replay.{taken_in, ahead_in, TakesAll};
-ghost use Rattle.hw_replay.specs.Causes.{HasReplayCause, IsReplayAbout};
-ghost use Rattle.hw_replay.specs.Steps.{HasRoom};
-ghost use Rattle.hw_explain.specs.Told.{HasTold};
-ghost use Rattle.hw_explain.specs.Logs.{Explains, ExplainsAll};
+ghost use Rattle.hw_io.specs.{Faults.{subject_of}, Files.{SameFiles}};
+ghost use Rattle.hw_replay.specs.{Replay.{taken_in, ahead_in, TakesAll}, Causes.{HasReplayCause, IsReplayAbout}, Steps.{HasRoom}};
+ghost use Rattle.hw_explain.specs.{Told.{HasTold}, Logs.{Explains, ExplainsAll}};
 
 use crate::told::Told;
 use hw_io::Files;

@@ -1,9 +1,7 @@
 //! The report on a node.
 
-ghost use Rattle.std.specs.Prelude.{◌≡◌, ◌<◌, ◌++◌, length, IfOk, OnOk};
-ghost use Rattle.std.specs.List.{flat_map};
-ghost use Rattle.hw_types.specs.Settled.{is_faulty};
-ghost use Rattle.hw_types.specs.Real.{setting_of, received_in, settled_in};
+ghost use Rattle.std.specs.{Prelude.{◌≡◌, ◌<◌, ◌++◌, length, IfOk, OnOk}, List.{flat_map}};
+ghost use Rattle.hw_types.specs.{Settled.{is_faulty}, Real.{setting_of, received_in, settled_in}};
 ghost use Rattle.hw_core.specs.Decided.{decided_in};
 ghost use Rattle.hw_explain.specs.Report.{final_line, counts_of, faulty_in, report_text};
 

@@ -1,11 +1,9 @@
 //! The summit of a decided block.
 
-ghost use Rattle.std.specs.Prelude.{◌≡◌, ◌++◌, length, IfOk, OnOk};
-ghost use Rattle.std.specs.List.{flat_map};
+ghost use Rattle.std.specs.{Prelude.{◌≡◌, ◌++◌, length, IfOk, OnOk}, List.{flat_map}};
 ghost use Rattle.hw_types.specs.Real.{received_in};
 ghost use Rattle.hw_text.specs.Lines.{spaced};
-ghost use Rattle.hw_explain.specs.Explain.{committee_of, explained_line};
-ghost use Rattle.hw_explain.specs.Searched.{IsFresh, IsDecidedNow, IsFound};
+ghost use Rattle.hw_explain.specs.{Explain.{committee_of, explained_line}, Searched.{IsFresh, IsDecidedNow, IsFound}};
 
 use crate::committee::put_committee;
 use crate::lines::put_final_words;

@@ -2,8 +2,7 @@
 
 ghost use Rattle.std.specs.Prelude.{◌≡◌, ◌+◌, ◌<◌, [], length, IfOk, OnOk};
 ghost use Rattle.hw_core.specs.Decided.{decided_in};
-ghost use Rattle.hw_explain.specs.Explain.{explained_in};
-ghost use Rattle.hw_explain.specs.Told.{HasLines, HasTold, IsBehind, AreNewFrom};
+ghost use Rattle.hw_explain.specs.{Explain.{explained_in}, Told.{HasLines, HasTold, IsBehind, AreNewFrom}};
 
 use crate::lines::put_exceeded;
 use crate::summit::put_line;

@@ -2,9 +2,7 @@
 
 ghost use Rattle.std.specs.Prelude.{◌≡◌, ◌<◌, ◌≤◌, IsTrue, IfSome, unwrap_or};
 ghost use Rattle.hw_types.specs.Votes.{is_block};
-ghost use Rattle.hw_dag.specs.Dag.{unit_at, node_at, count_of};
-ghost use Rattle.hw_dag.specs.Admission.{IsGraph, height_above};
-ghost use Rattle.hw_dag.specs.Lanes.{IsAncestorAt};
+ghost use Rattle.hw_dag.specs.{Dag.{unit_at, node_at, count_of}, Admission.{IsGraph, height_above}, Lanes.{IsAncestorAt}};
 
 use hw_dag::{Dag, UnitNo};
 

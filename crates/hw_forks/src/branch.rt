@@ -1,10 +1,8 @@
 //! The votes of one branch.
 
 ghost use Rattle.std.specs.Prelude.{◌≡◌, ◌<◌, ◌≤◌, length, take};
-ghost use Rattle.hw_dag.specs.Dag.{count_of};
-ghost use Rattle.hw_dag.specs.Admission.{IsGraph};
-ghost use Rattle.hw_forks.specs.Votes.{AreVotes, IsVote};
-ghost use Rattle.hw_forks.specs.Walk.{is_over, votes_towards};
+ghost use Rattle.hw_dag.specs.{Dag.{count_of}, Admission.{IsGraph}};
+ghost use Rattle.hw_forks.specs.{Votes.{AreVotes, IsVote}, Walk.{is_over, votes_towards}};
 
 use crate::votes::Vote;
 use hw_dag::{Dag, UnitNo};

@@ -1,14 +1,9 @@
 //! The fork choice.
 
-ghost use Rattle.std.specs.Prelude.{◌≡◌, ◌+◌, ◌<◌, ◌≤◌, length, take, None, OnOk};
-ghost use Rattle.std.specs.Option.{option_map};
+ghost use Rattle.std.specs.{Prelude.{◌≡◌, ◌+◌, ◌<◌, ◌≤◌, length, take, None, OnOk}, Option.{option_map}};
 ghost use Rattle.hw_types.specs.Votes.{fork_of};
-ghost use Rattle.hw_dag.specs.declared.numbers.UnitNo.{UnitNo as Number};
-ghost use Rattle.hw_dag.specs.Dag.{graph, observations, node_at, IsPanorama};
-ghost use Rattle.hw_dag.specs.Admission.{IsFork};
-ghost use Rattle.hw_dag.specs.Lanes.{AreWeights};
-ghost use Rattle.hw_forks.specs.Votes.{AreVotes, IsRoomFor};
-ghost use Rattle.hw_forks.specs.Walk.{WalksTo};
+ghost use Rattle.hw_dag.specs.{declared.numbers.UnitNo.{UnitNo as Number}, Dag.{graph, observations, node_at, IsPanorama}, Admission.{IsFork}, Lanes.{AreWeights}};
+ghost use Rattle.hw_forks.specs.{Votes.{AreVotes, IsRoomFor}, Walk.{WalksTo}};
 
 use crate::ancestors::children_height;
 use crate::branch::keep_towards;

@@ -1,13 +1,9 @@
 //! The block that more than half of the weight votes for.
 
 ghost use Rattle.std.specs.Prelude.{◌≡◌, ℕ, ◌+◌, ◌<◌, ◌≤◌, ◌^◌, IsTrue, IfSome, IfNone};
-ghost use Rattle.hw_types.specs.Below.{Among};
-ghost use Rattle.hw_types.specs.Votes.{is_block};
-ghost use Rattle.hw_dag.specs.Dag.{count_of, node_at};
-ghost use Rattle.hw_dag.specs.Admission.{height_above};
-ghost use Rattle.hw_forks.specs.declared.votes.Vote.{Vote as Voted};
-ghost use Rattle.hw_forks.specs.Votes.{AreVotes, height_at};
-ghost use Rattle.hw_forks.specs.Walk.{score_in, weight_in, HasMajority, NoChildHasMajority, IsAhead};
+ghost use Rattle.hw_types.specs.{Below.{Among}, Votes.{is_block}};
+ghost use Rattle.hw_dag.specs.{Dag.{count_of, node_at}, Admission.{height_above}};
+ghost use Rattle.hw_forks.specs.{declared.votes.Vote.{Vote as Voted}, Votes.{AreVotes, height_at}, Walk.{score_in, weight_in, HasMajority, NoChildHasMajority, IsAhead}};
 
 use crate::ancestors::children_height;
 use crate::branch::is_towards;

@@ -1,14 +1,9 @@
 //! Where the walk can go at once: a block that it passes through.
 
 ghost use Rattle.std.specs.Prelude.{◌<◌, ◌≤◌, length, IsTrue, IfSome};
-ghost use Rattle.hw_types.specs.Below.{Among};
-ghost use Rattle.hw_types.specs.Votes.{is_block};
-ghost use Rattle.hw_dag.specs.Dag.{count_of, node_at};
-ghost use Rattle.hw_dag.specs.Admission.{height_above};
-ghost use Rattle.hw_dag.specs.Lanes.{IsAncestor};
-ghost use Rattle.hw_forks.specs.declared.votes.Vote.{Vote as Voted};
-ghost use Rattle.hw_forks.specs.Votes.{AreVotes, height_at};
-ghost use Rattle.hw_forks.specs.Walk.{IsCommon, IsPassed, NoChildHasMajority};
+ghost use Rattle.hw_types.specs.{Below.{Among}, Votes.{is_block}};
+ghost use Rattle.hw_dag.specs.{Dag.{count_of, node_at}, Admission.{height_above}, Lanes.{IsAncestor}};
+ghost use Rattle.hw_forks.specs.{declared.votes.Vote.{Vote as Voted}, Votes.{AreVotes, height_at}, Walk.{IsCommon, IsPassed, NoChildHasMajority}};
 
 use crate::majority::majority_block;
 use crate::votes::Vote;

@@ -1,11 +1,8 @@
 //! The best child of a place, by tallies.
 
-ghost use Rattle.std.specs.Prelude.{◌≡◌, ℕ, ◌+◌, ◌<◌, ◌≤◌, ◌^◌, ◌==◌, length, take, IfSome, IfNone, if◌then◌else◌};
-ghost use Rattle.std.specs.List.Sorted.{IsNonDecreasingBy};
+ghost use Rattle.std.specs.{Prelude.{◌≡◌, ℕ, ◌+◌, ◌<◌, ◌≤◌, ◌^◌, ◌==◌, length, take, IfSome, IfNone, if◌then◌else◌}, List.Sorted.{IsNonDecreasingBy}};
 ghost use Rattle.hw_types.specs.Graph.{digest_lt};
-ghost use Rattle.hw_dag.specs.Dag.{unit_at, count_of};
-ghost use Rattle.hw_dag.specs.Admission.{IsGraph, height_above};
-ghost use Rattle.hw_dag.specs.Lanes.{IsAncestor};
+ghost use Rattle.hw_dag.specs.{Dag.{unit_at, count_of}, Admission.{IsGraph, height_above}, Lanes.{IsAncestor}};
 ghost use Rattle.hw_forks.specs.declared.tallies.Share.{Share as Given};
 ghost use Rattle.hw_forks.specs.Votes.{AreVotes, IsVote};
 ghost use Rattle.hw_forks.specs.Walk.{IsBest, HasNoSupport, IsChild, tally_in, AreShares, HoldsShares, IsHeavier, IsHeaviest};

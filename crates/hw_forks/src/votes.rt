@@ -1,9 +1,7 @@
 //! The votes of a panorama.
 
 ghost use Rattle.std.specs.Prelude.{◌≡◌, ◌<◌, ◌≤◌, length, take};
-ghost use Rattle.hw_dag.specs.Dag.{count_of, IsPanorama};
-ghost use Rattle.hw_dag.specs.Admission.{IsGraph};
-ghost use Rattle.hw_dag.specs.Lanes.{AreWeights};
+ghost use Rattle.hw_dag.specs.{Dag.{count_of, IsPanorama}, Admission.{IsGraph}, Lanes.{AreWeights}};
 ghost use Rattle.hw_forks.specs.Votes.{vote_of as vote_of_lem, votes_of, AreVotes, IsRoomFor};
 
 use hw_dag::{Dag, Panorama, UnitNo, View};

@@ -7,9 +7,7 @@
 
 ghost use Rattle.std.specs.Prelude.{◌≡◌, ℕ, ◌<◌, ◌≤◌, ◌↔◌, List, length, nat_le, true, false, None, Some, slice_index_or, slice_set, IsTrue, IfOk, IfSome};
 ghost use Rattle.hw_types.specs.Votes.{weight_of};
-ghost use Rattle.hw_dag.specs.declared.numbers.UnitNo.{UnitNo as Number};
-ghost use Rattle.hw_dag.specs.Dag.{UnitGraph, IsPanorama, count_of, view_at};
-ghost use Rattle.hw_dag.specs.Lanes.{AreWeights};
+ghost use Rattle.hw_dag.specs.{declared.numbers.UnitNo.{UnitNo as Number}, Dag.{UnitGraph, IsPanorama, count_of, view_at}, Lanes.{AreWeights}};
 ghost use Rattle.hw_horizon.specs.Bounds.{AreBounds, AreTips, AreWide, IsBounded, IsOutside, IsRuledOut, bound_of, support_of, tip_in};
 
 use crate::firsts::{Firsts, NO_UNIT};

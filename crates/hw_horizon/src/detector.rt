@@ -1,11 +1,9 @@
 //! The detector.
 
 ghost use Rattle.std.specs.Prelude.{◌≡◌, ℕ, ◌+◌, ◌-◌, ◌^◌, ◌<◌, ◌≤◌, [], length, true, None, Some, slice_get, IfOk, OnOk};
-ghost use Rattle.hw_types.specs.Graph.{is_consistent};
-ghost use Rattle.hw_types.specs.Limits.{config_fault};
+ghost use Rattle.hw_types.specs.{Graph.{is_consistent}, Limits.{config_fault}};
 ghost use Rattle.hw_dag.specs.Dag.{UnitGraph, graph, observations, count_of};
-ghost use Rattle.hw_horizon.specs.Detected.{IsSearched, IsTrueOf, HasRun, IsOutcome};
-ghost use Rattle.hw_horizon.specs.DetectorLaws.{DecidesOn, IsNothingNew};
+ghost use Rattle.hw_horizon.specs.{Detected.{IsSearched, IsTrueOf, HasRun, IsOutcome}, DetectorLaws.{DecidesOn, IsNothingNew}};
 
 use crate::found::{Found, Outcome};
 use crate::level_quorums::quorums_of;

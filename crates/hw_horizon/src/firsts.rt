@@ -3,10 +3,7 @@
 //! number, and no far unit is read.
 
 ghost use Rattle.std.specs.Prelude.{◌≡◌, ℕ, ◌-◌, ◌^◌, ◌<◌, ◌↔◌, length, true, nat_le, slice_index_or, slice_set, IsTrue, IfOk};
-ghost use Rattle.hw_dag.specs.Dag.{count_of, unit_at, seq_of, IsPanorama};
-ghost use Rattle.hw_dag.specs.Admission.{IsGraph};
-ghost use Rattle.hw_dag.specs.Lanes.{is_lane_below};
-ghost use Rattle.hw_dag.specs.declared.numbers.UnitNo.{UnitNo as Number};
+ghost use Rattle.hw_dag.specs.{Dag.{count_of, unit_at, seq_of, IsPanorama}, Admission.{IsGraph}, Lanes.{is_lane_below}, declared.numbers.UnitNo.{UnitNo as Number}};
 ghost use Rattle.hw_horizon.specs.Firsts.{AreFirsts, IsFirst, AreNumbers};
 
 use crate::jumps::lane_at;

@@ -1,10 +1,8 @@
 //! How the bound of a level follows the panorama.
 
 ghost use Rattle.std.specs.Prelude.{◌≡◌, ℕ, ◌<◌, ◌≤◌, ◌+◌, ◌⊎◌, ◌^◌, ◌-◌, length, false, Some, None, slice_index_or, IsTrue};
-ghost use Rattle.hw_dag.specs.Dag.{IsPanorama, count_of, view_at, unit_at, seq_of};
-ghost use Rattle.hw_dag.specs.declared.numbers.UnitNo.{UnitNo as Number};
-ghost use Rattle.hw_horizon.specs.Firsts.{weight_after};
-ghost use Rattle.hw_horizon.specs.Bounds.{first_of, support_of, tip_in, counts_over, IsFirstOf, AreLowered, AreSameBelow, IsOutside, IsGap, IsBack};
+ghost use Rattle.hw_dag.specs.{Dag.{IsPanorama, count_of, view_at, unit_at, seq_of}, declared.numbers.UnitNo.{UnitNo as Number}};
+ghost use Rattle.hw_horizon.specs.{Firsts.{weight_after}, Bounds.{first_of, support_of, tip_in, counts_over, IsFirstOf, AreLowered, AreSameBelow, IsOutside, IsGap, IsBack}};
 
 use crate::bounds::Bound;
 use crate::firsts::NO_UNIT;

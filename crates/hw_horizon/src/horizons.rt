@@ -1,11 +1,8 @@
 //! The search.
 
-ghost use Rattle.std.specs.Prelude.{◌≡◌, ℕ, ◌<◌, ◌≤◌, ◌↔◌, length, Some, None, false, is_some, IsTrue, IfOk};
-ghost use Rattle.std.specs.List.{list_any};
-ghost use Rattle.hw_types.specs.Graph.{is_consistent};
-ghost use Rattle.hw_types.specs.Summit.{HasSummit, IsGreatest};
-ghost use Rattle.hw_dag.specs.Dag.{UnitGraph, graph, observations, count_of, node_at, IsPanorama};
-ghost use Rattle.hw_dag.specs.Lanes.{AreWeights};
+ghost use Rattle.std.specs.{Prelude.{◌≡◌, ℕ, ◌<◌, ◌≤◌, ◌↔◌, length, Some, None, false, is_some, IsTrue, IfOk}, List.{list_any}};
+ghost use Rattle.hw_types.specs.{Graph.{is_consistent}, Summit.{HasSummit, IsGreatest}};
+ghost use Rattle.hw_dag.specs.{Dag.{UnitGraph, graph, observations, count_of, node_at, IsPanorama}, Lanes.{AreWeights}};
 ghost use Rattle.hw_horizon.specs.Kept.{AreKept};
 ghost use Rattle.hw_horizon.specs.Bounds.{AreBounds, AreTips, AreWide, AreExact};
 ghost use Rattle.hw_horizon.specs.Tables.{pruned_table};

@@ -1,8 +1,7 @@
 //! Look-ups along lanes where nobody counts the jumps.
 
 ghost use Rattle.std.specs.Prelude.{◌≡◌, ◌<◌, ◌≤◌};
-ghost use Rattle.hw_dag.specs.Dag.{unit_at, count_of, seq_of};
-ghost use Rattle.hw_dag.specs.Lanes.{IsLaneAt};
+ghost use Rattle.hw_dag.specs.{Dag.{unit_at, count_of, seq_of}, Lanes.{IsLaneAt}};
 
 use hw_dag::{Dag, Steps, UnitNo};
 use std::marker::Brand;

@@ -2,9 +2,7 @@
 //! the same block is asked again.
 
 ghost use Rattle.std.specs.Prelude.{◌≡◌, ℕ, ◌<◌, ◌⊎◌, length, Some, None, slice_set, slice_index_or, IfOk};
-ghost use Rattle.hw_horizon.specs.declared.fences.Fence.{Fence as Fenced};
-ghost use Rattle.hw_horizon.specs.declared.kept.Walk.{Walk as Walked};
-ghost use Rattle.hw_horizon.specs.Kept.{walk_of, walk_from};
+ghost use Rattle.hw_horizon.specs.{declared.fences.Fence.{Fence as Fenced}, declared.kept.Walk.{Walk as Walked}, Kept.{walk_of, walk_from}};
 
 use crate::fences::{Fence, Fences};
 use hw_dag::UnitNo;

@@ -1,11 +1,8 @@
 //! From where on a lane sees a quorum of those who are present.
 
 ghost use Rattle.std.specs.Prelude.{◌≡◌, ◌<◌, ◌&&◌, length, nat_le, IfSome};
-ghost use Rattle.hw_dag.specs.Dag.{count_of, unit_at, seq_of};
-ghost use Rattle.hw_dag.specs.Admission.{IsGraph};
-ghost use Rattle.hw_dag.specs.Lanes.{AreWeights};
-ghost use Rattle.hw_horizon.specs.Starts.{IsStart, IsSuffix};
-ghost use Rattle.hw_horizon.specs.Firsts.{is_after, weight_after, has_quorum as has_quorum_lem, IsNear};
+ghost use Rattle.hw_dag.specs.{Dag.{count_of, unit_at, seq_of}, Admission.{IsGraph}, Lanes.{AreWeights}};
+ghost use Rattle.hw_horizon.specs.{Starts.{IsStart, IsSuffix}, Firsts.{is_after, weight_after, has_quorum as has_quorum_lem, IsNear}};
 
 use crate::firsts::Firsts;
 use crate::jumps::lane_at;

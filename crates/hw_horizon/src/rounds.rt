@@ -2,12 +2,8 @@
 
 ghost use Rattle.std.specs.Prelude.{◌≡◌, ℕ, suc, ◌+◌, ◌-◌, ◌<◌, ◌≤◌, List, length, true, None, is_some, slice_index_or, IsTrue, IfSome, if◌then◌else◌};
 ghost use Rattle.std.specs.Option.{option_map};
-ghost use Rattle.hw_types.specs.Votes.{weight_of};
-ghost use Rattle.hw_types.specs.Graph.{is_consistent};
-ghost use Rattle.hw_dag.specs.Dag.{UnitGraph, graph, observations, count_of};
-ghost use Rattle.hw_dag.specs.declared.numbers.View.{View as Slot};
-ghost use Rattle.hw_dag.specs.Admission.{IsGraph};
-ghost use Rattle.hw_dag.specs.Lanes.{AreWeights};
+ghost use Rattle.hw_types.specs.{Votes.{weight_of}, Graph.{is_consistent}};
+ghost use Rattle.hw_dag.specs.{Dag.{UnitGraph, graph, observations, count_of}, declared.numbers.View.{View as Slot}, Admission.{IsGraph}, Lanes.{AreWeights}};
 ghost use Rattle.hw_horizon.specs.Tables.{Starts, entry, is_member, start_over, next_table, table_after, SameMembers, AreAmong};
 ghost use Rattle.hw_horizon.specs.Starts.{HasSlots};
 ghost use Rattle.hw_horizon.specs.Firsts.{AreFirsts, AreSeen, IsNear, weight_after};

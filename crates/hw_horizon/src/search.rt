@@ -2,9 +2,7 @@
 
 ghost use Rattle.std.specs.Prelude.{◌≡◌, ℕ, ◌+◌, ◌<◌, ◌≤◌, ◌↔◌, length, true, Some, IsTrue, IfSome, IfNone};
 ghost use Rattle.hw_types.specs.Graph.{is_consistent};
-ghost use Rattle.hw_dag.specs.Dag.{graph, observations, count_of, unit_at, IsPanorama};
-ghost use Rattle.hw_dag.specs.Admission.{IsGraph};
-ghost use Rattle.hw_dag.specs.Lanes.{AreWeights};
+ghost use Rattle.hw_dag.specs.{Dag.{graph, observations, count_of, unit_at, IsPanorama}, Admission.{IsGraph}, Lanes.{AreWeights}};
 ghost use Rattle.hw_horizon.specs.Kept.{AreKept};
 ghost use Rattle.hw_horizon.specs.Bounds.{AreBounds, AreTips};
 ghost use Rattle.hw_horizon.specs.Detected.{IsSearched, HasSummitAt, IsLeastLevel, HasNoLevel, IsFoundAt, StandsNot, HasSearched};

@@ -1,7 +1,6 @@
 //! The starts of the members of a committee.
 
-ghost use Rattle.std.specs.Prelude.{◌≡◌, ℕ, ◌<◌, None, length, slice_set, IfOk, is_some};
-ghost use Rattle.std.specs.List.{list_any};
+ghost use Rattle.std.specs.{Prelude.{◌≡◌, ℕ, ◌<◌, None, length, slice_set, IfOk, is_some}, List.{list_any}};
 ghost use Rattle.hw_horizon.specs.Tables.{entry};
 
 use hw_types::OutOfMemory;

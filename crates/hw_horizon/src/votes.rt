@@ -2,12 +2,8 @@
 
 ghost use Rattle.std.specs.Prelude.{Some, ◌≡◌, ℕ, ◌+◌, ◌<◌, ◌≤◌, ◌⊎◌, true, length, IfSome};
 ghost use Rattle.hw_types.specs.Votes.{is_block};
-ghost use Rattle.hw_dag.specs.Dag.{count_of, node_at, unit_at, IsPanorama, view_at};
-ghost use Rattle.hw_dag.specs.Lanes.{IsAncestorAt};
-ghost use Rattle.hw_dag.specs.Admission.{IsGraph};
-ghost use Rattle.hw_dag.specs.declared.numbers.UnitNo.{UnitNo as Number};
-ghost use Rattle.hw_forks.specs.Votes.{height_at};
-ghost use Rattle.hw_forks.specs.Walk.{is_over};
+ghost use Rattle.hw_dag.specs.{Dag.{count_of, node_at, unit_at, IsPanorama, view_at}, Lanes.{IsAncestorAt}, Admission.{IsGraph}, declared.numbers.UnitNo.{UnitNo as Number}};
+ghost use Rattle.hw_forks.specs.{Votes.{height_at}, Walk.{is_over}};
 ghost use Rattle.hw_horizon.specs.declared.kept.Walk.{Walk as Walked};
 ghost use Rattle.hw_horizon.specs.Kept.{AreKept, AreWalks, AreFences, IsWalk, IsFence};
 ghost use Rattle.hw_horizon.specs.Tables.{entry};

@@ -1,10 +1,8 @@
 //! How many blocks there were.
 
-ghost use Rattle.std.specs.Prelude.{◌≡◌, ◌+◌, ◌-◌, ◌^◌, ◌++◌, min, None, OnOk, IfOk};
-ghost use Rattle.std.specs.Io.KnownBytes.{Appends};
+ghost use Rattle.std.specs.{Prelude.{◌≡◌, ◌+◌, ◌-◌, ◌^◌, ◌++◌, min, None, OnOk, IfOk}, Io.KnownBytes.{Appends}};
 ghost use Rattle.hw_io.specs.Faults.{HasCause};
-ghost use Rattle.hw_text.specs.Text.{number_text};
-ghost use Rattle.hw_text.specs.Lines.{line_feed};
+ghost use Rattle.hw_text.specs.{Text.{number_text}, Lines.{line_feed}};
 
 use crate::wants::count_want;
 use hw_io::{Consumer, IoFault, Sink, write_all};

@@ -1,6 +1,5 @@
 //! A door to peers over TCP, which tells no sessions.
-ghost use Rattle.std.specs.Prelude.{◌≡◌, [], None, false, IfErr, IsErr, is_ok, is_some};
-ghost use Rattle.std.specs.Io.{ReadsAtMost};
+ghost use Rattle.std.specs.{Prelude.{◌≡◌, [], None, false, IfErr, IsErr, is_ok, is_some}, Io.{ReadsAtMost}};
 ghost use Rattle.hw_io.specs.Sinks.{TakesSome};
 
 use crate::complaints::{Complaints, Voice};

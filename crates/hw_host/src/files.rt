@@ -1,6 +1,5 @@
 //! The real file system and standard output. They tell no content, and count each error.
-ghost use Rattle.std.specs.Prelude.{◌≡◌, ◌≤◌, ◌^◌, ℕ, [], false, None, Some, IfErr, OnOk, OnErr};
-ghost use Rattle.std.specs.Option.{option_map};
+ghost use Rattle.std.specs.{Prelude.{◌≡◌, ◌≤◌, ◌^◌, ℕ, [], false, None, Some, IfErr, OnOk, OnErr}, Option.{option_map}};
 ghost use Rattle.hw_io.specs.Faults.{HasCause, raised};
 
 use crate::appended::{Appended, append_to};

@@ -1,6 +1,5 @@
 //! The files of a node that runs: its log is safe, and a person is told of each failure.
-ghost use Rattle.std.specs.Prelude.{◌≡◌, ◌≤◌, ◌^◌, [], false, None, IfErr, OnOk, OnErr};
-ghost use Rattle.std.specs.Option.{option_map};
+ghost use Rattle.std.specs.{Prelude.{◌≡◌, ◌≤◌, ◌^◌, [], false, None, IfErr, OnOk, OnErr}, Option.{option_map}};
 ghost use Rattle.hw_io.specs.Faults.{HasCause, raised};
 
 use crate::complaints::{Complaints, Voice};

@@ -1,6 +1,5 @@
 //! A session over a stream: what is written is held until it is worth a send, and each wait is bounded.
-ghost use Rattle.std.specs.Prelude.{◌≤◌, length, IfOk};
-ghost use Rattle.std.specs.Io.{ReadsAtMost};
+ghost use Rattle.std.specs.{Prelude.{◌≤◌, length, IfOk}, Io.{ReadsAtMost}};
 
 use crate::patience::{Patience, Progress, has_hung};
 use std::alloc::Global;

@@ -1,7 +1,5 @@
 //! Addresses from which peers came that hung.
-ghost use Rattle.std.specs.Prelude.{◌≡◌, ◌↔◌, ◌+◌, ◌*◌, max, IsTrue, IfSome};
-ghost use Rattle.std.specs.Duration.{as_nanos};
-ghost use Rattle.std.specs.Time.{instant_nanos};
+ghost use Rattle.std.specs.{Prelude.{◌≡◌, ◌↔◌, ◌+◌, ◌*◌, max, IsTrue, IfSome}, Duration.{as_nanos}, Time.{instant_nanos}};
 ghost use Rattle.hw_host.specs.Patience.{OwesTooMuch};
 
 use crate::patience::Patience;

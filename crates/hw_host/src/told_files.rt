@@ -1,6 +1,5 @@
 //! Files that say themselves why a call failed.
-ghost use Rattle.std.specs.Prelude.{◌≡◌, [], false, None};
-ghost use Rattle.std.specs.Option.{option_map};
+ghost use Rattle.std.specs.{Prelude.{◌≡◌, [], false, None}, Option.{option_map}};
 
 use crate::files::HostFiles;
 use hw_io::{Files, IoFault};

@@ -1,8 +1,7 @@
 //! Values of blocks in a file.
 
 ghost use Rattle.std.specs.Prelude.{◌≡◌, ◌∷◌, ◌++◌, [], None, IsTrue, IfOk};
-ghost use Rattle.hw_io.specs.Faults.{HasCause};
-ghost use Rattle.hw_io.specs.Files.{Appended};
+ghost use Rattle.hw_io.specs.{Faults.{HasCause}, Files.{Appended}};
 
 use crate::wants::count_want;
 use hw_io::{Consumer, Files, IoFault};

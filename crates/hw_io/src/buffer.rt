@@ -1,7 +1,6 @@
 //! Reading ahead of a file, so that its next bytes can be looked at before they are used.
 ghost use Rattle.std.specs.Prelude.{◌≡◌, ℕ, ◌+◌, ◌-◌, ◌<◌, ◌≤◌, List, [], ◌++◌, length, take, drop, slice_range, IsTrue, OnOk, OnErr, IfOk, vec_len, vec_items};
-ghost use Rattle.hw_io.specs.Buffers.{IsWindow};
-ghost use Rattle.hw_io.specs.Reads.{OnlyReads, CountsReads, HoldsMore};
+ghost use Rattle.hw_io.specs.{Buffers.{IsWindow}, Reads.{OnlyReads, CountsReads, HoldsMore}};
 
 use crate::outside::{Files, IoFault};
 use std::alloc::{AllocError, Global};

@@ -1,7 +1,6 @@
 //! The numbers of a door.
 ghost use Rattle.std.specs.Prelude.{◌≡◌};
-ghost use Rattle.hw_io.specs.Faults.{HasCause, raised};
-ghost use Rattle.hw_io.specs.Doors.{ends_after};
+ghost use Rattle.hw_io.specs.{Faults.{HasCause, raised}, Doors.{ends_after}};
 
 use crate::outside::IoFault;
 

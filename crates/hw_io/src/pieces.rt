@@ -1,8 +1,6 @@
 //! Writing to a sink until it has taken all.
-ghost use Rattle.std.specs.Prelude.{OnOk, OnErr};
-ghost use Rattle.std.specs.Io.KnownBytes.{Appends};
-ghost use Rattle.hw_io.specs.Faults.{HasCause, IsWantCounted};
-ghost use Rattle.hw_io.specs.Sinks.{AppendsPrefix};
+ghost use Rattle.std.specs.{Prelude.{OnOk, OnErr}, Io.KnownBytes.{Appends}};
+ghost use Rattle.hw_io.specs.{Faults.{HasCause, IsWantCounted}, Sinks.{AppendsPrefix}};
 
 use crate::outside::{IoFault, Sink};
 

@@ -1,7 +1,6 @@
 //! Which bytes stand where in a text of keys, and the keys that it tells.
 
-ghost use Rattle.std.specs.Prelude.{◌≡◌, length, MatchOption};
-ghost use Rattle.std.specs.List.{AllPass};
+ghost use Rattle.std.specs.{Prelude.{◌≡◌, length, MatchOption}, List.{AllPass}};
 ghost use Rattle.hex.specs.Hex.{encode_lower};
 ghost use Rattle.hw_codec.specs.Ranges.{AreBytesOf};
 ghost use Rattle.hw_keys.specs.Keys.{is_lower_digit, may_stand, IsFirstFault, HasNoFault};

@@ -1,8 +1,7 @@
 //! The functions of SHA-256 on words (FIPS 180-4, 4.1.2), on four words at a time: in each lane the
 //! function of the lanes of the arguments.
 
-ghost use Rattle.std.specs.Prelude.{◌≡◌, ℕ, ◌<◌, slice_index, bit_xor};
-ghost use Rattle.std.specs.Int.{w32, rotate_right};
+ghost use Rattle.std.specs.{Prelude.{◌≡◌, ℕ, ◌<◌, slice_index, bit_xor}, Int.{w32, rotate_right}};
 ghost use Rattle.sha2.specs.Sha256.{add32, big_sigma0, big_sigma1, ch, maj, small_sigma0, small_sigma1};
 
 use std::simd::u32x4;

@@ -3,9 +3,7 @@
 
 ghost use Rattle.std.specs.Prelude.{◌≡◌, ◌≢◌, ℕ, List, ◌+◌, ◌-◌, ◌*◌, ◌^◌, ◌<◌, ◌≤◌, [], ◌∷◌, length, slice_index, slice_set, All, MatchOption};
 ghost use Rattle.sha2.specs.Sha256.{initial_hash_256};
-ghost use Rattle.hw_lanes.specs.Columns.{column};
-ghost use Rattle.hw_lanes.specs.AtWork.{AreAt};
-ghost use Rattle.hw_lanes.specs.Pieces.{IsWithin};
+ghost use Rattle.hw_lanes.specs.{Columns.{column}, AtWork.{AreAt}, Pieces.{IsWithin}};
 
 use crate::block::compress;
 use crate::padded::{block, block_count, tail};

@@ -14,9 +14,7 @@
 //! Bytes that are no certificate have a text that names the first error and its place.
 
 ghost use Rattle.std.specs.Prelude.{◌≡◌, IfOk, IfSome, IfNone};
-ghost use Rattle.hw_light.specs.Spelling.{CertificateFits};
-ghost use Rattle.hw_light.specs.Certify.{IsYesFor};
-ghost use Rattle.hw_light.specs.Asked.{IsDecisionOf, HasNoDecision, IsAskedOf, IfAnswered, told_in, told_of};
+ghost use Rattle.hw_light.specs.{Spelling.{CertificateFits}, Certify.{IsYesFor}, Asked.{IsDecisionOf, HasNoDecision, IsAskedOf, IfAnswered, told_in, told_of}};
 
 use crate::{Certified, certify};
 use hw_core::Core;

@@ -1,14 +1,9 @@
 //! The making of a certificate.
 
-ghost use Rattle.std.specs.Prelude.{◌≡◌, ◌<◌, length, None, Some, slice_get, IfOk};
-ghost use Rattle.std.specs.List.{All};
-ghost use Rattle.hw_types.specs.Limits.{config_fault};
-ghost use Rattle.hw_types.specs.Spelling.{VertexFits};
-ghost use Rattle.hw_core.specs.Decided.{decided_in};
-ghost use Rattle.hw_core.specs.Readers.{exceeded_in};
-ghost use Rattle.hw_core.specs.Shown.{HasSummitNow};
-ghost use Rattle.hw_light.specs.Spelling.{CertificateFits};
-ghost use Rattle.hw_light.specs.Certify.{IsCertifiedAs, IsCounted, IfMade, IsYesFor};
+ghost use Rattle.std.specs.{Prelude.{◌≡◌, ◌<◌, length, None, Some, slice_get, IfOk}, List.{All}};
+ghost use Rattle.hw_types.specs.{Limits.{config_fault}, Spelling.{VertexFits}};
+ghost use Rattle.hw_core.specs.{Decided.{decided_in}, Readers.{exceeded_in}, Shown.{HasSummitNow}};
+ghost use Rattle.hw_light.specs.{Spelling.{CertificateFits}, Certify.{IsCertifiedAs, IsCounted, IfMade, IsYesFor}};
 
 use crate::answers::Certified;
 use crate::certificate::{Certificate, VertexList};

@@ -1,7 +1,6 @@
 //! The check of a certificate by keys, and what is printed of it.
 
-ghost use Rattle.std.specs.Prelude.{◌≡◌, ℕ, IsTrue, map, IfOk};
-ghost use Rattle.std.specs.List.{All};
+ghost use Rattle.std.specs.{Prelude.{◌≡◌, ℕ, IsTrue, map, IfOk}, List.{All}};
 ghost use Rattle.hw_types.specs.Spelling.{VertexFits};
 ghost use Rattle.hw_keys.specs.Signed.{verdict_of};
 ghost use Rattle.hw_light.specs.Checked.{IsAnswer, IsCertified, IfYes};

@@ -1,10 +1,7 @@
 //! The check of a certificate.
 
-ghost use Rattle.std.specs.Prelude.{◌≡◌, ℕ, [], ◌∷◌, length, None, Some, IsTrue, IfOk, OnOk};
-ghost use Rattle.std.specs.List.{All, zip};
-ghost use Rattle.hw_types.specs.Limits.{config_fault};
-ghost use Rattle.hw_types.specs.Real.{CoreState, setting_of};
-ghost use Rattle.hw_types.specs.Spelling.{VertexFits};
+ghost use Rattle.std.specs.{Prelude.{◌≡◌, ℕ, [], ◌∷◌, length, None, Some, IsTrue, IfOk, OnOk}, List.{All, zip}};
+ghost use Rattle.hw_types.specs.{Limits.{config_fault}, Real.{CoreState, setting_of}, Spelling.{VertexFits}};
 ghost use Rattle.hw_light.specs.Checked.{IsAnswer, IsBegun, IsCertified, IfYes, IsTakenAs, IsNodeFault, IsRefusalOf, taken_from, with_node};
 
 use crate::answers::{CheckFault, Checked};

@@ -1,7 +1,6 @@
 //! A certificate as bytes.
 
-ghost use Rattle.std.specs.Prelude.{◌≡◌, ◌<◌, ◌^◌, ◌++◌, length, IfOk, OnOk};
-ghost use Rattle.std.specs.List.{All, flat_map};
+ghost use Rattle.std.specs.{Prelude.{◌≡◌, ◌<◌, ◌^◌, ◌++◌, length, IfOk, OnOk}, List.{All, flat_map}};
 ghost use Rattle.hw_types.specs.Spelling.{ConfigFits, VertexFits, config_bytes};
 ghost use Rattle.hw_light.specs.Spelling.{part_bytes, counted_vertex, certificate_bytes, CertificateFits, SpellsCertificate};
 

@@ -1,13 +1,10 @@
 //! The vertices for some settled units of a node.
 
-ghost use Rattle.std.specs.Prelude.{◌≡◌, ◌<◌, ◌++◌, length, filter, if◌then◌else◌, [], ◌∷◌, IfOk, OnOk};
-ghost use Rattle.std.specs.List.{All, list_any};
-ghost use Rattle.hw_types.specs.Graph.{digest_eq};
-ghost use Rattle.hw_types.specs.Spelling.{VertexFits};
+ghost use Rattle.std.specs.{Prelude.{◌≡◌, ◌<◌, ◌++◌, length, filter, if◌then◌else◌, [], ◌∷◌, IfOk, OnOk}, List.{All, list_any}};
+ghost use Rattle.hw_types.specs.{Graph.{digest_eq}, Spelling.{VertexFits}};
 ghost use Rattle.hw_core.specs.Readers.{unit_in};
 ghost use Rattle.hw_needs.specs.Needs.{evidence_against, unit_vertices, evidence_vertices};
-ghost use Rattle.hw_light.specs.Extract.{is_marked_by, is_endorsement_of, evidence_part, endorsement_part, unit_part, vertices_for};
-ghost use Rattle.hw_light.specs.Under.{AreKnown, nodes_at};
+ghost use Rattle.hw_light.specs.{Extract.{is_marked_by, is_endorsement_of, evidence_part, endorsement_part, unit_part, vertices_for}, Under.{AreKnown, nodes_at}};
 
 use crate::certificate::VertexList;
 use crate::needed::{is_marked_by, listed_by};

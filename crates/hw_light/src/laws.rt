@@ -1,15 +1,10 @@
 //! What a yes shows, and that what is worked out of certificates and keys is what the relations say.
 
 ghost use Rattle.std.specs.Prelude.{◌≡◌, Any};
-ghost use Rattle.hw_types.specs.declared.answers.Decision.{Decision as Decided};
-ghost use Rattle.hw_types.specs.Below.{Among};
-ghost use Rattle.hw_types.specs.Real.{setting_of};
-ghost use Rattle.hw_safety.specs.declared.verdict.Verdict.{Verdict as Judgement};
-ghost use Rattle.hw_safety.specs.Verdicts.{IsVerdict, IsAccountable};
+ghost use Rattle.hw_types.specs.{declared.answers.Decision.{Decision as Decided}, Below.{Among}, Real.{setting_of}};
+ghost use Rattle.hw_safety.specs.{declared.verdict.Verdict.{Verdict as Judgement}, Verdicts.{IsVerdict, IsAccountable}};
 ghost use Rattle.hw_core.specs.Decided.{decided_in};
-ghost use Rattle.hw_light.specs.Checked.{IsCertified};
-ghost use Rattle.hw_light.specs.Laws.{YesIsDecided, YesIsAccountable};
-ghost use Rattle.hw_light.specs.Worked.{KeysAreReadAlike, AnswerIsWorkedOut, AskedIsWorkedOut};
+ghost use Rattle.hw_light.specs.{Checked.{IsCertified}, Laws.{YesIsDecided, YesIsAccountable}, Worked.{KeysAreReadAlike, AnswerIsWorkedOut, AskedIsWorkedOut}};
 
 use crate::certificate::Certificate;
 use hw_core::Core;

@@ -1,11 +1,8 @@
 //! The lines of answers.
 
 ghost use Rattle.std.specs.Prelude.{◌≡◌, ◌++◌, codes, OnOk};
-ghost use Rattle.hw_text.specs.Text.{number_text};
-ghost use Rattle.hw_text.specs.Lines.{line_feed};
-ghost use Rattle.hw_light.specs.declared.asked.Asked.TheVariants as Answers;
-ghost use Rattle.hw_light.specs.Asked.{told_in};
-ghost use Rattle.hw_light.specs.Texts.{limit_text, told_line, fault_line};
+ghost use Rattle.hw_text.specs.{Text.{number_text}, Lines.{line_feed}};
+ghost use Rattle.hw_light.specs.{declared.asked.Asked.TheVariants as Answers, Asked.{told_in}, Texts.{limit_text, told_line, fault_line}};
 
 use crate::asked::Asked;
 use crate::errors::put_limit;

@@ -1,13 +1,9 @@
 //! Whom units mark as faulty, and what they list as endorsed.
 
-ghost use Rattle.std.specs.Prelude.{◌≡◌, ℕ, ◌<◌, ◌||◌, IfOk, OnOk};
-ghost use Rattle.std.specs.List.{list_any};
-ghost use Rattle.hw_types.specs.Graph.{digest_eq, is_faulty_mark, slot};
-ghost use Rattle.hw_types.specs.Rules.{has_digest};
-ghost use Rattle.hw_types.specs.declared.unit.Digest.{Digest as Name};
-ghost use Rattle.hw_light.specs.Extract.{is_marked_by, is_listed_by};
+ghost use Rattle.std.specs.{Prelude.{◌≡◌, ℕ, ◌<◌, ◌||◌, IfOk, OnOk}, List.{list_any}};
+ghost use Rattle.hw_types.specs.{Graph.{digest_eq, is_faulty_mark, slot}, Rules.{has_digest}, declared.unit.Digest.{Digest as Name}};
+ghost use Rattle.hw_light.specs.{Extract.{is_marked_by, is_listed_by}, Under.{AreKnown, nodes_at}};
 ghost use Rattle.hw_dag.specs.Dag.{count_of, node_at};
-ghost use Rattle.hw_light.specs.Under.{AreKnown, nodes_at};
 
 use hw_dag::{Dag, UnitNo, View};
 use hw_names::NameTable;

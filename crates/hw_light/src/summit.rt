@@ -2,11 +2,8 @@
 
 ghost use Rattle.std.specs.Prelude.{◌≡◌, ◌<◌, Some, slice_get, IfOk};
 ghost use Rattle.hw_horizon.specs.Search.{committees_of};
-ghost use Rattle.hw_core.specs.Decided.{decided_in};
-ghost use Rattle.hw_core.specs.Shown.{HasSummitNow};
-ghost use Rattle.hw_light.specs.Standing.{IsStateOf, IsFresh};
-ghost use Rattle.hw_light.specs.Certify.{IsGreatestNow};
-ghost use Rattle.hw_light.specs.Under.{AreUnder};
+ghost use Rattle.hw_core.specs.{Decided.{decided_in}, Shown.{HasSummitNow}};
+ghost use Rattle.hw_light.specs.{Standing.{IsStateOf, IsFresh}, Certify.{IsGreatestNow}, Under.{AreUnder}};
 
 use crate::standing::search_for;
 use crate::under::numbers_under;

@@ -1,14 +1,12 @@
 //! The units at or below the latest units of a summit's first committee.
 
-ghost use Rattle.std.specs.Prelude.{◌≡◌, ℕ, ◌^◌, ◌<◌, ◌⊎◌, true, false, Bool, List, length, map, filter, replicate, is_some, IsTrue, IfOk};
-ghost use Rattle.std.specs.List.{range_with_len};
+ghost use Rattle.std.specs.{Prelude.{◌≡◌, ℕ, ◌^◌, ◌<◌, ◌⊎◌, true, false, Bool, List, length, map, filter, replicate, is_some, IsTrue, IfOk}, List.{range_with_len}};
 ghost use Rattle.hw_dag.specs.declared.numbers.UnitNo.{UnitNo as Number};
 ghost use Rattle.hw_dag.specs.declared.numbers.View.TheVariants.{Correct};
 ghost use Rattle.hw_dag.specs.Dag.{graph, count_of, node_of, observations, view_at, IsPanorama};
 ghost use Rattle.hw_dag.specs.Walks.{is_marked, Cites};
 ghost use Rattle.hw_horizon.specs.Search.{committees_of};
-ghost use Rattle.hw_light.specs.Extract.{is_under};
-ghost use Rattle.hw_light.specs.Under.{IsMembersLatest, IsUnderMarked, AreUnderMarked, AreKnown, nodes_at, number_in};
+ghost use Rattle.hw_light.specs.{Extract.{is_under}, Under.{IsMembersLatest, IsUnderMarked, AreUnderMarked, AreKnown, nodes_at, number_in}};
 
 use hw_dag::{Dag, Panorama, UnitNo, View};
 use hw_horizon::Horizons;

@@ -2,10 +2,7 @@
 
 ghost use Rattle.std.specs.Prelude.{◌≡◌, ◌+◌, ◌<◌, ◌≤◌, [], true, length, IfOk};
 ghost use Rattle.hw_io.specs.Doors.{AsksMore};
-ghost use Rattle.hw_link.specs.Frames.{body_here};
-ghost use Rattle.hw_link.specs.Links.{IsLinkCounted};
-ghost use Rattle.hw_link.specs.Asked.{IsAskedInside};
-ghost use Rattle.hw_link.specs.Heard.{HearsBy, IsLength, IsFrontOf, IsFront, IsBody};
+ghost use Rattle.hw_link.specs.{Frames.{body_here}, Links.{IsLinkCounted}, Asked.{IsAskedInside}, Heard.{HearsBy, IsLength, IsFrontOf, IsFront, IsBody}};
 
 use crate::end::{BYTE_LIMIT, SessionEnd, cut_end};
 use crate::fill::fill;

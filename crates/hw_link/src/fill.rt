@@ -1,10 +1,8 @@
 //! Reading so many bytes of a link.
 
 ghost use Rattle.std.specs.Prelude.{◌≡◌, ◌<◌, ◌≤◌, [], true, length, take, OnOk, OnErr};
-ghost use Rattle.hw_io.specs.Doors.{AsksMore};
-ghost use Rattle.hw_io.specs.Faults.{HasCause, raised};
-ghost use Rattle.hw_link.specs.Asked.{IsAskedWithin};
-ghost use Rattle.hw_link.specs.Links.{after_part, has_failed};
+ghost use Rattle.hw_io.specs.{Doors.{AsksMore}, Faults.{HasCause, raised}};
+ghost use Rattle.hw_link.specs.{Asked.{IsAskedWithin}, Links.{after_part, has_failed}};
 
 use hw_io::{Door, IoFault};
 

@@ -3,10 +3,7 @@
 ghost use Rattle.std.specs.Prelude.{◌≡◌, ◌+◌, ◌<◌, ◌≤◌, [], true, length, IfOk};
 ghost use Rattle.hw_types.specs.Spelling.{FrameFits};
 ghost use Rattle.hw_io.specs.Doors.{AsksMore};
-ghost use Rattle.hw_link.specs.Frames.{frame_here};
-ghost use Rattle.hw_link.specs.Asked.{IsAskedInside};
-ghost use Rattle.hw_link.specs.Links.{IsLinkCounted};
-ghost use Rattle.hw_link.specs.Heard.{Hears, IsHeard, IsDecoded};
+ghost use Rattle.hw_link.specs.{Frames.{frame_here}, Asked.{IsAskedInside}, Links.{IsLinkCounted}, Heard.{Hears, IsHeard, IsDecoded}};
 
 use crate::body::{FRONT, read_body};
 use crate::end::{BYTE_LIMIT, SessionEnd};

@@ -3,9 +3,7 @@
 ghost use Rattle.std.specs.Prelude.{◌≡◌, ◌<◌, ◌^◌, true, length, IfOk};
 ghost use Rattle.hw_types.specs.Spelling.{FrameFits};
 ghost use Rattle.hw_io.specs.Faults.{HasCause};
-ghost use Rattle.hw_link.specs.Frames.{behind_length, framed};
-ghost use Rattle.hw_link.specs.Links.{IsLinkCounted};
-ghost use Rattle.hw_link.specs.Sent.{Sends, SendsPart, OnlySends};
+ghost use Rattle.hw_link.specs.{Frames.{behind_length, framed}, Links.{IsLinkCounted}, Sent.{Sends, SendsPart, OnlySends}};
 
 use crate::end::SessionEnd;
 use hw_codec::{encode_frame, frame_is_in_range};

@@ -1,7 +1,6 @@
 //! The bytes of a log that are held, and the names of the units that stand ahead in them.
 
-ghost use Rattle.std.specs.Prelude.{◌≡◌, ◌+◌, ◌<◌, ◌≤◌, [], length, drop, map, All, IsTrue, IfOk, IfSome};
-ghost use Rattle.std.specs.Option.{option_map};
+ghost use Rattle.std.specs.{Prelude.{◌≡◌, ◌+◌, ◌<◌, ◌≤◌, [], length, drop, map, All, IsTrue, IfOk, IfSome}, Option.{option_map}};
 ghost use Rattle.sha2.specs.Sha256.{sha256};
 ghost use Rattle.hw_io.specs.Reads.{OnlyReads, CountsReads, HoldsMore};
 ghost use Rattle.hw_lanes.specs.Pieces.{IsWithin, part_of};

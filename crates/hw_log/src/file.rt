@@ -4,8 +4,7 @@
 //! made of them.
 
 ghost use Rattle.std.specs.Prelude.{◌≡◌, ◌+◌, ◌++◌, [], Some, IsTrue, IfOk, OnOk};
-ghost use Rattle.hw_io.specs.Faults.{HasCause, subject_of, IsCountedAbout};
-ghost use Rattle.hw_io.specs.Files.{SameFiles};
+ghost use Rattle.hw_io.specs.{Faults.{HasCause, subject_of, IsCountedAbout}, Files.{SameFiles}};
 
 use hw_io::{Files, IoFault};
 use hw_types::Bytes;

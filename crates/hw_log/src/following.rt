@@ -56,8 +56,7 @@ pub(crate) struct Following {
 
 impl Model for Following {
     ghost use Rattle.std.specs.Prelude.{All};
-    ghost use Rattle.hw_log.specs.Lasts.{LastUnits};
-    ghost use Rattle.hw_log.specs.Following.{Follows};
+    ghost use Rattle.hw_log.specs.{Lasts.{LastUnits}, Following.{Follows}};
 
     ghost Value = { LastUnits };
 

@@ -1,9 +1,7 @@
 //! The fixed parts: the front of a log, and the head of an entry.
 
 ghost use Rattle.std.specs.Prelude.{◌≡◌, ◌≤◌, ◌<◌, length, IfOk, IfErr, OnOk};
-ghost use Rattle.hw_log.specs.Causes.{IsOfBytes};
-ghost use Rattle.hw_log.specs.Lasts.{IsVersion};
-ghost use Rattle.hw_log.specs.Log.{front_of, head_of};
+ghost use Rattle.hw_log.specs.{Causes.{IsOfBytes}, Lasts.{IsVersion}, Log.{front_of, head_of}};
 
 use crate::error::LogError;
 

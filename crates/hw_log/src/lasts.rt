@@ -1,13 +1,9 @@
 //! The last unit of each validator, as a log goes on.
 
-ghost use Rattle.std.specs.Prelude.{◌≡◌, Some, None, Ok, set, replicate, IfOk, IfErr, IfSome};
-ghost use Rattle.std.specs.Option.{option_map};
+ghost use Rattle.std.specs.{Prelude.{◌≡◌, Some, None, Ok, set, replicate, IfOk, IfErr, IfSome}, Option.{option_map}};
 ghost use Rattle.hw_types.specs.Spelling.{Fits, VertexFits, digest_of};
-ghost use Rattle.hw_codec.specs.Decoded.{IsErrorOf};
-ghost use Rattle.hw_codec.specs.Last.{last_of};
-ghost use Rattle.hw_log.specs.Named.{IsNameOf, NamesUnit};
-ghost use Rattle.hw_log.specs.Spelled.{SpellsIn};
-ghost use Rattle.hw_log.specs.Lasts.{IsVersion, no_lasts, noted_in, noted_name, with_noted, vertex_bytes_in, vertex_in};
+ghost use Rattle.hw_codec.specs.{Decoded.{IsErrorOf}, Last.{last_of}};
+ghost use Rattle.hw_log.specs.{Named.{IsNameOf, NamesUnit}, Spelled.{SpellsIn}, Lasts.{IsVersion, no_lasts, noted_in, noted_name, with_noted, vertex_bytes_in, vertex_in}};
 
 use crate::head::FULL;
 use crate::name::unit_in;
@@ -51,8 +47,7 @@ pub struct Noted {
 }
 
 impl Model for Noted {
-    ghost use Rattle.std.specs.Prelude.{Option};
-    ghost use Rattle.std.specs.Option.{option_map};
+    ghost use Rattle.std.specs.{Prelude.{Option}, Option.{option_map}};
     ghost use Rattle.hw_log.specs.Lasts.{Kept};
 
     ghost Value = { Option Kept };

@@ -1,11 +1,7 @@
 //! What is written is read again, and what was read is written so.
 
-ghost use Rattle.std.specs.Prelude.{◌≡◌, ◌↔◌, ℕ, Bool, Ok, Some, None, List, [], ◌∷◌, ◌++◌, length, take, slice_index};
-ghost use Rattle.std.specs.List.{All};
-ghost use Rattle.hw_types.specs.declared.config.Config.{Config};
-ghost use Rattle.hw_types.specs.declared.unit.Vertex.{Vertex};
-ghost use Rattle.hw_types.specs.Limits.{config_fault};
-ghost use Rattle.hw_types.specs.Spelling.{ConfigFits, VertexFits};
+ghost use Rattle.std.specs.{Prelude.{◌≡◌, ◌↔◌, ℕ, Bool, Ok, Some, None, List, [], ◌∷◌, ◌++◌, length, take, slice_index}, List.{All}};
+ghost use Rattle.hw_types.specs.{declared.config.Config.{Config}, declared.unit.Vertex.{Vertex}, Limits.{config_fault}, Spelling.{ConfigFits, VertexFits}};
 ghost use Rattle.hw_codec.specs.Ranges.{AreBytes, ConfigInRange, VertexInRange};
 ghost use Rattle.hw_log.specs.declared.entry.LogEntry.{LogEntry};
 ghost use Rattle.hw_log.specs.declared.error.LogError.TheVariants.{Torn};

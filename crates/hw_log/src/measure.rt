@@ -1,8 +1,7 @@
 //! The whole entries of a log, counted.
 
 ghost use Rattle.std.specs.Prelude.{◌≡◌, ℕ, ◌+◌, ◌<◌, List, IsTrue, IfOk};
-ghost use Rattle.hw_io.specs.Faults.{subject_of};
-ghost use Rattle.hw_io.specs.Files.{SameFiles};
+ghost use Rattle.hw_io.specs.{Faults.{subject_of}, Files.{SameFiles}};
 ghost use Rattle.hw_log.specs.Log.{log_of};
 ghost use Rattle.hw_log.specs.Causes.{Gives, HasReadCause, IsReadAbout};
 ghost use Rattle.hw_log.specs.Reader.{PlacesFit, left_of, ahead_of};

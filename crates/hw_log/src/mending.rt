@@ -1,8 +1,7 @@
 //! A log without its torn end.
 
 ghost use Rattle.std.specs.Prelude.{◌≡◌, ◌≢◌, ◌⊎◌, ℕ, List, Some, IsTrue, IsSome, IfOk, IfErr, OnErr, MatchResult};
-ghost use Rattle.hw_io.specs.Faults.{subject_of};
-ghost use Rattle.hw_io.specs.Files.{SameFiles};
+ghost use Rattle.hw_io.specs.{Faults.{subject_of}, Files.{SameFiles}};
 ghost use Rattle.hw_log.specs.Causes.{HasReadCause, IsReadAbout, IsOutside as IsUnreadError};
 ghost use Rattle.hw_log.specs.Rewritten.{mended_of, bytes_before, Says, HasRewritten, IsCutShort};
 ghost use Rattle.hw_log.specs.RewriteCauses.{IsAbsentFault, IsPutFault, IsOutside, IsWhy, HasRewriteCause, IsReadAbout as IsRewriteAbout};

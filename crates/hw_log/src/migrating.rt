@@ -1,10 +1,8 @@
 //! A log in version 2.
 
 ghost use Rattle.std.specs.Prelude.{◌≡◌, ◌≢◌, ◌⊎◌, ℕ, List, [], Some, None, IsTrue, IsSome, IfOk, IfErr, OnOk, OnErr, MatchResult};
-ghost use Rattle.hw_io.specs.Faults.{subject_of};
-ghost use Rattle.hw_io.specs.Files.{SameFiles};
-ghost use Rattle.hw_types.specs.Limits.{config_fault};
-ghost use Rattle.hw_types.specs.Spelling.{ConfigFits};
+ghost use Rattle.hw_io.specs.{Faults.{subject_of}, Files.{SameFiles}};
+ghost use Rattle.hw_types.specs.{Limits.{config_fault}, Spelling.{ConfigFits}};
 ghost use Rattle.hw_log.specs.Causes.{Gives, HasReadCause, IsReadAbout};
 ghost use Rattle.hw_log.specs.Reader.{PlacesFit, StandsBehind};
 ghost use Rattle.hw_log.specs.Rewritten.{migrated_of, Says, HasRewritten, IsCutShort};

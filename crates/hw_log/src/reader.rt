@@ -1,12 +1,8 @@
 //! The reader of a log.
 
 ghost use Rattle.std.specs.Prelude.{◌≡◌, ℕ, ◌+◌, ◌≤◌, ◌<◌, ◌^◌, ◌==◌, Some, None, ◌++◌, length, take, drop, IsTrue, IfOk, IfErr, IfSome, OnOk, OnErr, box_value};
-ghost use Rattle.hw_io.specs.Faults.{subject_of};
-ghost use Rattle.hw_io.specs.Files.{SameFiles, Begins};
-ghost use Rattle.hw_types.specs.declared.unit.Vertex.TheVariants.{Unit};
-ghost use Rattle.hw_types.specs.Limits.{config_fault};
-ghost use Rattle.hw_types.specs.Reading.{config_of};
-ghost use Rattle.hw_types.specs.Spelling.{ConfigFits, VertexFits};
+ghost use Rattle.hw_io.specs.{Faults.{subject_of}, Files.{SameFiles, Begins}};
+ghost use Rattle.hw_types.specs.{declared.unit.Vertex.TheVariants.{Unit}, Limits.{config_fault}, Reading.{config_of}, Spelling.{ConfigFits, VertexFits}};
 ghost use Rattle.hw_log.specs.declared.error.LogError.TheVariants.{Torn, BadConfig, BadVertex, OutOfMemory};
 ghost use Rattle.hw_log.specs.Lasts.{IsVersion, lasts_after, noted_in, noted_name, vertex_in};
 ghost use Rattle.hw_log.specs.Log.{rest_at, bytes_at, decoded, front_of, checked_config, header_of, head_at, body_at, entry_at, next_at};

@@ -3,9 +3,7 @@
 ghost use Rattle.std.specs.Prelude.{◌≡◌, ◌++◌, IfOk, OnOk};
 ghost use Rattle.hw_types.specs.Spelling.{ConfigFits, VertexFits};
 ghost use Rattle.hw_codec.specs.Ranges.{ConfigInRange};
-ghost use Rattle.hw_log.specs.Lasts.{lasts_after};
-ghost use Rattle.hw_log.specs.Log.{header_bytes, entry_bytes as bytes_of_entry};
-ghost use Rattle.hw_log.specs.Spelled.{EntryFits};
+ghost use Rattle.hw_log.specs.{Lasts.{lasts_after}, Log.{header_bytes, entry_bytes as bytes_of_entry}, Spelled.{EntryFits}};
 
 use crate::{Lasts, LogEntry, entry_bytes};
 use hw_codec::{config_is_in_range, encode_config, vertex_is_in_range};

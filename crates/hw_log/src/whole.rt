@@ -1,12 +1,8 @@
 //! A whole log at once.
 
 ghost use Rattle.std.specs.Prelude.{◌≡◌, ℕ, List, None, IsTrue, IfErr, IfOk, OnOk};
-ghost use Rattle.hw_io.specs.Faults.{subject_of};
-ghost use Rattle.hw_io.specs.Files.{SameFiles};
-ghost use Rattle.hw_log.specs.Log.{log_of};
-ghost use Rattle.hw_log.specs.Causes.{HasReadCause, IsReadAbout};
-ghost use Rattle.hw_log.specs.Reader.{PlacesFit, StandsBehind};
-ghost use Rattle.hw_log.specs.Whole.{SaysWhole, SaysFault, IsFaultOf};
+ghost use Rattle.hw_io.specs.{Faults.{subject_of}, Files.{SameFiles}};
+ghost use Rattle.hw_log.specs.{Log.{log_of}, Causes.{HasReadCause, IsReadAbout}, Reader.{PlacesFit, StandsBehind}, Whole.{SaysWhole, SaysFault, IsFaultOf}};
 
 use crate::entry::LogEntry;
 use crate::error::LogError;

@@ -3,9 +3,7 @@
 ghost use Rattle.std.specs.Prelude.{◌≡◌, ◌≢◌, Some, IsTrue, IfOk};
 ghost use Rattle.hw_io.specs.Files.{Appended};
 ghost use Rattle.hw_types.specs.Spelling.{ConfigFits, VertexFits};
-ghost use Rattle.hw_log.specs.Lasts.{IsVersion};
-ghost use Rattle.hw_log.specs.Log.{header_bytes, entry_bytes};
-ghost use Rattle.hw_log.specs.Causes.{HasAppendCause, AppendsLog};
+ghost use Rattle.hw_log.specs.{Lasts.{IsVersion}, Log.{header_bytes, entry_bytes}, Causes.{HasAppendCause, AppendsLog}};
 
 use crate::error::{LogError, error_of_append};
 use crate::head::{MAGIC, VERTEX_EVENT};

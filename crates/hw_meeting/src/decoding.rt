@@ -1,9 +1,7 @@
 //! Frames from all of their bytes.
 
-ghost use Rattle.std.specs.Prelude.{◌≡◌, ◌⊎◌, ◌==◌, ◌&&◌, nat_lt, length, Ok, Err, IfOk, IfErr, if◌then◌else◌};
-ghost use Rattle.std.specs.List.{list_all};
-ghost use Rattle.hw_types.specs.declared.answers.CodecError.{CodecError};
-ghost use Rattle.hw_types.specs.Reading.{Gives, vertex_of, whole, digest_at};
+ghost use Rattle.std.specs.{Prelude.{◌≡◌, ◌⊎◌, ◌==◌, ◌&&◌, nat_lt, length, Ok, Err, IfOk, IfErr, if◌then◌else◌}, List.{list_all}};
+ghost use Rattle.hw_types.specs.{declared.answers.CodecError.{CodecError}, Reading.{Gives, vertex_of, whole, digest_at}};
 ghost use Rattle.hw_meeting.specs.declared.frame.MeetingFrame.{MeetingFrame};
 ghost use Rattle.hw_meeting.specs.declared.frame.FrameFault.TheVariants as Faults;
 ghost use Rattle.hw_meeting.specs.Frames.{rise_from, are_validators, SpellsMeeting, MeetingInRange, summary_at, torn_at, meeting_behind, meeting_of, fault_of};

@@ -1,7 +1,6 @@
 //! What a node owes another.
 
-ghost use Rattle.std.specs.Prelude.{◌≡◌, ◌<◌, ◌≤◌, ◌==◌, ◌||◌, length, take, map, filter_map, slice_get, All, IfOk};
-ghost use Rattle.std.specs.List.{list_any, range_with_len};
+ghost use Rattle.std.specs.{Prelude.{◌≡◌, ◌<◌, ◌≤◌, ◌==◌, ◌||◌, length, take, map, filter_map, slice_get, All, IfOk}, List.{list_any, range_with_len}};
 ghost use Rattle.hw_agree.specs.Converge.{is_due, due_of};
 ghost use Rattle.hw_meeting.specs.Due.{owed_by, is_owed, owed_at, AreOwed};
 

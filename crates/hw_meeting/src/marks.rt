@@ -1,12 +1,7 @@
 //! Whether all units of a validator are on the lane of its highest settled one.
 
 ghost use Rattle.std.specs.Prelude.{◌≡◌, ◌<◌, ◌↔◌, ◌++◌, ◌∷◌, [], ℕ, List, length, IsTrue, IfOk, IfSome};
-ghost use Rattle.hw_types.specs.declared.unit.Digest.{Digest};
-ghost use Rattle.hw_types.specs.Graph.{Node};
-ghost use Rattle.hw_types.specs.Spelling.{instance_of};
-ghost use Rattle.hw_types.specs.Limits.{config_fault};
-ghost use Rattle.hw_types.specs.Real.{setting_of};
-ghost use Rattle.hw_types.specs.laws.StateLaws.{units_in};
+ghost use Rattle.hw_types.specs.{declared.unit.Digest.{Digest}, Graph.{Node}, Spelling.{instance_of}, Limits.{config_fault}, Real.{setting_of}, laws.StateLaws.{units_in}};
 ghost use Rattle.hw_dag.specs.Dag.{count_of};
 ghost use Rattle.hw_meeting.specs.Lanes.{AreHighest, IsOnLaneOf, IsOnTip, marked, AreMarks, node_named};
 

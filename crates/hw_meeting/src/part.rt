@@ -1,8 +1,7 @@
 //! What a summary tells of each validator, as bytes.
 
 ghost use Rattle.std.specs.Prelude.{◌≡◌, ◌<◌, ◌^◌, ◌++◌, length, OnOk};
-ghost use Rattle.hw_types.specs.Reading.{Gives, many_at, counted_at};
-ghost use Rattle.hw_types.specs.Spelling.{counted};
+ghost use Rattle.hw_types.specs.{Reading.{Gives, many_at, counted_at}, Spelling.{counted}};
 ghost use Rattle.hw_meeting.specs.Frames.{part_bytes, unit_count_at, part_behind, part_at};
 
 use crate::frame::SummaryList;

@@ -3,8 +3,7 @@
 //! A validator's units are a line exactly where each is on the lane of its highest settled one. So one pass
 //! over the graph finds the highest units, and one over the journal tests each unit against them.
 
-ghost use Rattle.std.specs.Prelude.{◌≡◌, ◌<◌, length, map, IfOk, IfSome};
-ghost use Rattle.std.specs.List.{range_with_len};
+ghost use Rattle.std.specs.{Prelude.{◌≡◌, ◌<◌, length, map, IfOk, IfSome}, List.{range_with_len}};
 ghost use Rattle.hw_types.specs.Real.{setting_of};
 ghost use Rattle.hw_dag.specs.Dag.{count_of};
 ghost use Rattle.hw_agree.specs.Converge.{summaries};

@@ -3,8 +3,7 @@
 ghost use Rattle.std.specs.Prelude.{◌≡◌, ◌<◌, ℕ, List, Option, Some, true, length, filter_map, slice_get, All, OnOk, IfOk};
 ghost use Rattle.hw_types.specs.Spelling.{VertexFits};
 ghost use Rattle.hw_io.specs.Doors.{Session};
-ghost use Rattle.hw_link.specs.Links.{IsLinkCounted};
-ghost use Rattle.hw_link.specs.Sent.{Sends, OnlySends};
+ghost use Rattle.hw_link.specs.{Links.{IsLinkCounted}, Sent.{Sends, OnlySends}};
 ghost use Rattle.hw_meeting_node.specs.Frames.{sent_bytes};
 ghost use Rattle.hw_meeting_node.specs.Meeting.{told_of, owed_by, to_hello, to_summary, to_torn, greeted, told, given_torn, given_vertex, finished};
 ghost use Rattle.hw_meeting_node.specs.Handling.{meeting_of, IsKept, Reacts, IsTakerCounted};

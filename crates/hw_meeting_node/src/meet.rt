@@ -2,11 +2,8 @@
 
 ghost use Rattle.std.specs.Prelude.{◌≡◌, ◌⊎◌, ◌<◌, ◌≤◌, [], ℕ, List, Option, Some, None, true, false, length, OnOk, IfOk, All};
 ghost use Rattle.hw_types.specs.Real.{CoreState};
-ghost use Rattle.hw_io.specs.Doors.{Session, AsksMore};
-ghost use Rattle.hw_io.specs.Faults.{raised};
-ghost use Rattle.hw_link.specs.Asked.{IsAskedInside, IsAskedBehind, IsPrompt};
-ghost use Rattle.hw_link.specs.Links.{after_part, IsLinkCounted};
-ghost use Rattle.hw_link.specs.Sent.{Sends, OnlySends};
+ghost use Rattle.hw_io.specs.{Doors.{Session, AsksMore}, Faults.{raised}};
+ghost use Rattle.hw_link.specs.{Asked.{IsAskedInside, IsAskedBehind, IsPrompt}, Links.{after_part, IsLinkCounted}, Sent.{Sends, OnlySends}};
 ghost use Rattle.hw_meeting.specs.Frames.{IsSaid};
 ghost use Rattle.hw_meeting_node.specs.Frames.{frame_here, sent_bytes};
 ghost use Rattle.hw_meeting_node.specs.Meeting.{begun, first_word, meet_step, at_stage, met_said};

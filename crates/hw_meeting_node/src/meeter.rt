@@ -1,8 +1,7 @@
 //! What a node keeps of a meeting.
 
 ghost use Rattle.std.specs.Prelude.{◌≡◌, ◌≤◌, length, IfOk};
-ghost use Rattle.hw_meeting_node.specs.Meeting.{begun};
-ghost use Rattle.hw_meeting_node.specs.Handling.{meeting_of, IsKept};
+ghost use Rattle.hw_meeting_node.specs.{Meeting.{begun}, Handling.{meeting_of, IsKept}};
 
 use hw_core::Core;
 use hw_meeting::{PlaceList, SummaryList, summary_of};

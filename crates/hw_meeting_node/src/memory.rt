@@ -1,9 +1,7 @@
 //! A taker in memory.
 
-ghost use Rattle.std.specs.Prelude.{◌≡◌, []};
-ghost use Rattle.std.specs.List.{list_any};
-ghost use Rattle.hw_meeting_node.specs.Taker.{Takes};
-ghost use Rattle.hw_meeting_node.specs.Memory.{vertex_eq, verdict_by, take_fault};
+ghost use Rattle.std.specs.{Prelude.{◌≡◌, []}, List.{list_any}};
+ghost use Rattle.hw_meeting_node.specs.{Taker.{Takes}, Memory.{vertex_eq, verdict_by, take_fault}};
 
 use crate::same::is_same_vertex;
 use crate::taker::{TakeFault, Taker};

@@ -2,11 +2,9 @@
 
 ghost use Rattle.std.specs.Prelude.{◌≡◌, ◌+◌, ◌<◌, ◌≤◌, [], true, length, IfOk};
 ghost use Rattle.hw_io.specs.Doors.{AsksMore};
-ghost use Rattle.hw_link.specs.Asked.{IsAskedInside};
-ghost use Rattle.hw_link.specs.Links.{IsLinkCounted};
+ghost use Rattle.hw_link.specs.{Asked.{IsAskedInside}, Links.{IsLinkCounted}};
 ghost use Rattle.hw_meeting.specs.Frames.{IsSaid};
-ghost use Rattle.hw_meeting_node.specs.Frames.{frame_here};
-ghost use Rattle.hw_meeting_node.specs.Heard.{Hears, IsHeard, IsDecoded};
+ghost use Rattle.hw_meeting_node.specs.{Frames.{frame_here}, Heard.{Hears, IsHeard, IsDecoded}};
 
 use hw_io::Door;
 use hw_link::{BYTE_LIMIT, FRONT, SessionEnd, read_body};

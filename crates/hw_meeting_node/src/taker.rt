@@ -1,12 +1,8 @@
 //! What takes the vertices of a peer.
 
 ghost use Rattle.std.specs.Prelude.{◌≡◌, ℕ, List, Bool, Result};
-ghost use Rattle.hw_types.specs.declared.unit.Vertex.{Vertex};
-ghost use Rattle.hw_types.specs.declared.answers.Receipt.{Receipt};
-ghost use Rattle.hw_types.specs.Real.{CoreState};
-ghost use Rattle.hw_types.specs.Spelling.{VertexFits};
-ghost use Rattle.hw_meeting_node.specs.declared.taker.TakeFault.{TakeFault};
-ghost use Rattle.hw_meeting_node.specs.Taker.{Takes, IsTakeCounted};
+ghost use Rattle.hw_types.specs.{declared.unit.Vertex.{Vertex}, declared.answers.Receipt.{Receipt}, Real.{CoreState}, Spelling.{VertexFits}};
+ghost use Rattle.hw_meeting_node.specs.{declared.taker.TakeFault.{TakeFault}, Taker.{Takes, IsTakeCounted}};
 
 use hw_core::Core;
 use hw_types::{Cause, Receipt, Vertex};

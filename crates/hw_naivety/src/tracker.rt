@@ -5,8 +5,7 @@ ghost use Rattle.hw_types.specs.Graph.{Node, is_consistent};
 ghost use Rattle.hw_dag.specs.declared.numbers.View.TheVariants as view;
 ghost use Rattle.hw_dag.specs.Dag.{UnitGraph, graph, count_of, node_at, view_at, observations, IsPanorama};
 ghost use Rattle.hw_dag.specs.Admission.{IsGraph, IsResolved, node_prepared};
-ghost use Rattle.hw_naivety.specs.Naivety.{KeepsEndorsed, HasNoNaiveFork, HasSight, IsLeastNaiveFork, IsNoted};
-ghost use Rattle.hw_naivety.specs.Tips.{HasLists, LanesAre};
+ghost use Rattle.hw_naivety.specs.{Naivety.{KeepsEndorsed, HasNoNaiveFork, HasSight, IsLeastNaiveFork, IsNoted}, Tips.{HasLists, LanesAre}};
 
 use crate::fork::NaiveFork;
 use crate::sight::Sight;
@@ -30,8 +29,7 @@ pub struct Naivety {
 
 impl Model for Naivety {
     ghost use Rattle.std.specs.Prelude.{◌≡◌, ◌-◌, ◌≤◌, length};
-    ghost use Rattle.hw_naivety.specs.Naivety.{NaiveTips};
-    ghost use Rattle.hw_naivety.specs.Tips.{AreRows, IsRoomy};
+    ghost use Rattle.hw_naivety.specs.{Naivety.{NaiveTips}, Tips.{AreRows, IsRoomy}};
 
     ghost Value = { NaiveTips };
 

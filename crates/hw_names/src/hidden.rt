@@ -1,8 +1,7 @@
 //! A table behind a pointer whose type doesn't name it.
 
 ghost use Rattle.std.specs.Prelude.{◌≡◌};
-ghost use Rattle.hw_names.specs.Hidden.{owns_table, shares_table, table_coded};
-ghost use Rattle.hw_names.specs.Names.{Names};
+ghost use Rattle.hw_names.specs.{Hidden.{owns_table, shares_table, table_coded}, Names.{Names}};
 
 use crate::table::Table;
 use crate::unboxed::Unboxed;

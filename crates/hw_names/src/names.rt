@@ -1,7 +1,6 @@
 //! Names and their places.
 
-ghost use Rattle.std.specs.Prelude.{◌≡◌, ◌+◌, ◌≤◌, [], ◌∷◌, ◌++◌, false, length, position, is_some, OnOk};
-ghost use Rattle.std.specs.List.{list_any, IsDistinct};
+ghost use Rattle.std.specs.{Prelude.{◌≡◌, ◌+◌, ◌≤◌, [], ◌∷◌, ◌++◌, false, length, position, is_some, OnOk}, List.{list_any, IsDistinct}};
 ghost use Rattle.hw_types.specs.Graph.{digest_eq};
 
 use crate::hidden::HiddenTable;

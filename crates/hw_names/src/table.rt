@@ -1,7 +1,6 @@
 //! The table itself: names with their hashes.
 
-ghost use Rattle.std.specs.Prelude.{◌≡◌, ◌+◌, ◌≤◌, [], ◌∷◌, ◌++◌, false, length, position, is_some, IfOk, OnOk};
-ghost use Rattle.std.specs.List.{list_any, IsDistinct};
+ghost use Rattle.std.specs.{Prelude.{◌≡◌, ◌+◌, ◌≤◌, [], ◌∷◌, ◌++◌, false, length, position, is_some, IfOk, OnOk}, List.{list_any, IsDistinct}};
 ghost use Rattle.hw_types.specs.Graph.{digest_eq};
 
 use hw_types::{Digest, OutOfMemory};

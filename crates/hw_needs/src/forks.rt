@@ -1,8 +1,7 @@
 //! Two settled units of one creator and one sequence number.
 
 ghost use Rattle.std.specs.Prelude.{◌≡◌, ℕ, ◌+◌, ◌<◌, ◌↔◌, None, IsTrue, IfOk, IfSome, OnOk, min};
-ghost use Rattle.hw_types.specs.Culprits.{pair_of};
-ghost use Rattle.hw_types.specs.Graph.{digest_lt};
+ghost use Rattle.hw_types.specs.{Culprits.{pair_of}, Graph.{digest_lt}};
 ghost use Rattle.hw_dag.specs.Dag.{graph, count_of, unit_at};
 ghost use Rattle.hw_safety.specs.Pairs.{lower_of};
 ghost use Rattle.hw_needs.specs.Forks.{StandsAt, AreNoted, IsLeastWithTwo, IsAbove, IsLower, IsLeastAbove, AreLeastTwo, AreNamed, nodes_at};

@@ -1,9 +1,7 @@
 //! The first needs that items have left.
 
 ghost use Rattle.std.specs.Prelude.{◌≡◌, ◌≤◌, length, take, if◌then◌else◌};
-ghost use Rattle.hw_park.specs.First.{with_first, with_firsts};
-ghost use Rattle.hw_park.specs.Held.{left_of};
-ghost use Rattle.hw_park.specs.Numbers.{numbers_at, has_number};
+ghost use Rattle.hw_park.specs.{First.{with_first, with_firsts}, Held.{left_of}, Numbers.{numbers_at, has_number}};
 
 use crate::waits::{Waits, waits_for};
 use hw_types::Need;

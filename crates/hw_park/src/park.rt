@@ -51,8 +51,7 @@ impl<T> Model for Park<T> {
     ghost Value = { Parked T };
 
     ghost use Rattle.std.specs.BinaryHeap.{heap_items, heap_len, heap_capacity};
-    ghost use Rattle.hw_park.specs.Numbers.{numbers_at};
-    ghost use Rattle.hw_park.specs.Kept.{parked_by, IsKept};
+    ghost use Rattle.hw_park.specs.{Numbers.{numbers_at}, Kept.{parked_by, IsKept}};
 
     ghost view = { λ p. parked_by p.limit p.next p.waiters (numbers_at p.waits.entries) };
 

@@ -3,10 +3,7 @@
 ghost use Rattle.std.specs.Prelude.{◌≡◌, ◌≢◌, ◌⊎◌, ℕ, ◌≤◌, ◌-◌, ◌==◌, List, [], Option, length, take, true, false, Some, None, OnOk, OnErr, IfErr, IfSome, IfNone, if◌then◌else◌};
 ghost use Rattle.std.specs.Option.{option_map};
 ghost use Rattle.hw_types.specs.declared.unit.Need.{Need as Wanted};
-ghost use Rattle.hw_park.specs.Held.{held, found, ready_at, slot_at, struck_by, IsPutAt, HasBecome};
-ghost use Rattle.hw_park.specs.Kept.{listed};
-ghost use Rattle.hw_park.specs.Numbers.{numbers_at, SameNumbers};
-ghost use Rattle.hw_park.specs.Parked.{awaited};
+ghost use Rattle.hw_park.specs.{Held.{held, found, ready_at, slot_at, struck_by, IsPutAt, HasBecome}, Kept.{listed}, Numbers.{numbers_at, SameNumbers}, Parked.{awaited}};
 
 use crate::first::put_left;
 use crate::waits::{Waits, register, withdraw};

@@ -1,12 +1,8 @@
 //! Which places wait for which need.
 
-ghost use Rattle.std.specs.Prelude.{◌≡◌, ℕ, [], ◌∷◌, ◌++◌, true, false, List, OnOk, OnErr};
-ghost use Rattle.std.specs.declared.vec.Vec.{Vec as Numbers};
-ghost use Rattle.std.specs.declared.alloc.Global.{Global as Memory};
-ghost use Rattle.hw_types.specs.declared.unit.Need.{Need as Wanted};
-ghost use Rattle.hw_types.specs.Settled.{need_eq};
-ghost use Rattle.hw_park.specs.declared.key.NeedKey.{NeedKey as Key};
-ghost use Rattle.hw_park.specs.Numbers.{numbers_at, has_number, SameNumbers, HasRegistered};
+ghost use Rattle.std.specs.{Prelude.{◌≡◌, ℕ, [], ◌∷◌, ◌++◌, true, false, List, OnOk, OnErr}, declared.vec.Vec.{Vec as Numbers}, declared.alloc.Global.{Global as Memory}};
+ghost use Rattle.hw_types.specs.{declared.unit.Need.{Need as Wanted}, Settled.{need_eq}};
+ghost use Rattle.hw_park.specs.{declared.key.NeedKey.{NeedKey as Key}, Numbers.{numbers_at, has_number, SameNumbers, HasRegistered}};
 
 use crate::key::{NeedKey, key_of};
 use hw_types::{Need, OutOfMemory};

@@ -1,10 +1,8 @@
 //! What the words of a command line ask for.
 
-ghost use Rattle.std.specs.Prelude.{◌≡◌};
-ghost use Rattle.std.specs.Option.{option_copied};
+ghost use Rattle.std.specs.{Prelude.{◌≡◌}, Option.{option_copied}};
 ghost use Rattle.hw_commands.specs.Commands.{request_of};
-ghost use Rattle.hw_program.specs.Services.{service_of, address_in, log_in};
-ghost use Rattle.hw_program.specs.Requested.{worked_request, node_request, HasRange};
+ghost use Rattle.hw_program.specs.{Services.{service_of, address_in, log_in}, Requested.{worked_request, node_request, HasRange}};
 
 use crate::services::{NodeCommand, service_of};
 use hw_commands::{Command, Words, command_of};

@@ -1,15 +1,10 @@
 //! The top call.
 
 ghost use Rattle.std.specs.Prelude.{◌≡◌, ◌≢◌, None, Some, IsSome, IfSome, IsTrue, ◌⊎◌};
-ghost use Rattle.hw_io.specs.Faults.{Rose};
-ghost use Rattle.hw_io.specs.Files.{SameFiles};
+ghost use Rattle.hw_io.specs.{Faults.{Rose}, Files.{SameFiles}};
 ghost use Rattle.hw_replay.specs.Fates.{seen};
-ghost use Rattle.hw_service.specs.Scene.{door_seen};
-ghost use Rattle.hw_service.specs.Begun.{IsAbout};
+ghost use Rattle.hw_service.specs.{Scene.{door_seen}, Begun.{IsAbout}};
 ghost use Rattle.hw_commands.specs.Commands.{request_of, OnlyReads, UsesFilesAlone};
-ghost use Rattle.hw_program.specs.Services.{service_of, names_in, IsWorkedOut, IsNoCommand, UsesNoClock, maker_in};
-ghost use Rattle.hw_program.specs.Serving.{service};
-ghost use Rattle.hw_program.specs.Served.{around, counts, output, RunsNode, CanRun, IsRunEnd, AsksNoValidator, OnlyLogChanges};
 ghost use Rattle.hw_commands.specs.Texts.{usage_line, read_fault_line, append_fault_line};
 ghost use Rattle.hw_commands.specs.Due.{FailsOf};
 ghost use Rattle.hw_commands.specs.Files.{FilesAfter, IsAllowed};
@@ -18,6 +13,9 @@ ghost use Rattle.hw_commands.specs.Conflict.{ReportsConflict, ReportsEraConflict
 ghost use Rattle.hw_commands.specs.Fed.{CallsNone, ConsumersAfter, IsTextOf};
 ghost use Rattle.hw_commands.specs.Shown.{IsShown, IfChecks, ShowsCertificate, ContradictsCertificate};
 ghost use Rattle.hw_commands.specs.Run.{IsStatus, IsWorkedStatus, IsServiceStatus, IsDone, IsSaid, IsRefusal, WritesLine, WritesText, WritesPrefix, EndsWithoutMemory, EndsAppending};
+ghost use Rattle.hw_program.specs.Services.{service_of, names_in, IsWorkedOut, IsNoCommand, UsesNoClock, maker_in};
+ghost use Rattle.hw_program.specs.Serving.{service};
+ghost use Rattle.hw_program.specs.Served.{around, counts, output, RunsNode, CanRun, IsRunEnd, AsksNoValidator, OnlyLogChanges};
 
 use crate::host_peers::host_peers;
 use crate::meet_peer::meet_peer;

@@ -2,11 +2,8 @@
 
 ghost use Rattle.std.specs.Prelude.{◌≡◌, ◌≤◌, map, string_bytes, IfOk};
 ghost use Rattle.hw_replay.specs.Fates.{seen};
-ghost use Rattle.hw_service.specs.Scene.{door_seen};
-ghost use Rattle.hw_service.specs.Begin.{names_of};
-ghost use Rattle.hw_service.specs.Loans.{loans};
-ghost use Rattle.hw_program.specs.Services.{Run};
-ghost use Rattle.hw_program.specs.Served.{around, counts, output, AreNew, RunsNode};
+ghost use Rattle.hw_service.specs.{Scene.{door_seen}, Begin.{names_of}, Loans.{loans}};
+ghost use Rattle.hw_program.specs.{Services.{Run}, Served.{around, counts, output, AreNew, RunsNode}};
 
 use crate::ends::end_run;
 use hw_io::{Clock, Consumer, Door, Files, Sink};

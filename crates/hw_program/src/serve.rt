@@ -2,10 +2,8 @@
 
 ghost use Rattle.std.specs.Prelude.{◌≤◌, ℕ, List, Option};
 ghost use Rattle.hw_replay.specs.Fates.{seen};
-ghost use Rattle.hw_service.specs.Scene.{door_seen};
-ghost use Rattle.hw_service.specs.Begin.{names_of};
-ghost use Rattle.hw_program.specs.Services.{Serve};
-ghost use Rattle.hw_program.specs.Served.{around, counts, output, RunsNode};
+ghost use Rattle.hw_service.specs.{Scene.{door_seen}, Begin.{names_of}};
+ghost use Rattle.hw_program.specs.{Services.{Serve}, Served.{around, counts, output, RunsNode}};
 
 use crate::ends::end_run;
 use hw_io::{Consumer, Door, Files, Sink};

@@ -2,9 +2,7 @@
 
 ghost use Rattle.std.specs.Prelude.{◌≡◌, ℕ, ◌+◌, ◌-◌, ◌<◌, ◌≤◌, ◌∷◌, ◌++◌, [], length, take, drop, All, slice_index, slice_get, Some, None, OnOk, OnErr, vec_capacity};
 ghost use Rattle.std.specs.List.{range_with_len, remove};
-ghost use Rattle.hw_replay.specs.Fates.{seen, AreServed};
-ghost use Rattle.hw_replay.specs.Chain.{told_chain};
-ghost use Rattle.hw_replay.specs.Told.{HasTaken, IsTold, IsFinished};
+ghost use Rattle.hw_replay.specs.{Fates.{seen, AreServed}, Chain.{told_chain}, Told.{HasTaken, IsTold, IsFinished}};
 
 use crate::chain::chain_length;
 use crate::ending::{Dropped, Ending};

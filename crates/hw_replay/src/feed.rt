@@ -1,9 +1,7 @@
 //! Consumers are told the decided blocks while a log is replayed, and what is said of those that failed.
 
-ghost use Rattle.std.specs.Prelude.{◌≡◌, ◌≤◌, true, [], length, All, IsTrue, IfOk, IfErr, IfSome, OnOk};
-ghost use Rattle.std.specs.Option.{option_copied};
-ghost use Rattle.hw_io.specs.Faults.{subject_of};
-ghost use Rattle.hw_io.specs.Files.{SameFiles};
+ghost use Rattle.std.specs.{Prelude.{◌≡◌, ◌≤◌, true, [], length, All, IsTrue, IfOk, IfErr, IfSome, OnOk}, Option.{option_copied}};
+ghost use Rattle.hw_io.specs.{Faults.{subject_of}, Files.{SameFiles}};
 ghost use Rattle.hw_types.specs.Spelling.{ConfigFits};
 ghost use Rattle.hw_replay.specs.Replay.{is_wanted, taken_in, ahead_in, TakesAll, Replays};
 ghost use Rattle.hw_replay.specs.Causes.{HasReplayCause, IsReplayAbout};

@@ -1,11 +1,8 @@
 //! One consumer: a block that it is given, and the end.
 
-ghost use Rattle.std.specs.Prelude.{◌≡◌, Some, None, Ok, Err, OnErr, IfErr, MatchResult};
-ghost use Rattle.std.specs.Option.{option_map};
-ghost use Rattle.hw_io.specs.Faults.{HasCause, IsWantCounted};
-ghost use Rattle.hw_io.specs.Consumers.{after_take, after_finish};
-ghost use Rattle.hw_replay.specs.Fates.{seen, answer_of, ending_of};
-ghost use Rattle.hw_replay.specs.Told.{IsFinished};
+ghost use Rattle.std.specs.{Prelude.{◌≡◌, Some, None, Ok, Err, OnErr, IfErr, MatchResult}, Option.{option_map}};
+ghost use Rattle.hw_io.specs.{Faults.{HasCause, IsWantCounted}, Consumers.{after_take, after_finish}};
+ghost use Rattle.hw_replay.specs.{Fates.{seen, answer_of, ending_of}, Told.{IsFinished}};
 
 use crate::ending::Ending;
 use hw_io::{Consumer, IoFault};

@@ -2,14 +2,12 @@
 
 ghost use Rattle.std.specs.Prelude.{◌≡◌, ◌≢◌, ◌+◌, ◌<◌, ◌≤◌, ◌^◌, ◌⊎◌, true, false, [], Ok, Some, None, IsTrue, IfOk, IfErr, IfSome, OnOk, OnErr, box_value};
 ghost use Rattle.std.specs.Option.{option_copied};
-ghost use Rattle.hw_io.specs.Faults.{subject_of};
-ghost use Rattle.hw_io.specs.Files.{SameFiles};
+ghost use Rattle.hw_io.specs.{Faults.{subject_of}, Files.{SameFiles}};
 ghost use Rattle.hw_types.specs.Limits.{config_fault};
 ghost use Rattle.hw_types.specs.Spelling.{Fits, VertexFits, ConfigFits, digest_of};
-ghost use Rattle.hw_log.specs.Named.{IsNameOf, unnamed};
-ghost use Rattle.hw_log.specs.Reader.{ahead_of, PlacesFit};
 ghost use Rattle.hw_types.specs.declared.answers.Cause.TheVariants as Causes;
 ghost use Rattle.hw_types.specs.declared.unit.Vertex.TheVariants as Vertices;
+ghost use Rattle.hw_log.specs.{Named.{IsNameOf, unnamed}, Reader.{ahead_of, PlacesFit}};
 ghost use Rattle.hw_replay.specs.declared.fault.StartFault.TheVariants as Faults;
 ghost use Rattle.hw_replay.specs.Taken.{nothing_taken, entry_taken, spelling_of, stop_of, clash_with};
 ghost use Rattle.hw_replay.specs.Replay.{is_wanted, taken_in, ahead_in, IsOutside, Begins, Leads, TakesAll, GrowsByOne, Replays};

@@ -1,9 +1,7 @@
 //! One consumer and the blocks that it hasn't taken.
 
 ghost use Rattle.std.specs.Prelude.{◌≡◌, ℕ, ◌≤◌, length};
-ghost use Rattle.hw_replay.specs.Fates.{seen, ending_of};
-ghost use Rattle.hw_replay.specs.Chain.{told_chain};
-ghost use Rattle.hw_replay.specs.Told.{IsTold};
+ghost use Rattle.hw_replay.specs.{Fates.{seen, ending_of}, Chain.{told_chain}, Told.{IsTold}};
 
 use crate::chain::{block_at, chain_length};
 use crate::ending::Ending;

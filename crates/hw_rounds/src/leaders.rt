@@ -8,8 +8,7 @@
 //! Contracts see a table as the configuration that it was made of. Looking up a leader takes no memory.
 
 ghost use Rattle.std.specs.Prelude.{◌≡◌, ◌<◌, length, None, IfOk};
-ghost use Rattle.hw_types.specs.Limits.{config_fault};
-ghost use Rattle.hw_types.specs.Rounds.{leader_of};
+ghost use Rattle.hw_types.specs.{Limits.{config_fault}, Rounds.{leader_of}};
 
 use crate::drawing::{drawn_number, drawn_place, entry_at, running_weights, seed_of};
 use hw_types::{Config, Leaders, OutOfMemory};

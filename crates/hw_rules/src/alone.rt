@@ -1,9 +1,7 @@
 //! The rules of a unit alone.
 
-ghost use Rattle.std.specs.Prelude.{◌≡◌};
-ghost use Rattle.std.specs.List.{list_any};
-ghost use Rattle.hw_types.specs.Graph.{slot, is_correct};
-ghost use Rattle.hw_types.specs.Rules.{local_rule};
+ghost use Rattle.std.specs.{Prelude.{◌≡◌}, List.{list_any}};
+ghost use Rattle.hw_types.specs.{Graph.{slot, is_correct}, Rules.{local_rule}};
 ghost use Rattle.hw_rules.specs.Verdict.{verdict_of};
 
 use crate::lists::rises;

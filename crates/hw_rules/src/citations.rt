@@ -1,14 +1,12 @@
 //! The rules of what a unit cites.
 
 ghost use Rattle.std.specs.Prelude.{◌≡◌, ◌==◌, ◌+◌, ◌<◌, length, not, nat_lt, false};
-ghost use Rattle.hw_types.specs.Graph.{is_consistent};
-ghost use Rattle.hw_types.specs.Tests.{first_broken};
+ghost use Rattle.hw_types.specs.{Graph.{is_consistent}, Tests.{first_broken}};
 ghost use Rattle.hw_dag.specs.declared.numbers.View.TheVariants as view;
 ghost use Rattle.hw_dag.specs.Dag.{unit_at, creator_of, view_at, count_of};
 ghost use Rattle.hw_dag.specs.Admission.{IsGraph, node_prepared};
 ghost use Rattle.hw_dag.specs.Tables.{number_of};
-ghost use Rattle.hw_rules.specs.Judged.{IsCase, EachNamed, below_of, citation_tests, has_foreign_slot, skips_number, goes_back};
-ghost use Rattle.hw_rules.specs.Verdict.{verdict_of};
+ghost use Rattle.hw_rules.specs.{Judged.{IsCase, EachNamed, below_of, citation_tests, has_foreign_slot, skips_number, goes_back}, Verdict.{verdict_of}};
 
 use crate::lookups::{cited_beside, newest, previous, wire_unit};
 use hw_dag::{Dag, Prepared, Slot, consistent};

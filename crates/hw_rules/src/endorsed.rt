@@ -1,13 +1,8 @@
 //! The rules of a unit's endorsed list.
 
-ghost use Rattle.std.specs.Prelude.{◌≡◌, ◌≤◌, true, false, IsTrue};
-ghost use Rattle.std.specs.List.{list_all};
-ghost use Rattle.hw_types.specs.Graph.{is_consistent};
-ghost use Rattle.hw_types.specs.Rules.{has_digest, has_naive_fork};
-ghost use Rattle.hw_types.specs.Tests.{first_broken};
-ghost use Rattle.hw_dag.specs.Dag.{count_of, unit_at};
-ghost use Rattle.hw_dag.specs.Admission.{IsGraph, node_prepared};
-ghost use Rattle.hw_dag.specs.Lists.{AllNameBelow};
+ghost use Rattle.std.specs.{Prelude.{◌≡◌, ◌≤◌, true, false, IsTrue}, List.{list_all}};
+ghost use Rattle.hw_types.specs.{Graph.{is_consistent}, Rules.{has_digest, has_naive_fork}, Tests.{first_broken}};
+ghost use Rattle.hw_dag.specs.{Dag.{count_of, unit_at}, Admission.{IsGraph, node_prepared}, Lists.{AllNameBelow}};
 ghost use Rattle.hw_naivety.specs.Naivety.{IsNoted};
 ghost use Rattle.hw_rules.specs.Judged.{IsCase, EachNamed, AllKeepEndorsed, AllEndorseSeen, below_of, endorsed_tests, has_foreign_slot, drops_endorsed, endorses_unseen};
 ghost use Rattle.hw_rules.specs.Verdict.{verdict_of};

@@ -1,11 +1,8 @@
 //! The rules of a unit over the units below it.
 
 ghost use Rattle.std.specs.Prelude.{◌≡◌, ◌≤◌, ◌<◌, ◌+◌, None, Some, IfOk, IfErr, length, false};
-ghost use Rattle.hw_types.specs.Limits.{config_fault};
-ghost use Rattle.hw_types.specs.Rules.{state_rule, is_after_terminal};
-ghost use Rattle.hw_dag.specs.Dag.{graph, count_of};
-ghost use Rattle.hw_dag.specs.Admission.{IsResolved, IsFork, IsGraph, node_prepared};
-ghost use Rattle.hw_dag.specs.Lanes.{AreWeights};
+ghost use Rattle.hw_types.specs.{Limits.{config_fault}, Rules.{state_rule, is_after_terminal}};
+ghost use Rattle.hw_dag.specs.{Dag.{graph, count_of}, Admission.{IsResolved, IsFork, IsGraph, node_prepared}, Lanes.{AreWeights}};
 ghost use Rattle.hw_forks.specs.Votes.{IsRoomFor};
 ghost use Rattle.hw_naivety.specs.Naivety.{IsNoted};
 ghost use Rattle.hw_rules.specs.Judged.{IsCase, KeepsLocalRules, IsForkOf, AllEndorseSeen, below_of, stands_at};

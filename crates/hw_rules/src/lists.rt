@@ -1,7 +1,6 @@
 //! Lists of digests.
 
-ghost use Rattle.std.specs.Prelude.{◌≡◌, ◌<◌, ◌≤◌, ◌↔◌, true, length, IsTrue, IfSome};
-ghost use Rattle.std.specs.List.{list_all};
+ghost use Rattle.std.specs.{Prelude.{◌≡◌, ◌<◌, ◌≤◌, ◌↔◌, true, length, IsTrue, IfSome}, List.{list_all}};
 ghost use Rattle.hw_types.specs.Rules.{has_digest, is_rising};
 
 use hw_types::Digest;

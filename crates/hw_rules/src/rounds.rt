@@ -1,11 +1,9 @@
 //! The rules of a unit's round.
 
 ghost use Rattle.std.specs.Prelude.{◌≡◌, ◌==◌, ◌≤◌, ◌/◌, ◌^◌};
-ghost use Rattle.hw_types.specs.Rounds.{changes_lawfully};
-ghost use Rattle.hw_types.specs.Tests.{first_broken};
+ghost use Rattle.hw_types.specs.{Rounds.{changes_lawfully}, Tests.{first_broken}};
 ghost use Rattle.hw_dag.specs.Admission.{node_prepared};
-ghost use Rattle.hw_rules.specs.Judged.{IsCase, below_of, round_tests, changes_round, is_third, is_unled, repeats_time};
-ghost use Rattle.hw_rules.specs.Verdict.{verdict_of};
+ghost use Rattle.hw_rules.specs.{Judged.{IsCase, below_of, round_tests, changes_round, is_third, is_unled, repeats_time}, Verdict.{verdict_of}};
 
 use crate::lookups::{previous, previous_of, wire_unit};
 use hw_dag::{Dag, Prepared};

@@ -1,9 +1,6 @@
 //! The members.
 
-ghost use Rattle.hw_samples.specs.Cluster.{ClusterIsReached};
-ghost use Rattle.hw_samples.specs.Light.{YesMeetsAnother};
-ghost use Rattle.hw_samples.specs.EraNodes.{EraNodesAreThere};
-ghost use Rattle.hw_samples.specs.Files.{LogsAreInConflict, CertificatesAreInFiles};
+ghost use Rattle.hw_samples.specs.{Cluster.{ClusterIsReached}, Light.{YesMeetsAnother}, EraNodes.{EraNodesAreThere}, Files.{LogsAreInConflict, CertificatesAreInFiles}};
 
 /// Three nodes are a cluster beside a validator that may be faulty, and two of them have the block that one made.
 pub fn a_cluster_is_reached()

@@ -3,9 +3,8 @@
 ghost use Rattle.std.specs.Prelude.{◌≡◌, ◌+◌, ◌++◌, ◌<◌, [], length, IfOk, OnOk};
 ghost use Rattle.hw_core.specs.Decided.{decided_in};
 ghost use Rattle.hw_types.specs.Real.{setting_of};
-ghost use Rattle.hw_script.specs.Shows.{finals_text};
+ghost use Rattle.hw_script.specs.{Shows.{finals_text}, Told.{HasLines, HasTold, IsBehind}};
 ghost use Rattle.hw_explain.specs.Told.{AreNewFrom};
-ghost use Rattle.hw_script.specs.Told.{HasLines, HasTold, IsBehind};
 
 use crate::named::put_named;
 use hw_core::Core;

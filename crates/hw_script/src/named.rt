@@ -1,7 +1,6 @@
 //! The line of a final block, by its name.
 
-ghost use Rattle.std.specs.Prelude.{◌≡◌, ◌++◌, OnOk};
-ghost use Rattle.std.specs.List.{join_with_byte};
+ghost use Rattle.std.specs.{Prelude.{◌≡◌, ◌++◌, OnOk}, List.{join_with_byte}};
 ghost use Rattle.hw_types.specs.Real.{received_in};
 ghost use Rattle.hw_explain.specs.Searched.{IsDecidedNow};
 ghost use Rattle.hw_script.specs.Shows.{named_words, named_line};

@@ -1,7 +1,6 @@
 //! What a node shows.
 
-ghost use Rattle.std.specs.Prelude.{◌≡◌, ◌++◌, length, OnOk};
-ghost use Rattle.std.specs.List.{flat_map};
+ghost use Rattle.std.specs.{Prelude.{◌≡◌, ◌++◌, length, OnOk}, List.{flat_map}};
 ghost use Rattle.hw_types.specs.Real.{received_in, panorama_in};
 ghost use Rattle.hw_text.specs.Lines.{spaced};
 ghost use Rattle.hw_explain.specs.Report.{faulty_line, faulty_in};

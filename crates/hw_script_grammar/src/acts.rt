@@ -33,8 +33,7 @@ pub struct Acts {
 
 impl Model for Acts {
     ghost use Rattle.std.specs.Prelude.{List};
-    ghost use Rattle.hw_script_grammar.specs.declared.acts.Act.{Act};
-    ghost use Rattle.hw_script_grammar.specs.Fits.{AllActsFit};
+    ghost use Rattle.hw_script_grammar.specs.{declared.acts.Act.{Act}, Fits.{AllActsFit}};
 
     ghost Value = { List Act };
 

@@ -1,9 +1,7 @@
 //! What one line defines or does.
 
 ghost use Rattle.std.specs.Prelude.{◌≡◌, None, IfOk, IfSome};
-ghost use Rattle.hw_types.specs.Limits.{config_fault};
-ghost use Rattle.hw_types.specs.Real.{setting_of};
-ghost use Rattle.hw_types.specs.Spelling.{instance_of};
+ghost use Rattle.hw_types.specs.{Limits.{config_fault}, Real.{setting_of}, Spelling.{instance_of}};
 ghost use Rattle.hw_script_grammar.specs.Words.{each, one_or_more};
 ghost use Rattle.hw_script_grammar.specs.Acts.{delivery_of, deliver_line, endorsements_of, endorse_line, shown_by, show_line, line_kind, adds_behind, line_adds, AddsFit};
 ghost use Rattle.hw_script_grammar.specs.Fits.{ActFits};

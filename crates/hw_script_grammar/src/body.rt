@@ -1,13 +1,8 @@
 //! The lines behind the settings.
 
 ghost use Rattle.std.specs.Prelude.{◌≡◌, None, OnOk};
-ghost use Rattle.hw_types.specs.Limits.{config_fault};
-ghost use Rattle.hw_types.specs.Real.{setting_of};
-ghost use Rattle.hw_types.specs.Spelling.{instance_of};
-ghost use Rattle.hw_script_grammar.specs.Lines.{lines_in};
-ghost use Rattle.hw_script_grammar.specs.Acts.{AddsFit};
-ghost use Rattle.hw_script_grammar.specs.Body.{nothing_said, with_more, with_line, lines_add};
-ghost use Rattle.hw_script_grammar.specs.Answers.{Gives, Reads};
+ghost use Rattle.hw_types.specs.{Limits.{config_fault}, Real.{setting_of}, Spelling.{instance_of}};
+ghost use Rattle.hw_script_grammar.specs.{Lines.{lines_in}, Acts.{AddsFit}, Body.{nothing_said, with_more, with_line, lines_add}, Answers.{Gives, Reads}};
 
 use crate::acts::Acts;
 use crate::adds::{Adds, line_adds};

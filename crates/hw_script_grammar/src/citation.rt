@@ -1,9 +1,7 @@
 //! What a unit says of each validator.
 
 ghost use Rattle.std.specs.Prelude.{◌≡◌, map, length, slice_get, IfOk};
-ghost use Rattle.hw_script_grammar.specs.Words.{next_each};
-ghost use Rattle.hw_script_grammar.specs.Units.{citation_of, citations, unit_number};
-ghost use Rattle.hw_script_grammar.specs.Answers.{Gives};
+ghost use Rattle.hw_script_grammar.specs.{Words.{next_each}, Units.{citation_of, citations, unit_number}, Answers.{Gives}};
 
 use crate::fault::Fault;
 use crate::names::Names;

@@ -2,10 +2,7 @@
 
 ghost use Rattle.std.specs.Prelude.{◌≡◌, ◌+◌, ◌≤◌, length, not, position, IfOk, OnOk};
 ghost use Rattle.hw_types.specs.Graph.{digest_lt};
-ghost use Rattle.hw_script_grammar.specs.Words.{each, one_or_more};
-ghost use Rattle.hw_script_grammar.specs.Names.{digest_as};
-ghost use Rattle.hw_script_grammar.specs.Units.{put_digest, in_order, endorsed_names, unit_endorsed};
-ghost use Rattle.hw_script_grammar.specs.Answers.{Gives};
+ghost use Rattle.hw_script_grammar.specs.{Words.{each, one_or_more}, Names.{digest_as}, Units.{put_digest, in_order, endorsed_names, unit_endorsed}, Answers.{Gives}};
 
 use crate::fault::Fault;
 use crate::names::Names;

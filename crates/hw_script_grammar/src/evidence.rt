@@ -2,8 +2,7 @@
 
 ghost use Rattle.std.specs.Prelude.{IfOk};
 ghost use Rattle.hw_types.specs.Spelling.{Fits, VertexFits};
-ghost use Rattle.hw_script_grammar.specs.Units.{next_unit, evidence_line};
-ghost use Rattle.hw_script_grammar.specs.Answers.{Gives};
+ghost use Rattle.hw_script_grammar.specs.{Units.{next_unit, evidence_line}, Answers.{Gives}};
 
 use crate::fault::Fault;
 use crate::named::{Named, unsigned};

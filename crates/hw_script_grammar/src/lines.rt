@@ -1,9 +1,7 @@
 //! The lines of a text, one after the other.
 
 ghost use Rattle.std.specs.Prelude.{◌≡◌, ◌+◌, ◌∷◌, [], length, true, false, Some, MatchOption, IfNone};
-ghost use Rattle.hw_script_grammar.specs.Texts.{texts_of};
-ghost use Rattle.hw_script_grammar.specs.Lines.{lines_in, is_skipped, begin_with_setting};
-ghost use Rattle.hw_script_grammar.specs.Wording.{is_setting};
+ghost use Rattle.hw_script_grammar.specs.{Texts.{texts_of}, Lines.{lines_in, is_skipped, begin_with_setting}, Wording.{is_setting}};
 
 use crate::words::{Words, cut};
 use std::marker::Model;
@@ -17,8 +15,7 @@ pub(crate) struct Lines<'a> {
 }
 
 impl<'a> Model for Lines<'a> {
-    ghost use Rattle.std.specs.Prelude.{◌+◌, ◌≤◌, ◌^◌};
-    ghost use Rattle.std.specs.Option.{option_copied};
+    ghost use Rattle.std.specs.{Prelude.{◌+◌, ◌≤◌, ◌^◌}, Option.{option_copied}};
     ghost use Rattle.hw_script_grammar.specs.Texts.{Rest, texts_of, most_lines};
 
     ghost Value = { Rest };

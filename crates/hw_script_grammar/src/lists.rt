@@ -1,9 +1,7 @@
 //! Lists of numbers to the end of a line.
 
 ghost use Rattle.std.specs.Prelude.{◌^◌};
-ghost use Rattle.hw_script_grammar.specs.Numbers.{number_below};
-ghost use Rattle.hw_script_grammar.specs.Words.{one_or_more, each};
-ghost use Rattle.hw_script_grammar.specs.Answers.{Gives};
+ghost use Rattle.hw_script_grammar.specs.{Numbers.{number_below}, Words.{one_or_more, each}, Answers.{Gives}};
 
 use crate::fault::Fault;
 use crate::numbers::number_up_to;

@@ -1,9 +1,7 @@
 //! What a name stands for.
 
-ghost use Rattle.std.specs.Prelude.{◌≡◌, IfOk, IfSome};
-ghost use Rattle.std.specs.Option.{option_copied};
-ghost use Rattle.hw_types.specs.Same.{unit_eq};
-ghost use Rattle.hw_types.specs.Spelling.{Fits, VertexFits};
+ghost use Rattle.std.specs.{Prelude.{◌≡◌, IfOk, IfSome}, Option.{option_copied}};
+ghost use Rattle.hw_types.specs.{Same.{unit_eq}, Spelling.{Fits, VertexFits}};
 ghost use Rattle.hw_script_grammar.specs.Names.{has_name, is_digest, is_unit, unit_in, unsigned};
 
 use hw_types::{Bytes, Digest, OutOfMemory, Signature, SignedUnit, Vertex, WireUnit, is_same_unit};

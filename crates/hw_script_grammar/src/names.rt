@@ -1,7 +1,6 @@
 //! All that is defined in a script, by name.
 
-ghost use Rattle.std.specs.Prelude.{◌≡◌, ◌++◌, ◌∷◌, [], find, IfSome, OnOk, OnErr};
-ghost use Rattle.std.specs.Option.{option_copied};
+ghost use Rattle.std.specs.{Prelude.{◌≡◌, ◌++◌, ◌∷◌, [], find, IfSome, OnOk, OnErr}, Option.{option_copied}};
 ghost use Rattle.hw_types.specs.Spelling.{Fits, VertexFits};
 ghost use Rattle.hw_script_grammar.specs.Names.{named_as, is_taken, unit_as, digest_as, name_of, has_unit, is_digest};
 
@@ -18,8 +17,7 @@ pub struct Names {
 
 impl Model for Names {
     ghost use Rattle.std.specs.Prelude.{List};
-    ghost use Rattle.hw_script_grammar.specs.declared.named.Named.{Named};
-    ghost use Rattle.hw_script_grammar.specs.Names.{AllFit};
+    ghost use Rattle.hw_script_grammar.specs.{declared.named.Named.{Named}, Names.{AllFit}};
 
     ghost Value = { List Named };
 

@@ -1,8 +1,6 @@
 //! Decimal numbers.
 
-ghost use Rattle.std.specs.Prelude.{◌≡◌, ◌+◌, ◌-◌, ◌*◌, ◌<◌, ◌≤◌, ◌^◌, IfSome};
-ghost use Rattle.std.specs.Option.{SomeIff};
-ghost use Rattle.std.specs.List.{list_all};
+ghost use Rattle.std.specs.{Prelude.{◌≡◌, ◌+◌, ◌-◌, ◌*◌, ◌<◌, ◌≤◌, ◌^◌, IfSome}, Option.{SomeIff}, List.{list_all}};
 ghost use Rattle.hw_script_grammar.specs.Numbers.{is_digit, is_number, with_digit, value_of, number_below};
 
 /// The number that the word is, in decimal digits without a zero in front, where it is at most this.

@@ -2,9 +2,7 @@
 
 ghost use Rattle.std.specs.Prelude.{◌≡◌, None, IfOk, IfErr};
 ghost use Rattle.hw_types.specs.Limits.{config_fault};
-ghost use Rattle.hw_script_grammar.specs.Script.{script_of};
-ghost use Rattle.hw_script_grammar.specs.Grammar.{Writes, IsFirstWrong};
-ghost use Rattle.hw_script_grammar.specs.Answers.{Reads, IsLine};
+ghost use Rattle.hw_script_grammar.specs.{Script.{script_of}, Grammar.{Writes, IsFirstWrong}, Answers.{Reads, IsLine}};
 
 use crate::acts::Acts;
 use crate::body::read_body;

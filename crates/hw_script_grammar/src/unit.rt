@@ -1,12 +1,8 @@
 //! Lines that define a unit.
 
 ghost use Rattle.std.specs.Prelude.{◌≡◌, ◌<◌, ◌≤◌, ◌^◌, length, codes, None, IfOk, IfSome};
-ghost use Rattle.hw_types.specs.Limits.{config_fault};
-ghost use Rattle.hw_types.specs.Spelling.{Fits, VertexFits, instance_of, digest_of};
-ghost use Rattle.hw_types.specs.Real.{setting_of};
-ghost use Rattle.hw_script_grammar.specs.Words.{optional, number};
-ghost use Rattle.hw_script_grammar.specs.Units.{new_name, unit_numbers, value_text, unit_value, unit_behind, named_unit, unit_line};
-ghost use Rattle.hw_script_grammar.specs.Answers.{Gives};
+ghost use Rattle.hw_types.specs.{Limits.{config_fault}, Spelling.{Fits, VertexFits, instance_of, digest_of}, Real.{setting_of}};
+ghost use Rattle.hw_script_grammar.specs.{Words.{optional, number}, Units.{new_name, unit_numbers, value_text, unit_value, unit_behind, named_unit, unit_line}, Answers.{Gives}};
 
 use crate::citation::{citations, panorama_of, unit_number};
 use crate::digests::unit_endorsed;

@@ -1,7 +1,6 @@
 //! Names, values, and the words that are neither.
 
-ghost use Rattle.std.specs.Prelude.{◌≡◌, bytes_eq};
-ghost use Rattle.std.specs.List.{list_all};
+ghost use Rattle.std.specs.{Prelude.{◌≡◌, bytes_eq}, List.{list_all}};
 ghost use Rattle.hw_script_grammar.specs.Words.{words_of};
 ghost use Rattle.hw_script_grammar.specs.Wording.{is_one_of, is_reserved, is_setting_word, is_line_word, is_answer_word, is_lower, is_upper, is_name_byte, is_value_byte, is_name, is_value};
 

@@ -20,8 +20,7 @@ pub(crate) struct Words<'a> {
 }
 
 impl<'a> Model for Words<'a> {
-    ghost use Rattle.std.specs.Prelude.{List, ℕ};
-    ghost use Rattle.std.specs.Option.{option_copied};
+    ghost use Rattle.std.specs.{Prelude.{List, ℕ}, Option.{option_copied}};
     ghost use Rattle.hw_script_grammar.specs.Words.{pieces};
 
     ghost Value = { List (List ℕ) };

@@ -4,15 +4,14 @@ ghost use Rattle.std.specs.Prelude.{◌≡◌, ◌≤◌, ◌<◌, ℕ, Option, 
 ghost use Rattle.std.specs.List.{range_with_len};
 ghost use Rattle.hw_types.specs.Limits.{config_fault};
 ghost use Rattle.hw_core.specs.Promises.{begun};
-ghost use Rattle.hw_io.specs.Faults.{subject_of};
-ghost use Rattle.hw_io.specs.Files.{SameFiles};
+ghost use Rattle.hw_io.specs.{Faults.{subject_of}, Files.{SameFiles}};
 ghost use Rattle.hw_replay.specs.declared.fault.StartFault.TheVariants as start;
 ghost use Rattle.hw_replay.specs.Chain.{told_chain};
 ghost use Rattle.hw_replay.specs.Told.{HasTaken};
 ghost use Rattle.hw_replay.specs.Midway.{file_begun};
 ghost use Rattle.hw_replay.specs.Feed.{moment, AreFed, AreFedSome, AreFedPart, file_replayed};
-ghost use Rattle.hw_session.specs.Start.{Starts, StartsThere, StartsLog, HasStartCause, IsReadOfLog};
 ghost use Rattle.hw_replay.specs.Causes.{HasReplayCause, IsReplayAbout};
+ghost use Rattle.hw_session.specs.Start.{Starts, StartsThere, StartsLog, HasStartCause, IsReadOfLog};
 ghost use Rattle.hw_service.specs.Scene.{DoorSeen, sight_of, outside, scene, none_told};
 ghost use Rattle.hw_service.specs.Begin.{names_of, file_settings, HoldsKeys, IsNoValidator, IsValidator, Reads, ReadsNot, HasBegun, BeginsNot, fault_of_start};
 ghost use Rattle.hw_service.specs.Begun.{IsOfFile, IsOfSettings, IsOfKeys, fault_of_look, IsReadOf, IsAbout};

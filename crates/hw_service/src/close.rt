@@ -2,10 +2,7 @@
 
 ghost use Rattle.std.specs.Prelude.{◌≡◌, ◌≤◌, ℕ, List, Option, length, IfOk, IfErr, OnOk};
 ghost use Rattle.hw_io.specs.Faults.{raised};
-ghost use Rattle.hw_service.specs.Scene.{DoorSeen, sight_of, outside, scene};
-ghost use Rattle.hw_service.specs.Run.{ReportsAs, HaveTaken};
-ghost use Rattle.hw_service.specs.Written.{IsOfOutput};
-ghost use Rattle.hw_service.specs.Counts.{IsWriteCounted};
+ghost use Rattle.hw_service.specs.{Scene.{DoorSeen, sight_of, outside, scene}, Run.{ReportsAs, HaveTaken}, Written.{IsOfOutput}, Counts.{IsWriteCounted}};
 
 use crate::ended::Served;
 use crate::fault::ServiceFault;

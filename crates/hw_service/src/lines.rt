@@ -1,7 +1,6 @@
 //! The lines that are written of a run.
 
-ghost use Rattle.std.specs.Prelude.{◌≡◌, ℕ, ◌++◌, IfOk, IfErr, OnOk, OnErr};
-ghost use Rattle.std.specs.Io.KnownBytes.{Appends};
+ghost use Rattle.std.specs.{Prelude.{◌≡◌, ℕ, ◌++◌, IfOk, IfErr, OnOk, OnErr}, Io.KnownBytes.{Appends}};
 ghost use Rattle.hw_io.specs.Sinks.{AppendsPrefix};
 ghost use Rattle.hw_service.specs.Counts.{IsWriteCounted};
 ghost use Rattle.hw_service.specs.Lines.{end_words, line_of_end, limits_line, closing_text};

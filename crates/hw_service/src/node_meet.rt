@@ -7,8 +7,7 @@ ghost use Rattle.std.specs.Prelude.{◌≡◌, ◌⊎◌, false};
 ghost use Rattle.hw_io.specs.Faults.{raised};
 ghost use Rattle.hw_keys.specs.Signed.{verdict_of};
 ghost use Rattle.hw_meeting_node.specs.Sessions.{CallsPeer, HostsPeer, MeetsNone, IsLinkEnd, IsTakerEnd};
-ghost use Rattle.hw_service.specs.Talk.{talker};
-ghost use Rattle.hw_service.specs.Meets.{NodeCalls, NodeHosts};
+ghost use Rattle.hw_service.specs.{Talk.{talker}, Meets.{NodeCalls, NodeHosts}};
 
 use crate::taker::NodeTaker;
 use hw_io::{Door, Files};

@@ -1,10 +1,7 @@
 //! A validator's own units in a run.
 
-ghost use Rattle.std.specs.Prelude.{◌≡◌, ◌≢◌, ◌≤◌, ◌<◌, ◌++◌, ◌^◌, ℕ, List, Option, length, IsTrue, IfOk, IfErr, IfSome, OnOk, Some};
-ghost use Rattle.hw_types.specs.Real.{setting_of};
-ghost use Rattle.hw_types.specs.Limits.{config_fault};
-ghost use Rattle.std.specs.Prelude.{None};
-ghost use Rattle.hw_types.specs.Spelling.{Fits};
+ghost use Rattle.std.specs.{Prelude.{◌≡◌, ◌≢◌, ◌≤◌, ◌<◌, ◌++◌, ◌^◌, ℕ, List, Option, length, IsTrue, IfOk, IfErr, IfSome, OnOk, Some}, Prelude.{None}};
+ghost use Rattle.hw_types.specs.{Real.{setting_of}, Limits.{config_fault}, Spelling.{Fits}};
 ghost use Rattle.hw_honest.specs.Cluster.{value_at};
 ghost use Rattle.hw_service.specs.Scene.{DoorSeen, sight_of, outside, scene, IsReady};
 ghost use Rattle.hw_service.specs.Run.{HaveTaken};

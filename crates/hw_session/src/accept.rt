@@ -1,12 +1,11 @@
 //! A peer's vertex.
 
-ghost use Rattle.std.specs.Prelude.{◌≡◌, Ok, IsTrue, IfOk, IfErr, IfSome, OnOk, OnErr};
-ghost use Rattle.std.specs.Option.{option_copied};
+ghost use Rattle.std.specs.{Prelude.{◌≡◌, Ok, IsTrue, IfOk, IfErr, IfSome, OnOk, OnErr}, Option.{option_copied}};
 ghost use Rattle.hw_types.specs.Real.{answer_in, after_in};
 ghost use Rattle.hw_types.specs.Spelling.{VertexFits, Fits};
-ghost use Rattle.hw_core.specs.Deliver.{IsRefusal};
 ghost use Rattle.hw_types.specs.declared.answers.Cause.TheVariants as cause;
 ghost use Rattle.hw_types.specs.declared.unit.Vertex.TheVariants as Vertices;
+ghost use Rattle.hw_core.specs.Deliver.{IsRefusal};
 ghost use Rattle.hw_replay.specs.Taken.{spelling_of};
 ghost use Rattle.hw_keys.specs.Signed.{verdict_of};
 ghost use Rattle.hw_log.specs.Named.{IsNameOf};

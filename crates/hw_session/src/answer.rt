@@ -1,19 +1,11 @@
 //! What a node sends in answer to a peer's frame.
 
-ghost use Rattle.std.specs.Prelude.{◌≡◌, ◌+◌, ◌<◌, ◌≤◌, ℕ, List, [], ◌∷◌, ◌++◌, true, length, map, take, drop, IfOk};
-ghost use Rattle.std.specs.List.{All, flat_map};
-ghost use Rattle.hw_types.specs.Spelling.{VertexFits};
-ghost use Rattle.hw_types.specs.declared.unit.Vertex.{Vertex};
-ghost use Rattle.hw_types.specs.declared.answers.Frame.TheVariants as frame;
+ghost use Rattle.std.specs.{Prelude.{◌≡◌, ◌+◌, ◌<◌, ◌≤◌, ℕ, List, [], ◌∷◌, ◌++◌, true, length, map, take, drop, IfOk}, List.{All, flat_map}};
+ghost use Rattle.hw_types.specs.{Spelling.{VertexFits}, declared.unit.Vertex.{Vertex}, declared.answers.Frame.TheVariants as frame};
 ghost use Rattle.hw_core.specs.Readers.{missing_needs};
-ghost use Rattle.hw_link.specs.Frames.{framed, sent_bytes};
-ghost use Rattle.hw_link.specs.Links.{IsLinkCounted};
-ghost use Rattle.hw_link.specs.Sent.{Sends};
-ghost use Rattle.hw_needs.specs.Needs.{vertices_of};
-ghost use Rattle.hw_needs.specs.Pairs.{ArePairs};
-ghost use Rattle.hw_session.specs.Outside.{door_calls};
-ghost use Rattle.hw_session.specs.Serving.{part_from, answer_to_have, answer_to_want, sent_for, first_missing, wanted_by};
-ghost use Rattle.hw_session.specs.Handling.{StandsLast};
+ghost use Rattle.hw_link.specs.{Frames.{framed, sent_bytes}, Links.{IsLinkCounted}, Sent.{Sends}};
+ghost use Rattle.hw_needs.specs.{Needs.{vertices_of}, Pairs.{ArePairs}};
+ghost use Rattle.hw_session.specs.{Outside.{door_calls}, Serving.{part_from, answer_to_have, answer_to_want, sent_for, first_missing, wanted_by}, Handling.{StandsLast}};
 
 use crate::say::say;
 use hw_codec::digest_of;

@@ -1,23 +1,20 @@
 //! Driving a session with a peer.
 
 ghost use Rattle.std.specs.Prelude.{◌≡◌, ◌⊎◌, ◌<◌, ◌≤◌, [], ℕ, List, Option, take, true, false, length, Err, IfOk, All};
-ghost use Rattle.hw_types.specs.Spelling.{FrameFits, VertexFits};
-ghost use Rattle.hw_types.specs.Spelling.{instance_of};
-ghost use Rattle.hw_types.specs.declared.answers.Frame.TheVariants as frame;
-ghost use Rattle.hw_io.specs.Faults.{raised};
+ghost use Rattle.hw_types.specs.{Spelling.{FrameFits, VertexFits}, Spelling.{instance_of}, declared.answers.Frame.TheVariants as frame};
+ghost use Rattle.hw_io.specs.{Faults.{raised}, Doors.{Session, AsksMore}};
 ghost use Rattle.hw_link.specs.Asked.{IsAskedInside, IsAskedBehind, IsPrompt};
 ghost use Rattle.hw_link.specs.Frames.{byte_limit, frame_here, framed, sent_bytes};
 ghost use Rattle.hw_link.specs.Links.{after_part, IsLinkCounted};
 ghost use Rattle.hw_link.specs.Sent.{Sends};
 ghost use Rattle.hw_session.specs.declared.stage.Stage.TheVariants as stage;
 ghost use Rattle.hw_session.specs.Node.{NodeState};
-ghost use Rattle.hw_io.specs.Doors.{Session, AsksMore};
-ghost use Rattle.hw_core.specs.Readers.{unmet_in};
 ghost use Rattle.hw_session.specs.Driving.{Driver, driven_said, hello, greeting, leave, want, pull, push, to_push, drive_step, drive_at, drive_greeting, drive_pushing, drive_told, drive_pulling, drive_wanting, drive_vertex};
 ghost use Rattle.hw_session.specs.Outside.{door_calls, reading};
 ghost use Rattle.hw_session.specs.Handling.{Quits, IsLogCounted, IsLogEnd, IsLinkEnd};
 ghost use Rattle.hw_session.specs.DriveHandling.{IsDue, ReactsAs, AnswersAs, HandlesAs};
 ghost use Rattle.hw_session.specs.Drives.{DrivesThere, DrivesPeer, DrivesNone};
+ghost use Rattle.hw_core.specs.Readers.{unmet_in};
 
 use crate::answer::send_vertex;
 use crate::node::Node;

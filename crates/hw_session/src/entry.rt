@@ -3,11 +3,8 @@
 ghost use Rattle.std.specs.Prelude.{◌≡◌, ◌≢◌, Some, IsTrue, IfOk, OnOk, OnErr};
 ghost use Rattle.hw_types.specs.Spelling.{VertexFits};
 ghost use Rattle.hw_io.specs.Files.{Appended};
-ghost use Rattle.hw_log.specs.Causes.{HasAppendCause};
-ghost use Rattle.hw_log.specs.Lasts.{with_noted};
-ghost use Rattle.hw_log.specs.Named.{IsNameOf};
-ghost use Rattle.hw_session.specs.Entry.{IsEntryOf};
-ghost use Rattle.hw_session.specs.Outside.{reading};
+ghost use Rattle.hw_log.specs.{Causes.{HasAppendCause}, Lasts.{with_noted}, Named.{IsNameOf}};
+ghost use Rattle.hw_session.specs.{Entry.{IsEntryOf}, Outside.{reading}};
 
 use hw_io::Files;
 use hw_log::{Lasts, LogError, Noted, append_entry, entry_bytes};

@@ -1,7 +1,6 @@
 //! A node, and what it tells of itself.
 
-ghost use Rattle.std.specs.Prelude.{◌≡◌};
-ghost use Rattle.std.specs.Option.{option_copied, option_map};
+ghost use Rattle.std.specs.{Prelude.{◌≡◌}, Option.{option_copied, option_map}};
 
 use hw_core::Core;
 use hw_keys::Keys;

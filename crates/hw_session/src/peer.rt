@@ -1,12 +1,9 @@
 //! What a node does alike, whether it serves a peer or drives a session with it.
 
 ghost use Rattle.std.specs.Prelude.{◌≡◌, ℕ, true, IfOk, IfErr, OnOk};
-ghost use Rattle.hw_types.specs.Graph.{digest_eq};
-ghost use Rattle.hw_types.specs.Spelling.{VertexFits, instance_of};
+ghost use Rattle.hw_types.specs.{Graph.{digest_eq}, Spelling.{VertexFits, instance_of}};
 ghost use Rattle.hw_link.specs.Links.{IsLinkCounted};
-ghost use Rattle.hw_session.specs.Outside.{reading};
-ghost use Rattle.hw_session.specs.Serving.{is_clash};
-ghost use Rattle.hw_session.specs.Handling.{IsOfOther, Receives, IsLogCounted};
+ghost use Rattle.hw_session.specs.{Outside.{reading}, Serving.{is_clash}, Handling.{IsOfOther, Receives, IsLogCounted}};
 
 use crate::fault::AcceptFault;
 use crate::node::Node;

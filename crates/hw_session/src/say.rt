@@ -2,9 +2,7 @@
 
 ghost use Rattle.std.specs.Prelude.{◌≡◌, true};
 ghost use Rattle.hw_types.specs.Spelling.{FrameFits};
-ghost use Rattle.hw_link.specs.Frames.{framed};
-ghost use Rattle.hw_link.specs.Links.{IsLinkCounted};
-ghost use Rattle.hw_link.specs.Sent.{Sends};
+ghost use Rattle.hw_link.specs.{Frames.{framed}, Links.{IsLinkCounted}, Sent.{Sends}};
 ghost use Rattle.hw_session.specs.Outside.{door_calls};
 
 use hw_io::Door;

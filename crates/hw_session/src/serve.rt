@@ -1,15 +1,9 @@
 //! Serving a peer.
 
 ghost use Rattle.std.specs.Prelude.{◌≡◌, ◌⊎◌, ◌<◌, ◌≤◌, [], true, false, IfOk, All};
-ghost use Rattle.hw_types.specs.Spelling.{FrameFits, VertexFits};
-ghost use Rattle.hw_types.specs.declared.unit.Vertex.{Vertex};
-ghost use Rattle.hw_types.specs.declared.answers.Frame.TheVariants as frame;
-ghost use Rattle.hw_io.specs.Doors.{AsksMore};
-ghost use Rattle.hw_io.specs.Faults.{raised};
-ghost use Rattle.hw_link.specs.Asked.{IsAskedInside, IsAskedBehind, IsPrompt};
-ghost use Rattle.hw_link.specs.Frames.{frame_here, framed};
-ghost use Rattle.hw_link.specs.Links.{IsLinkCounted};
-ghost use Rattle.hw_link.specs.Sent.{Sends};
+ghost use Rattle.hw_types.specs.{Spelling.{FrameFits, VertexFits}, declared.unit.Vertex.{Vertex}, declared.answers.Frame.TheVariants as frame};
+ghost use Rattle.hw_io.specs.{Doors.{AsksMore}, Faults.{raised}};
+ghost use Rattle.hw_link.specs.{Asked.{IsAskedInside, IsAskedBehind, IsPrompt}, Frames.{frame_here, framed}, Links.{IsLinkCounted}, Sent.{Sends}};
 ghost use Rattle.hw_session.specs.Outside.{door_calls, reading};
 ghost use Rattle.hw_session.specs.Serving.{served_said, serve_first, serve_frame, serve_vertex, serve_step, wanted_by};
 ghost use Rattle.hw_session.specs.Handling.{Reacts, Answers, hello_of, StandsLast, Quits, Handles, IsLogCounted, IsLogEnd, IsLinkEnd};

@@ -2,16 +2,10 @@
 
 ghost use Rattle.std.specs.Prelude.{◌≡◌, length, true, None, Some, IsTrue, IfOk, IfErr, string_bytes};
 ghost use Rattle.hw_types.specs.Limits.{config_fault};
-ghost use Rattle.hw_io.specs.Faults.{subject_of};
-ghost use Rattle.hw_io.specs.Files.{SameFiles, Appended};
-ghost use Rattle.hw_log.specs.Lasts.{no_lasts};
-ghost use Rattle.hw_log.specs.Log.{header_bytes};
-ghost use Rattle.hw_replay.specs.Causes.{HasReplayCause, IsReplayAbout};
-ghost use Rattle.hw_replay.specs.Ends.{IsReached};
-ghost use Rattle.hw_replay.specs.Faults.{fault_of};
-ghost use Rattle.hw_replay.specs.Replay.{is_wanted, taken_in};
-ghost use Rattle.hw_session.specs.Node.{new_node};
-ghost use Rattle.hw_session.specs.Start.{taken_of, fault_of_read, IsUnwritten, Starts, StartsThere, StartsLog, HasStartCause, HasAppendedCause, IsReadOfLog};
+ghost use Rattle.hw_io.specs.{Faults.{subject_of}, Files.{SameFiles, Appended}};
+ghost use Rattle.hw_log.specs.{Lasts.{no_lasts}, Log.{header_bytes}};
+ghost use Rattle.hw_replay.specs.{Causes.{HasReplayCause, IsReplayAbout}, Ends.{IsReached}, Faults.{fault_of}, Replay.{is_wanted, taken_in}};
+ghost use Rattle.hw_session.specs.{Node.{new_node}, Start.{taken_of, fault_of_read, IsUnwritten, Starts, StartsThere, StartsLog, HasStartCause, HasAppendedCause, IsReadOfLog}};
 
 use crate::node::Node;
 use hw_codec::config_is_in_range;

@@ -1,10 +1,8 @@
 //! Numbers, and arrays of them.
 
 ghost use Rattle.std.specs.Prelude.{◌≡◌, ◌+◌, ◌≤◌, ◌^◌, IfSome};
-ghost use Rattle.serde_json.specs.View.{view, items_view};
-ghost use Rattle.serde_json.specs.Find.{as_array};
-ghost use Rattle.hw_settings.specs.Settings.{number_in, numbers_in, list_in, both_in, two_in, pair_in};
-ghost use Rattle.hw_settings.specs.Answers.{Tells};
+ghost use Rattle.serde_json.specs.{View.{view, items_view}, Find.{as_array}};
+ghost use Rattle.hw_settings.specs.{Settings.{number_in, numbers_in, list_in, both_in, two_in, pair_in}, Answers.{Tells}};
 
 use crate::fault::SettingsFault;
 use hw_types::{IndexList, WeightList};

@@ -1,10 +1,7 @@
 //! Settings, member by member.
 
-ghost use Rattle.std.specs.Prelude.{◌≡◌, ◌^◌, None, IfOk, IfErr, bytes_eq, codes, option_map, string_bytes};
-ghost use Rattle.std.specs.BTreeMap.{keys};
-ghost use Rattle.std.specs.List.{list_all, list_any};
-ghost use Rattle.serde_json.specs.Find.{get};
-ghost use Rattle.serde_json.specs.View.{view};
+ghost use Rattle.std.specs.{Prelude.{◌≡◌, ◌^◌, None, IfOk, IfErr, bytes_eq, codes, option_map, string_bytes}, BTreeMap.{keys}, List.{list_all, list_any}};
+ghost use Rattle.serde_json.specs.{Find.{get}, View.{view}};
 ghost use Rattle.hw_types.specs.Limits.{config_fault};
 ghost use Rattle.hw_settings.specs.Settings.{number_in, is_lower_digit, key_of, is_object_of, may, drawn_in, leaders_in, needed_names, further_names, is_setting_name, members_say, config_in, json_of, settings_of};
 ghost use Rattle.hw_settings.specs.Answers.{Tells, IsFaultOf};

@@ -1,8 +1,7 @@
 //! The parts of a line.
 
 ghost use Rattle.std.specs.Prelude.{◌≡◌, ◌++◌, OnOk, OnErr};
-ghost use Rattle.hw_text.specs.Text.{number_text, digest_text};
-ghost use Rattle.hw_text.specs.Lines.{line_feed, AddsFront};
+ghost use Rattle.hw_text.specs.{Text.{number_text, digest_text}, Lines.{line_feed, AddsFront}};
 
 use hw_types::{Bytes, Digest, OutOfMemory};
 use itoa::Buffer;

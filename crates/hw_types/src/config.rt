@@ -1,9 +1,7 @@
 //! The configuration of an instance, and its limits.
 
-ghost use Rattle.std.specs.Prelude.{◌≡◌, ◌<◌, ◌^◌, Some, None, IfOk, MatchResult, ◌&&◌, not, nat_le, position, sum};
-ghost use Rattle.std.specs.List.{list_any};
-ghost use Rattle.hw_types.specs.Tests.{first_broken};
-ghost use Rattle.hw_types.specs.Limits.{config_fault, weight_tests, round_tests, room_tests, most_records, is_within, is_zero, is_bad_table};
+ghost use Rattle.std.specs.{Prelude.{◌≡◌, ◌<◌, ◌^◌, Some, None, IfOk, MatchResult, ◌&&◌, not, nat_le, position, sum}, List.{list_any}};
+ghost use Rattle.hw_types.specs.{Tests.{first_broken}, Limits.{config_fault, weight_tests, round_tests, room_tests, most_records, is_within, is_zero, is_bad_table}};
 
 use crate::items::{IndexList, OutOfMemory, WeightList};
 

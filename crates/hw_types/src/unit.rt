@@ -15,8 +15,7 @@ pub struct Digest(pub [u8; 32]);
 
 // Four words against four; derived code would compare the bytes one by one.
 impl PartialEq for Digest {
-    ghost use Rattle.std.specs.Prelude.{bytes_eq};
-    ghost use Rattle.std.specs.Cmp.Rules.{comparing};
+    ghost use Rattle.std.specs.{Prelude.{bytes_eq}, Cmp.Rules.{comparing}};
     ghost use Rattle.std.proofs.Common.{rules};
 
     ghost eq = { λ x y. bytes_eq x.0 y.0 };
@@ -37,9 +36,7 @@ impl Eq for Digest {
 }
 
 impl Ord for Digest {
-    ghost use Rattle.std.specs.Ordering.{nat_cmp, on};
-    ghost use Rattle.std.specs.Cmp.Lexicographic.{slice_cmp};
-    ghost use Rattle.std.specs.Cmp.Rules.{comparing};
+    ghost use Rattle.std.specs.{Ordering.{nat_cmp, on}, Cmp.Lexicographic.{slice_cmp}, Cmp.Rules.{comparing}};
     ghost use Rattle.std.proofs.Common.{rules};
 
     ghost cmp = { on (λ d. d.0) (slice_cmp nat_cmp) };
@@ -57,10 +54,7 @@ impl Ord for Digest {
 }
 
 impl PartialOrd for Digest {
-    ghost use Rattle.std.specs.Ordering.{nat_cmp, on, as_partial_cmp};
-    ghost use Rattle.std.specs.Cmp.Lexicographic.{slice_cmp};
-    ghost use Rattle.std.specs.Cmp.{partial_order_from_own_ties};
-    ghost use Rattle.std.specs.Cmp.Rules.{comparing};
+    ghost use Rattle.std.specs.{Ordering.{nat_cmp, on, as_partial_cmp}, Cmp.Lexicographic.{slice_cmp}, Cmp.{partial_order_from_own_ties}, Cmp.Rules.{comparing}};
     ghost use Rattle.std.proofs.Common.{rules};
 
     ghost partial_cmp = { as_partial_cmp (on (λ d. d.0) (slice_cmp nat_cmp)) };

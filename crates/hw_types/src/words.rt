@@ -1,7 +1,6 @@
 //! Thirty-two bytes, compared eight at a time.
 
-ghost use Rattle.std.specs.Prelude.{◌≡◌, ◌+◌, ◌≤◌, take, drop, bytes_eq};
-ghost use Rattle.std.specs.Int.{w64, from_le_bytes, from_be_bytes};
+ghost use Rattle.std.specs.{Prelude.{◌≡◌, ◌+◌, ◌≤◌, take, drop, bytes_eq}, Int.{w64, from_le_bytes, from_be_bytes}};
 ghost use Rattle.hw_types.specs.Graph.{bytes_cmp};
 
 use std::cmp::Ordering;

@@ -1,23 +1,22 @@
 //! What a node tells of its journal. No reader takes memory.
 
-ghost use Rattle.std.specs.Prelude.{◌≡◌, ℕ, ◌<◌, ◌≤◌, ◌↔◌, IsTrue, length, slice_get, take, Some, None, IfSome, IfNone};
-ghost use Rattle.std.specs.Option.{option_copied};
+ghost use Rattle.std.specs.{Prelude.{◌≡◌, ℕ, ◌<◌, ◌≤◌, ◌↔◌, IsTrue, length, slice_get, take, Some, None, IfSome, IfNone}, Option.{option_copied}};
 ghost use Rattle.hw_types.specs.Graph.{slot};
 ghost use Rattle.hw_types.specs.Settled.{has_evidence, parked_of, dropped_of};
 ghost use Rattle.hw_types.specs.Spelling.{VertexFits, Fits, instance_of};
 ghost use Rattle.hw_types.specs.laws.StateLaws.{units_in, NamesApart};
-ghost use Rattle.hw_safety.specs.Safety.{HasPairs};
 ghost use Rattle.hw_types.specs.Real.{setting_of, received_in, settled_in, panorama_in, weight_in};
+ghost use Rattle.hw_types.specs.Limits.{config_fault};
+ghost use Rattle.hw_types.specs.declared.unit.Vertex.TheVariants as vertex;
+ghost use Rattle.hw_safety.specs.Safety.{HasPairs};
 ghost use Rattle.hw_dag.specs.Dag.{graph, observations};
 ghost use Rattle.hw_admit.specs.State.{is_marked};
-ghost use Rattle.hw_types.specs.Limits.{config_fault};
 ghost use Rattle.hw_core.specs.Decided.{decided_in};
 ghost use Rattle.hw_core.specs.Deliver.{HasCome};
 ghost use Rattle.hw_core.specs.Order.{order_in};
 ghost use Rattle.hw_core.specs.Promises.{IsSound};
 ghost use Rattle.hw_core.specs.Settle.{admitted_in};
 ghost use Rattle.hw_core.specs.Shown.{HasSummitNow, IsStartNow, IsStartOf};
-ghost use Rattle.hw_types.specs.declared.unit.Vertex.TheVariants as vertex;
 ghost use Rattle.hw_core.specs.Readers.{unit_in, names_of, missing_needs, unmet_in, evidence_of, endorsements_of, IsPlace, IsUnsettled, fork_in, exceeded_in};
 
 use super::Kept;

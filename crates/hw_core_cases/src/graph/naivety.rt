@@ -1,7 +1,6 @@
 //! Naive forks of units that are only thought of.
 
-ghost use Rattle.std.specs.Prelude.{◌≡◌, ◌<◌, ◌≤◌, true, IsTrue};
-ghost use Rattle.std.specs.List.{list_any, list_all};
+ghost use Rattle.std.specs.{Prelude.{◌≡◌, ◌<◌, ◌≤◌, true, IsTrue}, List.{list_any, list_all}};
 ghost use Rattle.hw_types.specs.Rules.{has_digest};
 ghost use Rattle.hw_dag.specs.Dag.{unit_at, IsPanorama, count_of};
 ghost use Rattle.hw_naivety.specs.Tips.{HasLists};

@@ -2,8 +2,7 @@
 
 ghost use Rattle.std.specs.Prelude.{◌≡◌, ◌<◌, ◌≤◌, length, true, IsTrue, IfSome};
 ghost use Rattle.hw_types.specs.Graph.{is_consistent};
-ghost use Rattle.hw_dag.specs.Dag.{graph, observations, count_of, IsPanorama};
-ghost use Rattle.hw_dag.specs.Slots.{HasCode};
+ghost use Rattle.hw_dag.specs.{Dag.{graph, observations, count_of, IsPanorama}, Slots.{HasCode}};
 ghost use Rattle.hw_core_cases.specs.Slots.{IsBy};
 
 use crate::graph::units::observed;

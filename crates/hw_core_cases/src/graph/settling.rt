@@ -1,8 +1,7 @@
 //! Units that are judged and admitted, and what else moves the state.
 
 ghost use Rattle.std.specs.Prelude.{◌≡◌, ◌+◌, ◌<◌, ◌≤◌, ◌^◌, length, true, IsTrue, IfOk, IfSome};
-ghost use Rattle.hw_dag.specs.Dag.{graph, count_of};
-ghost use Rattle.hw_dag.specs.Admission.{IsFor, IsNew};
+ghost use Rattle.hw_dag.specs.{Dag.{graph, count_of}, Admission.{IsFor, IsNew}};
 ghost use Rattle.hw_rules.specs.Judged.{KeepsLocalRules};
 ghost use Rattle.hw_admit.specs.State.{MarksAreMet};
 

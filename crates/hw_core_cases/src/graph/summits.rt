@@ -2,8 +2,7 @@
 
 ghost use Rattle.std.specs.Prelude.{◌≡◌, ◌<◌, ◌≤◌, true, IsTrue};
 ghost use Rattle.hw_types.specs.Graph.{is_consistent};
-ghost use Rattle.hw_dag.specs.Dag.{graph, observations, count_of, IsPanorama};
-ghost use Rattle.hw_dag.specs.Lanes.{AreWeights};
+ghost use Rattle.hw_dag.specs.{Dag.{graph, observations, count_of, IsPanorama}, Lanes.{AreWeights}};
 ghost use Rattle.hw_horizon.specs.Kept.{AreKept};
 
 use crate::graph::panoramas::consistent_of;

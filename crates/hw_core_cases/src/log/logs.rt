@@ -3,8 +3,7 @@
 ghost use Rattle.std.specs.Prelude.{◌≡◌};
 ghost use Rattle.hw_doubles.specs.Memory.{mem_allowance};
 ghost use Rattle.hw_types.specs.Spelling.{ConfigFits, VertexFits};
-ghost use Rattle.hw_log.specs.Lasts.{IsVersion};
-ghost use Rattle.hw_log.specs.Reader.{PlacesFit};
+ghost use Rattle.hw_log.specs.{Lasts.{IsVersion}, Reader.{PlacesFit}};
 
 use hw_case_words::{Answer, number, patch};
 use hw_doubles::MemFiles;

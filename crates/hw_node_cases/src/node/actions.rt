@@ -1,8 +1,7 @@
 //! Lines that act on a cluster.
 
 ghost use Rattle.std.specs.Prelude.{◌≡◌, None, IsTrue, IfOk, length};
-ghost use Rattle.hw_types.specs.Limits.{config_fault};
-ghost use Rattle.hw_types.specs.Spelling.{VertexFits};
+ghost use Rattle.hw_types.specs.{Limits.{config_fault}, Spelling.{VertexFits}};
 ghost use Rattle.hw_cluster.specs.Nodes.{ClusterState, nodes_in, CanAct};
 
 use hw_admit::StateStart;

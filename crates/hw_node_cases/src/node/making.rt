@@ -1,7 +1,6 @@
 //! Certificates that are made.
 
-ghost use Rattle.std.specs.Prelude.{◌<◌, length, IfSome};
-ghost use Rattle.std.specs.List.{All};
+ghost use Rattle.std.specs.{Prelude.{◌<◌, length, IfSome}, List.{All}};
 ghost use Rattle.hw_types.specs.Spelling.{VertexFits};
 ghost use Rattle.hw_core.specs.Decided.{decided_in};
 ghost use Rattle.hw_light.specs.Spelling.{CertificateFits};

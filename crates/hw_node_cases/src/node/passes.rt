@@ -3,9 +3,7 @@
 ghost use Rattle.std.specs.Prelude.{◌≤◌, ◌<◌, IsTrue, length};
 ghost use Rattle.hw_doubles.specs.Memory.{mem_allowance};
 ghost use Rattle.hw_log.specs.Reader.{ahead_of};
-ghost use Rattle.hw_replay.specs.Replay.{GrowsByOne};
-ghost use Rattle.hw_replay.specs.Steps.{HasRoom};
-ghost use Rattle.hw_replay.specs.Chain.{told_chain};
+ghost use Rattle.hw_replay.specs.{Replay.{GrowsByOne}, Steps.{HasRoom}, Chain.{told_chain}};
 
 use hw_core::Core;
 use hw_doubles::MemFiles;

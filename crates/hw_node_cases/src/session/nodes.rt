@@ -1,8 +1,7 @@
 //! Nodes with a log in memory, and what they answer.
 
 ghost use Rattle.std.specs.Prelude.{◌≡◌, length, IfOk, IfSome, None, string_bytes};
-ghost use Rattle.hw_types.specs.Limits.{config_fault};
-ghost use Rattle.hw_types.specs.Spelling.{ConfigFits};
+ghost use Rattle.hw_types.specs.{Limits.{config_fault}, Spelling.{ConfigFits}};
 
 use crate::session::outside::{plan_files, put_log};
 use crate::session::peers::{accept, drive, serve};
