@@ -3,7 +3,8 @@
 ghost use Rattle.std.specs.Prelude.{◌≡◌, ◌≢◌, ◌↔◌, ◌++◌, List, Err, IfOk, OnOk};
 ghost use Rattle.hw_types.specs.{declared.answers.Decision.{Decision}, Real.{setting_of}};
 ghost use Rattle.hw_safety.specs.Verdicts.{chain_of};
-ghost use Rattle.hw_audit.specs.{Read.{units_of, IsAnswer}, First.{ShowsFirstClash}, Audit.{IsVerdictOn, IsWeighty}, declared.nodes.AuditError.TheVariants as AuditErrors};
+ghost use Rattle.hw_audit.specs.{Read.{units_of, IsAnswer}, First.{ShowsFirstClash}, Audit.{IsVerdictOn, IsWeighty}};
+ghost use Rattle.hw_audit.specs.declared.nodes.AuditError.TheVariants as AuditErrors;
 ghost use Rattle.hw_core.specs.Decided.{decided_in};
 
 use crate::held::{Held, put_units};

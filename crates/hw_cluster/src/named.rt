@@ -1,7 +1,8 @@
 //! A vertex under its name.
 
 ghost use Rattle.std.specs.Prelude.{◌≡◌, true, IfOk, OnOk, OnErr};
-ghost use Rattle.hw_types.specs.{declared.unit.Vertex.TheVariants as vertex, Real.{answer_in, after_in}, Spelling.{VertexFits, digest_of}};
+ghost use Rattle.hw_types.specs.{Real.{answer_in, after_in}, Spelling.{VertexFits, digest_of}};
+ghost use Rattle.hw_types.specs.declared.unit.Vertex.TheVariants as vertex;
 ghost use Rattle.hw_honest.specs.Cluster.{signed};
 
 use hw_core::{Core, Refused};

@@ -2,7 +2,8 @@
 
 ghost use Rattle.std.specs.Prelude.{◌≡◌, IsTrue, IfOk, IfErr};
 ghost use Rattle.hw_io.specs.Files.{SameFiles};
-ghost use Rattle.hw_commands.specs.{Faults.{HasReadFault, IsReadEnd}, Due.{FailsDue}, Program.{ended, explain_said}, declared.ended.RunFault.TheVariants as RunFaults};
+ghost use Rattle.hw_commands.specs.{Faults.{HasReadFault, IsReadEnd}, Due.{FailsDue}, Program.{ended, explain_said}};
+ghost use Rattle.hw_commands.specs.declared.ended.RunFault.TheVariants as RunFaults;
 
 use crate::ended::{DONE, Ended, RunFault};
 use crate::faults::stopped;

@@ -2,7 +2,8 @@
 
 ghost use Rattle.std.specs.Prelude.{◌≡◌, ◌++◌, ◌≤◌, IfOk, IfErr, OnOk};
 ghost use Rattle.hw_cluster.specs.Numbers.{totals_of, numbers_of};
-ghost use Rattle.hw_commands.specs.{declared.ended.RunFault.TheVariants as RunFaults, Program.{ended, gen_said, sim_said}, Workloads.{height_text, gen_line, sim_line}};
+ghost use Rattle.hw_commands.specs.{Program.{ended, gen_said, sim_said}, Workloads.{height_text, gen_line, sim_line}};
+ghost use Rattle.hw_commands.specs.declared.ended.RunFault.TheVariants as RunFaults;
 
 use crate::ended::{DONE, Ended, RunFault};
 use hw_cluster::{GenSummary, SimSummary, generate, simulate};

@@ -1,7 +1,8 @@
 //! What a unit misses, found without memory.
 
 ghost use Rattle.std.specs.{Prelude.{◌≡◌, ◌≤◌, ◌↔◌, ◌||◌, ◌++◌, [], not, length, map, IsTrue}, List.{list_any}};
-ghost use Rattle.hw_types.specs.{declared.unit.Digest.{Digest as Name}, declared.unit.Need.TheVariants as need_of, Settled.{need_eq, missing_of, unit_needs, evidence_needs}};
+ghost use Rattle.hw_types.specs.{declared.unit.Digest.{Digest as Name}, Settled.{need_eq, missing_of, unit_needs, evidence_needs}};
+ghost use Rattle.hw_types.specs.declared.unit.Need.TheVariants as need_of;
 ghost use Rattle.hw_dag.specs.{Dag.{graph}, Admission.{AllKnown, IsResolved, node_prepared}};
 ghost use Rattle.hw_core.specs.{Settle.{known_in}, Missing.{is_met_in, unmet, needs_as_they_stand, IsFoundIn}};
 

@@ -1,7 +1,8 @@
 //! Units by number, and panoramas in numbers.
 
 ghost use Rattle.std.specs.Prelude.{◌≡◌, ◌<◌, ◌↔◌, length, replicate, slice_index_or, slice_set, IsTrue, IfOk};
-ghost use Rattle.hw_dag.specs.{declared.numbers.View.TheVariants as view, Slots.{HasCode, IsWithin}};
+ghost use Rattle.hw_dag.specs.Slots.{HasCode, IsWithin};
+ghost use Rattle.hw_dag.specs.declared.numbers.View.TheVariants as view;
 
 use hw_types::OutOfMemory;
 use std::alloc::Global;

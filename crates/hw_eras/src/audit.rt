@@ -6,7 +6,8 @@
 
 ghost use Rattle.std.specs.Prelude.{◌≡◌, ◌≢◌, ◌↔◌, Err, IfOk};
 ghost use Rattle.hw_types.specs.Real.{setting_of};
-ghost use Rattle.hw_audit.specs.{Audit.{IsVerdictOn}, First.{ShowsFirstClash}, declared.nodes.AuditError.TheVariants as AuditErrors};
+ghost use Rattle.hw_audit.specs.{Audit.{IsVerdictOn}, First.{ShowsFirstClash}};
+ghost use Rattle.hw_audit.specs.declared.nodes.AuditError.TheVariants as AuditErrors;
 ghost use Rattle.hw_eras.specs.EraAudit.{AreOfDifferent, IsVerdictOnEras, IsVerdictByEras, IsAccounted, IsShort};
 
 use crate::{EraVerdict, Eras};

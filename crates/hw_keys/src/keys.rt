@@ -2,7 +2,8 @@
 
 ghost use Rattle.std.specs.{Prelude.{◌≡◌, ◌⊎◌, ◌<◌, ◌++◌, List, length, slice_index_or, [], Ok, Err, IfOk, IfErr}, Prelude.{ℕ}};
 ghost use Rattle.sha2.specs.Sha256.{sha256};
-ghost use Rattle.hw_types.specs.{Spelling.{Fits, VertexFits, digest_of}, declared.unit.Vertex.TheVariants as vertex};
+ghost use Rattle.hw_types.specs.Spelling.{Fits, VertexFits, digest_of};
+ghost use Rattle.hw_types.specs.declared.unit.Vertex.TheVariants as vertex;
 ghost use Rattle.hw_keys.specs.{Keys.{IsTextOf, IsFaultOf, HasNoFault}, Signed.{unit_signature, endorsement_signature, endorsed_digest, is_signed, is_endorsed, verdict_of}};
 
 use crate::fault::KeysFault;

@@ -2,7 +2,8 @@
 
 ghost use Rattle.std.specs.Prelude.{◌≡◌, ◌++◌, codes, OnOk};
 ghost use Rattle.hw_text.specs.{Text.{number_text}, Lines.{line_feed}};
-ghost use Rattle.hw_light.specs.{declared.asked.Asked.TheVariants as Answers, Asked.{told_in}, Texts.{limit_text, told_line, fault_line}};
+ghost use Rattle.hw_light.specs.{Asked.{told_in}, Texts.{limit_text, told_line, fault_line}};
+ghost use Rattle.hw_light.specs.declared.asked.Asked.TheVariants as Answers;
 
 use crate::asked::Asked;
 use crate::errors::put_limit;

@@ -1,7 +1,8 @@
 //! How a session ends.
 
 ghost use Rattle.std.specs.Prelude.{◌≡◌, ℕ, ◌+◌, ◌<◌, ◌^◌, List, length};
-ghost use Rattle.hw_link.specs.{declared.end.SessionEnd.TheVariants as end, Frames.{rest_at, cut_end}, Links.{end_of_fault}};
+ghost use Rattle.hw_link.specs.{Frames.{rest_at, cut_end}, Links.{end_of_fault}};
+ghost use Rattle.hw_link.specs.declared.end.SessionEnd.TheVariants as end;
 
 use hw_io::IoFault;
 use hw_types::OutOfMemory;

@@ -1,7 +1,8 @@
 //! Why a log can't be read or written.
 
 ghost use Rattle.std.specs.Prelude.{◌≡◌};
-ghost use Rattle.hw_log.specs.{declared.error.LogError.TheVariants as LogErrors, Causes.{error_of_read, error_of_append}};
+ghost use Rattle.hw_log.specs.Causes.{error_of_read, error_of_append};
+ghost use Rattle.hw_log.specs.declared.error.LogError.TheVariants as LogErrors;
 
 use hw_io::IoFault;
 use hw_types::{CodecError, ConfigFault, OutOfMemory};

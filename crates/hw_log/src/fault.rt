@@ -1,7 +1,8 @@
 //! Why no log was written anew.
 
 ghost use Rattle.std.specs.Prelude.{◌≡◌};
-ghost use Rattle.hw_log.specs.{declared.error.LogError.TheVariants as LogErrors, declared.fault.RewriteFault.TheVariants as RewriteFaults};
+ghost use Rattle.hw_log.specs.declared.error.LogError.TheVariants as LogErrors;
+ghost use Rattle.hw_log.specs.declared.fault.RewriteFault.TheVariants as RewriteFaults;
 
 use crate::LogError;
 use hw_types::OutOfMemory;

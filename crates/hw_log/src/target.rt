@@ -2,7 +2,8 @@
 
 ghost use Rattle.std.specs.Prelude.{◌≡◌, ℕ, List, Option, None, IsTrue, IsSome, IfErr, OnOk};
 ghost use Rattle.hw_io.specs.Files.{SameFiles, Appended};
-ghost use Rattle.hw_log.specs.{declared.fault.RewriteFault.TheVariants as RewriteFaults, RewriteCauses.{IsAbsentFault, IsPutFault, HasRewriteCause, IsReadAbout}};
+ghost use Rattle.hw_log.specs.RewriteCauses.{IsAbsentFault, IsPutFault, HasRewriteCause, IsReadAbout};
+ghost use Rattle.hw_log.specs.declared.fault.RewriteFault.TheVariants as RewriteFaults;
 
 use crate::LogError;
 use crate::fault::RewriteFault;

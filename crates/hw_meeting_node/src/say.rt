@@ -3,7 +3,8 @@
 ghost use Rattle.std.specs.Prelude.{◌≡◌, ◌<◌, [], ◌∷◌, true, length, map, filter_map, slice_get, All};
 ghost use Rattle.hw_types.specs.Spelling.{VertexFits};
 ghost use Rattle.hw_link.specs.{Links.{IsLinkCounted}, Sent.{Sends, OnlySends}};
-ghost use Rattle.hw_meeting.specs.{declared.frame.MeetingFrame.TheVariants as frame, Frames.{IsSaid}};
+ghost use Rattle.hw_meeting.specs.Frames.{IsSaid};
+ghost use Rattle.hw_meeting.specs.declared.frame.MeetingFrame.TheVariants as frame;
 ghost use Rattle.hw_meeting_node.specs.{Frames.{sent_bytes}, Meeting.{told_of, hello, summary, torn, all_due}};
 
 use crate::meeter::validators;

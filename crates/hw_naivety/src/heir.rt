@@ -1,7 +1,8 @@
 //! What a unit takes over from its creator's previous one.
 
 ghost use Rattle.std.specs.Prelude.{◌≡◌, ◌<◌, ◌≤◌, IsTrue, IfSome};
-ghost use Rattle.hw_dag.specs.{Dag.{count_of, unit_at, view_at}, declared.numbers.View.TheVariants as view};
+ghost use Rattle.hw_dag.specs.Dag.{count_of, unit_at, view_at};
+ghost use Rattle.hw_dag.specs.declared.numbers.View.TheVariants as view;
 ghost use Rattle.hw_naivety.specs.{Tips.{IsSight, HasRoom}, Heirs.{HasListBelow, IsBequeathed, IsListed, IsOnly}};
 
 use crate::sight::Sight;

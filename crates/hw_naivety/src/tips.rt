@@ -1,7 +1,8 @@
 //! The tips of noted units.
 
 ghost use Rattle.std.specs.Prelude.{◌≡◌, ℕ, ◌+◌, ◌<◌, ◌≤◌, ◌≢◌, ◌^◌, ◌*◌, [], ◌==◌, if◌then◌else◌, None, Some, length, slice_index_or, slice_set, IsTrue, IfOk, IfErr, IfSome, OnOk};
-ghost use Rattle.hw_dag.specs.{Dag.{view_at, count_of}, declared.numbers.View.TheVariants as view, Slots.{HasCode}};
+ghost use Rattle.hw_dag.specs.{Dag.{view_at, count_of}, Slots.{HasCode}};
+ghost use Rattle.hw_dag.specs.declared.numbers.View.TheVariants as view;
 ghost use Rattle.hw_naivety.specs.Rows.{row_slot, with_slot};
 ghost use Rattle.hw_naivety.specs.Tips.{IsNaiveTip, IsTip, IsSight, IsSightOf, HasRoom, HasLists, HasTips, IsRaisedOver, AreRows, IsRoomy, IsGrown, AreKept, IsRowKept, slot_tip, said_tip, placed_slot, tip_at};
 ghost use Rattle.hw_naivety.specs.Shared.{HasPlace, IsSource, HavePlace, IsShared, StandsFor, place_seen};

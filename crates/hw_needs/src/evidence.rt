@@ -1,7 +1,8 @@
 //! Evidence against a validator.
 
 ghost use Rattle.std.specs.{Prelude.{◌≡◌, ◌<◌, ◌↔◌, false, true, length, None, IsTrue, IfOk, OnOk, IfSome}, Option.{option_map}};
-ghost use Rattle.hw_types.specs.{declared.unit.Vertex.TheVariants as vertex, Settled.{is_faulty}, Spelling.{VertexFits}, Real.{received_in, settled_in}, Culprits.{pair_of}};
+ghost use Rattle.hw_types.specs.{Settled.{is_faulty}, Spelling.{VertexFits}, Real.{received_in, settled_in}, Culprits.{pair_of}};
+ghost use Rattle.hw_types.specs.declared.unit.Vertex.TheVariants as vertex;
 ghost use Rattle.hw_core.specs.Readers.{unit_in};
 ghost use Rattle.hw_needs.specs.{Needs.{evidence_against, settled_evidence, evidence_between}, Pairs.{names_of, ArePairs, StayKept, IsPairKept, IsSoughtKept}};
 

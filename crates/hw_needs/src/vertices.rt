@@ -1,7 +1,8 @@
 //! The vertices of a need.
 
 ghost use Rattle.std.specs.{Prelude.{◌≡◌, map, IfOk, OnOk}, List.{All}};
-ghost use Rattle.hw_types.specs.{declared.unit.Vertex.TheVariants as vertex, Spelling.{VertexFits}};
+ghost use Rattle.hw_types.specs.Spelling.{VertexFits};
+ghost use Rattle.hw_types.specs.declared.unit.Vertex.TheVariants as vertex;
 ghost use Rattle.hw_core.specs.Readers.{unit_in, endorsements_of};
 ghost use Rattle.hw_needs.specs.{Needs.{vertices_of, unit_vertices, evidence_vertices, evidence_against}, Pairs.{ArePairs, StayKept, IsSoughtKept, IsNeedKept}};
 

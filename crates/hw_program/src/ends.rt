@@ -1,8 +1,10 @@
 //! How a run of a node ends.
 
 ghost use Rattle.std.specs.Prelude.{◌≡◌, ◌≢◌, IfOk, IfErr, ◌++◌, OnOk};
-ghost use Rattle.hw_service.specs.{Begin.{names_of}, declared.fault.ServiceFault.TheVariants as ServiceFaults};
-ghost use Rattle.hw_commands.specs.{Texts.{input_ended, read_fault_ended}, declared.ended.RunFault.TheVariants as RunFaults};
+ghost use Rattle.hw_service.specs.Begin.{names_of};
+ghost use Rattle.hw_service.specs.declared.fault.ServiceFault.TheVariants as ServiceFaults;
+ghost use Rattle.hw_commands.specs.Texts.{input_ended, read_fault_ended};
+ghost use Rattle.hw_commands.specs.declared.ended.RunFault.TheVariants as RunFaults;
 ghost use Rattle.hw_program.specs.Served.{reported_status, settings_text, service_stopped, Tells, EndsBy};
 
 use hw_commands::{

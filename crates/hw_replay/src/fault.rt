@@ -1,7 +1,8 @@
 //! Why a replay stops.
 
 ghost use Rattle.std.specs.Prelude.{◌≡◌};
-ghost use Rattle.hw_replay.specs.{declared.fault.StartFault.TheVariants as fault, Faults.{fault_of}};
+ghost use Rattle.hw_replay.specs.Faults.{fault_of};
+ghost use Rattle.hw_replay.specs.declared.fault.StartFault.TheVariants as fault;
 
 use hw_log::LogError;
 use hw_types::{Bytes, OutOfMemory};

@@ -2,7 +2,8 @@
 
 ghost use Rattle.std.specs.Prelude.{◌≡◌, ◌++◌, [], true, codes, Err, IfOk, OnOk};
 ghost use Rattle.hw_text.specs.Text.{number_text};
-ghost use Rattle.hw_types.specs.{Spelling.{VertexFits}, Real.{setting_of, answer_in, after_in}, declared.answers.Cause.TheVariants as Causes};
+ghost use Rattle.hw_types.specs.{Spelling.{VertexFits}, Real.{setting_of, answer_in, after_in}};
+ghost use Rattle.hw_types.specs.declared.answers.Cause.TheVariants as Causes;
 ghost use Rattle.hw_script_grammar.specs.Fits.{ActFits};
 ghost use Rattle.hw_script.specs.{Output.{endorsement_of, answer_line, act_text, acts_text, journal_behind}, Told.{HasTold}};
 

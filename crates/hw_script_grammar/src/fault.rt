@@ -1,7 +1,9 @@
 //! Why a line, or a script, isn't read.
 
 ghost use Rattle.std.specs.Prelude.{◌≡◌};
-ghost use Rattle.hw_script_grammar.specs.{declared.fault.Fault.TheVariants as Faults, declared.fault.ScriptError.TheVariants as Errors, Answers.{in_line}};
+ghost use Rattle.hw_script_grammar.specs.Answers.{in_line};
+ghost use Rattle.hw_script_grammar.specs.declared.fault.Fault.TheVariants as Faults;
+ghost use Rattle.hw_script_grammar.specs.declared.fault.ScriptError.TheVariants as Errors;
 
 use hw_types::OutOfMemory;
 

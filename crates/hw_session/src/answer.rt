@@ -1,7 +1,8 @@
 //! What a node sends in answer to a peer's frame.
 
 ghost use Rattle.std.specs.{Prelude.{◌≡◌, ◌+◌, ◌<◌, ◌≤◌, ℕ, List, [], ◌∷◌, ◌++◌, true, length, map, take, drop, IfOk}, List.{All, flat_map}};
-ghost use Rattle.hw_types.specs.{Spelling.{VertexFits}, declared.unit.Vertex.{Vertex}, declared.answers.Frame.TheVariants as frame};
+ghost use Rattle.hw_types.specs.{Spelling.{VertexFits}, declared.unit.Vertex.{Vertex}};
+ghost use Rattle.hw_types.specs.declared.answers.Frame.TheVariants as frame;
 ghost use Rattle.hw_core.specs.Readers.{missing_needs};
 ghost use Rattle.hw_link.specs.{Frames.{framed, sent_bytes}, Links.{IsLinkCounted}, Sent.{Sends}};
 ghost use Rattle.hw_needs.specs.{Needs.{vertices_of}, Pairs.{ArePairs}};

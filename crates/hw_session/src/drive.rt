@@ -1,7 +1,8 @@
 //! Driving a session with a peer.
 
 ghost use Rattle.std.specs.Prelude.{◌≡◌, ◌⊎◌, ◌<◌, ◌≤◌, [], ℕ, List, Option, take, true, false, length, Err, IfOk, All};
-ghost use Rattle.hw_types.specs.{Spelling.{FrameFits, VertexFits}, Spelling.{instance_of}, declared.answers.Frame.TheVariants as frame};
+ghost use Rattle.hw_types.specs.{Spelling.{FrameFits, VertexFits}, Spelling.{instance_of}};
+ghost use Rattle.hw_types.specs.declared.answers.Frame.TheVariants as frame;
 ghost use Rattle.hw_io.specs.{Faults.{raised}, Doors.{Session, AsksMore}};
 ghost use Rattle.hw_link.specs.Asked.{IsAskedInside, IsAskedBehind, IsPrompt};
 ghost use Rattle.hw_link.specs.Frames.{byte_limit, frame_here, framed, sent_bytes};

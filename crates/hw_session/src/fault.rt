@@ -1,7 +1,8 @@
 //! Why a node can't make a unit, or accept a vertex.
 
 ghost use Rattle.std.specs.Prelude.{◌≡◌};
-ghost use Rattle.hw_session.specs.{declared.fault.MakeFault.TheVariants as fault, declared.fault.AcceptFault.TheVariants as accept};
+ghost use Rattle.hw_session.specs.declared.fault.MakeFault.TheVariants as fault;
+ghost use Rattle.hw_session.specs.declared.fault.AcceptFault.TheVariants as accept;
 
 use hw_types::{Cause, OutOfMemory};
 

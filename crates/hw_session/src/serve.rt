@@ -1,7 +1,8 @@
 //! Serving a peer.
 
 ghost use Rattle.std.specs.Prelude.{◌≡◌, ◌⊎◌, ◌<◌, ◌≤◌, [], true, false, IfOk, All};
-ghost use Rattle.hw_types.specs.{Spelling.{FrameFits, VertexFits}, declared.unit.Vertex.{Vertex}, declared.answers.Frame.TheVariants as frame};
+ghost use Rattle.hw_types.specs.{Spelling.{FrameFits, VertexFits}, declared.unit.Vertex.{Vertex}};
+ghost use Rattle.hw_types.specs.declared.answers.Frame.TheVariants as frame;
 ghost use Rattle.hw_io.specs.{Doors.{AsksMore}, Faults.{raised}};
 ghost use Rattle.hw_link.specs.{Asked.{IsAskedInside, IsAskedBehind, IsPrompt}, Frames.{frame_here, framed}, Links.{IsLinkCounted}, Sent.{Sends}};
 ghost use Rattle.hw_session.specs.Outside.{door_calls, reading};
