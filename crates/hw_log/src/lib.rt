@@ -41,7 +41,7 @@ pub use lasts::{Lasts, Noted};
 pub use laws::{
     a_header_is_an_empty_log, a_log_is_what_it_says_as_written, a_log_written_anew_says_the_same,
     a_vertex_is_read_where_it_is_spelled, an_append_adds_the_entry, what_is_written_is_said,
-    whole_entries_stand_before_a_cut,
+    whole_entries_stand_before_a_cut, writes_is_log_of,
 };
 pub use mending::mend;
 pub use migrating::migrate;
