@@ -34,13 +34,13 @@ use Rattle.hw_log.proofs.AppendLaws.{entry_again, none_behind, no_bytes, header_
 -- ---- bytes
 
 -- what was taken from the front
-record Took (n : ℕ) (r : Rest) (x : List ℕ × Rest) : Type 0 where
-  bytes : r.bytes ≡ x.0 ++ x.1.bytes
-  size : length x.0 ≡ n
-  taken : AreBytes r.bytes → AreBytes x.0
-  left : AreBytes r.bytes → AreBytes x.1.bytes
+pub record Took (n : ℕ) (r : Rest) (x : List ℕ × Rest) : Type 0 where
+  pub bytes : r.bytes ≡ x.0 ++ x.1.bytes
+  pub size : length x.0 ≡ n
+  pub taken : AreBytes r.bytes → AreBytes x.0
+  pub left : AreBytes r.bytes → AreBytes x.1.bytes
 
-took : (n : ℕ) (torn : LogError) (r : Rest) (x : List ℕ × Rest) → bytes_at n torn r ≡ Ok x → Took n r x
+pub took : (n : ℕ) (torn : LogError) (r : Rest) (x : List ℕ × Rest) → bytes_at n torn r ≡ Ok x → Took n r x
 took n torn r x e =
     let c = chosen (ltb (length r.bytes) n) torn (Ok (take n r.bytes, rest_at (r.place + n) (drop n r.bytes))) x e in
     let enough : n ≤ length r.bytes = ltb-false _ _ c.0 in
@@ -53,17 +53,17 @@ took n torn r x e =
     })
 
 -- four bytes are those of their number
-four_bytes : (bytes : List ℕ) (n : ℕ) → AreBytes bytes → length bytes ≡ 4 → from_be_bytes w32 bytes ≡ n → bytes ≡ u32_bytes n
+pub four_bytes : (bytes : List ℕ) (n : ℕ) → AreBytes bytes → length bytes ≡ 4 → from_be_bytes w32 bytes ≡ n → bytes ≡ u32_bytes n
 four_bytes bytes n fits size is = sym (wide32.back bytes (record { size = size; each = fits })) ∙ ap u32_bytes is
 
 -- ---- an entry's head
 
-verdict_byte : (n : ℕ) → n ≤ 1 → n ≡ (if n == 1 then 1 else 0)
+pub verdict_byte : (n : ℕ) → n ≤ 1 → n ≡ (if n == 1 then 1 else 0)
 verdict_byte zero small = refl
 verdict_byte (suc zero) small = refl
 verdict_byte (suc (suc n)) small = absurd (omega arith)
 
-head_spelled : (at : ℕ) (head : List ℕ) (said : EntryHead) → AreBytes head → length head ≡ 6 → head_of at head ≡ Ok said → head ≡ 1 ∷ (if said.verdict then 1 else 0) ∷ u32_bytes said.length
+pub head_spelled : (at : ℕ) (head : List ℕ) (said : EntryHead) → AreBytes head → length head ≡ 6 → head_of at head ≡ Ok said → head ≡ 1 ∷ (if said.verdict then 1 else 0) ∷ u32_bytes said.length
 unfolding head_of
 head_spelled at [] said fits size e = absurd (omega arith)
 head_spelled at (a ∷ []) said fits size e = absurd (omega arith)
@@ -131,7 +131,7 @@ entry_spelled l x fits each e =
     is_decoded wrap (Ok w) v e' = cc
     is_decoded wrap (Err d) v e' = absurd cc
 
-next_spelled : (l : Left) (e : LogEntry) (behind : Left) → AreBytes l.rest.bytes → LastsInRange l.lasts.units → next_at l ≡ Ok (Some e, behind) → 0 < length l.rest.bytes → Spelled l e behind
+pub next_spelled : (l : Left) (e : LogEntry) (behind : Left) → AreBytes l.rest.bytes → LastsInRange l.lasts.units → next_at l ≡ Ok (Some e, behind) → 0 < length l.rest.bytes → Spelled l e behind
 next_spelled l e behind fits each said some =
     let found = bind_ok (entry_at l) as_next (Some e, behind) (sym (next_at-entry l some) ∙ said) in
     let entry : Some found.0.0 ≡ Some e = end_or_entry (Some found.0.0, found.0.1) (Some e, behind) found.2 in
@@ -141,7 +141,7 @@ next_spelled l e behind fits each said some =
 
 -- ---- where it is torn
 
-bind_err : {A B : Type 0} (x : Result A LogError) (f : A → Result B LogError) (d : LogError) → (x >>= f) ≡ Err d → (x ≡ Err d) ⊎ ((a : A) × (x ≡ Ok a) × (f a ≡ Err d))
+pub bind_err : {A B : Type 0} (x : Result A LogError) (f : A → Result B LogError) (d : LogError) → (x >>= f) ≡ Err d → (x ≡ Err d) ⊎ ((a : A) × (x ≡ Ok a) × (f a ≡ Err d))
 bind_err (Ok a) f d e = inr (a, refl, e)
 bind_err (Err c) f d e = inl (cc)
 
@@ -270,15 +270,16 @@ entries_spelled (suc steps) l most fits each =
 
 -- ---- the header
 
-version_is : (v : ℕ) → is_version v ≡ true → IsVersion v
+pub version_is : (v : ℕ) → is_version v ≡ true → IsVersion v
 version_is v e = elim (or_cases (v == 1) (v == 2) e) [ inl one ↦ inl (eqb-true v 1 one) | inr two ↦ inr (eqb-true v 2 two) ]
 
 -- the front of a log, as it is written
-record IsFront (front : List ℕ) (said : Front) : Type 0 where
-  bytes : front ≡ codes "HWLG" ++ (said.version ∷ u32_bytes said.length)
-  version : IsVersion said.version
+pub record IsFront (front : List ℕ) (said : Front) : Type 0 where
+  pub bytes : front ≡ codes "HWLG" ++ (said.version ∷ u32_bytes said.length)
+  pub version : IsVersion said.version
+  pub short : said.length ≤ 1048576
 
-front_spelled : (front : List ℕ) (said : Front) → AreBytes front → length front ≡ 9 → front_of front ≡ Ok said → IsFront front said
+pub front_spelled : (front : List ℕ) (said : Front) → AreBytes front → length front ≡ 9 → front_of front ≡ Ok said → IsFront front said
 unfolding front_of
 front_spelled front said fits size e =
     let magic = chosen (not (starts_with nat_eq front (codes "HWLG"))) BadMagic _ said e in
@@ -298,14 +299,15 @@ front_spelled front said fits size e =
           ∙ ap (λ (y : ℕ). codes "HWLG" ++ (y ∷ drop 5 front)) says
           ∙ ap (λ (y : List ℕ). codes "HWLG" ++ (said.version ∷ y)) number;
       version = subst IsVersion says known;
+      short = subst (λ (n : ℕ). n ≤ 1048576) counts (ltb-false 1048576 _ short.0);
     }
 
 -- the configuration keeps all limits
-refused_not : (c : Config) (f : Option ConfigFault) (d : Config) → refuse c f ≡ Ok d → (f ≡ None) × (c ≡ d)
+pub refused_not : (c : Config) (f : Option ConfigFault) (d : Config) → refuse c f ≡ Ok d → (f ≡ None) × (c ≡ d)
 refused_not c None d e = (refl, cc)
 refused_not c (Some f) d e = absurd cc
 
-config_decoded : (y : Result Config CodecError) (c : Config) → decoded BadConfig y ≡ Ok c → y ≡ Ok c
+pub config_decoded : (y : Result Config CodecError) (c : Config) → decoded BadConfig y ≡ Ok c → y ≡ Ok c
 config_decoded (Ok d) c e = cc
 config_decoded (Err d) c e = absurd cc
 
@@ -319,7 +321,7 @@ pub record IsHeader (bytes : List ℕ) (x : Config × Left) : Type 0 where
   pub left : AreBytes x.1.rest.bytes
   pub lasts : x.1.lasts ≡ no_lasts (slice_index bytes 4) (length x.0.weights)
 
-header_spelled : (bytes : List ℕ) (x : Config × Left) → AreBytes bytes → header_of bytes ≡ Ok x → IsHeader bytes x
+pub header_spelled : (bytes : List ℕ) (x : Config × Left) → AreBytes bytes → header_of bytes ≡ Ok x → IsHeader bytes x
 unfolding header_of checked_config
 header_spelled bytes x fits e =
     let n = bind_ok (front_of (take 9 bytes)) (λ front. bytes_at front.length (Torn 9) (rest_at 9 (drop 9 bytes)) >>= with_spelled front.version) x e in
