@@ -8,8 +8,7 @@ use Rattle.hw_types.specs.declared.unit.Vertex.{Vertex}
 use Rattle.hw_types.specs.declared.config.Config.{Config}
 use Rattle.hw_types.specs.Limits.{config_fault}
 use Rattle.hw_types.specs.Spelling.{u32_bytes, vertex_bytes, config_bytes, VertexFits, ConfigFits}
-use Rattle.hw_types.specs.declared.answers.CodecError.{CodecError}
-use Rattle.hw_types.specs.Reading.{Rest, vertex_of, config_of}
+use Rattle.hw_types.specs.Reading.{vertex_of, config_of}
 use Rattle.hw_codec.specs.Ranges.{VertexInRange, ConfigInRange}
 use Rattle.hw_codec.specs.Compact.{bytes_after, vertex_after}
 use Rattle.hw_codec.proofs.Spelled.{vertex_spelled_reads, config_spelled_reads}
@@ -18,7 +17,6 @@ use Rattle.hw_log.specs.Lasts.{LastUnits, IsVersion, no_lasts, lasts_after, vert
 use Rattle.hw_log.specs.declared.entry.LogEntry.{LogEntry}
 use Rattle.hw_log.specs.declared.error.LogError.{LogError}
 use Rattle.hw_log.specs.declared.error.LogError.TheVariants.{Torn, TooLong}
-use Rattle.hw_log.specs.declared.head.Front.{Front}
 use Rattle.hw_log.specs.Log.{◌>>=◌, Left, rest_at, bytes_at, is_too_long, is_version, front_of, checked_config, header_of, head_of, head_at, body_at, entry_at, next_at, Entries, with_next, entries_in, entries_of, log_of, header_bytes, entry_with, entry_bytes, lasts_behind}
 use Rattle.hw_log.proofs.FieldLaws.{bytes_held}
 use Rattle.hw_log.proofs.LengthLaws.{vertex_short, config_short}

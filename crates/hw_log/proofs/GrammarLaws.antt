@@ -1,25 +1,26 @@
 -- What the bytes of a log say is what the reader's steps give.
-use Rattle.std.proofs.Common.{◌≡◌, ℕ, zero, suc, ◌+◌, ◌<◌, ◌≤◌, List, [], ◌∷◌, ◌++◌, length, codes, slice_index, Option, Some, None, Result, Ok, Err, refl, sym, ap, subst, ◌∙◌, append_assoc, arith, length-append}
-use Rattle.std.specs.List.{All, AllByRecursion}
+use Rattle.std.proofs.Common.{◌≡◌, ℕ, zero, suc, ◌+◌, ◌<◌, ◌≤◌, List, [], ◌∷◌, ◌++◌, length, take, codes, slice_index, Option, Some, None, Result, Ok, Err, refl, sym, ap, subst, ◌∙◌, append_assoc, arith, length-append}
+use Rattle.std.specs.List.{AllByRecursion}
 use Rattle.std.proofs.lemmas.List.{append-nil}
 use Rattle.std.proofs.lemmas.List.Elements.{All-from_recursion, recursion_from_All}
-use Rattle.hw_types.specs.declared.unit.Vertex.{Vertex}
+use Rattle.std.proofs.Math.Seq.{take-append_seam}
 use Rattle.hw_types.specs.declared.config.Config.{Config}
 use Rattle.hw_types.specs.Limits.{config_fault}
 use Rattle.hw_types.specs.Spelling.{u32_bytes, config_bytes}
 use Rattle.hw_codec.specs.Ranges.{AreBytes}
 use Rattle.hw_log.specs.declared.entry.LogEntry.{LogEntry}
 use Rattle.hw_log.specs.declared.error.LogError.{LogError}
+use Rattle.hw_log.specs.declared.error.LogError.TheVariants.{Torn}
 use Rattle.hw_log.specs.Lasts.{LastUnits, IsVersion, no_lasts, lasts_after, vertex_bytes_in}
 use Rattle.hw_log.specs.Log.{◌>>=◌, Left, rest_at, header_of, body_at, head_at, entry_at, next_at, Entries, with_next, entries_of, log_of, header_bytes, entry_bytes, entries_bytes, log_bytes, lasts_behind}
-use Rattle.hw_log.specs.Spelled.{LastsInRange, EntryFits}
+use Rattle.hw_log.specs.Spelled.{LastsInRange, EntryFits, SaysSame}
 use Rattle.hw_log.specs.Grammar.{IsSpelled, ArePlaced, Writes, IsWrongEntry, SaysTo, Says}
 use Rattle.hw_log.proofs.RangeLaws.{none_in_range, after_in_range}
-use Rattle.hw_log.proofs.EntryLaws.{bind_ok, with_body, as_next, next_at-end, next_at-entry, next_at-shorter, end_or_entry, entries_next}
+use Rattle.hw_log.proofs.EntryLaws.{bind_ok, with_body, as_next, next_at-entry, next_at-shorter, end_or_entry, entries_next}
 use Rattle.hw_log.proofs.MoreLaws.{end_at, next_at-none, next_at-reads, next_at-lasts, header_of-reads}
 use Rattle.hw_log.proofs.RunLaws.{with_entries}
 use Rattle.hw_log.proofs.AppendLaws.{entry_again, none_behind, no_bytes, header_again, log_ok}
-use Rattle.hw_log.proofs.SpelledLaws.{Spelled, next_spelled, header_spelled}
+use Rattle.hw_log.proofs.SpelledLaws.{Spelled, next_spelled, header_spelled, spelled_said}
 use Rattle.hw_log.proofs.WrongLaws.{next_wrong, entry_stops, wrong_some, header_wrong, header_stops}
 
 -- ---- entries that are read are written
@@ -215,3 +216,33 @@ said_there bytes version config given (Some e) (front, behind, is, w, wrong) =
 pub there : (bytes : List ℕ) (said : Result (Config × Entries) LogError) → Says bytes said → log_of bytes ≡ said
 there bytes (Ok (config, said)) (version, says) = said_there bytes version config said.given said.fault says
 there bytes (Err e) wrong = ap (λ (y : Result (Config × Left) LogError). y >>= with_entries) (header_stops bytes e wrong)
+
+-- ---- what follows of a log that was read
+
+-- the bytes in front that are written, up to the end or the first error
+written_of : (bytes : List ℕ) (version : ℕ) (config : Config) (given : List LogEntry) (fault : Option LogError) → SaysTo bytes version config given fault → (front : List ℕ) × Writes front version config given
+written_of bytes version config given None w = (bytes, w)
+written_of bytes version config given (Some e) (front, behind, is, w, wrong) = (front, w)
+
+pub respelled : (bytes : List ℕ) (config : Config) (said : Entries) (version : ℕ) → AreBytes bytes → log_of bytes ≡ Ok (config, said) → IsVersion version → SaysSame config said.given (log_bytes version config said.given)
+respelled bytes config said version fits e there =
+    let says : Says bytes (Ok (config, said)) = subst (Says bytes) e (explain bytes fits) in
+    let w = (written_of bytes says.0 config said.given said.fault says.1).1 in
+    spelled_said version config said.given there w.spelled.0 w.spelled.1 w.limits (recursion_from_All EntryFits said.given w.fit)
+
+pub whole_spelled : (bytes : List ℕ) (config : Config) (given : List LogEntry) → AreBytes bytes → log_of bytes ≡ Ok (config, record { given = given; fault = None }) → bytes ≡ log_bytes (slice_index bytes 4) config given
+whole_spelled bytes config given fits e =
+    let says : (version : ℕ) × Writes bytes version config given = subst (Says bytes) e (explain bytes fits) in
+    let version : slice_index bytes 4 ≡ says.0 = ap (λ (b : List ℕ). slice_index b 4) says.1.bytes_are in
+    says.1.bytes_are ∙ ap (λ (v : ℕ). log_bytes v config given) (sym version)
+
+pub cut_spelled : (bytes : List ℕ) (config : Config) (given : List LogEntry) (at : ℕ) → AreBytes bytes → log_of bytes ≡ Ok (config, record { given = given; fault = Some (Torn at) }) → take at bytes ≡ log_bytes (slice_index bytes 4) config given
+cut_spelled bytes config given at fits e =
+    let says : (version : ℕ) × SaysTo bytes version config given (Some (Torn at)) = subst (Says bytes) e (explain bytes fits) in
+    let s = says.1 in
+    let version : slice_index bytes 4 ≡ says.0 = ap (λ (b : List ℕ). slice_index b 4) (s.2 ∙ ap (λ (y : List ℕ). y ++ s.1) s.3.bytes_are) in
+    ap (λ (n : ℕ). take n bytes) s.4.0
+    ∙ ap (λ (y : List ℕ). take (length s.0) y) s.2
+    ∙ take-append_seam s.0 s.1
+    ∙ s.3.bytes_are
+    ∙ ap (λ (v : ℕ). log_bytes v config given) (sym version)

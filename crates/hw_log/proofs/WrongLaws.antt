@@ -16,14 +16,13 @@ use Rattle.hw_types.specs.Reading.{Rest, config_of}
 use Rattle.hw_codec.specs.Ranges.{AreBytes}
 use Rattle.hw_codec.proofs.Fields.{wide32}
 use Rattle.hw_codec.proofs.Spelled.{config_read_spells, config_read_in_range, config_spelled_reads}
-use Rattle.hw_log.specs.declared.entry.LogEntry.{LogEntry}
 use Rattle.hw_log.specs.declared.head.Front.{Front}
 use Rattle.hw_log.specs.declared.head.EntryHead.{EntryHead}
 use Rattle.hw_log.specs.declared.error.LogError.{LogError}
 use Rattle.hw_log.specs.declared.error.LogError.TheVariants.{BadMagic, Version, Torn, TooLong, BadConfig, ConfigFault as Refused, BadEvent, BadVerdict, BadVertex, ReadFault, WriteFault, OutOfMemory}
 use Rattle.hw_log.specs.Lasts.{LastUnits, IsVersion, vertex_in}
 use Rattle.hw_log.specs.Log.{◌>>=◌, Left, rest_at, bytes_at, decoded, is_too_long, is_version, front_of, refuse, checked_config, header_of, head_of, head_at, body_at, entry_at, next_at, header_bytes}
-use Rattle.hw_log.specs.Grammar.{HasFront, IsWrongHeader, IsWrongEntry}
+use Rattle.hw_log.specs.Grammar.{IsWrongHeader, IsWrongEntry}
 use Rattle.hw_log.proofs.FieldLaws.{bytes_held}
 use Rattle.hw_log.proofs.LengthLaws.{config_short}
 use Rattle.hw_log.proofs.EntryLaws.{bind_ok, chosen, with_head, with_vertex, with_body, as_next, next_at-end, next_at-entry}
