@@ -7,7 +7,7 @@ ghost use Rattle.hw_log.specs.declared.entry.LogEntry.{LogEntry};
 ghost use Rattle.hw_log.specs.declared.error.LogError.TheVariants.{Torn};
 ghost use Rattle.hw_log.specs.Lasts.{LastUnits, IsVersion, vertex_in};
 ghost use Rattle.hw_log.specs.Log.{Entries, log_of, header_bytes, entry_bytes, log_bytes, lasts_in};
-ghost use Rattle.hw_log.specs.Laws.{ThatSaidIsRead, ThatOneIsSaid, ThatAllIsSaid};
+ghost use Rattle.hw_log.specs.Laws.{ThatSaidIsRead, ThatOneIsSaid, ThatAllIsSaid, ThatLogsAreThere, ThatErrorsAreThere};
 ghost use Rattle.hw_log.specs.Spelled.{SpellsIn, LastsInRange, EntryFits, SaysSame};
 
 /// A header that is written is a log without entries.
@@ -62,4 +62,10 @@ pub fn writes_is_log_of()
     ensures read { ThatSaidIsRead }
     ensures one { ThatOneIsSaid }
     ensures all { ThatAllIsSaid }
+{}
+
+/// There are logs, and bytes with an error.
+pub fn logs_and_errors_are_there()
+    ensures logs { ThatLogsAreThere }
+    ensures errors { ThatErrorsAreThere }
 {}
