@@ -8,8 +8,7 @@ use Rattle.hw_types.specs.declared.unit.Vertex.{Vertex}
 use Rattle.hw_types.specs.declared.config.Config.{Config}
 use Rattle.hw_types.specs.Limits.{config_fault}
 use Rattle.hw_types.specs.Spelling.{u32_bytes, vertex_bytes, config_bytes, VertexFits, ConfigFits}
-use Rattle.hw_types.specs.declared.answers.CodecError.{CodecError}
-use Rattle.hw_types.specs.Reading.{Rest, vertex_of, config_of}
+use Rattle.hw_types.specs.Reading.{vertex_of, config_of}
 use Rattle.hw_codec.specs.Ranges.{VertexInRange, ConfigInRange}
 use Rattle.hw_codec.specs.Compact.{bytes_after, vertex_after}
 use Rattle.hw_codec.proofs.Spelled.{vertex_spelled_reads, config_spelled_reads}
@@ -18,7 +17,6 @@ use Rattle.hw_log.specs.Lasts.{LastUnits, IsVersion, no_lasts, lasts_after, vert
 use Rattle.hw_log.specs.declared.entry.LogEntry.{LogEntry}
 use Rattle.hw_log.specs.declared.error.LogError.{LogError}
 use Rattle.hw_log.specs.declared.error.LogError.TheVariants.{Torn, TooLong}
-use Rattle.hw_log.specs.declared.head.Front.{Front}
 use Rattle.hw_log.specs.Log.{◌>>=◌, Left, rest_at, bytes_at, is_too_long, is_version, front_of, checked_config, header_of, head_of, head_at, body_at, entry_at, next_at, Entries, with_next, entries_in, entries_of, log_of, header_bytes, entry_with, entry_bytes, lasts_behind}
 use Rattle.hw_log.proofs.FieldLaws.{bytes_held}
 use Rattle.hw_log.proofs.LengthLaws.{vertex_short, config_short}
@@ -37,18 +35,18 @@ verdict_is : (verdict : Bool) → ((if verdict then 1 else 0) == 1) ≡ verdict
 verdict_is true = refl
 verdict_is false = refl
 
-verdict_known : (verdict : Bool) → ltb 1 (if verdict then 1 else 0) ≡ false
+pub verdict_known : (verdict : Bool) → ltb 1 (if verdict then 1 else 0) ≡ false
 verdict_known true = refl
 verdict_known false = refl
 
 -- the head of an entry with this verdict and length
-head_of-is : (at : ℕ) (head : List ℕ) (verdict : Bool) (n : ℕ) → slice_index head 0 ≡ 1 → slice_index head 1 ≡ (if verdict then 1 else 0) → from_be_bytes w32 (drop 2 head) ≡ n → n ≤ 1048576
+pub head_of-is : (at : ℕ) (head : List ℕ) (verdict : Bool) (n : ℕ) → slice_index head 0 ≡ 1 → slice_index head 1 ≡ (if verdict then 1 else 0) → from_be_bytes w32 (drop 2 head) ≡ n → n ≤ 1048576
     → head_of at head ≡ Ok (record { verdict = verdict; length = n })
 unfolding head_of
 head_of-is at head verdict n event said length_is short =
     rw (event, said, length_is, verdict_known verdict, le-ltb 1048576 n short, verdict_is verdict) refl
 
-abbrev head_bytes : Bool → ℕ → List ℕ
+abbrev pub head_bytes : Bool → ℕ → List ℕ
 head_bytes verdict n = 1 ∷ (if verdict then 1 else 0) ∷ u32_bytes n
 
 -- a vertex that is written is read
@@ -175,14 +173,14 @@ append_adds bytes config given verdict v said range fits =
     ∙ ap (λ (place : ℕ). log_ok (header.0.0, one_more given (entry place))) reads.1
     ∙ ap (λ (c : Config). log_ok (c, one_more given (entry (length bytes)))) same_config
 
-abbrev front_bytes : ℕ → ℕ → List ℕ
+abbrev pub front_bytes : ℕ → ℕ → List ℕ
 front_bytes version n = codes "HWLG" ++ (version ∷ u32_bytes n)
 
-version_there : (version : ℕ) → IsVersion version → is_version version ≡ true
+pub version_there : (version : ℕ) → IsVersion version → is_version version ≡ true
 version_there version (inl one) = rw one refl
 version_there version (inr two) = rw two refl
 
-front_again : (version n : ℕ) → IsVersion version → n ≤ 1048576 → front_of (front_bytes version n) ≡ Ok (record { version = version; length = n })
+pub front_again : (version n : ℕ) → IsVersion version → n ≤ 1048576 → front_of (front_bytes version n) ≡ Ok (record { version = version; length = n })
 unfolding front_of
 front_again version n there short =
     let back : from_be_bytes w32 (u32_bytes n) ≡ n = from_be_bytes-to_be_bytes_4 n (omega arith) in

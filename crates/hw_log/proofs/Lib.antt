@@ -12,6 +12,8 @@ pub mod AppendLaws
 pub mod FollowingLaws
 pub mod RangeLaws
 pub mod SpelledLaws
+pub mod WrongLaws
+pub mod GrammarLaws
 pub mod MeasureLaws
 pub mod MendLaws
 pub mod AboutLaws

@@ -1,5 +1,5 @@
 -- More bytes behind what was read change nothing of it.
-use Rattle.std.proofs.Common.{◌≡◌, ℕ, ◌+◌, ◌≤◌, not, ltb, List, ◌++◌, length, take, drop, codes, slice_index, nat_eq, ◌==◌, Option, Some, None, Result, Ok, Err, sym, ap, inl, inr, ◌∙◌, arith, length-append, length-drop}
+use Rattle.std.proofs.Common.{◌≡◌, ℕ, ◌+◌, ◌≤◌, not, ltb, List, ◌++◌, length, take, drop, codes, slice_index, nat_eq, Option, Some, None, Result, Ok, Err, sym, ap, inl, inr, ◌∙◌, arith, length-append, length-drop}
 use Rattle.std.specs.List.{starts_with}
 use Rattle.std.proofs.lemmas.Bool.{ltb-false, cases_lt}
 use Rattle.std.proofs.lemmas.List.{take-append-le, drop-append-le, length-take, get_or-take}

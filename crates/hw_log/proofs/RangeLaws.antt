@@ -1,15 +1,14 @@
 -- What is read of a log is in the ranges of its types.
-use Rattle.std.proofs.Common.{◌≡◌, ℕ, zero, suc, ◌+◌, ◌<◌, ◌≤◌, ◌^◌, Bool, true, false, nat_lt, ◌||◌, ◌==◌, if◌then◌else◌, List, [], ◌∷◌, ◌++◌, length, get_or, set, replicate, slice_get, Option, Some, None, Ok, ◌⊎◌, refl, sym, ap, subst, ◌∙◌, inl, inr, arith}
-use Rattle.std.specs.List.{All, AllByRecursion}
+use Rattle.std.proofs.Common.{◌≡◌, ℕ, zero, suc, ◌+◌, ◌<◌, ◌≤◌, ◌^◌, Bool, true, false, nat_lt, ◌||◌, ◌==◌, if◌then◌else◌, List, [], ◌∷◌, ◌++◌, length, get_or, set, replicate, slice_get, Option, Some, None, Ok, ◌⊎◌, refl, sym, subst, inl, inr, arith}
+use Rattle.std.specs.List.{AllByRecursion}
 use Rattle.std.specs.Int.{w32, to_be_bytes}
 use Rattle.std.specs.Option.{option_flatten}
-use Rattle.std.proofs.lemmas.Bool.{or_cases, or_parts, eqb-true, cases_eq}
+use Rattle.std.proofs.lemmas.Bool.{or_cases, eqb-true}
 use Rattle.std.proofs.lemmas.List.Elements.{All-append, All-from_recursion, recursion_from_All}
 use Rattle.sha2.specs.Sha256.{sha256, digest_bytes}
 use Rattle.sha2.proofs.Facts256.{length-sha256}
-use Rattle.hw_types.specs.declared.unit.Digest.{Digest}
 use Rattle.hw_types.specs.declared.unit.Obs.{Obs}
-use Rattle.hw_types.specs.declared.unit.Obs.TheVariants.{Absent, Correct}
+use Rattle.hw_types.specs.declared.unit.Obs.TheVariants.{Absent}
 use Rattle.hw_types.specs.declared.unit.WireUnit.{WireUnit}
 use Rattle.hw_types.specs.declared.unit.SignedUnit.{SignedUnit}
 use Rattle.hw_types.specs.declared.unit.Vertex.{Vertex}
@@ -23,9 +22,9 @@ use Rattle.hw_codec.specs.Last.{LastUnit, last_of, last_by}
 use Rattle.hw_codec.specs.Compact.{changes_from, bytes_after, vertex_after, SpellsAfter, PanoramaFits}
 use Rattle.hw_codec.proofs.Fields.{wide32}
 use Rattle.hw_codec.proofs.ToldLaws.{obs_exact, ChangeInRange}
-use Rattle.hw_codec.proofs.CompactLaws.{Form, compact, full, form_of, after_spells, IsAfter, Found}
+use Rattle.hw_codec.proofs.CompactLaws.{Form, compact, full, form_of, after_spells, Found}
 use Rattle.hw_codec.proofs.Spelled.{vertex_read_spells, vertex_read_in_range}
-use Rattle.hw_log.specs.Lasts.{LastUnits, Kept, no_lasts, noted_in, with_noted, lasts_after, vertex_bytes_in, vertex_in}
+use Rattle.hw_log.specs.Lasts.{LastUnits, no_lasts, with_noted, lasts_after, vertex_in}
 use Rattle.hw_log.specs.Spelled.{LastInRange, LastsInRange, SpellsIn}
 
 -- ---- names

@@ -1,46 +1,52 @@
 -- What was read of a log is spelled so, and what is spelled so is read.
-use Rattle.std.proofs.Common.{◌≡◌, ℕ, zero, suc, ◌+◌, ◌<◌, ◌≤◌, ◌^◌, Bool, true, false, cond, ltb, not, ◌==◌, nat_eq, if◌then◌else◌, List, [], ◌∷◌, ◌++◌, length, take, drop, map, codes, get_or, slice_index, Option, Some, None, Result, Ok, Err, ◌⊎◌, inl, inr, refl, sym, ap, subst, ◌∙◌, append_assoc, arith, length-append, length-drop}
-use Rattle.std.specs.List.{All, AllByRecursion, starts_with}
+use Rattle.std.proofs.Common.{◌≡◌, ℕ, zero, suc, ◌+◌, ◌<◌, ◌≤◌, ◌^◌, Bool, true, false, ltb, not, ◌==◌, nat_eq, if◌then◌else◌, List, [], ◌∷◌, ◌++◌, length, take, drop, map, codes, slice_index, Option, Some, None, Result, Ok, Err, ◌⊎◌, inl, inr, refl, sym, ap, subst, ◌∙◌, append_assoc, arith, length-drop}
+use Rattle.std.specs.List.{AllByRecursion, starts_with}
 use Rattle.std.specs.Int.{w32, from_be_bytes}
-use Rattle.std.proofs.lemmas.Bool.{ltb-false, eqb-true, or_cases, not-false, cases_lt}
-use Rattle.std.proofs.lemmas.List.{append-nil, take-append-drop, length-take, get_or-take}
-use Rattle.std.proofs.lemmas.List.Elements.{All-take, All-drop, All-from_recursion, recursion_from_All}
-use Rattle.std.proofs.Math.Seq.{drop-cons, take-append_seam}
+use Rattle.std.proofs.lemmas.Bool.{ltb-false, eqb-true, or_cases, not-false}
+use Rattle.std.proofs.lemmas.List.{take-append-drop, length-take, get_or-take}
+use Rattle.std.proofs.lemmas.List.Elements.{All-take, All-drop}
+use Rattle.std.proofs.Math.Seq.{drop-cons}
 use lib.Pointwise.{bytes_decides}
 use Rattle.hw_types.specs.declared.unit.Vertex.{Vertex}
 use Rattle.hw_types.specs.declared.config.Config.{Config}
 use Rattle.hw_types.specs.declared.config.ConfigFault.{ConfigFault}
 use Rattle.hw_types.specs.declared.answers.CodecError.{CodecError}
 use Rattle.hw_types.specs.Limits.{config_fault}
-use Rattle.hw_types.specs.Spelling.{u32_bytes, config_bytes, VertexFits, ConfigFits}
+use Rattle.hw_types.specs.Spelling.{u32_bytes, config_bytes, ConfigFits}
 use Rattle.hw_types.specs.Reading.{Rest, config_of}
-use Rattle.hw_codec.specs.Ranges.{AreBytes, AreBytesOf, VertexInRange, ConfigInRange}
+use Rattle.hw_codec.specs.Ranges.{AreBytes, ConfigInRange}
 use Rattle.hw_codec.proofs.Fields.{wide32}
 use Rattle.hw_codec.proofs.Spelled.{config_read_spells, config_read_in_range}
 use Rattle.hw_log.specs.declared.entry.LogEntry.{LogEntry}
 use Rattle.hw_log.specs.declared.head.Front.{Front}
 use Rattle.hw_log.specs.declared.head.EntryHead.{EntryHead}
 use Rattle.hw_log.specs.declared.error.LogError.{LogError}
-use Rattle.hw_log.specs.declared.error.LogError.TheVariants.{BadMagic, Version, Torn, TooLong, BadConfig, ConfigFault as Refused, BadEvent, BadVerdict, BadVertex}
+use Rattle.hw_log.specs.declared.error.LogError.TheVariants.{BadMagic, Version, Torn, TooLong, BadConfig, BadEvent, BadVerdict, BadVertex}
 use Rattle.hw_log.specs.Lasts.{LastUnits, IsVersion, no_lasts, lasts_after, vertex_bytes_in, vertex_in}
-use Rattle.hw_log.specs.Log.{◌>>=◌, Left, rest_at, bytes_at, decoded, is_too_long, is_version, front_of, refuse, checked_config, header_of, head_of, head_at, body_at, entry_at, next_at, Entries, with_next, entries_of, log_of, header_bytes, entry_with, entry_bytes, entries_bytes, log_bytes}
+use Rattle.hw_log.specs.Log.{◌>>=◌, Left, rest_at, bytes_at, decoded, is_too_long, is_version, front_of, refuse, checked_config, header_of, head_of, head_at, body_at, entry_at, next_at, Entries, with_next, entries_of, header_bytes, entry_bytes, entries_bytes, log_bytes}
 use Rattle.hw_log.specs.Spelled.{LastsInRange, EntryFits, told_of, SaysSame}
-use Rattle.hw_log.proofs.RangeLaws.{none_in_range, after_in_range, vertex_read}
-use Rattle.hw_log.proofs.EntryLaws.{bind_ok, chosen, with_head, with_vertex, with_body, as_next, next_at-end, next_at-entry, next_at-shorter, end_or_entry, entries_next}
-use Rattle.hw_log.proofs.MoreLaws.{end_at, left_more, with_config, with_spelled, next_at-none, next_at-reads, next_at-lasts, front_of-whole, front_of-version, header_of-reads}
+use Rattle.hw_log.proofs.RangeLaws.{vertex_read}
+use Rattle.hw_log.proofs.EntryLaws.{bind_ok, chosen, with_head, with_vertex, with_body, as_next, next_at-entry, end_or_entry, entries_next}
+use Rattle.hw_log.proofs.MoreLaws.{with_config, with_spelled, next_at-reads, front_of-whole, front_of-version, header_of-reads}
 use Rattle.hw_log.proofs.RunLaws.{with_entries}
-use Rattle.hw_log.proofs.AppendLaws.{entry_again, none_behind, no_bytes, header_again, log_ok, log_is}
+use Rattle.hw_log.proofs.AppendLaws.{entry_again, none_behind, header_again, log_ok}
+
+-- ---- a step that fails
+
+pub bind_err : {A B : Type 0} (x : Result A LogError) (f : A → Result B LogError) (d : LogError) → (x >>= f) ≡ Err d → (x ≡ Err d) ⊎ ((a : A) × (x ≡ Ok a) × (f a ≡ Err d))
+bind_err (Ok a) f d e = inr (a, refl, e)
+bind_err (Err c) f d e = inl (cc)
 
 -- ---- bytes
 
 -- what was taken from the front
-record Took (n : ℕ) (r : Rest) (x : List ℕ × Rest) : Type 0 where
-  bytes : r.bytes ≡ x.0 ++ x.1.bytes
-  size : length x.0 ≡ n
-  taken : AreBytes r.bytes → AreBytes x.0
-  left : AreBytes r.bytes → AreBytes x.1.bytes
+pub record Took (n : ℕ) (r : Rest) (x : List ℕ × Rest) : Type 0 where
+  pub bytes : r.bytes ≡ x.0 ++ x.1.bytes
+  pub size : length x.0 ≡ n
+  pub taken : AreBytes r.bytes → AreBytes x.0
+  pub left : AreBytes r.bytes → AreBytes x.1.bytes
 
-took : (n : ℕ) (torn : LogError) (r : Rest) (x : List ℕ × Rest) → bytes_at n torn r ≡ Ok x → Took n r x
+pub took : (n : ℕ) (torn : LogError) (r : Rest) (x : List ℕ × Rest) → bytes_at n torn r ≡ Ok x → Took n r x
 took n torn r x e =
     let c = chosen (ltb (length r.bytes) n) torn (Ok (take n r.bytes, rest_at (r.place + n) (drop n r.bytes))) x e in
     let enough : n ≤ length r.bytes = ltb-false _ _ c.0 in
@@ -53,17 +59,17 @@ took n torn r x e =
     })
 
 -- four bytes are those of their number
-four_bytes : (bytes : List ℕ) (n : ℕ) → AreBytes bytes → length bytes ≡ 4 → from_be_bytes w32 bytes ≡ n → bytes ≡ u32_bytes n
+pub four_bytes : (bytes : List ℕ) (n : ℕ) → AreBytes bytes → length bytes ≡ 4 → from_be_bytes w32 bytes ≡ n → bytes ≡ u32_bytes n
 four_bytes bytes n fits size is = sym (wide32.back bytes (record { size = size; each = fits })) ∙ ap u32_bytes is
 
 -- ---- an entry's head
 
-verdict_byte : (n : ℕ) → n ≤ 1 → n ≡ (if n == 1 then 1 else 0)
+pub verdict_byte : (n : ℕ) → n ≤ 1 → n ≡ (if n == 1 then 1 else 0)
 verdict_byte zero small = refl
 verdict_byte (suc zero) small = refl
 verdict_byte (suc (suc n)) small = absurd (omega arith)
 
-head_spelled : (at : ℕ) (head : List ℕ) (said : EntryHead) → AreBytes head → length head ≡ 6 → head_of at head ≡ Ok said → head ≡ 1 ∷ (if said.verdict then 1 else 0) ∷ u32_bytes said.length
+pub head_spelled : (at : ℕ) (head : List ℕ) (said : EntryHead) → AreBytes head → length head ≡ 6 → head_of at head ≡ Ok said → head ≡ 1 ∷ (if said.verdict then 1 else 0) ∷ u32_bytes said.length
 unfolding head_of
 head_spelled at [] said fits size e = absurd (omega arith)
 head_spelled at (a ∷ []) said fits size e = absurd (omega arith)
@@ -131,7 +137,7 @@ entry_spelled l x fits each e =
     is_decoded wrap (Ok w) v e' = cc
     is_decoded wrap (Err d) v e' = absurd cc
 
-next_spelled : (l : Left) (e : LogEntry) (behind : Left) → AreBytes l.rest.bytes → LastsInRange l.lasts.units → next_at l ≡ Ok (Some e, behind) → 0 < length l.rest.bytes → Spelled l e behind
+pub next_spelled : (l : Left) (e : LogEntry) (behind : Left) → AreBytes l.rest.bytes → LastsInRange l.lasts.units → next_at l ≡ Ok (Some e, behind) → 0 < length l.rest.bytes → Spelled l e behind
 next_spelled l e behind fits each said some =
     let found = bind_ok (entry_at l) as_next (Some e, behind) (sym (next_at-entry l some) ∙ said) in
     let entry : Some found.0.0 ≡ Some e = end_or_entry (Some found.0.0, found.0.1) (Some e, behind) found.2 in
@@ -139,146 +145,18 @@ next_spelled l e behind fits each said some =
     let left : found.0.1 ≡ behind = ap (λ (y : Result (Option LogEntry × Left) LogError). elim y [ Ok z ↦ z.1 | Err d ↦ l ]) found.2 in
     subst (λ (m : Left). Spelled l e m) left (subst (λ (y : LogEntry). Spelled l y found.0.1) same (entry_spelled l found.0 fits each found.1))
 
--- ---- where it is torn
-
-bind_err : {A B : Type 0} (x : Result A LogError) (f : A → Result B LogError) (d : LogError) → (x >>= f) ≡ Err d → (x ≡ Err d) ⊎ ((a : A) × (x ≡ Ok a) × (f a ≡ Err d))
-bind_err (Ok a) f d e = inr (a, refl, e)
-bind_err (Err c) f d e = inl (cc)
-
-refused_by : {A : Type 0} (short : Bool) (place at : ℕ) (x : A) → cond short (Err (Torn place)) (Ok x) ≡ Err (Torn at) → at ≡ place
-refused_by true place at x e = cc
-refused_by false place at x e = absurd cc
-
-bytes_torn : (n place at : ℕ) (r : Rest) → bytes_at n (Torn place) r ≡ Err (Torn at) → at ≡ place
-bytes_torn n place at r e = refused_by (ltb (length r.bytes) n) place at (take n r.bytes, rest_at (r.place + n) (drop n r.bytes)) e
-
-never : {A : Type 0} (b : Bool) (d : LogError) (x : Result A LogError) (at : ℕ) → (d ≡ Torn at → ⊥) → (x ≡ Err (Torn at) → ⊥) → cond b (Err d) x ≡ Err (Torn at) → ⊥
-never true d x at other passes e = other (cc)
-never false d x at other passes e = passes e
-
-head_never : (place at : ℕ) (head : List ℕ) → head_of place head ≡ Err (Torn at) → ⊥
-unfolding head_of
-head_never place at head e =
-    never (not (slice_index head 0 == 1)) (BadEvent place) _ at (λ (d : BadEvent place ≡ Torn at). absurd cc)
-    (never (ltb 1 (slice_index head 1)) (BadVerdict place) _ at (λ (d : BadVerdict place ≡ Torn at). absurd cc)
-    (never (is_too_long (from_be_bytes w32 (drop 2 head))) (TooLong place) (Ok (record { verdict = slice_index head 1 == 1; length = from_be_bytes w32 (drop 2 head) })) at (λ (d : TooLong place ≡ Torn at). absurd cc)
-    (λ d. absurd cc))) e
-
-decoded_never : {A : Type 0} (place at : ℕ) (y : Result A CodecError) → decoded (BadVertex place) y ≡ Err (Torn at) → ⊥
-decoded_never place at (Ok x) e = absurd cc
-decoded_never place at (Err d) e = absurd cc
-
-head_torn : (r : Rest) (at : ℕ) → head_at r ≡ Err (Torn at) → at ≡ r.place
-unfolding head_at
-head_torn r at e = elim (bind_err (bytes_at 6 (Torn r.place) r) (λ head. head_of r.place head.0 >>= with_head head) (Torn at) e) [
-  | inl first ↦ bytes_torn 6 r.place at r first
-  | inr second ↦ elim (bind_err (head_of r.place second.0.0) (with_head second.0) (Torn at) second.2) [
-    | inl said ↦ absurd (head_never r.place at second.0.0 said)
-    | inr made ↦ absurd (let no = made.2 in cc)
-  ]
-]
-
-body_torn : (lasts : LastUnits) (place n : ℕ) (r : Rest) (at : ℕ) → body_at lasts place n r ≡ Err (Torn at) → at ≡ place
-unfolding body_at
-body_torn lasts place n r at e = elim (bind_err (bytes_at n (Torn place) r) (λ spelled. decoded (BadVertex place) (vertex_in lasts spelled.0) >>= with_vertex spelled) (Torn at) e) [
-  | inl first ↦ bytes_torn n place at r first
-  | inr second ↦ elim (bind_err (decoded (BadVertex place) (vertex_in lasts second.0.0)) (with_vertex second.0) (Torn at) second.2) [
-    | inl said ↦ absurd (decoded_never place at (vertex_in lasts second.0.0) said)
-    | inr made ↦ absurd (let no = made.2 in cc)
-  ]
-]
-
--- an entry is torn at its first byte
-entry_torn : (l : Left) (at : ℕ) → entry_at l ≡ Err (Torn at) → at ≡ l.rest.place
-unfolding entry_at
-entry_torn l at e = elim (bind_err (head_at l.rest) (λ head. body_at l.lasts l.rest.place head.0.length head.1 >>= with_body l.lasts l.rest.place head) (Torn at) e) [
-  | inl first ↦ head_torn l.rest at first
-  | inr second ↦ elim (bind_err (body_at l.lasts l.rest.place second.0.0.length second.0.1) (with_body l.lasts l.rest.place second.0) (Torn at) second.2) [
-    | inl said ↦ body_torn l.lasts l.rest.place second.0.0.length second.0.1 at said
-    | inr made ↦ absurd (let no = made.2 in cc)
-  ]
-]
-
-next_torn : (l : Left) (at : ℕ) → next_at l ≡ Err (Torn at) → at ≡ l.rest.place
-next_torn l at e = elim (cases_lt 0 (length l.rest.bytes)) [
-  | inl some ↦ elim (bind_err (entry_at l) as_next (Torn at) (sym (next_at-entry l some) ∙ e)) [
-    | inl first ↦ entry_torn l at first
-    | inr made ↦ absurd (let no = made.2 in cc)
-  ]
-  | inr few ↦
-      let none : length l.rest.bytes ≡ 0 = omega arith in
-      let no = sym (next_at-end l none) ∙ e in
-      absurd cc
-]
-
--- ---- the entries
-
--- what is left says these entries, which stand there as they are written, and then what isn't said
-pub record AreSpelled (l : Left) (said : Entries) : Type 0 where
-  pub rest : List ℕ
-  pub bytes : l.rest.bytes ≡ entries_bytes l.lasts said.given ++ rest
-  pub whole : said.fault ≡ None → rest ≡ []
-  pub torn : (at : ℕ) → said.fault ≡ Some (Torn at) → at ≡ l.rest.place + length (entries_bytes l.lasts said.given)
-  pub fits : AllByRecursion EntryFits said.given
-
-none_spelled : (l : Left) (fault : Option LogError) → (fault ≡ None → l.rest.bytes ≡ []) → ((at : ℕ) → fault ≡ Some (Torn at) → at ≡ l.rest.place) → AreSpelled l (record { given = []; fault = fault })
-none_spelled l fault whole torn = record {
-  rest = l.rest.bytes;
-  bytes = refl;
-  whole = whole;
-  torn = λ at e. let place = torn at e in omega arith;
-  fits = tt;
-}
-
-more_spelled : (l : Left) (e : LogEntry) (behind : Left) (others : Entries) → Spelled l e behind → behind.lasts ≡ lasts_after l.lasts e.vertex → end_at behind.rest ≡ end_at l.rest
-    → AreSpelled behind others → AreSpelled l (record { given = e ∷ others.given; fault = others.fault })
-more_spelled l e behind others spelled lasts end are =
-    let text = entry_bytes l.lasts e.verdict e.vertex in
-    let more = entries_bytes behind.lasts others.given in
-    let same : more ≡ entries_bytes (lasts_after l.lasts e.vertex) others.given = ap (λ (m : LastUnits). entries_bytes m others.given) lasts in
-    let bytes : l.rest.bytes ≡ (text ++ more) ++ are.rest = spelled.bytes ∙ ap (λ (y : List ℕ). text ++ y) are.bytes ∙ sym (append_assoc text more are.rest) in
-    let long : length l.rest.bytes ≡ length text + length behind.rest.bytes = ap (λ (y : List ℕ). length y) spelled.bytes ∙ length-append text behind.rest.bytes in
-    record {
-      rest = are.rest;
-      bytes = bytes ∙ ap (λ (y : List ℕ). (text ++ y) ++ are.rest) same;
-      whole = are.whole;
-      torn = λ at fault.
-          let place = are.torn at fault in
-          let size : length (text ++ more) ≡ length text + length more = length-append text more in
-          let same_size : length (text ++ more) ≡ length (text ++ entries_bytes (lasts_after l.lasts e.vertex) others.given) = ap (λ (y : List ℕ). length (text ++ y)) same in
-          omega arith;
-      fits = (spelled.fits, are.fits);
-    }
-
--- one step, which holds of all shorter rests
-spelled_step : (l : Left) → AreBytes l.rest.bytes → LastsInRange l.lasts.units
-    → ((behind : Left) → length behind.rest.bytes < length l.rest.bytes → AreBytes behind.rest.bytes → LastsInRange behind.lasts.units → AreSpelled behind (entries_of behind))
-    → (x : Result (Option LogEntry × Left) LogError) → next_at l ≡ x → AreSpelled l (with_next x entries_of)
-spelled_step l fits each shorter (Err d) is = none_spelled l (Some d) (λ (e : Some d ≡ None). absurd cc) (λ at (e : Some d ≡ Some (Torn at)). next_torn l at (is ∙ (let same : d ≡ Torn at = cc in ap (λ (y : LogError). Err y) same)))
-spelled_step l fits each shorter (Ok (None, behind)) is = none_spelled l None (λ e. no_bytes l.rest.bytes (next_at-none l behind is)) (λ at (e : None ≡ Some (Torn at)). absurd cc)
-spelled_step l fits each shorter (Ok (Some e, behind)) is =
-    let less : length behind.rest.bytes < length l.rest.bytes = next_at-shorter l e behind is in
-    let spelled = next_spelled l e behind fits each is (omega arith) in
-    let lasts = next_at-lasts l e behind is in
-    let each' : LastsInRange behind.lasts.units = subst (λ (m : LastUnits). LastsInRange m.units) (sym lasts) (after_in_range l.lasts e.vertex each spelled.fits.0 spelled.fits.1) in
-    more_spelled l e behind (entries_of behind) spelled lasts (next_at-reads l e behind is).end (shorter behind less spelled.left each')
-
-entries_spelled : (steps : ℕ) (l : Left) → length l.rest.bytes ≤ steps → AreBytes l.rest.bytes → LastsInRange l.lasts.units → AreSpelled l (entries_of l)
-entries_spelled zero l most fits each = subst (AreSpelled l) (sym (entries_next l)) (spelled_step l fits each (λ behind less fits' each'. absurd (omega arith)) (next_at l) refl)
-entries_spelled (suc steps) l most fits each =
-    subst (AreSpelled l) (sym (entries_next l)) (spelled_step l fits each (λ behind (less : length behind.rest.bytes < length l.rest.bytes) fits' each'. entries_spelled steps behind (omega arith) fits' each') (next_at l) refl)
-
 -- ---- the header
 
-version_is : (v : ℕ) → is_version v ≡ true → IsVersion v
+pub version_is : (v : ℕ) → is_version v ≡ true → IsVersion v
 version_is v e = elim (or_cases (v == 1) (v == 2) e) [ inl one ↦ inl (eqb-true v 1 one) | inr two ↦ inr (eqb-true v 2 two) ]
 
 -- the front of a log, as it is written
-record IsFront (front : List ℕ) (said : Front) : Type 0 where
-  bytes : front ≡ codes "HWLG" ++ (said.version ∷ u32_bytes said.length)
-  version : IsVersion said.version
+pub record IsFront (front : List ℕ) (said : Front) : Type 0 where
+  pub bytes : front ≡ codes "HWLG" ++ (said.version ∷ u32_bytes said.length)
+  pub version : IsVersion said.version
+  pub short : said.length ≤ 1048576
 
-front_spelled : (front : List ℕ) (said : Front) → AreBytes front → length front ≡ 9 → front_of front ≡ Ok said → IsFront front said
+pub front_spelled : (front : List ℕ) (said : Front) → AreBytes front → length front ≡ 9 → front_of front ≡ Ok said → IsFront front said
 unfolding front_of
 front_spelled front said fits size e =
     let magic = chosen (not (starts_with nat_eq front (codes "HWLG"))) BadMagic _ said e in
@@ -298,14 +176,15 @@ front_spelled front said fits size e =
           ∙ ap (λ (y : ℕ). codes "HWLG" ++ (y ∷ drop 5 front)) says
           ∙ ap (λ (y : List ℕ). codes "HWLG" ++ (said.version ∷ y)) number;
       version = subst IsVersion says known;
+      short = subst (λ (n : ℕ). n ≤ 1048576) counts (ltb-false 1048576 _ short.0);
     }
 
 -- the configuration keeps all limits
-refused_not : (c : Config) (f : Option ConfigFault) (d : Config) → refuse c f ≡ Ok d → (f ≡ None) × (c ≡ d)
+pub refused_not : (c : Config) (f : Option ConfigFault) (d : Config) → refuse c f ≡ Ok d → (f ≡ None) × (c ≡ d)
 refused_not c None d e = (refl, cc)
 refused_not c (Some f) d e = absurd cc
 
-config_decoded : (y : Result Config CodecError) (c : Config) → decoded BadConfig y ≡ Ok c → y ≡ Ok c
+pub config_decoded : (y : Result Config CodecError) (c : Config) → decoded BadConfig y ≡ Ok c → y ≡ Ok c
 config_decoded (Ok d) c e = cc
 config_decoded (Err d) c e = absurd cc
 
@@ -319,7 +198,7 @@ pub record IsHeader (bytes : List ℕ) (x : Config × Left) : Type 0 where
   pub left : AreBytes x.1.rest.bytes
   pub lasts : x.1.lasts ≡ no_lasts (slice_index bytes 4) (length x.0.weights)
 
-header_spelled : (bytes : List ℕ) (x : Config × Left) → AreBytes bytes → header_of bytes ≡ Ok x → IsHeader bytes x
+pub header_spelled : (bytes : List ℕ) (x : Config × Left) → AreBytes bytes → header_of bytes ≡ Ok x → IsHeader bytes x
 unfolding header_of checked_config
 header_spelled bytes x fits e =
     let n = bind_ok (front_of (take 9 bytes)) (λ front. bytes_at front.length (Torn 9) (rest_at 9 (drop 9 bytes)) >>= with_spelled front.version) x e in
@@ -355,49 +234,6 @@ header_spelled bytes x fits e =
       limits = subst (λ (k : Config). config_fault k ≡ None) ok.1 ok.0;
       left = t.left behind;
       lasts = ap (λ (v : ℕ). no_lasts v (length c.0.weights)) version;
-    })
-
--- ---- the whole log
-
--- what a log's bytes are, where they say a configuration and entries
-pub record IsLog (bytes : List ℕ) (config : Config) (said : Entries) : Type 0 where
-  pub rest : List ℕ
-  pub bytes_are : bytes ≡ log_bytes (slice_index bytes 4) config said.given ++ rest
-  pub whole : said.fault ≡ None → rest ≡ []
-  pub torn : (at : ℕ) → said.fault ≡ Some (Torn at) → at ≡ length (log_bytes (slice_index bytes 4) config said.given)
-  pub version : IsVersion (slice_index bytes 4)
-  pub range : ConfigInRange config
-  pub fits : ConfigFits config
-  pub limits : config_fault config ≡ None
-  pub entries : AllByRecursion EntryFits said.given
-
-pub log_spelled : (bytes : List ℕ) (config : Config) (said : Entries) → AreBytes bytes → log_of bytes ≡ Ok (config, said) → IsLog bytes config said
-log_spelled bytes config said fits e =
-    let h = bind_ok (header_of bytes) with_entries (config, said) e in
-    let is = log_is (h.0.0, entries_of h.0.1) (config, said) h.2 in
-    let header = header_spelled bytes h.0 fits h.1 in
-    let end = (header_of-reads bytes h.0 h.1).1 in
-    let each : LastsInRange h.0.1.lasts.units = subst (λ (m : LastUnits). LastsInRange m.units) (sym header.lasts) (none_in_range (slice_index bytes 4) (length h.0.0.weights)) in
-    let are = entries_spelled (length h.0.1.rest.bytes) h.0.1 (omega arith) header.left each in
-    let given = (entries_of h.0.1).given in
-    let head = header_bytes (slice_index bytes 4) h.0.0 in
-    let text = entries_bytes h.0.1.lasts given in
-    let same : text ≡ entries_bytes (no_lasts (slice_index bytes 4) (length h.0.0.weights)) given = ap (λ (m : LastUnits). entries_bytes m given) header.lasts in
-    let place : h.0.1.rest.place ≡ length head = (let long = ap (λ (y : List ℕ). length y) header.bytes_are ∙ length-append head h.0.1.rest.bytes in omega arith) in
-    subst (λ (y : Config × Entries). IsLog bytes y.0 y.1) is (record {
-      rest = are.rest;
-      bytes_are = header.bytes_are ∙ ap (λ (y : List ℕ). head ++ y) are.bytes ∙ sym (append_assoc head text are.rest) ∙ ap (λ (y : List ℕ). (head ++ y) ++ are.rest) same;
-      whole = are.whole;
-      torn = λ at fault.
-          let there = are.torn at fault in
-          let size : length (head ++ text) ≡ length head + length text = length-append head text in
-          let so = ap (λ (y : List ℕ). length (head ++ y)) same in
-          omega arith;
-      version = header.version;
-      range = header.range;
-      fits = header.fits;
-      limits = header.limits;
-      entries = are.fits;
     })
 
 -- ---- what is spelled is said
@@ -438,22 +274,3 @@ spelled_said version config entries there range fits limits each =
       says = ap (λ (y : Result (Config × Left) LogError). y >>= with_entries) header ∙ ap (λ (o : Entries). log_ok (config, o)) (entries_again end lasts entries each);
       same = placed_same end lasts entries;
     }
-
--- ---- the laws
-
-pub respelled : (bytes : List ℕ) (config : Config) (said : Entries) (version : ℕ) → AreBytes bytes → log_of bytes ≡ Ok (config, said) → IsVersion version → SaysSame config said.given (log_bytes version config said.given)
-respelled bytes config said version fits e there =
-    let is = log_spelled bytes config said fits e in
-    spelled_said version config said.given there is.range is.fits is.limits is.entries
-
-pub whole_spelled : (bytes : List ℕ) (config : Config) (given : List LogEntry) → AreBytes bytes → log_of bytes ≡ Ok (config, record { given = given; fault = None }) → bytes ≡ log_bytes (slice_index bytes 4) config given
-whole_spelled bytes config given fits e =
-    let is = log_spelled bytes config (record { given = given; fault = None }) fits e in
-    let text = log_bytes (slice_index bytes 4) config given in
-    is.bytes_are ∙ ap (λ (y : List ℕ). text ++ y) (is.whole refl) ∙ append-nil text
-
-pub cut_spelled : (bytes : List ℕ) (config : Config) (given : List LogEntry) (at : ℕ) → AreBytes bytes → log_of bytes ≡ Ok (config, record { given = given; fault = Some (Torn at) }) → take at bytes ≡ log_bytes (slice_index bytes 4) config given
-cut_spelled bytes config given at fits e =
-    let is = log_spelled bytes config (record { given = given; fault = Some (Torn at) }) fits e in
-    let text = log_bytes (slice_index bytes 4) config given in
-    ap (λ (n : ℕ). take n bytes) (is.torn at refl) ∙ ap (λ (y : List ℕ). take (length text) y) is.bytes_are ∙ take-append_seam text is.rest

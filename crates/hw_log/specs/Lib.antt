@@ -11,3 +11,5 @@ pub mod Rewritten
 pub mod RewriteCauses
 pub mod Measured
 pub mod Migrated
+pub mod Grammar
+pub mod Laws

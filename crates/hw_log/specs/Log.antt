@@ -1,4 +1,6 @@
--- What a log says: the whole grammar, read from left to right, with the first error and its place.
+-- What a log says, read from left to right, with the first error and its place.
+-- For the prover: the reader's steps. What a reader believes is Grammar; the law `writes_is_log_of` says that the two are one.
+-- Source: ours.
 use Rattle.std.specs.Prelude.{ℕ, zero, suc, ◌+◌, Bool, nat_lt, ◌==◌, ◌||◌, not, if◌then◌else◌, List, [], ◌∷◌, ◌++◌, length, take, drop, slice_index, nat_eq, codes, Option, Some, None, Result, Ok, Err}
 use Rattle.std.specs.Int.{w32, from_be_bytes}
 use Rattle.std.specs.List.{starts_with}

@@ -7,6 +7,7 @@ ghost use Rattle.hw_log.specs.declared.entry.LogEntry.{LogEntry};
 ghost use Rattle.hw_log.specs.declared.error.LogError.TheVariants.{Torn};
 ghost use Rattle.hw_log.specs.Lasts.{LastUnits, IsVersion, vertex_in};
 ghost use Rattle.hw_log.specs.Log.{Entries, log_of, header_bytes, entry_bytes, log_bytes, lasts_in};
+ghost use Rattle.hw_log.specs.Laws.{ThatSaidIsRead, ThatOneIsSaid, ThatAllIsSaid, ThatLogsAreThere, ThatErrorsAreThere};
 ghost use Rattle.hw_log.specs.Spelled.{SpellsIn, LastsInRange, EntryFits, SaysSame};
 
 /// A header that is written is a log without entries.
@@ -54,4 +55,17 @@ pub fn whole_entries_stand_before_a_cut()
     ensures { (bytes : List ℕ) (config : Config) (given : List LogEntry) (at : ℕ) → AreBytes bytes
         → log_of bytes ≡ Ok (config, record { given = given; fault = Some (Torn at) })
         → take at bytes ≡ log_bytes (slice_index bytes 4) config given }
+{}
+
+/// The relations of the grammar and the reader's steps agree.
+pub fn writes_is_log_of()
+    ensures read { ThatSaidIsRead }
+    ensures one { ThatOneIsSaid }
+    ensures all { ThatAllIsSaid }
+{}
+
+/// There are logs, and bytes with an error.
+pub fn logs_and_errors_are_there()
+    ensures logs { ThatLogsAreThere }
+    ensures errors { ThatErrorsAreThere }
 {}

@@ -1,8 +1,8 @@
 //! Log files: a header with the configuration, and then one entry for each vertex.
 //!
-//! `specs/Log.antt` has the whole grammar, as a function from bytes to what a log says. A
-//! [`LogReader`] gives that function's answers one entry at a time, however the reads of the file
-//! are cut. Its memory does not grow with the file.
+//! `specs/Grammar.antt` has the whole grammar, as a relation of bytes and what they say. The function of
+//! `specs/Log.antt` gives just that, and a [`LogReader`] gives its answers one entry at a time, however
+//! the reads of the file are cut. Its memory does not grow with the file.
 //!
 //! A log of version 2 tells a unit by what changed since its creator's last unit in the log, where
 //! it goes on from that one. [`Lasts`] keeps what that takes of the last unit of each validator.
@@ -40,8 +40,8 @@ pub use file::read_file;
 pub use lasts::{Lasts, Noted};
 pub use laws::{
     a_header_is_an_empty_log, a_log_is_what_it_says_as_written, a_log_written_anew_says_the_same,
-    a_vertex_is_read_where_it_is_spelled, an_append_adds_the_entry, what_is_written_is_said,
-    whole_entries_stand_before_a_cut,
+    a_vertex_is_read_where_it_is_spelled, an_append_adds_the_entry, logs_and_errors_are_there,
+    what_is_written_is_said, whole_entries_stand_before_a_cut, writes_is_log_of,
 };
 pub use mending::mend;
 pub use migrating::migrate;

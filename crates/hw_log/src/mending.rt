@@ -6,12 +6,13 @@ ghost use Rattle.hw_log.specs.Causes.{HasReadCause, IsReadAbout, IsOutside as Is
 ghost use Rattle.hw_log.specs.Rewritten.{mended_of, bytes_before, Says, HasRewritten, IsCutShort};
 ghost use Rattle.hw_log.specs.RewriteCauses.{IsAbsentFault, IsPutFault, IsOutside, IsWhy, HasRewriteCause, IsReadAbout as IsRewriteAbout};
 
+use crate::error::error_of_read;
 use crate::fault::RewriteFault;
 use crate::measure::measure;
 use crate::rewritten::Rewritten;
 use crate::target::{absent, put};
 use crate::{LogError, read_file};
-use hw_io::{Files, IoFault};
+use hw_io::Files;
 use hw_types::Bytes;
 use std::alloc::Global;
 
@@ -71,8 +72,7 @@ fn read<F: Files>(alloc: Global, files: &mut F, name: &str) -> Result<Bytes, Log
 {
     match read_file(alloc, files, name) {
         Ok(bytes) => Ok(bytes),
-        Err(IoFault::Failed) => Err(LogError::ReadFault),
-        Err(IoFault::OutOfMemory) => Err(LogError::OutOfMemory),
+        Err(fault) => Err(error_of_read(fault)),
     }
 }
 

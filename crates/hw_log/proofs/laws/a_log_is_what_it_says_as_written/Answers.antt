@@ -1,4 +1,4 @@
-use Rattle.hw_log.proofs.SpelledLaws.{whole_spelled}
+use Rattle.hw_log.proofs.GrammarLaws.{whole_spelled}
 use Rattle.hw_log.proofs.laws.a_log_is_what_it_says_as_written.Goals as goal
 
 pub returns : goal.returns
