@@ -5,8 +5,11 @@ use Rattle.hw_script_grammar.specs.declared.lines.Line.{Line}
 use Rattle.hw_script_grammar.specs.declared.body.Said.{Said}
 use Rattle.hw_script_grammar.specs.declared.fault.Fault.{Fault}
 use Rattle.hw_script_grammar.specs.declared.fault.Fault.TheVariants as fault
+use Rattle.hw_script_grammar.specs.declared.adds.Adds.{Adds}
+use Rattle.hw_script_grammar.specs.Words.{◌>>=◌}
+use Rattle.hw_script_grammar.specs.Acts.{line_adds}
 use Rattle.hw_script_grammar.specs.Answers.{Fails, Stops, in_line}
-use Rattle.hw_script_grammar.specs.Body.{with_line, lines_add}
+use Rattle.hw_script_grammar.specs.Body.{with_more, with_line, lines_add}
 
 step : Setting → ℕ → List Line → Option Said → Result Said ℕ
 step s number ls None = Err number
@@ -20,14 +23,23 @@ of_line s said l ls more is = go (with_line s said l.words) ∙ ap (step s l.num
   go (Some m) = refl
 
 -- one more line
-pub one_more : (s : Setting) (said more : Said) (lines ls : List Line) (l : Line) → lines ≡ l ∷ ls → with_line s said l.words ≡ Some more → lines_add s said lines ≡ lines_add s more ls
+one_more : (s : Setting) (said more : Said) (lines ls : List Line) (l : Line) → lines ≡ l ∷ ls → with_line s said l.words ≡ Some more → lines_add s said lines ≡ lines_add s more ls
 unfolding step
 one_more s said more lines ls l at is = ap (lines_add s said) at ∙ of_line s said l ls (Some more) is
 
+-- what the words of a line add
+added : (s : Setting) (said : Said) (l : Line) (more : Option Adds) → line_adds s said.names l.words ≡ more → with_line s said l.words ≡ (more >>= λ adds. Some (with_more said adds))
+unfolding with_line
+added s said l more is = ap (λ (o : Option Adds). o >>= λ adds. Some (with_more said adds)) is
+
+-- one more line, by what it adds
+pub one_added : (s : Setting) (said : Said) (adds : Adds) (lines ls : List Line) (l : Line) → lines ≡ l ∷ ls → line_adds s said.names l.words ≡ Some adds → lines_add s said lines ≡ lines_add s (with_more said adds) ls
+one_added s said adds lines ls l at is = one_more s said (with_more said adds) lines ls l at (added s said l (Some adds) is)
+
 -- a line that is wrong, or there is no memory
-pub line_fails : (fault : Fault) (s : Setting) (said : Said) (lines ls : List Line) (l : Line) → lines ≡ l ∷ ls → Fails fault (with_line s said l.words) → Stops (in_line l.number fault) (lines_add s said lines)
+pub line_fails : (fault : Fault) (s : Setting) (said : Said) (lines ls : List Line) (l : Line) → lines ≡ l ∷ ls → Fails fault (line_adds s said.names l.words) → Stops (in_line l.number fault) (lines_add s said lines)
 unfolding step
-line_fails fault.Grammar s said lines ls l at fails = ap (lines_add s said) at ∙ of_line s said l ls None fails
+line_fails fault.Grammar s said lines ls l at fails = ap (lines_add s said) at ∙ of_line s said l ls None (added s said l None fails)
 line_fails fault.OutOfMemory s said lines ls l at fails = tt
 
 -- all lines are read

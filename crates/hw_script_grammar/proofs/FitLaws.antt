@@ -5,10 +5,10 @@ use Rattle.std.specs.Option.{option_copied}
 use denote.Ref.{Bor}
 use Rattle.hw_types.specs.Spelling.{VertexFits}
 use Rattle.hw_script_grammar.specs.declared.named.Named.{Named}
-use Rattle.hw_script_grammar.specs.Names.{has_name, named_as, AllFit}
+use Rattle.hw_script_grammar.specs.Names.{has_name, named_as, NamedFits, AllFit}
 
 -- one more
-pub fit_more : (ns : List Named) (n : Named) → AllFit ns → VertexFits n.vertex → AllFit (ns ++ n ∷ [])
+pub fit_more : (ns : List Named) (n : Named) → AllFit ns → NamedFits n → AllFit (ns ++ n ∷ [])
 fit_more [] n all fits = (fits, tt)
 fit_more (m ∷ ms) n all fits = (all.0, fit_more ms n all.1 fits)
 
@@ -19,7 +19,7 @@ chosen false n ns o fits rest = rest
 -- one that is found
 pub fit_found : (p : Named → Bool) (ns : List Named) → AllFit ns → IfSome (find p ns) (λ n. VertexFits n.vertex)
 fit_found p [] all = tt
-fit_found p (n ∷ ns) all = chosen (p n) n ns (find p ns) all.0 (fit_found p ns all.1)
+fit_found p (n ∷ ns) all = chosen (p n) n ns (find p ns) all.0.0 (fit_found p ns all.1)
 
 -- what a look-up lends
 lent : (r : Option (Bor Named)) (o : Option Named) → option_copied r ≡ o → IfSome o (λ n. VertexFits n.vertex) → IfSome r (λ n. VertexFits n.now.vertex)

@@ -4,6 +4,7 @@ pub mod LineLaws
 pub mod EachLaws
 pub mod HeadLaws
 pub mod FitLaws
+pub mod PlaceLaws
 pub mod NextLaws
 pub mod OrderLaws
 pub mod ValueLaws

@@ -6,7 +6,6 @@ use Rattle.hw_types.specs.declared.unit.Digest.{Digest}
 use Rattle.hw_types.specs.declared.config.Config.{Config}
 use Rattle.hw_types.specs.Journal.{Setting}
 use Rattle.hw_types.specs.Real.{setting_of}
-use Rattle.hw_types.specs.Spelling.{VertexFits}
 use Rattle.hw_script_grammar.specs.declared.lines.Line.{Line}
 use Rattle.hw_script_grammar.specs.declared.named.Named.{Named}
 use Rattle.hw_script_grammar.specs.declared.acts.Act.{Act}
@@ -17,7 +16,7 @@ use Rattle.hw_script_grammar.specs.declared.adds.LineKind.{LineKind}
 use Rattle.hw_script_grammar.specs.declared.adds.LineKind.TheVariants as kind
 use Rattle.hw_script_grammar.specs.Numbers.{number_below}
 use Rattle.hw_script_grammar.specs.Words.{Word, ◌>>=◌, next_word, keyword, each, one_or_more, nothing_more}
-use Rattle.hw_script_grammar.specs.Names.{named_as, digest_as}
+use Rattle.hw_script_grammar.specs.Names.{NamedFits, named_as, digest_as}
 use Rattle.hw_script_grammar.specs.Units.{unit_line, evidence_line}
 
 -- ---- what is done
@@ -89,7 +88,7 @@ line_adds s names ws = do
 
 -- ---- the limits of formats
 
--- what is defined keeps the limits of its format
+-- what is defined keeps the limits of its format, and has its unit's digest
 abbrev pub AddsFit : Adds → Type 0
-AddsFit (adds.Definition n) = VertexFits n.vertex
+AddsFit (adds.Definition n) = NamedFits n
 AddsFit (adds.Steps steps) = Unit {0}

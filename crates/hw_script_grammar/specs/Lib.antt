@@ -5,6 +5,7 @@ pub mod Texts
 pub mod Lines
 pub mod Settings
 pub mod Names
+pub mod Places
 pub mod Units
 pub mod Fits
 pub mod Acts

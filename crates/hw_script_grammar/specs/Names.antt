@@ -1,6 +1,6 @@
 -- What is defined in a script, by name.
 -- Source: ours.
-use Rattle.std.specs.Prelude.{ℕ, Bool, false, List, [], ◌∷◌, find, replicate, bytes_eq, Option, Some, None}
+use Rattle.std.specs.Prelude.{◌≡◌, ℕ, Bool, false, List, [], ◌∷◌, find, replicate, bytes_eq, Option, Some, None, IfSome}
 use Rattle.std.specs.List.{list_any}
 use Rattle.hw_types.specs.declared.unit.Digest.{Digest}
 use Rattle.hw_types.specs.declared.unit.Signature.{Signature}
@@ -10,7 +10,7 @@ use Rattle.hw_types.specs.declared.unit.Vertex.{Vertex}
 use Rattle.hw_types.specs.declared.unit.Vertex.TheVariants as vertex
 use Rattle.hw_types.specs.Graph.{digest_eq}
 use Rattle.hw_types.specs.Same.{unit_eq}
-use Rattle.hw_types.specs.Spelling.{VertexFits}
+use Rattle.hw_types.specs.Spelling.{VertexFits, digest_of}
 use Rattle.hw_script_grammar.specs.declared.named.Named.{Named}
 use Rattle.hw_script_grammar.specs.Words.{Word, ◌>>=◌}
 
@@ -77,7 +77,11 @@ has_unit names u = list_any (λ n. is_unit u (unit_in n.vertex)) names
 
 -- ---- the limits of formats
 
--- each vertex keeps the limits of its format
+-- its vertex keeps the limits of its format, and where it is a unit, the digest is that unit's
+abbrev pub NamedFits : Named → Type 0
+NamedFits n = VertexFits n.vertex × IfSome (unit_in n.vertex) (λ u. n.digest ≡ Some (digest_of u))
+
+-- the same of all that is defined
 abbrev pub AllFit : List Named → Type 0
 AllFit [] = Unit {0}
-AllFit (n ∷ ns) = VertexFits n.vertex × AllFit ns
+AllFit (n ∷ ns) = NamedFits n × AllFit ns

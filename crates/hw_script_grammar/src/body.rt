@@ -1,17 +1,16 @@
 //! The lines behind the settings.
 
-ghost use Rattle.std.specs.Prelude.{◌≡◌, None, OnOk};
+ghost use Rattle.std.specs.Prelude.{◌≡◌, None, IfOk};
 ghost use Rattle.hw_types.specs.{Limits.{config_fault}, Real.{setting_of}, Spelling.{instance_of}};
-ghost use Rattle.hw_script_grammar.specs.{Lines.{lines_in}, Acts.{AddsFit}, Body.{nothing_said, with_more, with_line, lines_add}, Answers.{Gives, Reads}};
+ghost use Rattle.hw_script_grammar.specs.{Lines.{lines_in}, Acts.{AddsFit}, Body.{nothing_said, with_more, lines_add}, Answers.{Reads}};
 
 use crate::acts::Acts;
 use crate::adds::{Adds, line_adds};
-use crate::fault::{Fault, ScriptError};
+use crate::fault::ScriptError;
 use crate::lines::{Line, Lines};
 use crate::names::Names;
-use crate::words::Words;
 use hw_codec::instance_of;
-use hw_types::{Config, Digest, OutOfMemory};
+use hw_types::{Config, OutOfMemory};
 use std::alloc::Global;
 
 /// What the lines define and do so far.
@@ -22,7 +21,7 @@ pub(crate) struct Said {
 }
 
 /// Reads all lines behind the settings.
-#[tactic(auto, using(crate::proofs::BodyLaws::one_more, crate::proofs::BodyLaws::is_done))]
+#[tactic(auto, using(crate::proofs::BodyLaws::one_added, crate::proofs::BodyLaws::is_done))]
 pub(crate) fn read_body(
     alloc: Global,
     config: &Config,
@@ -35,8 +34,9 @@ pub(crate) fn read_body(
     let mut said = Said::new(alloc);
     while let Some(line) = lines.next() {
         let Line { number, mut words } = line;
-        if let Err(fault) = said.read(alloc, config, &instance, &mut words) {
-            return Err(fault.in_line(number));
+        match line_adds(alloc, config, &instance, &said.names, &mut words) {
+            Ok(adds) => said = said.with_more(adds)?,
+            Err(fault) => return Err(fault.in_line(number)),
         }
     }
     Ok(said)
@@ -53,31 +53,21 @@ impl Said {
         }
     }
 
-    /// Reads the words of one more line.
-    #[tactic(auto, unfolding(crate::specs::Body::with_line))]
-    fn read(
-        &mut self,
-        alloc: Global,
-        config: &Config,
-        instance: &Digest,
-        words: &mut Words<'_>,
-    ) -> Result<(), Fault>
-        requires lawful { config_fault config.now ≡ None }
-        requires instance { instance.now ≡ instance_of config.now }
-        ensures { Gives (λ _. self.new) result (with_line (setting_of config.now) self.old words.old) }
-    {
-        let adds = line_adds(alloc, config, instance, &self.names, words)?;
-        Ok(self.add(adds)?)
-    }
-
-    /// Adds what a line adds.
-    fn add(&mut self, adds: Adds) -> Result<(), OutOfMemory>
+    /// The same with what a line adds.
+    fn with_more(self, adds: Adds) -> Result<Said, OutOfMemory>
         requires { AddsFit adds }
-        ensures { OnOk result (self.new ≡ with_more self.old adds) }
+        ensures { IfOk result (λ said. said ≡ with_more self adds) }
     {
+        let Said { names, mut acts } = self;
         match adds {
-            Adds::Definition(named) => self.names.push(named),
-            Adds::Steps(acts) => self.acts.append(acts),
+            Adds::Definition(named) => Ok(Said {
+                names: names.with_definition(named)?,
+                acts,
+            }),
+            Adds::Steps(steps) => {
+                acts.append(steps)?;
+                Ok(Said { names, acts })
+            }
         }
     }
 }

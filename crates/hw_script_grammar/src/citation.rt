@@ -66,8 +66,9 @@ fn citation_of(names: &Names, word: &[u8]) -> Option<Citation>
     if is_word(word, "!") {
         return Some(nothing_of(Obs::Faulty));
     }
-    let digest = names.digest(word)?;
-    let unit = names.unit(word)?;
+    let named = names.get(word)?;
+    let digest = named.digest?;
+    let unit = named.unit()?;
     Some(Citation {
         observation: Obs::Correct(digest),
         seq: Some(unit.seq),

@@ -1,8 +1,8 @@
 //! Lines that define evidence.
 
 ghost use Rattle.std.specs.Prelude.{IfOk};
-ghost use Rattle.hw_types.specs.Spelling.{Fits, VertexFits};
-ghost use Rattle.hw_script_grammar.specs.{Units.{next_unit, evidence_line}, Answers.{Gives}};
+ghost use Rattle.hw_types.specs.Spelling.{Fits};
+ghost use Rattle.hw_script_grammar.specs.{Names.{NamedFits}, Units.{next_unit, evidence_line}, Answers.{Gives}};
 
 use crate::fault::Fault;
 use crate::named::{Named, unsigned};
@@ -20,7 +20,7 @@ pub(crate) fn evidence_line(
     words: &mut Words<'_>,
 ) -> Result<Named, Fault>
     ensures named { Gives (λ named. named) result (evidence_line names.now words.old) }
-    ensures fits { IfOk result (λ named. VertexFits named.vertex) }
+    ensures fits { IfOk result NamedFits }
 {
     let name = new_name(alloc, names, words)?;
     words.keyword("of")?;

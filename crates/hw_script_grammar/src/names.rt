@@ -1,29 +1,36 @@
 //! All that is defined in a script, by name.
 
-ghost use Rattle.std.specs.{Prelude.{◌≡◌, ◌++◌, ◌∷◌, [], find, IfSome, OnOk, OnErr}, Option.{option_copied}};
-ghost use Rattle.hw_types.specs.Spelling.{Fits, VertexFits};
-ghost use Rattle.hw_script_grammar.specs.Names.{named_as, is_taken, unit_as, digest_as, name_of, has_unit, is_digest};
+ghost use Rattle.std.specs.{Prelude.{◌≡◌, ◌++◌, ◌∷◌, [], IfOk, IfSome, OnOk}, Option.{option_copied}};
+ghost use Rattle.hw_types.specs.Spelling.{Fits, VertexFits, digest_of};
+ghost use Rattle.hw_script_grammar.specs.{Names.{NamedFits, named_as, is_taken, unit_as, digest_as, name_of, has_unit}, Places.{HasNoted, HasNotedDigest}};
 
 use crate::named::Named;
 use hw_types::{Digest, OutOfMemory, WireUnit};
 use std::alloc::Global;
+use std::collections::BTreeMap;
 use std::marker::Model;
 
 /// All that is defined so far, in order. Contracts see a list. Each vertex keeps the limits of its format.
+///
+/// Look-ups go through maps in the order of their keys, so no choice of names makes them slow.
 #[derive(Drop)]
 pub struct Names {
     items: Vec<Named>,
+    /// The place of the first definition under each name.
+    by_name: BTreeMap<Vec<u8>, usize>,
+    /// The place of the first unit of each digest.
+    by_digest: BTreeMap<Digest, usize>,
 }
 
 impl Model for Names {
     ghost use Rattle.std.specs.Prelude.{List};
-    ghost use Rattle.hw_script_grammar.specs.{declared.named.Named.{Named}, Names.{AllFit}};
+    ghost use Rattle.hw_script_grammar.specs.{declared.named.Named.{Named}, Names.{AllFit}, Places.{KnowsNames, KnowsDigests}};
 
     ghost Value = { List Named };
 
     ghost view = { λ names. names.items.items };
 
-    ghost invariant = { λ names. AllFit names.items.items };
+    ghost invariant = { λ names. AllFit names.items.items × KnowsNames names.by_name.entries names.items.items × KnowsDigests names.by_digest.entries names.items.items };
 }
 
 impl Names {
@@ -33,35 +40,49 @@ impl Names {
     {
         Names {
             items: Vec::new(alloc),
+            by_name: BTreeMap::new(alloc),
+            by_digest: BTreeMap::new(alloc),
         }
     }
 
-    /// Puts a definition last. Where there is no memory, all stays as it was.
-    #[tactic(auto, using(crate::proofs::FitLaws::fit_more))]
-    pub(crate) fn push(&mut self, named: Named) -> Result<(), OutOfMemory>
-        requires { VertexFits named.vertex }
-        ensures ok { OnOk result (self.new ≡ self.old ++ named ∷ []) }
-        ensures err { OnErr result (self.new ≡ self.old) }
+    /// The same with one more definition, which stands last.
+    #[tactic(auto, using(crate::proofs::FitLaws::fit_more, crate::proofs::PlaceLaws::names_more, crate::proofs::PlaceLaws::digests_more))]
+    pub(crate) fn with_definition(self, named: Named) -> Result<Names, OutOfMemory>
+        requires { NamedFits named }
+        ensures { IfOk result (λ names. names ≡ self ++ named ∷ []) }
     {
-        self.items.push(named)?;
-        Ok(())
+        let Names {
+            mut items,
+            mut by_name,
+            mut by_digest,
+        } = self;
+        let place = items.len();
+        note(&mut by_name, named.name.copy()?.into_vec(), place)?;
+        note_digest(&mut by_digest, named.digest, place)?;
+        items.push(named)?;
+        Ok(Names {
+            items,
+            by_name,
+            by_digest,
+        })
     }
 
     /// What is defined under the name.
-    #[tactic(auto, using(crate::proofs::FitLaws::fit_as))]
+    #[tactic(auto, using(crate::proofs::FitLaws::fit_as, crate::proofs::PlaceLaws::named_there, crate::proofs::PlaceLaws::named_nowhere))]
     pub(crate) fn get(&self, name: &[u8]) -> Option<&Named>
         ensures named { option_copied result ≡ named_as self.now name.now }
         ensures fits { IfSome result (λ named. VertexFits named.now.vertex) }
     {
-        named_as(&self.items, name)
+        let place = self.by_name.get(name)?;
+        Some(&self.items[*place])
     }
 
     /// Whether something is defined under the name.
-    #[tactic(auto, unfolding(crate::specs::Names::is_taken))]
+    #[tactic(auto, using(crate::proofs::PlaceLaws::taken_placed))]
     pub(crate) fn is_taken(&self, name: &[u8]) -> bool
         ensures { result ≡ is_taken self.now name.now }
     {
-        self.items.iter().any(|named| named.has_name(name))
+        self.by_name.contains_key(name)
     }
 
     /// The unit that is defined under the name.
@@ -88,36 +109,49 @@ impl Names {
     }
 
     /// The name under which the unit of this digest is defined, empty where there is none.
-    #[tactic(auto, unfolding(crate::specs::Names::name_of))]
+    #[tactic(auto, using(crate::proofs::PlaceLaws::digest_there, crate::proofs::PlaceLaws::digest_nowhere))]
     pub fn name_of(&self, digest: &Digest) -> &[u8]
         ensures { result.now ≡ name_of self.now digest.now }
     {
-        match unit_of(&self.items, digest) {
+        match self.by_digest.get(digest) {
             None => &[],
-            Some(named) => named.name.as_slice(),
+            Some(place) => self.items[*place].name.as_slice(),
         }
     }
 
-    /// Whether this unit is defined.
-    #[tactic(auto, unfolding(crate::specs::Names::has_unit))]
-    pub(crate) fn has_unit(&self, unit: &WireUnit) -> bool
+    /// Whether this unit, which has this digest, is defined. The units are gone through only where one has
+    /// the digest, and so once at most where no two units share one.
+    #[tactic(auto, using(crate::proofs::PlaceLaws::unit_nowhere), unfolding(crate::specs::Names::has_unit))]
+    pub(crate) fn has_unit(&self, unit: &WireUnit, digest: &Digest) -> bool
+        requires { digest.now ≡ digest_of unit.now }
         ensures { result ≡ has_unit self.now unit.now }
     {
-        self.items.iter().any(|named| named.is_unit(unit))
+        self.by_digest.contains_key(digest) && self.items.iter().any(|named| named.is_unit(unit))
     }
 }
 
-/// What is defined under the name.
-#[tactic(auto, unfolding(crate::specs::Names::named_as))]
-fn named_as<'n>(items: &'n [Named], name: &[u8]) -> Option<&'n Named>
-    ensures { option_copied result ≡ named_as items.now name.now }
+/// Notes the place of a unit's digest, if it is that of a unit.
+fn note_digest(
+    places: &mut BTreeMap<Digest, usize>,
+    digest: Option<Digest>,
+    place: usize,
+) -> Result<(), OutOfMemory>
+    ensures { OnOk result (HasNotedDigest places.old places.new digest place) }
 {
-    items.iter().find(|named| named.has_name(name))
+    match digest {
+        Some(digest) => note(places, digest, place),
+        None => Ok(()),
+    }
 }
 
-/// The unit of this digest.
-fn unit_of<'n>(items: &'n [Named], digest: &Digest) -> Option<&'n Named>
-    ensures { option_copied result ≡ find (λ n. is_digest digest.now n.digest) items.now }
+/// Notes the place of a key, unless it has one.
+fn note<K: Ord + Drop>(
+    places: &mut BTreeMap<K, usize>,
+    key: K,
+    place: usize,
+) -> Result<(), OutOfMemory>
+    ensures { OnOk result (HasNoted K.cmp places.old places.new key place) }
 {
-    items.iter().find(|named| named.has_digest(digest))
+    places.entry(key)?.or_insert(place);
+    Ok(())
 }

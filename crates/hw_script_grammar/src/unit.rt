@@ -1,8 +1,8 @@
 //! Lines that define a unit.
 
 ghost use Rattle.std.specs.Prelude.{◌≡◌, ◌<◌, ◌≤◌, ◌^◌, length, codes, None, IfOk, IfSome};
-ghost use Rattle.hw_types.specs.{Limits.{config_fault}, Spelling.{Fits, VertexFits, instance_of, digest_of}, Real.{setting_of}};
-ghost use Rattle.hw_script_grammar.specs.{Words.{optional, number}, Units.{new_name, unit_numbers, value_text, unit_value, unit_behind, named_unit, unit_line}, Answers.{Gives}};
+ghost use Rattle.hw_types.specs.{Limits.{config_fault}, Spelling.{Fits, instance_of, digest_of}, Real.{setting_of}};
+ghost use Rattle.hw_script_grammar.specs.{Words.{optional, number}, Names.{NamedFits}, Units.{new_name, unit_numbers, value_text, unit_value, unit_behind, named_unit, unit_line}, Answers.{Gives}};
 
 use crate::citation::{citations, panorama_of, unit_number};
 use crate::digests::unit_endorsed;
@@ -41,7 +41,7 @@ pub(crate) fn unit_line(
     requires lawful { config_fault config.now ≡ None }
     requires instance { instance.now ≡ instance_of config.now }
     ensures named { Gives (λ named. named) result (unit_line (setting_of config.now) names.now words.old) }
-    ensures fits { IfOk result (λ named. VertexFits named.vertex) }
+    ensures fits { IfOk result NamedFits }
 {
     let name = new_name(alloc, names, words)?;
     let unit = unit_behind(alloc, config, instance, names, words)?;
@@ -72,12 +72,12 @@ pub(crate) fn bytes_of(alloc: Global, word: &[u8]) -> Result<Bytes, OutOfMemory>
 fn named_unit(alloc: Global, names: &Names, name: Bytes, unit: WireUnit) -> Result<Named, Fault>
     requires { Fits unit }
     ensures named { Gives (λ named. named) result (named_unit digest_of names.now name unit) }
-    ensures fits { IfOk result (λ named. VertexFits named.vertex) }
+    ensures fits { IfOk result NamedFits }
 {
-    if names.has_unit(&unit) {
+    let digest = digest_of(alloc, &unit)?;
+    if names.has_unit(&unit, &digest) {
         return Err(Fault::Grammar);
     }
-    let digest = digest_of(alloc, &unit)?;
     Ok(Named {
         name,
         vertex: Vertex::Unit(unsigned(unit)),
