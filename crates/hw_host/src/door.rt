@@ -44,8 +44,11 @@ const LONGEST_PAUSE: u64 = 5_000;
 /// slower is starved while somebody else hangs there each time, but for the session that comes first when enough is
 /// paid. Who comes from many addresses is no suspect before each of them hung.
 ///
-/// What is written is held and goes out in pieces of 65,536 bytes, at the next `read`, or at `hang_up`. A
-/// call that sends what is held and fails is the one that counts.
+/// A read takes what came, 65,536 bytes at most, and hands out as much of it as is asked for. The reads behind it hand
+/// out the rest, and call the system again where nothing is left. What is written is held and goes out in pieces of
+/// 65,536 bytes, before each read that calls the system, and at `hang_up`. So who sent many frames at once is answered
+/// at once, and nobody waits for an answer that is held. A call that sends what is held and fails is the one that
+/// counts.
 ///
 /// Where the door is handed the log of a node, all that was appended to it is on the disk before the next byte
 /// is sent. So no unit that a node made goes out before it is on the disk, and what a peer was told to be
@@ -202,7 +205,8 @@ impl<'a, R: Net + Voice> HostDoor<'a, R> {
         Ok(())
     }
 
-    /// Reads of the session, if one is there, after what is held was sent. An empty buffer waits for nothing.
+    /// Reads of the session, if one is there. Where nothing was read ahead, what is held is sent before. An empty buffer
+    /// waits for nothing.
     fn receive(&mut self, buf: &mut [u8]) -> io::Result<usize>
         ensures bound { ReadsAtMost result buf.new }
         ensures none { is_some self.old.session ≡ false → IsErr result }
@@ -212,10 +216,20 @@ impl<'a, R: Net + Voice> HostDoor<'a, R> {
         if buf.is_empty() && self.session.is_some() {
             return Ok(0);
         }
-        self.flush()?;
+        if !self.is_ahead() {
+            self.flush()?;
+        }
         match &mut self.session {
             Some(session) => session.read(&self.runtime, buf),
             None => Err(ErrorKind::NotConnected.into()),
+        }
+    }
+
+    /// Whether bytes of the session were read ahead.
+    fn is_ahead(&self) -> bool {
+        match &self.session {
+            Some(session) => session.is_ahead(),
+            None => false,
         }
     }
 

@@ -1,14 +1,15 @@
-//! A session over a stream: what is written is held until it is worth a send, and each wait is bounded.
+//! A session over a stream: it is read ahead, what is written is held until it is worth a send, and each wait is
+//! bounded.
 ghost use Rattle.std.specs.{Prelude.{◌≤◌, length, IfOk}, Io.{ReadsAtMost}};
 
 use crate::patience::{Patience, Progress, has_hung};
 use std::alloc::Global;
-use std::io::{ErrorKind, Read, Write};
+use std::io::{BufReader, ErrorKind, Read, Write};
 use std::net::{OpenStream, Shutdown};
 use std::time::{Duration, Instant};
 use std::{io, time};
 
-/// How many bytes are held at most before they are sent.
+/// How many bytes are read ahead at most, and held at most before they are sent.
 const PIECE: usize = 65_536;
 
 /// How many milliseconds a session that ends waits for more of what the peer is still sending.
@@ -20,7 +21,7 @@ const PARTING_READS: usize = 64;
 /// A session with a peer.
 #[derive(Drop)]
 pub(crate) struct Session<S> {
-    stream: S,
+    stream: BufReader<S>,
     began: Instant,
     patience: Patience,
     /// How many milliseconds the stream waits, as it was told last, or 0 where it wasn't told.
@@ -53,7 +54,7 @@ impl<S: OpenStream + Read + Write + Drop> Session<S> {
         stream.set_nodelay(true)?;
         let began = Instant::now(clock)?;
         Ok(Session {
-            stream,
+            stream: BufReader::with_capacity(alloc, PIECE, stream)?,
             began,
             patience,
             wait: 0,
@@ -103,8 +104,31 @@ impl<S: OpenStream + Read + Write + Drop> Session<S> {
         Ok(count)
     }
 
-    /// Reads the peer's next bytes, after all that is held was sent.
+    /// Whether bytes were read ahead, so that the next read doesn't wait.
+    pub(crate) fn is_ahead(&self) -> bool {
+        self.ahead() > 0
+    }
+
+    /// How many bytes were read ahead.
+    fn ahead(&self) -> usize {
+        self.stream.buffer().len()
+    }
+
+    /// Reads the peer's next bytes: those that were read ahead, or else, after all that is held was sent, those that
+    /// come next.
     pub(crate) fn read(&mut self, clock: &impl time::Clock, buf: &mut [u8]) -> io::Result<usize>
+        ensures { ReadsAtMost result buf.new }
+    {
+        if self.is_ahead() {
+            self.next_wait(Instant::now(clock)?)?;
+            self.stream.read(buf)
+        } else {
+            self.wait_for_bytes(clock, buf)
+        }
+    }
+
+    /// Reads the bytes that come next, and as many more as are there and as can be read ahead.
+    fn wait_for_bytes(&mut self, clock: &impl time::Clock, buf: &mut [u8]) -> io::Result<usize>
         ensures { ReadsAtMost result buf.new }
     {
         if self.is_answer_due && self.has_bytes()? {
@@ -115,7 +139,8 @@ impl<S: OpenStream + Read + Write + Drop> Session<S> {
         self.count_blocked(clock, began);
         match outcome {
             Ok(count) => {
-                self.count_read(count as u64);
+                let came = count.saturating_add(self.ahead());
+                self.count_read(came as u64);
                 Ok(count)
             }
             Err(error) => Err(self.failed(error)),
@@ -124,9 +149,10 @@ impl<S: OpenStream + Read + Write + Drop> Session<S> {
 
     /// Whether there are bytes to be read now, so that they are no answer that is waited for.
     fn has_bytes(&self) -> io::Result<bool> {
-        self.stream.set_nonblocking(true)?;
-        let outcome = self.stream.peek(&mut [0]);
-        self.stream.set_nonblocking(false)?;
+        let stream = self.stream.get_ref();
+        stream.set_nonblocking(true)?;
+        let outcome = stream.peek(&mut [0]);
+        stream.set_nonblocking(false)?;
         Ok(outcome.is_ok())
     }
 
@@ -178,7 +204,7 @@ impl<S: OpenStream + Read + Write + Drop> Session<S> {
     fn send_from(&mut self, clock: &impl time::Clock, sent: usize) -> io::Result<usize> {
         let began = self.set_wait(clock)?;
         let outcome = match self.held.as_slice().get(sent..) {
-            Some(rest) => self.stream.write(rest),
+            Some(rest) => self.stream.get_mut().write(rest),
             None => Ok(0),
         };
         self.count_blocked(clock, began);
@@ -196,15 +222,23 @@ impl<S: OpenStream + Read + Write + Drop> Session<S> {
     /// session's time is up.
     fn set_wait(&mut self, clock: &impl time::Clock) -> io::Result<Instant> {
         let now = Instant::now(clock)?;
-        let Some(wait) = self.patience.next_wait(self.progress(now)) else {
-            self.has_failed = true;
-            return Err(io::Error::new(ErrorKind::TimedOut, "the session took too long"));
-        };
+        let wait = self.next_wait(now)?;
         if wait != self.wait {
-            set_waits(&self.stream, wait)?;
+            set_waits(self.stream.get_ref(), wait)?;
             self.wait = wait;
         }
         Ok(now)
+    }
+
+    /// How many milliseconds a call that begins now may wait. It is an error where the session's time is up.
+    fn next_wait(&mut self, now: Instant) -> io::Result<u64> {
+        match self.patience.next_wait(self.progress(now)) {
+            Some(wait) => Ok(wait),
+            None => {
+                self.has_failed = true;
+                Err(io::Error::new(ErrorKind::TimedOut, "the session took too long"))
+            }
+        }
     }
 
     /// How far it is now.
@@ -231,7 +265,7 @@ impl<S: OpenStream + Read + Write + Drop> Session<S> {
     /// Ends what is written and reads on for a bounded while, unless a call failed: a stream that is closed
     /// with bytes unread is reset, and the peer may lose what it was sent last.
     pub(crate) fn part(&mut self, clock: &impl time::Clock) {
-        if self.has_failed || self.stream.shutdown(Shutdown::Write).is_err() {
+        if self.has_failed || self.stream.get_ref().shutdown(Shutdown::Write).is_err() {
             return;
         }
         let Ok(began) = Instant::now(clock) else {
@@ -255,10 +289,10 @@ impl<S: OpenStream + Read + Write + Drop> Session<S> {
             Some(wait) => wait.min(left),
             None => 0,
         };
-        if wait == 0 || set_waits(&self.stream, wait).is_err() {
+        if wait == 0 || set_waits(self.stream.get_ref(), wait).is_err() {
             return false;
         }
-        let outcome = self.stream.read(&mut rest);
+        let outcome = self.stream.get_mut().read(&mut rest);
         self.count_blocked(clock, now);
         match outcome {
             Ok(count) => {
