@@ -75,7 +75,7 @@ fn members_say(alloc: Global, value: &Value) -> Result<Config, SettingsFault>
     let weights = weights_in(alloc, member(value, "weights")?)?;
     let ftt = number_in(member(value, "threshold")?)?;
     let levels = byte_in(member(value, "levels")?)?;
-    let (min_exponent, max_exponent) = pair_in(member(value, "exponents")?)?;
+    let exponents = pair_in(member(value, "exponents")?)?;
     let leaders = leaders_in(alloc, member(value, "leaders")?)?;
     let max_records = count_or(USUAL_RECORDS, value, "records")?;
     let max_parked = count_or(USUAL_PARKED, value, "parked")?;
@@ -84,8 +84,8 @@ fn members_say(alloc: Global, value: &Value) -> Result<Config, SettingsFault>
         weights,
         ftt,
         levels,
-        min_exponent,
-        max_exponent,
+        min_exponent: exponents.0,
+        max_exponent: exponents.1,
         leaders,
         max_records,
         max_parked,
