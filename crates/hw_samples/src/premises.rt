@@ -1,6 +1,7 @@
 //! A case for each law that has premises.
 
 ghost use Rattle.hw_samples.specs.Premises.{BlockIsLost, BlockIsLostLater, BlocksAreKept, BlocksConflict, QuorumsStay, AncestorStands, StandingIsKeptHere, MoreUnitsChangeNothing, LanesFork, OrdersAgree, WalksAndRounds, StepsEnd};
+ghost use Rattle.hw_samples.specs.Runs.{ARunIsThere};
 
 /// A block stands in one journal and is lost over two: the faulty weigh more than the threshold.
 pub fn block_is_lost()
@@ -55,6 +56,11 @@ pub fn orders_agree()
 /// The fork choice of the four units is the walk, and four rounds settle them.
 pub fn walks_and_rounds()
     ensures { WalksAndRounds }
+{}
+
+/// A run over a graph by number finds a block, and decides what the graph's journal decides.
+pub fn a_deciding_run_is_there()
+    ensures { ARunIsThere }
 {}
 
 /// The step of an arriving unit goes on to its end.
