@@ -122,9 +122,9 @@ fn three_weights(alloc: Global) -> Result<WeightList, OutOfMemory>
 
 fn leaders(alloc: Global) -> Result<IndexList, OutOfMemory> {
     let mut leaders = IndexList::new(alloc);
-    for leader in [0, 0, 2] {
-        leaders.push(leader)?;
-    }
+    leaders.push(0)?;
+    leaders.push(0)?;
+    leaders.push(2)?;
     Ok(leaders)
 }
 
