@@ -394,8 +394,10 @@ impl Sink for MemSink {
             return Err(IoFault::Failed);
         }
         let count = bytes.len().min(self.piece.max(1));
-        if !is_lacking && self.bytes.extend_from_slice(&bytes[..count]).is_ok() {
-            return Ok(count);
+        if !is_lacking {
+            if let Ok(()) = self.bytes.extend_from_slice(&bytes[..count]) {
+                return Ok(count);
+            }
         }
         self.wants = self.wants.saturating_add(1);
         Err(IoFault::OutOfMemory)

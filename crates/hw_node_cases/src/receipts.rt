@@ -4,6 +4,7 @@ use hw_case_words::Answer;
 use hw_types::Receipt;
 
 /// The words for receipts.
+#[derive(Clone, Copy)]
 pub struct ReceiptWords {
     admitted: &'static str,
     parked: &'static str,
