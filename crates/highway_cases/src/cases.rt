@@ -3,7 +3,6 @@
 use crate::nodes::node_run;
 use crate::outside::{fail_call, fail_write, files_of, plan, run, run_with};
 use crate::planned::Planned;
-use crate::short::ShortSink;
 use hw_case_words::{Answer, number};
 use hw_doubles::{MemFiles, MemSink};
 use hw_io::Consumer;
@@ -46,11 +45,16 @@ fn put_ran(answer: &mut Answer, files: &mut MemFiles, take: &str, write: &str, c
     let mut out = MemSink::in_pieces(answer.alloc(), number(take) as usize);
     fail_write(answer, &mut out, write);
     let status = run(answer, files, &mut out, command);
-    answer.number(status);
-    answer.labelled(" faults ", files.read_faults());
-    answer.labelled(" ", out.faults());
-    answer.put("\n");
+    put_faults(answer, status, files.read_faults(), out.faults());
     answer.utf8(out.taken());
+}
+
+/// The status, and the counts of faults.
+fn put_faults(answer: &mut Answer, status: u64, reads: u64, writes: u64) {
+    answer.number(status);
+    answer.labelled(" faults ", reads);
+    answer.labelled(" ", writes);
+    answer.put("\n");
 }
 
 /// The status, the counts of faults, what was written, and the bytes of the file of that name then.
@@ -70,10 +74,7 @@ fn anew(rt: HostRuntime, answer: &mut Answer, names: &str, words: &[&str]) {
 fn put_anew(answer: &mut Answer, files: &mut MemFiles, command: &[&str]) {
     let mut out = MemSink::new(answer.alloc());
     let status = run(answer, files, &mut out, command);
-    answer.number(status);
-    answer.labelled(" faults ", files.read_faults());
-    answer.labelled(" ", files.append_faults());
-    answer.put("\n");
+    put_faults(answer, status, files.read_faults(), files.append_faults());
     answer.utf8(out.taken());
 }
 
@@ -119,9 +120,14 @@ fn each_write(rt: HostRuntime, answer: &mut Answer, names: &str, words: &[&str])
 /// The status where this write fails, and the number of bytes that were taken.
 fn put_write(answer: &mut Answer, files: &mut MemFiles, take: &str, write: u64, command: &[&str]) {
     let mut out = MemSink::in_pieces(answer.alloc(), number(take) as usize);
-    let planned = out.fail_at(write);
+    let planned = out.plan.fail_at(write);
     answer.keep(planned);
-    let status = run(answer, files, &mut out, command);
+    put_taken(answer, files, &mut out, command);
+}
+
+/// The status with this output, and the number of bytes that were taken.
+fn put_taken(answer: &mut Answer, files: &mut MemFiles, out: &mut MemSink, command: &[&str]) {
+    let status = run(answer, files, out, command);
     answer.number(status);
     answer.labelled(":", out.taken().len() as u64);
     answer.put(" ");
@@ -140,11 +146,10 @@ fn each_want(rt: HostRuntime, answer: &mut Answer, names: &str, words: &[&str]) 
 
 /// The status where this write finds no memory, and the number of bytes that were taken.
 fn put_want(answer: &mut Answer, files: &mut MemFiles, write: u64, command: &[&str]) {
-    let mut out = ShortSink::new(answer.alloc(), write);
-    let status = run(answer, files, &mut out, command);
-    answer.number(status);
-    answer.labelled(":", out.taken_count());
-    answer.put(" ");
+    let mut out = MemSink::in_pieces(answer.alloc(), 1);
+    let planned = out.memory.fail_at(write);
+    answer.keep(planned);
+    put_taken(answer, files, &mut out, command);
 }
 
 /// The status, what was written, and how many consumers are left, where there is one for each of the plans.

@@ -52,10 +52,10 @@
 #![tactic(auto)]
 
 mod cases;
+mod moments;
 mod nodes;
 mod outside;
 mod planned;
-mod short;
 
 use hw_case_words::Answer;
 use std::io;

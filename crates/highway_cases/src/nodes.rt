@@ -1,33 +1,10 @@
 //! A run of a node, over files, a door and a clock in memory.
 
 use crate::cases::put_file;
+use crate::moments::Moments;
 use crate::outside::{files_of, plan, run_among, words_of};
 use hw_case_words::{Answer, number};
 use hw_doubles::{MemDoor, MemFiles, MemSink};
-use hw_io::Clock;
-
-/// A clock that gives these moments in turn, and then the last one again.
-#[derive(Drop)]
-struct Moments {
-    moments: Vec<u64>,
-    next: usize,
-}
-
-impl Clock for Moments {
-    ghost use Rattle.std.specs.Prelude.{None};
-
-    ghost given = { λ _. None };
-
-    fn now(&mut self) -> u64 {
-        let last = self.moments.len().saturating_sub(1);
-        let moment = match self.moments.get(self.next.min(last)) {
-            Some(moment) => *moment,
-            None => 0,
-        };
-        self.next = self.next.saturating_add(1);
-        moment % (1 << 63)
-    }
-}
 
 /// What a node finds outside.
 #[derive(Drop)]
@@ -88,11 +65,11 @@ fn fail(answer: &mut Answer, outside: &mut Outside, kind: &str, call: u64) {
     match kind {
         "files" => plan(answer, &mut outside.files, call, 0),
         "out" => {
-            let planned = outside.out.fail_at(call);
+            let planned = outside.out.plan.fail_at(call);
             answer.keep(planned);
         }
         _ => {
-            let planned = outside.door.fail_at(call);
+            let planned = outside.door.plan.fail_at(call);
             answer.keep(planned);
         }
     }
@@ -115,7 +92,7 @@ fn clock_of(answer: &mut Answer, words: &str) -> Moments {
     for word in words.split(',') {
         answer.push_to(&mut moments, number(word));
     }
-    Moments { moments, next: 0 }
+    Moments::new(moments)
 }
 
 /// Tells the bytes of the node's log, which is the fourth word of the command line.

@@ -2,10 +2,11 @@
 
 ghost use Rattle.std.specs.Prelude.{◌≤◌, length};
 
-use hw_case_words::{Answer, number};
-use hw_doubles::{MemFiles, MemSink, SetClock, SureDoor};
+use crate::moments::Moments;
+use hw_case_words::{Answer, number, patch};
+use hw_doubles::{MemDoor, MemFiles, MemSink};
 use hw_host::HostFiles;
-use hw_io::{Clock, Consumer, Door, Files, IoFault, Sink};
+use hw_io::{Consumer, Files, IoFault};
 use hw_program::{Words, highway};
 use std::alloc::Global;
 
@@ -54,30 +55,25 @@ fn read(rt: HostRuntime, answer: &mut Answer, bytes: &mut Vec<u8>, word: &str) {
 
 fn read_file(rt: HostRuntime, answer: &mut Answer, bytes: &mut Vec<u8>, name: &str) {
     let mut real = HostFiles::new(&rt);
-    if real.begin(name).is_err() || read_all(&mut real, bytes).is_err() {
+    let mut piece = answer.zeros(4_096);
+    if read_all(&mut real, name, bytes, piece.as_mut_slice()).is_err() {
         answer.refuse();
     }
 }
 
-/// Reads at most a thousand pieces of the file that is begun.
-fn read_all(files: &mut impl Files, bytes: &mut Vec<u8>) -> Result<(), IoFault> {
-    let mut piece = [0u8; 4_096];
+/// Reads at most a thousand pieces of the file.
+fn read_all<F: Files>(
+    files: &mut F,
+    name: &str,
+    bytes: &mut Vec<u8>,
+    piece: &mut [u8],
+) -> Result<(), IoFault> {
+    files.begin(name)?;
     for _ in 0..1_000 {
-        let count = files.read(&mut piece)?;
+        let count = files.read(piece)?;
         bytes.extend_from_slice(&piece[..count])?;
     }
     Ok(())
-}
-
-/// Puts bytes at places, as the words `place:byte` say.
-fn patch(bytes: &mut [u8], patches: &str) {
-    for word in patches.split(',') {
-        if let Some((place, byte)) = word.split_once(':') {
-            if let Some(old) = bytes.get_mut(number(place) as usize) {
-                *old = byte.parse().unwrap_or(0);
-            }
-        }
-    }
 }
 
 /// Plans the call of the files that the word says is to fail, if it says one, and how many bytes it writes if it is an
@@ -97,27 +93,22 @@ pub fn plan(answer: &mut Answer, files: &mut MemFiles, call: u64, left: usize) {
 /// Plans the write that the word says is to fail, if it says one.
 pub fn fail_write(answer: &mut Answer, out: &mut MemSink, write: &str) {
     if let Ok(write) = write.parse() {
-        let planned = out.fail_at(write);
+        let planned = out.plan.fail_at(write);
         answer.keep(planned);
     }
 }
 
 /// The status of the program with these words, and no consumers.
-pub fn run<S: Sink>(
-    answer: &mut Answer,
-    files: &mut MemFiles,
-    out: &mut S,
-    command: &[&str],
-) -> u64 {
+pub fn run(answer: &mut Answer, files: &mut MemFiles, out: &mut MemSink, command: &[&str]) -> u64 {
     let mut consumers = Vec::new(answer.alloc());
     run_with(answer, files, out, &mut consumers, command)
 }
 
 /// The same with these consumers.
-pub fn run_with<S: Sink>(
+pub fn run_with(
     answer: &mut Answer,
     files: &mut MemFiles,
-    out: &mut S,
+    out: &mut MemSink,
     consumers: &mut Vec<Box<dyn Consumer>>,
     command: &[&str],
 ) -> u64
@@ -125,8 +116,8 @@ pub fn run_with<S: Sink>(
     requires { 0 ≤ length consumers.old.items }
 {
     let words = words_of(answer, command);
-    let mut clock = SetClock::new(Vec::new(answer.alloc()));
-    let mut door = SureDoor::new(answer.alloc());
+    let mut clock = Moments::new(Vec::new(answer.alloc()));
+    let mut door = MemDoor::new(answer.alloc());
     run_among(
         answer.alloc(),
         &words,
@@ -139,13 +130,13 @@ pub fn run_with<S: Sink>(
 }
 
 /// The status of the program with these words and this outside.
-pub fn run_among<S: Sink, C: Clock, D: Door>(
+pub fn run_among(
     alloc: Global,
     words: &Words,
     files: &mut MemFiles,
-    out: &mut S,
-    clock: &mut C,
-    door: &mut D,
+    out: &mut MemSink,
+    clock: &mut Moments,
+    door: &mut MemDoor,
     consumers: &mut Vec<Box<dyn Consumer>>,
 ) -> u64
     // It asks for nothing, as above.

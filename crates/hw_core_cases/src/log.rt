@@ -17,12 +17,12 @@
 //! | `other LOG` | what reading a file that isn't there answers |
 //! | `COMMAND CALL LEFT NEW LOG` | a log is written anew: how many entries were written, or why none were; the faults counted; what the new file holds then |
 //! | `faults COMMAND LOG` | each call of the files fails in turn: how many runs end with a failed append, and how many with neither that nor a failed read |
-//! | `files KIND` | an exchange with files of the kind `memory` or `sure`; for a number four calls of which the one of that number fails |
-//! | `sink CALL` | two pieces written to a sink in pieces of three, of which the write of that number fails; for `-` one to a sure sink |
+//! | `files KIND` | an exchange with files of which no call is to fail, for `memory` with the number of the calls; for a number four calls of which the one of that number fails |
+//! | `sink CALL` | two pieces written to a sink in pieces of three, of which the write of that number fails; for `-` one to a sink of which none is to fail |
 //! | `buffer PIECE` | a buffer over files in such pieces, whose second read fails |
 //! | `clock MOMENTS` | the first four moments of a clock that has these, or none for `-` |
 //! | `door PIECE CALLS PEERS STEPS` | what a door answers to the steps, its sessions and its numbers; the calls of these numbers fail, a read gives at most PIECE bytes, and the peers say these words |
-//! | `sure PEERS STEPS` | the same of a sure door |
+//! | `sure PEERS STEPS` | the same of a door of which no call is to fail |
 //! | `watched PEERS STEPS` | the same of one that tells the calls of `read` in its last session: each as `HEARD/WRITTEN`, what had been by then, and how many |
 //! | `consumer CALLS STEPS` | what a consumer answers to the steps, and what it took; the calls of these numbers fail |
 //!
@@ -47,6 +47,7 @@ mod doors;
 mod files;
 mod lines;
 mod logs;
+mod plans;
 mod rewritten;
 mod sinks;
 

@@ -1,4 +1,3 @@
 pub mod Memory
 pub mod SetMoments
 pub mod Shelves
-pub mod Sure

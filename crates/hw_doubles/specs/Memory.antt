@@ -10,10 +10,12 @@ use Rattle.hw_doubles.specs.Shelves.{held_in, begun_in, unread_in, allowance_of,
 use Rattle.hw_doubles.specs.declared.memory.Planned.{Planned}
 use Rattle.hw_doubles.specs.declared.memory.MemFiles.{MemFiles}
 use Rattle.hw_doubles.specs.declared.memory.MemSink.{MemSink}
+use Rattle.hw_doubles.specs.declared.plan.Plan.{Plan}
 use Rattle.hw_doubles.specs.declared.door.MemDoor.{MemDoor}
 use Rattle.hw_io.specs.declared.numbers.DoorNumbers.{DoorNumbers}
+use Rattle.hw_doubles.specs.declared.watched.WatchedDoor.{WatchedDoor}
 use Rattle.hw_doubles.specs.declared.consumer.ListConsumer.{ListConsumer}
-use Rattle.hw_io.specs.Doors.{Session}
+use Rattle.hw_io.specs.Doors.{Session, Ask}
 use Rattle.hw_io.specs.Consumers.{Consumed}
 
 -- what files in memory hold
@@ -64,6 +66,26 @@ pub record CountsCall (old new : MemFiles) : Type 0 where
   pub calls : mem_calls new ≡ raised (mem_calls old)
   pub planned : mem_planned new ≡ mem_planned old
 
+-- the calls of a plan
+abbrev pub planned_calls : Plan → List ℕ
+planned_calls plan = plan.planned.items
+
+-- how many calls were made under it
+abbrev pub calls_made : Plan → ℕ
+calls_made plan = plan.calls
+
+-- whether the call of this number is to fail
+abbrev pub is_planned : List ℕ → ℕ → Bool
+is_planned planned call = list_any (λ c. c == call) planned
+
+-- whether the next call is
+abbrev pub fails_next : Plan → Bool
+fails_next plan = is_planned plan.planned.items plan.calls
+
+-- the plan after a call: one more is counted
+abbrev pub after_call : Plan → Plan
+after_call plan = record plan { calls = raised plan.calls }
+
 -- what a sink in memory took
 abbrev pub mem_taken : MemSink → Option (List ℕ)
 mem_taken sink = Some sink.bytes.items
@@ -78,11 +100,11 @@ mem_wants sink = sink.wants
 
 -- the calls of the sink that are to fail
 abbrev pub sink_planned : MemSink → List ℕ
-sink_planned sink = sink.planned.items
+sink_planned sink = planned_calls sink.plan
 
 -- how many calls of the sink were made
 abbrev pub sink_calls : MemSink → ℕ
-sink_calls sink = sink.calls
+sink_calls sink = calls_made sink.plan
 
 -- how much is written by the call of this number, where it is to fail
 abbrev pub planned_at : List Planned → ℕ → Option ℕ
@@ -95,10 +117,6 @@ mem_next files = planned_at (mem_planned files) (mem_calls files)
 -- an append that failed as planned put so many of the bytes at the end of the file
 abbrev pub CutAt : {T : Type 0} → ℕ → Option (List ℕ) → Option (List ℕ) → List ℕ → Result T IoFault → Type 0
 CutAt written old new bytes result = IfErr result (λ fault. fault ≡ Failed → new ≡ Some (bytes_of old ++ take written bytes))
-
--- whether the call of this number is to fail
-abbrev pub is_planned : List ℕ → ℕ → Bool
-is_planned planned call = list_any (λ c. c == call) planned
 
 -- a call that is planned fails as the outside does
 abbrev pub FailsAsPlanned : {T : Type 0} → Bool → Result T IoFault → Type 0
@@ -122,11 +140,19 @@ door_numbers door = door.numbers
 
 -- the calls of the door that are to fail
 abbrev pub door_planned : MemDoor → List ℕ
-door_planned door = door.planned.items
+door_planned door = planned_calls door.plan
 
 -- how many calls of the door were made
 abbrev pub door_calls : MemDoor → ℕ
-door_calls door = door.calls
+door_calls door = calls_made door.plan
+
+-- the sessions of a watched door
+abbrev pub watched_sessions : WatchedDoor → List Session
+watched_sessions door = door_sessions door.door
+
+-- the calls of `read` in the last one, as far as they are kept
+abbrev pub watched_asks : WatchedDoor → List Ask
+watched_asks door = door.asks.items
 
 -- what a consumer in memory took
 abbrev pub list_consumed : ListConsumer → Consumed
@@ -134,11 +160,11 @@ list_consumed consumer = record { pairs = consumer.blocks.items; finishes = cons
 
 -- the calls of the consumer that are to fail
 abbrev pub list_planned : ListConsumer → List ℕ
-list_planned consumer = consumer.planned.items
+list_planned consumer = planned_calls consumer.plan
 
 -- how many calls of the consumer were made
 abbrev pub list_calls : ListConsumer → ℕ
-list_calls consumer = consumer.calls
+list_calls consumer = calls_made consumer.plan
 
 -- how many of its calls failed
 abbrev pub list_faults : ListConsumer → ℕ

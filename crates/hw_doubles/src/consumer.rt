@@ -1,8 +1,9 @@
 //! A consumer in memory, which tells what it took.
 ghost use Rattle.std.specs.{Prelude.{◌≡◌, ◌++◌, ◌∷◌, ℕ, List, [], Some, false, IsOk, OnOk, OnErr, vec_len}, Option.{option_map}};
 ghost use Rattle.hw_io.specs.{Faults.{HasCause, IsWantCounted, raised}, declared.outside.IoFault.TheVariants.{OutOfMemory}, Consumers.{Consumed, after_take, after_finish}};
-ghost use Rattle.hw_doubles.specs.Memory.{is_planned, FailsAsPlanned, FailsForMemory};
+ghost use Rattle.hw_doubles.specs.Memory.{fails_next, after_call, FailsAsPlanned, FailsForMemory};
 
+use crate::plan::Plan;
 use hw_io::{Consumer, IoFault};
 use std::alloc::{AllocError, Global};
 use std::marker::Model;
@@ -43,8 +44,8 @@ impl TakenBlock {
 pub struct ListConsumer {
     blocks: Vec<TakenBlock>,
     finishes: u64,
-    planned: Vec<u64>,
-    calls: u64,
+    /// The calls that are to fail.
+    pub plan: Plan,
     faults: u64,
     wants: u64,
 }
@@ -63,24 +64,10 @@ impl ListConsumer {
         ListConsumer {
             blocks: Vec::new(alloc),
             finishes: 0,
-            planned: Vec::new(alloc),
-            calls: 0,
+            plan: Plan::new(alloc),
             faults: 0,
             wants: 0,
         }
-    }
-
-    /// Plans that the call of this number fails.
-    pub fn fail_at(&mut self, call: u64) -> Result<(), AllocError>
-        ensures ok { OnOk result (list_planned self.new ≡ list_planned self.old ++ call ∷ []) }
-        ensures err { OnErr result (list_planned self.new ≡ list_planned self.old) }
-        ensures consumed { list_consumed self.new ≡ list_consumed self.old }
-        ensures calls { list_calls self.new ≡ list_calls self.old }
-        ensures faults { list_faults self.new ≡ list_faults self.old }
-        ensures wants { list_wants self.new ≡ list_wants self.old }
-    {
-        self.planned.push(call)?;
-        Ok(())
     }
 
     /// The blocks taken, the last one last.
@@ -106,18 +93,15 @@ impl ListConsumer {
 
     /// Counts a call. It is an error where the call is to fail, which is counted.
     fn next_call(&mut self) -> Result<(), IoFault>
-        ensures planned { FailsAsPlanned (is_planned self.old.planned.items self.old.calls) result }
-        ensures sure { is_planned self.old.planned.items self.old.calls ≡ false → IsOk result }
-        ensures calls { self.new.calls ≡ raised self.old.calls }
-        ensures plan { self.new.planned ≡ self.old.planned }
+        ensures planned { FailsAsPlanned (fails_next self.old.plan) result }
+        ensures sure { fails_next self.old.plan ≡ false → IsOk result }
+        ensures plan { self.new.plan ≡ after_call self.old.plan }
         ensures cause { HasCause self.old.faults self.new.faults result }
         ensures wants { self.new.wants ≡ self.old.wants }
         ensures blocks { self.new.blocks ≡ self.old.blocks }
         ensures finishes { self.new.finishes ≡ self.old.finishes }
     {
-        let call = self.calls;
-        self.calls = call.saturating_add(1);
-        if self.planned.contains(&call) {
+        if self.plan.next_call() {
             self.faults = self.faults.saturating_add(1);
             return Err(IoFault::Failed);
         }
@@ -131,8 +115,7 @@ impl ListConsumer {
         ensures finishes { self.new.finishes ≡ self.old.finishes }
         ensures faults { self.new.faults ≡ self.old.faults }
         ensures wants { self.new.wants ≡ self.old.wants }
-        ensures calls { self.new.calls ≡ self.old.calls }
-        ensures plan { self.new.planned ≡ self.old.planned }
+        ensures plan { self.new.plan ≡ self.old.plan }
     {
         let value = Vec::from_slice(*self.blocks.allocator(), value)?;
         self.blocks.push(TakenBlock { height, value })?;
@@ -157,10 +140,9 @@ impl Consumer for ListConsumer {
     ghost wants = { λ consumer. consumer.wants };
 
     fn take(&mut self, height: u64, value: &[u8]) -> Result<(), IoFault>
-        ensures planned { FailsAsPlanned (is_planned self.old.planned.items self.old.calls) result }
-        ensures sure { FailsForMemory (is_planned self.old.planned.items self.old.calls) result }
-        ensures calls { self.new.calls ≡ raised self.old.calls }
-        ensures plan { self.new.planned.items ≡ self.old.planned.items }
+        ensures planned { FailsAsPlanned (fails_next self.old.plan) result }
+        ensures sure { FailsForMemory (fails_next self.old.plan) result }
+        ensures plan { self.new.plan ≡ after_call self.old.plan }
 
         ensures consumed { Some (record { pairs = self.new.blocks.items; finishes = self.new.finishes }) ≡ option_map (after_take height value.now result) (Some (record { pairs = self.old.blocks.items; finishes = self.old.finishes })) }
         ensures cause { HasCause self.old.faults self.new.faults result }
@@ -175,10 +157,9 @@ impl Consumer for ListConsumer {
 
     /// Where the number of finishes is at the end of a `u64` there is no memory for one more.
     fn finish(&mut self) -> Result<(), IoFault>
-        ensures planned { FailsAsPlanned (is_planned self.old.planned.items self.old.calls) result }
-        ensures sure { FailsForMemory (is_planned self.old.planned.items self.old.calls) result }
-        ensures calls { self.new.calls ≡ raised self.old.calls }
-        ensures plan { self.new.planned.items ≡ self.old.planned.items }
+        ensures planned { FailsAsPlanned (fails_next self.old.plan) result }
+        ensures sure { FailsForMemory (fails_next self.old.plan) result }
+        ensures plan { self.new.plan ≡ after_call self.old.plan }
 
         ensures consumed { Some (record { pairs = self.new.blocks.items; finishes = self.new.finishes }) ≡ option_map (after_finish result) (Some (record { pairs = self.old.blocks.items; finishes = self.old.finishes })) }
         ensures cause { HasCause self.old.faults self.new.faults result }

@@ -1,11 +1,12 @@
 //! Doors in memory, which tell their sessions.
-ghost use Rattle.std.specs.Prelude.{◌≡◌, ◌++◌, ◌∷◌, ℕ, [], Some, None, true, false, IfErr, IsErr, IsOk, IsSome, OnOk, OnErr, length, is_ok};
+ghost use Rattle.std.specs.Prelude.{◌≡◌, ℕ, [], Some, None, true, false, IfErr, IsErr, IsOk, IsSome, length, is_ok};
 ghost use Rattle.std.specs.Io.{ReadsAtMost};
 ghost use Rattle.std.specs.Option.{option_map};
 ghost use Rattle.hw_io.specs.{Faults.{HasCause, raised}, Sinks.{TakesSome}, Doors.{Session, sessions_after, after_read, after_write, in_session, ends_after}};
-ghost use Rattle.hw_doubles.specs.Memory.{is_planned, FailsAsPlanned, FailsForMemory};
+ghost use Rattle.hw_doubles.specs.Memory.{fails_next, after_call, FailsAsPlanned, FailsForMemory};
 
 use crate::book::SessionBook;
+use crate::plan::Plan;
 use crate::session::MemSession;
 use hw_io::{Door, DoorNumbers, IoFault};
 use std::alloc::{AllocError, Global};
@@ -18,8 +19,8 @@ use std::alloc::{AllocError, Global};
 #[derive(Drop)]
 pub struct MemDoor {
     book: SessionBook,
-    planned: Vec<u64>,
-    calls: u64,
+    /// The calls that are to fail.
+    pub plan: Plan,
     numbers: DoorNumbers,
 }
 
@@ -47,8 +48,7 @@ impl MemDoor {
     {
         MemDoor {
             book: SessionBook::new(alloc, piece),
-            planned: Vec::new(alloc),
-            calls: 0,
+            plan: Plan::new(alloc),
             numbers: DoorNumbers::new(),
         }
     }
@@ -62,19 +62,6 @@ impl MemDoor {
         ensures numbers { door_numbers self.new ≡ door_numbers self.old }
     {
         self.book.expect(said)
-    }
-
-    /// Plans that the call of this number fails.
-    pub fn fail_at(&mut self, call: u64) -> Result<(), AllocError>
-        ensures ok { OnOk result (door_planned self.new ≡ door_planned self.old ++ call ∷ []) }
-        ensures err { OnErr result (door_planned self.new ≡ door_planned self.old) }
-        ensures sessions { door_sessions self.new ≡ door_sessions self.old }
-        ensures open { door_is_open self.new ≡ door_is_open self.old }
-        ensures calls { door_calls self.new ≡ door_calls self.old }
-        ensures numbers { door_numbers self.new ≡ door_numbers self.old }
-    {
-        self.planned.push(call)?;
-        Ok(())
     }
 
     /// The sessions so far, the last one last.
@@ -91,27 +78,16 @@ impl MemDoor {
         self.numbers
     }
 
-    /// Counts a call, and answers whether it is to fail.
-    fn next_call(&mut self) -> bool
-        ensures planned { result ≡ is_planned self.old.planned.items self.old.calls }
-        ensures rest { self.new ≡ record self.old { calls = raised self.old.calls } }
-    {
-        let call = self.calls;
-        self.calls = call.saturating_add(1);
-        self.planned.contains(&call)
-    }
-
     /// Accepts, or fails as planned.
     fn welcome(&mut self) -> Result<(), IoFault>
-        ensures planned { is_planned self.old.planned.items self.old.calls ≡ true → IsErr result }
-        ensures sure { FailsForMemory (is_planned self.old.planned.items self.old.calls) result }
-        ensures calls { self.new.calls ≡ raised self.old.calls }
-        ensures plan { self.new.planned.items ≡ self.old.planned.items }
+        ensures planned { fails_next self.old.plan ≡ true → IsErr result }
+        ensures sure { FailsForMemory (fails_next self.old.plan) result }
+        ensures plan { self.new.plan ≡ after_call self.old.plan }
         ensures sessions { self.new.book.sessions.items ≡ sessions_after None result self.old.book.sessions.items }
         ensures open { self.new.book.is_open ≡ is_ok result }
         ensures numbers { self.new.numbers ≡ self.old.numbers }
     {
-        if self.next_call() {
+        if self.plan.next_call() {
             self.book.refuse_accept()?;
             return Err(IoFault::Failed);
         }
@@ -121,15 +97,14 @@ impl MemDoor {
 
     /// Dials, or fails as planned.
     fn call(&mut self, address: &str) -> Result<(), IoFault>
-        ensures planned { is_planned self.old.planned.items self.old.calls ≡ true → IsErr result }
-        ensures sure { FailsForMemory (is_planned self.old.planned.items self.old.calls) result }
-        ensures calls { self.new.calls ≡ raised self.old.calls }
-        ensures plan { self.new.planned.items ≡ self.old.planned.items }
+        ensures planned { fails_next self.old.plan ≡ true → IsErr result }
+        ensures sure { FailsForMemory (fails_next self.old.plan) result }
+        ensures plan { self.new.plan ≡ after_call self.old.plan }
         ensures sessions { self.new.book.sessions.items ≡ sessions_after (Some address.now) result self.old.book.sessions.items }
         ensures open { self.new.book.is_open ≡ is_ok result }
         ensures numbers { self.new.numbers ≡ self.old.numbers }
     {
-        if self.next_call() {
+        if self.plan.next_call() {
             self.book.refuse_dial(address)?;
             return Err(IoFault::Failed);
         }
@@ -139,17 +114,16 @@ impl MemDoor {
 
     /// Reads, or fails as planned.
     fn hear(&mut self, buf: &mut [u8]) -> Result<usize, IoFault>
-        ensures planned { FailsAsPlanned (is_planned self.old.planned.items self.old.calls) result }
-        ensures sure { is_planned self.old.planned.items self.old.calls ≡ false → self.old.book.is_open ≡ true → IsOk result }
-        ensures calls { self.new.calls ≡ raised self.old.calls }
-        ensures plan { self.new.planned.items ≡ self.old.planned.items }
+        ensures planned { FailsAsPlanned (fails_next self.old.plan) result }
+        ensures sure { fails_next self.old.plan ≡ false → self.old.book.is_open ≡ true → IsOk result }
+        ensures plan { self.new.plan ≡ after_call self.old.plan }
         ensures bound { ReadsAtMost result buf.new }
         ensures sessions { self.new.book.sessions.items ≡ in_session self.old.book.is_open (after_read result buf.new) self.old.book.sessions.items }
         ensures none { self.old.book.is_open ≡ false → IsErr result }
         ensures open { self.new.book.is_open ≡ self.old.book.is_open }
         ensures numbers { self.new.numbers ≡ self.old.numbers }
     {
-        if self.next_call() {
+        if self.plan.next_call() {
             self.book.fail();
             return Err(IoFault::Failed);
         }
@@ -158,17 +132,16 @@ impl MemDoor {
 
     /// Writes, or fails as planned.
     fn tell(&mut self, bytes: &[u8]) -> Result<usize, IoFault>
-        ensures planned { FailsAsPlanned (is_planned self.old.planned.items self.old.calls) result }
-        ensures sure { self.old.book.is_open ≡ true → FailsForMemory (is_planned self.old.planned.items self.old.calls) result }
-        ensures calls { self.new.calls ≡ raised self.old.calls }
-        ensures plan { self.new.planned.items ≡ self.old.planned.items }
+        ensures planned { FailsAsPlanned (fails_next self.old.plan) result }
+        ensures sure { self.old.book.is_open ≡ true → FailsForMemory (fails_next self.old.plan) result }
+        ensures plan { self.new.plan ≡ after_call self.old.plan }
         ensures some { TakesSome result bytes.now }
         ensures sessions { self.new.book.sessions.items ≡ in_session self.old.book.is_open (after_write result bytes.now) self.old.book.sessions.items }
         ensures none { self.old.book.is_open ≡ false → IsErr result }
         ensures open { self.new.book.is_open ≡ self.old.book.is_open }
         ensures numbers { self.new.numbers ≡ self.old.numbers }
     {
-        if self.next_call() {
+        if self.plan.next_call() {
             self.book.fail();
             return Err(IoFault::Failed);
         }
@@ -192,10 +165,9 @@ impl Door for MemDoor {
     ghost faults = { λ door. door.numbers.faults };
 
     fn accept(&mut self) -> Result<(), IoFault>
-        ensures planned { is_planned self.old.planned.items self.old.calls ≡ true → IsErr result }
-        ensures sure { FailsForMemory (is_planned self.old.planned.items self.old.calls) result }
-        ensures calls { self.new.calls ≡ raised self.old.calls }
-        ensures plan { self.new.planned.items ≡ self.old.planned.items }
+        ensures planned { fails_next self.old.plan ≡ true → IsErr result }
+        ensures sure { FailsForMemory (fails_next self.old.plan) result }
+        ensures plan { self.new.plan ≡ after_call self.old.plan }
 
         ensures sessions { Some self.new.book.sessions.items ≡ option_map (sessions_after None result) (Some self.old.book.sessions.items) }
         ensures session { self.new.book.is_open ≡ is_ok result }
@@ -211,10 +183,9 @@ impl Door for MemDoor {
     }
 
     fn dial(&mut self, address: &str) -> Result<(), IoFault>
-        ensures planned { is_planned self.old.planned.items self.old.calls ≡ true → IsErr result }
-        ensures sure { FailsForMemory (is_planned self.old.planned.items self.old.calls) result }
-        ensures calls { self.new.calls ≡ raised self.old.calls }
-        ensures plan { self.new.planned.items ≡ self.old.planned.items }
+        ensures planned { fails_next self.old.plan ≡ true → IsErr result }
+        ensures sure { FailsForMemory (fails_next self.old.plan) result }
+        ensures plan { self.new.plan ≡ after_call self.old.plan }
 
         ensures sessions { Some self.new.book.sessions.items ≡ option_map (sessions_after (Some address.now) result) (Some self.old.book.sessions.items) }
         ensures session { self.new.book.is_open ≡ is_ok result }
@@ -230,10 +201,9 @@ impl Door for MemDoor {
     }
 
     fn read(&mut self, buf: &mut [u8]) -> Result<usize, IoFault>
-        ensures planned { FailsAsPlanned (is_planned self.old.planned.items self.old.calls) result }
-        ensures sure { is_planned self.old.planned.items self.old.calls ≡ false → self.old.book.is_open ≡ true → IsOk result }
-        ensures calls { self.new.calls ≡ raised self.old.calls }
-        ensures plan { self.new.planned.items ≡ self.old.planned.items }
+        ensures planned { FailsAsPlanned (fails_next self.old.plan) result }
+        ensures sure { fails_next self.old.plan ≡ false → self.old.book.is_open ≡ true → IsOk result }
+        ensures plan { self.new.plan ≡ after_call self.old.plan }
 
         ensures bound { ReadsAtMost result buf.new }
         ensures sessions { Some self.new.book.sessions.items ≡ option_map (in_session self.old.book.is_open (after_read result buf.new)) (Some self.old.book.sessions.items) }
@@ -251,10 +221,9 @@ impl Door for MemDoor {
     }
 
     fn write(&mut self, bytes: &[u8]) -> Result<usize, IoFault>
-        ensures planned { FailsAsPlanned (is_planned self.old.planned.items self.old.calls) result }
-        ensures sure { self.old.book.is_open ≡ true → FailsForMemory (is_planned self.old.planned.items self.old.calls) result }
-        ensures calls { self.new.calls ≡ raised self.old.calls }
-        ensures plan { self.new.planned.items ≡ self.old.planned.items }
+        ensures planned { FailsAsPlanned (fails_next self.old.plan) result }
+        ensures sure { self.old.book.is_open ≡ true → FailsForMemory (fails_next self.old.plan) result }
+        ensures plan { self.new.plan ≡ after_call self.old.plan }
 
         ensures some { TakesSome result bytes.now }
         ensures sessions { Some self.new.book.sessions.items ≡ option_map (in_session self.old.book.is_open (after_write result bytes.now)) (Some self.old.book.sessions.items) }
@@ -271,8 +240,7 @@ impl Door for MemDoor {
     }
 
     fn hang_up(&mut self)
-        ensures calls { self.new.calls ≡ self.old.calls }
-        ensures plan { self.new.planned.items ≡ self.old.planned.items }
+        ensures plan { self.new.plan ≡ self.old.plan }
 
         ensures session { self.new.book.is_open ≡ false }
         ensures sessions { Some self.new.book.sessions.items ≡ Some self.old.book.sessions.items }
@@ -281,141 +249,6 @@ impl Door for MemDoor {
         ensures dials { self.new.numbers.dials ≡ self.old.numbers.dials }
         ensures ends { self.new.numbers.ends ≡ self.old.numbers.ends }
     {
-        self.book.hang_up();
-    }
-}
-
-/// A door in memory of which a read or a write fails only where no session is there, and `accept`
-/// and `dial` never fail. Its count of faults is 0 until then.
-///
-/// Peers come in the order in which they were told of. Each says its bytes and then ends. A peer that
-/// nobody told of says nothing.
-#[derive(Drop)]
-pub struct SureDoor {
-    book: SessionBook,
-    numbers: DoorNumbers,
-}
-
-impl SureDoor {
-    ghost use Rattle.hw_doubles.specs.Sure.{sure_sessions, sure_is_open, sure_numbers};
-
-    /// No session, and no peer was told of.
-    pub fn new(alloc: Global) -> SureDoor
-        ensures sessions { sure_sessions result ≡ [] }
-        ensures open { sure_is_open result ≡ false }
-        ensures numbers { sure_numbers result ≡ record { accepts = 0; dials = 0; ends = 0; faults = 0 } }
-    {
-        SureDoor {
-            book: SessionBook::new(alloc, usize::MAX),
-            numbers: DoorNumbers::new(),
-        }
-    }
-
-    /// Tells of one more peer, which says these bytes and then ends.
-    pub fn expect(&mut self, said: &[u8]) -> Result<(), AllocError>
-        ensures sessions { sure_sessions self.new ≡ sure_sessions self.old }
-        ensures open { sure_is_open self.new ≡ sure_is_open self.old }
-        ensures numbers { sure_numbers self.new ≡ sure_numbers self.old }
-    {
-        self.book.expect(said)
-    }
-
-    /// The sessions so far, the last one last.
-    pub fn sessions(&self) -> &[MemSession]
-        ensures { result.now ≡ sure_sessions self.now }
-    {
-        self.book.sessions.as_slice()
-    }
-
-    /// The numbers so far.
-    pub fn numbers(&self) -> DoorNumbers
-        ensures { result ≡ sure_numbers self.now }
-    {
-        self.numbers
-    }
-}
-
-impl Door for SureDoor {
-    ghost sessions = { λ door. Some door.book.sessions.items };
-
-    ghost asks = { λ _. [] };
-
-    ghost is_open = { λ door. door.book.is_open };
-
-    ghost accepts = { λ door. door.numbers.accepts };
-
-    ghost dials = { λ door. door.numbers.dials };
-
-    ghost ends = { λ door. door.numbers.ends };
-
-    ghost faults = { λ door. door.numbers.faults };
-
-    fn accept(&mut self) -> Result<(), IoFault>
-        ensures sure { self.new.numbers.faults ≡ self.old.numbers.faults }
-
-        ensures sessions { Some self.new.book.sessions.items ≡ option_map (sessions_after None result) (Some self.old.book.sessions.items) }
-        ensures session { self.new.book.is_open ≡ is_ok result }
-        ensures accepts { self.new.numbers.accepts ≡ raised self.old.numbers.accepts }
-        ensures cause { HasCause self.old.numbers.faults self.new.numbers.faults result }
-        ensures dials { self.new.numbers.dials ≡ self.old.numbers.dials }
-        ensures ends { self.new.numbers.ends ≡ self.old.numbers.ends }
-    {
-        self.numbers.count_accept();
-        self.book.accept()?;
-        Ok(())
-    }
-
-    fn dial(&mut self, address: &str) -> Result<(), IoFault>
-        ensures sure { self.new.numbers.faults ≡ self.old.numbers.faults }
-
-        ensures sessions { Some self.new.book.sessions.items ≡ option_map (sessions_after (Some address.now) result) (Some self.old.book.sessions.items) }
-        ensures session { self.new.book.is_open ≡ is_ok result }
-        ensures dials { self.new.numbers.dials ≡ raised self.old.numbers.dials }
-        ensures cause { HasCause self.old.numbers.faults self.new.numbers.faults result }
-        ensures accepts { self.new.numbers.accepts ≡ self.old.numbers.accepts }
-        ensures ends { self.new.numbers.ends ≡ self.old.numbers.ends }
-    {
-        self.numbers.count_dial();
-        self.book.dial(address)?;
-        Ok(())
-    }
-
-    fn read(&mut self, buf: &mut [u8]) -> Result<usize, IoFault>
-        ensures sure { self.old.book.is_open ≡ true → IsOk result }
-
-        ensures bound { ReadsAtMost result buf.new }
-        ensures sessions { Some self.new.book.sessions.items ≡ option_map (in_session self.old.book.is_open (after_read result buf.new)) (Some self.old.book.sessions.items) }
-        ensures none { self.old.book.is_open ≡ false → IsErr result }
-        ensures ends { self.new.numbers.ends ≡ ends_after self.old.numbers.ends result buf.new }
-        ensures cause { HasCause self.old.numbers.faults self.new.numbers.faults result }
-        ensures session { self.new.book.is_open ≡ self.old.book.is_open }
-        ensures accepts { self.new.numbers.accepts ≡ self.old.numbers.accepts }
-        ensures dials { self.new.numbers.dials ≡ self.old.numbers.dials }
-    {
-        let outcome = self.book.read(buf);
-        self.numbers.count_end(&outcome, buf);
-        self.numbers.count_failure(&outcome);
-        outcome
-    }
-
-    fn write(&mut self, bytes: &[u8]) -> Result<usize, IoFault>
-        ensures sure { self.old.book.is_open ≡ true → self.new.numbers.faults ≡ self.old.numbers.faults }
-
-        ensures some { TakesSome result bytes.now }
-        ensures sessions { Some self.new.book.sessions.items ≡ option_map (in_session self.old.book.is_open (after_write result bytes.now)) (Some self.old.book.sessions.items) }
-        ensures none { self.old.book.is_open ≡ false → IsErr result }
-        ensures cause { HasCause self.old.numbers.faults self.new.numbers.faults result }
-        ensures session { self.new.book.is_open ≡ self.old.book.is_open }
-        ensures accepts { self.new.numbers.accepts ≡ self.old.numbers.accepts }
-        ensures dials { self.new.numbers.dials ≡ self.old.numbers.dials }
-        ensures ends { self.new.numbers.ends ≡ self.old.numbers.ends }
-    {
-        let outcome = self.book.write(bytes);
-        self.numbers.count_failure(&outcome);
-        outcome
-    }
-
-    fn hang_up(&mut self) {
         self.book.hang_up();
     }
 }

@@ -1,7 +1,7 @@
-//! The outside in memory, for cases and samples: each trait of `hw_io` by a type that tells its content.
+//! The outside in memory, for the programs of cases alone: each trait of `hw_io` by a type that tells its content.
 //!
-//! The `Mem` types and `ListConsumer` fail at the calls that they are told to fail at. The `Sure` types fail
-//! only where the rules of their trait say so. No program that is shipped uses this crate.
+//! The files, the sink, the door and the consumer fail at the calls that are planned to fail. Where none is, they
+//! fail only where the rules of their trait say so, or for want of memory.
 #![tactic(auto)]
 
 mod book;
@@ -9,15 +9,15 @@ mod consumer;
 mod door;
 mod memory;
 mod moments;
+mod plan;
 mod session;
 mod shelf;
-mod sure;
 mod watched;
 
 pub use consumer::{ListConsumer, TakenBlock};
-pub use door::{MemDoor, SureDoor};
+pub use door::MemDoor;
 pub use memory::{MemFiles, MemSink, Planned};
 pub use moments::SetClock;
+pub use plan::Plan;
 pub use session::MemSession;
-pub use sure::{SureFiles, SureSink};
 pub use watched::{MemAsk, WatchedDoor};

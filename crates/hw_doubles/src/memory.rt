@@ -6,8 +6,9 @@ ghost use Rattle.std.specs.Io.{ReadsAtMost};
 ghost use Rattle.hw_io.specs.Faults.{HasCause, subject_of, IsCountedAbout, OnlyAbout, IsWantCounted, raised};
 ghost use Rattle.hw_io.specs.Files.{SameFiles, IsAnswer, Begins, Appended, Spends};
 ghost use Rattle.hw_io.specs.Sinks.{TakesSome};
-ghost use Rattle.hw_doubles.specs.Memory.{mem_held, mem_begun, mem_unread, mem_allowance, mem_read_faults, mem_append_faults, mem_faults_about, mem_planned, mem_calls, mem_next, mem_taken, mem_faults, mem_wants, sink_planned, sink_calls, planned_at, is_planned, SameCounts, CountsCall, CutAt, FailsAsPlanned, FailsForMemory};
+ghost use Rattle.hw_doubles.specs.Memory.{mem_held, mem_begun, mem_unread, mem_allowance, mem_read_faults, mem_append_faults, mem_faults_about, mem_planned, mem_calls, mem_next, mem_taken, mem_faults, mem_wants, sink_planned, sink_calls, planned_at, planned_calls, fails_next, after_call, SameCounts, CountsCall, CutAt, FailsAsPlanned, FailsForMemory};
 
+use crate::plan::Plan;
 use crate::shelf::Shelf;
 use hw_io::{Files, IoFault, Sink};
 use std::alloc::{AllocError, Global};
@@ -151,9 +152,7 @@ impl MemFiles {
         ensures others { OnlyAbout (Some name.now) (mem_faults_about self.old) (mem_faults_about self.new) }
         ensures files { self.new.shelf.files ≡ self.old.shelf.files }
         ensures reading { self.new.shelf.reading ≡ self.old.shelf.reading }
-        ensures calls { self.new.calls ≡ self.old.calls }
-        ensures planned { self.new.planned ≡ self.old.planned }
-        ensures appends { self.new.append_faults ≡ self.old.append_faults }
+        ensures rest { self.new ≡ record self.old { shelf = self.new.shelf; read_faults = self.new.read_faults } }
     {
         self.shelf.blame(name)?;
         self.count_read_fault();
@@ -169,9 +168,7 @@ impl MemFiles {
         ensures others { OnlyAbout (mem_begun self.old) (mem_faults_about self.old) (mem_faults_about self.new) }
         ensures files { self.new.shelf.files ≡ self.old.shelf.files }
         ensures reading { self.new.shelf.reading ≡ self.old.shelf.reading }
-        ensures calls { self.new.calls ≡ self.old.calls }
-        ensures planned { self.new.planned ≡ self.old.planned }
-        ensures appends { self.new.append_faults ≡ self.old.append_faults }
+        ensures rest { self.new ≡ record self.old { shelf = self.new.shelf; read_faults = self.new.read_faults } }
     {
         self.shelf.blame_begun()?;
         self.count_read_fault();
@@ -316,8 +313,10 @@ impl Files for MemFiles {
 #[derive(Drop)]
 pub struct MemSink {
     bytes: Vec<u8>,
-    planned: Vec<u64>,
-    calls: u64,
+    /// The calls that are to fail.
+    pub plan: Plan,
+    /// The calls that are to find no memory.
+    pub memory: Plan,
     faults: u64,
     wants: u64,
     piece: usize,
@@ -331,6 +330,7 @@ impl MemSink {
         ensures calls { sink_calls result ≡ 0 }
         ensures faults { mem_faults result ≡ 0 }
         ensures wants { mem_wants result ≡ 0 }
+        ensures memory { planned_calls result.memory ≡ [] }
     {
         MemSink::in_pieces(alloc, usize::MAX)
     }
@@ -342,28 +342,16 @@ impl MemSink {
         ensures calls { sink_calls result ≡ 0 }
         ensures faults { mem_faults result ≡ 0 }
         ensures wants { mem_wants result ≡ 0 }
+        ensures memory { planned_calls result.memory ≡ [] }
     {
         MemSink {
             bytes: Vec::new(alloc),
-            planned: Vec::new(alloc),
-            calls: 0,
+            plan: Plan::new(alloc),
+            memory: Plan::new(alloc),
             faults: 0,
             wants: 0,
             piece,
         }
-    }
-
-    /// Plans that the call of this number fails.
-    pub fn fail_at(&mut self, call: u64) -> Result<(), AllocError>
-        ensures ok { OnOk result (sink_planned self.new ≡ sink_planned self.old ++ call ∷ []) }
-        ensures err { OnErr result (sink_planned self.new ≡ sink_planned self.old) }
-        ensures calls { sink_calls self.new ≡ sink_calls self.old }
-        ensures taken { mem_taken self.new ≡ mem_taken self.old }
-        ensures faults { mem_faults self.new ≡ mem_faults self.old }
-        ensures wants { mem_wants self.new ≡ mem_wants self.old }
-    {
-        self.planned.push(call)?;
-        Ok(())
     }
 
     /// The bytes taken.
@@ -379,16 +367,6 @@ impl MemSink {
     {
         self.faults
     }
-
-    /// Counts a call, and answers whether it is to fail.
-    fn next_call(&mut self) -> bool
-        ensures planned { result ≡ is_planned (sink_planned self.old) (sink_calls self.old) }
-        ensures rest { self.new ≡ record self.old { calls = raised self.old.calls } }
-    {
-        let call = self.calls;
-        self.calls = call.saturating_add(1);
-        self.planned.contains(&call)
-    }
 }
 
 impl Sink for MemSink {
@@ -399,27 +377,29 @@ impl Sink for MemSink {
     ghost wants = { mem_wants };
 
     fn write(&mut self, bytes: &[u8]) -> Result<usize, IoFault>
-        ensures planned { FailsAsPlanned (is_planned (sink_planned self.old) (sink_calls self.old)) result }
-        ensures sure { FailsForMemory (is_planned (sink_planned self.old) (sink_calls self.old)) result }
-        ensures calls { sink_calls self.new ≡ raised (sink_calls self.old) }
-        ensures plan { sink_planned self.new ≡ sink_planned self.old }
+        ensures planned { FailsAsPlanned (fails_next self.old.plan) result }
+        ensures sure { FailsForMemory (fails_next self.old.plan) result }
+        ensures plan { self.new.plan ≡ after_call self.old.plan }
+        ensures lacking { fails_next self.old.memory ≡ true → IsErr result }
+        ensures memory { self.new.memory ≡ after_call self.old.memory }
 
         ensures bytes { WriteAppends (mem_taken self.old) (mem_taken self.new) result bytes.now }
         ensures some { TakesSome result bytes.now }
         ensures cause { HasCause (mem_faults self.old) (mem_faults self.new) result }
         ensures want { IsWantCounted (mem_wants self.old) (mem_wants self.new) result }
     {
-        if self.next_call() {
+        let is_lacking = self.memory.next_call();
+        if self.plan.next_call() {
             self.faults = self.faults.saturating_add(1);
             return Err(IoFault::Failed);
         }
         let count = bytes.len().min(self.piece.max(1));
-        match self.bytes.extend_from_slice(&bytes[..count]) {
-            Ok(()) => Ok(count),
-            Err(_) => {
-                self.wants = self.wants.saturating_add(1);
-                Err(IoFault::OutOfMemory)
+        if !is_lacking {
+            if let Ok(()) = self.bytes.extend_from_slice(&bytes[..count]) {
+                return Ok(count);
             }
         }
+        self.wants = self.wants.saturating_add(1);
+        Err(IoFault::OutOfMemory)
     }
 }

@@ -2,7 +2,7 @@
 ghost use Rattle.std.specs.Prelude.{◌≡◌, [], Some, IfOk};
 ghost use Rattle.hw_io.specs.Doors.{Ask, ask_in, IsAskedNow, AsksMore};
 
-use crate::door::SureDoor;
+use crate::door::MemDoor;
 use crate::session::MemSession;
 use hw_io::{Door, DoorNumbers, IoFault};
 use std::alloc::{AllocError, Global};
@@ -48,36 +48,28 @@ impl MemAsk {
     }
 }
 
-/// A `SureDoor` that tells the calls of `read` in the last session too. It keeps copies of the bytes, and leaves out
+/// A `MemDoor` that tells the calls of `read` in the last session too. It keeps copies of the bytes, and leaves out
 /// a call for which there was no memory.
 #[derive(Drop)]
 pub struct WatchedDoor {
-    door: SureDoor,
+    door: MemDoor,
     alloc: Global,
     asks: Vec<MemAsk>,
 }
 
 impl WatchedDoor {
-    ghost use Rattle.hw_doubles.specs.Sure.{watched_sessions, watched_asks};
+    ghost use Rattle.hw_doubles.specs.Memory.{door_sessions, watched_sessions, watched_asks};
 
-    /// No session, and no peer was told of.
-    pub fn new(alloc: Global) -> WatchedDoor
-        ensures sessions { watched_sessions result ≡ [] }
+    /// The door, of which no call of `read` is told yet.
+    pub fn new(alloc: Global, door: MemDoor) -> WatchedDoor
+        ensures sessions { watched_sessions result ≡ door_sessions door }
         ensures asks { watched_asks result ≡ [] }
     {
         WatchedDoor {
-            door: SureDoor::new(alloc),
+            door,
             alloc,
             asks: Vec::new(alloc),
         }
-    }
-
-    /// Tells of one more peer, which says these bytes and then ends.
-    pub fn expect(&mut self, said: &[u8]) -> Result<(), AllocError>
-        ensures sessions { watched_sessions self.new ≡ watched_sessions self.old }
-        ensures asks { watched_asks self.new ≡ watched_asks self.old }
-    {
-        self.door.expect(said)
     }
 
     /// The sessions so far, the last one last.
@@ -110,21 +102,21 @@ impl WatchedDoor {
 }
 
 impl Door for WatchedDoor {
-    ghost use Rattle.hw_doubles.specs.Sure.{watched_sessions, watched_asks, sure_is_open, sure_numbers};
+    ghost use Rattle.hw_doubles.specs.Memory.{watched_sessions, watched_asks, door_is_open, door_numbers};
 
     ghost sessions = { λ door. Some (watched_sessions door) };
 
     ghost asks = { watched_asks };
 
-    ghost is_open = { λ door. sure_is_open door.door };
+    ghost is_open = { λ door. door_is_open door.door };
 
-    ghost accepts = { λ door. (sure_numbers door.door).accepts };
+    ghost accepts = { λ door. (door_numbers door.door).accepts };
 
-    ghost dials = { λ door. (sure_numbers door.door).dials };
+    ghost dials = { λ door. (door_numbers door.door).dials };
 
-    ghost ends = { λ door. (sure_numbers door.door).ends };
+    ghost ends = { λ door. (door_numbers door.door).ends };
 
-    ghost faults = { λ door. (sure_numbers door.door).faults };
+    ghost faults = { λ door. (door_numbers door.door).faults };
 
     fn accept(&mut self) -> Result<(), IoFault> {
         self.asks.clear();

@@ -15,7 +15,9 @@
 mod eras;
 mod meeting;
 mod node;
+mod receipts;
 mod session;
+mod spelled;
 
 use hw_case_words::Answer;
 use hw_core::Core;

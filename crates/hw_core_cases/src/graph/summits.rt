@@ -8,9 +8,8 @@ ghost use Rattle.hw_horizon.specs.Kept.{AreKept};
 use crate::graph::panoramas::consistent_of;
 use hw_admit::State;
 use hw_case_words::{Answer, named, number, small};
-use hw_dag::{Dag, Panorama, UnitNo};
+use hw_dag::{Panorama, UnitNo};
 use hw_horizon::Horizons;
-use hw_types::WeightList;
 
 /// Searches go up to this level.
 const LEVELS: u32 = 4;
@@ -56,64 +55,13 @@ fn summit_in(
     if LEVELS < level {
         return answer.refuse();
     }
-    let is_found = search(
-        state.dag(),
-        &state.config().weights,
-        &mut horizons,
-        panorama,
-        block,
-        level,
-        quorum,
-    );
+    let (dag, weights) = (state.dag(), &state.config().weights);
+    // It is asked twice, so that the second search reads what the first one kept.
+    let first = horizons.greatest(dag, weights, panorama, block, level, quorum);
+    let again = horizons.greatest(dag, weights, panorama, block, level, quorum);
     answer.put("summit ");
-    answer.truth(is_found);
+    answer.truth(first && again);
     put_starts(answer, &horizons, validators);
-}
-
-/// Whether there is a summit. It is asked twice, so that what the first search kept is read by the second.
-fn search(
-    dag: &Dag,
-    weights: &WeightList,
-    horizons: &mut Horizons,
-    panorama: &Panorama,
-    block: UnitNo,
-    level: u32,
-    quorum: u64,
-) -> bool
-    requires panorama { IsPanorama dag.now panorama.now }
-    requires consistent { IsTrue (is_consistent (graph dag.now) (observations dag.now panorama.now)) }
-    requires weights { AreWeights weights.now dag.now }
-    requires known { block.0 < count_of dag.now }
-    requires level { level ≤ horizons.old.levels }
-    requires validators { horizons.old.validators ≡ dag.now.validators }
-    requires walks { AreKept dag.now horizons.old.walks }
-{
-    let first = search_once(dag, weights, horizons, panorama, block, level, quorum);
-    let again = search_once(dag, weights, horizons, panorama, block, level, quorum);
-    first && again
-}
-
-fn search_once(
-    dag: &Dag,
-    weights: &WeightList,
-    horizons: &mut Horizons,
-    panorama: &Panorama,
-    block: UnitNo,
-    level: u32,
-    quorum: u64,
-) -> bool
-    requires panorama { IsPanorama dag.now panorama.now }
-    requires consistent { IsTrue (is_consistent (graph dag.now) (observations dag.now panorama.now)) }
-    requires weights { AreWeights weights.now dag.now }
-    requires known { block.0 < count_of dag.now }
-    requires level { level ≤ horizons.old.levels }
-    requires validators { horizons.old.validators ≡ dag.now.validators }
-    requires walks { AreKept dag.now horizons.old.walks }
-    ensures levels { horizons.new.levels ≡ horizons.old.levels }
-    ensures validators { horizons.new.validators ≡ horizons.old.validators }
-    ensures walks { AreKept dag.now horizons.new.walks }
-{
-    horizons.greatest(dag, weights, panorama, block, level, quorum)
 }
 
 /// For each validator with a start, its starts from level 0 on.

@@ -1,6 +1,7 @@
 //! Consumers in memory.
 
 use crate::log::counts::{Count, done, put_count};
+use crate::log::plans::plan;
 use hw_case_words::{Answer, number};
 use hw_doubles::{ListConsumer, TakenBlock};
 use hw_io::Consumer;
@@ -8,20 +9,11 @@ use hw_io::Consumer;
 /// What a consumer answers to the steps, and what it took.
 pub fn consumer_text(answer: &mut Answer, calls: &str, steps: &str) {
     let mut consumer = ListConsumer::new(answer.alloc());
-    plan(answer, &mut consumer, calls);
+    plan(answer, &mut consumer.plan, calls);
     walk(answer, &mut consumer, steps);
     put_blocks(answer, consumer.blocks());
     answer.labelled("finishes ", consumer.finishes());
     answer.labelled(" faults ", consumer.faults());
-}
-
-/// Plans the calls that fail.
-fn plan(answer: &mut Answer, consumer: &mut ListConsumer, calls: &str) {
-    let calls = answer.numbers(calls);
-    for call in calls.as_slice() {
-        let planned = consumer.fail_at(*call);
-        answer.keep(planned);
-    }
 }
 
 /// Takes the steps, and puts down what is answered to each.
@@ -31,7 +23,7 @@ fn walk(answer: &mut Answer, consumer: &mut ListConsumer, steps: &str) {
     }
 }
 
-fn take_step<C: Consumer>(consumer: &mut C, step: &str) -> Count {
+fn take_step(consumer: &mut ListConsumer, step: &str) -> Count {
     match step.split_once(':') {
         Some((height, value)) => done(consumer.take(number(height), value.as_bytes())),
         None => done(consumer.finish()),

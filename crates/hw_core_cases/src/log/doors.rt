@@ -1,50 +1,33 @@
 //! Doors in memory.
 
 use crate::log::counts::{Count, done, put_count};
+use crate::log::plans::plan;
 use hw_case_words::{Answer, number};
-use hw_doubles::{MemAsk, MemDoor, MemSession, SureDoor, WatchedDoor};
+use hw_doubles::{MemAsk, MemDoor, MemSession, WatchedDoor};
 use hw_io::{Door, DoorNumbers};
 
-/// What a door answers to the steps, and what it tells then.
-pub fn door_text(answer: &mut Answer, piece: &str, calls: &str, peers: &str, steps: &str) {
-    let mut door = MemDoor::in_pieces(answer.alloc(), number(piece) as usize);
-    plan(answer, &mut door, calls);
+/// What a door in such pieces answers to the steps, and what it tells then.
+pub fn door_text(answer: &mut Answer, piece: usize, calls: &str, peers: &str, steps: &str) {
+    let mut door = MemDoor::in_pieces(answer.alloc(), piece);
+    plan(answer, &mut door.plan, calls);
     expect(answer, &mut door, peers);
     walk(answer, &mut door, steps);
     put_sessions(answer, door.sessions());
     put_numbers(answer, door.numbers());
 }
 
-/// Plans the calls that fail.
-fn plan(answer: &mut Answer, door: &mut MemDoor, calls: &str) {
-    let calls = answer.numbers(calls);
-    for call in calls.as_slice() {
-        let planned = door.fail_at(*call);
-        answer.keep(planned);
-    }
+/// The same of one that tells the calls of `read` in its last session, and with how much read and written each came.
+pub fn watched_text(answer: &mut Answer, peers: &str, steps: &str) {
+    let mut door = MemDoor::new(answer.alloc());
+    expect(answer, &mut door, peers);
+    let mut door = WatchedDoor::new(answer.alloc(), door);
+    walk(answer, &mut door, steps);
+    put_sessions(answer, door.sessions());
+    put_asks(answer, door.asks());
 }
 
 /// Tells of the peers.
 fn expect(answer: &mut Answer, door: &mut MemDoor, peers: &str) {
-    for peer in peers.split(',') {
-        if peer != "-" {
-            let expected = door.expect(peer.as_bytes());
-            answer.keep(expected);
-        }
-    }
-}
-
-/// The same of a sure door.
-pub fn sure_text(answer: &mut Answer, peers: &str, steps: &str) {
-    let mut door = SureDoor::new(answer.alloc());
-    expect_surely(answer, &mut door, peers);
-    walk(answer, &mut door, steps);
-    put_sessions(answer, door.sessions());
-    put_numbers(answer, door.numbers());
-}
-
-/// Tells of the peers.
-fn expect_surely(answer: &mut Answer, door: &mut SureDoor, peers: &str) {
     for peer in peers.split(',') {
         if peer != "-" {
             let expected = door.expect(peer.as_bytes());
@@ -96,20 +79,6 @@ fn put_numbers(answer: &mut Answer, numbers: DoorNumbers) {
     answer.labelled(" dials ", numbers.dials);
     answer.labelled(" ends ", numbers.ends);
     answer.labelled(" faults ", numbers.faults);
-}
-
-/// The same of a door that tells the calls of `read` in its last session, and with how much read and written each came.
-pub fn watched_text(answer: &mut Answer, peers: &str, steps: &str) {
-    let mut door = WatchedDoor::new(answer.alloc());
-    for peer in peers.split(',') {
-        if peer != "-" {
-            let expected = door.expect(peer.as_bytes());
-            answer.keep(expected);
-        }
-    }
-    walk(answer, &mut door, steps);
-    put_sessions(answer, door.sessions());
-    put_asks(answer, door.asks());
 }
 
 fn put_asks(answer: &mut Answer, asks: &[MemAsk]) {

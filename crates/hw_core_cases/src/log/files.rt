@@ -4,7 +4,7 @@ ghost use Rattle.std.specs.Prelude.{◌≤◌};
 
 use crate::log::counts::{Count, asked, done, put_count, put_file};
 use hw_case_words::Answer;
-use hw_doubles::{MemFiles, SureFiles};
+use hw_doubles::MemFiles;
 use hw_io::{Files, ReadBuffer};
 
 /// Reads a file before it is there, makes it by two appends, and reads it to its end.
@@ -16,14 +16,14 @@ const EXCHANGE: [&str; 9] = [
 const CALLS: [&str; 4] = ["exists", "begin", "read", "def"];
 
 /// Makes the calls of these steps, and puts down what is answered to each.
-fn walk<F: Files>(answer: &mut Answer, files: &mut F, buf: &mut [u8], steps: &[&str]) {
+fn walk(answer: &mut Answer, files: &mut MemFiles, buf: &mut [u8], steps: &[&str]) {
     for step in steps {
         put_count(answer, take_step(files, buf, step));
     }
 }
 
 /// What the call of this step is answered. A step of no kind is appended.
-fn take_step<F: Files>(files: &mut F, buf: &mut [u8], step: &str) -> Count {
+fn take_step(files: &mut MemFiles, buf: &mut [u8], step: &str) -> Count {
     match step {
         "read" => files.read(buf),
         "exists" => asked(files.exists("log")),
@@ -32,38 +32,33 @@ fn take_step<F: Files>(files: &mut F, buf: &mut [u8], step: &str) -> Count {
     }
 }
 
-/// An exchange with files of this kind, or, for a number, four calls of which the one of that number fails.
+/// An exchange with files of which no call is to fail, or, for a number, four calls of which the one of that number fails.
 pub fn files_text(answer: &mut Answer, kind: &str) {
     match kind {
-        "memory" => memory_text(answer),
-        "sure" => sure_text(answer),
+        "memory" | "sure" => exchange_text(answer, kind),
         _ => planned_text(answer, kind.parse().unwrap_or(u64::MAX)),
     }
 }
 
-/// Puts down the answers of an exchange, and what was read in it.
-fn put_exchange<F: Files>(answer: &mut Answer, files: &mut F) {
-    let mut buf = [0; 8];
-    walk(answer, files, &mut buf, &EXCHANGE);
+/// The answers of an exchange, what was read in it, what is held then, and the counts that this kind tells.
+fn exchange_text(answer: &mut Answer, kind: &str) {
+    let mut files = MemFiles::new(answer.alloc());
+    let mut buf = answer.zeros(8);
+    walk(answer, &mut files, buf.as_mut_slice(), EXCHANGE.as_slice());
     answer.put("read ");
     answer.hex(buf.as_slice());
     answer.put(" held ");
+    put_file(answer, files.file("log"));
+    match kind {
+        "memory" => put_counts(answer, &files),
+        _ => answer.labelled(" faults ", files.read_faults()),
+    }
 }
 
-fn memory_text(answer: &mut Answer) {
-    let mut files = MemFiles::new(answer.alloc());
-    put_exchange(answer, &mut files);
-    put_file(answer, files.file("log"));
+fn put_counts(answer: &mut Answer, files: &MemFiles) {
     answer.labelled(" calls ", files.calls());
     answer.labelled(" faults ", files.read_faults());
     answer.labelled(" ", files.append_faults());
-}
-
-fn sure_text(answer: &mut Answer) {
-    let mut files = SureFiles::new(answer.alloc());
-    put_exchange(answer, &mut files);
-    put_file(answer, files.file("log"));
-    answer.labelled(" faults ", files.read_faults());
 }
 
 fn planned_text(answer: &mut Answer, call: u64) {
@@ -72,7 +67,8 @@ fn planned_text(answer: &mut Answer, call: u64) {
     answer.keep(put);
     let planned = files.fail_at(call, 2);
     answer.keep(planned);
-    walk(answer, &mut files, &mut [0; 4], &CALLS);
+    let mut buf = answer.zeros(4);
+    walk(answer, &mut files, buf.as_mut_slice(), CALLS.as_slice());
     answer.put("held ");
     put_file(answer, files.file("log"));
 }

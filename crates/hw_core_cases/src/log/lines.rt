@@ -1,7 +1,7 @@
 //! Lines of words.
 
 use crate::log::consumers::consumer_text;
-use crate::log::doors::{door_text, sure_text, watched_text};
+use crate::log::doors::{door_text, watched_text};
 use crate::log::files::{buffered, files_text};
 use crate::log::logs::{both, copied, counted, cuts, faults, missing};
 use crate::log::rewritten::{failed_in_turn, rewritten};
@@ -40,7 +40,7 @@ fn of_two(answer: &mut Answer, kind: &str, first: &str, second: &str) {
     match kind {
         "both" => both(answer, first, second),
         "faults" => failed_in_turn(answer, first, second),
-        "sure" => sure_text(answer, first, second),
+        "sure" => door_text(answer, usize::MAX, "-", first, second),
         "watched" => watched_text(answer, first, second),
         "consumer" => consumer_text(answer, first, second),
         _ => answer.refuse(),
@@ -52,7 +52,7 @@ fn of_four(answer: &mut Answer, kind: &str, first: &str, second: &str, third: &s
     match kind {
         "count" => counted(answer, first, second, third, fourth),
         "copy" => copied(answer, first, second, third, fourth),
-        "door" => door_text(answer, first, second, third, fourth),
+        "door" => door_text(answer, number(first) as usize, second, third, fourth),
         _ => rewritten(answer, kind, first, second, third, fourth),
     }
 }

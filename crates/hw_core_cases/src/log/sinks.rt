@@ -2,10 +2,10 @@
 
 use crate::log::counts::{done, put_count};
 use hw_case_words::Answer;
-use hw_doubles::{MemSink, SetClock, SureSink};
-use hw_io::{Clock, Sink, write_all};
+use hw_doubles::{MemSink, SetClock};
+use hw_io::{Clock, write_all};
 
-/// A sink in pieces of three whose write of that number fails, or one that is sure.
+/// A sink in pieces of three whose write of that number fails, or one of which no call is to fail.
 pub fn sink_text(answer: &mut Answer, call: Option<u64>) {
     match call {
         Some(call) => planned_sink(answer, call),
@@ -15,7 +15,7 @@ pub fn sink_text(answer: &mut Answer, call: Option<u64>) {
 
 fn planned_sink(answer: &mut Answer, call: u64) {
     let mut sink = MemSink::in_pieces(answer.alloc(), 3);
-    let planned = sink.fail_at(call);
+    let planned = sink.plan.fail_at(call);
     answer.keep(planned);
     write(answer, &mut sink, b"abcdefgh");
     write(answer, &mut sink, b"ijklmnopq");
@@ -26,14 +26,14 @@ fn planned_sink(answer: &mut Answer, call: u64) {
 }
 
 fn sure_sink(answer: &mut Answer) {
-    let mut sink = SureSink::new(answer.alloc());
+    let mut sink = MemSink::new(answer.alloc());
     write(answer, &mut sink, b"abcd");
     answer.put("taken ");
     answer.hex(sink.taken());
 }
 
 /// Writes the piece, and puts down what is answered.
-fn write<S: Sink>(answer: &mut Answer, sink: &mut S, piece: &[u8]) {
+fn write(answer: &mut Answer, sink: &mut MemSink, piece: &[u8]) {
     put_count(answer, done(write_all(sink, piece)));
 }
 

@@ -2,18 +2,18 @@
 
 ghost use Rattle.hw_types.specs.Spelling.{VertexFits};
 
-use crate::eras::configs::{put_config, put_error};
-use hw_admit::StateStart;
+use crate::eras::configs::put_config;
+use crate::receipts::{SPACED, put_receipt};
+use crate::spelled::{config_of, put_error, put_start};
 use hw_case_words::{Answer, small};
-use hw_codec::{decode_config, decode_vertex, encode_vertex};
+use hw_codec::{decode_vertex, encode_vertex};
 use hw_core::Core;
 use hw_eras::{EraCause, EraOpen, EraRefused, Eras};
-use hw_types::{Cause, Config, Receipt, Vertex};
+use hw_types::{Cause, Config, Vertex};
 
 /// Begins with era 0 of the configuration that these digits spell.
 pub fn begin(answer: &mut Answer, nodes: &mut Vec<Eras>, digits: &str) {
-    let bytes = answer.bytes(digits);
-    match decode_config(answer.alloc(), bytes.as_slice()) {
+    match config_of(answer, digits) {
         Ok(config) => begin_with(answer, nodes, config),
         Err(error) => put_error(answer, error),
     }
@@ -22,8 +22,7 @@ pub fn begin(answer: &mut Answer, nodes: &mut Vec<Eras>, digits: &str) {
 fn begin_with(answer: &mut Answer, nodes: &mut Vec<Eras>, config: Config) {
     match Eras::new(answer.alloc(), config) {
         Ok(eras) => begun(answer, nodes, eras),
-        Err(StateStart::Fault(fault)) => answer.debug(&fault),
-        Err(StateStart::OutOfMemory) => answer.refuse(),
+        Err(start) => put_start(answer, start),
     }
 }
 
@@ -40,7 +39,7 @@ pub fn act(answer: &mut Answer, eras: &mut Eras, kind: &str, words: &[&str]) {
         [era, vertex] => deliver(answer, eras, small(era), vertex, kind == "deliver"),
         [era] => put_era(answer, eras.core(small(era))),
         [] if kind == "open" => open(answer, eras),
-        [] => put_counted(answer, "count ", eras.count()),
+        [] => answer.labelled("count ", u64::from(eras.count())),
         _ => answer.refuse(),
     }
 }
@@ -66,26 +65,9 @@ fn delivered(
     requires { VertexFits vertex }
 {
     match eras.deliver(era, vertex, verdict) {
-        Ok(receipt) => put_receipt(answer, receipt),
+        Ok(receipt) => put_receipt(answer, &SPACED, receipt),
         Err(refused) => put_refusal(answer, &refused, bytes),
     }
-}
-
-fn put_receipt(answer: &mut Answer, receipt: Receipt) {
-    match receipt {
-        Receipt::Admitted { settled } => put_counted(answer, "admitted ", settled),
-        Receipt::Parked { missing } => put_counted(answer, "parked ", missing),
-        Receipt::Dropped(rule) => {
-            answer.put("dropped ");
-            answer.debug(&rule);
-        }
-        Receipt::Repeat => answer.put("repeat"),
-    }
-}
-
-fn put_counted(answer: &mut Answer, word: &str, count: u32) {
-    answer.put(word);
-    answer.number(u64::from(count));
 }
 
 /// Why a vertex of these bytes was refused, and whether it came back.
@@ -116,7 +98,7 @@ fn put_cause(answer: &mut Answer, cause: EraCause) {
 /// Opens the next era.
 fn open(answer: &mut Answer, eras: &mut Eras) {
     match eras.open_next() {
-        Ok(Some(number)) => put_counted(answer, "era ", number),
+        Ok(Some(number)) => answer.labelled("era ", u64::from(number)),
         Ok(None) => answer.put("none"),
         Err(EraOpen::Full) => answer.put("full"),
         Err(EraOpen::OutOfMemory) => answer.refuse(),

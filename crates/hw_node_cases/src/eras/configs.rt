@@ -3,25 +3,17 @@
 ghost use Rattle.std.specs.Prelude.{◌≡◌, None};
 ghost use Rattle.hw_types.specs.Limits.{config_fault};
 
-use hw_case_words::{Answer, digest_of_byte};
-use hw_codec::{decode_config, encode_config};
+use crate::spelled::{config_of, digest_of, put_error};
+use hw_case_words::Answer;
+use hw_codec::encode_config;
 use hw_eras::next_config;
-use hw_types::{CodecError, Config, Digest};
+use hw_types::Config;
 
 /// The next configuration, where the last block of an era of this one has this digest and this value.
 pub fn next(answer: &mut Answer, config: &str, block: &str, value: &str) {
-    let bytes = answer.bytes(config);
-    match decode_config(answer.alloc(), bytes.as_slice()) {
+    match config_of(answer, config) {
         Ok(config) => next_of(answer, &config, block, value),
         Err(error) => put_error(answer, error),
-    }
-}
-
-/// The error of bytes that spell nothing.
-pub fn put_error(answer: &mut Answer, error: CodecError) {
-    match error {
-        CodecError::OutOfMemory => answer.refuse(),
-        error => answer.debug(&error),
     }
 }
 
@@ -42,15 +34,6 @@ fn lawful_next(answer: &mut Answer, config: &Config, block: &str, value: &str)
     match next_config(answer.alloc(), config, &block, value.as_slice()) {
         Ok(next) => put_config(answer, &next),
         Err(_) => answer.refuse(),
-    }
-}
-
-/// The digest of these 64 digits, of zeros where they are others.
-fn digest_of(answer: &mut Answer, digits: &str) -> Digest {
-    let bytes = answer.bytes(digits);
-    match bytes.as_slice().first_chunk::<32>() {
-        Some(digest) => Digest(*digest),
-        None => digest_of_byte(0),
     }
 }
 

@@ -1,15 +1,14 @@
 //! Nodes from words.
 
+use crate::spelled::{config_of, vertex_of};
 use hw_admit::StateStart;
 use hw_case_words::Answer;
-use hw_codec::{decode_config, decode_vertex};
 use hw_core::Core;
 use hw_types::{CodecError, Config};
 
 /// Puts a node of the configuration that the digits spell last, where it has one.
 pub fn begin(answer: &mut Answer, nodes: &mut Vec<Core>, config: &str) {
-    let bytes = answer.bytes(config);
-    match decode_config(answer.alloc(), bytes.as_slice()) {
+    match config_of(answer, config) {
         Ok(config) => begin_with(answer, nodes, config),
         Err(CodecError::OutOfMemory) => answer.refuse(),
         Err(_) => {}
@@ -39,8 +38,7 @@ pub fn deliver_all(answer: &mut Answer, core: &mut Core, vertices: &str) {
 
 /// Delivers the vertex that the digits spell, if they spell one.
 fn deliver(answer: &mut Answer, core: &mut Core, digits: &str) {
-    let bytes = answer.bytes(digits);
-    match decode_vertex(answer.alloc(), bytes.as_slice()) {
+    match vertex_of(answer, digits) {
         Ok(vertex) => {
             let _answer = core.deliver(vertex, true);
         }

@@ -2,8 +2,8 @@
 
 use crate::meeting::ends::{put_core, put_end, put_sent};
 use crate::meeting::nodes::{begin, deliver_all};
+use crate::spelled::vertex_of;
 use hw_case_words::{Answer, number};
-use hw_codec::decode_vertex;
 use hw_core::Core;
 use hw_doubles::MemDoor;
 use hw_meeting_node::{MemTaker, Taker, VertexList, host_one, meet_one};
@@ -54,8 +54,7 @@ fn vertices(answer: &mut Answer, words: &str) -> VertexList {
 
 /// Puts the vertex last that the digits spell, if they spell one.
 fn put_vertex(answer: &mut Answer, list: &mut VertexList, digits: &str) {
-    let bytes = answer.bytes(digits);
-    match decode_vertex(answer.alloc(), bytes.as_slice()) {
+    match vertex_of(answer, digits) {
         Ok(vertex) => {
             if list.push(vertex).is_err() {
                 answer.refuse();
@@ -73,7 +72,7 @@ fn door_of(answer: &mut Answer, piece: &str, fault: &str, says: &str) -> MemDoor
     let expected = door.expect(said.as_slice());
     answer.keep(expected);
     if let Ok(call) = fault.parse() {
-        let planned = door.fail_at(call);
+        let planned = door.plan.fail_at(call);
         answer.keep(planned);
     }
     door

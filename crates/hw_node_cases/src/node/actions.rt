@@ -122,45 +122,71 @@ fn three_weights(alloc: Global) -> Result<WeightList, OutOfMemory>
 
 fn leaders(alloc: Global) -> Result<IndexList, OutOfMemory> {
     let mut leaders = IndexList::new(alloc);
-    for leader in [0, 0, 2] {
-        leaders.push(leader)?;
-    }
+    leaders.push(0)?;
+    leaders.push(0)?;
+    leaders.push(2)?;
     Ok(leaders)
 }
 
 /// The action that the word tells.
 fn action_of(alloc: Global, instance: Digest, word: &str) -> Result<Option<Action>, OutOfMemory> {
     let parts: Vec<&str> = word.split(':').collect(alloc)?;
-    let [kind, who, what] = parts.as_slice() else {
-        return Ok(None);
-    };
-    let (who, what) = (small(who), number(what));
-    Ok(match *kind {
-        "step" => Some(Action::Step {
+    match parts.as_slice() {
+        [kind, who, what] => action(alloc, instance, kind, small(who), number(what)),
+        _ => Ok(None),
+    }
+}
+
+/// The action of this kind, if there is one.
+fn action(
+    alloc: Global,
+    instance: Digest,
+    kind: &str,
+    who: u32,
+    what: u64,
+) -> Result<Option<Action>, OutOfMemory> {
+    match kind {
+        "step" => Ok(Some(Action::Step {
             node: who,
             now: what,
-        }),
-        "give" => Some(Action::Deliver {
+        })),
+        "give" => Ok(Some(Action::Deliver {
             node: who,
             sent: what,
-        }),
-        "block" => Some(Action::Forge {
-            vertex: Vertex::Unit(block(alloc, instance, who, what, 1)?),
-        }),
-        "pair" => Some(Action::Forge {
-            vertex: Vertex::Evidence(Evidence {
-                left: block(alloc, instance, who, what, 1)?,
-                right: block(alloc, instance, who, what, 2)?,
-            }),
-        }),
-        "word" => Some(Action::Forge {
-            vertex: Vertex::Endorsement(Endorsement {
-                unit: instance,
-                endorser: who,
-                signature: no_signature(),
-            }),
-        }),
-        _ => None,
+        })),
+        _ => forged(alloc, instance, kind, who, what),
+    }
+}
+
+/// The forging of a vertex of this kind.
+fn forged(
+    alloc: Global,
+    instance: Digest,
+    kind: &str,
+    who: u32,
+    what: u64,
+) -> Result<Option<Action>, OutOfMemory> {
+    let vertex = match kind {
+        "block" => Vertex::Unit(block(alloc, instance, who, what, 1)?),
+        "pair" => Vertex::Evidence(pair(alloc, instance, who, what)?),
+        "word" => endorsement(instance, who),
+        _ => return Ok(None),
+    };
+    Ok(Some(Action::Forge { vertex }))
+}
+
+/// Two first blocks of the creator.
+fn pair(alloc: Global, instance: Digest, creator: u32, time: u64) -> Result<Evidence, OutOfMemory> {
+    let left = block(alloc, instance, creator, time, 1)?;
+    let right = block(alloc, instance, creator, time, 2)?;
+    Ok(Evidence { left, right })
+}
+
+fn endorsement(unit: Digest, endorser: u32) -> Vertex {
+    Vertex::Endorsement(Endorsement {
+        unit,
+        endorser,
+        signature: no_signature(),
     })
 }
 

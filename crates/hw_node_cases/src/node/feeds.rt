@@ -2,6 +2,7 @@
 
 use crate::node::passes::pass_along;
 use crate::node::planned::consumer_of;
+use hw_case_words::Answer;
 use hw_doubles::MemFiles;
 use hw_io::{Consumer, IoFault};
 use hw_replay::{Fanout, Replay, put_drops, replay_fed};
@@ -73,23 +74,27 @@ fn log_file(alloc: Global, log: &str) -> Result<MemFiles, OutOfMemory> {
 
 /// How many are left, and where the others were dropped.
 fn drops_text(alloc: Global, left: usize, fanout: &Fanout) -> Result<String, OutOfMemory> {
-    let mut text = format!(in alloc; "left {left}")?;
+    let mut text = Answer::new(alloc);
+    text.labelled("left ", left as u64);
     for index in 0..fanout.drop_count() {
         let (place, height, fault) = fanout.drop_at(index);
-        let reason = match fault {
-            IoFault::Failed => "dropped",
-            IoFault::OutOfMemory => "out of memory",
-        };
-        match height {
-            Some(height) => {
-                text.push_str(format!(in alloc;
-                    " consumer {place} {reason} at {height}"
-                )?.as_str())?;
-            }
-            None => {
-                text.push_str(format!(in alloc; " consumer {place} {reason} at finish")?.as_str())?;
-            }
-        }
+        put_drop(&mut text, place, height, fault);
     }
-    Ok(text)
+    match text.finish() {
+        Some(text) => Ok(text),
+        None => Err(OutOfMemory),
+    }
+}
+
+/// Tells that the consumer at this place was dropped, and where.
+fn put_drop(text: &mut Answer, place: usize, height: Option<u64>, fault: IoFault) {
+    text.labelled(" consumer ", place as u64);
+    text.put(match fault {
+        IoFault::Failed => " dropped at ",
+        IoFault::OutOfMemory => " out of memory at ",
+    });
+    match height {
+        Some(height) => text.number(height),
+        None => text.put("finish"),
+    }
 }

@@ -6,9 +6,10 @@ use crate::node::clusters::{put_generated, put_simulated};
 use crate::node::feeds::{fed, passed};
 use crate::node::nodes::{begin, deliver};
 use crate::node::wanted::{against, put_needed};
-use hw_case_words::{Answer, digest_of_byte, number, small};
+use crate::spelled::digest_of;
+use hw_case_words::{Answer, number, small};
 use hw_core::Core;
-use hw_types::{Digest, Need, OutOfMemory};
+use hw_types::{Need, OutOfMemory};
 
 /// Answers a line, of the node that began last.
 pub fn tell(answer: &mut Answer, nodes: &mut Vec<Core>, line: &str) {
@@ -82,15 +83,6 @@ fn need_of(answer: &mut Answer, kind: &str, word: &str) -> Need {
         "unit" => Need::Unit(digest_of(answer, word)),
         "endorsed" => Need::Endorsed(digest_of(answer, word)),
         _ => Need::Evidence(small(word)),
-    }
-}
-
-/// The digest of these 64 digits, zeros where they are no digest.
-fn digest_of(answer: &mut Answer, digits: &str) -> Digest {
-    let bytes = answer.bytes(digits);
-    match bytes.as_slice().first_chunk::<32>() {
-        Some(digest) => Digest(*digest),
-        None => digest_of_byte(0),
     }
 }
 

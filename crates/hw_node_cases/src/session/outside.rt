@@ -103,8 +103,8 @@ pub fn expect(answer: &mut Answer, door: &mut MemDoor, said: &str) {
 fn plan(outside: &mut Outside, failure: &str) -> Result<(), AllocError> {
     match failure.split_once(':') {
         Some(("files", call)) => plan_files(&mut outside.files, call),
-        Some(("out", call)) => outside.out.fail_at(number(call)),
-        Some(("door", call)) => outside.door.fail_at(number(call)),
+        Some(("out", call)) => outside.out.plan.fail_at(number(call)),
+        Some(("door", call)) => outside.door.plan.fail_at(number(call)),
         _ => Ok(()),
     }
 }
@@ -121,7 +121,7 @@ pub fn plan_files(files: &mut MemFiles, failure: &str) -> Result<(), AllocError>
 pub fn consumer_of(answer: &mut Answer, plan: &str) -> ListConsumer {
     let mut consumer = ListConsumer::new(answer.alloc());
     if plan != "-" {
-        let planned = consumer.fail_at(number(plan));
+        let planned = consumer.plan.fail_at(number(plan));
         answer.keep(planned);
     }
     consumer

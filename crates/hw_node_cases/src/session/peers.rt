@@ -1,16 +1,16 @@
 //! What peers do to a node.
 
+use crate::receipts::{BRACKETED, put_receipt};
 use crate::session::outside::expect;
+use crate::spelled::vertex_of;
 use hw_case_words::{Answer, number};
-use hw_codec::decode_vertex;
 use hw_doubles::{MemDoor, MemFiles};
 use hw_session::{AcceptFault, Node, PeerMark, SessionEnd};
 use hw_types::Receipt;
 
 /// Gives the node a peer's vertex, and tells what became of it.
 pub fn accept(answer: &mut Answer, files: &mut MemFiles, node: &mut Node, vertex: &str) {
-    let bytes = answer.bytes(vertex);
-    match decode_vertex(answer.alloc(), bytes.as_slice()) {
+    match vertex_of(answer, vertex) {
         Ok(vertex) => put_accepted(answer, node.accept(files, vertex)),
         Err(_) => answer.put("no vertex"),
     }
@@ -19,29 +19,10 @@ pub fn accept(answer: &mut Answer, files: &mut MemFiles, node: &mut Node, vertex
 /// Tells what became of a vertex.
 fn put_accepted(answer: &mut Answer, accepted: Result<Receipt, AcceptFault>) {
     match accepted {
-        Ok(receipt) => put_receipt(answer, receipt),
+        Ok(receipt) => put_receipt(answer, &BRACKETED, receipt),
         Err(AcceptFault::OutOfMemory) => answer.refuse(),
         Err(fault) => answer.debug(&fault),
     }
-}
-
-fn put_receipt(answer: &mut Answer, receipt: Receipt) {
-    match receipt {
-        Receipt::Admitted { settled } => put_count(answer, "Admitted(", settled),
-        Receipt::Parked { missing } => put_count(answer, "Parked(", missing),
-        Receipt::Dropped(rule) => {
-            answer.put("Dropped(");
-            answer.debug(&rule);
-            answer.put(")");
-        }
-        Receipt::Repeat => answer.put("Repeat"),
-    }
-}
-
-fn put_count(answer: &mut Answer, word: &str, count: u32) {
-    answer.put(word);
-    answer.number(u64::from(count));
-    answer.put(")");
 }
 
 /// Lets the node serve a peer, and tells how the session ended, how often the peer's bytes ended, and what
@@ -79,7 +60,7 @@ fn door_of(answer: &mut Answer, said: &str, piece: &str, call: &str) -> MemDoor 
     let mut door = MemDoor::in_pieces(answer.alloc(), piece.parse().unwrap_or(usize::MAX));
     expect(answer, &mut door, said);
     if let Ok(call) = call.parse() {
-        let planned = door.fail_at(call);
+        let planned = door.plan.fail_at(call);
         answer.keep(planned);
     }
     door

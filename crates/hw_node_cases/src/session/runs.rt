@@ -142,7 +142,6 @@ fn put_outside(answer: &mut Answer, outside: &Outside) {
 /// Puts what was written, with a `/` for each line feed.
 fn put_lines(answer: &mut Answer, written: &[u8]) {
     for byte in written {
-        let byte = if *byte == b'\n' { b'/' } else { *byte };
-        answer.characters(&[byte]);
+        answer.character(if *byte == b'\n' { b'/' } else { *byte });
     }
 }

@@ -1,7 +1,7 @@
 use Rattle.std.proofs.Common.{◌≡◌, ◌-◌, suc, Some, length, sym, ap, ◌∙◌}
 use Rattle.std.specs.Prelude.{is_ok}
 use Rattle.hw_io.specs.Doors.{Session, Ask, ask_in, ask_of, IsAskedNow}
-use Rattle.hw_doubles.specs.Sure.{watched_sessions, watched_asks}
+use Rattle.hw_doubles.specs.Memory.{watched_sessions, watched_asks}
 use Rattle.hw_doubles.proofs.Kept.{ask_of-at, one_more, asks_kept}
 use Rattle.hw_doubles.proofs.watched.WatchedDoor.keep_ask.Goals as goal
 

@@ -1,0 +1,48 @@
+//! What hexadecimal digits spell.
+
+ghost use Rattle.std.specs.Prelude.{IfOk};
+ghost use Rattle.hw_types.specs.Spelling.{VertexFits};
+
+use hw_admit::StateStart;
+use hw_case_words::{Answer, digest_of_byte};
+use hw_codec::{decode_config, decode_vertex};
+use hw_types::{CodecError, Config, Digest, Vertex};
+
+/// The configuration that the digits spell.
+pub fn config_of(answer: &mut Answer, digits: &str) -> Result<Config, CodecError> {
+    let bytes = answer.bytes(digits);
+    decode_config(answer.alloc(), bytes.as_slice())
+}
+
+/// The vertex that the digits spell.
+pub fn vertex_of(answer: &mut Answer, digits: &str) -> Result<Vertex, CodecError>
+    ensures { IfOk result VertexFits }
+{
+    let bytes = answer.bytes(digits);
+    decode_vertex(answer.alloc(), bytes.as_slice())
+}
+
+/// The digest of these 64 digits, of zeros where they are others.
+pub fn digest_of(answer: &mut Answer, digits: &str) -> Digest {
+    let bytes = answer.bytes(digits);
+    match bytes.as_slice().first_chunk::<32>() {
+        Some(digest) => Digest(*digest),
+        None => digest_of_byte(0),
+    }
+}
+
+/// Puts the error of bytes that spell nothing.
+pub fn put_error(answer: &mut Answer, error: CodecError) {
+    match error {
+        CodecError::OutOfMemory => answer.refuse(),
+        error => answer.debug(&error),
+    }
+}
+
+/// Puts the limit that a configuration breaks with which nothing begins.
+pub fn put_start(answer: &mut Answer, start: StateStart) {
+    match start {
+        StateStart::Fault(fault) => answer.debug(&fault),
+        StateStart::OutOfMemory => answer.refuse(),
+    }
+}
