@@ -24,10 +24,11 @@ use Rattle.hw_session.specs.Make.{planned_by, own_vertex, with_vertex, with_entr
 use Rattle.hw_session.specs.Restart.{HasLog, logged_of}
 use Rattle.hw_session.proofs.LineLaws.{make_is_an_event}
 use Rattle.hw_run_laws.specs.Restart.{arrivals, vertices_sent, vertices_told, TakesSome, HasCutLog, LeavesLog}
-use Rattle.hw_run_laws.specs.Calls.{IsSound, Standing, at_door, Attempt, makes, serves, drives, meets, IsReady, AttemptsKeepOneLine}
+use Rattle.hw_run_laws.specs.Calls.{IsSound, Standing, at_door, Attempt, makes, accepts, serves, drives, meets, IsReady, AttemptsKeepOneLine}
 use Rattle.hw_run_laws.proofs.LifeLaws.{life_both}
 use Rattle.hw_run_laws.proofs.StartLaws.{reached}
 use Rattle.hw_run_laws.proofs.CutLaws.{serves_leave, drives_leave, make_leaves}
+use Rattle.hw_run_laws.proofs.HandedLaws.{accepts_leave}
 use Rattle.hw_run_laws.proofs.MeetLaws.{meets_leave}
 
 -- ---- fair lives
@@ -198,6 +199,7 @@ module _ (me : ℕ) (a b : Standing) (sound : IsSound a.node) (validator : me < 
       log = cut;
     })
   ]
+  attempt_leaves (accepts v result does wrote fair) = fair_leaves me a.node b.node (v ∷ []) (b.held b.node.log) fair (accepts_leave a.node b.node v result a.held b.held does wrote ready.log)
   attempt_leaves (serves read written ends_old ends_new e does fair) =
       fair_leaves me a.node b.node (vertices_sent read) (b.held b.node.log) fair (serves_leave a.node b.node read written true a.held b.held ends_old ends_new e does refl ready.log)
   attempt_leaves (drives mark now read written ends_old ends_new e does fair) =

@@ -14,11 +14,12 @@ use Rattle.hw_session.specs.Node.{NodeState}
 use Rattle.hw_session.specs.Make.{with_entry}
 use Rattle.hw_session.specs.Restart.{HasLog, logged_of}
 use Rattle.hw_session.specs.Start.{GoesOn}
-use Rattle.hw_run_laws.specs.Calls.{IsSound, Standing, at_door, Attempt, makes, serves, drives, meets, IsWhole, StartsAgain, Call, goes_on, starts, gives_up, AreCalls, IsReady, CallsKeepOneLine, CallsKeepApart}
+use Rattle.hw_run_laws.specs.Calls.{IsSound, Standing, at_door, Attempt, makes, accepts, serves, drives, meets, IsWhole, StartsAgain, Call, goes_on, starts, gives_up, AreCalls, IsReady, CallsKeepOneLine, CallsKeepApart}
 use Rattle.hw_run_laws.specs.Restart.{vertices_sent, vertices_told}
 use Rattle.hw_run_laws.proofs.LifeLaws.{serves_life}
 use Rattle.hw_run_laws.proofs.KeepLaws.{serves_keep, drives_keep}
 use Rattle.hw_run_laws.proofs.DriverLaws.{drives_life}
+use Rattle.hw_run_laws.proofs.HandedLaws.{accepts_life, accepts_keep}
 use Rattle.hw_run_laws.proofs.MeetLaws.{meets_life, meets_keep}
 use Rattle.hw_run_laws.proofs.OutLaws.{Grows, goes_later}
 use Rattle.hw_run_laws.proofs.StartLaws.{each_fits, start_lives, start_keeps, from_log}
@@ -99,6 +100,10 @@ module _ (me : ℕ) (a b : Standing) (sound : IsSound a.node) (validator : me < 
   goes (makes now value result does wrote) whole = record {
     lives = make_lives me a.node sound validator ready.line now value b.node result does;
     log = make_keeps a.node me now value a.held b.held sound.kept validator ready.log b.node result does wrote whole;
+  }
+  goes (accepts v result does wrote fair) judged = record {
+    lives = takes_fairly me a.node b.node (v ∷ []) fair (accepts_life a.node b.node v result does judged);
+    log = accepts_keep a.node b.node v result a.held b.held does wrote judged ready.log;
   }
   goes (serves read written ends_old ends_new e does fair) logged = record {
     lives = takes_fairly me a.node b.node (vertices_sent read) fair (serves_life a.node b.node read written true a.held b.held ends_old ends_new e does logged);

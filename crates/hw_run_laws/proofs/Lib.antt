@@ -4,6 +4,7 @@ pub mod PassedLaws
 pub mod StepLaws
 pub mod LifeLaws
 pub mod MetLaws
+pub mod HandedLaws
 pub mod MeetLaws
 pub mod KeepLaws
 pub mod OutLaws
@@ -17,6 +18,7 @@ pub mod AttemptLaws
 pub mod SaidLaws
 pub mod PlanLaws
 pub mod QuietLaws
+pub mod GivenLaws
 pub mod MemberLaws
 pub mod BeginLaws
 pub mod ShortLaws

@@ -99,13 +99,13 @@ lives_one me n v = record { config = taken_config n v (given_to n v); keys = tak
 
 -- ---- the first of some vertices
 
-takes_none : (n : NodeState) (vs : List Vertex) → TakesSome n vs n
+pub takes_none : (n : NodeState) (vs : List Vertex) → TakesSome n vs n
 takes_none n vs = (0, λ me. lives_nothing me n)
 
 pub lives_taken : (me : ℕ) (n m : NodeState) (v : Vertex) → m ≡ taken_by n v (given_to n v) → LivesOn me n (arrivals n (v ∷ [])) m
 lives_taken me n m v is = subst (λ (k : NodeState). LivesOn me n (arrivals n (v ∷ [])) k) (sym is) (lives_one me n v)
 
-takes_one : (n m : NodeState) (v : Vertex) (vs : List Vertex) → m ≡ taken_by n v (given_to n v) → TakesSome n (v ∷ vs) m
+pub takes_one : (n m : NodeState) (v : Vertex) (vs : List Vertex) → m ≡ taken_by n v (given_to n v) → TakesSome n (v ∷ vs) m
 takes_one n m v vs is = (1, λ me. lives_taken me n m v is)
 
 takes_more : (n m l : NodeState) (v : Vertex) (vs : List Vertex) → m ≡ taken_by n v (given_to n v) → TakesSome m vs l → TakesSome n (v ∷ vs) l

@@ -1,19 +1,20 @@
 -- A life of whatever calls, one after the other.
-use Rattle.std.specs.Prelude.{IsSome, bytes_eq}
-use Rattle.std.proofs.Common.{◌≡◌, ◌≢◌, ◌⊎◌, ℕ, ◌<◌, Bool, true, false, cond, List, [], ◌∷◌, ◌++◌, length, Option, Some, None, Ok, Err, inl, inr, refl, sym, ap, subst, arith}
+use Rattle.std.specs.Prelude.{IfErr}
+use Rattle.std.proofs.Common.{◌≡◌, ◌⊎◌, ℕ, ◌<◌, List, [], ◌∷◌, ◌++◌, length, Option, Some, None, Result, Ok, Err, inl, inr, refl, sym, ap, subst, arith}
 use Rattle.std.proofs.lemmas.Bool.{cases_lt}
-use lib.Pointwise.{bytes_decides}
 use Rattle.hw_types.specs.declared.unit.Signature.{Signature}
 use Rattle.hw_types.specs.declared.unit.Vertex.{Vertex}
 use Rattle.hw_types.specs.declared.answers.Plan.{Plan}
+use Rattle.hw_types.specs.declared.answers.Receipt.{Receipt}
+use Rattle.hw_types.specs.declared.answers.Cause.{Cause}
 use Rattle.hw_types.specs.Below.{Among}
-use Rattle.hw_types.specs.Journal.{Setting}
+use Rattle.hw_types.specs.Journal.{Setting, is_accepted}
 use Rattle.hw_types.specs.Real.{setting_of}
 use Rattle.hw_types.specs.Spelling.{VertexFits, Fits}
 use Rattle.hw_types.proofs.EntryLaws.{append_cases}
 use Rattle.hw_types.proofs.LimitLaws.{within_limits}
 use Rattle.hw_io.specs.Faults.{raised}
-use Rattle.hw_io.specs.Files.{bytes_of, Appended}
+use Rattle.hw_io.specs.Files.{bytes_of}
 use Rattle.hw_codec.specs.Ranges.{VertexInRange}
 use Rattle.hw_honest.specs.Plans.{IsPlanned, HasNamesake}
 use Rattle.hw_honest.proofs.NewLaws.{plan_is_answered}
@@ -21,43 +22,22 @@ use Rattle.hw_link.specs.declared.end.SessionEnd.TheVariants as end
 use Rattle.hw_link.specs.Talk.{said_bytes}
 use Rattle.hw_session.specs.declared.fault.MakeFault.{MakeFault}
 use Rattle.hw_session.specs.declared.fault.MakeFault.TheVariants as fault
+use Rattle.hw_session.specs.declared.fault.AcceptFault.TheVariants as accept_fault
 use Rattle.hw_session.specs.Node.{NodeState}
+use Rattle.hw_session.specs.Accept.{given_to, taken_by, IsOfNode}
 use Rattle.hw_session.specs.Make.{planned_by, own_vertex, entry_for, with_entry, IsNamesake, IsToMake, IsTooMany, IsNothing}
 use Rattle.hw_session.specs.Restart.{journal_log}
 use Rattle.hw_session.specs.Driving.{hello}
 use Rattle.hw_meeting_node.specs.declared.end.MeetEnd.TheVariants as met_end
-use Rattle.hw_run_laws.specs.Calls.{IsSound, Standing, Attempt, makes, serves, drives, meets, IsWhole, StartsAgain, Call, goes_on, starts, gives_up, IsReady}
-use Rattle.hw_run_laws.specs.Members.{Deed, making, serving, driving, meeting, Turn, does, stops, drops, deed_of, turn_of, MayBeDone, MayTurn, LivesAreThere}
-use Rattle.hw_run_laws.proofs.AttemptLaws.{make_lives, lives_soundly}
+use Rattle.hw_run_laws.specs.Calls.{IsSound, IsFairVertex, Standing, Attempt, makes, accepts, serves, drives, meets, IsWhole, StartsAgain, Call, goes_on, starts, gives_up, IsReady}
+use Rattle.hw_run_laws.specs.Members.{Deed, making, accepting, serving, driving, meeting, Turn, does, stops, drops, deed_of, turn_of, MayBeDone, MayTurn, LivesAreThere}
+use Rattle.hw_run_laws.proofs.AttemptLaws.{takes_fairly, make_lives, lives_soundly}
 use Rattle.hw_run_laws.proofs.CallLaws.{call_ready, call_validator}
+use Rattle.hw_run_laws.proofs.GivenLaws.{put, put_appends, files_after, receipt_writes, each_by, given_known}
+use Rattle.hw_run_laws.proofs.LifeLaws.{takes_one}
 use Rattle.hw_run_laws.proofs.PlanLaws.{hash_in_range, unit_fits, unit_in_range}
 use Rattle.hw_run_laws.proofs.QuietLaws.{fair_none, quiet_serves, quiet_drives, before_meeting, behind_meeting, quiet_meets, fair_met}
 use Rattle.hw_run_laws.proofs.StartLaws.{reached, each_fits, renewed, renews}
-
--- ---- files
-
--- these files, with other bytes under this name
-abbrev pub put : (List ℕ → Option (List ℕ)) → List ℕ → List ℕ → List ℕ → Option (List ℕ)
-put held name bytes other = cond (bytes_eq other name) (Some bytes) (held other)
-
-module _ (held : List ℕ → Option (List ℕ)) (name bytes : List ℕ) where
-  pub put_there : put held name bytes name ≡ Some bytes
-  put_there = ap (λ (b : Bool). cond b (Some bytes) (held name)) ((bytes_decides name name).1 refl)
-
-  pub put_others : (other : List ℕ) → other ≢ name → put held name bytes other ≡ held other
-  put_others other differs = go (bytes_eq other name) refl
-    where
-      go : (b : Bool) → bytes_eq other name ≡ b → cond b (Some bytes) (held other) ≡ held other
-      go true is = absurd (differs ((bytes_decides other name).0 is))
-      go false is = refl
-
-put_appends : {T E : Type 0} (held : List ℕ → Option (List ℕ)) (name bytes : List ℕ) (x : T) → Appended {T = T} {E = E} held (put held name (bytes_of (held name) ++ bytes)) name bytes (Ok x)
-put_appends held name bytes x = record {
-  whole = put_there held name (bytes_of (held name) ++ bytes);
-  cut = tt;
-  stays = λ there. subst (λ (file : Option (List ℕ)). IsSome file) (sym (put_there held name (bytes_of (held name) ++ bytes))) refl;
-  others = put_others held name (bytes_of (held name) ++ bytes);
-}
 
 -- ---- one call
 
@@ -78,7 +58,7 @@ module _ (me : ℕ) (a : Standing) (validator : me < length a.node.core.config.w
 
   -- ---- a unit that is made
 
-  module _ (now : ℕ) (value : List ℕ) (may : MayBeDone (making now value)) where
+  module _ (now : ℕ) (value : List ℕ) (may : MayBeDone me (making now value)) where
     abbrev planned : Option Plan
     planned = planned_by a.node me now value
 
@@ -151,10 +131,41 @@ module _ (me : ℕ) (a : Standing) (validator : me < length a.node.core.config.w
       ]
     ]
 
+  -- ---- a vertex that is handed over
+
+  module _ (v : Vertex) (may : MayBeDone me (accepting v)) where
+    fair : IsFairVertex me a.node v
+    fair = (λ accepted x there own. absurd (may.2 x there own), tt)
+
+    -- each vertex behind it is in range and fits
+    each_behind : (w : Vertex) → Among w (taken_by a.node v (given_to a.node v)).core.journal → VertexInRange w × VertexFits w
+    each_behind = each_by a.node v (λ (w : Vertex). VertexInRange w × VertexFits w) (each_fits a.node sound) (may.0, may.1) (given_to a.node v)
+
+    sound_behind : IsSound (taken_by a.node v (given_to a.node v))
+    sound_behind = lives_soundly me a.node sound validator ready.line (taken_by a.node v (given_to a.node v))
+        (takes_fairly me a.node (taken_by a.node v (given_to a.node v)) (v ∷ []) fair (takes_one a.node (taken_by a.node v (given_to a.node v)) v [] refl)) each_behind
+
+    accepts_by : (x : Result Receipt Cause) → given_to a.node v ≡ x → Done me a (accepting v)
+    accepts_by (Ok r) is = record {
+      next = record { node = taken_by a.node v (Ok r); held = files_after a.node v a.held (is_accepted (Ok r)) };
+      attempt = accepts v (Ok r) (is, refl) (receipt_writes a.node v a.held r) fair;
+      is = refl;
+      whole = tt;
+      sound = subst (λ (y : Result Receipt Cause). IsSound (taken_by a.node v y)) is sound_behind;
+    }
+    accepts_by (Err c) is = record {
+      next = record { node = taken_by a.node v (Err c); held = a.held };
+      attempt = accepts v (Err (accept_fault.Refused c)) (subst (λ (y : Result Receipt Cause). IfErr y IsOfNode) is (given_known a.node v), is, refl) (λ name. refl) fair;
+      is = refl;
+      whole = tt;
+      sound = subst (λ (y : Result Receipt Cause). IsSound (taken_by a.node v y)) is sound_behind;
+    }
+
   -- ---- what it does
 
-  done : (deed : Deed) → MayBeDone deed → Done me a deed
+  done : (deed : Deed) → MayBeDone me deed → Done me a deed
   done (making now value) may = makes_by now value may (planned_by a.node me now value) refl
+  done (accepting v) may = accepts_by v may (given_to a.node v) refl
   done serving may = record {
     next = a;
     attempt = serves [] [] 0 (raised 0) end.EndOfInput (quiet_serves a.node a.held 0) (fair_none me a.node);
@@ -203,7 +214,7 @@ record Turned (me : ℕ) (a : Standing) (turn : Turn) : Type 0 where
   is : turn_of call ≡ turn
   sound : IsSound next.node
 
-turned : (me : ℕ) (a : Standing) → me < length a.node.core.config.weights → IsSound a.node → IsReady me a → (turn : Turn) → MayTurn turn → Turned me a turn
+turned : (me : ℕ) (a : Standing) → me < length a.node.core.config.weights → IsSound a.node → IsReady me a → (turn : Turn) → MayTurn me turn → Turned me a turn
 turned me a validator sound ready (does deed) may =
     let d = done me a validator sound ready deed may in
     record { next = d.next; call = goes_on d.attempt d.whole; is = ap does d.is; sound = d.sound }

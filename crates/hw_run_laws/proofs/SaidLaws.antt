@@ -28,7 +28,7 @@ use Rattle.hw_session.specs.Restart.{logged_of}
 use Rattle.hw_session.specs.Serving.{served}
 use Rattle.hw_session.specs.Driving.{driven}
 use Rattle.hw_run_laws.specs.Restart.{vertices_sent, arrivals, TakesSome, SaysOfLog}
-use Rattle.hw_run_laws.specs.Calls.{IsSound, IsFairPeer, makes, serves, drives, meets, CouldGoOut, AttemptsSayNoNew}
+use Rattle.hw_run_laws.specs.Calls.{IsSound, IsFairPeer, makes, accepts, serves, drives, meets, CouldGoOut, AttemptsSayNoNew}
 use Rattle.hw_run_laws.proofs.LifeLaws.{served_life}
 use Rattle.hw_run_laws.proofs.DriverLaws.{driven_life, driven_says}
 use Rattle.hw_run_laws.proofs.OutLaws.{served_says}
@@ -117,6 +117,7 @@ module _ (me : ℕ) (a k : NodeState) (sound : IsSound a) (validator : me < leng
 
 pub attempts_say : AttemptsSayNoNew
 attempts_say me a b validator sound ready (makes now value result does wrote) v said x m by = absurd said
+attempts_say me a b validator sound ready (accepts w result does wrote fair) v said x m by = absurd said
 attempts_say me a b validator sound ready (serves read written ends_old ends_new e does fair) v said x m by =
     says_no_new me a.node (served a.node read).state sound validator ready.line read fair (served_life a.node read) (served a.node read).said (served_says a.node read) v said x m by
 attempts_say me a b validator sound ready (drives mark now read written ends_old ends_new e does fair) v said x m by =

@@ -1,8 +1,7 @@
 -- A peer's vertex that a node takes.
 use Rattle.std.specs.Prelude.{IsSome}
-use Rattle.std.proofs.Common.{◌≡◌, ◌≢◌, ℕ, ◌<◌, ◌≤◌, Bool, true, false, cond, List, [], ◌∷◌, ◌++◌, length, Option, Result, Ok, Err, inl, inr, refl, sym, ap, subst, ◌∙◌, arith}
+use Rattle.std.proofs.Common.{◌≡◌, ℕ, ◌<◌, ◌≤◌, Bool, true, false, cond, List, [], ◌∷◌, ◌++◌, length, Option, Result, Ok, Err, refl, sym, ap, subst, ◌∙◌, arith}
 use Rattle.std.proofs.lemmas.List.{append-nil}
-use Rattle.hw_types.specs.declared.unit.SignedUnit.{SignedUnit}
 use Rattle.hw_types.specs.declared.unit.Vertex.{Vertex}
 use Rattle.hw_types.specs.declared.answers.Frame.{Frame}
 use Rattle.hw_types.specs.declared.answers.Frame.TheVariants as frame
@@ -11,11 +10,9 @@ use Rattle.hw_types.specs.declared.answers.Receipt.TheVariants as receipt
 use Rattle.hw_types.specs.declared.answers.Cause.{Cause}
 use Rattle.hw_types.specs.declared.answers.Cause.TheVariants as cause
 use Rattle.hw_types.specs.Below.{Among}
-use Rattle.hw_types.specs.Culprits.{signed_in}
 use Rattle.hw_types.specs.Journal.{is_accepted}
 use Rattle.hw_types.specs.Real.{setting_of}
 use Rattle.hw_types.specs.Spelling.{frame_bytes, VertexFits}
-use Rattle.hw_types.proofs.EntryLaws.{append_cases}
 use Rattle.hw_codec.specs.Ranges.{VertexInRange}
 use Rattle.hw_io.specs.Faults.{raised}
 use Rattle.hw_io.specs.Files.{bytes_of}
@@ -35,19 +32,15 @@ use Rattle.hw_session.specs.Serving.{wanted_by, is_clash, answer_to_vertex, serv
 use Rattle.hw_session.specs.Sessions.{Serves}
 use Rattle.hw_session.proofs.GrowsLaws.{gains_one, logs_counts}
 use Rattle.hw_run_laws.specs.Calls.{IsSound, Standing, serves, IsFairPeer, IsReady}
-use Rattle.hw_run_laws.specs.Members.{IsTaken, VerticesAreTaken}
+use Rattle.hw_run_laws.specs.Members.{HoldsNone, IsTaken, VerticesAreTaken}
 use Rattle.hw_run_laws.specs.Restart.{arrivals, vertices_sent, IsLogged}
 use Rattle.hw_run_laws.proofs.AttemptLaws.{takes_fairly, lives_soundly}
 use Rattle.hw_run_laws.proofs.LifeLaws.{serves_life}
-use Rattle.hw_run_laws.proofs.MemberLaws.{put, put_there, put_others}
+use Rattle.hw_run_laws.proofs.GivenLaws.{put_there, put_others, files_after, each_by}
 use Rattle.hw_run_laws.proofs.ShortLaws.{hello, heard_hello, read, long, has_second, further_second, second, sent, ends_here, serves_so}
 use Rattle.hw_run_laws.proofs.StartLaws.{each_fits}
 
 -- ---- what is left
-
--- the files behind a vertex that had this answer: its entry goes last in the log where it is accepted
-abbrev files_after : NodeState → Vertex → (List ℕ → Option (List ℕ)) → Bool → List ℕ → Option (List ℕ)
-files_after n v held accepted = cond accepted (put held n.log (bytes_of (held n.log) ++ entry_for n v)) held
 
 module _ (n : NodeState) (v : Vertex) (held : List ℕ → Option (List ℕ)) where
   abbrev Left : Result Receipt Cause → Type 0
@@ -80,32 +73,9 @@ module _ (n : NodeState) (v : Vertex) (held : List ℕ → Option (List ℕ)) wh
   left_by (Err cause.ParkFull) = logs_none (refused_by n v cause.ParkFull) (record { journal = sym (append-nil n.core.journal); lasts = refl; name = refl })
   left_by (Err cause.OutOfMemory) = logs_none (refused_by n v cause.OutOfMemory) (record { journal = sym (append-nil n.core.journal); lasts = refl; name = refl })
 
--- ---- what stands in its journal
-
-module _ (n : NodeState) (v : Vertex) (P : Vertex → Type 0) (old : (w : Vertex) → Among w n.core.journal → P w) (new : P v) where
-  each_entry : (w : Vertex) → Among w (n.core.journal ++ v ∷ []) → P w
-  each_entry w m = elim (append_cases w n.core.journal (v ∷ []) m) [
-    | inl before ↦ old w before
-    | inr (inl is) ↦ subst P is new
-    | inr (inr never) ↦ absurd never
-  ]
-
-  each_by : (a : Result Receipt Cause) (w : Vertex) → Among w (taken_by n v a).core.journal → P w
-  each_by (Ok (receipt.Admitted k)) = each_entry
-  each_by (Ok (receipt.Parked k)) = each_entry
-  each_by (Ok (receipt.Dropped rule)) = each_entry
-  each_by (Ok receipt.Repeat) = old
-  each_by (Err cause.BadSignature) = old
-  each_by (Err (cause.Local rule)) = old
-  each_by (Err (cause.Pair f)) = old
-  each_by (Err (cause.Clash d)) = old
-  each_by (Err cause.RecordsFull) = old
-  each_by (Err cause.ParkFull) = old
-  each_by (Err cause.OutOfMemory) = old
-
 -- ---- the session
 
-module _ (me : ℕ) (a : Standing) (v : Vertex) (range : VertexInRange v) (fits : VertexFits v) (few : length (frame_bytes (frame.Vertex v)) ≤ 1048576) (apart : (x : SignedUnit) → Among x (signed_in v) → x.unit.creator ≢ me) where
+module _ (me : ℕ) (a : Standing) (v : Vertex) (range : VertexInRange v) (fits : VertexFits v) (few : length (frame_bytes (frame.Vertex v)) ≤ 1048576) (apart : HoldsNone me v) where
   abbrev n : NodeState
   n = a.node
 

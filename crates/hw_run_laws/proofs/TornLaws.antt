@@ -18,7 +18,8 @@ use Rattle.hw_session.proofs.MakeLaws.{own_accepted}
 use Rattle.hw_run_laws.specs.Calls.{IsSound, Standing, makes, StartsAgain, IsReady, MendsTo}
 use Rattle.hw_run_laws.specs.Restart.{HasCutLog}
 use Rattle.hw_run_laws.specs.Members.{making, MayBeDone, IsTorn, TornLogsAreThere}
-use Rattle.hw_run_laws.proofs.MemberLaws.{put, put_there, put_others, is_planned, fits, in_range, made_sound}
+use Rattle.hw_run_laws.proofs.GivenLaws.{put, put_there, put_others}
+use Rattle.hw_run_laws.proofs.MemberLaws.{is_planned, fits, in_range, made_sound}
 use Rattle.hw_run_laws.proofs.MendLaws.{cut_mended}
 use Rattle.hw_run_laws.proofs.StartLaws.{gives_back, same_some}
 
@@ -82,7 +83,7 @@ module _ (c : Standing) (k : NodeState) (sound : IsSound k) (config : k.core.con
         sound = record { kept = record { lawful = sound.kept.lawful; keys = sound.kept.keys; reached = sound.kept.reached }; config = sound.config; vertices = sound.vertices };
       }
 
-module _ (me : ℕ) (a : Standing) (now : ℕ) (value : List ℕ) (p : Plan) (count : ℕ) (validator : me < length a.node.core.config.weights) (sound : IsSound a.node) (ready : IsReady me a) (may : MayBeDone (making now value))
+module _ (me : ℕ) (a : Standing) (now : ℕ) (value : List ℕ) (p : Plan) (count : ℕ) (validator : me < length a.node.core.config.weights) (sound : IsSound a.node) (ready : IsReady me a) (may : MayBeDone me (making now value))
     (made : IsToMake a.node (planned_by a.node me now value) p) where
   abbrev own : Vertex
   own = own_vertex a.node p

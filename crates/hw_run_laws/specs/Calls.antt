@@ -8,6 +8,7 @@ use Rattle.hw_types.specs.declared.unit.WireUnit.{WireUnit}
 use Rattle.hw_types.specs.declared.answers.Frame.{Frame}
 use Rattle.hw_types.specs.declared.answers.Frame.TheVariants as frame
 use Rattle.hw_types.specs.declared.answers.Plan.{Plan}
+use Rattle.hw_types.specs.declared.answers.Receipt.{Receipt}
 use Rattle.hw_types.specs.Below.{Among}
 use Rattle.hw_types.specs.Culprits.{signed_in}
 use Rattle.hw_types.specs.Real.{setting_of}
@@ -23,8 +24,10 @@ use Rattle.hw_log.specs.Rewritten.{mended_of}
 use Rattle.hw_session.specs.declared.stage.PeerMark.{PeerMark}
 use Rattle.hw_session.specs.declared.fault.MakeFault.{MakeFault}
 use Rattle.hw_session.specs.declared.fault.MakeFault.TheVariants as fault
+use Rattle.hw_session.specs.declared.fault.AcceptFault.{AcceptFault}
 use Rattle.hw_session.specs.Node.{NodeState, IsKept}
 use Rattle.hw_session.specs.Make.{planned_by, with_entry, Makes, WritesOwn}
+use Rattle.hw_session.specs.Accept.{Accepts, WritesAccepted}
 use Rattle.hw_session.specs.Restart.{HasLog, logged_of}
 use Rattle.hw_session.specs.Serving.{served}
 use Rattle.hw_session.specs.Sessions.{Serves}
@@ -38,7 +41,7 @@ use Rattle.hw_meeting_node.specs.Meeting.{met}
 use Rattle.hw_service.specs.Scene.{DoorSeen}
 use Rattle.hw_service.specs.Talk.{Talker}
 use Rattle.hw_service.specs.Meets.{NodeMeets}
-use Rattle.hw_run_laws.specs.Restart.{vertices_sent, vertices_told, arrivals, IsLogged, IsMetLogged, HasCutLog}
+use Rattle.hw_run_laws.specs.Restart.{vertices_sent, vertices_told, arrivals, IsLogged, IsMetLogged, IsJudged, HasCutLog}
 
 -- ---- calls
 
@@ -61,14 +64,19 @@ IsFairPeer me n read = AreFair (setting_of n.core.config) me (logged_of n) (arri
 abbrev pub IsFairMet : ℕ → NodeState → List ℕ → Type 0
 IsFairMet me n read = AreFair (setting_of n.core.config) me (logged_of n) (arrivals n (vertices_told n read))
 
+-- The same of a vertex that a host hands over.
+abbrev pub IsFairVertex : ℕ → NodeState → Vertex → Type 0
+IsFairVertex me n v = AreFair (setting_of n.core.config) me (logged_of n) (arrivals n (v ∷ []))
+
 -- a standing whose door tells this
 abbrev pub at_door : Standing → DoorSeen → Talker
 at_door a door = record { node = a.node; files = a.held; door = door }
 
--- What a node does over files that tell what they hold, however it ends: the validator's `make`, a session that it serves or drives with a
--- fair peer, or a meeting with one, which it hosts or dials.
+-- What a node does over files that tell what they hold, however it ends: the validator's `make`, an `accept` of a fair vertex, a session that
+-- it serves or drives with a fair peer, or a meeting with one, which it hosts or dials.
 pub data Attempt (me : ℕ) (a b : Standing) : Type 0 where
   makes : (now : ℕ) (value : List ℕ) (result : Result (Option Plan) MakeFault) → Makes a.node (planned_by a.node me now value) b.node result → WritesOwn a.node (planned_by a.node me now value) b.node a.held b.held result → Attempt me a b
+  accepts : (v : Vertex) (result : Result Receipt AcceptFault) → Accepts a.node v b.node result → WritesAccepted a.node v b.node a.held b.held result → IsFairVertex me a.node v → Attempt me a b
   serves : (read written : List ℕ) (ends_old ends_new : ℕ) (e : SessionEnd) → Serves a.node read written b.node true a.held b.held ends_old ends_new e → IsFairPeer me a.node read → Attempt me a b
   drives : (mark now : PeerMark) (read written : List ℕ) (ends_old ends_new : ℕ) (e : SessionEnd) → Drives a.node mark read written b.node now true a.held b.held ends_old ends_new e → IsFairPeer me a.node read → Attempt me a b
   meets : (side : Side) (address : Option (List ℕ)) (from to : DoorSeen) (e : MeetEnd) → (does : NodeMeets side address true (at_door a from) (at_door b to) e) → IsFairMet me a.node does.meets.read → Attempt me a b
@@ -82,6 +90,7 @@ IsMade result = Unit {0}
 -- so it is of what the node did
 abbrev pub IsWhole : {me : ℕ} {a b : Standing} → Attempt me a b → Type 0
 IsWhole (makes now value result does wrote) = IsMade result
+IsWhole (accepts v result does wrote fair) = IsJudged result
 IsWhole (serves read written ends_old ends_new e does fair) = IsLogged e
 IsWhole (drives mark now read written ends_old ends_new e does fair) = IsLogged e
 IsWhole (meets side address from to e does fair) = IsMetLogged e
@@ -129,6 +138,7 @@ AttemptsKeepOneLine = (me : ℕ) (a b : Standing) → me < length a.node.core.co
 -- the vertex is in a frame that the node says in it
 abbrev pub IsSaid : {me : ℕ} {a b : Standing} → Attempt me a b → Vertex → Type 0
 IsSaid (makes now value result does wrote) v = ⊥
+IsSaid (accepts w result does wrote fair) v = ⊥
 IsSaid {me} {a} {b} (serves read written ends_old ends_new e does fair) v = (frames : List Frame) × Among frames (served a.node read).said × Among (frame.Vertex v) frames
 IsSaid {me} {a} {b} (drives mark now read written ends_old ends_new e does fair) v = (frames : List Frame) × Among frames (driven a.node mark read).said × Among (frame.Vertex v) frames
 IsSaid {me} {a} {b} (meets side address from to e does fair) v = Among (meeting.Vertex v) (met side a.node.core (verdict_of a.node.keys) does.meets.read).said

@@ -31,7 +31,7 @@ use Rattle.hw_session.specs.Sessions.{Serves}
 use Rattle.hw_session.specs.Driving.{driven}
 use Rattle.hw_session.specs.Drives.{Drives}
 use Rattle.hw_meeting_node.specs.declared.meeter.Side.{Side}
-use Rattle.hw_run_laws.specs.Calls.{IsSound, Standing, Attempt, makes, serves, drives, meets, StartsAgain, Call, goes_on, starts, gives_up, AreCalls, IsWhole, IsReady, IsSaid}
+use Rattle.hw_run_laws.specs.Calls.{IsSound, Standing, Attempt, makes, accepts, serves, drives, meets, StartsAgain, Call, goes_on, starts, gives_up, AreCalls, IsWhole, IsReady, IsSaid}
 use Rattle.hw_run_laws.specs.Complete.{IsUndisturbed}
 use Rattle.hw_run_laws.specs.Restart.{HasCutLog}
 
@@ -73,9 +73,11 @@ pub record OneBegins : Type 0 where
 
 -- ---- lives
 
--- What a node does: it makes its unit at this moment with this value, serves a peer, drives one that it has told so much, or meets another node.
+-- What a node does: it makes its unit at this moment with this value, accepts a vertex that is handed over, serves a peer, drives one that it
+-- has told so much, or meets another node.
 pub data Deed : Type 0 where
   making : (now : ℕ) (value : List ℕ) → Deed
+  accepting : (v : Vertex) → Deed
   serving : Deed
   driving : (mark : PeerMark) → Deed
   meeting : (side : Side) (address : Option (List ℕ)) → Deed
@@ -88,6 +90,7 @@ pub data Turn : Type 0 where
 
 abbrev pub deed_of : {me : ℕ} {a b : Standing} → Attempt me a b → Deed
 deed_of (makes now value result d wrote) = making now value
+deed_of (accepts v result d wrote fair) = accepting v
 deed_of (serves read written ends_old ends_new e d fair) = serving
 deed_of (drives mark now read written ends_old ends_new e d fair) = driving mark
 deed_of (meets side address from to e d fair) = meeting side address
@@ -102,26 +105,32 @@ abbrev pub turns_of : (me : ℕ) (a : Standing) (more : List Standing) → AreCa
 turns_of me a [] calls = []
 turns_of me a (b ∷ more) (call, sound, calls) = turn_of call ∷ turns_of me b more calls
 
--- the moment and the value of a unit are within the limits of `make`
-abbrev pub MayBeDone : Deed → Type 0
-MayBeDone (making now value) = (now < 2 ^ 63) × (length value ≤ 4096) × AreBytes value
-MayBeDone serving = Unit {0}
-MayBeDone (driving mark) = Unit {0}
-MayBeDone (meeting side address) = Unit {0}
+-- the vertex holds no unit by the validator
+abbrev pub HoldsNone : ℕ → Vertex → Type 0
+HoldsNone me v = (x : SignedUnit) → Among x (signed_in v) → x.unit.creator ≢ me
 
-abbrev pub MayTurn : Turn → Type 0
-MayTurn (does deed) = MayBeDone deed
-MayTurn stops = Unit {0}
-MayTurn (drops deed) = MayBeDone deed
+-- The moment and the value of a unit are within the limits of `make`. A vertex that is handed over is within those of its format, whoever
+-- signed it, and holds no unit by the validator.
+abbrev pub MayBeDone : ℕ → Deed → Type 0
+MayBeDone me (making now value) = (now < 2 ^ 63) × (length value ≤ 4096) × AreBytes value
+MayBeDone me (accepting v) = VertexInRange v × VertexFits v × HoldsNone me v
+MayBeDone me serving = Unit {0}
+MayBeDone me (driving mark) = Unit {0}
+MayBeDone me (meeting side address) = Unit {0}
+
+abbrev pub MayTurn : ℕ → Turn → Type 0
+MayTurn me (does deed) = MayBeDone me deed
+MayTurn me stops = Unit {0}
+MayTurn me (drops deed) = MayBeDone me deed
 
 -- so it is of each of these
-abbrev pub MayAllTurn : List Turn → Type 0
-MayAllTurn [] = Unit {0}
-MayAllTurn (turn ∷ turns) = MayTurn turn × MayAllTurn turns
+abbrev pub MayAllTurn : ℕ → List Turn → Type 0
+MayAllTurn me [] = Unit {0}
+MayAllTurn me (turn ∷ turns) = MayTurn me turn × MayAllTurn me turns
 
 -- From each standing that is sound and ready there is a life of whatever calls, one after the other. Its peers send nothing.
 abbrev pub LivesAreThere : Type 0
-LivesAreThere = (me : ℕ) (a : Standing) (turns : List Turn) → me < length a.node.core.config.weights → IsSound a.node → IsReady me a → MayAllTurn turns
+LivesAreThere = (me : ℕ) (a : Standing) (turns : List Turn) → me < length a.node.core.config.weights → IsSound a.node → IsReady me a → MayAllTurn me turns
     → (more : List Standing) × (calls : AreCalls me a more) × (turns_of me a more calls ≡ turns)
 
 -- ---- sessions
@@ -176,7 +185,7 @@ pub record IsTaken (me : ℕ) (a : Standing) (v : Vertex) : Type 0 where
 -- So it is of each vertex that has room in a frame and holds no unit by the validator, whoever signed it.
 abbrev pub VerticesAreTaken : Type 0
 VerticesAreTaken = (me : ℕ) (a : Standing) (v : Vertex) → VertexInRange v → VertexFits v → length (frame_bytes (frame.Vertex v)) ≤ 1048576
-    → ((x : SignedUnit) → Among x (signed_in v) → x.unit.creator ≢ me) → IsTaken me a v
+    → HoldsNone me v → IsTaken me a v
 
 -- ---- cut logs
 
@@ -196,4 +205,4 @@ pub record IsTorn (me : ℕ) (a : Standing) (v : Vertex) (count : ℕ) : Type 0 
 -- So it may be where a node has a unit to make, wherever that is cut.
 abbrev pub TornLogsAreThere : Type 0
 TornLogsAreThere = (me : ℕ) (a : Standing) (now : ℕ) (value : List ℕ) (p : Plan) (count : ℕ) → me < length a.node.core.config.weights → IsSound a.node → IsReady me a
-    → MayBeDone (making now value) → IsToMake a.node (planned_by a.node me now value) p → IsTorn me a (own_vertex a.node p) count
+    → MayBeDone me (making now value) → IsToMake a.node (planned_by a.node me now value) p → IsTorn me a (own_vertex a.node p) count

@@ -1,10 +1,11 @@
 -- What sessions and meetings do to a node with a log from which it starts again: the statements.
 -- Source: ours.
-use Rattle.std.specs.Prelude.{◌≡◌, ◌⊎◌, ℕ, ◌<◌, Bool, true, IsTrue, List, ◌++◌, length, take, map, filter_map, Option, Some, None, Result}
+use Rattle.std.specs.Prelude.{◌≡◌, ◌⊎◌, ℕ, ◌<◌, Bool, true, IsTrue, List, [], ◌∷◌, ◌++◌, length, take, map, filter_map, Option, Some, None, Result, Err}
 use Rattle.hw_types.specs.declared.unit.Vertex.{Vertex}
 use Rattle.hw_types.specs.declared.answers.Frame.{Frame}
 use Rattle.hw_types.specs.declared.answers.Frame.TheVariants as frame
 use Rattle.hw_types.specs.declared.answers.Plan.{Plan}
+use Rattle.hw_types.specs.declared.answers.Receipt.{Receipt}
 use Rattle.hw_types.specs.Below.{Among}
 use Rattle.hw_types.specs.Journal.{is_accepted}
 use Rattle.hw_types.specs.Real.{setting_of, answer_in}
@@ -15,8 +16,11 @@ use Rattle.hw_link.specs.declared.end.SessionEnd.TheVariants as end
 use Rattle.hw_link.specs.Frames.{Placed, frames_of}
 use Rattle.hw_session.specs.declared.stage.PeerMark.{PeerMark}
 use Rattle.hw_session.specs.declared.fault.MakeFault.{MakeFault}
+use Rattle.hw_session.specs.declared.fault.AcceptFault.{AcceptFault}
+use Rattle.hw_session.specs.declared.fault.AcceptFault.TheVariants as accept_fault
 use Rattle.hw_session.specs.Node.{NodeState, IsKept}
 use Rattle.hw_session.specs.Make.{planned_by, own_vertex, entry_for, with_vertex, with_entry, IsToMake, Makes, WritesOwn}
+use Rattle.hw_session.specs.Accept.{Accepts, WritesAccepted}
 use Rattle.hw_session.specs.Restart.{HasLog, logged_of}
 use Rattle.hw_session.specs.Serving.{served}
 use Rattle.hw_session.specs.Sessions.{Serves}
@@ -111,6 +115,18 @@ abbrev pub MeetsIsALife : Type 0
 MeetsIsALife = (side : Side) (address : Option (List ℕ)) (tells : Bool) (old new : Talker) (e : MeetEnd) → (m : NodeMeets side address tells old new e) → IsMetLogged e
     → TakesSome old.node (vertices_told old.node m.meets.read) new.node
 
+-- ---- a vertex that is handed over
+
+-- no append failed in an `accept`, and there was memory
+abbrev pub IsJudged : Result Receipt AcceptFault → Type 0
+IsJudged (Err accept_fault.AppendFault) = ⊥
+IsJudged (Err accept_fault.OutOfMemory) = ⊥
+IsJudged result = Unit {0}
+
+-- A vertex that a host hands over reaches the node, and nothing else happens to it, where no append failed and there was memory.
+abbrev pub AcceptsIsALife : Type 0
+AcceptsIsALife = (n m : NodeState) (v : Vertex) (result : Result Receipt AcceptFault) → Accepts n v m result → IsJudged result → TakesSome n (v ∷ []) m
+
 -- ---- the log
 
 -- Such a session keeps the log of the node's journal, whether the node serves
@@ -127,6 +143,11 @@ DrivesKeepsLog = (n m : NodeState) (mark now : PeerMark) (read written : List �
 abbrev pub MeetsKeepsLog : Type 0
 MeetsKeepsLog = (side : Side) (address : Option (List ℕ)) (tells : Bool) (old new : Talker) (e : MeetEnd) → NodeMeets side address tells old new e → IsMetLogged e → IsTrue tells
     → HasLog old.node (old.files old.node.log) → HasLog new.node (new.files new.node.log)
+
+-- So does an `accept`.
+abbrev pub AcceptsKeepsLog : Type 0
+AcceptsKeepsLog = (n m : NodeState) (v : Vertex) (result : Result Receipt AcceptFault) (old new : List ℕ → Option (List ℕ)) → Accepts n v m result → WritesAccepted n v m old new result → IsJudged result
+    → HasLog n (old n.log) → HasLog m (new m.log)
 
 -- ---- calls that were cut
 
@@ -166,6 +187,11 @@ DrivesLeavesLog = (n m : NodeState) (mark now : PeerMark) (read written : List �
 abbrev pub MeetsLeavesLog : Type 0
 MeetsLeavesLog = (side : Side) (address : Option (List ℕ)) (tells : Bool) (old new : Talker) (e : MeetEnd) → (m : NodeMeets side address tells old new e) → IsTrue tells
     → HasLog old.node (old.files old.node.log) → LeavesLog old.node (vertices_told old.node m.meets.read) new.node (new.files new.node.log)
+
+-- where it accepts a vertex that is handed over,
+abbrev pub AcceptsLeavesLog : Type 0
+AcceptsLeavesLog = (n m : NodeState) (v : Vertex) (result : Result Receipt AcceptFault) (old new : List ℕ → Option (List ℕ)) → Accepts n v m result → WritesAccepted n v m old new result
+    → HasLog n (old n.log) → LeavesLog n (v ∷ []) m (new m.log)
 
 -- and, whatever it answers, where it makes a unit: the log is that of the node, or the one of the node before it, cut in the unit's entry.
 abbrev pub MakeLeavesLog : Type 0

@@ -6,7 +6,7 @@ ghost use Rattle.hw_run_laws.specs.Complete.{ServesAreComplete, DrivesAreComplet
 ghost use Rattle.hw_run_laws.specs.CutMembers.{ReplaysAreFed, ReplaysStop, RunsAreCut};
 ghost use Rattle.hw_run_laws.specs.MeetMembers.{MeetingsAreThere, OneMeets};
 ghost use Rattle.hw_run_laws.specs.Members.{NewNodesAreReady, OneBegins, LivesAreThere, WholeSessionsAreThere, WholeDrivesAreThere, NothingDisturbs, VerticesAreSaid, VerticesAreTaken, TornLogsAreThere};
-ghost use Rattle.hw_run_laws.specs.Restart.{ServedIsALife, DrivenIsALife, MetIsALife, ServesIsALife, DrivesIsALife, MeetsIsALife, ServesKeepsLog, DrivesKeepsLog, MeetsKeepsLog, ServesLeavesLog, DrivesLeavesLog, MeetsLeavesLog, MakeLeavesLog, ServedSaysOfLog, DrivenSaysOfLog, MetSaysOfLog, ServesSaysOfLog, DrivesSaysOfLog, MeetsSaysOfLog};
+ghost use Rattle.hw_run_laws.specs.Restart.{ServedIsALife, DrivenIsALife, MetIsALife, ServesIsALife, DrivesIsALife, MeetsIsALife, AcceptsIsALife, ServesKeepsLog, DrivesKeepsLog, MeetsKeepsLog, AcceptsKeepsLog, ServesLeavesLog, DrivesLeavesLog, MeetsLeavesLog, AcceptsLeavesLog, MakeLeavesLog, ServedSaysOfLog, DrivenSaysOfLog, MetSaysOfLog, ServesSaysOfLog, DrivesSaysOfLog, MeetsSaysOfLog};
 ghost use Rattle.hw_run_laws.specs.Prefixes.{StoppedReplays, StoppedParts, CutServices, CutTurns, CutHosts, CutCalls};
 
 /// Consumers that had taken nothing, and are left where a replay or a run stops, have taken the first blocks of the
@@ -28,7 +28,8 @@ pub fn undisturbed_sessions_are_whole()
 {}
 
 /// What a session or a meeting does to the journal and the log of a node is that the first of the peer's vertices reach
-/// it: so its life is one of those that start again without a second unit of one number.
+/// it: so its life is one of those that start again without a second unit of one number. So it is of a vertex that a
+/// host hands over.
 pub fn sessions_are_lives()
     ensures served { ServedIsALife }
     ensures driven { DrivenIsALife }
@@ -36,13 +37,15 @@ pub fn sessions_are_lives()
     ensures serves { ServesIsALife }
     ensures drives { DrivesIsALife }
     ensures meets { MeetsIsALife }
+    ensures accepts { AcceptsIsALife }
 {}
 
-/// A session or a meeting keeps the log of the node's journal.
+/// A session or a meeting keeps the log of the node's journal, and so does an `accept`.
 pub fn sessions_keep_the_log()
     ensures serves { ServesKeepsLog }
     ensures drives { DrivesKeepsLog }
     ensures meets { MeetsKeepsLog }
+    ensures accepts { AcceptsKeepsLog }
 {}
 
 /// What goes out of a node in a session is of its log: a vertex that stands there, or evidence of two units that do.
@@ -57,8 +60,8 @@ pub fn sessions_say_what_is_logged()
 {}
 
 /// A node that begins with its own units on one line and the log of its journal keeps both through any calls of
-/// `make`, sessions and meetings with fair peers, and starts; and no two different units by it of one number ever stood
-/// in its log or went out.
+/// `make`, `accept` of fair vertices, sessions and meetings with fair peers, and starts; and no two different units by
+/// it of one number ever stood in its log or went out.
 ///
 /// Where an append fails or there is no memory, and at the end of any other call, the node may be given up, and is
 /// started again from its log, mended where that is torn. What it said until then has no unit of its own that couldn't
@@ -76,6 +79,7 @@ pub fn cut_calls_leave_a_log()
     ensures serves { ServesLeavesLog }
     ensures drives { DrivesLeavesLog }
     ensures meets { MeetsLeavesLog }
+    ensures accepts { AcceptsLeavesLog }
     ensures makes { MakeLeavesLog }
 {}
 
@@ -87,8 +91,8 @@ pub fn a_cut_log_is_mended()
 /// What these laws speak of is there, so none of them holds for want of a case.
 ///
 /// A new node with its log is a beginning, and one is written out. From each beginning there is a life of whatever
-/// calls, in any order: units that are made, sessions and meetings with peers that send nothing, starts, and nodes that
-/// are given up. Each node has a whole session that nothing disturbs, dialled or, where no unit waits, dialling. It says
+/// calls, in any order: units that are made, whatever vertices that are handed over and hold no unit by the validator,
+/// sessions and meetings with peers that send nothing, starts, and nodes that are given up. Each node has a whole session that nothing disturbs, dialled or, where no unit waits, dialling. It says
 /// the vertices of its journal to a peer that asks for them, and takes a vertex that a peer sends. Wherever the append
 /// of a unit fails, the node may be given up, and starts again from its log, mended.
 pub fn lives_are_there()

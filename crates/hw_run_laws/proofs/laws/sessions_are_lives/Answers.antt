@@ -1,5 +1,6 @@
 use Rattle.hw_run_laws.proofs.LifeLaws.{served_life, serves_life}
 use Rattle.hw_run_laws.proofs.DriverLaws.{driven_life, drives_life}
+use Rattle.hw_run_laws.proofs.HandedLaws.{accepts_life}
 use Rattle.hw_run_laws.proofs.MetLaws.{met_life}
 use Rattle.hw_run_laws.proofs.MeetLaws.{meets_life}
 use Rattle.hw_run_laws.proofs.laws.sessions_are_lives.Goals as goal
@@ -21,3 +22,6 @@ returns-clause-met c = met_life
 
 pub returns-clause-meets : goal.returns-clause-meets
 returns-clause-meets c = meets_life
+
+pub returns-clause-accepts : goal.returns-clause-accepts
+returns-clause-accepts c = accepts_life

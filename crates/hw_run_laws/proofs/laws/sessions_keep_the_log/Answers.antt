@@ -1,4 +1,5 @@
 use Rattle.hw_run_laws.proofs.KeepLaws.{serves_keep, drives_keep}
+use Rattle.hw_run_laws.proofs.HandedLaws.{accepts_keep}
 use Rattle.hw_run_laws.proofs.MeetLaws.{meets_keep}
 use Rattle.hw_run_laws.proofs.laws.sessions_keep_the_log.Goals as goal
 
@@ -10,3 +11,6 @@ returns-clause-drives c = drives_keep
 
 pub returns-clause-meets : goal.returns-clause-meets
 returns-clause-meets c = meets_keep
+
+pub returns-clause-accepts : goal.returns-clause-accepts
+returns-clause-accepts c = accepts_keep
