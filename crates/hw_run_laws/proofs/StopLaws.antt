@@ -17,6 +17,7 @@ use Rattle.hw_link.specs.declared.end.SessionEnd.TheVariants as end
 use Rattle.hw_session.specs.Node.{NodeState}
 use Rattle.hw_session.specs.Restart.{HasLog}
 use Rattle.hw_session.specs.Start.{Starts, StartsLog}
+use Rattle.hw_session.specs.Standing.{Standing}
 use Rattle.hw_service.specs.declared.fault.ServiceFault.TheVariants as fault
 use Rattle.hw_service.specs.Scene.{DoorSeen, Scene, scene, none_told}
 use Rattle.hw_service.specs.Begin.{Reads, HasBegun}
@@ -26,7 +27,7 @@ use Rattle.hw_service.specs.Turns.{TakesTurn}
 use Rattle.hw_service.specs.Runs.{hosts_session, calls_peer}
 use Rattle.hw_service.specs.Steps.{AreTaken, TakesAll, TakesUntil}
 use Rattle.hw_service.specs.Told.{HoldsSession}
-use Rattle.hw_run_laws.specs.Calls.{IsSound, Standing}
+use Rattle.hw_run_laws.specs.Calls.{IsSound}
 use Rattle.hw_run_laws.specs.CutMembers.{plain_sight, all_took, all_finished, none_dropped, ReplaysAreFed, ReplaysStop, named_as, door_asked, outside_at, IsCutAtReport, RunsAreCut}
 use Rattle.hw_run_laws.proofs.QuietLaws.{quiet_serves}
 use Rattle.hw_run_laws.proofs.StartLaws.{renewed, renews}

@@ -18,11 +18,12 @@ use Rattle.hw_session.specs.declared.fault.MakeFault.{MakeFault}
 use Rattle.hw_session.specs.declared.fault.MakeFault.TheVariants as make
 use Rattle.hw_session.specs.Make.{planned_by, Makes, WritesOwn}
 use Rattle.hw_session.specs.Drives.{DrivesPeer, DrivesNone}
+use Rattle.hw_session.specs.Standing.{driver_standing}
 use Rattle.hw_service.specs.declared.fault.ServiceFault.{ServiceFault}
 use Rattle.hw_service.specs.declared.fault.ServiceFault.TheVariants as fault
 use Rattle.hw_service.specs.declared.ended.Served.{Served}
 use Rattle.hw_service.specs.declared.peer.Peer.{Peer}
-use Rattle.hw_service.specs.Scene.{Outside, Scene, moment_of}
+use Rattle.hw_service.specs.Scene.{told_by, Outside, Scene, moment_of}
 use Rattle.hw_service.specs.Begin.{Names}
 use Rattle.hw_service.specs.Steps.{Takes}
 use Rattle.hw_service.specs.Told.{TellsEnd}
@@ -73,8 +74,8 @@ MakesUnit sight tells me moment old new result = MakesWith sight tells me moment
 -- the node dialled the peer of this address, or had no memory to dial; the peer has the marks that this left
 abbrev pub DrivesOne : {B : Type 0} → Bool → Scene B → Scene B → Peer → Peer → SessionEnd → Type 0
 DrivesOne tells old new before after e =
-    DrivesPeer old.node before.mark (string_bytes before.address) new.node after.mark tells old.around.files new.around.files old.around.door.sessions new.around.door.sessions old.around.door.ends new.around.door.ends e
-    ⊎ DrivesNone old.node before.mark new.node after.mark tells old.around.files new.around.files old.around.door.sessions new.around.door.sessions e
+    DrivesPeer tells (string_bytes before.address) (driver_standing old.node before.mark old.around.files) (driver_standing new.node after.mark new.around.files) (told_by old.around.door) (told_by new.around.door) e
+    ⊎ DrivesNone tells (driver_standing old.node before.mark old.around.files) (driver_standing new.node after.mark new.around.files) old.around.door.sessions new.around.door.sessions e
 
 -- a session with a peer, which has this number, and what was told of it
 pub record DrivesAt {B K : Type 0} (sight : Sight B K) (tells : Bool) (number : ℕ) (old new : Scene B) (before after : Peer) (result : Result Bool ServiceFault) : Type 0 where
