@@ -6,6 +6,7 @@ use Rattle.hw_types.specs.declared.answers.Plan.{Plan}
 use Rattle.hw_io.specs.Doors.{Session}
 use Rattle.hw_link.specs.declared.end.SessionEnd.{SessionEnd}
 use Rattle.hw_link.specs.declared.end.SessionEnd.TheVariants as end
+use Rattle.hw_link.specs.Told.{door_told}
 use Rattle.hw_session.specs.declared.stage.PeerMark.{PeerMark}
 use Rattle.hw_session.specs.declared.fault.MakeFault.{MakeFault}
 use Rattle.hw_session.specs.declared.fault.MakeFault.TheVariants as make
@@ -14,7 +15,7 @@ use Rattle.hw_session.specs.Grows.{Logs}
 use Rattle.hw_session.specs.Make.{own_vertex, with_entry, with_vertex, Makes}
 use Rattle.hw_session.specs.Driving.{driven}
 use Rattle.hw_session.specs.Drives.{StandsDriven, StandsDrivenCut, LeavesDriven, DrivesPeer, DrivesNone}
-use Rattle.hw_session.specs.Standing.{driver_standing, door_told}
+use Rattle.hw_session.specs.Standing.{driver_standing}
 use Rattle.hw_session.proofs.ConfigLaws.{driven_config}
 use Rattle.hw_service.specs.Talk.{HasGrown}
 use Rattle.hw_service.proofs.GrowLaws.{behind_logs, behind_cut, grown_same}

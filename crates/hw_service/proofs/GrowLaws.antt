@@ -25,6 +25,7 @@ use Rattle.hw_link.specs.declared.end.SessionEnd.{SessionEnd}
 use Rattle.hw_link.specs.declared.end.SessionEnd.TheVariants as end
 use Rattle.hw_link.specs.Frames.{Placed, frames_of}
 use Rattle.hw_link.specs.Talk.{goes_on, ends}
+use Rattle.hw_link.specs.Told.{door_told}
 use Rattle.hw_session.specs.Node.{NodeState}
 use Rattle.hw_service.specs.Talk.{HasGrown}
 use Rattle.hw_session.specs.Grows.{Logs, LogsAllBut}
@@ -32,7 +33,7 @@ use Rattle.hw_session.specs.Accept.{given_to, taken_by}
 use Rattle.hw_session.specs.Serving.{is_clash, answer_to_vertex, serve_first, serve_frame, serve_step, served}
 use Rattle.hw_session.proofs.ConfigLaws.{talk_keeps, taken_config}
 use Rattle.hw_session.specs.Sessions.{StandsBefore, StandsCut, Leaves, ServesPeer, ServesNone}
-use Rattle.hw_session.specs.Standing.{standing, door_told}
+use Rattle.hw_session.specs.Standing.{standing}
 
 -- ---- a node that grew
 

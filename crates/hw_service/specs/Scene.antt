@@ -12,7 +12,7 @@ use Rattle.hw_replay.specs.Chain.{told_chain}
 use Rattle.hw_replay.specs.Fates.{Sight, seen}
 use Rattle.hw_replay.specs.Feed.{Moment, moment}
 use Rattle.hw_session.specs.Node.{NodeState}
-use Rattle.hw_session.specs.Standing.{DoorTold}
+use Rattle.hw_link.specs.Told.{DoorTold}
 
 -- what a door tells: its sessions, how often it was asked to accept and to dial a peer, and how often a peer's bytes ended
 pub record DoorSeen : Type 0 where

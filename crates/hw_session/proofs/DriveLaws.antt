@@ -21,6 +21,7 @@ use Rattle.hw_link.specs.Heard.{Hears, IsHeard}
 use Rattle.hw_link.specs.declared.read.Heard.{Heard}
 use Rattle.hw_link.specs.Links.{after_part}
 use Rattle.hw_link.specs.Sent.{Sends}
+use Rattle.hw_link.specs.Told.{door_told}
 use Rattle.hw_session.specs.declared.stage.PeerMark.{PeerMark}
 use Rattle.hw_session.specs.declared.stage.Stage.{Stage}
 use Rattle.hw_session.specs.declared.stage.Stage.TheVariants as stage
@@ -33,7 +34,7 @@ use Rattle.hw_session.specs.DriveHandling.{node_part, IsDue, ReactsAs, AnswersAs
 use Rattle.hw_session.specs.declared.fault.AcceptFault.TheVariants as fault
 use Rattle.hw_session.specs.Accept.{given_to, taken_by, Accepts}
 use Rattle.hw_session.specs.Grows.{Logs}
-use Rattle.hw_session.specs.Standing.{standing, driver_standing, door_told}
+use Rattle.hw_session.specs.Standing.{standing, driver_standing}
 use Rattle.hw_session.proofs.ReactLaws.{one_sent, none_sent, accepted_logs, refused_logs, append_failed, memory_wanted, stays_reacts}
 use Rattle.hw_session.proofs.NextLaws.{reacts_alike}
 

@@ -28,6 +28,7 @@ use Rattle.hw_link.specs.Sent.{Sends}
 use Rattle.hw_link.specs.UnderWay.{HasFrame, EndsIn, IsRefused, HasHeard, talk_from, behind_said, placed_behind}
 use Rattle.hw_link.specs.Asked.{IsAskedInside, IsAskedBehind}
 use Rattle.hw_link.specs.Heard.{Hears, Says, IsHeard, IsEndCounted}
+use Rattle.hw_link.specs.Told.{door_told}
 use Rattle.hw_link.proofs.AskLaws.{next_asked}
 use Rattle.hw_link.proofs.HeardLaws.{reads_frame_by_frame}
 use Rattle.hw_session.specs.declared.stage.PeerMark.{PeerMark}
@@ -43,7 +44,7 @@ use Rattle.hw_session.specs.Handling.{Took, Stayed, WasCut, Reacts, Quits}
 use Rattle.hw_session.specs.Sessions.{EndsAs, IsCutEnd, IsReadNoFurther, IsAnswered, IsSaidSoFar}
 use Rattle.hw_session.specs.DriveHandling.{node_part, IsDue, HandlesAs}
 use Rattle.hw_session.specs.Drives.{IsDrivenEnd, StandsDrivenCut, LeavesDriven, LeavesMark, Drives, DrivesThere, DrivesPeer, DrivesNone}
-use Rattle.hw_session.specs.Standing.{standing, driver_standing, door_told}
+use Rattle.hw_session.specs.Standing.{standing, driver_standing}
 use Rattle.hw_session.proofs.ReactLaws.{one_sent}
 use Rattle.hw_link.proofs.LinkLaws.{after_nothing}
 use Rattle.hw_session.proofs.GrowsLaws.{logs_nothing, logs_then, logs_but}

@@ -18,10 +18,11 @@ use Rattle.hw_link.specs.Talk.{Reaction, goes_on, ends}
 use Rattle.hw_link.specs.Links.{after_part}
 use Rattle.hw_link.specs.Heard.{Hears, IsHeard}
 use Rattle.hw_link.specs.Sent.{Sends}
+use Rattle.hw_link.specs.Told.{door_told}
 use Rattle.hw_session.specs.Node.{NodeState}
 use Rattle.hw_session.specs.Serving.{answer_to_have, answer_to_want, serve_first, serve_frame, serve_step}
 use Rattle.hw_session.specs.Handling.{Reacts, Answers, IsOfOther, hello_of, Handles}
-use Rattle.hw_session.specs.Standing.{standing, door_told}
+use Rattle.hw_session.specs.Standing.{standing}
 use Rattle.hw_session.proofs.ReactLaws.{one_sent, none_sent, sends_answers, sends_ends, stays_reacts}
 
 -- ---- a frame that was read, and then answered

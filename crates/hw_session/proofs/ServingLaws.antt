@@ -30,6 +30,7 @@ use Rattle.hw_link.specs.Links.{gone_on, after_part, is_link_fault, end_of_fault
 use Rattle.hw_link.specs.UnderWay.{HasFrame, EndsIn, IsRefused, HasHeard, talk_from, behind_said, placed_behind}
 use Rattle.hw_link.specs.Asked.{IsAskedInside, IsAskedBehind}
 use Rattle.hw_link.specs.Heard.{Hears, Says, IsHeard, IsEndCounted}
+use Rattle.hw_link.specs.Told.{door_told}
 use Rattle.hw_link.proofs.AskLaws.{next_asked}
 use Rattle.hw_link.proofs.HeardLaws.{reads_frame_by_frame}
 use Rattle.hw_link.proofs.LinkLaws.{after_nothing, after_parts}
@@ -40,7 +41,7 @@ use Rattle.hw_session.specs.Accept.{given_to, taken_by}
 use Rattle.hw_session.specs.Serving.{is_clash, answer_to_vertex, serve_first, serve_frame, serve_step, served, served_said}
 use Rattle.hw_session.specs.Handling.{Took, Stayed, WasCut, Reacts, Quits, Handles, IsLogCounted}
 use Rattle.hw_session.specs.Sessions.{EndsAs, IsEndOf, IsCutEnd, IsReadNoFurther, IsAnswered, IsSaidSoFar, StandsCut, Leaves, Serves, ServesThere, ServesPeer, ServesNone}
-use Rattle.hw_session.specs.Standing.{standing, door_told}
+use Rattle.hw_session.specs.Standing.{standing}
 use Rattle.hw_session.proofs.GrowsLaws.{logs_nothing, logs_then, logs_but}
 use Rattle.hw_session.proofs.FurtherLaws.{NoneBehind, frame_alone, none_there, part_cut, none_further, no_further, stops_so}
 

@@ -8,6 +8,7 @@ use Rattle.hw_link.specs.Frames.{byte_limit}
 use Rattle.hw_link.specs.Talk.{Reaction}
 use Rattle.hw_link.specs.Links.{after_part}
 use Rattle.hw_link.specs.UnderWay.{HasFrame}
+use Rattle.hw_link.specs.Told.{DoorTold}
 use Rattle.hw_session.specs.declared.stage.PeerMark.{PeerMark}
 use Rattle.hw_session.specs.declared.stage.Onward.{Onward}
 use Rattle.hw_session.specs.declared.stage.Stage.{Stage}
@@ -15,7 +16,7 @@ use Rattle.hw_session.specs.declared.stage.Stage.TheVariants as stage
 use Rattle.hw_session.specs.Node.{NodeState}
 use Rattle.hw_session.specs.Driving.{Driver, drive_step}
 use Rattle.hw_session.specs.Handling.{Reacts, Answers}
-use Rattle.hw_session.specs.Standing.{Standing, standing, DriverStanding, DoorTold}
+use Rattle.hw_session.specs.Standing.{Standing, standing, DriverStanding}
 
 -- what a reaction leaves of the node alone
 abbrev pub node_part : Reaction Driver → Reaction NodeState

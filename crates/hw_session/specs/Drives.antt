@@ -13,13 +13,14 @@ use Rattle.hw_link.specs.Frames.{byte_limit}
 use Rattle.hw_link.specs.Talk.{said_bytes, IsWritten}
 use Rattle.hw_link.specs.Links.{after_part, is_link_fault}
 use Rattle.hw_link.specs.UnderWay.{HasFrame}
+use Rattle.hw_link.specs.Told.{DoorTold}
 use Rattle.hw_session.specs.declared.stage.PeerMark.{PeerMark}
 use Rattle.hw_session.specs.Node.{NodeState}
 use Rattle.hw_session.specs.Make.{with_entry}
 use Rattle.hw_session.specs.Grows.{Logs, LogsAllBut}
 use Rattle.hw_session.specs.Sessions.{EndsAs, StopsReading, IsAnswered, IsSaidSoFar}
 use Rattle.hw_session.specs.Driving.{driven}
-use Rattle.hw_session.specs.Standing.{DriverStanding, DoorTold}
+use Rattle.hw_session.specs.Standing.{DriverStanding}
 
 -- ---- how it ended
 

@@ -21,6 +21,7 @@ use Rattle.hw_link.specs.Talk.{Reaction, IsPrefixOf}
 use Rattle.hw_link.specs.Links.{after_part, IsLinkCounted}
 use Rattle.hw_link.specs.UnderWay.{HasFrame}
 use Rattle.hw_link.specs.Heard.{Hears, IsHeard}
+use Rattle.hw_link.specs.Told.{DoorTold}
 use Rattle.hw_session.specs.declared.fault.AcceptFault.{AcceptFault}
 use Rattle.hw_session.specs.declared.fault.AcceptFault.TheVariants as fault
 use Rattle.hw_session.specs.Node.{NodeState}
@@ -28,7 +29,7 @@ use Rattle.hw_session.specs.Make.{with_entry}
 use Rattle.hw_session.specs.Accept.{Accepts, WritesAccepted}
 use Rattle.hw_session.specs.Grows.{Logs, LogsAllBut}
 use Rattle.hw_session.specs.Serving.{is_clash, serve_step}
-use Rattle.hw_session.specs.Standing.{Standing, DoorTold}
+use Rattle.hw_session.specs.Standing.{Standing}
 
 -- ---- what it did by a reaction
 

@@ -14,11 +14,12 @@ use Rattle.hw_link.specs.Frames.{byte_limit}
 use Rattle.hw_link.specs.Talk.{said_bytes, before_last, IsPrefixOf, IsWritten}
 use Rattle.hw_link.specs.Links.{after_part, is_link_fault}
 use Rattle.hw_link.specs.UnderWay.{HasFrame}
+use Rattle.hw_link.specs.Told.{DoorTold}
 use Rattle.hw_session.specs.Node.{NodeState}
 use Rattle.hw_session.specs.Make.{with_entry}
 use Rattle.hw_session.specs.Grows.{Logs, LogsAllBut}
 use Rattle.hw_session.specs.Serving.{served}
-use Rattle.hw_session.specs.Standing.{Standing, DoorTold}
+use Rattle.hw_session.specs.Standing.{Standing}
 
 -- ---- how it ended
 

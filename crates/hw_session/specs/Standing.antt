@@ -1,7 +1,6 @@
 -- What a session finds, and what it leaves.
 -- Source: ours.
 use Rattle.std.specs.Prelude.{ℕ, List, Option}
-use Rattle.hw_io.specs.Doors.{Session}
 use Rattle.hw_session.specs.declared.stage.PeerMark.{PeerMark}
 use Rattle.hw_session.specs.Node.{NodeState}
 
@@ -23,12 +22,3 @@ pub record DriverStanding : Type 0 where
 -- these together
 abbrev pub driver_standing : NodeState → PeerMark → (List ℕ → Option (List ℕ)) → DriverStanding
 driver_standing node mark held = record { node = node; mark = mark; held = held }
-
--- the sessions that a door tells, if it tells them, and how often a peer's bytes ended
-pub record DoorTold : Type 0 where
-  pub sessions : Option (List Session)
-  pub ends : ℕ
-
--- these together
-abbrev pub door_told : Option (List Session) → ℕ → DoorTold
-door_told sessions ends = record { sessions = sessions; ends = ends }

@@ -8,6 +8,7 @@ ghost use Rattle.hw_link.specs.Asked.{IsAskedInside, IsAskedBehind, IsPrompt};
 ghost use Rattle.hw_link.specs.Frames.{byte_limit, frame_here, framed, sent_bytes};
 ghost use Rattle.hw_link.specs.Links.{after_part, IsLinkCounted};
 ghost use Rattle.hw_link.specs.Sent.{Sends};
+ghost use Rattle.hw_link.specs.Told.{door_told};
 ghost use Rattle.hw_session.specs.declared.stage.Stage.TheVariants as stage;
 ghost use Rattle.hw_session.specs.Node.{NodeState};
 ghost use Rattle.hw_session.specs.Driving.{Driver, driven_said, hello, greeting, leave, want, pull, push, to_push, drive_step, drive_at, drive_greeting, drive_pushing, drive_told, drive_pulling, drive_wanting, drive_vertex};
@@ -15,7 +16,7 @@ ghost use Rattle.hw_session.specs.Outside.{door_calls, reading};
 ghost use Rattle.hw_session.specs.Handling.{Quits, IsLogCounted, IsLogEnd, IsLinkEnd};
 ghost use Rattle.hw_session.specs.DriveHandling.{IsDue, ReactsAs, AnswersAs, HandlesAs};
 ghost use Rattle.hw_session.specs.Drives.{DrivesThere, DrivesPeer, DrivesNone};
-ghost use Rattle.hw_session.specs.Standing.{standing, driver_standing, door_told};
+ghost use Rattle.hw_session.specs.Standing.{standing, driver_standing};
 ghost use Rattle.hw_core.specs.Readers.{unmet_in};
 
 use crate::answer::send_vertex;

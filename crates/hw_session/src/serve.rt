@@ -5,11 +5,12 @@ ghost use Rattle.hw_types.specs.{Spelling.{FrameFits, VertexFits}, declared.unit
 ghost use Rattle.hw_types.specs.declared.answers.Frame.TheVariants as frame;
 ghost use Rattle.hw_io.specs.{Doors.{AsksMore}, Faults.{raised}};
 ghost use Rattle.hw_link.specs.{Asked.{IsAskedInside, IsAskedBehind, IsPrompt}, Frames.{frame_here, framed}, Links.{IsLinkCounted}, Sent.{Sends}};
+ghost use Rattle.hw_link.specs.Told.{door_told};
 ghost use Rattle.hw_session.specs.Outside.{door_calls, reading};
 ghost use Rattle.hw_session.specs.Serving.{served_said, serve_first, serve_frame, serve_vertex, serve_step, wanted_by};
 ghost use Rattle.hw_session.specs.Handling.{Reacts, Answers, hello_of, StandsLast, Quits, Handles, IsLogCounted, IsLogEnd, IsLinkEnd};
 ghost use Rattle.hw_session.specs.Sessions.{ServesThere, ServesPeer, ServesNone};
-ghost use Rattle.hw_session.specs.Standing.{standing, door_told};
+ghost use Rattle.hw_session.specs.Standing.{standing};
 
 use crate::answer::{answer_have, answer_want, wanted};
 use crate::node::Node;

@@ -2,10 +2,11 @@ use Rattle.std.proofs.Common.{ℕ, List, sym, subst, ap}
 use Rattle.hw_io.specs.Doors.{Ask, AsksMore}
 use Rattle.hw_io.proofs.Asks.{asks_none, asks_still}
 use Rattle.hw_link.specs.Asked.{IsAskedBehind}
+use Rattle.hw_link.specs.Told.{door_told}
 use Rattle.hw_session.specs.Driving.{driven_said}
 use Rattle.hw_session.specs.Outside.{DoorCalls}
 use Rattle.hw_session.specs.Drives.{DrivesThere}
-use Rattle.hw_session.specs.Standing.{driver_standing, door_told}
+use Rattle.hw_session.specs.Standing.{driver_standing}
 use Rattle.hw_session.proofs.DrivingLaws.{hello_cut, hello_out}
 use Rattle.hw_session.proofs.node.Node.drive.Goals as goal
 

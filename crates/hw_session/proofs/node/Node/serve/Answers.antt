@@ -2,9 +2,10 @@ use Rattle.std.proofs.Common.{ℕ, refl, subst, arith, ◌∙◌}
 use Rattle.hw_link.specs.declared.end.SessionEnd.TheVariants as end
 use Rattle.hw_io.proofs.Asks.{asks_none}
 use Rattle.hw_link.specs.Asked.{IsAskedBehind}
+use Rattle.hw_link.specs.Told.{door_told}
 use Rattle.hw_session.specs.Serving.{served_said}
 use Rattle.hw_session.specs.Sessions.{ServesThere}
-use Rattle.hw_session.specs.Standing.{standing, door_told}
+use Rattle.hw_session.specs.Standing.{standing}
 use Rattle.hw_session.proofs.ServingLaws.{serving_begins, next_leads, next_asks, next_counts, next_serves, limit_serves}
 use Rattle.hw_session.proofs.node.Node.serve.Goals as goal
 
