@@ -22,7 +22,7 @@ use Rattle.hw_service.specs.declared.fault.ServiceFault.{ServiceFault}
 use Rattle.hw_service.specs.declared.fault.ServiceFault.TheVariants as fault
 use Rattle.hw_service.specs.declared.ended.Served.{Served}
 use Rattle.hw_service.specs.declared.peer.Peer.{Peer}
-use Rattle.hw_service.specs.Scene.{told_by, Outside, Scene}
+use Rattle.hw_service.specs.Scene.{sessions_told, Outside, Scene}
 use Rattle.hw_service.specs.Begin.{Names, HasBegun, BeginsNot}
 use Rattle.hw_service.specs.Talk.{talker_in}
 use Rattle.hw_service.specs.Steps.{Taken, AreTaken, TakesAll, TakesUntil, Takes}
@@ -126,7 +126,7 @@ module _ {B K : Type 0} (sight : Sight B K) (tells : Bool) (t : IsTrue tells) (n
   takes_only step keeps number count first last (Err e) u h = until_only step keeps number count first last e u h
 
   served_only : (old new : Scene B) (e : SessionEnd)
-      → ServesPeer tells (standing old.node old.around.files) (standing new.node new.around.files) (told_by old.around.door) (told_by new.around.door) e
+      → ServesPeer tells (standing old.node old.around.files) (standing new.node new.around.files) (sessions_told old.around.door) (sessions_told new.around.door) e
       ⊎ ServesNone tells (standing old.node old.around.files) (standing new.node new.around.files) old.around.door.sessions new.around.door.sessions e
       → IsOnly old → IsOnly new
   served_only old new e (inl s) h = only_then old new (leaves_alone e old.node s.read s.written new.node tells old.around.files new.around.files t s.serves.left) h

@@ -26,8 +26,8 @@ abbrev pub door_seen : Option (List Session) → ℕ → ℕ → ℕ → DoorSee
 door_seen sessions accepts dials ends = record { sessions = sessions; accepts = accepts; dials = dials; ends = ends }
 
 -- what it tells of its sessions
-abbrev pub told_by : DoorSeen → DoorTold
-told_by door = record { sessions = door.sessions; ends = door.ends }
+abbrev pub sessions_told : DoorSeen → DoorTold
+sessions_told door = record { sessions = door.sessions; ends = door.ends }
 
 -- of a door that tells this
 abbrev pub door_of : {D : Type 0} → Door D → D → DoorSeen

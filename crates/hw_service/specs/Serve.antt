@@ -7,7 +7,7 @@ use Rattle.hw_session.specs.Sessions.{ServesPeer, ServesNone}
 use Rattle.hw_session.specs.Standing.{standing}
 use Rattle.hw_service.specs.declared.fault.ServiceFault.{ServiceFault}
 use Rattle.hw_service.specs.declared.ended.Served.{Served}
-use Rattle.hw_service.specs.Scene.{told_by, Outside}
+use Rattle.hw_service.specs.Scene.{sessions_told, Outside}
 use Rattle.hw_service.specs.Begin.{Names}
 use Rattle.hw_service.specs.Talk.{Talker, AcceptsOne}
 use Rattle.hw_service.specs.Run.{StepOver}
@@ -16,7 +16,7 @@ use Rattle.hw_service.specs.Held.{holds_session, Holds}
 -- the node served a peer that came, or had no memory to take one
 pub record ServesOne (tells : Bool) (old new : Talker) (e : SessionEnd) : Type 0 where
   pub served :
-      ServesPeer tells (standing old.node old.files) (standing new.node new.files) (told_by old.door) (told_by new.door) e
+      ServesPeer tells (standing old.node old.files) (standing new.node new.files) (sessions_told old.door) (sessions_told new.door) e
       ⊎ ServesNone tells (standing old.node old.files) (standing new.node new.files) old.door.sessions new.door.sessions e
   pub came : AcceptsOne old.door new.door
 

@@ -23,7 +23,7 @@ use Rattle.hw_service.specs.declared.fault.ServiceFault.{ServiceFault}
 use Rattle.hw_service.specs.declared.fault.ServiceFault.TheVariants as fault
 use Rattle.hw_service.specs.declared.ended.Served.{Served}
 use Rattle.hw_service.specs.declared.peer.Peer.{Peer}
-use Rattle.hw_service.specs.Scene.{told_by, Outside, Scene, moment_of}
+use Rattle.hw_service.specs.Scene.{sessions_told, Outside, Scene, moment_of}
 use Rattle.hw_service.specs.Begin.{Names}
 use Rattle.hw_service.specs.Steps.{Takes}
 use Rattle.hw_service.specs.Told.{TellsEnd}
@@ -74,7 +74,7 @@ MakesUnit sight tells me moment old new result = MakesWith sight tells me moment
 -- the node dialled the peer of this address, or had no memory to dial; the peer has the marks that this left
 abbrev pub DrivesOne : {B : Type 0} → Bool → Scene B → Scene B → Peer → Peer → SessionEnd → Type 0
 DrivesOne tells old new before after e =
-    DrivesPeer tells (string_bytes before.address) (driver_standing old.node before.mark old.around.files) (driver_standing new.node after.mark new.around.files) (told_by old.around.door) (told_by new.around.door) e
+    DrivesPeer tells (string_bytes before.address) (driver_standing old.node before.mark old.around.files) (driver_standing new.node after.mark new.around.files) (sessions_told old.around.door) (sessions_told new.around.door) e
     ⊎ DrivesNone tells (driver_standing old.node before.mark old.around.files) (driver_standing new.node after.mark new.around.files) old.around.door.sessions new.around.door.sessions e
 
 -- a session with a peer, which has this number, and what was told of it
