@@ -26,7 +26,7 @@ use Rattle.hw_service.specs.Scene.{sessions_told, Outside, Scene}
 use Rattle.hw_service.specs.Begin.{Names, HasBegun, BeginsNot}
 use Rattle.hw_service.specs.Talk.{talker_in}
 use Rattle.hw_service.specs.Steps.{Taken, AreTaken, TakesAll, TakesUntil, Takes}
-use Rattle.hw_service.specs.Run.{StepOver, ReportsNot, Runs}
+use Rattle.hw_service.specs.Run.{StepOver, ReportsNot, Runs, course, runner}
 use Rattle.hw_service.specs.Serve.{serves_session}
 use Rattle.hw_meeting_node.specs.declared.end.MeetEnd.{MeetEnd}
 use Rattle.hw_meeting_node.specs.declared.end.MeetEnd.TheVariants as meet
@@ -206,7 +206,7 @@ left_by : {B : Type 0} (name : List ℕ) (before after : Outside B) (files : Hel
 left_by name before after files same is = subst (λ (f : Held). (other : List ℕ) → other ≢ name → f other ≡ before.files other) (sym same) is
 
 runs_left : {B K X : Type 0} (sight : Sight B K) (tells : Bool) (names : Names) (me : Option ℕ) (step : StepOver B X) (number count : ℕ) (before after : Outside B) (x y : X) (came_to : Result Served ServiceFault) (t : IsTrue tells)
-    → Keeps sight tells t names.log before.files step → Runs sight tells names me step number count before after x y came_to → IsLeft names.log before after
+    → Keeps sight tells t names.log before.files step → Runs (runner sight tells names me) (course step number count) (before, x) (after, y) came_to → IsLeft names.log before after
 runs_left sight tells names me step number count before after x y (Ok served) t keeps r =
     let last = r.completes.last in
     left_by names.log before after last.around.files r.completes.reports.closes.files

@@ -10,7 +10,7 @@ use Rattle.hw_service.specs.declared.ended.Served.{Served}
 use Rattle.hw_service.specs.Scene.{sessions_told, Outside}
 use Rattle.hw_service.specs.Begin.{Names}
 use Rattle.hw_service.specs.Talk.{Talker, AcceptsOne}
-use Rattle.hw_service.specs.Run.{StepOver}
+use Rattle.hw_service.specs.Run.{StepOver, runner}
 use Rattle.hw_service.specs.Held.{holds_session, Holds}
 
 -- the node served a peer that came, or had no memory to take one
@@ -26,4 +26,4 @@ serves_session sight tells = holds_session sight (ServesOne tells) (codes "sessi
 
 -- What a run comes to that serves so many sessions, which are numbered from 1.
 abbrev pub Serves : {B K : Type 0} → Sight B K → Bool → Names → ℕ → Outside B → Outside B → Result Served ServiceFault → Type 0
-Serves sight tells names count before after result = Holds sight tells names (ServesOne tells) (codes "session") 1 count before after result
+Serves sight tells names count before after result = Holds (runner sight tells names None) (ServesOne tells) (codes "session") 1 count before after result

@@ -28,7 +28,7 @@ use Rattle.hw_service.specs.Begin.{Names}
 use Rattle.hw_service.specs.Steps.{Takes}
 use Rattle.hw_service.specs.Told.{TellsEnd}
 use Rattle.hw_service.specs.Written.{Writes, IsOfOutput}
-use Rattle.hw_service.specs.Run.{Runs}
+use Rattle.hw_service.specs.Run.{Runs, course, runner}
 
 -- ---- its own unit
 
@@ -132,5 +132,5 @@ pub record TakesTurn {B K : Type 0} (sight : Sight B K) (tells : Bool) (me : ℕ
 -- ---- the run
 
 -- What a run comes to in which a validator takes so many turns.
-abbrev pub RunsTurns : {B K : Type 0} → Sight B K → Bool → Names → ℕ → ℕ → Outside B → Outside B → Turning → Turning → Result Served ServiceFault → Type 0
-RunsTurns sight tells names me count before after x y result = Runs sight tells names (Some me) (TakesTurn sight tells me) 1 count before after x y result
+abbrev pub RunsTurns : {B K : Type 0} → Sight B K → Bool → Names → ℕ → ℕ → Outside B × Turning → Outside B × Turning → Result Served ServiceFault → Type 0
+RunsTurns sight tells names me count before after result = Runs (runner sight tells names (Some me)) (course (TakesTurn sight tells me) 1 count) before after result
