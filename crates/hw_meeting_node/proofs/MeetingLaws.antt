@@ -19,6 +19,7 @@ use Rattle.hw_link.specs.Talk.{IsPrefixOf}
 use Rattle.hw_link.specs.Links.{gone_on, after_part, is_link_fault, end_of_fault, IsLinkCounted}
 use Rattle.hw_link.specs.Sent.{Sends}
 use Rattle.hw_link.specs.Asked.{IsAskedInside, IsAskedBehind}
+use Rattle.hw_link.specs.Told.{door_told}
 use Rattle.hw_link.proofs.AskLaws.{next_asked}
 use Rattle.hw_link.proofs.LinkLaws.{after_parts}
 use Rattle.hw_meeting.specs.declared.frame.MeetingFrame.{MeetingFrame}
@@ -32,7 +33,7 @@ use Rattle.hw_meeting_node.specs.Talk.{Reaction, Talk, HasHeard, placed_behind}
 use Rattle.hw_meeting_node.specs.Meeting.{Meeting, first_word, begun, meet_step, met, met_said}
 use Rattle.hw_meeting_node.specs.Sessions.{meet_end, IsOfOutside, EndsAs, IsFinal, IsEndOf, IsCutEnd, IsReadNoFurther, IsWritten, Leaves, Meets, is_link_end, MeetsPeer, MeetsNone, IsLinkEnd, IsTakerEnd}
 use Rattle.hw_meeting_node.specs.Handling.{Reacts, Quits, Handles, IsTakerCounted}
-use Rattle.hw_meeting_node.specs.Taking.{vertex_at, taken_in, TakeStep, TakesAll, Took, TakesThere, TakesPeer, TakesNone, TakesOf, GoesNext}
+use Rattle.hw_meeting_node.specs.Taking.{vertex_at, taken_in, TakeStep, TakesAll, Took, TakesThere, TakesPeer, TakesNone, TakesOf, GoesNext, with_taker, meeting_with}
 use Rattle.hw_meeting_node.proofs.TalkLaws.{begins, leads_on, frame_ends, no_frame_ends, heard_here, heard_first}
 use Rattle.hw_meeting_node.proofs.EndLaws.{IsOfFrame, step_ends, no_frame_so}
 use Rattle.hw_meeting_node.proofs.FurtherLaws.{NoneBehind, frame_alone, none_there, part_cut, cut_so_far, none_further, no_further, stops_so}
@@ -226,7 +227,7 @@ module _ {A : Type 0} (taking : TakeStep A) (side : Side) (c : CoreState) (judge
     here = heard_here n step first (begun c) s.read s.said m s.heard s.within
 
     -- as many bytes were read as may be
-    pub limit_meets : byte_limit ≤ place → (ends : ℕ) → TakesThere taking side c judge m.core t u old now ends ends end.ByteLimit
+    pub limit_meets : byte_limit ≤ place → (ends : ℕ) → TakesThere taking side judge (with_taker c t) (with_taker m.core u) (door_told old ends) (door_told now ends) end.ByteLimit
     limit_meets full ends =
         let at_limit : byte_limit ≤ length s.read + length {A = ℕ} [] = omega (arith, s.place_is) in
         let is : cut_end (rest_at (length s.read) []) ≡ by.ByteLimit = ap (λ (b : Bool). cond b by.ByteLimit (cond true by.EndOfInput (by.BadFrame (length s.read)))) (le-leb byte_limit (length s.read + length {A = ℕ} []) at_limit) in
@@ -241,7 +242,7 @@ module _ {A : Type 0} (taking : TakeStep A) (side : Side) (c : CoreState) (judge
         }
 
     -- what was read is the end of the session, by which no frame comes
-    quit : (e : SessionEnd) (ends_now ends_new : ℕ) (new : Option (List Session)) → Hears {T = HeardMeeting} n (IsHeard n) (length s.read) [] now new ends_now ends_new (Err e) → TakesThere taking side c judge m.core t u old new ends_now ends_new (meet_end e m.refused)
+    quit : (e : SessionEnd) (ends_now ends_new : ℕ) (new : Option (List Session)) → Hears {T = HeardMeeting} n (IsHeard n) (length s.read) [] now new ends_now ends_new (Err e) → TakesThere taking side judge (with_taker c t) (with_taker m.core u) (door_told old ends_now) (door_told new ends_new) (meet_end e m.refused)
     quit e ends_now ends_new new h = go e h.says h.ended (told_read s.read h.part (sent_bytes s.said) (is_link_end (meet_end e m.refused)) old now new s.told (h.heard ∙ ap (λ (b : Bool). after_part h.part [] b now) (link_of HeardMeeting e m.refused)))
       where
         few : length (s.read ++ h.part) ≤ byte_limit
@@ -254,7 +255,7 @@ module _ {A : Type 0} (taking : TakeStep A) (side : Side) (c : CoreState) (judge
         Told e = new ≡ after_part (s.read ++ h.part) (sent_bytes s.said) (is_link_end e) old
 
         plain : (how by_bytes : SessionEnd) → EndsIn n (length s.read) h.part by_bytes → EndsAs (meet_end how m.refused) (record { state = m; said = s.said; end = by_bytes }) → IsEndOf side c judge (s.read ++ h.part) ends_now ends_new (meet_end how m.refused)
-            → IsWritten (meet_end how m.refused) s.said (sent_bytes s.said) → (how ≡ by.OutOfMemory → ⊥) → Told (meet_end how m.refused) → Took taking (taken_in side c judge) (s.read ++ h.part) (meet_end how m.refused) t u → TakesThere taking side c judge m.core t u old new ends_now ends_new (meet_end how m.refused)
+            → IsWritten (meet_end how m.refused) s.said (sent_bytes s.said) → (how ≡ by.OutOfMemory → ⊥) → Told (meet_end how m.refused) → Took taking (taken_in side c judge) (s.read ++ h.part) (meet_end how m.refused) t u → TakesThere taking side judge (with_taker c t) (with_taker m.core u) (door_told old ends_now) (door_told new ends_new) (meet_end how m.refused)
         plain how by_bytes none agrees counted wrote some told took = record {
           meets = record {
             read = s.read ++ h.part;
@@ -276,7 +277,7 @@ module _ {A : Type 0} (taking : TakeStep A) (side : Side) (c : CoreState) (judge
             ∙ sym (over (by.BadFrame at) none)))
 
         go : (how : SessionEnd) → Says {T = HeardMeeting} n (IsHeard n) (length s.read) h.part (Err how) → IsEndCounted {T = HeardMeeting} n ends_now ends_new (length s.read) h.part (Err how) → Told (meet_end how m.refused)
-            → TakesThere taking side c judge m.core t u old new ends_now ends_new (meet_end how m.refused)
+            → TakesThere taking side judge (with_taker c t) (with_taker m.core u) (door_told old ends_now) (door_told new ends_new) (meet_end how m.refused)
         go by.LinkFault says ended told = plain by.LinkFault (cut_end (rest_at (length s.read) h.part)) says (inr tt) tt (all_of (sent_bytes s.said)) (λ e. cc) told (took_over (cut_end (rest_at (length s.read) h.part)) says)
         go by.EndOfInput says ended told = plain by.EndOfInput by.EndOfInput says (inl refl) ended refl (λ e. cc) told (took_over by.EndOfInput says)
         go (by.BadFrame at) says ended told = plain (by.BadFrame at) (by.BadFrame at) says (inl refl) (refused at ended says) refl (λ e. cc) told (took_over (by.BadFrame at) says)
@@ -304,11 +305,11 @@ module _ {A : Type 0} (taking : TakeStep A) (side : Side) (c : CoreState) (judge
         (λ part ends few. ap (λ (t : Talk Meeting). sent_bytes t.said) (no_frame_ends n step first (begun c) s.read s.said m s.heard part (cut_end (rest_at (length s.read) part)) ends few))
         place s.place_is started then more so_far next
 
-    quit_meets : {T : Type 0} (k : Meeting) (new : Option (List Session)) (ends_now ends_new : ℕ) (e : SessionEnd) → Quits {T = T} n place m k now new ends_now ends_new (Err e) → TakesThere taking side c judge k.core t u old new ends_now ends_new (meet_end e k.refused)
+    quit_meets : {T : Type 0} (k : Meeting) (new : Option (List Session)) (ends_now ends_new : ℕ) (e : SessionEnd) → Quits {T = T} n place m k (door_told now ends_now) (door_told new ends_new) (Err e) → TakesThere taking side judge (with_taker c t) (with_taker k.core u) (door_told old ends_now) (door_told new ends_new) (meet_end e k.refused)
     quit_meets k new ends_now ends_new e q =
         let how : e ≡ q.how = cc (q.is) in
-        subst (λ (x : Meeting). TakesThere taking side c judge x.core t u old new ends_now ends_new (meet_end e x.refused)) (sym q.stays)
-        (subst (λ (x : SessionEnd). TakesThere taking side c judge m.core t u old new ends_now ends_new (meet_end x m.refused)) (sym how)
+        subst (λ (x : Meeting). TakesThere taking side judge (with_taker c t) (with_taker x.core u) (door_told old ends_now) (door_told new ends_new) (meet_end e x.refused)) (sym q.stays)
+        (subst (λ (x : SessionEnd). TakesThere taking side judge (with_taker c t) (with_taker m.core u) (door_told old ends_now) (door_told new ends_new) (meet_end x m.refused)) (sym how)
         (quit q.how ends_now ends_new new
         (subst (λ (p : ℕ). Hears {T = HeardMeeting} n (IsHeard n) p [] now new ends_now ends_new (Err q.how)) s.place_is q.heard)))
 
@@ -363,11 +364,11 @@ module _ {A : Type 0} (taking : TakeStep A) (side : Side) (c : CoreState) (judge
       took e refused takes = takes_last taking side c judge t m s.read u s.took part f has fits w e refused takes
 
       -- it ended the session
-      ended : (k : Meeting) (e : SessionEnd) (ends : ℕ) → reaction.end ≡ Some e → k ≡ reaction.state → new ≡ after_part [] (sent_bytes reaction.says) false (after_part part [] false now) → Takes e → TakesThere taking side c judge k.core t w old new ends ends (meet_end e k.refused)
-      ended k e ends is stands sent takes = subst (λ (x : Meeting). TakesThere taking side c judge x.core t w old new ends ends (meet_end e x.refused)) (sym stands) (go e is (step_ends side judge m (placed_behind s.read f) e is) takes)
+      ended : (k : Meeting) (e : SessionEnd) (ends : ℕ) → reaction.end ≡ Some e → k ≡ reaction.state → new ≡ after_part [] (sent_bytes reaction.says) false (after_part part [] false now) → Takes e → TakesThere taking side judge (with_taker c t) (with_taker k.core w) (door_told old ends) (door_told new ends) (meet_end e k.refused)
+      ended k e ends is stands sent takes = subst (λ (x : Meeting). TakesThere taking side judge (with_taker c t) (with_taker x.core w) (door_told old ends) (door_told new ends) (meet_end e x.refused)) (sym stands) (go e is (step_ends side judge m (placed_behind s.read f) e is) takes)
         where
           at_end : (how : SessionEnd) → reaction.end ≡ Some how → IsEndOf side c judge bytes ends ends (meet_end how reaction.state.refused) → IsWritten (meet_end how reaction.state.refused) said (sent_bytes s.said ++ sent_bytes reaction.says)
-              → (how ≡ by.OutOfMemory → ⊥) → is_link_end (meet_end how reaction.state.refused) ≡ false → Takes how → TakesThere taking side c judge reaction.state.core t w old new ends ends (meet_end how reaction.state.refused)
+              → (how ≡ by.OutOfMemory → ⊥) → is_link_end (meet_end how reaction.state.refused) ≡ false → Takes how → TakesThere taking side judge (with_taker c t) (with_taker reaction.state.core w) (door_told old ends) (door_told new ends) (meet_end how reaction.state.refused)
           at_end how some counted wrote others linked of_taker = record {
             meets = record {
               read = bytes;
@@ -378,7 +379,7 @@ module _ {A : Type 0} (taking : TakeStep A) (side : Side) (c : CoreState) (judge
             took = took how reaction.state.refused of_taker;
           }
 
-          go : (how : SessionEnd) → reaction.end ≡ Some how → IsOfFrame how → Takes how → TakesThere taking side c judge reaction.state.core t w old new ends ends (meet_end how reaction.state.refused)
+          go : (how : SessionEnd) → reaction.end ≡ Some how → IsOfFrame how → Takes how → TakesThere taking side judge (with_taker c t) (with_taker reaction.state.core w) (door_told old ends) (door_told new ends) (meet_end how reaction.state.refused)
           go by.Done some of takes = at_end by.Done some (final by.Done some) all_said (λ e. cc) refl takes
           go by.WrongInstance some of takes = at_end by.WrongInstance some (final by.WrongInstance some) all_said (λ e. cc) refl takes
           go by.Clash some of takes = at_end by.Clash some (final by.Clash some) all_said (λ e. cc) refl takes
@@ -392,9 +393,9 @@ module _ {A : Type 0} (taking : TakeStep A) (side : Side) (c : CoreState) (judge
       -- the link failed in its answer, or an append
       cut_short : (k : Meeting) (how : SessionEnd) (sent : List ℕ) (failed : Bool) (ends : ℕ) → k.core ≡ reaction.state.core → IsOfOutside (meet_end how reaction.state.refused) → IsEndOf side c judge bytes ends ends (meet_end how reaction.state.refused)
           → IsWritten (meet_end how reaction.state.refused) said (sent_bytes s.said ++ sent) → (how ≡ by.OutOfMemory → ⊥) → failed ≡ is_link_end (meet_end how reaction.state.refused) → new ≡ after_part [] sent failed (after_part part [] false now)
-          → Takes how → TakesThere taking side c judge k.core t w old new ends ends (meet_end how reaction.state.refused)
+          → Takes how → TakesThere taking side judge (with_taker c t) (with_taker k.core w) (door_told old ends) (door_told new ends) (meet_end how reaction.state.refused)
       cut_short k how sent failed ends stands of counted wrote others linked is takes =
-          subst (λ (x : CoreState). TakesThere taking side c judge x t w old new ends ends (meet_end how reaction.state.refused)) (sym stands) (record {
+          subst (λ (x : CoreState). TakesThere taking side judge (with_taker c t) (with_taker x w) (door_told old ends) (door_told new ends) (meet_end how reaction.state.refused)) (sym stands) (record {
             meets = record {
               read = bytes;
               written = sent_bytes s.said ++ sent;
@@ -406,7 +407,7 @@ module _ {A : Type 0} (taking : TakeStep A) (side : Side) (c : CoreState) (judge
 
       -- there was no memory
       wanted : (k : Meeting) (sent : List ℕ) (ends : ℕ) → (k.core ≡ m.core) ⊎ (k.core ≡ reaction.state.core) → IsPrefixOf sent (sent_bytes reaction.says) → new ≡ after_part [] sent false (after_part part [] false now)
-          → Takes by.OutOfMemory → TakesThere taking side c judge k.core t w old new ends ends end.OutOfMemory
+          → Takes by.OutOfMemory → TakesThere taking side judge (with_taker c t) (with_taker k.core w) (door_told old ends) (door_told new ends) end.OutOfMemory
       wanted k sent ends (inl stays) prefix is takes = record {
         meets = record {
           read = bytes;
@@ -441,7 +442,7 @@ module _ {A : Type 0} (taking : TakeStep A) (side : Side) (c : CoreState) (judge
       }
 
       -- or it ends
-      reacted : (T : Type 0) (k : Meeting) (e : SessionEnd) (ends : ℕ) → Reacts {T = T} m.core reaction k (after_part part [] false now) new (Err e) → Takes e → TakesThere taking side c judge k.core t w old new ends ends (meet_end e k.refused)
+      reacted : (T : Type 0) (k : Meeting) (e : SessionEnd) (ends : ℕ) → Reacts {T = T} m.core reaction k (after_part part [] false now) new (Err e) → Takes e → TakesThere taking side judge (with_taker c t) (with_taker k.core w) (door_told old ends) (door_told new ends) (meet_end e k.refused)
       reacted T k by.LinkFault ends (stands, sent, prefix, is) takes = cut_short k by.LinkFault sent true ends stands tt tt (first_of_last s.said reaction.says sent prefix) (λ e. cc) refl is takes
       reacted T k by.AppendFault ends (stands, is) takes = cut_short k by.AppendFault (sent_bytes reaction.says) false ends stands tt tt all_said (λ e. cc) refl is takes
       reacted T k by.OutOfMemory ends (stands, sent, prefix, is) takes = wanted k sent ends stands prefix is takes
@@ -455,18 +456,18 @@ module _ {A : Type 0} (taking : TakeStep A) (side : Side) (c : CoreState) (judge
     -- ---- a frame, or none
 
     abbrev pub Next : Meeting → A → Option (List Session) → ℕ → ℕ → Result ℕ SessionEnd → Type 0
-    Next k w new ends_now ends_new result = GoesNext taking n place m (step m) k u w now new ends_now ends_new result
+    Next k w new ends_now ends_new result = GoesNext taking n place (step m) (meeting_with m u) (meeting_with k w) (door_told now ends_now) (door_told new ends_new) result
 
     -- the same by what the node has now
     pub next_same : (config : Config) (verdict : Vertex → Bool) → config ≡ c.config → verdict ≡ judge → (k : Meeting) (w : A) (new : Option (List Session)) (ends_now ends_new : ℕ) (result : Result ℕ SessionEnd)
-        → GoesNext taking (length config.weights) place m (meet_step side verdict m) k u w now new ends_now ends_new result → Next k w new ends_now ends_new result
+        → GoesNext taking (length config.weights) place (meet_step side verdict m) (meeting_with m u) (meeting_with k w) (door_told now ends_now) (door_told new ends_new) result → Next k w new ends_now ends_new result
     next_same config verdict same_config same_verdict k w new ends_now ends_new result is =
-        subst (λ (x : Config). GoesNext taking (length x.weights) place m (meet_step side judge m) k u w now new ends_now ends_new result) same_config
-        (subst (λ (x : Vertex → Bool). GoesNext taking (length config.weights) place m (meet_step side x m) k u w now new ends_now ends_new result) same_verdict is)
+        subst (λ (x : Config). GoesNext taking (length x.weights) place (meet_step side judge m) (meeting_with m u) (meeting_with k w) (door_told now ends_now) (door_told new ends_new) result) same_config
+        (subst (λ (x : Vertex → Bool). GoesNext taking (length config.weights) place (meet_step side x m) (meeting_with m u) (meeting_with k w) (door_told now ends_now) (door_told new ends_new) result) same_verdict is)
 
     -- what is handled at this place, and what the taker took
     abbrev Handled : ℕ → Meeting → A → Option (List Session) → ℕ → ℕ → Result ℕ SessionEnd → Type 0
-    Handled p k w new ends_now ends_new result = (h : Handles n p m (step m) k now new ends_now ends_new result) × TakesOf {R = ℕ} taking (vertex_at m.stage h.frame) u w result
+    Handled p k w new ends_now ends_new result = (h : Handles n p m (step m) k (door_told now ends_now) (door_told new ends_new) result) × TakesOf {R = ℕ} taking (vertex_at m.stage h.frame) u w result
 
     pub next_leads : (k : Meeting) (w : A) (new : Option (List Session)) (ends_now ends_new next : ℕ) → Next k w new ends_now ends_new (Ok next) → IsMeeting k next w old new
     next_leads k w new ends_now ends_new next (inl q) = absurd (let is = q.0.is in cc)
@@ -474,14 +475,14 @@ module _ {A : Type 0} (taking : TakeStep A) (side : Side) (c : CoreState) (judge
         let (at, takes) : Handled (length s.read) k w new ends_now ends_new (Ok next) = subst (λ (p : ℕ). Handled p k w new ends_now ends_new (Ok next)) s.place_is h in
         subst (λ (p : ℕ). IsMeeting k p w old new) (sym at.next) (goes_meeting new at.part at.frame at.has at.within w k at.reacts next takes)
 
-    pub next_meets : (k : Meeting) (w : A) (new : Option (List Session)) (ends_before ends_now ends_new : ℕ) (e : SessionEnd) → ends_now ≡ ends_before → Next k w new ends_now ends_new (Err e) → TakesThere taking side c judge k.core t w old new ends_before ends_new (meet_end e k.refused)
+    pub next_meets : (k : Meeting) (w : A) (new : Option (List Session)) (ends_before ends_now ends_new : ℕ) (e : SessionEnd) → ends_now ≡ ends_before → Next k w new ends_now ends_new (Err e) → TakesThere taking side judge (with_taker c t) (with_taker k.core w) (door_told old ends_before) (door_told new ends_new) (meet_end e k.refused)
     next_meets k w new ends_before ends_now ends_new e same (inl (q, stays)) =
-        subst (λ (x : A). TakesThere taking side c judge k.core t x old new ends_before ends_new (meet_end e k.refused)) (sym stays)
-        (subst (λ (x : ℕ). TakesThere taking side c judge k.core t u old new x ends_new (meet_end e k.refused)) same (quit_meets {T = ℕ} k new ends_now ends_new e q))
+        subst (λ (x : A). TakesThere taking side judge (with_taker c t) (with_taker k.core x) (door_told old ends_before) (door_told new ends_new) (meet_end e k.refused)) (sym stays)
+        (subst (λ (x : ℕ). TakesThere taking side judge (with_taker c t) (with_taker k.core u) (door_told old x) (door_told new ends_new) (meet_end e k.refused)) same (quit_meets {T = ℕ} k new ends_now ends_new e q))
     next_meets k w new ends_before ends_now ends_new e same (inr h) =
         let (at, takes) : Handled (length s.read) k w new ends_now ends_new (Err e) = subst (λ (p : ℕ). Handled p k w new ends_now ends_new (Err e)) s.place_is h in
-        subst (λ (x : ℕ). TakesThere taking side c judge k.core t w old new x ends_new (meet_end e k.refused)) same
-        (subst (λ (x : ℕ). TakesThere taking side c judge k.core t w old new ends_now x (meet_end e k.refused)) (sym at.ends)
+        subst (λ (x : ℕ). TakesThere taking side judge (with_taker c t) (with_taker k.core w) (door_told old x) (door_told new ends_new) (meet_end e k.refused)) same
+        (subst (λ (x : ℕ). TakesThere taking side judge (with_taker c t) (with_taker k.core w) (door_told old ends_now) (door_told new x) (meet_end e k.refused)) (sym at.ends)
         (reacted new at.part at.frame at.has at.within w ℕ k e ends_now at.reacts (takes_alike ℕ (Unit {0}) taking (vertex_at m.stage at.frame) u w e takes)))
 
   -- ---- the first word wasn't said whole
@@ -497,7 +498,7 @@ module _ {A : Type 0} (taking : TakeStep A) (side : Side) (c : CoreState) (judge
   pub first_sent : (T : Type 0) (old new : Option (List Session)) (x : T) → Sends {T = T} (sent_bytes first) old new (Ok x) → new ≡ after_part [] (sent_bytes first) false old
   first_sent T old new x s = s.told ∙ ap (λ (part : List ℕ). after_part [] part false old) s.whole
 
-  pub first_cut : (T : Type 0) (old new : Option (List Session)) (ends : ℕ) (e : SessionEnd) → Sends {T = T} (sent_bytes first) old new (Err e) → TakesThere taking side c judge c t t old new ends ends (meet_end e 0)
+  pub first_cut : (T : Type 0) (old new : Option (List Session)) (ends : ℕ) (e : SessionEnd) → Sends {T = T} (sent_bytes first) old new (Err e) → TakesThere taking side judge (with_taker c t) (with_taker c t) (door_told old ends) (door_told new ends) (meet_end e 0)
   first_cut T old new ends by.LinkFault s = record {
     meets = record {
       read = [];
@@ -544,10 +545,10 @@ module _ {A : Type 0} (taking : TakeStep A) (side : Side) (c : CoreState) (judge
 
     -- a peer was there, was met and hung up on
     pub meets_peer : (m : CoreState) (u : A) (old now then new : Option (List Session)) (ends_old ends_now ends_then ends_new : ℕ) (e : MeetEnd) → now ≡ option_map (sessions_after {T = Unit {0}} address (Ok tt)) old → ends_now ≡ ends_old
-        → TakesThere taking side c judge m t u now then ends_now ends_then e → new ≡ then → ends_new ≡ ends_then → TakesPeer taking side address c judge m t u old new ends_old ends_new e
+        → TakesThere taking side judge (with_taker c t) (with_taker m u) (door_told now ends_now) (door_told then ends_then) e → new ≡ then → ends_new ≡ ends_then → TakesPeer taking side address judge (with_taker c t) (with_taker m u) (door_told old ends_old) (door_told new ends_new) e
     meets_peer m u old now then new ends_old ends_now ends_then ends_new e opened same s hung ended =
-        subst (λ (x : ℕ). TakesPeer taking side address c judge m t u old new x ends_new e) same
-        (subst (λ (x : ℕ). TakesPeer taking side address c judge m t u old new ends_now x e) (sym ended) (record {
+        subst (λ (x : ℕ). TakesPeer taking side address judge (with_taker c t) (with_taker m u) (door_told old x) (door_told new ends_new) e) same
+        (subst (λ (x : ℕ). TakesPeer taking side address judge (with_taker c t) (with_taker m u) (door_told old ends_now) (door_told new x) e) (sym ended) (record {
           meets = record {
             read = s.meets.read;
             written = s.meets.written;
@@ -563,9 +564,9 @@ module _ {A : Type 0} (taking : TakeStep A) (side : Side) (c : CoreState) (judge
 
     -- no peer was there, or there was no memory to take or dial one
     pub meets_nobody : (old new : Option (List Session)) (ends_old ends_new : ℕ) (fault : IoFault) → ends_new ≡ ends_old → new ≡ option_map (sessions_after {T = Unit {0}} address (Err fault)) old
-        → TakesPeer taking side address c judge c t t old new ends_old ends_new (meet_end (end_of_fault fault) 0) ⊎ TakesNone c c t t old new (meet_end (end_of_fault fault) 0)
+        → TakesPeer taking side address judge (with_taker c t) (with_taker c t) (door_told old ends_old) (door_told new ends_new) (meet_end (end_of_fault fault) 0) ⊎ TakesNone (with_taker c t) (with_taker c t) old new (meet_end (end_of_fault fault) 0)
     meets_nobody old new ends_old ends_new Failed same told =
-        inl (subst (λ (x : ℕ). TakesPeer taking side address c judge c t t old new ends_old x end.LinkFault) (sym same) (record {
+        inl (subst (λ (x : ℕ). TakesPeer taking side address judge (with_taker c t) (with_taker c t) (door_told old ends_old) (door_told new x) end.LinkFault) (sym same) (record {
           meets = record {
             read = [];
             written = [];
@@ -577,8 +578,8 @@ module _ {A : Type 0} (taking : TakeStep A) (side : Side) (c : CoreState) (judge
     meets_nobody old new ends_old ends_new NoMemory same told = inr (record { meets = record { ended = refl; stands = refl; told = told ∙ nobody old }; stays = refl })
 
     -- but for the taker
-    pub only_meets : (m : CoreState) (u : A) (old new : Option (List Session)) (ends_old ends_new : ℕ) (e : MeetEnd) → TakesPeer taking side address c judge m t u old new ends_old ends_new e ⊎ TakesNone c m t u old new e
-        → MeetsPeer side address c judge m old new ends_old ends_new e ⊎ MeetsNone c m old new e
+    pub only_meets : (m : CoreState) (u : A) (old new : Option (List Session)) (ends_old ends_new : ℕ) (e : MeetEnd) → TakesPeer taking side address judge (with_taker c t) (with_taker m u) (door_told old ends_old) (door_told new ends_new) e ⊎ TakesNone (with_taker c t) (with_taker m u) old new e
+        → MeetsPeer side address c judge m (door_told old ends_old) (door_told new ends_new) e ⊎ MeetsNone c m old new e
     only_meets m u old new ends_old ends_new e (inl s) = inl s.meets
     only_meets m u old new ends_old ends_new e (inr s) = inr s.meets
 
@@ -592,6 +593,6 @@ fault_stored count NoMemory = refl
 
 -- a frame that was handled, or one that ended the session: no end was counted
 pub next_counts : {A : Type 0} (taking : TakeStep A) (n place : ℕ) (m : Meeting) (step : Placed → Reaction Meeting) (k : Meeting) (t u : A) (now new : Option (List Session)) (ends_now ends_new next : ℕ)
-    → GoesNext taking n place m step k t u now new ends_now ends_new (Ok next) → ends_new ≡ ends_now
+    → GoesNext taking n place step (meeting_with m t) (meeting_with k u) (door_told now ends_now) (door_told new ends_new) (Ok next) → ends_new ≡ ends_now
 next_counts taking n place m step k t u now new ends_now ends_new next (inl q) = absurd (let is = q.0.is in cc)
 next_counts taking n place m step k t u now new ends_now ends_new next (inr h) = h.0.ends

@@ -8,6 +8,7 @@ use Rattle.hw_link.specs.declared.end.SessionEnd.{SessionEnd}
 use Rattle.hw_link.specs.declared.end.SessionEnd.TheVariants as end
 use Rattle.hw_link.specs.Asked.{IsAskedInside}
 use Rattle.hw_link.specs.Links.{after_part}
+use Rattle.hw_link.specs.Told.{door_told}
 use Rattle.hw_meeting_node.specs.declared.read.HeardMeeting.{HeardMeeting}
 use Rattle.hw_meeting_node.specs.Frames.{Placed, frame_here}
 use Rattle.hw_meeting_node.specs.Heard.{Hears, IsHeard}
@@ -15,7 +16,7 @@ use Rattle.hw_meeting_node.specs.declared.meeter.Side.{Side}
 use Rattle.hw_meeting_node.specs.Talk.{Reaction}
 use Rattle.hw_meeting_node.specs.Meeting.{Meeting, at_stage, meet_step}
 use Rattle.hw_meeting_node.specs.Handling.{Reacts, IsTakerCounted}
-use Rattle.hw_meeting_node.specs.Taking.{vertex_at, TakeStep, TakesOf, GoesNext}
+use Rattle.hw_meeting_node.specs.Taking.{vertex_at, TakeStep, TakesOf, GoesNext, meeting_with}
 use Rattle.hw_meeting_node.proofs.TakingLaws.{takes_alike}
 use Rattle.hw_meeting_node.proofs.EndLaws.{no_frame_so}
 
@@ -31,7 +32,7 @@ reacts_alike c r now old new end.Clash h = h
 reacts_alike c r now old new end.OutOfMemory h = h
 
 -- there was no frame
-pub quits : {A : Type 0} (taking : TakeStep A) (t : A) (step : Placed → Reaction Meeting) (n count place : ℕ) (m : Meeting) (old new : Option (List Session)) (ends_old ends_new : ℕ) (e : SessionEnd) → count ≡ n → Hears {T = HeardMeeting} count (IsHeard count) place [] old new ends_old ends_new (Err e) → GoesNext taking n place m step m t t old new ends_old ends_new (Err e)
+pub quits : {A : Type 0} (taking : TakeStep A) (t : A) (step : Placed → Reaction Meeting) (n count place : ℕ) (m : Meeting) (old new : Option (List Session)) (ends_old ends_new : ℕ) (e : SessionEnd) → count ≡ n → Hears {T = HeardMeeting} count (IsHeard count) place [] old new ends_old ends_new (Err e) → GoesNext taking n place step (meeting_with m t) (meeting_with m t) (door_told old ends_old) (door_told new ends_new) (Err e)
 quits taking t step n count place m old new ends_old ends_new e same heard = inl (record { how = e; is = refl; stays = refl; heard = subst (λ (k : ℕ). Hears {T = HeardMeeting} k (IsHeard k) place [] old new ends_old ends_new (Err e)) same heard }, refl)
 
 -- no read ends as a failed append
@@ -64,7 +65,7 @@ module _ {A : Type 0} (taking : TakeStep A) (t u : A) (n count place : ℕ) (sid
       subst (λ (r : Reaction Meeting). Reacts {T = T} m.core r now (after_part heard.part [] false old) new result) step_is
       (subst (λ (o : Option (List Session)). Reacts {T = T} m.core reaction now o new result) heard.heard reacts)
 
-  pub handles_whole : Reacts {T = Unit {0}} m.core reaction now mid new (Ok tt) → TakesOf {R = Unit {0}} taking (vertex_at m.stage h.frame) t u (Ok tt) → GoesNext taking n place m (meet_step side judge m) now t u old new ends_old ends_new (Ok h.next)
+  pub handles_whole : Reacts {T = Unit {0}} m.core reaction now mid new (Ok tt) → TakesOf {R = Unit {0}} taking (vertex_at m.stage h.frame) t u (Ok tt) → GoesNext taking n place (meet_step side judge m) (meeting_with m t) (meeting_with now u) (door_told old ends_old) (door_told new ends_new) (Ok h.next)
   handles_whole reacts takes = inr (
     record {
       part = heard.part;
@@ -82,7 +83,7 @@ module _ {A : Type 0} (taking : TakeStep A) (t u : A) (n count place : ℕ) (sid
       went None takes = takes
       went (Some v) takes = takes
 
-  pub handles_end : (e : SessionEnd) → Reacts {T = Unit {0}} m.core reaction now mid new (Err e) → TakesOf {R = Unit {0}} taking (vertex_at m.stage h.frame) t u (Err e) → GoesNext taking n place m (meet_step side judge m) now t u old new ends_old ends_new (Err e)
+  pub handles_end : (e : SessionEnd) → Reacts {T = Unit {0}} m.core reaction now mid new (Err e) → TakesOf {R = Unit {0}} taking (vertex_at m.stage h.frame) t u (Err e) → GoesNext taking n place (meet_step side judge m) (meeting_with m t) (meeting_with now u) (door_told old ends_old) (door_told new ends_new) (Err e)
   handles_end e reacts takes = inr (
     record {
       part = heard.part;

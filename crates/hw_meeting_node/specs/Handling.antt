@@ -9,6 +9,7 @@ use Rattle.hw_link.specs.declared.end.SessionEnd.TheVariants as end
 use Rattle.hw_link.specs.Frames.{byte_limit}
 use Rattle.hw_link.specs.Talk.{IsPrefixOf}
 use Rattle.hw_link.specs.Links.{after_part}
+use Rattle.hw_link.specs.Told.{DoorTold}
 use Rattle.hw_agree.specs.declared.summary.LaneSummary.{LaneSummary}
 use Rattle.hw_meeting.specs.declared.frame.MeetingFrame.{MeetingFrame}
 use Rattle.hw_meeting_node.specs.declared.read.HeardMeeting.{HeardMeeting}
@@ -52,21 +53,21 @@ Reacts c r now old new (Err e) = (r.end ≡ Some e) × (now ≡ r.state) × (new
 -- ---- what it did at a place of the session
 
 -- there was no frame, and nothing changed
-pub record Quits {T : Type 0} (validators place : ℕ) (m now : Meeting) (old new : Option (List Session)) (ends_old ends_new : ℕ) (result : Result T SessionEnd) : Type 0 where
+pub record Quits {T : Type 0} (validators place : ℕ) (m now : Meeting) (old new : DoorTold) (result : Result T SessionEnd) : Type 0 where
   pub how : SessionEnd
   pub is : result ≡ Err how
   pub stays : now ≡ m
-  pub heard : Hears {T = HeardMeeting} validators (IsHeard validators) place [] old new ends_old ends_new (Err how)
+  pub heard : Hears {T = HeardMeeting} validators (IsHeard validators) place [] old.sessions new.sessions old.ends new.ends (Err how)
 
 -- there was a frame, and it did what the step says
-pub record Handles (validators place : ℕ) (m : Meeting) (step : Placed → Reaction Meeting) (now : Meeting) (old new : Option (List Session)) (ends_old ends_new : ℕ) (result : Result ℕ SessionEnd) : Type 0 where
+pub record Handles (validators place : ℕ) (m : Meeting) (step : Placed → Reaction Meeting) (now : Meeting) (old new : DoorTold) (result : Result ℕ SessionEnd) : Type 0 where
   pub part : List ℕ
   pub frame : MeetingFrame
   pub has : HasFrame validators place part frame
   pub within : place + length part ≤ byte_limit
-  pub ends : ends_new ≡ ends_old
+  pub ends : new.ends ≡ old.ends
   pub next : IfOk result (λ next. next ≡ place + length part)
-  pub reacts : Reacts m.core (step (record { at = place; frame = frame })) now (after_part part [] false old) new result
+  pub reacts : Reacts m.core (step (record { at = place; frame = frame })) now (after_part part [] false old.sessions) new.sessions result
 
 -- ---- causes
 

@@ -11,6 +11,7 @@ use Rattle.hw_link.specs.declared.end.SessionEnd.TheVariants as by
 use Rattle.hw_link.specs.Frames.{byte_limit}
 use Rattle.hw_link.specs.Talk.{IsPrefixOf}
 use Rattle.hw_link.specs.Links.{after_part}
+use Rattle.hw_link.specs.Told.{DoorTold}
 use Rattle.hw_meeting.specs.declared.frame.MeetingFrame.{MeetingFrame}
 use Rattle.hw_meeting_node.specs.Frames.{sent_bytes}
 use Rattle.hw_meeting_node.specs.declared.end.MeetEnd.{MeetEnd}
@@ -118,26 +119,26 @@ is_link_end end.LinkFault = true
 is_link_end e = false
 
 -- A node met the peer of the session that is there.
-pub record MeetsThere (side : Side) (c : CoreState) (judge : Vertex → Bool) (m : CoreState) (old new : Option (List Session)) (ends_old ends_new : ℕ) (e : MeetEnd) : Type 0 where
+pub record MeetsThere (side : Side) (c : CoreState) (judge : Vertex → Bool) (m : CoreState) (old new : DoorTold) (e : MeetEnd) : Type 0 where
   pub read : List ℕ
   pub written : List ℕ
-  pub meets : Meets side c judge read written m ends_old ends_new e
-  pub told : new ≡ after_part read written (is_link_end e) old
+  pub meets : Meets side c judge read written m old.ends new.ends e
+  pub told : new.sessions ≡ after_part read written (is_link_end e) old.sessions
 
 -- A node met a peer, in a session that the door tells behind the others, with the address that was dialled, if one was.
-pub record MeetsPeer (side : Side) (address : Option (List ℕ)) (c : CoreState) (judge : Vertex → Bool) (m : CoreState) (old new : Option (List Session)) (ends_old ends_new : ℕ) (e : MeetEnd) : Type 0 where
+pub record MeetsPeer (side : Side) (address : Option (List ℕ)) (c : CoreState) (judge : Vertex → Bool) (m : CoreState) (old new : DoorTold) (e : MeetEnd) : Type 0 where
   pub read : List ℕ
   pub written : List ℕ
-  pub meets : Meets side c judge read written m ends_old ends_new e
-  pub told : new ≡ option_map (λ (sessions : List Session). sessions ++ (record { address = address; read = read; written = written; failed = is_link_end e }) ∷ []) old
+  pub meets : Meets side c judge read written m old.ends new.ends e
+  pub told : new.sessions ≡ option_map (λ (sessions : List Session). sessions ++ (record { address = address; read = read; written = written; failed = is_link_end e }) ∷ []) old.sessions
 
 -- the same of a node that dialled this address
-abbrev pub CallsPeer : List ℕ → CoreState → (Vertex → Bool) → CoreState → Option (List Session) → Option (List Session) → ℕ → ℕ → MeetEnd → Type 0
-CallsPeer address c judge m old new ends_old ends_new e = MeetsPeer Caller (Some address) c judge m old new ends_old ends_new e
+abbrev pub CallsPeer : List ℕ → CoreState → (Vertex → Bool) → CoreState → DoorTold → DoorTold → MeetEnd → Type 0
+CallsPeer address c judge m old new e = MeetsPeer Caller (Some address) c judge m old new e
 
 -- and of one that was dialled
-abbrev pub HostsPeer : CoreState → (Vertex → Bool) → CoreState → Option (List Session) → Option (List Session) → ℕ → ℕ → MeetEnd → Type 0
-HostsPeer c judge m old new ends_old ends_new e = MeetsPeer Host None c judge m old new ends_old ends_new e
+abbrev pub HostsPeer : CoreState → (Vertex → Bool) → CoreState → DoorTold → DoorTold → MeetEnd → Type 0
+HostsPeer c judge m old new e = MeetsPeer Host None c judge m old new e
 
 -- there was no memory to take or to dial a peer, and nothing was done
 pub record MeetsNone (c m : CoreState) (old new : Option (List Session)) (e : MeetEnd) : Type 0 where

@@ -7,6 +7,7 @@ use Rattle.hw_types.specs.Real.{CoreState}
 use Rattle.hw_io.specs.Doors.{Session}
 use Rattle.hw_link.specs.declared.end.SessionEnd.{SessionEnd}
 use Rattle.hw_link.specs.declared.end.SessionEnd.TheVariants as by
+use Rattle.hw_link.specs.Told.{DoorTold}
 use Rattle.hw_meeting.specs.declared.frame.MeetingFrame.{MeetingFrame}
 use Rattle.hw_meeting.specs.declared.frame.MeetingFrame.TheVariants as frame
 use Rattle.hw_meeting_node.specs.Frames.{Placed}
@@ -100,20 +101,29 @@ Took step taken read e t u = TakesAll step t (taken read) u
 
 -- ---- one session
 
+-- what a node has received, and what takes its vertices
+pub record WithTaker (T : Type 0) : Type 0 where
+  pub core : CoreState
+  pub taker : T
+
+-- these together
+abbrev pub with_taker : {T : Type 0} → CoreState → T → WithTaker T
+with_taker core taker = record { core = core; taker = taker }
+
 -- A node met the peer of the session that is there, and the taker took the peer's vertices.
-pub record TakesThere {T : Type 0} (step : TakeStep T) (side : Side) (c : CoreState) (judge : Vertex → Bool) (m : CoreState) (t u : T) (old new : Option (List Session)) (ends_old ends_new : ℕ) (e : MeetEnd) : Type 0 where
-  pub meets : MeetsThere side c judge m old new ends_old ends_new e
-  pub took : Took step (taken_in side c judge) meets.read e t u
+pub record TakesThere {T : Type 0} (step : TakeStep T) (side : Side) (judge : Vertex → Bool) (before after : WithTaker T) (old new : DoorTold) (e : MeetEnd) : Type 0 where
+  pub meets : MeetsThere side before.core judge after.core old new e
+  pub took : Took step (taken_in side before.core judge) meets.read e before.taker after.taker
 
 -- The same in a session that the door tells behind the others, with the address that was dialled, if one was.
-pub record TakesPeer {T : Type 0} (step : TakeStep T) (side : Side) (address : Option (List ℕ)) (c : CoreState) (judge : Vertex → Bool) (m : CoreState) (t u : T) (old new : Option (List Session)) (ends_old ends_new : ℕ) (e : MeetEnd) : Type 0 where
-  pub meets : MeetsPeer side address c judge m old new ends_old ends_new e
-  pub took : Took step (taken_in side c judge) meets.read e t u
+pub record TakesPeer {T : Type 0} (step : TakeStep T) (side : Side) (address : Option (List ℕ)) (judge : Vertex → Bool) (before after : WithTaker T) (old new : DoorTold) (e : MeetEnd) : Type 0 where
+  pub meets : MeetsPeer side address before.core judge after.core old new e
+  pub took : Took step (taken_in side before.core judge) meets.read e before.taker after.taker
 
 -- there was no memory to take or to dial a peer, and nothing was done
-pub record TakesNone {T : Type 0} (c m : CoreState) (t u : T) (old new : Option (List Session)) (e : MeetEnd) : Type 0 where
-  pub meets : MeetsNone c m old new e
-  pub stays : u ≡ t
+pub record TakesNone {T : Type 0} (before after : WithTaker T) (old new : Option (List Session)) (e : MeetEnd) : Type 0 where
+  pub meets : MeetsNone before.core after.core old new e
+  pub stays : after.taker ≡ before.taker
 
 -- ---- a frame
 
@@ -133,8 +143,17 @@ abbrev pub TakesOf : {T R : Type 0} → TakeStep T → Option Vertex → T → T
 TakesOf step None t u result = (u ≡ t) × StoresNone result
 TakesOf step (Some v) t u result = (answer : Result Receipt TakeFault) × step t v answer u × ShowsAnswer answer result
 
+-- where a node stands in a meeting, and what takes its vertices
+pub record MeetingWith (T : Type 0) : Type 0 where
+  pub meeting : Meeting
+  pub taker : T
+
+-- these together
+abbrev pub meeting_with : {T : Type 0} → Meeting → T → MeetingWith T
+meeting_with meeting taker = record { meeting = meeting; taker = taker }
+
 -- There was no frame at a place of the session, and nothing changed; or there was one, it was handled, and its vertex taken if one was due.
-abbrev pub GoesNext : {T : Type 0} → TakeStep T → ℕ → ℕ → Meeting → (Placed → Reaction Meeting) → Meeting → T → T → Option (List Session) → Option (List Session) → ℕ → ℕ → Result ℕ SessionEnd → Type 0
-GoesNext taking validators place m step now t u old new ends_old ends_new result =
-    (Quits {T = ℕ} validators place m now old new ends_old ends_new result × (u ≡ t))
-    ⊎ ((h : Handles validators place m step now old new ends_old ends_new result) × TakesOf {R = ℕ} taking (vertex_at m.stage h.frame) t u result)
+abbrev pub GoesNext : {T : Type 0} → TakeStep T → ℕ → ℕ → (Placed → Reaction Meeting) → MeetingWith T → MeetingWith T → DoorTold → DoorTold → Result ℕ SessionEnd → Type 0
+GoesNext taking validators place step before after old new result =
+    (Quits {T = ℕ} validators place before.meeting after.meeting old new result × (after.taker ≡ before.taker))
+    ⊎ ((h : Handles validators place before.meeting step after.meeting old new result) × TakesOf {R = ℕ} taking (vertex_at before.meeting.stage h.frame) before.taker after.taker result)

@@ -4,12 +4,13 @@ ghost use Rattle.std.specs.Prelude.{◌≡◌, ◌⊎◌, ◌<◌, ◌≤◌, []
 ghost use Rattle.hw_types.specs.Real.{CoreState};
 ghost use Rattle.hw_io.specs.{Doors.{Session, AsksMore}, Faults.{raised}};
 ghost use Rattle.hw_link.specs.{Asked.{IsAskedInside, IsAskedBehind, IsPrompt}, Links.{after_part, IsLinkCounted}, Sent.{Sends, OnlySends}};
+ghost use Rattle.hw_link.specs.Told.{door_told};
 ghost use Rattle.hw_meeting.specs.Frames.{IsSaid};
 ghost use Rattle.hw_meeting_node.specs.Frames.{frame_here, sent_bytes};
 ghost use Rattle.hw_meeting_node.specs.Meeting.{begun, first_word, meet_step, at_stage, met_said};
 ghost use Rattle.hw_meeting_node.specs.Handling.{meeting_of, IsKept, Reacts, IsTakerCounted};
 ghost use Rattle.hw_meeting_node.specs.Sessions.{CallsPeer, HostsPeer, MeetsNone, IsLinkEnd, IsTakerEnd};
-ghost use Rattle.hw_meeting_node.specs.Taking.{vertex_at, TakesThere, TakesPeer, TakesNone, TakesOf, GoesNext};
+ghost use Rattle.hw_meeting_node.specs.Taking.{vertex_at, TakesThere, TakesPeer, TakesNone, TakesOf, GoesNext, with_taker, meeting_with};
 ghost use Rattle.hw_meeting_node.specs.declared.meeter.Side.TheVariants as side;
 
 use crate::end::{MeetEnd, meet_end};
@@ -44,10 +45,10 @@ pub fn meet_one<D: Door, T: Taker>(
     address: &str,
     door: &mut D,
 ) -> MeetEnd
-    ensures met { CallsPeer address.now (T.received taker.old) (T.verdict taker.old) (T.received taker.new) (D.sessions door.old) (D.sessions door.new) (D.ends door.old) (D.ends door.new) result
+    ensures met { CallsPeer address.now (T.received taker.old) (T.verdict taker.old) (T.received taker.new) (door_told (D.sessions door.old) (D.ends door.old)) (door_told (D.sessions door.new) (D.ends door.new)) result
         ⊎ MeetsNone (T.received taker.old) (T.received taker.new) (D.sessions door.old) (D.sessions door.new) result }
-    ensures took { TakesPeer T.steps side.Caller (Some address.now) (T.received taker.old) (T.verdict taker.old) (T.received taker.new) taker.old taker.new (D.sessions door.old) (D.sessions door.new) (D.ends door.old) (D.ends door.new) result
-        ⊎ TakesNone (T.received taker.old) (T.received taker.new) taker.old taker.new (D.sessions door.old) (D.sessions door.new) result }
+    ensures took { TakesPeer T.steps side.Caller (Some address.now) (T.verdict taker.old) (with_taker (T.received taker.old) taker.old) (with_taker (T.received taker.new) taker.new) (door_told (D.sessions door.old) (D.ends door.old)) (door_told (D.sessions door.new) (D.ends door.new)) result
+        ⊎ TakesNone (with_taker (T.received taker.old) taker.old) (with_taker (T.received taker.new) taker.new) (D.sessions door.old) (D.sessions door.new) result }
     ensures prompt { All (IsPrompt (met_said side.Caller (T.received taker.old) (T.verdict taker.old))) (D.asks door.new) }
     ensures link { IsLinkEnd (D.faults door.old) (D.faults door.new) result }
     ensures appends { IsTakerEnd (T.faults taker.old) (T.faults taker.new) result }
@@ -71,10 +72,10 @@ pub fn meet_one<D: Door, T: Taker>(
 
 /// Takes a node that dials and meets it, as the other side of `meet_one`. Then it hangs up.
 pub fn host_one<D: Door, T: Taker>(alloc: Global, taker: &mut T, door: &mut D) -> MeetEnd
-    ensures met { HostsPeer (T.received taker.old) (T.verdict taker.old) (T.received taker.new) (D.sessions door.old) (D.sessions door.new) (D.ends door.old) (D.ends door.new) result
+    ensures met { HostsPeer (T.received taker.old) (T.verdict taker.old) (T.received taker.new) (door_told (D.sessions door.old) (D.ends door.old)) (door_told (D.sessions door.new) (D.ends door.new)) result
         ⊎ MeetsNone (T.received taker.old) (T.received taker.new) (D.sessions door.old) (D.sessions door.new) result }
-    ensures took { TakesPeer T.steps side.Host None (T.received taker.old) (T.verdict taker.old) (T.received taker.new) taker.old taker.new (D.sessions door.old) (D.sessions door.new) (D.ends door.old) (D.ends door.new) result
-        ⊎ TakesNone (T.received taker.old) (T.received taker.new) taker.old taker.new (D.sessions door.old) (D.sessions door.new) result }
+    ensures took { TakesPeer T.steps side.Host None (T.verdict taker.old) (with_taker (T.received taker.old) taker.old) (with_taker (T.received taker.new) taker.new) (door_told (D.sessions door.old) (D.ends door.old)) (door_told (D.sessions door.new) (D.ends door.new)) result
+        ⊎ TakesNone (with_taker (T.received taker.old) taker.old) (with_taker (T.received taker.new) taker.new) (D.sessions door.old) (D.sessions door.new) result }
     ensures prompt { All (IsPrompt (met_said side.Host (T.received taker.old) (T.verdict taker.old))) (D.asks door.new) }
     ensures link { IsLinkEnd (D.faults door.old) (D.faults door.new) result }
     ensures appends { IsTakerEnd (T.faults taker.old) (T.faults taker.new) result }
@@ -99,7 +100,7 @@ pub fn host_one<D: Door, T: Taker>(alloc: Global, taker: &mut T, door: &mut D) -
 /// Meets the node of the session that is there, up to its end.
 fn meet<D: Door, T: Taker>(alloc: Global, taker: &mut T, door: &mut D, side: Side) -> MeetEnd
     requires open { D.is_open door.old ≡ true }
-    ensures met { TakesThere T.steps side (T.received taker.old) (T.verdict taker.old) (T.received taker.new) taker.old taker.new (D.sessions door.old) (D.sessions door.new) (D.ends door.old) (D.ends door.new) result }
+    ensures met { TakesThere T.steps side (T.verdict taker.old) (with_taker (T.received taker.old) taker.old) (with_taker (T.received taker.new) taker.new) (door_told (D.sessions door.old) (D.ends door.old)) (door_told (D.sessions door.new) (D.ends door.new)) result }
     ensures asks { AsksMore (IsAskedBehind (met_said side (T.received taker.old) (T.verdict taker.old)) (D.sessions door.old)) (D.asks door.old) (D.asks door.new) }
     ensures link { IsLinkEnd (D.faults door.old) (D.faults door.new) result }
     ensures appends { IsTakerEnd (T.faults taker.old) (T.faults taker.new) result }
@@ -165,7 +166,7 @@ fn meet_frames<D: Door, T: Taker>(
     requires kept { IsKept meeter.old (T.received taker.old) }
     requires open { D.is_open door.old ≡ true }
     ensures met { (first : Option (List Session)) → D.sessions door.old ≡ after_part [] (sent_bytes (first_word side (T.received taker.old))) false first
-        → TakesThere T.steps side (T.received taker.old) (T.verdict taker.old) (T.received taker.new) taker.old taker.new first (D.sessions door.new) (D.ends door.old) (D.ends door.new) result }
+        → TakesThere T.steps side (T.verdict taker.old) (with_taker (T.received taker.old) taker.old) (with_taker (T.received taker.new) taker.new) (door_told first (D.ends door.old)) (door_told (D.sessions door.new) (D.ends door.new)) result }
     ensures asks { (first : Option (List Session)) → D.sessions door.old ≡ after_part [] (sent_bytes (first_word side (T.received taker.old))) false first
         → AsksMore (IsAskedBehind (met_said side (T.received taker.old) (T.verdict taker.old)) first) (D.asks door.old) (D.asks door.new) }
     ensures link { IsLinkEnd (D.faults door.old) (D.faults door.new) result }
@@ -200,7 +201,7 @@ fn meet_next<D: Door, T: Taker>(
     requires place { place ≤ BYTE_LIMIT }
     requires kept { IsKept meeter.old (T.received taker.old) }
     requires open { D.is_open door.old ≡ true }
-    ensures met { GoesNext T.steps (length (T.received taker.old).config.weights) place (meeting_of meeter.old (T.received taker.old)) (meet_step side (T.verdict taker.old) (meeting_of meeter.old (T.received taker.old))) (meeting_of meeter.new (T.received taker.new)) taker.old taker.new (D.sessions door.old) (D.sessions door.new) (D.ends door.old) (D.ends door.new) result }
+    ensures met { GoesNext T.steps (length (T.received taker.old).config.weights) place (meet_step side (T.verdict taker.old) (meeting_of meeter.old (T.received taker.old))) (meeting_with (meeting_of meeter.old (T.received taker.old)) taker.old) (meeting_with (meeting_of meeter.new (T.received taker.new)) taker.new) (door_told (D.sessions door.old) (D.ends door.old)) (door_told (D.sessions door.new) (D.ends door.new)) result }
     ensures asks { AsksMore (IsAskedInside (frame_here (length (T.received taker.old).config.weights)) place [] (D.sessions door.old)) (D.asks door.old) (D.asks door.new) }
     ensures kept { OnOk result (IsKept meeter.new (T.received taker.new)) }
     ensures next { IfOk result (λ next. (place < next) × (next ≤ BYTE_LIMIT)) }

@@ -15,7 +15,7 @@ use Rattle.hw_service.specs.declared.ended.Served.{Served}
 use Rattle.hw_service.specs.Scene.{Outside, Scene, moment_of}
 use Rattle.hw_service.specs.Begin.{Names}
 use Rattle.hw_service.specs.Steps.{Taken, AreTaken, TakesAll}
-use Rattle.hw_service.specs.Run.{StepOver, RunsWhole, Runs}
+use Rattle.hw_service.specs.Run.{StepOver, RunsWhole, Runs, course, runner}
 use Rattle.hw_service.specs.Serve.{serves_session}
 use Rattle.hw_service.specs.Runs.{hosts_session, calls_peer}
 use Rattle.hw_service.specs.Turns.{turning, TellsMade, DrivesSession, TakesTurn}
@@ -96,7 +96,7 @@ module _ {B K : Type 0} (sight : Sight B K) where
   -- ---- the run
 
   whole_finished : {X : Type 0} (tells : Bool) (names : Names) (me : Option ℕ) (step : StepOver B X) → Keeps step → (number count : ℕ) (before after : Outside B) (x y : X) (served : Served)
-      → RunsWhole sight tells names me step number count before after x y served → WereFinished sight 0 before.consumers → WereFinished sight 1 after.consumers
+      → RunsWhole (runner sight tells names me) (course step number count) (before, x) (after, y) served → WereFinished sight 0 before.consumers → WereFinished sight 1 after.consumers
   whole_finished tells names me step keeps number count before after x y served r h =
       let last : Scene B = r.completes.last in
       let begun = fed_finished _ r.begins.fed.moments (moment_of r.first) r.begins.fed.passed h in
@@ -104,7 +104,7 @@ module _ {B K : Type 0} (sight : Sight B K) where
       served_all (IsFinished sight) (WasFinished 0) (WasFinished 1) end_finished last.around.consumers after.consumers last.kept r.completes.reports.kept r.completes.reports.closes.finished stepped
 
   runs_finished : {X : Type 0} (tells : Bool) (names : Names) (me : Option ℕ) (step : StepOver B X) → Keeps step → (number count : ℕ) (before after : Outside B) (x y : X) (came_to : Result Served ServiceFault)
-      → Runs sight tells names me step number count before after x y came_to → WereFinished sight 0 before.consumers → OnOk came_to (WereFinished sight 1 after.consumers)
+      → Runs (runner sight tells names me) (course step number count) (before, x) (after, y) came_to → WereFinished sight 0 before.consumers → OnOk came_to (WereFinished sight 1 after.consumers)
   runs_finished tells names me step keeps number count before after x y (Ok served) r h = whole_finished tells names me step keeps number count before after x y served r h
   runs_finished tells names me step keeps number count before after x y (Err e) r h = tt
 

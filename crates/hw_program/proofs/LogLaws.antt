@@ -16,16 +16,17 @@ use Rattle.hw_session.specs.Sessions.{Leaves, ServesPeer, ServesNone}
 use Rattle.hw_session.specs.Drives.{LeavesDriven}
 use Rattle.hw_session.specs.Make.{Makes, WritesOwn}
 use Rattle.hw_session.specs.Start.{Starts, StartsLog}
+use Rattle.hw_session.specs.Standing.{standing, driver_standing}
 use Rattle.hw_replay.specs.Fates.{Sight}
 use Rattle.hw_service.specs.declared.fault.ServiceFault.{ServiceFault}
 use Rattle.hw_service.specs.declared.fault.ServiceFault.TheVariants as fault
 use Rattle.hw_service.specs.declared.ended.Served.{Served}
 use Rattle.hw_service.specs.declared.peer.Peer.{Peer}
-use Rattle.hw_service.specs.Scene.{Outside, Scene}
+use Rattle.hw_service.specs.Scene.{sessions_told, Outside, Scene}
 use Rattle.hw_service.specs.Begin.{Names, HasBegun, BeginsNot}
 use Rattle.hw_service.specs.Talk.{talker_in}
 use Rattle.hw_service.specs.Steps.{Taken, AreTaken, TakesAll, TakesUntil, Takes}
-use Rattle.hw_service.specs.Run.{StepOver, ReportsNot, Runs}
+use Rattle.hw_service.specs.Run.{StepOver, ReportsNot, Runs, course, runner}
 use Rattle.hw_service.specs.Serve.{serves_session}
 use Rattle.hw_meeting_node.specs.declared.end.MeetEnd.{MeetEnd}
 use Rattle.hw_meeting_node.specs.declared.end.MeetEnd.TheVariants as meet
@@ -52,7 +53,7 @@ logs_alone n m tells old new t l = ((l.log t).others, l.gains.name)
 cut_alone : (n before : NodeState) (v : Vertex) (m : NodeState) (tells : Bool) (old new : Held) → IsTrue tells → LogsAllBut n before v m tells old new → IsAlone n m old new
 cut_alone n before v m tells old new t l = ((l.log t).1.others, ap (λ (x : NodeState). x.log) l.unlogged.1 ∙ l.gains.name)
 
-leaves_alone : (e : SessionEnd) (n : NodeState) (read written : List ℕ) (m : NodeState) (tells : Bool) (old new : Held) → IsTrue tells → Leaves e n read written m tells old new → IsAlone n m old new
+leaves_alone : (e : SessionEnd) (n : NodeState) (read written : List ℕ) (m : NodeState) (tells : Bool) (old new : Held) → IsTrue tells → Leaves e tells (standing n old) read written (standing m new) → IsAlone n m old new
 leaves_alone end.AppendFault n read written m tells old new t l = cut_alone n _ _ m tells old new t l.logs
 leaves_alone end.OutOfMemory n read written m tells old new t (inl l) = logs_alone n m tells old new t l.logs
 leaves_alone end.OutOfMemory n read written m tells old new t (inr l) = cut_alone n _ _ m tells old new t l.logs
@@ -64,7 +65,7 @@ leaves_alone end.LinkFault n read written m tells old new t l = logs_alone n m t
 leaves_alone end.ByteLimit n read written m tells old new t l = logs_alone n m tells old new t l.1
 leaves_alone end.Clash n read written m tells old new t l = logs_alone n m tells old new t l.1
 
-driven_alone : (e : SessionEnd) (n : NodeState) (mark : PeerMark) (read written : List ℕ) (m : NodeState) (now : PeerMark) (tells : Bool) (old new : Held) → IsTrue tells → LeavesDriven e n mark read written m now tells old new → IsAlone n m old new
+driven_alone : (e : SessionEnd) (n : NodeState) (mark : PeerMark) (read written : List ℕ) (m : NodeState) (now : PeerMark) (tells : Bool) (old new : Held) → IsTrue tells → LeavesDriven e tells (driver_standing n mark old) read written (driver_standing m now new) → IsAlone n m old new
 driven_alone end.AppendFault n mark read written m now tells old new t l = cut_alone n _ _ m tells old new t l.logs
 driven_alone end.OutOfMemory n mark read written m now tells old new t (inl l) = logs_alone n m tells old new t l.logs
 driven_alone end.OutOfMemory n mark read written m now tells old new t (inr l) = cut_alone n _ _ m tells old new t l.logs
@@ -125,8 +126,8 @@ module _ {B K : Type 0} (sight : Sight B K) (tells : Bool) (t : IsTrue tells) (n
   takes_only step keeps number count first last (Err e) u h = until_only step keeps number count first last e u h
 
   served_only : (old new : Scene B) (e : SessionEnd)
-      → ServesPeer old.node new.node tells old.around.files new.around.files old.around.door.sessions new.around.door.sessions old.around.door.ends new.around.door.ends e
-      ⊎ ServesNone old.node new.node tells old.around.files new.around.files old.around.door.sessions new.around.door.sessions e
+      → ServesPeer tells (standing old.node old.around.files) (standing new.node new.around.files) (sessions_told old.around.door) (sessions_told new.around.door) e
+      ⊎ ServesNone tells (standing old.node old.around.files) (standing new.node new.around.files) old.around.door.sessions new.around.door.sessions e
       → IsOnly old → IsOnly new
   served_only old new e (inl s) h = only_then old new (leaves_alone e old.node s.read s.written new.node tells old.around.files new.around.files t s.serves.left) h
   served_only old new e (inr s) h = only_then old new (nothing_done old.node new.node old.around.files new.around.files s.state (s.files t)) h
@@ -205,7 +206,7 @@ left_by : {B : Type 0} (name : List ℕ) (before after : Outside B) (files : Hel
 left_by name before after files same is = subst (λ (f : Held). (other : List ℕ) → other ≢ name → f other ≡ before.files other) (sym same) is
 
 runs_left : {B K X : Type 0} (sight : Sight B K) (tells : Bool) (names : Names) (me : Option ℕ) (step : StepOver B X) (number count : ℕ) (before after : Outside B) (x y : X) (came_to : Result Served ServiceFault) (t : IsTrue tells)
-    → Keeps sight tells t names.log before.files step → Runs sight tells names me step number count before after x y came_to → IsLeft names.log before after
+    → Keeps sight tells t names.log before.files step → Runs (runner sight tells names me) (course step number count) (before, x) (after, y) came_to → IsLeft names.log before after
 runs_left sight tells names me step number count before after x y (Ok served) t keeps r =
     let last = r.completes.last in
     left_by names.log before after last.around.files r.completes.reports.closes.files

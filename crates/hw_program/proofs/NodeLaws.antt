@@ -15,7 +15,7 @@ use Rattle.hw_service.specs.declared.ended.Served.{Served}
 use Rattle.hw_service.specs.Scene.{Outside, Scene}
 use Rattle.hw_service.specs.Begin.{Names, file_settings, ReadsNot, Reads, fault_of_start, BeginsNot}
 use Rattle.hw_service.specs.Begun.{IsAbout}
-use Rattle.hw_service.specs.Run.{StepOver, Runs}
+use Rattle.hw_service.specs.Run.{StepOver, Runs, course, runner}
 use Rattle.hw_service.specs.Serve.{serves_session}
 use Rattle.hw_service.specs.Runs.{hosts_session, calls_peer}
 use Rattle.hw_service.specs.Turns.{turning, TakesTurn}
@@ -304,7 +304,7 @@ node_appended sight tells s status old new r not = appended_of (names_in s) r.ca
 
 -- the read count and the validator are found wrong only before the first step
 runs_unwritten : {B K X : Type 0} (sight : Sight B K) (tells : Bool) (names : Names) (me : Option ℕ) (step : StepOver B X) (number count : ℕ) (before after : Outside B) (x y : X) (e : ServiceFault)
-    → ((f : ServiceFault) (k : ℕ) (old new : Scene B × X) → step k old new (Err f) → IsStepFault f) → (IsStepFault e → ⊥) → Runs sight tells names me step number count before after x y (Err e) → after.written ≡ before.written
+    → ((f : ServiceFault) (k : ℕ) (old new : Scene B × X) → step k old new (Err f) → IsStepFault f) → (IsStepFault e → ⊥) → Runs (runner sight tells names me) (course step number count) (before, x) (after, y) (Err e) → after.written ≡ before.written
 runs_unwritten sight tells names me step number count before after x y e each not (inl none) = elim none.begins_not [ inl n ↦ n.1.written | inr n ↦ n.2.written ]
 runs_unwritten sight tells names me step number count before after x y e each not (inr part) = absurd (not (part_fault sight tells names me step number count before after x y e (each e) part))
 
@@ -394,7 +394,7 @@ begins_in_vain sight tells names (Some me) before after (inl ((config, said, non
 begins_in_vain sight tells names me before after (inr (f, is, fails)) = absurd (subst IsStartKind (sym is) (start_kind f))
 
 runs_in_vain : {B K X : Type 0} (sight : Sight B K) (tells : Bool) (names : Names) (me : Option ℕ) (step : StepOver B X) (number count : ℕ) (before after : Outside B) (x y : X)
-    → ((f : ServiceFault) (k : ℕ) (old new : Scene B × X) → step k old new (Err f) → IsStepFault f) → Runs sight tells names me step number count before after x y (Err fault.NoValidator) → IsAskedInVain tells names me before.files
+    → ((f : ServiceFault) (k : ℕ) (old new : Scene B × X) → step k old new (Err f) → IsStepFault f) → Runs (runner sight tells names me) (course step number count) (before, x) (after, y) (Err fault.NoValidator) → IsAskedInVain tells names me before.files
 runs_in_vain sight tells names me step number count before after x y each (inl not) = begins_in_vain sight tells names me before after not.begins_not
 runs_in_vain sight tells names me step number count before after x y each (inr part) = absurd (part_fault sight tells names me step number count before after x y fault.NoValidator (each fault.NoValidator) part)
 
@@ -444,7 +444,7 @@ IsInVain (Ok served) = ⊥
 IsInVain (Err e) = (e ≡ fault.NoValidator) ⊎ (e ≡ fault.Read) ⊎ (e ≡ fault.OutOfMemory)
 
 runs_vainly : {B K X : Type 0} (sight : Sight B K) (tells : Bool) (names : Names) (me : ℕ) (step : StepOver B X) (number count : ℕ) (before after : Outside B) (x y : X) (came_to : Result Served ServiceFault) → IsTrue tells
-    → IsAskedInVain tells names (Some me) before.files → Runs sight tells names (Some me) step number count before after x y came_to → IsInVain came_to
+    → IsAskedInVain tells names (Some me) before.files → Runs (runner sight tells names (Some me)) (course step number count) (before, x) (after, y) came_to → IsInVain came_to
 runs_vainly sight tells names me step number count before after x y (Ok served) t vain runs = vain_not_read tells names me before.files _ _ t vain runs.begins.reads
 runs_vainly sight tells names me step number count before after x y (Err e) t vain (inl none) = elim none.begins_not [
   | inl n ↦ vain_reads tells names me before.files e t vain n.0

@@ -25,7 +25,7 @@ use Rattle.hw_service.specs.Begin.{Names, file_settings, HoldsKeys, HoldsFault, 
 use Rattle.hw_service.specs.Steps.{Step, TakesUntil}
 use Rattle.hw_service.specs.Told.{TellsEnd}
 use Rattle.hw_service.specs.Written.{IsOfOutput}
-use Rattle.hw_service.specs.Run.{StepOver, ReportsNot, RunsPart, Runs}
+use Rattle.hw_service.specs.Run.{StepOver, ReportsNot, RunsPart, Runs, course, runner}
 use Rattle.hw_service.specs.Turns.{Turning, turning, TellsMade, DrivesSession, Turns, TakesTurn}
 use Rattle.hw_service.specs.Serve.{serves_session}
 use Rattle.hw_service.specs.Runs.{hosts_session, calls_peer}
@@ -211,7 +211,7 @@ report_fault sight last after fault.Append r = absurd r
 
 -- A node that has begun is stopped so.
 pub part_fault : {B K X : Type 0} (sight : Sight B K) (tells : Bool) (names : Names) (me : Option ℕ) (step : StepOver B X) (number count : ℕ) (before after : Outside B) (x y : X) (e : ServiceFault)
-    → ((k : ℕ) (old new : Scene B × X) → step k old new (Err e) → IsStepFault e) → RunsPart sight tells names me step number count before after x y e → IsStepFault e
+    → ((k : ℕ) (old new : Scene B × X) → step k old new (Err e) → IsStepFault e) → RunsPart (runner sight tells names me) (course step number count) (before, x) (after, y) e → IsStepFault e
 part_fault sight tells names me step number count before after x y e each p = elim p.stops [
   | inl s ↦ until_fault step number count _ _ e each s.steps
   | inr s ↦ report_fault sight s.last after e s.reports
@@ -310,7 +310,7 @@ begins_midway sight s tells before after e t may (inr (f, is, fails)) =
 -- A run that may begin is stopped only midway.
 pub runs_midway : {B K X : Type 0} (sight : Sight B K) (s : Service) (tells : Bool) (step : StepOver B X) (number count : ℕ) (before after : Outside B) (x y : X) (came_to : Result Served ServiceFault)
     → ((e : ServiceFault) (k : ℕ) (old new : Scene B × X) → step k old new (Err e) → IsStepFault e) → IsTrue tells → MayBegin s before.files
-    → Runs sight tells (names_in s) (maker_in s) step number count before after x y came_to → IfErr came_to IsMidway
+    → Runs (runner sight tells (names_in s) (maker_in s)) (course step number count) (before, x) (after, y) came_to → IfErr came_to IsMidway
 runs_midway sight s tells step number count before after x y (Ok served) each t may runs = tt
 runs_midway sight s tells step number count before after x y (Err e) each t may (inl not) = begins_midway sight s tells before after e t may not.begins_not
 runs_midway sight s tells step number count before after x y (Err e) each t may (inr part) = step_midway e (part_fault sight tells (names_in s) (maker_in s) step number count before after x y e (each e) part)
@@ -437,7 +437,7 @@ begins_plain sight tells names me before after e (inl not) = reads_plain tells n
 begins_plain sight tells names me before after e (inr (f, is, fails)) = start_plain f e is
 
 runs_plain : {B K X : Type 0} (sight : Sight B K) (tells : Bool) (names : Names) (me : Option ℕ) (step : StepOver B X) (number count : ℕ) (before after : Outside B) (x y : X) (came_to : Result Served ServiceFault)
-    → ((e : ServiceFault) (k : ℕ) (old new : Scene B × X) → step k old new (Err e) → IsStepFault e) → Runs sight tells names me step number count before after x y came_to → IfErr came_to IsPlainFault
+    → ((e : ServiceFault) (k : ℕ) (old new : Scene B × X) → step k old new (Err e) → IsStepFault e) → Runs (runner sight tells names me) (course step number count) (before, x) (after, y) came_to → IfErr came_to IsPlainFault
 runs_plain sight tells names me step number count before after x y (Ok served) each runs = tt
 runs_plain sight tells names me step number count before after x y (Err e) each (inl not) = begins_plain sight tells names me before after e not.begins_not
 runs_plain sight tells names me step number count before after x y (Err e) each (inr part) = step_plain e (part_fault sight tells names me step number count before after x y e (each e) part)

@@ -79,11 +79,11 @@ pub record AreNew (addresses : List Word) (peers : List Peer) : Type 0 where
   pub marks : All (λ (p : Peer). p.mark ≡ no_mark) peers
 
 -- The validator took its turns with such peers.
-pub record TakesTurns {B K : Type 0} (sight : Sight B K) (tells : Bool) (names : Names) (me turns : ℕ) (addresses : List Word) (before after : Outside B) (given given_now : Option (List ℕ)) (came_to : Result Served ServiceFault) : Type 0 where
+pub record TakesTurns {B K : Type 0} (sight : Sight B K) (tells : Bool) (names : Names) (me turns : ℕ) (addresses : List Word) (before after : Outside B × Option (List ℕ)) (came_to : Result Served ServiceFault) : Type 0 where
   pub first : List Peer
   pub are_new : AreNew addresses first
   pub last : List Peer
-  pub runs : RunsTurns sight tells names me turns before after (turning first given) (turning last given_now) came_to
+  pub runs : RunsTurns sight tells names me turns (before.0, turning first before.1) (after.0, turning last after.1) came_to
 
 -- or there was no memory to make them, and nothing changed
 pub record HasNoPeers {B : Type 0} (before after : Outside B) (given given_now : Option (List ℕ)) (came_to : Result Served ServiceFault) : Type 0 where
@@ -95,7 +95,7 @@ pub record HasNoPeers {B : Type 0} (before after : Outside B) (given given_now :
 abbrev pub RunsAsAsked : {B K : Type 0} → Sight B K → Bool → Service → Outside B → Outside B → Option (List ℕ) → Option (List ℕ) → Result Served ServiceFault → Type 0
 RunsAsAsked sight tells (Serve names address sessions) before after given given_now came_to = Serves sight tells names sessions before after came_to × (given_now ≡ given)
 RunsAsAsked sight tells (Run names me turns peers) before after given given_now came_to =
-    TakesTurns sight tells names me turns peers before after given given_now came_to ⊎ HasNoPeers before after given given_now came_to
+    TakesTurns sight tells names me turns peers (before, given) (after, given_now) came_to ⊎ HasNoPeers before after given given_now came_to
 RunsAsAsked sight tells (Host names address sessions) before after given given_now came_to = Hosts sight tells names sessions before after came_to × (given_now ≡ given)
 RunsAsAsked sight tells (Meet names peer) before after given given_now came_to = Calls sight tells names peer before after came_to × (given_now ≡ given)
 

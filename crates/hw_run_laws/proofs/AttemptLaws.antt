@@ -22,9 +22,10 @@ use Rattle.hw_session.specs.declared.fault.MakeFault.TheVariants as fault
 use Rattle.hw_session.specs.Node.{NodeState}
 use Rattle.hw_session.specs.Make.{planned_by, own_vertex, with_vertex, with_entry, IsToMake, Makes}
 use Rattle.hw_session.specs.Restart.{HasLog, logged_of}
+use Rattle.hw_session.specs.Standing.{Standing}
 use Rattle.hw_session.proofs.LineLaws.{make_is_an_event}
 use Rattle.hw_run_laws.specs.Restart.{arrivals, vertices_sent, vertices_told, TakesSome, HasCutLog, LeavesLog}
-use Rattle.hw_run_laws.specs.Calls.{IsSound, Standing, at_door, Attempt, makes, accepts, serves, drives, meets, IsReady, AttemptsKeepOneLine}
+use Rattle.hw_run_laws.specs.Calls.{IsSound, at_door, Attempt, makes, accepts, serves, drives, meets, IsReady, AttemptsKeepOneLine}
 use Rattle.hw_run_laws.proofs.LifeLaws.{life_both}
 use Rattle.hw_run_laws.proofs.StartLaws.{reached}
 use Rattle.hw_run_laws.proofs.CutLaws.{serves_leave, drives_leave, make_leaves}

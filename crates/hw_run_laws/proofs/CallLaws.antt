@@ -14,7 +14,8 @@ use Rattle.hw_session.specs.Node.{NodeState}
 use Rattle.hw_session.specs.Make.{with_entry}
 use Rattle.hw_session.specs.Restart.{HasLog, logged_of}
 use Rattle.hw_session.specs.Start.{GoesOn}
-use Rattle.hw_run_laws.specs.Calls.{IsSound, Standing, at_door, Attempt, makes, accepts, serves, drives, meets, IsWhole, StartsAgain, Call, goes_on, starts, gives_up, AreCalls, IsReady, CallsKeepOneLine, CallsKeepApart}
+use Rattle.hw_session.specs.Standing.{Standing}
+use Rattle.hw_run_laws.specs.Calls.{IsSound, at_door, Attempt, makes, accepts, serves, drives, meets, IsWhole, StartsAgain, Call, goes_on, starts, gives_up, AreCalls, IsReady, CallsKeepOneLine, CallsKeepApart}
 use Rattle.hw_run_laws.specs.Restart.{vertices_sent, vertices_told}
 use Rattle.hw_run_laws.proofs.LifeLaws.{serves_life}
 use Rattle.hw_run_laws.proofs.KeepLaws.{serves_keep, drives_keep}

@@ -24,6 +24,7 @@ use Rattle.hw_session.specs.Serving.{served}
 use Rattle.hw_session.specs.Sessions.{StandsBefore, StandsCut, Leaves}
 use Rattle.hw_session.specs.Driving.{driven}
 use Rattle.hw_session.specs.Drives.{StandsDriven, StandsDrivenCut, LeavesDriven}
+use Rattle.hw_session.specs.Standing.{standing, driver_standing}
 use Rattle.hw_session.proofs.ConfigLaws.{driven_config}
 use Rattle.hw_session.proofs.MakeLaws.{own_accepted}
 use Rattle.hw_session.proofs.RestartLaws.{make_keeps_log}
@@ -72,14 +73,14 @@ module _ (n m : NodeState) (read written : List ℕ) (few : length read ≤ byte
   served_whole (is, logs) =
       inl (subst (λ (k : NodeState). TakesSome n (vertices_sent read) k) (sym is) (served_life n read), stands n tells old new told has m (ap (λ (k : NodeState). k.core.config) is ∙ served_config n read) logs)
 
-  served_before : StandsBefore n read written m tells old new → LeftServed
+  served_before : StandsBefore tells (standing n old) read written (standing m new) → LeftServed
   served_before s =
       inl (
         first_takes n m read s.first s.part s.split few (subst (λ (k : NodeState). TakesSome n (vertices_sent s.first) k) (sym s.state) (served_life n s.first)),
         stands n tells old new told has m (ap (λ (k : NodeState). k.core.config) s.state ∙ served_config n s.first) s.logs,
       )
 
-  served_cut : StandsCut n read written m tells old new → LeftServed
+  served_cut : StandsCut tells (standing n old) read written (standing m new) → LeftServed
   served_cut s =
       let before = (served n s.first).state in
       inr (record {
@@ -91,7 +92,7 @@ module _ (n m : NodeState) (read written : List ℕ) (few : length read ≤ byte
         log = cut n tells old new told has before m s.vertex (served_config n s.first) s.logs;
       })
 
-  served_leaves : (e : SessionEnd) → Leaves e n read written m tells old new → LeftServed
+  served_leaves : (e : SessionEnd) → Leaves e tells (standing n old) read written (standing m new) → LeftServed
   served_leaves end.Done left = served_whole left
   served_leaves end.EndOfInput left = served_whole left
   served_leaves end.WrongInstance left = served_whole left
@@ -116,14 +117,14 @@ module _ (n m : NodeState) (mark now : PeerMark) (read written : List ℕ) (few 
   driven_whole (is, logs) =
       inl (subst (λ (k : NodeState). TakesSome n (vertices_sent read) k) (sym is) (driven_life n mark read), stands n tells old new told has m (ap (λ (k : NodeState). k.core.config) is ∙ driven_config n mark read) logs)
 
-  driven_before : StandsDriven n mark read written m now tells old new → LeftDriven
+  driven_before : StandsDriven tells (driver_standing n mark old) read written (driver_standing m now new) → LeftDriven
   driven_before s =
       inl (
         first_takes n m read s.first s.part s.split few (subst (λ (k : NodeState). TakesSome n (vertices_sent s.first) k) (sym s.state) (driven_life n mark s.first)),
         stands n tells old new told has m (ap (λ (k : NodeState). k.core.config) s.state ∙ driven_config n mark s.first) s.logs,
       )
 
-  driven_cut : StandsDrivenCut n mark read written m now tells old new → LeftDriven
+  driven_cut : StandsDrivenCut tells (driver_standing n mark old) read written (driver_standing m now new) → LeftDriven
   driven_cut s =
       let before = (driven n mark s.first).state.node in
       inr (record {
@@ -135,7 +136,7 @@ module _ (n m : NodeState) (mark now : PeerMark) (read written : List ℕ) (few 
         log = cut n tells old new told has before m s.vertex (driven_config n mark s.first) s.logs;
       })
 
-  driven_leaves : (e : SessionEnd) → LeavesDriven e n mark read written m now tells old new → LeftDriven
+  driven_leaves : (e : SessionEnd) → LeavesDriven e tells (driver_standing n mark old) read written (driver_standing m now new) → LeftDriven
   driven_leaves end.Done left = driven_whole left
   driven_leaves end.EndOfInput left = driven_whole left
   driven_leaves end.WrongInstance left = driven_whole left

@@ -22,6 +22,7 @@ use Rattle.hw_session.specs.Restart.{logged_of}
 use Rattle.hw_session.specs.Accept.{given_to, taken_by}
 use Rattle.hw_session.specs.Driving.{Driver, hello, greeting, leave, want_some, want, pull, push_first, push, to_push, with_pushed, with_pulled, not_due, after_vertex, drive_told, drive_step, driven}
 use Rattle.hw_session.specs.Drives.{LeavesDriven}
+use Rattle.hw_session.specs.Standing.{driver_standing}
 use Rattle.hw_run_laws.specs.Restart.{vertex_in, TakesSome, vertices_sent, SaysOfLog, DrivenIsALife, DrivenSaysOfLog, IsLogged, DrivesIsALife, DrivesSaysOfLog}
 use Rattle.hw_run_laws.proofs.LifeLaws.{Acts, talk_takes}
 use Rattle.hw_run_laws.proofs.OutLaws.{among_drop, Speaks, quiet, quiet_speaks, taken_grows, said_first, talk_says}
@@ -211,11 +212,11 @@ driven_says n mark bytes =
     (talk_says IsStaged (λ (d : Driver). d.node) drive_step (λ d f is. (drive_does d f is).staged) (λ d f is. (drive_does d f is).speaks) (frames_of bytes).end (greeting n mark) (frames_of bytes).given (inl refl))
 
 -- what is so of the node that the bytes leave is so of the one that stands there
-whole : (P : NodeState → Type 0) (n : NodeState) (mark : PeerMark) (read written : List ℕ) (m : NodeState) (now : PeerMark) (tells : Bool) (held_old held_new : List ℕ → Option (List ℕ)) (e : SessionEnd) → IsLogged e → LeavesDriven e n mark read written m now tells held_old held_new
+whole : (P : NodeState → Type 0) (n : NodeState) (mark : PeerMark) (read written : List ℕ) (m : NodeState) (now : PeerMark) (tells : Bool) (held_old held_new : List ℕ → Option (List ℕ)) (e : SessionEnd) → IsLogged e → LeavesDriven e tells (driver_standing n mark held_old) read written (driver_standing m now held_new)
     → P (driven n mark read).state.node → P m
 whole P n mark read written m now tells held_old held_new e logged stands p = go e logged stands
   where
-    go : (e : SessionEnd) → IsLogged e → LeavesDriven e n mark read written m now tells held_old held_new → P m
+    go : (e : SessionEnd) → IsLogged e → LeavesDriven e tells (driver_standing n mark held_old) read written (driver_standing m now held_new) → P m
     go end.Done logged stands = subst P (sym stands.0) p
     go end.EndOfInput logged stands = subst P (sym stands.0) p
     go end.WrongInstance logged stands = subst P (sym stands.0) p

@@ -16,6 +16,7 @@ use Rattle.hw_session.specs.Serving.{served}
 use Rattle.hw_session.specs.Sessions.{Leaves}
 use Rattle.hw_session.specs.Driving.{driven}
 use Rattle.hw_session.specs.Drives.{LeavesDriven}
+use Rattle.hw_session.specs.Standing.{standing, driver_standing}
 use Rattle.hw_session.proofs.ConfigLaws.{driven_config}
 use Rattle.hw_service.proofs.GrowLaws.{served_config}
 use Rattle.hw_run_laws.specs.Restart.{IsLogged, ServesKeepsLog, DrivesKeepsLog}
@@ -88,7 +89,7 @@ serves_keep n m read written tells held_old held_new ends_old ends_new e s logge
     whole : (m ≡ (served n read).state) × Logs n m tells held_old held_new → HasLog m (held_new m.log)
     whole left = logs_keep n m tells held_old held_new (ap (λ (k : NodeState). k.core.config) left.0 ∙ served_config n read) left.1 told has
 
-    go : (e : SessionEnd) → IsLogged e → Leaves e n read written m tells held_old held_new → HasLog m (held_new m.log)
+    go : (e : SessionEnd) → IsLogged e → Leaves e tells (standing n held_old) read written (standing m held_new) → HasLog m (held_new m.log)
     go end.Done logged left = whole left
     go end.EndOfInput logged left = whole left
     go end.WrongInstance logged left = whole left
@@ -105,7 +106,7 @@ drives_keep n m mark now read written tells held_old held_new ends_old ends_new 
     whole : (m ≡ (driven n mark read).state.node) × Logs n m tells held_old held_new → HasLog m (held_new m.log)
     whole left = logs_keep n m tells held_old held_new (ap (λ (k : NodeState). k.core.config) left.0 ∙ driven_config n mark read) left.1 told has
 
-    go : (e : SessionEnd) → IsLogged e → LeavesDriven e n mark read written m now tells held_old held_new → HasLog m (held_new m.log)
+    go : (e : SessionEnd) → IsLogged e → LeavesDriven e tells (driver_standing n mark held_old) read written (driver_standing m now held_new) → HasLog m (held_new m.log)
     go end.Done logged left = whole left
     go end.EndOfInput logged left = whole left
     go end.WrongInstance logged left = whole left

@@ -24,6 +24,7 @@ use Rattle.hw_session.specs.Restart.{logged_of}
 use Rattle.hw_session.specs.Accept.{given_to, taken_by}
 use Rattle.hw_session.specs.Serving.{is_clash, answer_to_vertex, serve_first, serve_frame, serve_step, served}
 use Rattle.hw_session.specs.Sessions.{Leaves}
+use Rattle.hw_session.specs.Standing.{standing}
 use Rattle.hw_session.proofs.ConfigLaws.{taken_config}
 use Rattle.hw_run_laws.specs.Restart.{vertex_in, vertices_among, vertices_sent, arrivals, LivesOn, TakesSome, ServedIsALife, IsLogged, ServesIsALife}
 
@@ -213,7 +214,7 @@ serves_life n m read written tells held_old held_new ends_old ends_new e s logge
     whole : m ≡ (served n read).state → TakesSome n (vertices_sent read) m
     whole is = subst (λ (k : NodeState). TakesSome n (vertices_sent read) k) (sym is) (served_life n read)
 
-    go : (e : SessionEnd) → IsLogged e → Leaves e n read written m tells held_old held_new → TakesSome n (vertices_sent read) m
+    go : (e : SessionEnd) → IsLogged e → Leaves e tells (standing n held_old) read written (standing m held_new) → TakesSome n (vertices_sent read) m
     go end.Done logged left = whole left.0
     go end.EndOfInput logged left = whole left.0
     go end.WrongInstance logged left = whole left.0

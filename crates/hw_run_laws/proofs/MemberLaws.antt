@@ -28,8 +28,9 @@ use Rattle.hw_session.specs.Accept.{given_to, taken_by, IsOfNode}
 use Rattle.hw_session.specs.Make.{planned_by, own_vertex, entry_for, with_entry, IsNamesake, IsToMake, IsTooMany, IsNothing}
 use Rattle.hw_session.specs.Restart.{journal_log}
 use Rattle.hw_session.specs.Driving.{hello}
+use Rattle.hw_session.specs.Standing.{Standing}
 use Rattle.hw_meeting_node.specs.declared.end.MeetEnd.TheVariants as met_end
-use Rattle.hw_run_laws.specs.Calls.{IsSound, IsFairVertex, Standing, Attempt, makes, accepts, serves, drives, meets, IsWhole, StartsAgain, Call, goes_on, starts, gives_up, IsReady}
+use Rattle.hw_run_laws.specs.Calls.{IsSound, IsFairVertex, Attempt, makes, accepts, serves, drives, meets, IsWhole, StartsAgain, Call, goes_on, starts, gives_up, IsReady}
 use Rattle.hw_run_laws.specs.Members.{Deed, making, accepting, serving, driving, meeting, Turn, does, stops, drops, deed_of, turn_of, MayBeDone, MayTurn, LivesAreThere}
 use Rattle.hw_run_laws.proofs.AttemptLaws.{takes_fairly, make_lives, lives_soundly}
 use Rattle.hw_run_laws.proofs.CallLaws.{call_ready, call_validator}

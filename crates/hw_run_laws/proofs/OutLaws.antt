@@ -38,6 +38,7 @@ use Rattle.hw_session.specs.Restart.{logged_of}
 use Rattle.hw_session.specs.Accept.{given_to, taken_by}
 use Rattle.hw_session.specs.Serving.{is_clash, wanted_by, part_from, answer_to_have, answer_to_vertex, sent_for, answer_to_want, serve_first, serve_frame, serve_step, served}
 use Rattle.hw_session.specs.Sessions.{Leaves}
+use Rattle.hw_session.specs.Standing.{standing}
 use Rattle.hw_session.proofs.ConfigLaws.{talk_keeps}
 use Rattle.hw_run_laws.specs.Restart.{vertex_in, SaysOfLog, ServedSaysOfLog, IsLogged, ServesSaysOfLog}
 
@@ -298,7 +299,7 @@ serves_says n m read written tells held_old held_new ends_old ends_new e s logge
     whole : m ≡ (served n read).state → SaysOfLog (logged_of m) (served n read).said
     whole is = subst (λ (k : NodeState). SaysOfLog (logged_of k) (served n read).said) (sym is) (served_says n read)
 
-    go : (e : SessionEnd) → IsLogged e → Leaves e n read written m tells held_old held_new → SaysOfLog (logged_of m) (served n read).said
+    go : (e : SessionEnd) → IsLogged e → Leaves e tells (standing n held_old) read written (standing m held_new) → SaysOfLog (logged_of m) (served n read).said
     go end.Done logged left = whole left.0
     go end.EndOfInput logged left = whole left.0
     go end.WrongInstance logged left = whole left.0

@@ -21,6 +21,7 @@ use Rattle.hw_session.specs.Serving.{serve_step, served}
 use Rattle.hw_session.specs.Sessions.{Serves}
 use Rattle.hw_session.specs.Driving.{Driver, hello, greeting, drive_step, driven}
 use Rattle.hw_session.specs.Drives.{Drives}
+use Rattle.hw_session.specs.Standing.{Standing, standing, driver_standing}
 use Rattle.hw_session.proofs.FurtherLaws.{none_further}
 use Rattle.hw_session.proofs.GrowsLaws.{logs_nothing}
 use Rattle.hw_session.proofs.ServingLaws.{before_less}
@@ -36,7 +37,7 @@ use Rattle.hw_meeting_node.proofs.FurtherLaws.{none_further as none_met_further}
 use Rattle.hw_meeting_node.proofs.TalkLaws.{begins, heard_here}
 use Rattle.hw_service.specs.Scene.{DoorSeen, door_seen}
 use Rattle.hw_service.specs.Meets.{after_all, NodeMeets}
-use Rattle.hw_run_laws.specs.Calls.{Standing, at_door, IsFairPeer, IsFairMet}
+use Rattle.hw_run_laws.specs.Calls.{at_door, IsFairPeer, IsFairMet}
 use Rattle.hw_run_laws.specs.Restart.{arrivals, vertices_among}
 
 -- ---- nothing is sent
@@ -60,7 +61,7 @@ stays n held = logs_nothing true n held held (λ told name. refl)
 serves_quietly : (n : NodeState) → served n [] ≡ record { state = n; said = [] ∷ []; end = end.EndOfInput }
 serves_quietly n = (reads_frame_by_frame NodeState).no_frame_ends serve_step [] n [] ([] ∷ []) n [] end.EndOfInput ((reads_frame_by_frame NodeState).begins serve_step [] n) no_frame (omega arith)
 
-pub quiet_serves : (n : NodeState) (held : List ℕ → Option (List ℕ)) (ends : ℕ) → Serves n [] [] n true held held ends (raised ends) end.EndOfInput
+pub quiet_serves : (n : NodeState) (held : List ℕ → Option (List ℕ)) (ends : ℕ) → Serves true (standing n held) [] [] (standing n held) ends (raised ends) end.EndOfInput
 quiet_serves n held ends =
     let whole = serves_quietly n in
     record {
@@ -80,7 +81,7 @@ drives_quietly n mark =
     (reads_frame_by_frame Driver).no_frame_ends drive_step (hello n) (greeting n mark) [] (hello n ∷ []) (greeting n mark) [] end.EndOfInput
     ((reads_frame_by_frame Driver).begins drive_step (hello n) (greeting n mark)) no_frame (omega arith)
 
-pub quiet_drives : (n : NodeState) (mark : PeerMark) (held : List ℕ → Option (List ℕ)) (ends : ℕ) → Drives n mark [] (said_bytes (hello n ∷ [])) n mark true held held ends (raised ends) end.EndOfInput
+pub quiet_drives : (n : NodeState) (mark : PeerMark) (held : List ℕ → Option (List ℕ)) (ends : ℕ) → Drives true (driver_standing n mark held) [] (said_bytes (hello n ∷ [])) (driver_standing n mark held) ends (raised ends) end.EndOfInput
 quiet_drives n mark held ends =
     let whole = drives_quietly n mark in
     record {

@@ -33,6 +33,7 @@ use Rattle.hw_session.specs.Node.{NodeState}
 use Rattle.hw_session.specs.Restart.{logged_of}
 use Rattle.hw_session.specs.Serving.{part_from, answer_to_have, serve_first, serve_frame, serve_step, served}
 use Rattle.hw_session.specs.Sessions.{IsEndOf, IsCutEnd, IsReadNoFurther, Leaves, Serves}
+use Rattle.hw_session.specs.Standing.{standing}
 use Rattle.hw_session.proofs.FurtherLaws.{NoneBehind, frame_alone, part_cut, none_further, no_further, stops_so}
 use Rattle.hw_session.proofs.GrowsLaws.{logs_nothing}
 use Rattle.hw_session.proofs.ServingLaws.{before_less, no_frame_so, cut_so_far, IsPlain, all_written, is_answered}
@@ -71,7 +72,7 @@ none_left k = refl
 -- ---- a session that came to this
 
 pub serves_so : (n m : NodeState) (held_old held_new : List ℕ → Option (List ℕ)) (read : List ℕ) (said : List (List Frame)) (ends : ℕ) (e : SessionEnd) → served n read ≡ record { state = m; said = said; end = e } → IsPlain e → length read ≤ byte_limit
-    → IsEndOf n read 0 ends e → IsReadNoFurther (λ (bytes : List ℕ). (served n bytes).end) read → Leaves e n read (said_bytes said) m true held_old held_new → Serves n read (said_bytes said) m true held_old held_new 0 ends e
+    → IsEndOf n read 0 ends e → IsReadNoFurther (λ (bytes : List ℕ). (served n bytes).end) read → Leaves e true (standing n held_old) read (said_bytes said) (standing m held_new) → Serves true (standing n held_old) read (said_bytes said) (standing m held_new) 0 ends e
 serves_so n m held_old held_new read said ends e whole plain few counted further left = record {
   within = few;
   ended = inl (ap (λ (t : Talk NodeState). t.end) (sym whole));
@@ -246,7 +247,7 @@ module _ (n : NodeState) (place : ℕ) (range : place < 2 ^ 64) where
   asks_fairly : (me : ℕ) → IsFairPeer me n asked
   asks_fairly me = subst (λ (vs : List Vertex). AreFair (setting_of n.core.config) me (logged_of n) (arrivals n vs)) (sym (sent n have range tt (omega arith) (omega arith))) tt
 
-  serves_asked : (held : List ℕ → Option (List ℕ)) → Serves n asked (said_bytes asked_said) n true held held 0 (raised 0) end.EndOfInput
+  serves_asked : (held : List ℕ → Option (List ℕ)) → Serves true (standing n held) asked (said_bytes asked_said) (standing n held) 0 (raised 0) end.EndOfInput
   serves_asked held =
       let size = asked_long in
       serves_so n n held held asked asked_said (raised 0) end.EndOfInput asked_whole tt (omega (arith, size)) refl (further_second n have range tt (omega arith) (omega arith))

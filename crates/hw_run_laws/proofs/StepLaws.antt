@@ -12,7 +12,7 @@ use Rattle.hw_service.specs.Scene.{Outside, Scene, moment_of}
 use Rattle.hw_service.specs.Talk.{HasGrown}
 use Rattle.hw_service.specs.Steps.{Taken, AreTaken, TakesAll, TakesUntil, Takes}
 use Rattle.hw_service.specs.declared.fault.ServiceFault.TheVariants as fault
-use Rattle.hw_service.specs.Run.{StepOver, HaveTaken, ReportsPart, ReportsNot, StopsAtStep, StopsAtReport}
+use Rattle.hw_service.specs.Run.{StepOver, HaveTaken, ReportsPart, ReportsNot, StopsAtStep, StopsAtReport, course}
 use Rattle.hw_service.specs.Serve.{serves_session}
 use Rattle.hw_service.specs.Turns.{TellsMade, MakesUnit, DrivesSession, Turns, TakesTurn}
 use Rattle.hw_service.proofs.DriveLaws.{makes_grows}
@@ -105,7 +105,7 @@ module _ {B K : Type 0} (sight : Sight B K) where
   report_took last after fault.Append not good = absurd not
 
   stop_took : {X : Type 0} (step : StepOver B X) → Keeps step → (number count : ℕ) (first : Scene B) (after : Outside B) (x y : X) (e : ServiceFault)
-      → StopsAtStep step number count first after x y e ⊎ StopsAtReport sight step number count first after x y e → Good first → TookUntil sight step number count first after x y e
+      → StopsAtStep (course step number count) (first, x) (after, y) e ⊎ StopsAtReport sight (course step number count) (first, x) (after, y) e → Good first → TookUntil sight (course step number count) (first, x) (after, y) e
   stop_took step keeps number count first after x y e (inl stop) good =
       let last = until_good step keeps number count (first, x) (stop.last, y) e stop.steps good in
       inl (stop, subst (λ (o : Outside B). HaveTaken sight stop.last.node.core stop.last.kept.passed o.consumers) (sym stop.left) last.taken)

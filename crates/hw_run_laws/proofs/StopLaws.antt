@@ -17,16 +17,17 @@ use Rattle.hw_link.specs.declared.end.SessionEnd.TheVariants as end
 use Rattle.hw_session.specs.Node.{NodeState}
 use Rattle.hw_session.specs.Restart.{HasLog}
 use Rattle.hw_session.specs.Start.{Starts, StartsLog}
+use Rattle.hw_session.specs.Standing.{Standing}
 use Rattle.hw_service.specs.declared.fault.ServiceFault.TheVariants as fault
 use Rattle.hw_service.specs.Scene.{DoorSeen, Scene, scene, none_told}
 use Rattle.hw_service.specs.Begin.{Reads, HasBegun}
-use Rattle.hw_service.specs.Run.{StepOver, RunsPart, ReportsPart}
+use Rattle.hw_service.specs.Run.{StepOver, RunsPart, ReportsPart, course, runner}
 use Rattle.hw_service.specs.Serve.{ServesOne, serves_session}
 use Rattle.hw_service.specs.Turns.{TakesTurn}
 use Rattle.hw_service.specs.Runs.{hosts_session, calls_peer}
 use Rattle.hw_service.specs.Steps.{AreTaken, TakesAll, TakesUntil}
 use Rattle.hw_service.specs.Told.{HoldsSession}
-use Rattle.hw_run_laws.specs.Calls.{IsSound, Standing}
+use Rattle.hw_run_laws.specs.Calls.{IsSound}
 use Rattle.hw_run_laws.specs.CutMembers.{plain_sight, all_took, all_finished, none_dropped, ReplaysAreFed, ReplaysStop, named_as, door_asked, outside_at, IsCutAtReport, RunsAreCut}
 use Rattle.hw_run_laws.proofs.QuietLaws.{quiet_serves}
 use Rattle.hw_run_laws.proofs.StartLaws.{renewed, renews}
@@ -193,7 +194,7 @@ module _ (a : Standing) (config keys written : List ℕ) (cs : List Consumed) (m
   no_steps step number at = record { taken = []; count_is = refl; each = refl; failed_is = refl }
 
   cut_at_report : {X : Type 0} (step : StepOver Consumed X) (door : DoorSeen) (number : ℕ) (x : X)
-      → RunsPart plain_sight true (named_as config keys a) me step number 0 (outside_at a door written cs) (outside_at a door written (all_finished (told_chain a.node.core) cs)) x x fault.Write
+      → RunsPart (runner plain_sight true (named_as config keys a) me) (course step number 0) ((outside_at a door written cs), x) ((outside_at a door written (all_finished (told_chain a.node.core) cs)), x) fault.Write
   cut_at_report step door number x = record {
     first = first door;
     begins = begun door;
@@ -227,8 +228,8 @@ module _ (a : Standing) (config keys written : List ℕ) (cs : List Consumed) (n
   unfolding AreTaken
   one_step = record { taken = []; fewer = omega arith; before = (before, tt); each = refl; ends = quiet (number + 0) }
 
-  cut_at_session : RunsPart plain_sight true (named_as config keys a) None (serves_session plain_sight true) number 1 (outside_at a (door_asked 0 0) written cs)
-      (outside_at a (door_asked (raised 0) (raised 0)) written (all_took (told_chain a.node.core) cs)) tt tt fault.Write
+  cut_at_session : RunsPart (runner plain_sight true (named_as config keys a) None) (course (serves_session plain_sight true) number 1) (outside_at a (door_asked 0 0) written cs, tt)
+      (outside_at a (door_asked (raised 0) (raised 0)) written (all_took (told_chain a.node.core) cs), tt) fault.Write
   cut_at_session = record {
     first = before;
     begins = begun a config keys written cs None sound has reads (door_asked 0 0);

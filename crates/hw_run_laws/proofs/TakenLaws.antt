@@ -30,8 +30,9 @@ use Rattle.hw_session.specs.Grows.{Gains, Logs}
 use Rattle.hw_session.specs.Restart.{logged_of}
 use Rattle.hw_session.specs.Serving.{wanted_by, is_clash, answer_to_vertex, serve_step, served}
 use Rattle.hw_session.specs.Sessions.{Serves}
+use Rattle.hw_session.specs.Standing.{Standing, standing}
 use Rattle.hw_session.proofs.GrowsLaws.{gains_one, logs_counts}
-use Rattle.hw_run_laws.specs.Calls.{IsSound, Standing, serves, IsFairPeer, IsReady}
+use Rattle.hw_run_laws.specs.Calls.{IsSound, serves, IsFairPeer, IsReady}
 use Rattle.hw_run_laws.specs.Members.{HoldsNone, IsTaken, VerticesAreTaken}
 use Rattle.hw_run_laws.specs.Restart.{arrivals, vertices_sent, IsLogged}
 use Rattle.hw_run_laws.proofs.AttemptLaws.{takes_fairly, lives_soundly}
@@ -113,7 +114,7 @@ module _ (me : ℕ) (a : Standing) (v : Vertex) (range : VertexInRange v) (fits 
   each : IsSound n → (w : Vertex) → Among w m.core.journal → VertexInRange w × VertexFits w
   each sound = each_by n v (λ (w : Vertex). VertexInRange w × VertexFits w) (each_fits n sound) (range, fits) given
 
-  sound_behind : (written : List ℕ) (ends : ℕ) (e : SessionEnd) → Serves n bytes written m true a.held held 0 ends e → IsLogged e → me < length n.core.config.weights → IsSound n → IsReady me a → IsSound m
+  sound_behind : (written : List ℕ) (ends : ℕ) (e : SessionEnd) → Serves true (standing n a.held) bytes written (standing m held) 0 ends e → IsLogged e → me < length n.core.config.weights → IsSound n → IsReady me a → IsSound m
   sound_behind written ends e does logged validator sound ready =
       lives_soundly me n sound validator ready.line m (takes_fairly me n m (vertices_sent bytes) fair (serves_life n m bytes written true a.held held 0 ends e does logged)) (each sound)
 

@@ -14,8 +14,9 @@ use Rattle.hw_session.specs.declared.fault.MakeFault.TheVariants as fault
 use Rattle.hw_session.specs.Node.{NodeState}
 use Rattle.hw_session.specs.Make.{planned_by, own_vertex, entry_for, with_vertex, with_entry, IsToMake}
 use Rattle.hw_session.specs.Restart.{journal_log, journal_lasts}
+use Rattle.hw_session.specs.Standing.{Standing}
 use Rattle.hw_session.proofs.MakeLaws.{own_accepted}
-use Rattle.hw_run_laws.specs.Calls.{IsSound, Standing, makes, StartsAgain, IsReady, MendsTo}
+use Rattle.hw_run_laws.specs.Calls.{IsSound, makes, StartsAgain, IsReady, MendsTo}
 use Rattle.hw_run_laws.specs.Restart.{HasCutLog}
 use Rattle.hw_run_laws.specs.Members.{making, MayBeDone, IsTorn, TornLogsAreThere}
 use Rattle.hw_run_laws.proofs.GivenLaws.{put, put_there, put_others}

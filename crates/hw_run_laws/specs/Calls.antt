@@ -34,6 +34,7 @@ use Rattle.hw_session.specs.Sessions.{Serves}
 use Rattle.hw_session.specs.Driving.{driven}
 use Rattle.hw_session.specs.Drives.{Drives}
 use Rattle.hw_session.specs.Start.{GoesOn}
+use Rattle.hw_session.specs.Standing.{Standing, driver_standing}
 use Rattle.hw_meeting.specs.declared.frame.MeetingFrame.TheVariants as meeting
 use Rattle.hw_meeting_node.specs.declared.end.MeetEnd.{MeetEnd}
 use Rattle.hw_meeting_node.specs.declared.meeter.Side.{Side}
@@ -50,11 +51,6 @@ pub record IsSound (n : NodeState) : Type 0 where
   pub kept : IsKept n
   pub config : ConfigInRange n.core.config
   pub vertices : All VertexInRange n.core.journal
-
--- a node, and what the files hold
-pub record Standing : Type 0 where
-  pub node : NodeState
-  pub held : List ℕ → Option (List ℕ)
 
 -- No vertex that a peer sends by these bytes, and that the node accepts in its turn, brings a new unit by the validator.
 abbrev pub IsFairPeer : ℕ → NodeState → List ℕ → Type 0
@@ -77,8 +73,8 @@ at_door a door = record { node = a.node; files = a.held; door = door }
 pub data Attempt (me : ℕ) (a b : Standing) : Type 0 where
   makes : (now : ℕ) (value : List ℕ) (result : Result (Option Plan) MakeFault) → Makes a.node (planned_by a.node me now value) b.node result → WritesOwn a.node (planned_by a.node me now value) b.node a.held b.held result → Attempt me a b
   accepts : (v : Vertex) (result : Result Receipt AcceptFault) → Accepts a.node v b.node result → WritesAccepted a.node v b.node a.held b.held result → IsFairVertex me a.node v → Attempt me a b
-  serves : (read written : List ℕ) (ends_old ends_new : ℕ) (e : SessionEnd) → Serves a.node read written b.node true a.held b.held ends_old ends_new e → IsFairPeer me a.node read → Attempt me a b
-  drives : (mark now : PeerMark) (read written : List ℕ) (ends_old ends_new : ℕ) (e : SessionEnd) → Drives a.node mark read written b.node now true a.held b.held ends_old ends_new e → IsFairPeer me a.node read → Attempt me a b
+  serves : (read written : List ℕ) (ends_old ends_new : ℕ) (e : SessionEnd) → Serves true a read written b ends_old ends_new e → IsFairPeer me a.node read → Attempt me a b
+  drives : (mark now : PeerMark) (read written : List ℕ) (ends_old ends_new : ℕ) (e : SessionEnd) → Drives true (driver_standing a.node mark a.held) read written (driver_standing b.node now b.held) ends_old ends_new e → IsFairPeer me a.node read → Attempt me a b
   meets : (side : Side) (address : Option (List ℕ)) (from to : DoorSeen) (e : MeetEnd) → (does : NodeMeets side address true (at_door a from) (at_door b to) e) → IsFairMet me a.node does.meets.read → Attempt me a b
 
 -- no append failed in a `make`, and there was memory

@@ -18,14 +18,15 @@ use Rattle.hw_replay.specs.Taken.{Taken, nothing_taken, entries_taken, rest_take
 use Rattle.hw_replay.specs.Midway.{midway, next_taken}
 use Rattle.hw_replay.specs.Feed.{first_moment, AreFedUntil, AreFedTo}
 use Rattle.hw_session.specs.Restart.{HasLog}
+use Rattle.hw_session.specs.Standing.{Standing}
 use Rattle.hw_service.specs.declared.fault.ServiceFault.TheVariants as fault
 use Rattle.hw_service.specs.Scene.{DoorSeen, door_seen, Outside, outside, none_told}
 use Rattle.hw_service.specs.Begin.{Names, Reads}
-use Rattle.hw_service.specs.Run.{StepOver, RunsPart}
+use Rattle.hw_service.specs.Run.{StepOver, RunsPart, course, runner}
 use Rattle.hw_service.specs.Serve.{serves_session}
 use Rattle.hw_service.specs.Turns.{TakesTurn}
 use Rattle.hw_service.specs.Runs.{hosts_session, calls_peer}
-use Rattle.hw_run_laws.specs.Calls.{IsSound, Standing}
+use Rattle.hw_run_laws.specs.Calls.{IsSound}
 
 -- ---- consumers
 
@@ -77,15 +78,15 @@ outside_at a door written consumers = outside a.held door (Some written) consume
 abbrev pub IsCutAtReport : {X : Type 0} → Option ℕ → StepOver Consumed X → Type 0
 IsCutAtReport {X} me step = (a : Standing) (config keys written : List ℕ) (consumers : List Consumed) (door : DoorSeen) (number : ℕ) (x : X)
     → IsSound a.node → HasLog a.node (a.held a.node.log) → Reads true (named_as config keys a) me a.held a.node.core.config a.node.keys
-    → RunsPart plain_sight true (named_as config keys a) me step number 0 (outside_at a door written consumers) (outside_at a door written (all_finished (told_chain a.node.core) consumers)) x x fault.Write
+    → RunsPart (runner plain_sight true (named_as config keys a) me) (course step number 0) ((outside_at a door written consumers), x) ((outside_at a door written (all_finished (told_chain a.node.core) consumers)), x) fault.Write
 
 -- A node that serves began so, a peer came that sent nothing, and the line of that session is cut before its first byte. Its consumers took
 -- what is decided, and heard of no end.
 abbrev pub ServicesAreCut : Type 0
 ServicesAreCut = (a : Standing) (config keys written : List ℕ) (consumers : List Consumed) (number : ℕ)
     → IsSound a.node → HasLog a.node (a.held a.node.log) → Reads true (named_as config keys a) None a.held a.node.core.config a.node.keys
-    → RunsPart plain_sight true (named_as config keys a) None (serves_session plain_sight true) number 1 (outside_at a (door_asked 0 0) written consumers)
-    (outside_at a (door_asked (raised 0) (raised 0)) written (all_took (told_chain a.node.core) consumers)) tt tt fault.Write
+    → RunsPart (runner plain_sight true (named_as config keys a) None) (course (serves_session plain_sight true) number 1) (outside_at a (door_asked 0 0) written consumers, tt)
+    (outside_at a (door_asked (raised 0) (raised 0)) written (all_took (told_chain a.node.core) consumers), tt) fault.Write
 
 -- So it may be of each kind of run.
 pub record RunsAreCut : Type 0 where

@@ -15,6 +15,7 @@ use Rattle.hw_agree.specs.Converge.{due_to}
 use Rattle.hw_session.specs.Make.{own_vertex, entry_for, with_entry}
 use Rattle.hw_log.specs.Log.{header_bytes}
 use Rattle.hw_session.specs.Restart.{HasLog}
+use Rattle.hw_session.specs.Standing.{Standing}
 use Rattle.hw_meeting.specs.declared.frame.MeetingFrame.{MeetingFrame}
 use Rattle.hw_meeting.specs.Frames.{meeting_bytes, IsSaid, MeetingInRange}
 use Rattle.hw_meeting_node.specs.declared.end.MeetEnd.TheVariants as met_end
@@ -24,7 +25,7 @@ use Rattle.hw_meeting_node.specs.Meeting.{told_of, torn_by}
 use Rattle.hw_meeting_node.specs.Laws.{judged, all_words, node_of, HaveMet}
 use Rattle.hw_service.specs.Scene.{DoorSeen, door_seen}
 use Rattle.hw_service.specs.Meets.{NodeMeets}
-use Rattle.hw_run_laws.specs.Calls.{Standing, at_door}
+use Rattle.hw_run_laws.specs.Calls.{at_door}
 use Rattle.hw_run_laws.specs.Members.{alone, first_standing, first_block}
 
 -- ---- any two nodes

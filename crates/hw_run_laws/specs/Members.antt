@@ -30,8 +30,9 @@ use Rattle.hw_session.specs.Serving.{part_from, served}
 use Rattle.hw_session.specs.Sessions.{Serves}
 use Rattle.hw_session.specs.Driving.{driven}
 use Rattle.hw_session.specs.Drives.{Drives}
+use Rattle.hw_session.specs.Standing.{Standing, standing, driver_standing}
 use Rattle.hw_meeting_node.specs.declared.meeter.Side.{Side}
-use Rattle.hw_run_laws.specs.Calls.{IsSound, Standing, Attempt, makes, accepts, serves, drives, meets, StartsAgain, Call, goes_on, starts, gives_up, AreCalls, IsWhole, IsReady, IsSaid}
+use Rattle.hw_run_laws.specs.Calls.{IsSound, Attempt, makes, accepts, serves, drives, meets, StartsAgain, Call, goes_on, starts, gives_up, AreCalls, IsWhole, IsReady, IsSaid}
 use Rattle.hw_run_laws.specs.Complete.{IsUndisturbed}
 use Rattle.hw_run_laws.specs.Restart.{HasCutLog}
 
@@ -142,7 +143,7 @@ short_session n = framed (frame.Hello (instance_of n.core.config)) ++ framed fra
 -- Each node, dialled by such a peer, has a session that nothing disturbs and that ends as both said.
 pub record IsWholeServed (n : NodeState) (held : List ℕ → Option (List ℕ)) : Type 0 where
   pub written : List ℕ
-  pub serves : Serves n (short_session n) written n true held held 0 0 end.Done
+  pub serves : Serves true (standing n held) (short_session n) written (standing n held) 0 0 end.Done
   pub ended : (served n (short_session n)).end ≡ end.Done
 
 abbrev pub WholeSessionsAreThere : Type 0
@@ -159,7 +160,7 @@ driven_session n pulled = framed (frame.Hello (instance_of n.core.config)) ++ fr
 -- And so has each node that dials it, where no unit waits.
 pub record IsWholeDriven (n : NodeState) (pulled : ℕ) (held : List ℕ → Option (List ℕ)) : Type 0 where
   pub written : List ℕ
-  pub drives : Drives n (told_all n pulled) (driven_session n pulled) written n (told_all n pulled) true held held 0 0 end.Done
+  pub drives : Drives true (driver_standing n (told_all n pulled) held) (driven_session n pulled) written (driver_standing n (told_all n pulled) held) 0 0 end.Done
   pub ended : (driven n (told_all n pulled) (driven_session n pulled)).end ≡ end.Done
 
 abbrev pub WholeDrivesAreThere : Type 0

@@ -13,7 +13,7 @@ use Rattle.hw_replay.specs.Feed.{first_moment, AreFedUntil, AreFedSome, AreFedTo
 use Rattle.hw_service.specs.declared.fault.ServiceFault.{ServiceFault}
 use Rattle.hw_service.specs.Scene.{Outside, Scene, none_told}
 use Rattle.hw_service.specs.Begin.{Names}
-use Rattle.hw_service.specs.Run.{StepOver, HaveTaken, StopsAtStep, StopsAtReport, RunsPart}
+use Rattle.hw_service.specs.Run.{StepOver, HaveTaken, StopsAtStep, StopsAtReport, RunsPart, Course, course, runner}
 use Rattle.hw_service.specs.Serve.{serves_session}
 use Rattle.hw_service.specs.Turns.{TakesTurn}
 use Rattle.hw_service.specs.Runs.{hosts_session, calls_peer}
@@ -37,15 +37,15 @@ StoppedParts {B} sight = (tells : Bool) (begun : Option Midway) (e : StartFault)
     ⊎ ((part : AreFedTo sight tells begun e (λ (core : CoreState). first_moment core.config old (none_told old)) new after) × HaveTaken sight part.taken.core after.passed new)
 
 -- Of a run that began and was cut short, each consumer that is left has taken the first blocks of what the node had decided where it stopped.
-abbrev pub TookUntil : {B K X : Type 0} → Sight B K → StepOver B X → ℕ → ℕ → Scene B → Outside B → X → X → ServiceFault → Type 0
-TookUntil sight step number count first after x y e =
-    ((stop : StopsAtStep step number count first after x y e) × HaveTaken sight stop.last.node.core stop.last.kept.passed after.consumers)
-    ⊎ ((stop : StopsAtReport sight step number count first after x y e) × HaveTaken sight stop.last.node.core stop.last.kept.passed after.consumers)
+abbrev pub TookUntil : {B K X : Type 0} → Sight B K → Course B X → Scene B × X → Outside B × X → ServiceFault → Type 0
+TookUntil sight steps first after e =
+    ((stop : StopsAtStep steps first after e) × HaveTaken sight stop.last.node.core stop.last.kept.passed after.0.consumers)
+    ⊎ ((stop : StopsAtReport sight steps first after e) × HaveTaken sight stop.last.node.core stop.last.kept.passed after.0.consumers)
 
 -- So it is of each run of this step that was cut short, where no consumer had taken anything before it.
 abbrev pub CutRuns : {B K X : Type 0} → Sight B K → Option ℕ → StepOver B X → Type 0
-CutRuns {B} {K} {X} sight me step = (tells : Bool) (names : Names) (number count : ℕ) (before after : Outside B) (x y : X) (e : ServiceFault) → (run : RunsPart sight tells names me step number count before after x y e)
-    → HaveNothing sight before.consumers → TookUntil sight step number count run.first after x y e
+CutRuns {B} {K} {X} sight me step = (tells : Bool) (names : Names) (number count : ℕ) (before after : Outside B) (x y : X) (e : ServiceFault) → (run : RunsPart (runner sight tells names me) (course step number count) (before, x) (after, y) e)
+    → HaveNothing sight before.consumers → TookUntil sight (course step number count) (run.first, x) (after, y) e
 
 -- the same where a node serves
 abbrev pub CutServices : {B K : Type 0} → Sight B K → Type 0

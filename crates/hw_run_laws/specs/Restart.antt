@@ -26,6 +26,7 @@ use Rattle.hw_session.specs.Serving.{served}
 use Rattle.hw_session.specs.Sessions.{Serves}
 use Rattle.hw_session.specs.Driving.{driven}
 use Rattle.hw_session.specs.Drives.{Drives}
+use Rattle.hw_session.specs.Standing.{standing, driver_standing}
 use Rattle.hw_meeting.specs.declared.frame.MeetingFrame.{MeetingFrame}
 use Rattle.hw_meeting.specs.declared.frame.MeetingFrame.TheVariants as meeting
 use Rattle.hw_meeting_node.specs.declared.end.MeetEnd.{MeetEnd}
@@ -87,12 +88,12 @@ IsLogged e = Unit {0}
 -- So it is of the bytes that were read in a session, where no append failed and there was memory.
 abbrev pub ServesIsALife : Type 0
 ServesIsALife = (n m : NodeState) (read written : List ℕ) (tells : Bool) (held_old held_new : List ℕ → Option (List ℕ)) (ends_old ends_new : ℕ) (e : SessionEnd)
-    → Serves n read written m tells held_old held_new ends_old ends_new e → IsLogged e → TakesSome n (vertices_sent read) m
+    → Serves tells (standing n held_old) read written (standing m held_new) ends_old ends_new e → IsLogged e → TakesSome n (vertices_sent read) m
 
 -- The same of a session that the node dialled.
 abbrev pub DrivesIsALife : Type 0
 DrivesIsALife = (n m : NodeState) (mark now : PeerMark) (read written : List ℕ) (tells : Bool) (held_old held_new : List ℕ → Option (List ℕ)) (ends_old ends_new : ℕ) (e : SessionEnd)
-    → Drives n mark read written m now tells held_old held_new ends_old ends_new e → IsLogged e → TakesSome n (vertices_sent read) m
+    → Drives tells (driver_standing n mark held_old) read written (driver_standing m now held_new) ends_old ends_new e → IsLogged e → TakesSome n (vertices_sent read) m
 
 -- ---- meetings are lives
 
@@ -132,12 +133,12 @@ AcceptsIsALife = (n m : NodeState) (v : Vertex) (result : Result Receipt AcceptF
 -- Such a session keeps the log of the node's journal, whether the node serves
 abbrev pub ServesKeepsLog : Type 0
 ServesKeepsLog = (n m : NodeState) (read written : List ℕ) (tells : Bool) (held_old held_new : List ℕ → Option (List ℕ)) (ends_old ends_new : ℕ) (e : SessionEnd)
-    → Serves n read written m tells held_old held_new ends_old ends_new e → IsLogged e → IsTrue tells → HasLog n (held_old n.log) → HasLog m (held_new m.log)
+    → Serves tells (standing n held_old) read written (standing m held_new) ends_old ends_new e → IsLogged e → IsTrue tells → HasLog n (held_old n.log) → HasLog m (held_new m.log)
 
 -- or drives,
 abbrev pub DrivesKeepsLog : Type 0
 DrivesKeepsLog = (n m : NodeState) (mark now : PeerMark) (read written : List ℕ) (tells : Bool) (held_old held_new : List ℕ → Option (List ℕ)) (ends_old ends_new : ℕ) (e : SessionEnd)
-    → Drives n mark read written m now tells held_old held_new ends_old ends_new e → IsLogged e → IsTrue tells → HasLog n (held_old n.log) → HasLog m (held_new m.log)
+    → Drives tells (driver_standing n mark held_old) read written (driver_standing m now held_new) ends_old ends_new e → IsLogged e → IsTrue tells → HasLog n (held_old n.log) → HasLog m (held_new m.log)
 
 -- and so does such a meeting.
 abbrev pub MeetsKeepsLog : Type 0
@@ -176,12 +177,12 @@ LeavesLog n vs m file = (TakesSome n vs m × HasLog m file) ⊎ WasCut n vs m fi
 -- However a session or a meeting ends, what it leaves in the files is such a log, where the node serves,
 abbrev pub ServesLeavesLog : Type 0
 ServesLeavesLog = (n m : NodeState) (read written : List ℕ) (tells : Bool) (held_old held_new : List ℕ → Option (List ℕ)) (ends_old ends_new : ℕ) (e : SessionEnd)
-    → Serves n read written m tells held_old held_new ends_old ends_new e → IsTrue tells → HasLog n (held_old n.log) → LeavesLog n (vertices_sent read) m (held_new m.log)
+    → Serves tells (standing n held_old) read written (standing m held_new) ends_old ends_new e → IsTrue tells → HasLog n (held_old n.log) → LeavesLog n (vertices_sent read) m (held_new m.log)
 
 -- where it drives,
 abbrev pub DrivesLeavesLog : Type 0
 DrivesLeavesLog = (n m : NodeState) (mark now : PeerMark) (read written : List ℕ) (tells : Bool) (held_old held_new : List ℕ → Option (List ℕ)) (ends_old ends_new : ℕ) (e : SessionEnd)
-    → Drives n mark read written m now tells held_old held_new ends_old ends_new e → IsTrue tells → HasLog n (held_old n.log) → LeavesLog n (vertices_sent read) m (held_new m.log)
+    → Drives tells (driver_standing n mark held_old) read written (driver_standing m now held_new) ends_old ends_new e → IsTrue tells → HasLog n (held_old n.log) → LeavesLog n (vertices_sent read) m (held_new m.log)
 
 -- where it meets another node,
 abbrev pub MeetsLeavesLog : Type 0
@@ -216,12 +217,12 @@ DrivenSaysOfLog = (n : NodeState) (mark : PeerMark) (bytes : List ℕ) → SaysO
 -- So it is of the bytes that were read in a session, where no append failed and there was memory.
 abbrev pub ServesSaysOfLog : Type 0
 ServesSaysOfLog = (n m : NodeState) (read written : List ℕ) (tells : Bool) (held_old held_new : List ℕ → Option (List ℕ)) (ends_old ends_new : ℕ) (e : SessionEnd)
-    → Serves n read written m tells held_old held_new ends_old ends_new e → IsLogged e → SaysOfLog (logged_of m) (served n read).said
+    → Serves tells (standing n held_old) read written (standing m held_new) ends_old ends_new e → IsLogged e → SaysOfLog (logged_of m) (served n read).said
 
 -- The same of a session that the node dialled.
 abbrev pub DrivesSaysOfLog : Type 0
 DrivesSaysOfLog = (n m : NodeState) (mark now : PeerMark) (read written : List ℕ) (tells : Bool) (held_old held_new : List ℕ → Option (List ℕ)) (ends_old ends_new : ℕ) (e : SessionEnd)
-    → Drives n mark read written m now tells held_old held_new ends_old ends_new e → IsLogged e → SaysOfLog (logged_of m) (driven n mark read).said
+    → Drives tells (driver_standing n mark held_old) read written (driver_standing m now held_new) ends_old ends_new e → IsLogged e → SaysOfLog (logged_of m) (driven n mark read).said
 
 -- each vertex that was said in a meeting may go out
 abbrev pub MetSaysOf : Logged → List MeetingFrame → Type 0

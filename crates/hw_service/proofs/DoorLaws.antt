@@ -10,7 +10,7 @@ use Rattle.hw_service.specs.Scene.{DoorSeen, Outside, Scene}
 use Rattle.hw_service.specs.Begin.{Names, BeginsNot}
 use Rattle.hw_service.specs.Steps.{Step, Taken, AreTaken, TakesAll, TakesUntil, Takes}
 use Rattle.hw_service.specs.Counts.{raised_by}
-use Rattle.hw_service.specs.Run.{StepOver, ReportsNot, StopsAtStep, StopsAtReport, Runs}
+use Rattle.hw_service.specs.Run.{StepOver, ReportsNot, StopsAtStep, StopsAtReport, Runs, course, runner}
 
 -- raised once before or once behind
 raised_front : (more x : ℕ) → raised_by more (raised x) ≡ raised_by (suc more) x
@@ -72,13 +72,13 @@ module _ (of : DoorSeen → ℕ) {B X : Type 0} (step : StepOver B X) where
     reports_not_keep last after fault.Read r = absurd r
     reports_not_keep last after fault.Append r = absurd r
 
-    stops_keep : Keep step told → (number count : ℕ) (first : Scene B) (after : Outside B) (x y : X) (e : ServiceFault) → StopsAtStep step number count first after x y e ⊎ StopsAtReport sight step number count first after x y e
+    stops_keep : Keep step told → (number count : ℕ) (first : Scene B) (after : Outside B) (x y : X) (e : ServiceFault) → StopsAtStep (course step number count) (first, x) (after, y) e ⊎ StopsAtReport sight (course step number count) (first, x) (after, y) e
         → of after.door ≡ of first.around.door
     stops_keep keeps number count first after x y e (inl s) = ap (λ (o : Outside B). of o.door) s.left ∙ until_keep step told keeps number count (first, x) (s.last, y) e s.steps
     stops_keep keeps number count first after x y e (inr s) = reports_not_keep s.last after e s.reports ∙ each_keep step told keeps number (first, x) s.steps.taken (s.last, y) s.steps.each
 
     -- what each step leaves, the run leaves
-    pub runs_keep : Keep step told → (number count : ℕ) (before after : Outside B) (x y : X) (result : Result Served ServiceFault) → Runs sight tells names me step number count before after x y result → of after.door ≡ of before.door
+    pub runs_keep : Keep step told → (number count : ℕ) (before after : Outside B) (x y : X) (result : Result Served ServiceFault) → Runs (runner sight tells names me) (course step number count) (before, x) (after, y) result → of after.door ≡ of before.door
     runs_keep keeps number count before after x y (Ok served) r =
         let c = r.completes in
         ap of c.reports.closes.door ∙ each_keep step told keeps number (r.first, x) c.steps.taken (c.last, y) c.steps.each ∙ ap of r.begins.door
@@ -86,7 +86,7 @@ module _ (of : DoorSeen → ℕ) {B X : Type 0} (step : StepOver B X) where
     runs_keep keeps number count before after x y (Err e) (inr p) = stops_keep keeps number count p.first after x y e p.stops ∙ ap of p.begins.door
 
     -- what each step raises, a run that comes to its report has raised as often as it has steps
-    pub runs_raise : Raise step told → (number count : ℕ) (before after : Outside B) (x y : X) (result : Result Served ServiceFault) → Runs sight tells names me step number count before after x y result
+    pub runs_raise : Raise step told → (number count : ℕ) (before after : Outside B) (x y : X) (result : Result Served ServiceFault) → Runs (runner sight tells names me) (course step number count) (before, x) (after, y) result
         → OnOk result (of after.door ≡ raised_by count (of before.door))
     runs_raise raises number count before after x y (Ok served) r =
         let c = r.completes in

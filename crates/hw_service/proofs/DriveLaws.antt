@@ -6,6 +6,7 @@ use Rattle.hw_types.specs.declared.answers.Plan.{Plan}
 use Rattle.hw_io.specs.Doors.{Session}
 use Rattle.hw_link.specs.declared.end.SessionEnd.{SessionEnd}
 use Rattle.hw_link.specs.declared.end.SessionEnd.TheVariants as end
+use Rattle.hw_link.specs.Told.{door_told}
 use Rattle.hw_session.specs.declared.stage.PeerMark.{PeerMark}
 use Rattle.hw_session.specs.declared.fault.MakeFault.{MakeFault}
 use Rattle.hw_session.specs.declared.fault.MakeFault.TheVariants as make
@@ -14,6 +15,7 @@ use Rattle.hw_session.specs.Grows.{Logs}
 use Rattle.hw_session.specs.Make.{own_vertex, with_entry, with_vertex, Makes}
 use Rattle.hw_session.specs.Driving.{driven}
 use Rattle.hw_session.specs.Drives.{StandsDriven, StandsDrivenCut, LeavesDriven, DrivesPeer, DrivesNone}
+use Rattle.hw_session.specs.Standing.{driver_standing}
 use Rattle.hw_session.proofs.ConfigLaws.{driven_config}
 use Rattle.hw_service.specs.Talk.{HasGrown}
 use Rattle.hw_service.proofs.GrowLaws.{behind_logs, behind_cut, grown_same}
@@ -22,13 +24,13 @@ module _ (tells : Bool) (n : NodeState) (mark : PeerMark) (m : NodeState) (now :
   plain_grows : (m ≡ (driven n mark read).state.node) × Logs n m tells old new → HasGrown n.core m.core
   plain_grows left = behind_logs tells n m old new (ap (λ (k : NodeState). k.core.config) left.0 ∙ driven_config n mark read) left.1
 
-  cut_grows : StandsDrivenCut n mark read written m now tells old new → HasGrown n.core m.core
+  cut_grows : StandsDrivenCut tells (driver_standing n mark old) read written (driver_standing m now new) → HasGrown n.core m.core
   cut_grows s = behind_cut tells n (driven n mark s.first).state.node m s.vertex old new (driven_config n mark s.first) s.logs
 
-  before_grows : StandsDriven n mark read written m now tells old new → HasGrown n.core m.core
+  before_grows : StandsDriven tells (driver_standing n mark old) read written (driver_standing m now new) → HasGrown n.core m.core
   before_grows s = behind_logs tells n m old new (ap (λ (k : NodeState). k.core.config) s.state ∙ driven_config n mark s.first) s.logs
 
-  leaves_grows : (e : SessionEnd) → LeavesDriven e n mark read written m now tells old new → HasGrown n.core m.core
+  leaves_grows : (e : SessionEnd) → LeavesDriven e tells (driver_standing n mark old) read written (driver_standing m now new) → HasGrown n.core m.core
   leaves_grows end.Done left = plain_grows left
   leaves_grows end.EndOfInput left = plain_grows left
   leaves_grows end.WrongInstance left = plain_grows left
@@ -41,7 +43,7 @@ module _ (tells : Bool) (n : NodeState) (mark : PeerMark) (m : NodeState) (now :
   leaves_grows end.OutOfMemory (inr s) = cut_grows s
 
 pub drives_grows : (tells : Bool) (n : NodeState) (mark : PeerMark) (address : List ℕ) (m : NodeState) (now : PeerMark) (old new : List ℕ → Option (List ℕ)) (sessions later : Option (List Session)) (ends_old ends_new : ℕ) (e : SessionEnd)
-    → DrivesPeer n mark address m now tells old new sessions later ends_old ends_new e ⊎ DrivesNone n mark m now tells old new sessions later e → HasGrown n.core m.core
+    → DrivesPeer tells address (driver_standing n mark old) (driver_standing m now new) (door_told sessions ends_old) (door_told later ends_new) e ⊎ DrivesNone tells (driver_standing n mark old) (driver_standing m now new) sessions later e → HasGrown n.core m.core
 drives_grows tells n mark address m now old new sessions later ends_old ends_new e (inl s) = leaves_grows tells n mark m now old new s.read s.written e s.drives.left
 drives_grows tells n mark address m now old new sessions later ends_old ends_new e (inr s) = grown_same n m s.state
 

@@ -25,6 +25,7 @@ use Rattle.hw_link.specs.declared.end.SessionEnd.{SessionEnd}
 use Rattle.hw_link.specs.declared.end.SessionEnd.TheVariants as end
 use Rattle.hw_link.specs.Frames.{Placed, frames_of}
 use Rattle.hw_link.specs.Talk.{goes_on, ends}
+use Rattle.hw_link.specs.Told.{door_told}
 use Rattle.hw_session.specs.Node.{NodeState}
 use Rattle.hw_service.specs.Talk.{HasGrown}
 use Rattle.hw_session.specs.Grows.{Logs, LogsAllBut}
@@ -32,6 +33,7 @@ use Rattle.hw_session.specs.Accept.{given_to, taken_by}
 use Rattle.hw_session.specs.Serving.{is_clash, answer_to_vertex, serve_first, serve_frame, serve_step, served}
 use Rattle.hw_session.proofs.ConfigLaws.{talk_keeps, taken_config}
 use Rattle.hw_session.specs.Sessions.{StandsBefore, StandsCut, Leaves, ServesPeer, ServesNone}
+use Rattle.hw_session.specs.Standing.{standing}
 
 -- ---- a node that grew
 
@@ -144,13 +146,13 @@ module _ (tells : Bool) (n m : NodeState) (old new : List ℕ → Option (List �
   plain_grows : (m ≡ (served n read).state) × Logs n m tells old new → HasGrown n.core m.core
   plain_grows left = behind_logs tells n m old new (ap (λ (k : NodeState). k.core.config) left.0 ∙ served_config n read) left.1
 
-  cut_grows : StandsCut n read written m tells old new → HasGrown n.core m.core
+  cut_grows : StandsCut tells (standing n old) read written (standing m new) → HasGrown n.core m.core
   cut_grows s = behind_cut tells n (served n s.first).state m s.vertex old new (served_config n s.first) s.logs
 
-  before_grows : StandsBefore n read written m tells old new → HasGrown n.core m.core
+  before_grows : StandsBefore tells (standing n old) read written (standing m new) → HasGrown n.core m.core
   before_grows s = behind_logs tells n m old new (ap (λ (k : NodeState). k.core.config) s.state ∙ served_config n s.first) s.logs
 
-  leaves_grows : (e : SessionEnd) → Leaves e n read written m tells old new → HasGrown n.core m.core
+  leaves_grows : (e : SessionEnd) → Leaves e tells (standing n old) read written (standing m new) → HasGrown n.core m.core
   leaves_grows end.Done left = plain_grows left
   leaves_grows end.EndOfInput left = plain_grows left
   leaves_grows end.WrongInstance left = plain_grows left
@@ -163,6 +165,6 @@ module _ (tells : Bool) (n m : NodeState) (old new : List ℕ → Option (List �
   leaves_grows end.OutOfMemory (inr s) = cut_grows s
 
 pub serves_grows : (tells : Bool) (n m : NodeState) (old new : List ℕ → Option (List ℕ)) (sessions later : Option (List Session)) (ends_old ends_new : ℕ) (e : SessionEnd)
-    → ServesPeer n m tells old new sessions later ends_old ends_new e ⊎ ServesNone n m tells old new sessions later e → HasGrown n.core m.core
+    → ServesPeer tells (standing n old) (standing m new) (door_told sessions ends_old) (door_told later ends_new) e ⊎ ServesNone tells (standing n old) (standing m new) sessions later e → HasGrown n.core m.core
 serves_grows tells n m old new sessions later ends_old ends_new e (inl s) = leaves_grows tells n m old new s.read s.written e s.serves.left
 serves_grows tells n m old new sessions later ends_old ends_new e (inr s) = grown_same n m s.state

@@ -18,8 +18,8 @@ use Rattle.hw_meeting_node.specs.declared.end.MeetEnd.TheVariants as end
 use Rattle.hw_meeting_node.specs.declared.meeter.Side.{Side}
 use Rattle.hw_meeting_node.specs.declared.taker.TakeFault.{TakeFault}
 use Rattle.hw_meeting_node.specs.declared.taker.TakeFault.TheVariants as fault
-use Rattle.hw_meeting_node.specs.Taking.{taken_in, TakeStep, IsAnswered, TakesAll, TakesFirst, TakesUntil, Took, TakesPeer, TakesNone}
-use Rattle.hw_service.specs.Scene.{DoorSeen}
+use Rattle.hw_meeting_node.specs.Taking.{taken_in, TakeStep, IsAnswered, TakesAll, TakesFirst, TakesUntil, Took, TakesPeer, TakesNone, with_taker}
+use Rattle.hw_service.specs.Scene.{DoorSeen, sessions_told}
 use Rattle.hw_service.specs.Talk.{Talker}
 use Rattle.hw_service.specs.Taker.{take_answer, TakesIn}
 use Rattle.hw_service.specs.Meets.{after_vertex, after_all, vertices_of, StandsBefore, StandsCut, Leaves, NodeMeets, NodeMeetsNone}
@@ -159,7 +159,7 @@ module _ {A : Type 0} (tells : Bool) (node : A → NodeState) (held : A → List
 
     -- a whole meeting
     pub node_meets : (address : Option (List ℕ)) (old new : DoorSeen) (e : MeetEnd)
-        → TakesPeer step side address n.core (verdict_of n.keys) (node u).core t u old.sessions new.sessions old.ends new.ends e ⊎ TakesNone n.core (node u).core t u old.sessions new.sessions e
+        → TakesPeer step side address (verdict_of n.keys) (with_taker n.core t) (with_taker (node u).core u) (sessions_told old) (sessions_told new) e ⊎ TakesNone (with_taker n.core t) (with_taker (node u).core u) old.sessions new.sessions e
         → NodeMeets side address tells (talker_with n (held t) old) (talker_with (node u) (held u) new) e ⊎ NodeMeetsNone tells (talker_with n (held t) old) (talker_with (node u) (held u) new) e
     node_meets address old new e (inl s) = inl (record { meets = s.meets; left = leaves e s.meets.read s.took })
     node_meets address old new e (inr s) =
@@ -192,12 +192,12 @@ module _ {A X : Type 0} (of : A → X) (step : TakeStep A) (keeps : (t : A) (v :
 -- ---- a whole meeting
 
 module _ {A : Type 0} (step : TakeStep A) (side : Side) (address : Option (List ℕ)) (c : CoreState) (judge : Vertex → Bool) (m : CoreState) (t u : A) (old new : DoorSeen) (e : MeetEnd)
-    (took : TakesPeer step side address c judge m t u old.sessions new.sessions old.ends new.ends e ⊎ TakesNone c m t u old.sessions new.sessions e) where
+    (took : TakesPeer step side address judge (with_taker c t) (with_taker m u) (sessions_told old) (sessions_told new) e ⊎ TakesNone (with_taker c t) (with_taker m u) old.sessions new.sessions e) where
   -- what each step keeps
   pub meeting_keeps : {X : Type 0} (of : A → X) → ((t : A) (v : Vertex) (answer : Result Receipt TakeFault) (u : A) → step t v answer u → of u ≡ of t) → of u ≡ of t
   meeting_keeps of keeps = go took
     where
-      go : TakesPeer step side address c judge m t u old.sessions new.sessions old.ends new.ends e ⊎ TakesNone c m t u old.sessions new.sessions e → of u ≡ of t
+      go : TakesPeer step side address judge (with_taker c t) (with_taker m u) (sessions_told old) (sessions_told new) e ⊎ TakesNone (with_taker c t) (with_taker m u) old.sessions new.sessions e → of u ≡ of t
       go (inl s) = took_keeps of step keeps (taken_in side c judge) s.meets.read t u e s.took
       go (inr s) = ap of s.stays
 
@@ -206,7 +206,7 @@ module _ {A : Type 0} (step : TakeStep A) (side : Side) (address : Option (List 
       → c ≡ (node t).core → judge ≡ verdict_of (node t).keys → m ≡ (node u).core
       → NodeMeets side address tells (talker_with (node t) (held t) old) (talker_with (node u) (held u) new) e ⊎ NodeMeetsNone tells (talker_with (node t) (held t) old) (talker_with (node u) (held u) new) e
   meeting_leaves tells node held takes_in core verdict now =
-      let P : CoreState → (Vertex → Bool) → CoreState → Type 0 = λ x y z. TakesPeer step side address x y z t u old.sessions new.sessions old.ends new.ends e ⊎ TakesNone x z t u old.sessions new.sessions e in
+      let P : CoreState → (Vertex → Bool) → CoreState → Type 0 = λ x y z. TakesPeer step side address y (with_taker x t) (with_taker z u) (sessions_told old) (sessions_told new) e ⊎ TakesNone (with_taker x t) (with_taker z u) old.sessions new.sessions e in
       node_meets tells node held step takes_in side t u address old new e
       (subst (λ (x : CoreState). P x (verdict_of (node t).keys) (node u).core) core
       (subst (λ (y : Vertex → Bool). P c y (node u).core) verdict

@@ -17,7 +17,7 @@ use Rattle.hw_service.specs.Written.{IsOfOutput}
 use Rattle.hw_service.specs.Counts.{IsAppendCounted, IsWriteCounted, IsDoorCounted}
 use Rattle.hw_service.specs.Steps.{TakesAll}
 use Rattle.hw_service.specs.Begin.{Names, ReadsNot, HasBegun, BeginsNot, fault_of_start}
-use Rattle.hw_service.specs.Run.{StepOver, HaveTaken, ReportsAs, Proceeds, Runs}
+use Rattle.hw_service.specs.Run.{StepOver, HaveTaken, ReportsAs, Proceeds, Runs, course, runner}
 
 -- ---- faults of the output
 
@@ -52,7 +52,7 @@ report_link (Err f) failed before now is link = tt
 -- all steps were taken, and this came of the report
 pub proceeds_with : {B K X : Type 0} (sight : Sight B K) (step : StepOver B X) (number count : ℕ) (first last : Scene B) (after : Outside B) (x y : X) (failed : Bool) (result : Result Served ServiceFault)
     → TakesAll step number count (first, x) (last, y) failed → ReportsAs sight last after result → IfOk result (λ served. served.limits ≡ last.node.limited) → IfOk result (λ served. served.link_failed ≡ failed)
-    → (HaveTaken sight first.node.core first.kept.passed first.around.consumers → HaveTaken sight last.node.core (length (told_chain last.node.core)) after.consumers) → Proceeds sight step number count first after x y result
+    → (HaveTaken sight first.node.core first.kept.passed first.around.consumers → HaveTaken sight last.node.core (length (told_chain last.node.core)) after.consumers) → Proceeds sight (course step number count) (first, x) (after, y) result
 proceeds_with {B} {K} {X} sight step number count first last after x y failed (Ok served) all reports limits link whole = record {
   last = last;
   steps = subst (λ (b : Bool). TakesAll step number count (first, x) (last, y) b) (sym link) all;
@@ -107,6 +107,6 @@ taken_at {B} f core n m consumers is taken = subst (λ (k : ℕ). All (λ (b : B
 
 pub runs_from : {B K X : Type 0} (sight : Sight B K) (tells : Bool) (names : Names) (me : Option ℕ) (step : StepOver B X) (number count : ℕ) (before : Outside B) (first : Scene B) (after : Outside B) (x y : X) (result : Result Served ServiceFault)
     → HasBegun sight tells names me before first → (All (λ b. HasTaken [] 0 (sight.consumed b)) before.consumers → HaveTaken sight first.node.core first.kept.passed first.around.consumers)
-    → Proceeds sight step number count first after x y result → Runs sight tells names me step number count before after x y result
+    → Proceeds sight (course step number count) (first, x) (after, y) result → Runs (runner sight tells names me) (course step number count) (before, x) (after, y) result
 runs_from sight tells names me step number count before first after x y (Ok served) begins so p = record { first = first; begins = begins; completes = p; whole = λ none. p.whole (so none) }
 runs_from sight tells names me step number count before first after x y (Err e) begins so p = inr (record { first = first; begins = begins; stops = p })

@@ -85,11 +85,11 @@ module _ {B K : Type 0} (sight : Sight B K) (tells : Bool) where
     -- ---- a run
 
     module _ (names : Names) (count : ℕ) (before after : Outside B) (x y : Turning) where
-      pub run_accepts : (result : Result Served ServiceFault) → RunsTurns sight tells names me count before after x y result → after.door.accepts ≡ before.door.accepts
+      pub run_accepts : (result : Result Served ServiceFault) → RunsTurns sight tells names me count (before, x) (after, y) result → after.door.accepts ≡ before.door.accepts
       run_accepts result r =
           runs_keep (λ (d : DoorSeen). d.accepts) (TakesTurn sight tells me) sight tells names (Some me) (λ k old new ended t. turns_accepts t.moment old.0 new.0 old.1.peers new.1.peers ended t.turns) 1 count before after x y result r
 
-      pub run_dials : (result : Result Served ServiceFault) → RunsTurns sight tells names me count before after x y result → OnOk result (after.door.dials ≡ raised_by (count * length x.peers) before.door.dials)
+      pub run_dials : (result : Result Served ServiceFault) → RunsTurns sight tells names me count (before, x) (after, y) result → OnOk result (after.door.dials ≡ raised_by (count * length x.peers) before.door.dials)
       run_dials (Err e) r = tt
       run_dials (Ok served) r =
           let c = r.completes in
@@ -98,7 +98,7 @@ module _ {B K : Type 0} (sight : Sight B K) (tells : Bool) where
           ∙ ap (λ (n : ℕ). raised_by (n * length x.peers) r.first.around.door.dials) c.steps.count_is
           ∙ ap (λ (d : DoorSeen). raised_by (count * length x.peers) d.dials) r.begins.door
 
-      pub run_many : (result : Result Served ServiceFault) → RunsTurns sight tells names me count before after x y result → length y.peers ≡ length x.peers
+      pub run_many : (result : Result Served ServiceFault) → RunsTurns sight tells names me count (before, x) (after, y) result → length y.peers ≡ length x.peers
       run_many (Ok served) r = each_keep (TakesTurn sight tells me) peers_in turn_many 1 (r.first, x) r.completes.steps.taken (r.completes.last, y) r.completes.steps.each
       run_many (Err e) (inl n) = ap (λ (t : Turning). length t.peers) n.same
       run_many (Err e) (inr p) = elim p.stops [

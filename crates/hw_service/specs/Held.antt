@@ -8,12 +8,12 @@ use Rattle.hw_service.specs.Scene.{Outside}
 use Rattle.hw_service.specs.Begin.{Names}
 use Rattle.hw_service.specs.Talk.{Talks}
 use Rattle.hw_service.specs.Told.{HoldsSession}
-use Rattle.hw_service.specs.Run.{StepOver, Runs}
+use Rattle.hw_service.specs.Run.{StepOver, Course, course, Runner, Runs}
 
 -- each step is a session, and moves nothing else
 abbrev pub holds_session : {B K : Type 0} → Sight B K → Talks → List ℕ → StepOver B (Unit {0})
 holds_session sight talks who number old new result = HoldsSession sight talks who number old.0 new.0 result
 
 -- What a run comes to that holds so many sessions, numbered from this one on. No validator makes units in it.
-abbrev pub Holds : {B K : Type 0} → Sight B K → Bool → Names → Talks → List ℕ → ℕ → ℕ → Outside B → Outside B → Result Served ServiceFault → Type 0
-Holds sight tells names talks who first count before after result = Runs sight tells names None (holds_session sight talks who) first count before after tt tt result
+abbrev pub Holds : {B K : Type 0} → Runner B K → Talks → List ℕ → ℕ → ℕ → Outside B → Outside B → Result Served ServiceFault → Type 0
+Holds run talks who first count before after result = Runs run (course (holds_session run.sight talks who) first count) (before, tt) (after, tt) result

@@ -14,6 +14,7 @@ use Rattle.hw_meeting_node.specs.declared.meeter.Side.TheVariants.{Caller, Host}
 use Rattle.hw_meeting_node.specs.Sessions.{MeetsPeer}
 use Rattle.hw_meeting_node.specs.Taking.{taken_in}
 use Rattle.hw_service.specs.Talk.{Talker}
+use Rattle.hw_service.specs.Scene.{sessions_told}
 
 -- ---- the node
 
@@ -63,7 +64,7 @@ Leaves e side n read m tells held_old held_new = (m ≡ after_meeting side n rea
 
 -- A node with its log met a peer, in a session that the door tells behind the others, with the address that was dialled, if one was.
 pub record NodeMeets (side : Side) (address : Option (List ℕ)) (tells : Bool) (old new : Talker) (e : MeetEnd) : Type 0 where
-  pub meets : MeetsPeer side address old.node.core (verdict_of old.node.keys) new.node.core old.door.sessions new.door.sessions old.door.ends new.door.ends e
+  pub meets : MeetsPeer side address old.node.core (verdict_of old.node.keys) new.node.core (sessions_told old.door) (sessions_told new.door) e
   pub left : Leaves e side old.node meets.read new.node tells old.files new.files
 
 -- there was no memory to take or to dial a peer, and nothing was done

@@ -57,54 +57,75 @@ StepOver B X = Step (Scene B × X)
 abbrev pub HaveTaken : {B K : Type 0} → Sight B K → CoreState → ℕ → List B → Type 0
 HaveTaken sight core count consumers = All (λ b. HasTaken (told_chain core) count (sight.consumed b)) consumers
 
+-- so many steps of a kind, numbered from this one on
+pub record Course (B X : Type 0) : Type 1 where
+  pub step : StepOver B X
+  pub number : ℕ
+  pub count : ℕ
+
+-- these together
+abbrev pub course : {B X : Type 0} → StepOver B X → ℕ → ℕ → Course B X
+course step number count = record { step = step; number = number; count = count }
+
 -- All steps were taken, and the report was written. The answer is how many vertices and own units met a limit, and whether a call of the door
 -- failed in a session. The consumers that are left have taken all that is decided.
-pub record Completes {B K X : Type 0} (sight : Sight B K) (step : StepOver B X) (number count : ℕ) (first : Scene B) (after : Outside B) (x y : X) (served : Served) : Type 0 where
+pub record Completes {B K X : Type 0} (sight : Sight B K) (stages : Course B X) (first : Scene B × X) (after : Outside B × X) (served : Served) : Type 0 where
   pub last : Scene B
-  pub steps : TakesAll step number count (first, x) (last, y) served.link_failed
-  pub reports : Reports sight last after
+  pub steps : TakesAll stages.step stages.number stages.count first (last, after.1) served.link_failed
+  pub reports : Reports sight last after.0
   pub limits : served.limits ≡ last.node.limited
-  pub whole : HaveTaken sight first.node.core first.kept.passed first.around.consumers → HaveTaken sight last.node.core (length (told_chain last.node.core)) after.consumers
+  pub whole : HaveTaken sight first.0.node.core first.0.kept.passed first.0.around.consumers → HaveTaken sight last.node.core (length (told_chain last.node.core)) after.0.consumers
 
 -- A step ended the run.
-pub record StopsAtStep {B X : Type 0} (step : StepOver B X) (number count : ℕ) (first : Scene B) (after : Outside B) (x y : X) (e : ServiceFault) : Type 0 where
+pub record StopsAtStep {B X : Type 0} (stages : Course B X) (first : Scene B × X) (after : Outside B × X) (e : ServiceFault) : Type 0 where
   pub last : Scene B
-  pub steps : TakesUntil step number count (first, x) (last, y) e
-  pub left : after ≡ last.around
+  pub steps : TakesUntil stages.step stages.number stages.count first (last, after.1) e
+  pub left : after.0 ≡ last.around
 
 -- All steps were taken, and the report was cut short.
-pub record StopsAtReport {B K X : Type 0} (sight : Sight B K) (step : StepOver B X) (number count : ℕ) (first : Scene B) (after : Outside B) (x y : X) (e : ServiceFault) : Type 0 where
+pub record StopsAtReport {B K X : Type 0} (sight : Sight B K) (stages : Course B X) (first : Scene B × X) (after : Outside B × X) (e : ServiceFault) : Type 0 where
   pub last : Scene B
   pub failed : Bool
-  pub steps : TakesAll step number count (first, x) (last, y) failed
-  pub reports : ReportsNot sight last after e
+  pub steps : TakesAll stages.step stages.number stages.count first (last, after.1) failed
+  pub reports : ReportsNot sight last after.0 e
 
 -- what comes of a node that has begun
-abbrev pub Proceeds : {B K X : Type 0} → Sight B K → StepOver B X → ℕ → ℕ → Scene B → Outside B → X → X → Result Served ServiceFault → Type 0
-Proceeds sight step number count first after x y (Ok served) = Completes sight step number count first after x y served
-Proceeds sight step number count first after x y (Err e) = StopsAtStep step number count first after x y e ⊎ StopsAtReport sight step number count first after x y e
+abbrev pub Proceeds : {B K X : Type 0} → Sight B K → Course B X → Scene B × X → Outside B × X → Result Served ServiceFault → Type 0
+Proceeds sight stages first after (Ok served) = Completes sight stages first after served
+Proceeds sight stages first after (Err e) = StopsAtStep stages first after e ⊎ StopsAtReport sight stages first after e
 
 -- ---- the whole run
 
+-- whose run it is: how its consumers are seen, whether its files tell, what its files are called, and its validator, if it has one
+pub record Runner (B K : Type 0) : Type 0 where
+  pub sight : Sight B K
+  pub tells : Bool
+  pub names : Names
+  pub me : Option ℕ
+
+-- these together
+abbrev pub runner : {B K : Type 0} → Sight B K → Bool → Names → Option ℕ → Runner B K
+runner sight tells names me = record { sight = sight; tells = tells; names = names; me = me }
+
 -- The node began, took all steps and reported.
-pub record RunsWhole {B K X : Type 0} (sight : Sight B K) (tells : Bool) (names : Names) (me : Option ℕ) (step : StepOver B X) (number count : ℕ) (before after : Outside B) (x y : X) (served : Served) : Type 0 where
+pub record RunsWhole {B K X : Type 0} (run : Runner B K) (stages : Course B X) (before after : Outside B × X) (served : Served) : Type 0 where
   pub first : Scene B
-  pub begins : HasBegun sight tells names me before first
-  pub completes : Completes sight step number count first after x y served
-  pub whole : All (λ b. HasTaken [] 0 (sight.consumed b)) before.consumers → HaveTaken sight completes.last.node.core (length (told_chain completes.last.node.core)) after.consumers
+  pub begins : HasBegun run.sight run.tells run.names run.me before.0 first
+  pub completes : Completes run.sight stages (first, before.1) after served
+  pub whole : All (λ b. HasTaken [] 0 (run.sight.consumed b)) before.0.consumers → HaveTaken run.sight completes.last.node.core (length (told_chain completes.last.node.core)) after.0.consumers
 
 -- It began, and was cut short.
-pub record RunsPart {B K X : Type 0} (sight : Sight B K) (tells : Bool) (names : Names) (me : Option ℕ) (step : StepOver B X) (number count : ℕ) (before after : Outside B) (x y : X) (e : ServiceFault) : Type 0 where
+pub record RunsPart {B K X : Type 0} (run : Runner B K) (stages : Course B X) (before after : Outside B × X) (e : ServiceFault) : Type 0 where
   pub first : Scene B
-  pub begins : HasBegun sight tells names me before first
-  pub stops : StopsAtStep step number count first after x y e ⊎ StopsAtReport sight step number count first after x y e
+  pub begins : HasBegun run.sight run.tells run.names run.me before.0 first
+  pub stops : StopsAtStep stages (first, before.1) after e ⊎ StopsAtReport run.sight stages (first, before.1) after e
 
 -- It hasn't begun.
-pub record RunsNot {B K X : Type 0} (sight : Sight B K) (tells : Bool) (names : Names) (me : Option ℕ) (before after : Outside B) (x y : X) (e : ServiceFault) : Type 0 where
-  pub begins_not : BeginsNot sight tells names me before after e
-  pub same : y ≡ x
+pub record RunsNot {B K X : Type 0} (run : Runner B K) (before after : Outside B × X) (e : ServiceFault) : Type 0 where
+  pub begins_not : BeginsNot run.sight run.tells run.names run.me before.0 after.0 e
+  pub same : after.1 ≡ before.1
 
--- What a run comes to whose steps have so many numbers from this one on.
-abbrev pub Runs : {B K X : Type 0} → Sight B K → Bool → Names → Option ℕ → StepOver B X → ℕ → ℕ → Outside B → Outside B → X → X → Result Served ServiceFault → Type 0
-Runs sight tells names me step number count before after x y (Ok served) = RunsWhole sight tells names me step number count before after x y served
-Runs sight tells names me step number count before after x y (Err e) = RunsNot sight tells names me before after x y e ⊎ RunsPart sight tells names me step number count before after x y e
+-- what a run of these steps comes to
+abbrev pub Runs : {B K X : Type 0} → Runner B K → Course B X → Outside B × X → Outside B × X → Result Served ServiceFault → Type 0
+Runs run stages before after (Ok served) = RunsWhole run stages before after served
+Runs run stages before after (Err e) = RunsNot run before after e ⊎ RunsPart run stages before after e

@@ -9,7 +9,7 @@ use Rattle.hw_service.specs.declared.ended.Served.{Served}
 use Rattle.hw_service.specs.Scene.{Outside}
 use Rattle.hw_service.specs.Begin.{Names}
 use Rattle.hw_service.specs.Talk.{Talker, AcceptsOne, DialsOne}
-use Rattle.hw_service.specs.Run.{StepOver}
+use Rattle.hw_service.specs.Run.{StepOver, runner}
 use Rattle.hw_service.specs.Held.{holds_session, Holds}
 use Rattle.hw_service.specs.Ends.{session_end}
 use Rattle.hw_service.specs.Meets.{NodeCalls, NodeHosts}
@@ -38,7 +38,7 @@ hosts_session sight tells = holds_session sight (HostsOne tells) (codes "session
 
 -- What a run comes to in which a node is dialled by so many peers, one after the other; they are numbered from 1.
 abbrev pub Hosts : {B K : Type 0} → Sight B K → Bool → Names → ℕ → Outside B → Outside B → Result Served ServiceFault → Type 0
-Hosts sight tells names count before after result = Holds sight tells names (HostsOne tells) (codes "session") 1 count before after result
+Hosts sight tells names count before after result = Holds (runner sight tells names None) (HostsOne tells) (codes "session") 1 count before after result
 
 -- the one step is a session with the peer of this address
 abbrev pub calls_peer : {B K : Type 0} → Sight B K → Bool → List ℕ → StepOver B (Unit {0})
@@ -46,4 +46,4 @@ calls_peer sight tells address = holds_session sight (CallsOne tells address) (c
 
 -- What a run comes to in which a node dials the peer of this address, which has the number 0.
 abbrev pub Calls : {B K : Type 0} → Sight B K → Bool → Names → List ℕ → Outside B → Outside B → Result Served ServiceFault → Type 0
-Calls sight tells names address before after result = Holds sight tells names (CallsOne tells address) (codes "peer") 0 1 before after result
+Calls sight tells names address before after result = Holds (runner sight tells names None) (CallsOne tells address) (codes "peer") 0 1 before after result

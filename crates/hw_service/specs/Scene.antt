@@ -12,6 +12,7 @@ use Rattle.hw_replay.specs.Chain.{told_chain}
 use Rattle.hw_replay.specs.Fates.{Sight, seen}
 use Rattle.hw_replay.specs.Feed.{Moment, moment}
 use Rattle.hw_session.specs.Node.{NodeState}
+use Rattle.hw_link.specs.Told.{DoorTold}
 
 -- what a door tells: its sessions, how often it was asked to accept and to dial a peer, and how often a peer's bytes ended
 pub record DoorSeen : Type 0 where
@@ -23,6 +24,10 @@ pub record DoorSeen : Type 0 where
 -- these together
 abbrev pub door_seen : Option (List Session) → ℕ → ℕ → ℕ → DoorSeen
 door_seen sessions accepts dials ends = record { sessions = sessions; accepts = accepts; dials = dials; ends = ends }
+
+-- what it tells of its sessions
+abbrev pub sessions_told : DoorSeen → DoorTold
+sessions_told door = record { sessions = door.sessions; ends = door.ends }
 
 -- of a door that tells this
 abbrev pub door_of : {D : Type 0} → Door D → D → DoorSeen

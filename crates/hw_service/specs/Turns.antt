@@ -18,16 +18,17 @@ use Rattle.hw_session.specs.declared.fault.MakeFault.{MakeFault}
 use Rattle.hw_session.specs.declared.fault.MakeFault.TheVariants as make
 use Rattle.hw_session.specs.Make.{planned_by, Makes, WritesOwn}
 use Rattle.hw_session.specs.Drives.{DrivesPeer, DrivesNone}
+use Rattle.hw_session.specs.Standing.{driver_standing}
 use Rattle.hw_service.specs.declared.fault.ServiceFault.{ServiceFault}
 use Rattle.hw_service.specs.declared.fault.ServiceFault.TheVariants as fault
 use Rattle.hw_service.specs.declared.ended.Served.{Served}
 use Rattle.hw_service.specs.declared.peer.Peer.{Peer}
-use Rattle.hw_service.specs.Scene.{Outside, Scene, moment_of}
+use Rattle.hw_service.specs.Scene.{sessions_told, Outside, Scene, moment_of}
 use Rattle.hw_service.specs.Begin.{Names}
 use Rattle.hw_service.specs.Steps.{Takes}
 use Rattle.hw_service.specs.Told.{TellsEnd}
 use Rattle.hw_service.specs.Written.{Writes, IsOfOutput}
-use Rattle.hw_service.specs.Run.{Runs}
+use Rattle.hw_service.specs.Run.{Runs, course, runner}
 
 -- ---- its own unit
 
@@ -73,8 +74,8 @@ MakesUnit sight tells me moment old new result = MakesWith sight tells me moment
 -- the node dialled the peer of this address, or had no memory to dial; the peer has the marks that this left
 abbrev pub DrivesOne : {B : Type 0} → Bool → Scene B → Scene B → Peer → Peer → SessionEnd → Type 0
 DrivesOne tells old new before after e =
-    DrivesPeer old.node before.mark (string_bytes before.address) new.node after.mark tells old.around.files new.around.files old.around.door.sessions new.around.door.sessions old.around.door.ends new.around.door.ends e
-    ⊎ DrivesNone old.node before.mark new.node after.mark tells old.around.files new.around.files old.around.door.sessions new.around.door.sessions e
+    DrivesPeer tells (string_bytes before.address) (driver_standing old.node before.mark old.around.files) (driver_standing new.node after.mark new.around.files) (sessions_told old.around.door) (sessions_told new.around.door) e
+    ⊎ DrivesNone tells (driver_standing old.node before.mark old.around.files) (driver_standing new.node after.mark new.around.files) old.around.door.sessions new.around.door.sessions e
 
 -- a session with a peer, which has this number, and what was told of it
 pub record DrivesAt {B K : Type 0} (sight : Sight B K) (tells : Bool) (number : ℕ) (old new : Scene B) (before after : Peer) (result : Result Bool ServiceFault) : Type 0 where
@@ -131,5 +132,5 @@ pub record TakesTurn {B K : Type 0} (sight : Sight B K) (tells : Bool) (me : ℕ
 -- ---- the run
 
 -- What a run comes to in which a validator takes so many turns.
-abbrev pub RunsTurns : {B K : Type 0} → Sight B K → Bool → Names → ℕ → ℕ → Outside B → Outside B → Turning → Turning → Result Served ServiceFault → Type 0
-RunsTurns sight tells names me count before after x y result = Runs sight tells names (Some me) (TakesTurn sight tells me) 1 count before after x y result
+abbrev pub RunsTurns : {B K : Type 0} → Sight B K → Bool → Names → ℕ → ℕ → Outside B × Turning → Outside B × Turning → Result Served ServiceFault → Type 0
+RunsTurns sight tells names me count before after result = Runs (runner sight tells names (Some me)) (course (TakesTurn sight tells me) 1 count) before after result

@@ -8,6 +8,7 @@ ghost use Rattle.hw_io.specs.Faults.{raised};
 ghost use Rattle.hw_keys.specs.Signed.{verdict_of};
 ghost use Rattle.hw_meeting_node.specs.Sessions.{CallsPeer, HostsPeer, MeetsNone, IsLinkEnd, IsTakerEnd};
 ghost use Rattle.hw_service.specs.{Talk.{talker}, Meets.{NodeCalls, NodeHosts}};
+ghost use Rattle.hw_link.specs.Told.{door_told};
 
 use crate::taker::NodeTaker;
 use hw_io::{Door, Files};
@@ -28,7 +29,7 @@ pub fn meet_node<D: Door, F: Files>(
     address: &str,
     door: &mut D,
 ) -> MeetEnd
-    ensures met { CallsPeer address.now node.old.core (verdict_of node.old.keys) node.new.core (D.sessions door.old) (D.sessions door.new) (D.ends door.old) (D.ends door.new) result
+    ensures met { CallsPeer address.now node.old.core (verdict_of node.old.keys) node.new.core (door_told (D.sessions door.old) (D.ends door.old)) (door_told (D.sessions door.new) (D.ends door.new)) result
         ⊎ MeetsNone node.old.core node.new.core (D.sessions door.old) (D.sessions door.new) result }
     ensures node { NodeCalls address.now F.tells (talker F.Files D.Door node.old files.old door.old) (talker F.Files D.Door node.new files.new door.new) result }
     ensures link { IsLinkEnd (D.faults door.old) (D.faults door.new) result }
@@ -53,7 +54,7 @@ pub fn host_node<D: Door, F: Files>(
     files: &mut F,
     door: &mut D,
 ) -> MeetEnd
-    ensures met { HostsPeer node.old.core (verdict_of node.old.keys) node.new.core (D.sessions door.old) (D.sessions door.new) (D.ends door.old) (D.ends door.new) result
+    ensures met { HostsPeer node.old.core (verdict_of node.old.keys) node.new.core (door_told (D.sessions door.old) (D.ends door.old)) (door_told (D.sessions door.new) (D.ends door.new)) result
         ⊎ MeetsNone node.old.core node.new.core (D.sessions door.old) (D.sessions door.new) result }
     ensures node { NodeHosts F.tells (talker F.Files D.Door node.old files.old door.old) (talker F.Files D.Door node.new files.new door.new) result }
     ensures link { IsLinkEnd (D.faults door.old) (D.faults door.new) result }

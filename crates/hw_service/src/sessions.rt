@@ -8,7 +8,7 @@ ghost use Rattle.hw_service.specs.Begin.{names_of};
 ghost use Rattle.hw_service.specs.Begun.{IsAbout};
 ghost use Rattle.hw_service.specs.Talk.{talker};
 ghost use Rattle.hw_service.specs.Steps.{Takes};
-ghost use Rattle.hw_service.specs.Run.{Proceeds, HaveTaken};
+ghost use Rattle.hw_service.specs.Run.{Proceeds, HaveTaken, course, runner};
 ghost use Rattle.hw_service.specs.Held.{holds_session, Holds};
 ghost use Rattle.hw_service.specs.declared.fault.ServiceFault.TheVariants as fault;
 ghost use Rattle.hw_service.specs.Counts.{IsReadCounted, IsAppendCounted, IsWriteCounted, IsDoorCounted};
@@ -54,7 +54,7 @@ pub fn hold_sessions<T: Talk, F: Files, S: Sink, D: Door>(
 ) -> Result<Served, ServiceFault>
     // So the last number is that of a `u64` too.
     requires first { sessions.now.first ≤ 1 }
-    ensures holds { Holds (sight_of ⟦<dyn Consumer as Consumer>⟧) F.tells (names_of sources.entry) (T.talks sessions.now.talk F.tells) sessions.now.who.now sessions.now.first sessions.now.count
+    ensures holds { Holds (runner (sight_of ⟦<dyn Consumer as Consumer>⟧) F.tells (names_of sources.entry) None) (T.talks sessions.now.talk F.tells) sessions.now.who.now sessions.now.first sessions.now.count
         (outside_of F.Files S.Sink D.Door files.old out.old door.old consumers.old.items)
         (outside_of F.Files S.Sink D.Door files.new out.new door.new consumers.new.items) result }
 
@@ -81,9 +81,9 @@ fn hold_begun<T: Talk, F: Files, S: Sink, D: Door>(
 ) -> Result<Served, ServiceFault>
     requires first { sessions.now.first ≤ 1 }
     requires ready { IsReady host.old.node host.old.fanout consumers.old.items }
-    ensures proceeds { Proceeds (sight_of ⟦<dyn Consumer as Consumer>⟧) (holds_session (sight_of ⟦<dyn Consumer as Consumer>⟧) (T.talks sessions.now.talk F.tells) sessions.now.who.now) sessions.now.first sessions.now.count
-        (scene host.old.node host.old.fanout (outside_of F.Files S.Sink D.Door files.old out.old door.old consumers.old.items))
-        (outside_of F.Files S.Sink D.Door files.new out.new door.new consumers.new.items) tt tt result }
+    ensures proceeds { Proceeds (sight_of ⟦<dyn Consumer as Consumer>⟧) (course (holds_session (sight_of ⟦<dyn Consumer as Consumer>⟧) (T.talks sessions.now.talk F.tells) sessions.now.who.now) sessions.now.first sessions.now.count)
+        (scene host.old.node host.old.fanout (outside_of F.Files S.Sink D.Door files.old out.old door.old consumers.old.items), tt)
+        (outside_of F.Files S.Sink D.Door files.new out.new door.new consumers.new.items, tt) result }
     ensures appends { IsAppendCounted (F.append_faults files.old) (F.append_faults files.new) result }
     ensures writes { IsWriteCounted (S.faults out.old) (S.faults out.new) result }
     ensures link { IfOk result (λ served. IsDoorCounted served.link_failed (D.faults door.old) (D.faults door.new)) }

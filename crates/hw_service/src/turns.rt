@@ -7,7 +7,7 @@ ghost use Rattle.hw_service.specs.Begun.{IsAbout};
 ghost use Rattle.hw_service.specs.Environs.{outside_in};
 ghost use Rattle.hw_service.specs.Loans.{loans};
 ghost use Rattle.hw_service.specs.Steps.{Takes};
-ghost use Rattle.hw_service.specs.Run.{Proceeds, HaveTaken};
+ghost use Rattle.hw_service.specs.Run.{Proceeds, HaveTaken, course};
 ghost use Rattle.hw_service.specs.Turns.{DrivesAt, DrivesSession, TakesTurn, RunsTurns, turning};
 ghost use Rattle.hw_service.specs.declared.fault.ServiceFault.TheVariants as fault;
 ghost use Rattle.hw_service.specs.Counts.{IsReadCounted, IsAppendCounted, IsWriteCounted, IsDoorCounted, raised_by};
@@ -42,9 +42,8 @@ pub fn run<F: Files, S: Sink, C: Clock, D: Door>(
     consumers: &mut Vec<Box<dyn Consumer>>,
 ) -> Result<Served, ServiceFault>
     ensures runs { RunsTurns (sight_of ⟦<dyn Consumer as Consumer>⟧) F.tells (names_of sources.entry) me turns
-        (outside_in F.Files S.Sink D.Door environment.old consumers.old.items)
-        (outside_in F.Files S.Sink D.Door environment.new consumers.new.items)
-        (turning peers.old.items (C.given environment.old.clock.now)) (turning peers.new.items (C.given environment.new.clock.now)) result }
+        (outside_in F.Files S.Sink D.Door environment.old consumers.old.items, turning peers.old.items (C.given environment.old.clock.now))
+        (outside_in F.Files S.Sink D.Door environment.new consumers.new.items, turning peers.new.items (C.given environment.new.clock.now)) result }
     ensures peers { length peers.new.items ≡ length peers.old.items }
     ensures dials { OnOk result (D.dials environment.new.door.now ≡ raised_by (turns * length peers.old.items) (D.dials environment.old.door.now)) }
     ensures accepts { D.accepts environment.new.door.now ≡ D.accepts environment.old.door.now }
@@ -73,10 +72,9 @@ fn run_begun<F: Files, S: Sink, C: Clock, D: Door>(
 ) -> Result<Served, ServiceFault>
     requires me { me < length host.old.node.core.config.weights }
     requires ready { IsReady host.old.node host.old.fanout consumers.old.items }
-    ensures proceeds { Proceeds (sight_of ⟦<dyn Consumer as Consumer>⟧) (TakesTurn (sight_of ⟦<dyn Consumer as Consumer>⟧) F.tells me) 1 turns
-        (scene host.old.node host.old.fanout (outside_in F.Files S.Sink D.Door environment.old consumers.old.items))
-        (outside_in F.Files S.Sink D.Door environment.new consumers.new.items)
-        (turning peers.old.items (C.given environment.old.clock.now)) (turning peers.new.items (C.given environment.new.clock.now)) result }
+    ensures proceeds { Proceeds (sight_of ⟦<dyn Consumer as Consumer>⟧) (course (TakesTurn (sight_of ⟦<dyn Consumer as Consumer>⟧) F.tells me) 1 turns)
+        (scene host.old.node host.old.fanout (outside_in F.Files S.Sink D.Door environment.old consumers.old.items), turning peers.old.items (C.given environment.old.clock.now))
+        (outside_in F.Files S.Sink D.Door environment.new consumers.new.items, turning peers.new.items (C.given environment.new.clock.now)) result }
     ensures lent { loans environment.new.files environment.new.out environment.new.clock environment.new.door ≡ loans environment.old.files environment.old.out environment.old.clock environment.old.door }
     ensures appends { IsAppendCounted (F.append_faults environment.old.files.now) (F.append_faults environment.new.files.now) result }
     ensures writes { IsWriteCounted (S.faults environment.old.out.now) (S.faults environment.new.out.now) result }

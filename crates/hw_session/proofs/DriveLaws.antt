@@ -21,6 +21,7 @@ use Rattle.hw_link.specs.Heard.{Hears, IsHeard}
 use Rattle.hw_link.specs.declared.read.Heard.{Heard}
 use Rattle.hw_link.specs.Links.{after_part}
 use Rattle.hw_link.specs.Sent.{Sends}
+use Rattle.hw_link.specs.Told.{door_told}
 use Rattle.hw_session.specs.declared.stage.PeerMark.{PeerMark}
 use Rattle.hw_session.specs.declared.stage.Stage.{Stage}
 use Rattle.hw_session.specs.declared.stage.Stage.TheVariants as stage
@@ -33,6 +34,7 @@ use Rattle.hw_session.specs.DriveHandling.{node_part, IsDue, ReactsAs, AnswersAs
 use Rattle.hw_session.specs.declared.fault.AcceptFault.TheVariants as fault
 use Rattle.hw_session.specs.Accept.{given_to, taken_by, Accepts}
 use Rattle.hw_session.specs.Grows.{Logs}
+use Rattle.hw_session.specs.Standing.{standing, driver_standing}
 use Rattle.hw_session.proofs.ReactLaws.{one_sent, none_sent, accepted_logs, refused_logs, append_failed, memory_wanted, stays_reacts}
 use Rattle.hw_session.proofs.NextLaws.{reacts_alike}
 
@@ -143,9 +145,9 @@ module _ (d : Driver) (place : ℕ) (m : NodeState) (now : PeerMark) (tells : Bo
   unfolding drive_step
   by_stage = refl
 
-  pub handles_whole : (next : Stage) → ReactsAs d.node h.frame (drive_at d.stage d place h.frame) m now tells held_old held_new mid new (Ok next) → HandlesAs d place m now tells held_old held_new old new ends_old ends_new (Ok (record { place = h.next; stage = next }))
+  pub handles_whole : (next : Stage) → ReactsAs tells (standing d.node held_old) h.frame (drive_at d.stage d place h.frame) (driver_standing m now held_new) mid new (Ok next) → HandlesAs tells d held_old place (driver_standing m now held_new) (door_told old ends_old) (door_told new ends_new) (Ok (record { place = h.next; stage = next }))
   handles_whole next reacts =
-      let r = subst (λ (x : Reaction Driver). ReactsAs d.node h.frame x m now tells held_old held_new mid new (Ok next)) by_stage reacts in
+      let r = subst (λ (x : Reaction Driver). ReactsAs tells (standing d.node held_old) h.frame x (driver_standing m now held_new) mid new (Ok next)) by_stage reacts in
       record {
         part = heard.part;
         frame = h.frame;
@@ -156,12 +158,12 @@ module _ (d : Driver) (place : ℕ) (m : NodeState) (now : PeerMark) (tells : Bo
         marks = r.marks;
         waits = r.waits;
         due = r.due;
-        reacts = subst (λ (o : Option (List Session)). Reacts {T = Onward} d.node h.frame (node_part reaction) m tells held_old held_new o new (Ok (record { place = h.next; stage = next }))) heard.heard r.node;
+        reacts = subst (λ (o : Option (List Session)). Reacts {T = Onward} tells (standing d.node held_old) h.frame (node_part reaction) (standing m held_new) o new (Ok (record { place = h.next; stage = next }))) heard.heard r.node;
       }
 
-  pub handles_end : (e : SessionEnd) → ReactsAs d.node h.frame (drive_at d.stage d place h.frame) m now tells held_old held_new mid new (Err e) → HandlesAs d place m now tells held_old held_new old new ends_old ends_new (Err e)
+  pub handles_end : (e : SessionEnd) → ReactsAs tells (standing d.node held_old) h.frame (drive_at d.stage d place h.frame) (driver_standing m now held_new) mid new (Err e) → HandlesAs tells d held_old place (driver_standing m now held_new) (door_told old ends_old) (door_told new ends_new) (Err e)
   handles_end e reacts =
-      let r = subst (λ (x : Reaction Driver). ReactsAs d.node h.frame x m now tells held_old held_new mid new (Err e)) by_stage reacts in
+      let r = subst (λ (x : Reaction Driver). ReactsAs tells (standing d.node held_old) h.frame x (driver_standing m now held_new) mid new (Err e)) by_stage reacts in
       record {
         part = heard.part;
         frame = h.frame;
@@ -172,7 +174,7 @@ module _ (d : Driver) (place : ℕ) (m : NodeState) (now : PeerMark) (tells : Bo
         marks = r.marks;
         waits = tt;
         due = tt;
-        reacts = subst (λ (o : Option (List Session)). Reacts {T = Onward} d.node h.frame (node_part reaction) m tells held_old held_new o new (Err e)) heard.heard (reacts_alike Stage Onward d.node h.frame (node_part reaction) m tells held_old held_new mid new e r.node);
+        reacts = subst (λ (o : Option (List Session)). Reacts {T = Onward} tells (standing d.node held_old) h.frame (node_part reaction) (standing m held_new) o new (Err e)) heard.heard (reacts_alike Stage Onward d.node h.frame (node_part reaction) m tells held_old held_new mid new e r.node);
       }
 
 -- ---- a vertex of the peer
@@ -204,12 +206,12 @@ module _ (s : Stage) (n : NodeState) (mark : PeerMark) (v : Vertex) (m : NodeSta
   Received result = Receives n v m tells held_old held_new result
 
   abbrev Reacted : Option (List Session) → Result Stage SessionEnd → Type 0
-  Reacted sessions result = ReactsAs n (frame.Vertex v) (drive_vertex driver v) m mark tells held_old held_new sessions sessions result
+  Reacted sessions result = ReactsAs tells (standing n held_old) (frame.Vertex v) (drive_vertex driver v) (driver_standing m mark held_new) sessions sessions result
 
   -- the session goes on, and nothing was sent
   went_on : Logs n m tells held_old held_new → (sessions : Option (List Session)) → drive_vertex driver v ≡ goes_on (record { stage = s; node = m; mark = mark }) [] → Reacted sessions (Ok s)
   went_on logs sessions by =
-      subst (λ (x : Reaction Driver). ReactsAs n (frame.Vertex v) x m mark tells held_old held_new sessions sessions (Ok s)) (sym by) (record {
+      subst (λ (x : Reaction Driver). ReactsAs tells (standing n held_old) (frame.Vertex v) x (driver_standing m mark held_new) sessions sessions (Ok s)) (sym by) (record {
         node = (refl, record { state = refl; logs = logs; told = none_sent sessions });
         marks = refl;
         waits = refl;
@@ -255,7 +257,7 @@ module _ (s : Stage) (n : NodeState) (mark : PeerMark) (v : Vertex) (m : NodeSta
 
   pub vertex_ends : (e : SessionEnd) (sessions : Option (List Session)) → Received (Err e) → Reacted sessions (Err e)
   vertex_ends end.Clash sessions got =
-      subst (λ (x : Reaction Driver). ReactsAs n (frame.Vertex v) x m mark tells held_old held_new sessions sessions (Err end.Clash)) (sym (by_refusal got.0 true got.1 got.2.accepts)) (record {
+      subst (λ (x : Reaction Driver). ReactsAs tells (standing n held_old) (frame.Vertex v) x (driver_standing m mark held_new) sessions sessions (Err end.Clash)) (sym (by_refusal got.0 true got.1 got.2.accepts)) (record {
         node = (refl, record { state = refl; logs = refused_logs n v m tells held_old held_new got.0 got.2.accepts got.2.writes; told = none_sent sessions });
         marks = refl;
         waits = tt;
@@ -275,12 +277,12 @@ module _ (s : Stage) (n : NodeState) (mark : PeerMark) (v : Vertex) (m : NodeSta
 -- ---- a node that stays as it is
 
 pub as_reacts : (n : NodeState) (f : Frame) (mark : PeerMark) (r : Reaction Driver) (tells : Bool) (held : List ℕ → Option (List ℕ)) (old new : Option (List Session)) (result : Result Stage SessionEnd) → n ≡ r.state.node → mark ≡ r.state.mark → AnswersAs n mark r old new result
-    → ReactsAs n f r n mark tells held held old new result
+    → ReactsAs tells (standing n held) f r (driver_standing n mark held) old new result
 as_reacts n f mark r tells held old new result stands marks a = record { node = stays_reacts Stage n f (node_part r) tells held old new result stands a.node; marks = marks; waits = a.waits; due = a.due }
 
 -- another frame was due
 pub bad_reacts : (n : NodeState) (f : Frame) (mark : PeerMark) (d : Driver) (at : ℕ) (r : Reaction Driver) (tells : Bool) (held : List ℕ → Option (List ℕ)) (old : Option (List Session)) → n ≡ d.node → mark ≡ d.mark → r ≡ not_due d at
-    → ReactsAs n f r n mark tells held held old old (Err (end.BadFrame at))
+    → ReactsAs tells (standing n held) f r (driver_standing n mark held) old old (Err (end.BadFrame at))
 bad_reacts n f mark d at r tells held old node marks is =
     as_reacts n f mark r tells held old old (Err (end.BadFrame at)) (node ∙ ap (λ (x : Reaction Driver). x.state.node) (sym is)) (marks ∙ ap (λ (x : Reaction Driver). x.state.mark) (sym is)) (bad_answers n mark d at r old is)
 

@@ -28,6 +28,7 @@ use Rattle.hw_link.specs.Sent.{Sends}
 use Rattle.hw_link.specs.UnderWay.{HasFrame, EndsIn, IsRefused, HasHeard, talk_from, behind_said, placed_behind}
 use Rattle.hw_link.specs.Asked.{IsAskedInside, IsAskedBehind}
 use Rattle.hw_link.specs.Heard.{Hears, Says, IsHeard, IsEndCounted}
+use Rattle.hw_link.specs.Told.{door_told}
 use Rattle.hw_link.proofs.AskLaws.{next_asked}
 use Rattle.hw_link.proofs.HeardLaws.{reads_frame_by_frame}
 use Rattle.hw_session.specs.declared.stage.PeerMark.{PeerMark}
@@ -43,6 +44,7 @@ use Rattle.hw_session.specs.Handling.{Took, Stayed, WasCut, Reacts, Quits}
 use Rattle.hw_session.specs.Sessions.{EndsAs, IsCutEnd, IsReadNoFurther, IsAnswered, IsSaidSoFar}
 use Rattle.hw_session.specs.DriveHandling.{node_part, IsDue, HandlesAs}
 use Rattle.hw_session.specs.Drives.{IsDrivenEnd, StandsDrivenCut, LeavesDriven, LeavesMark, Drives, DrivesThere, DrivesPeer, DrivesNone}
+use Rattle.hw_session.specs.Standing.{standing, driver_standing}
 use Rattle.hw_session.proofs.ReactLaws.{one_sent}
 use Rattle.hw_link.proofs.LinkLaws.{after_nothing}
 use Rattle.hw_session.proofs.GrowsLaws.{logs_nothing, logs_then, logs_but}
@@ -296,7 +298,7 @@ module _ (n : NodeState) (mark : PeerMark) where
   -- ---- what a session comes to
 
   module _ (m : NodeState) (now_mark : PeerMark) (tells : Bool) (held_old held_new : List ℕ → Option (List ℕ)) where
-    leaves_plain : (e : SessionEnd) (read written : List ℕ) → IsPlain e → m ≡ (driven n mark read).state.node → Logs n m tells held_old held_new → LeavesDriven e n mark read written m now_mark tells held_old held_new
+    leaves_plain : (e : SessionEnd) (read written : List ℕ) → IsPlain e → m ≡ (driven n mark read).state.node → Logs n m tells held_old held_new → LeavesDriven e tells (driver_standing n mark held_old) read written (driver_standing m now_mark held_new)
     leaves_plain end.Done read written plain is logs = (is, logs)
     leaves_plain end.EndOfInput read written plain is logs = (is, logs)
     leaves_plain end.WrongInstance read written plain is logs = (is, logs)
@@ -320,7 +322,7 @@ module _ (n : NodeState) (mark : PeerMark) where
 
     -- the whole session is this, and all that was read was handled
     plain_drives : (read written : List ℕ) (said : List (List Frame)) (d : Driver) (ends_old ends_new : ℕ) (e by_bytes : SessionEnd) → length read ≤ byte_limit → Whole read d said by_bytes → m ≡ d.node → now_mark ≡ d.mark → IsPlain e → EndsAs e by_bytes
-        → IsDrivenEnd n mark read ends_old ends_new e → IsReadNoFurther (λ (bytes : List ℕ). (driven n mark bytes).end) read → IsWritten e said written → length (said_bytes (before_last said)) ≤ length written → Logs n m tells held_old held_new → Drives n mark read written m now_mark tells held_old held_new ends_old ends_new e
+        → IsDrivenEnd n mark read ends_old ends_new e → IsReadNoFurther (λ (bytes : List ℕ). (driven n mark bytes).end) read → IsWritten e said written → length (said_bytes (before_last said)) ≤ length written → Logs n m tells held_old held_new → Drives tells (driver_standing n mark held_old) read written (driver_standing m now_mark held_new) ends_old ends_new e
     plain_drives read written said d ends_old ends_new e by_bytes few whole node marks plain ended counted further wrote all logs = record {
       within = few;
       ended = subst (λ (t : Talk Driver). EndsAs e t.end) (sym whole) ended;
@@ -335,7 +337,7 @@ module _ (n : NodeState) (mark : PeerMark) where
     -- there was no memory, and the node stands behind the first bytes that were read
     wanting_drives : (first part written : List ℕ) (said more : List (List Frame)) (d : Driver) (ends_old ends_new : ℕ) (by_bytes : SessionEnd) → length (first ++ part) ≤ byte_limit → Whole first d said by_bytes → m ≡ d.node
         → now_mark ≡ d.mark → (driven n mark (first ++ part)).said ≡ said ++ more → IsSaidSoFar said written → Logs n m tells held_old held_new
-        → Drives n mark (first ++ part) written m now_mark tells held_old held_new ends_old ends_new end.OutOfMemory
+        → Drives tells (driver_standing n mark held_old) (first ++ part) written (driver_standing m now_mark held_new) ends_old ends_new end.OutOfMemory
     wanting_drives first part written said more d ends_old ends_new by_bytes few whole node marks further wrote logs = record {
       within = few;
       ended = inr tt;
@@ -364,10 +366,10 @@ module _ (n : NodeState) (mark : PeerMark) (d : Driver) (place : ℕ) (tells : B
   limit_is_reached place part is limit = let all = length-append s.read part in omega arith
 
   -- as many bytes were read as may be
-  pub limit_drives : byte_limit ≤ place → (ends_old ends : ℕ) → ends ≡ ends_old → DrivesThere n mark d.node d.mark tells held_old held_now old now ends_old ends end.ByteLimit
-  limit_drives full ends_old ends same = subst (λ (x : ℕ). DrivesThere n mark d.node d.mark tells held_old held_now old now x ends end.ByteLimit) same (limit_here full ends)
+  pub limit_drives : byte_limit ≤ place → (ends_old ends : ℕ) → ends ≡ ends_old → DrivesThere tells (driver_standing n mark held_old) (driver_standing d.node d.mark held_now) (door_told old ends_old) (door_told now ends) end.ByteLimit
+  limit_drives full ends_old ends same = subst (λ (x : ℕ). DrivesThere tells (driver_standing n mark held_old) (driver_standing d.node d.mark held_now) (door_told old x) (door_told now ends) end.ByteLimit) same (limit_here full ends)
     where
-      limit_here : byte_limit ≤ place → (ends : ℕ) → DrivesThere n mark d.node d.mark tells held_old held_now old now ends ends end.ByteLimit
+      limit_here : byte_limit ≤ place → (ends : ℕ) → DrivesThere tells (driver_standing n mark held_old) (driver_standing d.node d.mark held_now) (door_told old ends) (door_told now ends) end.ByteLimit
       limit_here full ends =
           let at_limit : byte_limit ≤ length s.read + length {A = ℕ} [] = omega (arith, s.place_is) in
           let by : cut_end (rest_at (length s.read) []) ≡ end.ByteLimit = ap (λ (b : Bool). cond b end.ByteLimit (cond true end.EndOfInput (end.BadFrame (length s.read)))) (le-leb byte_limit (length s.read + length {A = ℕ} []) at_limit) in
@@ -382,7 +384,7 @@ module _ (n : NodeState) (mark : PeerMark) (d : Driver) (place : ℕ) (tells : B
 
   -- what was read is the end of the session, by which no frame comes
   quit : (e : SessionEnd) (ends_now ends_new : ℕ) (new : Option (List Session)) (held_new : List ℕ → Option (List ℕ)) → Logs n d.node tells held_old held_new → Hears {T = Heard} IsHeard (length s.read) [] now new ends_now ends_new (Err e)
-      → DrivesThere n mark d.node d.mark tells held_old held_new old new ends_now ends_new e
+      → DrivesThere tells (driver_standing n mark held_old) (driver_standing d.node d.mark held_new) (door_told old ends_now) (door_told new ends_new) e
   quit e ends_now ends_new new held_new logs h = by e h.says h.ended (told_read s.read h.part (said_bytes s.said) (is_link_fault {T = Unit {0}} (Err e)) old now new s.told (h.heard ∙ ap (λ (b : Bool). after_part h.part [] b now) (fault_alike Heard (Unit {0}) e)))
     where
       few : length (s.read ++ h.part) ≤ byte_limit
@@ -392,7 +394,7 @@ module _ (n : NodeState) (mark : PeerMark) (d : Driver) (place : ℕ) (tells : B
       over by_bytes ends = (reads_frame_by_frame Driver).no_frame_ends drive_step (hello n) (greeting n mark) s.read s.said d h.part by_bytes s.heard ends few
 
       plain : (how by_bytes : SessionEnd) → EndsIn (length s.read) h.part by_bytes → IsPlain how → EndsAs how by_bytes → IsDrivenEnd n mark (s.read ++ h.part) ends_now ends_new how → new ≡ after_part (s.read ++ h.part) (said_bytes s.said) (is_link_fault {T = Unit {0}} (Err how)) old
-          → DrivesThere n mark d.node d.mark tells held_old held_new old new ends_now ends_new how
+          → DrivesThere tells (driver_standing n mark held_old) (driver_standing d.node d.mark held_new) (door_told old ends_now) (door_told new ends_new) how
       plain how by_bytes none is_plain agrees counted told = record {
         read = s.read ++ h.part;
         written = said_bytes s.said;
@@ -409,7 +411,7 @@ module _ (n : NodeState) (mark : PeerMark) (d : Driver) (place : ℕ) (tells : B
           ((reads_frame_by_frame Driver).no_frame_ends drive_step (hello n) (greeting n mark) s.read s.said d (h.part ++ more) (end.BadFrame at) s.heard (none more) (subst (λ (bytes : List ℕ). length bytes ≤ byte_limit) (append_assoc s.read h.part more) fits))))
 
       by : (how : SessionEnd) → Says {T = Heard} IsHeard (length s.read) h.part (Err how) → IsEndCounted {T = Heard} ends_now ends_new (length s.read) h.part (Err how)
-          → new ≡ after_part (s.read ++ h.part) (said_bytes s.said) (is_link_fault {T = Unit {0}} (Err how)) old → DrivesThere n mark d.node d.mark tells held_old held_new old new ends_now ends_new how
+          → new ≡ after_part (s.read ++ h.part) (said_bytes s.said) (is_link_fault {T = Unit {0}} (Err how)) old → DrivesThere tells (driver_standing n mark held_old) (driver_standing d.node d.mark held_new) (door_told old ends_now) (door_told new ends_new) how
       by end.LinkFault says ended told = plain end.LinkFault (cut_end (rest_at (length s.read) h.part)) says tt (inr tt) tt told
       by end.EndOfInput says ended told = plain end.EndOfInput end.EndOfInput says tt (inl refl) ended told
       by (end.BadFrame at) says ended told = plain (end.BadFrame at) (end.BadFrame at) says tt (inl refl) (refused at ended) told
@@ -429,13 +431,13 @@ module _ (n : NodeState) (mark : PeerMark) (d : Driver) (place : ℕ) (tells : B
             told = told;
           }
 
-  pub quit_drives : {T : Type 0} (k : NodeState) (now_mark : PeerMark) (held_new : List ℕ → Option (List ℕ)) (new : Option (List Session)) (ends_now ends_new : ℕ) (e : SessionEnd) → Quits {T = T} d.node place k tells held_now held_new now new ends_now ends_new (Err e) → now_mark ≡ d.mark
-      → DrivesThere n mark k now_mark tells held_old held_new old new ends_now ends_new e
+  pub quit_drives : {T : Type 0} (k : NodeState) (now_mark : PeerMark) (held_new : List ℕ → Option (List ℕ)) (new : Option (List Session)) (ends_now ends_new : ℕ) (e : SessionEnd) → Quits {T = T} tells (standing d.node held_now) place (standing k held_new) (door_told now ends_now) (door_told new ends_new) (Err e) → now_mark ≡ d.mark
+      → DrivesThere tells (driver_standing n mark held_old) (driver_standing k now_mark held_new) (door_told old ends_now) (door_told new ends_new) e
   quit_drives k now_mark held_new new ends_now ends_new e q marks =
       let how : e ≡ q.how = cc (q.is) in
-      subst (λ (x : NodeState). DrivesThere n mark x now_mark tells held_old held_new old new ends_now ends_new e) (sym q.state)
-      (subst (λ (x : PeerMark). DrivesThere n mark d.node x tells held_old held_new old new ends_now ends_new e) (sym marks)
-      (subst (λ (x : SessionEnd). DrivesThere n mark d.node d.mark tells held_old held_new old new ends_now ends_new x) (sym how)
+      subst (λ (x : NodeState). DrivesThere tells (driver_standing n mark held_old) (driver_standing x now_mark held_new) (door_told old ends_now) (door_told new ends_new) e) (sym q.state)
+      (subst (λ (x : PeerMark). DrivesThere tells (driver_standing n mark held_old) (driver_standing d.node x held_new) (door_told old ends_now) (door_told new ends_new) e) (sym marks)
+      (subst (λ (x : SessionEnd). DrivesThere tells (driver_standing n mark held_old) (driver_standing d.node d.mark held_new) (door_told old ends_now) (door_told new ends_new) x) (sym how)
       (quit q.how ends_now ends_new new held_new (logs_then tells n d.node d.node held_old held_now held_new s.logs (logs_nothing tells d.node held_now held_new q.files))
       (subst (λ (p : ℕ). Hears {T = Heard} IsHeard p [] now new ends_now ends_new (Err q.how)) s.place_is q.heard))))
 
@@ -462,7 +464,7 @@ module _ (n : NodeState) (mark : PeerMark) (d : Driver) (place : ℕ) (tells : B
     whole = behind n mark d s.read s.said s.heard part f has reaction.end refl fits
 
     -- a node that took what the frame brought
-    module _ (sent : List ℕ) (failed : Bool) (took : Took d.node (node_part reaction) sent failed k tells held_now held_new behind_part new) where
+    module _ (sent : List ℕ) (failed : Bool) (took : Took tells (standing d.node held_now) (node_part reaction) sent failed (standing k held_new) behind_part new) where
       stands : Logs n k tells held_old held_new
       stands = logs_then tells n d.node k held_old held_now held_new s.logs took.logs
 
@@ -476,10 +478,10 @@ module _ (n : NodeState) (mark : PeerMark) (d : Driver) (place : ℕ) (tells : B
           subst (λ (x : List (List Frame)). length (said_bytes x) ≤ length (said_bytes s.said ++ sent)) (sym (before_last_one s.said reaction.says)) less
 
     -- it ended the session
-    ended : (e : SessionEnd) (ends : ℕ) → reaction.end ≡ Some e → Took d.node (node_part reaction) (sent_bytes reaction.says) false k tells held_now held_new behind_part new → DrivesThere n mark k now_mark tells held_old held_new old new ends ends e
+    ended : (e : SessionEnd) (ends : ℕ) → reaction.end ≡ Some e → Took tells (standing d.node held_now) (node_part reaction) (sent_bytes reaction.says) false (standing k held_new) behind_part new → DrivesThere tells (driver_standing n mark held_old) (driver_standing k now_mark held_new) (door_told old ends) (door_told new ends) e
     ended e ends is took = by e is (step_ends d (placed_behind s.read f) e is)
       where
-        at_end : (how : SessionEnd) → reaction.end ≡ Some how → IsPlain how → IsDrivenEnd n mark (s.read ++ part) ends ends how → is_link_fault {T = Unit {0}} (Err how) ≡ false → DrivesThere n mark k now_mark tells held_old held_new old new ends ends how
+        at_end : (how : SessionEnd) → reaction.end ≡ Some how → IsPlain how → IsDrivenEnd n mark (s.read ++ part) ends ends how → is_link_fault {T = Unit {0}} (Err how) ≡ false → DrivesThere tells (driver_standing n mark held_old) (driver_standing k now_mark held_new) (door_told old ends) (door_told new ends) how
         at_end how some plain counted linked = record {
           read = s.read ++ part;
           written = said_bytes s.said ++ sent_bytes reaction.says;
@@ -489,7 +491,7 @@ module _ (n : NodeState) (mark : PeerMark) (d : Driver) (place : ℕ) (tells : B
           told = told (sent_bytes reaction.says) false took ∙ ap (λ (b : Bool). after_part (s.read ++ part) (said_bytes s.said ++ sent_bytes reaction.says) b old) (sym linked);
         }
 
-        by : (how : SessionEnd) → reaction.end ≡ Some how → IsOfFrame how → DrivesThere n mark k now_mark tells held_old held_new old new ends ends how
+        by : (how : SessionEnd) → reaction.end ≡ Some how → IsOfFrame how → DrivesThere tells (driver_standing n mark held_old) (driver_standing k now_mark held_new) (door_told old ends) (door_told new ends) how
         by end.Done some of = at_end end.Done some tt tt refl
         by end.WrongInstance some of = at_end end.WrongInstance some tt tt refl
         by end.Clash some of = at_end end.Clash some tt tt refl
@@ -501,7 +503,7 @@ module _ (n : NodeState) (mark : PeerMark) (d : Driver) (place : ℕ) (tells : B
         by (end.BadFrame at) some of = at_end (end.BadFrame at) some tt (inr (λ more few. ap (λ (t : Talk Driver). t.end) (stops n mark d s.read s.said s.heard part f has (end.BadFrame at) some more few))) refl
 
     -- the link failed in its answer
-    link_failed : (sent : List ℕ) (ends : ℕ) → IsPrefixOf sent (sent_bytes reaction.says) → Took d.node (node_part reaction) sent true k tells held_now held_new behind_part new → DrivesThere n mark k now_mark tells held_old held_new old new ends ends end.LinkFault
+    link_failed : (sent : List ℕ) (ends : ℕ) → IsPrefixOf sent (sent_bytes reaction.says) → Took tells (standing d.node held_now) (node_part reaction) sent true (standing k held_new) behind_part new → DrivesThere tells (driver_standing n mark held_old) (driver_standing k now_mark held_new) (door_told old ends) (door_told new ends) end.LinkFault
     link_failed sent ends first took = record {
       read = s.read ++ part;
       written = said_bytes s.said ++ sent;
@@ -511,7 +513,7 @@ module _ (n : NodeState) (mark : PeerMark) (d : Driver) (place : ℕ) (tells : B
     }
 
     -- there was no memory for all of its answer
-    answer_wanted : (sent : List ℕ) (ends : ℕ) → IsPrefixOf sent (sent_bytes reaction.says) → Took d.node (node_part reaction) sent false k tells held_now held_new behind_part new → DrivesThere n mark k now_mark tells held_old held_new old new ends ends end.OutOfMemory
+    answer_wanted : (sent : List ℕ) (ends : ℕ) → IsPrefixOf sent (sent_bytes reaction.says) → Took tells (standing d.node held_now) (node_part reaction) sent false (standing k held_new) behind_part new → DrivesThere tells (driver_standing n mark held_old) (driver_standing k now_mark held_new) (door_told old ends) (door_told new ends) end.OutOfMemory
     answer_wanted sent ends first took =
         let here : (driven n mark ((s.read ++ part) ++ [])).said ≡ said ++ [] = ap (λ (bytes : List ℕ). (driven n mark bytes).said) (append-nil (s.read ++ part)) ∙ ap (λ (t : Talk Driver). t.said) whole.1 ∙ sym (append-nil said) in
         record {
@@ -523,7 +525,7 @@ module _ (n : NodeState) (mark : PeerMark) (d : Driver) (place : ℕ) (tells : B
         }
 
     -- there was none for the frame, which moves no mark
-    before_frame : (ends : ℕ) → reaction.state.mark ≡ d.mark → Stayed d.node k tells held_now held_new behind_part new → DrivesThere n mark k now_mark tells held_old held_new old new ends ends end.OutOfMemory
+    before_frame : (ends : ℕ) → reaction.state.mark ≡ d.mark → Stayed tells (standing d.node held_now) (standing k held_new) behind_part new → DrivesThere tells (driver_standing n mark held_old) (driver_standing k now_mark held_new) (door_told old ends) (door_told new ends) end.OutOfMemory
     before_frame ends stays stayed =
         let further = heard_first n mark s.read s.said d s.heard part fits in
         let here = heard_here n mark s.read s.said d s.heard s.within in
@@ -537,7 +539,7 @@ module _ (n : NodeState) (mark : PeerMark) (d : Driver) (place : ℕ) (tells : B
         }
 
     -- A frame leaves the node or the marks as they were. Where it leaves the node it was handled, and nothing of the answer was sent.
-    frame_wanted : (ends : ℕ) → Stayed d.node k tells held_now held_new behind_part new → DrivesThere n mark k now_mark tells held_old held_new old new ends ends end.OutOfMemory
+    frame_wanted : (ends : ℕ) → Stayed tells (standing d.node held_now) (standing k held_new) behind_part new → DrivesThere tells (driver_standing n mark held_old) (driver_standing k now_mark held_new) (door_told old ends) (door_told new ends) end.OutOfMemory
     frame_wanted ends stayed = elim (step_moves d (placed_behind s.read f)) [
       | inl node ↦ answer_wanted [] ends (0, refl) (record {
         state = stayed.state ∙ sym node;
@@ -548,8 +550,8 @@ module _ (n : NodeState) (mark : PeerMark) (d : Driver) (place : ℕ) (tells : B
     ]
 
     -- its vertex's entry was cut
-    module _ (cut : WasCut d.node f (node_part reaction) k tells held_now held_new behind_part new) where
-      stands_cut : StandsDrivenCut n mark (s.read ++ part) (said_bytes s.said) k now_mark tells held_old held_new
+    module _ (cut : WasCut tells (standing d.node held_now) f (node_part reaction) (standing k held_new) behind_part new) where
+      stands_cut : StandsDrivenCut tells (driver_standing n mark held_old) (s.read ++ part) (said_bytes s.said) (driver_standing k now_mark held_new)
       stands_cut =
           let here = heard_here n mark s.read s.said d s.heard s.within in
           record {
@@ -567,7 +569,7 @@ module _ (n : NodeState) (mark : PeerMark) (d : Driver) (place : ℕ) (tells : B
       told_cut : new ≡ after_part (s.read ++ part) (said_bytes s.said) false old
       told_cut = told_read s.read part (said_bytes s.said) false old now new s.told cut.told
 
-      append_failed : (ends : ℕ) → DrivesThere n mark k now_mark tells held_old held_new old new ends ends end.AppendFault
+      append_failed : (ends : ℕ) → DrivesThere tells (driver_standing n mark held_old) (driver_standing k now_mark held_new) (door_told old ends) (door_told new ends) end.AppendFault
       append_failed ends = record {
         read = s.read ++ part;
         written = said_bytes s.said;
@@ -585,7 +587,7 @@ module _ (n : NodeState) (mark : PeerMark) (d : Driver) (place : ℕ) (tells : B
         told = told_cut;
       }
 
-      append_wanted : (ends : ℕ) → DrivesThere n mark k now_mark tells held_old held_new old new ends ends end.OutOfMemory
+      append_wanted : (ends : ℕ) → DrivesThere tells (driver_standing n mark held_old) (driver_standing k now_mark held_new) (door_told old ends) (door_told new ends) end.OutOfMemory
       append_wanted ends =
           let further = heard_first n mark s.read s.said d s.heard part fits in
           record {
@@ -606,7 +608,7 @@ module _ (n : NodeState) (mark : PeerMark) (d : Driver) (place : ℕ) (tells : B
           }
 
     -- the session goes on
-    goes_driving : (next : Stage) → reaction.end ≡ None → next ≡ reaction.state.stage → Took d.node (node_part reaction) (sent_bytes reaction.says) false k tells held_now held_new behind_part new
+    goes_driving : (next : Stage) → reaction.end ≡ None → next ≡ reaction.state.stage → Took tells (standing d.node held_now) (node_part reaction) (sent_bytes reaction.says) false (standing k held_new) behind_part new
         → IsDriving n mark (record { stage = next; node = k; mark = now_mark }) (length s.read + length part) tells held_old held_new old new
     goes_driving next none waits took = record {
       read = s.read ++ part;
@@ -620,7 +622,7 @@ module _ (n : NodeState) (mark : PeerMark) (d : Driver) (place : ℕ) (tells : B
     }
 
     -- or it ends
-    reacted : (T : Type 0) (e : SessionEnd) (ends : ℕ) → Reacts {T = T} d.node f (node_part reaction) k tells held_now held_new behind_part new (Err e) → DrivesThere n mark k now_mark tells held_old held_new old new ends ends e
+    reacted : (T : Type 0) (e : SessionEnd) (ends : ℕ) → Reacts {T = T} tells (standing d.node held_now) f (node_part reaction) (standing k held_new) behind_part new (Err e) → DrivesThere tells (driver_standing n mark held_old) (driver_standing k now_mark held_new) (door_told old ends) (door_told new ends) e
     reacted T end.LinkFault ends (sent, first, took) = link_failed sent ends first took
     reacted T end.AppendFault ends cut = append_failed cut ends
     reacted T end.OutOfMemory ends (inl stayed) = frame_wanted ends stayed
@@ -633,16 +635,16 @@ module _ (n : NodeState) (mark : PeerMark) (d : Driver) (place : ℕ) (tells : B
     reacted T end.ByteLimit ends (is, took) = ended end.ByteLimit ends is took
     reacted T end.Clash ends (is, took) = ended end.Clash ends is took
 
-  pub frame_drives : (k : NodeState) (now_mark : PeerMark) (held_new : List ℕ → Option (List ℕ)) (new : Option (List Session)) (ends_now ends_new : ℕ) (e : SessionEnd) → HandlesAs d place k now_mark tells held_now held_new now new ends_now ends_new (Err e)
-      → DrivesThere n mark k now_mark tells held_old held_new old new ends_now ends_new e
+  pub frame_drives : (k : NodeState) (now_mark : PeerMark) (held_new : List ℕ → Option (List ℕ)) (new : Option (List Session)) (ends_now ends_new : ℕ) (e : SessionEnd) → HandlesAs tells d held_now place (driver_standing k now_mark held_new) (door_told now ends_now) (door_told new ends_new) (Err e)
+      → DrivesThere tells (driver_standing n mark held_old) (driver_standing k now_mark held_new) (door_told old ends_now) (door_told new ends_new) e
   frame_drives k now_mark held_new new ends_now ends_new e h =
-      let at : HandlesAs d (length s.read) k now_mark tells held_now held_new now new ends_now ends_new (Err e) = subst (λ (p : ℕ). HandlesAs d p k now_mark tells held_now held_new now new ends_now ends_new (Err e)) s.place_is h in
-      subst (λ (x : ℕ). DrivesThere n mark k now_mark tells held_old held_new old new ends_now x e) (sym h.ends) (reacted k now_mark held_new new at.part at.frame at.has at.within at.marks Onward e ends_now at.reacts)
+      let at : HandlesAs tells d held_now (length s.read) (driver_standing k now_mark held_new) (door_told now ends_now) (door_told new ends_new) (Err e) = subst (λ (p : ℕ). HandlesAs tells d held_now p (driver_standing k now_mark held_new) (door_told now ends_now) (door_told new ends_new) (Err e)) s.place_is h in
+      subst (λ (x : ℕ). DrivesThere tells (driver_standing n mark held_old) (driver_standing k now_mark held_new) (door_told old ends_now) (door_told new x) e) (sym h.ends) (reacted k now_mark held_new new at.part at.frame at.has at.within at.marks Onward e ends_now at.reacts)
 
-  pub frame_leads : (k : NodeState) (now_mark : PeerMark) (held_new : List ℕ → Option (List ℕ)) (new : Option (List Session)) (ends_now ends_new : ℕ) (next : Onward) → HandlesAs d place k now_mark tells held_now held_new now new ends_now ends_new (Ok next)
+  pub frame_leads : (k : NodeState) (now_mark : PeerMark) (held_new : List ℕ → Option (List ℕ)) (new : Option (List Session)) (ends_now ends_new : ℕ) (next : Onward) → HandlesAs tells d held_now place (driver_standing k now_mark held_new) (door_told now ends_now) (door_told new ends_new) (Ok next)
       → IsDriving n mark (record { stage = next.stage; node = k; mark = now_mark }) next.place tells held_old held_new old new
   frame_leads k now_mark held_new new ends_now ends_new next h =
-      let at : HandlesAs d (length s.read) k now_mark tells held_now held_new now new ends_now ends_new (Ok next) = subst (λ (p : ℕ). HandlesAs d p k now_mark tells held_now held_new now new ends_now ends_new (Ok next)) s.place_is h in
+      let at : HandlesAs tells d held_now (length s.read) (driver_standing k now_mark held_new) (door_told now ends_now) (door_told new ends_new) (Ok next) = subst (λ (p : ℕ). HandlesAs tells d held_now p (driver_standing k now_mark held_new) (door_told now ends_now) (door_told new ends_new) (Ok next)) s.place_is h in
       subst (λ (p : ℕ). IsDriving n mark (record { stage = next.stage; node = k; mark = now_mark }) p tells held_old held_new old new) (sym at.next)
       (goes_driving k now_mark held_new new at.part at.frame at.has at.within at.marks next.stage at.reacts.0 at.waits at.reacts.1)
 
@@ -650,7 +652,7 @@ module _ (n : NodeState) (mark : PeerMark) (d : Driver) (place : ℕ) (tells : B
 
   abbrev pub Next : NodeState → PeerMark → (List ℕ → Option (List ℕ)) → Option (List Session) → ℕ → ℕ → Result Onward SessionEnd → Type 0
   Next k now_mark held_new new ends_now ends_new result =
-      (Quits {T = Onward} d.node place k tells held_now held_new now new ends_now ends_new result × (now_mark ≡ d.mark)) ⊎ HandlesAs d place k now_mark tells held_now held_new now new ends_now ends_new result
+      (Quits {T = Onward} tells (standing d.node held_now) place (standing k held_new) (door_told now ends_now) (door_told new ends_new) result × (now_mark ≡ d.mark)) ⊎ HandlesAs tells d held_now place (driver_standing k now_mark held_new) (door_told now ends_now) (door_told new ends_new) result
 
   -- the reads at this place
   pub next_asks : (begun then more : List Ask) → AsksMore (IsAskedBehind (driven_said n mark) old) begun then → AsksMore (IsAskedInside frame_here place [] now) then more → AsksMore (IsAskedBehind (driven_said n mark) old) begun more
@@ -665,14 +667,14 @@ module _ (n : NodeState) (mark : PeerMark) (d : Driver) (place : ℕ) (tells : B
   next_leads k now_mark held_new new ends_now ends_new next (inr h) = frame_leads k now_mark held_new new ends_now ends_new next h
 
   pub next_drives : (k : NodeState) (now_mark : PeerMark) (held_new : List ℕ → Option (List ℕ)) (new : Option (List Session)) (ends_before ends_now ends_new : ℕ) (e : SessionEnd) → ends_now ≡ ends_before → Next k now_mark held_new new ends_now ends_new (Err e)
-      → DrivesThere n mark k now_mark tells held_old held_new old new ends_before ends_new e
-  next_drives k now_mark held_new new ends_before ends_now ends_new e same (inl q) = subst (λ (x : ℕ). DrivesThere n mark k now_mark tells held_old held_new old new x ends_new e) same (quit_drives {T = Onward} k now_mark held_new new ends_now ends_new e q.0 q.1)
-  next_drives k now_mark held_new new ends_before ends_now ends_new e same (inr h) = subst (λ (x : ℕ). DrivesThere n mark k now_mark tells held_old held_new old new x ends_new e) same (frame_drives k now_mark held_new new ends_now ends_new e h)
+      → DrivesThere tells (driver_standing n mark held_old) (driver_standing k now_mark held_new) (door_told old ends_before) (door_told new ends_new) e
+  next_drives k now_mark held_new new ends_before ends_now ends_new e same (inl q) = subst (λ (x : ℕ). DrivesThere tells (driver_standing n mark held_old) (driver_standing k now_mark held_new) (door_told old x) (door_told new ends_new) e) same (quit_drives {T = Onward} k now_mark held_new new ends_now ends_new e q.0 q.1)
+  next_drives k now_mark held_new new ends_before ends_now ends_new e same (inr h) = subst (λ (x : ℕ). DrivesThere tells (driver_standing n mark held_old) (driver_standing k now_mark held_new) (door_told old x) (door_told new ends_new) e) same (frame_drives k now_mark held_new new ends_now ends_new e h)
 
 -- ---- what holds of the next frame by itself
 
 module _ (d : Driver) (place : ℕ) (k : NodeState) (now_mark : PeerMark) (tells : Bool) (held_now held_new : List ℕ → Option (List ℕ)) (now new : Option (List Session)) (ends_now ends_new : ℕ) (next : Onward)
-    (is : (Quits {T = Onward} d.node place k tells held_now held_new now new ends_now ends_new (Ok next) × (now_mark ≡ d.mark)) ⊎ HandlesAs d place k now_mark tells held_now held_new now new ends_now ends_new (Ok next)) where
+    (is : (Quits {T = Onward} tells (standing d.node held_now) place (standing k held_new) (door_told now ends_now) (door_told new ends_new) (Ok next) × (now_mark ≡ d.mark)) ⊎ HandlesAs tells d held_now place (driver_standing k now_mark held_new) (door_told now ends_now) (door_told new ends_new) (Ok next)) where
   pub next_counts : ends_new ≡ ends_now
   next_counts = elim is [ inl q ↦ absurd (let no_end = q.0.is in cc) | inr h ↦ h.ends ]
 
@@ -696,7 +698,7 @@ module _ (n : NodeState) (mark : PeerMark) (tells : Bool) (held : List ℕ → O
   hello_said : framed (frame.Hello (instance_of n.core.config)) ≡ said_bytes (hello n ∷ [])
   hello_said = one_sent (frame.Hello (instance_of n.core.config)) ∙ sym (append-nil (sent_bytes (hello n)))
 
-  pub hello_cut : (e : SessionEnd) → Sends {T = Unit {0}} (framed (frame.Hello (instance_of n.core.config))) old new (Err e) → DrivesThere n mark n mark tells held held old new ends ends e
+  pub hello_cut : (e : SessionEnd) → Sends {T = Unit {0}} (framed (frame.Hello (instance_of n.core.config))) old new (Err e) → DrivesThere tells (driver_standing n mark held) (driver_standing n mark held) (door_told old ends) (door_told new ends) e
   hello_cut end.LinkFault s = record {
     read = [];
     written = s.part;
@@ -738,8 +740,8 @@ module _ (n : NodeState) (mark : PeerMark) (address : List ℕ) (m : NodeState) 
   told_behind read written failed (Some sessions) =
       ap (λ (xs : List Session). Some xs) (behind_others read written failed sessions ∙ ap (λ (b : Bool). sessions ++ (record { address = Some address; read = read; written = written; failed = b }) ∷ []) (failed_is failed))
 
-  pub drives_peer : (new : Option (List Session)) → DrivesThere n mark m now_mark tells held_old held_new (option_map (λ (sessions : List Session). sessions ++ fresh_session (Some address) ∷ []) old) new ends_old ends_new e
-      → DrivesPeer n mark address m now_mark tells held_old held_new old new ends_old ends_new e
+  pub drives_peer : (new : Option (List Session)) → DrivesThere tells (driver_standing n mark held_old) (driver_standing m now_mark held_new) (door_told (option_map (λ (sessions : List Session). sessions ++ fresh_session (Some address) ∷ []) old) ends_old) (door_told new ends_new) e
+      → DrivesPeer tells address (driver_standing n mark held_old) (driver_standing m now_mark held_new) (door_told old ends_old) (door_told new ends_new) e
   drives_peer new s = record {
     read = s.read;
     written = s.written;
@@ -749,7 +751,7 @@ module _ (n : NodeState) (mark : PeerMark) (address : List ℕ) (m : NodeState) 
 
 -- no peer was reached
 pub drives_failed : (n : NodeState) (mark : PeerMark) (address : List ℕ) (tells : Bool) (held : List ℕ → Option (List ℕ)) (old : Option (List Session)) (ends : ℕ)
-    → DrivesPeer n mark address n mark tells held held old (option_map (λ (sessions : List Session). sessions ++ with_failure (fresh_session (Some address)) ∷ []) old) ends ends end.LinkFault
+    → DrivesPeer tells address (driver_standing n mark held) (driver_standing n mark held) (door_told old ends) (door_told (option_map (λ (sessions : List Session). sessions ++ with_failure (fresh_session (Some address)) ∷ []) old) ends) end.LinkFault
 drives_failed n mark address tells held old ends = record {
   read = [];
   written = [];
@@ -760,14 +762,14 @@ drives_failed n mark address tells held old ends = record {
 
 -- a peer was dialled, driven and hung up on
 pub drives_dialled : (n : NodeState) (mark : PeerMark) (address : List ℕ) (m : NodeState) (now_mark : PeerMark) (tells : Bool) (held_old held_new : List ℕ → Option (List ℕ)) (old now then new : Option (List Session)) (ends_old ends_now ends_then ends_new : ℕ) (e : SessionEnd)
-    → now ≡ option_map (sessions_after {T = Unit {0}} (Some address) (Ok tt)) old → ends_now ≡ ends_old → DrivesThere n mark m now_mark tells held_old held_new now then ends_now ends_then e → new ≡ then → ends_new ≡ ends_then
-    → DrivesPeer n mark address m now_mark tells held_old held_new old new ends_old ends_new e
+    → now ≡ option_map (sessions_after {T = Unit {0}} (Some address) (Ok tt)) old → ends_now ≡ ends_old → DrivesThere tells (driver_standing n mark held_old) (driver_standing m now_mark held_new) (door_told now ends_now) (door_told then ends_then) e → new ≡ then → ends_new ≡ ends_then
+    → DrivesPeer tells address (driver_standing n mark held_old) (driver_standing m now_mark held_new) (door_told old ends_old) (door_told new ends_new) e
 drives_dialled n mark address m now_mark tells held_old held_new old now then new ends_old ends_now ends_then ends_new e dialled same drives hung ended =
-    subst (λ (x : Option (List Session)). DrivesPeer n mark address m now_mark tells held_old held_new old x ends_old ends_new e) (sym hung)
-    (subst (λ (x : ℕ). DrivesPeer n mark address m now_mark tells held_old held_new old then ends_old x e) (sym ended)
+    subst (λ (x : Option (List Session)). DrivesPeer tells address (driver_standing n mark held_old) (driver_standing m now_mark held_new) (door_told old ends_old) (door_told x ends_new) e) (sym hung)
+    (subst (λ (x : ℕ). DrivesPeer tells address (driver_standing n mark held_old) (driver_standing m now_mark held_new) (door_told old ends_old) (door_told then x) e) (sym ended)
     (drives_peer n mark address m now_mark tells held_old held_new old ends_old ends_then e then
-    (subst (λ (x : Option (List Session)). DrivesThere n mark m now_mark tells held_old held_new x then ends_old ends_then e) dialled
-    (subst (λ (x : ℕ). DrivesThere n mark m now_mark tells held_old held_new now then x ends_then e) same drives))))
+    (subst (λ (x : Option (List Session)). DrivesThere tells (driver_standing n mark held_old) (driver_standing m now_mark held_new) (door_told x ends_old) (door_told then ends_then) e) dialled
+    (subst (λ (x : ℕ). DrivesThere tells (driver_standing n mark held_old) (driver_standing m now_mark held_new) (door_told now x) (door_told then ends_then) e) same drives))))
 
 -- no peer was reached, or there was no memory to dial
 module _ (n : NodeState) (mark : PeerMark) (address : List ℕ) (tells : Bool) (held : List ℕ → Option (List ℕ)) (old new : Option (List Session)) (ends_old ends_new : ℕ) (same : ends_new ≡ ends_old) where
@@ -776,8 +778,8 @@ module _ (n : NodeState) (mark : PeerMark) (address : List ℕ) (tells : Bool) (
   nobody (Some sessions) = refl
 
   pub drives_nobody : (fault : IoFault) → new ≡ option_map (sessions_after {T = Unit {0}} (Some address) (Err fault)) old
-      → DrivesPeer n mark address n mark tells held held old new ends_old ends_new (end_of_fault fault) ⊎ DrivesNone n mark n mark tells held held old new (end_of_fault fault)
+      → DrivesPeer tells address (driver_standing n mark held) (driver_standing n mark held) (door_told old ends_old) (door_told new ends_new) (end_of_fault fault) ⊎ DrivesNone tells (driver_standing n mark held) (driver_standing n mark held) old new (end_of_fault fault)
   drives_nobody Failed told =
-      inl (subst (λ (x : Option (List Session)). DrivesPeer n mark address n mark tells held held old x ends_old ends_new end.LinkFault) (sym told)
-      (subst (λ (x : ℕ). DrivesPeer n mark address n mark tells held held old (option_map (λ (sessions : List Session). sessions ++ with_failure (fresh_session (Some address)) ∷ []) old) ends_old x end.LinkFault) (sym same) (drives_failed n mark address tells held old ends_old)))
+      inl (subst (λ (x : Option (List Session)). DrivesPeer tells address (driver_standing n mark held) (driver_standing n mark held) (door_told old ends_old) (door_told x ends_new) end.LinkFault) (sym told)
+      (subst (λ (x : ℕ). DrivesPeer tells address (driver_standing n mark held) (driver_standing n mark held) (door_told old ends_old) (door_told (option_map (λ (sessions : List Session). sessions ++ with_failure (fresh_session (Some address)) ∷ []) old) x) end.LinkFault) (sym same) (drives_failed n mark address tells held old ends_old)))
   drives_nobody NoMemory told = inr (record { ended = refl; state = refl; mark_is = refl; files = λ t name. refl; told = told ∙ nobody old })

@@ -18,16 +18,18 @@ use Rattle.hw_link.specs.Talk.{Reaction, goes_on, ends}
 use Rattle.hw_link.specs.Links.{after_part}
 use Rattle.hw_link.specs.Heard.{Hears, IsHeard}
 use Rattle.hw_link.specs.Sent.{Sends}
+use Rattle.hw_link.specs.Told.{door_told}
 use Rattle.hw_session.specs.Node.{NodeState}
 use Rattle.hw_session.specs.Serving.{answer_to_have, answer_to_want, serve_first, serve_frame, serve_step}
 use Rattle.hw_session.specs.Handling.{Reacts, Answers, IsOfOther, hello_of, Handles}
+use Rattle.hw_session.specs.Standing.{standing}
 use Rattle.hw_session.proofs.ReactLaws.{one_sent, none_sent, sends_answers, sends_ends, stays_reacts}
 
 -- ---- a frame that was read, and then answered
 
 -- an end is the same whatever the value would be
 pub reacts_alike : (A B : Type 0) (n : NodeState) (f : Frame) (r : Reaction NodeState) (m : NodeState) (tells : Bool) (held_old held_new : List ℕ → Option (List ℕ)) (old new : Option (List Session)) (e : SessionEnd)
-    → Reacts {T = A} n f r m tells held_old held_new old new (Err e) → Reacts {T = B} n f r m tells held_old held_new old new (Err e)
+    → Reacts {T = A} tells (standing n held_old) f r (standing m held_new) old new (Err e) → Reacts {T = B} tells (standing n held_old) f r (standing m held_new) old new (Err e)
 reacts_alike A B n f r m tells held_old held_new old new end.Done x = x
 reacts_alike A B n f r m tells held_old held_new old new end.EndOfInput x = x
 reacts_alike A B n f r m tells held_old held_new old new end.WrongInstance x = x
@@ -43,7 +45,7 @@ module _ (n : NodeState) (place : ℕ) (m : NodeState) (tells : Bool) (held_old 
   abbrev reaction : Reaction NodeState
   reaction = serve_step n (record { at = place; frame = h.frame })
 
-  pub handles_whole : Reacts {T = Unit {0}} n h.frame reaction m tells held_old held_new mid new (Ok tt) → Handles n place m tells held_old held_new old new ends_old ends_new (Ok h.next)
+  pub handles_whole : Reacts {T = Unit {0}} tells (standing n held_old) h.frame reaction (standing m held_new) mid new (Ok tt) → Handles tells (standing n held_old) place (standing m held_new) (door_told old ends_old) (door_told new ends_new) (Ok h.next)
   handles_whole reacts = record {
     part = heard.part;
     frame = h.frame;
@@ -51,10 +53,10 @@ module _ (n : NodeState) (place : ℕ) (m : NodeState) (tells : Bool) (held_old 
     within = heard.within;
     ends = same ∙ heard.ended;
     next = heard.says.1;
-    reacts = subst (λ (o : Option (List Session)). Reacts {T = ℕ} n h.frame reaction m tells held_old held_new o new (Ok h.next)) heard.heard reacts;
+    reacts = subst (λ (o : Option (List Session)). Reacts {T = ℕ} tells (standing n held_old) h.frame reaction (standing m held_new) o new (Ok h.next)) heard.heard reacts;
   }
 
-  pub handles_end : (e : SessionEnd) → Reacts {T = Unit {0}} n h.frame reaction m tells held_old held_new mid new (Err e) → Handles n place m tells held_old held_new old new ends_old ends_new (Err e)
+  pub handles_end : (e : SessionEnd) → Reacts {T = Unit {0}} tells (standing n held_old) h.frame reaction (standing m held_new) mid new (Err e) → Handles tells (standing n held_old) place (standing m held_new) (door_told old ends_old) (door_told new ends_new) (Err e)
   handles_end e reacts = record {
     part = heard.part;
     frame = h.frame;
@@ -62,7 +64,7 @@ module _ (n : NodeState) (place : ℕ) (m : NodeState) (tells : Bool) (held_old 
     within = heard.within;
     ends = same ∙ heard.ended;
     next = tt;
-    reacts = subst (λ (o : Option (List Session)). Reacts {T = ℕ} n h.frame reaction m tells held_old held_new o new (Err e)) heard.heard (reacts_alike (Unit {0}) ℕ n h.frame reaction m tells held_old held_new mid new e reacts);
+    reacts = subst (λ (o : Option (List Session)). Reacts {T = ℕ} tells (standing n held_old) h.frame reaction (standing m held_new) o new (Err e)) heard.heard (reacts_alike (Unit {0}) ℕ n h.frame reaction m tells held_old held_new mid new e reacts);
   }
 
 -- ---- the first frame and the others
@@ -92,15 +94,15 @@ module _ (n : NodeState) (place : ℕ) (f : Frame) (tells : Bool) (held_old held
   step = serve_step n (record { at = place; frame = f })
 
   -- what is answered to the first frame
-  pub first_reacts : place ≡ 0 → Answers {T = Unit {0}} (serve_first n f) old new result → Reacts {T = Unit {0}} n f step n tells held_old held_old old new result
+  pub first_reacts : place ≡ 0 → Answers {T = Unit {0}} (serve_first n f) old new result → Reacts {T = Unit {0}} tells (standing n held_old) f step (standing n held_old) old new result
   first_reacts first a =
-      subst (λ (r : Reaction NodeState). Reacts {T = Unit {0}} n f r n tells held_old held_old old new result) (sym (step_by n place f true (eq-eqb place 0 first)))
+      subst (λ (r : Reaction NodeState). Reacts {T = Unit {0}} tells (standing n held_old) f r (standing n held_old) old new result) (sym (step_by n place f true (eq-eqb place 0 first)))
       (stays_reacts (Unit {0}) n f (serve_first n f) tells held_old old new result (first_stays n f) a)
 
   -- and to another
-  pub later_reacts : (m : NodeState) → place ≢ 0 → Reacts {T = Unit {0}} n f (serve_frame n place f) m tells held_old held_new old new result → Reacts {T = Unit {0}} n f step m tells held_old held_new old new result
+  pub later_reacts : (m : NodeState) → place ≢ 0 → Reacts {T = Unit {0}} tells (standing n held_old) f (serve_frame n place f) (standing m held_new) old new result → Reacts {T = Unit {0}} tells (standing n held_old) f step (standing m held_new) old new result
   later_reacts m later a =
-      subst (λ (r : Reaction NodeState). Reacts {T = Unit {0}} n f r m tells held_old held_new old new result) (sym (step_by n place f false (ne_eqb place 0 later))) a
+      subst (λ (r : Reaction NodeState). Reacts {T = Unit {0}} tells (standing n held_old) f r (standing m held_new) old new result) (sym (step_by n place f false (ne_eqb place 0 later))) a
 
 -- ---- a Hello
 
@@ -135,25 +137,25 @@ done_unsent n place old new e s =
 -- ---- the other frames
 
 module _ (n : NodeState) (place : ℕ) (tells : Bool) (held : List ℕ → Option (List ℕ)) where
-  pub hello_refused : (instance : Digest) (old : Option (List Session)) → Reacts {T = Unit {0}} n (frame.Hello instance) (serve_frame n place (frame.Hello instance)) n tells held held old old (Err (end.BadFrame place))
+  pub hello_refused : (instance : Digest) (old : Option (List Session)) → Reacts {T = Unit {0}} tells (standing n held) (frame.Hello instance) (serve_frame n place (frame.Hello instance)) (standing n held) old old (Err (end.BadFrame place))
   hello_refused instance old = stays_reacts (Unit {0}) n (frame.Hello instance) (serve_frame n place (frame.Hello instance)) tells held old old (Err (end.BadFrame place)) refl (refl, none_sent old)
 
-  pub missing_passed : (need : Need) (old : Option (List Session)) → Reacts {T = Unit {0}} n (frame.Missing need) (serve_frame n place (frame.Missing need)) n tells held held old old (Ok tt)
+  pub missing_passed : (need : Need) (old : Option (List Session)) → Reacts {T = Unit {0}} tells (standing n held) (frame.Missing need) (serve_frame n place (frame.Missing need)) (standing n held) old old (Ok tt)
   missing_passed need old = stays_reacts (Unit {0}) n (frame.Missing need) (serve_frame n place (frame.Missing need)) tells held old old (Ok tt) refl (refl, none_sent old)
 
   pub have_reacts : (c : CoreState) (from : ℕ) (old new : Option (List Session)) (result : Result (Unit {0}) SessionEnd) → c ≡ n.core → Sends {T = Unit {0}} (sent_bytes (answer_to_have c.journal from)) old new result
-      → Reacts {T = Unit {0}} n (frame.Have from) (serve_frame n place (frame.Have from)) n tells held held old new result
+      → Reacts {T = Unit {0}} tells (standing n held) (frame.Have from) (serve_frame n place (frame.Have from)) (standing n held) old new result
   have_reacts c from old new result same s =
       stays_reacts (Unit {0}) n (frame.Have from) (serve_frame n place (frame.Have from)) tells held old new result refl
       (sends_answers (serve_frame n place (frame.Have from)) old new result refl (subst (λ (k : CoreState). Sends {T = Unit {0}} (sent_bytes (answer_to_have k.journal from)) old new result) same s))
 
   pub want_reacts : (c : CoreState) (needs : List Need) (old new : Option (List Session)) (result : Result (Unit {0}) SessionEnd) → c ≡ n.core → Sends {T = Unit {0}} (sent_bytes (answer_to_want c needs)) old new result
-      → Reacts {T = Unit {0}} n (frame.Want needs) (serve_frame n place (frame.Want needs)) n tells held held old new result
+      → Reacts {T = Unit {0}} tells (standing n held) (frame.Want needs) (serve_frame n place (frame.Want needs)) (standing n held) old new result
   want_reacts c needs old new result same s =
       stays_reacts (Unit {0}) n (frame.Want needs) (serve_frame n place (frame.Want needs)) tells held old new result refl
       (sends_answers (serve_frame n place (frame.Want needs)) old new result refl (subst (λ (k : CoreState). Sends {T = Unit {0}} (sent_bytes (answer_to_want k needs)) old new result) same s))
 
-  pub done_reacts : (old new : Option (List Session)) (result : Result (Unit {0}) SessionEnd) → Answers {T = Unit {0}} (serve_frame n 1 frame.Done) old new result → Reacts {T = Unit {0}} n frame.Done (serve_frame n place frame.Done) n tells held held old new result
+  pub done_reacts : (old new : Option (List Session)) (result : Result (Unit {0}) SessionEnd) → Answers {T = Unit {0}} (serve_frame n 1 frame.Done) old new result → Reacts {T = Unit {0}} tells (standing n held) frame.Done (serve_frame n place frame.Done) (standing n held) old new result
   done_reacts old new result a = stays_reacts (Unit {0}) n frame.Done (serve_frame n place frame.Done) tells held old new result refl a
 
 -- ---- a first frame, by the instance of a Hello

@@ -26,6 +26,7 @@ use Rattle.hw_session.specs.Accept.{given_to, taken_by, refused_by, IsUnlogged, 
 use Rattle.hw_session.specs.Grows.{GrowsBy, Gains, Logs, LogsAllBut}
 use Rattle.hw_session.specs.Serving.{is_clash, wanted_by, answer_to_vertex, serve_vertex}
 use Rattle.hw_session.specs.Handling.{Took, WasCut, Reacts, Answers, Receives, StandsLast, IsLogCounted}
+use Rattle.hw_session.specs.Standing.{standing}
 use Rattle.hw_session.proofs.GrowsLaws.{grows_whole, grows_cut, gains_nothing, gains_one, logs_nothing, logs_counts}
 
 -- ---- what was sent is the answer
@@ -66,10 +67,10 @@ sends_ends T r old new end.Clash s = absurd s.error
 -- ---- a node that took what came, and then answered
 
 module _ (T : Type 0) (n : NodeState) (f : Frame) (r : Reaction NodeState) (m : NodeState) (tells : Bool) (held_old held_new : List ℕ → Option (List ℕ)) (old new : Option (List Session)) (stands : m ≡ r.state) (logs : Logs n m tells held_old held_new) where
-  took : (sent : List ℕ) (failed : Bool) → new ≡ after_part [] sent failed old → Took n r sent failed m tells held_old held_new old new
+  took : (sent : List ℕ) (failed : Bool) → new ≡ after_part [] sent failed old → Took tells (standing n held_old) r sent failed (standing m held_new) old new
   took sent failed told = record { state = stands; logs = logs; told = told }
 
-  pub answers_reacts : (result : Result T SessionEnd) → Answers {T = T} r old new result → Reacts {T = T} n f r m tells held_old held_new old new result
+  pub answers_reacts : (result : Result T SessionEnd) → Answers {T = T} r old new result → Reacts {T = T} tells (standing n held_old) f r (standing m held_new) old new result
   answers_reacts (Ok x) a = (a.0, took (sent_bytes r.says) false a.1)
   answers_reacts (Err end.LinkFault) a = (a.0, a.1, took a.0 true a.2)
   answers_reacts (Err end.OutOfMemory) a = inr (inl (a.0, a.1, took a.0 false a.2))
@@ -83,7 +84,7 @@ module _ (T : Type 0) (n : NodeState) (f : Frame) (r : Reaction NodeState) (m : 
 
 -- a node that stays as it is, with its files
 pub stays_reacts : (T : Type 0) (n : NodeState) (f : Frame) (r : Reaction NodeState) (tells : Bool) (held : List ℕ → Option (List ℕ)) (old new : Option (List Session)) (result : Result T SessionEnd) → n ≡ r.state → Answers {T = T} r old new result
-    → Reacts {T = T} n f r n tells held held old new result
+    → Reacts {T = T} tells (standing n held) f r (standing n held) old new result
 stays_reacts T n f r tells held old new result stands a = answers_reacts T n f r n tells held held old new stands (logs_nothing tells n held held (λ t name. refl)) result a
 
 -- ---- a vertex
@@ -167,7 +168,7 @@ module _ (n : NodeState) (v : Vertex) (m : NodeState) (tells : Bool) (held_old h
     whole : IsUnlogged n v m → r.state ≡ with_entry n v
     whole unlogged = leaves ∙ whole_by (given_to n v) unlogged.0
 
-    pub append_failed : Accepts n v m (Err fault.AppendFault) → Writes (Err fault.AppendFault) → WasCut n (frame.Vertex v) r m tells held_old held_new old old
+    pub append_failed : Accepts n v m (Err fault.AppendFault) → Writes (Err fault.AppendFault) → WasCut tells (standing n held_old) (frame.Vertex v) r (standing m held_new) old old
     append_failed a w = record { vertex = v; frame_is = refl; whole = whole a; logs = all_but a (λ t. grows_cut held_old held_new n.log (entry_for n v) fault.AppendFault (w t)); told = refl }
 
     -- it can't have stayed and taken the vertex
@@ -188,14 +189,14 @@ module _ (n : NodeState) (v : Vertex) (m : NodeState) (tells : Bool) (held_old h
     cut_files unlogged (inl stayed) = absurd (not_both stayed.0 unlogged)
     cut_files unlogged (inr taken) = grows_cut held_old held_new n.log (entry_for n v) fault.OutOfMemory taken.1
 
-    pub memory_wanted : (T : Type 0) → Accepts n v m (Err fault.OutOfMemory) → Writes (Err fault.OutOfMemory) → Reacts {T = T} n (frame.Vertex v) r m tells held_old held_new old old (Err end.OutOfMemory)
+    pub memory_wanted : (T : Type 0) → Accepts n v m (Err fault.OutOfMemory) → Writes (Err fault.OutOfMemory) → Reacts {T = T} tells (standing n held_old) (frame.Vertex v) r (standing m held_new) old old (Err end.OutOfMemory)
     memory_wanted T (inl same) w = inl (record { state = same; files = λ t. same_files same (w t); told = refl })
     memory_wanted T (inr unlogged) w = inr (inr (record { vertex = v; frame_is = refl; whole = whole unlogged; logs = all_but unlogged (λ t. cut_files unlogged (w t)); told = refl }))
 
   -- ---- its answer
 
   abbrev Reacted : Option (List Session) → Option (List Session) → Result (Unit {0}) SessionEnd → Type 0
-  Reacted old new result = Reacts {T = Unit {0}} n (frame.Vertex v) (serve_vertex n v) m tells held_old held_new old new result
+  Reacted old new result = Reacts {T = Unit {0}} tells (standing n held_old) (frame.Vertex v) (serve_vertex n v) (standing m held_new) old new result
 
   -- the node's reaction, by the answer
   reaction_by : (a : Result Receipt Cause) → given_to n v ≡ a → serve_vertex n v ≡ answer_to_vertex (taken_by n v a) v a
@@ -206,7 +207,7 @@ module _ (n : NodeState) (v : Vertex) (m : NodeState) (tells : Bool) (held_old h
   receipt_reacts r old new result a w s =
       let by : serve_vertex n v ≡ goes_on m (frame.Want (wanted_by m.core r v) ∷ []) = reaction_by (Ok r) a.0 ∙ ap (λ (k : NodeState). answer_to_vertex k v (Ok r)) (sym a.1) in
       let reaction : Reaction NodeState = goes_on m (frame.Want (wanted_by m.core r v) ∷ []) in
-      subst (λ (x : Reaction NodeState). Reacts {T = Unit {0}} n (frame.Vertex v) x m tells held_old held_new old new result) (sym by)
+      subst (λ (x : Reaction NodeState). Reacts {T = Unit {0}} tells (standing n held_old) (frame.Vertex v) x (standing m held_new) old new result) (sym by)
       (answers_reacts (Unit {0}) n (frame.Vertex v) reaction m tells held_old held_new old new refl (accepted_logs r a w) result
       (sends_answers reaction old new result refl (subst (λ (bytes : List ℕ). Sends {T = Unit {0}} bytes old new result) (one_sent (frame.Want (wanted_by m.core r v))) s)))
 
@@ -215,7 +216,7 @@ module _ (n : NodeState) (v : Vertex) (m : NodeState) (tells : Bool) (held_old h
       → Reacted old new result
   refusal_reacts c old new result a w answers =
       let by : serve_vertex n v ≡ answer_to_vertex m v (Err c) = reaction_by (Err c) a.1 ∙ ap (λ (k : NodeState). answer_to_vertex k v (Err c)) (sym a.2) in
-      subst (λ (x : Reaction NodeState). Reacts {T = Unit {0}} n (frame.Vertex v) x m tells held_old held_new old new result) (sym by)
+      subst (λ (x : Reaction NodeState). Reacts {T = Unit {0}} tells (standing n held_old) (frame.Vertex v) x (standing m held_new) old new result) (sym by)
       (answers_reacts (Unit {0}) n (frame.Vertex v) (answer_to_vertex m v (Err c)) m tells held_old held_new old new (sym (stays_answered m v (Err c))) (refused_logs c a w) result answers)
 
   -- ---- its answer, by what was received

@@ -30,6 +30,7 @@ use Rattle.hw_link.specs.Links.{gone_on, after_part, is_link_fault, end_of_fault
 use Rattle.hw_link.specs.UnderWay.{HasFrame, EndsIn, IsRefused, HasHeard, talk_from, behind_said, placed_behind}
 use Rattle.hw_link.specs.Asked.{IsAskedInside, IsAskedBehind}
 use Rattle.hw_link.specs.Heard.{Hears, Says, IsHeard, IsEndCounted}
+use Rattle.hw_link.specs.Told.{door_told}
 use Rattle.hw_link.proofs.AskLaws.{next_asked}
 use Rattle.hw_link.proofs.HeardLaws.{reads_frame_by_frame}
 use Rattle.hw_link.proofs.LinkLaws.{after_nothing, after_parts}
@@ -40,6 +41,7 @@ use Rattle.hw_session.specs.Accept.{given_to, taken_by}
 use Rattle.hw_session.specs.Serving.{is_clash, answer_to_vertex, serve_first, serve_frame, serve_step, served, served_said}
 use Rattle.hw_session.specs.Handling.{Took, Stayed, WasCut, Reacts, Quits, Handles, IsLogCounted}
 use Rattle.hw_session.specs.Sessions.{EndsAs, IsEndOf, IsCutEnd, IsReadNoFurther, IsAnswered, IsSaidSoFar, StandsCut, Leaves, Serves, ServesThere, ServesPeer, ServesNone}
+use Rattle.hw_session.specs.Standing.{standing}
 use Rattle.hw_session.proofs.GrowsLaws.{logs_nothing, logs_then, logs_but}
 use Rattle.hw_session.proofs.FurtherLaws.{NoneBehind, frame_alone, none_there, part_cut, none_further, no_further, stops_so}
 
@@ -335,7 +337,7 @@ pub all_said : (said : List (List Frame)) → IsSaidSoFar said (said_bytes said)
 all_said said = ((length (said_bytes said), sym (take_all (length (said_bytes said)) (said_bytes said) (omega arith))), before_less said)
 
 module _ (n m : NodeState) (tells : Bool) (held_old held_new : List ℕ → Option (List ℕ)) where
-  leaves_plain : (e : SessionEnd) (read written : List ℕ) → IsPlain e → m ≡ (served n read).state → Logs n m tells held_old held_new → Leaves e n read written m tells held_old held_new
+  leaves_plain : (e : SessionEnd) (read written : List ℕ) → IsPlain e → m ≡ (served n read).state → Logs n m tells held_old held_new → Leaves e tells (standing n held_old) read written (standing m held_new)
   leaves_plain end.Done read written plain is logs = (is, logs)
   leaves_plain end.EndOfInput read written plain is logs = (is, logs)
   leaves_plain end.WrongInstance read written plain is logs = (is, logs)
@@ -348,7 +350,7 @@ module _ (n m : NodeState) (tells : Bool) (held_old held_new : List ℕ → Opti
 
   -- the whole session is this, and all that was read was handled
   plain_serves : (read written : List ℕ) (said : List (List Frame)) (ends_old ends_new : ℕ) (e by_bytes : SessionEnd) → length read ≤ byte_limit → Whole n read m said by_bytes → IsPlain e → EndsAs e by_bytes → IsEndOf n read ends_old ends_new e
-      → IsReadNoFurther (λ (bytes : List ℕ). (served n bytes).end) read → IsWritten e said written → length (said_bytes (before_last said)) ≤ length written → Logs n m tells held_old held_new → Serves n read written m tells held_old held_new ends_old ends_new e
+      → IsReadNoFurther (λ (bytes : List ℕ). (served n bytes).end) read → IsWritten e said written → length (said_bytes (before_last said)) ≤ length written → Logs n m tells held_old held_new → Serves tells (standing n held_old) read written (standing m held_new) ends_old ends_new e
   plain_serves read written said ends_old ends_new e by_bytes few whole plain ended counted further wrote all logs = record {
     within = few;
     ended = subst (λ (t : Talk NodeState). EndsAs e t.end) (sym whole) ended;
@@ -361,7 +363,7 @@ module _ (n m : NodeState) (tells : Bool) (held_old held_new : List ℕ → Opti
 
   -- there was no memory, and the node stands behind the first bytes that were read
   wanting_serves : (first part written : List ℕ) (said more : List (List Frame)) (ends_old ends_new : ℕ) (by_bytes : SessionEnd) → length (first ++ part) ≤ byte_limit → Whole n first m said by_bytes → (served n (first ++ part)).said ≡ said ++ more
-      → IsSaidSoFar said written → Logs n m tells held_old held_new → Serves n (first ++ part) written m tells held_old held_new ends_old ends_new end.OutOfMemory
+      → IsSaidSoFar said written → Logs n m tells held_old held_new → Serves tells (standing n held_old) (first ++ part) written (standing m held_new) ends_old ends_new end.OutOfMemory
   wanting_serves first part written said more ends_old ends_new by_bytes few whole further wrote logs = record {
     within = few;
     ended = inr tt;
@@ -381,7 +383,7 @@ module _ (n m : NodeState) (place : ℕ) (tells : Bool) (held_old held_now : Lis
   limit_is_reached place part is limit = let all = length-append s.read part in omega arith
 
   -- as many bytes were read as may be
-  pub limit_serves : byte_limit ≤ place → (ends : ℕ) → ServesThere n m tells held_old held_now old now ends ends end.ByteLimit
+  pub limit_serves : byte_limit ≤ place → (ends : ℕ) → ServesThere tells (standing n held_old) (standing m held_now) (door_told old ends) (door_told now ends) end.ByteLimit
   limit_serves full ends =
       let at_limit : byte_limit ≤ length s.read + length {A = ℕ} [] = omega (arith, s.place_is) in
       let by : cut_end (rest_at (length s.read) []) ≡ end.ByteLimit = ap (λ (b : Bool). cond b end.ByteLimit (cond true end.EndOfInput (end.BadFrame (length s.read)))) (le-leb byte_limit (length s.read + length {A = ℕ} []) at_limit) in
@@ -396,7 +398,7 @@ module _ (n m : NodeState) (place : ℕ) (tells : Bool) (held_old held_now : Lis
 
   -- what was read is the end of the session, by which no frame comes
   quit : (e : SessionEnd) (ends_now ends_new : ℕ) (new : Option (List Session)) (held_new : List ℕ → Option (List ℕ)) → Logs n m tells held_old held_new → Hears {T = Heard} IsHeard (length s.read) [] now new ends_now ends_new (Err e)
-      → ServesThere n m tells held_old held_new old new ends_now ends_new e
+      → ServesThere tells (standing n held_old) (standing m held_new) (door_told old ends_now) (door_told new ends_new) e
   quit e ends_now ends_new new held_new logs h = by e h.says h.ended (told_read s.read h.part (said_bytes s.said) (is_link_fault {T = Unit {0}} (Err e)) old now new s.told (h.heard ∙ ap (λ (b : Bool). after_part h.part [] b now) (fault_alike Heard (Unit {0}) e)))
     where
       few : length (s.read ++ h.part) ≤ byte_limit
@@ -406,7 +408,7 @@ module _ (n m : NodeState) (place : ℕ) (tells : Bool) (held_old held_now : Lis
       over by_bytes ends = (reads_frame_by_frame NodeState).no_frame_ends serve_step [] n s.read s.said m h.part by_bytes s.heard ends few
 
       plain : (how by_bytes : SessionEnd) → EndsIn (length s.read) h.part by_bytes → IsPlain how → EndsAs how by_bytes → IsEndOf n (s.read ++ h.part) ends_now ends_new how → new ≡ after_part (s.read ++ h.part) (said_bytes s.said) (is_link_fault {T = Unit {0}} (Err how)) old
-          → ServesThere n m tells held_old held_new old new ends_now ends_new how
+          → ServesThere tells (standing n held_old) (standing m held_new) (door_told old ends_now) (door_told new ends_new) how
       plain how by_bytes none is_plain agrees counted told = record {
         read = s.read ++ h.part;
         written = said_bytes s.said;
@@ -423,7 +425,7 @@ module _ (n m : NodeState) (place : ℕ) (tells : Bool) (held_old held_now : Lis
           ((reads_frame_by_frame NodeState).no_frame_ends serve_step [] n s.read s.said m (h.part ++ more) (end.BadFrame at) s.heard (none more) (subst (λ (bytes : List ℕ). length bytes ≤ byte_limit) (append_assoc s.read h.part more) fits))))
 
       by : (how : SessionEnd) → Says {T = Heard} IsHeard (length s.read) h.part (Err how) → IsEndCounted {T = Heard} ends_now ends_new (length s.read) h.part (Err how)
-          → new ≡ after_part (s.read ++ h.part) (said_bytes s.said) (is_link_fault {T = Unit {0}} (Err how)) old → ServesThere n m tells held_old held_new old new ends_now ends_new how
+          → new ≡ after_part (s.read ++ h.part) (said_bytes s.said) (is_link_fault {T = Unit {0}} (Err how)) old → ServesThere tells (standing n held_old) (standing m held_new) (door_told old ends_now) (door_told new ends_new) how
       by end.LinkFault says ended told = plain end.LinkFault (cut_end (rest_at (length s.read) h.part)) says tt (inr tt) tt told
       by end.EndOfInput says ended told = plain end.EndOfInput end.EndOfInput says tt (inl refl) ended told
       by (end.BadFrame at) says ended told = plain (end.BadFrame at) (end.BadFrame at) says tt (inl refl) (refused at ended) told
@@ -442,12 +444,12 @@ module _ (n m : NodeState) (place : ℕ) (tells : Bool) (held_old held_now : Lis
             told = told;
           }
 
-  pub quit_serves : {T : Type 0} (k : NodeState) (held_new : List ℕ → Option (List ℕ)) (new : Option (List Session)) (ends_now ends_new : ℕ) (e : SessionEnd) → Quits {T = T} m place k tells held_now held_new now new ends_now ends_new (Err e)
-      → ServesThere n k tells held_old held_new old new ends_now ends_new e
+  pub quit_serves : {T : Type 0} (k : NodeState) (held_new : List ℕ → Option (List ℕ)) (new : Option (List Session)) (ends_now ends_new : ℕ) (e : SessionEnd) → Quits {T = T} tells (standing m held_now) place (standing k held_new) (door_told now ends_now) (door_told new ends_new) (Err e)
+      → ServesThere tells (standing n held_old) (standing k held_new) (door_told old ends_now) (door_told new ends_new) e
   quit_serves k held_new new ends_now ends_new e q =
       let how : e ≡ q.how = cc (q.is) in
-      subst (λ (x : NodeState). ServesThere n x tells held_old held_new old new ends_now ends_new e) (sym q.state)
-      (subst (λ (x : SessionEnd). ServesThere n m tells held_old held_new old new ends_now ends_new x) (sym how)
+      subst (λ (x : NodeState). ServesThere tells (standing n held_old) (standing x held_new) (door_told old ends_now) (door_told new ends_new) e) (sym q.state)
+      (subst (λ (x : SessionEnd). ServesThere tells (standing n held_old) (standing m held_new) (door_told old ends_now) (door_told new ends_new) x) (sym how)
       (quit q.how ends_now ends_new new held_new (logs_then tells n m m held_old held_now held_new s.logs (logs_nothing tells m held_now held_new q.files))
       (subst (λ (p : ℕ). Hears {T = Heard} IsHeard p [] now new ends_now ends_new (Err q.how)) s.place_is q.heard)))
 
@@ -473,7 +475,7 @@ module _ (n m : NodeState) (place : ℕ) (tells : Bool) (held_old held_now : Lis
     whole = behind n m s.read s.said s.heard part f has reaction.end refl fits
 
     -- a node that took what the frame brought
-    module _ (sent : List ℕ) (failed : Bool) (took : Took m reaction sent failed k tells held_now held_new behind_part new) where
+    module _ (sent : List ℕ) (failed : Bool) (took : Took tells (standing m held_now) reaction sent failed (standing k held_new) behind_part new) where
       stands : Logs n k tells held_old held_new
       stands = logs_then tells n m k held_old held_now held_new s.logs took.logs
 
@@ -490,10 +492,10 @@ module _ (n m : NodeState) (place : ℕ) (tells : Bool) (held_old held_now : Lis
           subst (λ (x : List (List Frame)). length (said_bytes x) ≤ length (said_bytes s.said ++ sent)) (sym (before_last_one s.said reaction.says)) less
 
     -- it ended the session
-    ended : (e : SessionEnd) (ends : ℕ) → reaction.end ≡ Some e → Took m reaction (sent_bytes reaction.says) false k tells held_now held_new behind_part new → ServesThere n k tells held_old held_new old new ends ends e
+    ended : (e : SessionEnd) (ends : ℕ) → reaction.end ≡ Some e → Took tells (standing m held_now) reaction (sent_bytes reaction.says) false (standing k held_new) behind_part new → ServesThere tells (standing n held_old) (standing k held_new) (door_told old ends) (door_told new ends) e
     ended e ends is took = by e is (step_ends m (placed_behind s.read f) e is)
       where
-        at_end : (how : SessionEnd) → reaction.end ≡ Some how → IsPlain how → IsEndOf n (s.read ++ part) ends ends how → is_link_fault {T = Unit {0}} (Err how) ≡ false → ServesThere n k tells held_old held_new old new ends ends how
+        at_end : (how : SessionEnd) → reaction.end ≡ Some how → IsPlain how → IsEndOf n (s.read ++ part) ends ends how → is_link_fault {T = Unit {0}} (Err how) ≡ false → ServesThere tells (standing n held_old) (standing k held_new) (door_told old ends) (door_told new ends) how
         at_end how some plain counted linked = record {
           read = s.read ++ part;
           written = said_bytes s.said ++ sent_bytes reaction.says;
@@ -503,7 +505,7 @@ module _ (n m : NodeState) (place : ℕ) (tells : Bool) (held_old held_now : Lis
           told = told (sent_bytes reaction.says) false took ∙ ap (λ (b : Bool). after_part (s.read ++ part) (said_bytes s.said ++ sent_bytes reaction.says) b old) (sym linked);
         }
 
-        by : (how : SessionEnd) → reaction.end ≡ Some how → IsOfFrame how → ServesThere n k tells held_old held_new old new ends ends how
+        by : (how : SessionEnd) → reaction.end ≡ Some how → IsOfFrame how → ServesThere tells (standing n held_old) (standing k held_new) (door_told old ends) (door_told new ends) how
         by end.Done some of = at_end end.Done some tt tt refl
         by end.WrongInstance some of = at_end end.WrongInstance some tt tt refl
         by end.Clash some of = at_end end.Clash some tt tt refl
@@ -515,7 +517,7 @@ module _ (n m : NodeState) (place : ℕ) (tells : Bool) (held_old held_now : Lis
         by (end.BadFrame at) some of = at_end (end.BadFrame at) some tt (inr (λ more few. ap (λ (t : Talk NodeState). t.end) (stops n m s.read s.said s.heard part f has (end.BadFrame at) some more few))) refl
 
     -- the link failed in its answer
-    link_failed : (sent : List ℕ) (ends : ℕ) → IsPrefixOf sent (sent_bytes reaction.says) → Took m reaction sent true k tells held_now held_new behind_part new → ServesThere n k tells held_old held_new old new ends ends end.LinkFault
+    link_failed : (sent : List ℕ) (ends : ℕ) → IsPrefixOf sent (sent_bytes reaction.says) → Took tells (standing m held_now) reaction sent true (standing k held_new) behind_part new → ServesThere tells (standing n held_old) (standing k held_new) (door_told old ends) (door_told new ends) end.LinkFault
     link_failed sent ends first took = record {
       read = s.read ++ part;
       written = said_bytes s.said ++ sent;
@@ -525,7 +527,7 @@ module _ (n m : NodeState) (place : ℕ) (tells : Bool) (held_old held_now : Lis
     }
 
     -- there was no memory for all of its answer
-    answer_wanted : (sent : List ℕ) (ends : ℕ) → IsPrefixOf sent (sent_bytes reaction.says) → Took m reaction sent false k tells held_now held_new behind_part new → ServesThere n k tells held_old held_new old new ends ends end.OutOfMemory
+    answer_wanted : (sent : List ℕ) (ends : ℕ) → IsPrefixOf sent (sent_bytes reaction.says) → Took tells (standing m held_now) reaction sent false (standing k held_new) behind_part new → ServesThere tells (standing n held_old) (standing k held_new) (door_told old ends) (door_told new ends) end.OutOfMemory
     answer_wanted sent ends first took =
         let here : (served n ((s.read ++ part) ++ [])).said ≡ said ++ [] = ap (λ (bytes : List ℕ). (served n bytes).said) (append-nil (s.read ++ part)) ∙ ap (λ (t : Talk NodeState). t.said) whole.1 ∙ sym (append-nil said) in
         record {
@@ -537,10 +539,10 @@ module _ (n m : NodeState) (place : ℕ) (tells : Bool) (held_old held_now : Lis
         }
 
     -- there was none for the frame
-    frame_wanted : (ends : ℕ) → Stayed m k tells held_now held_new behind_part new → ServesThere n k tells held_old held_new old new ends ends end.OutOfMemory
+    frame_wanted : (ends : ℕ) → Stayed tells (standing m held_now) (standing k held_new) behind_part new → ServesThere tells (standing n held_old) (standing k held_new) (door_told old ends) (door_told new ends) end.OutOfMemory
     frame_wanted ends stayed =
         let further = heard_first n s.read s.said m s.heard part fits in
-        subst (λ (x : NodeState). ServesThere n x tells held_old held_new old new ends ends end.OutOfMemory) (sym stayed.state)
+        subst (λ (x : NodeState). ServesThere tells (standing n held_old) (standing x held_new) (door_told old ends) (door_told new ends) end.OutOfMemory) (sym stayed.state)
         (record {
           read = s.read ++ part;
           written = said_bytes s.said;
@@ -550,8 +552,8 @@ module _ (n m : NodeState) (place : ℕ) (tells : Bool) (held_old held_now : Lis
         })
 
     -- its vertex's entry was cut
-    module _ (cut : WasCut m f reaction k tells held_now held_new behind_part new) where
-      stands_cut : StandsCut n (s.read ++ part) (said_bytes s.said) k tells held_old held_new
+    module _ (cut : WasCut tells (standing m held_now) f reaction (standing k held_new) behind_part new) where
+      stands_cut : StandsCut tells (standing n held_old) (s.read ++ part) (said_bytes s.said) (standing k held_new)
       stands_cut =
           let here = heard_here n s.read s.said m s.heard s.within in
           record {
@@ -568,7 +570,7 @@ module _ (n m : NodeState) (place : ℕ) (tells : Bool) (held_old held_now : Lis
       told_cut : new ≡ after_part (s.read ++ part) (said_bytes s.said) false old
       told_cut = told_read s.read part (said_bytes s.said) false old now new s.told cut.told
 
-      append_failed : (ends : ℕ) → ServesThere n k tells held_old held_new old new ends ends end.AppendFault
+      append_failed : (ends : ℕ) → ServesThere tells (standing n held_old) (standing k held_new) (door_told old ends) (door_told new ends) end.AppendFault
       append_failed ends = record {
         read = s.read ++ part;
         written = said_bytes s.said;
@@ -585,7 +587,7 @@ module _ (n m : NodeState) (place : ℕ) (tells : Bool) (held_old held_now : Lis
         told = told_cut;
       }
 
-      append_wanted : (ends : ℕ) → ServesThere n k tells held_old held_new old new ends ends end.OutOfMemory
+      append_wanted : (ends : ℕ) → ServesThere tells (standing n held_old) (standing k held_new) (door_told old ends) (door_told new ends) end.OutOfMemory
       append_wanted ends =
           let further = heard_first n s.read s.said m s.heard part fits in
           record {
@@ -605,7 +607,7 @@ module _ (n m : NodeState) (place : ℕ) (tells : Bool) (held_old held_now : Lis
           }
 
     -- the session goes on
-    goes_serving : reaction.end ≡ None → Took m reaction (sent_bytes reaction.says) false k tells held_now held_new behind_part new → IsServing n k (length s.read + length part) tells held_old held_new old new
+    goes_serving : reaction.end ≡ None → Took tells (standing m held_now) reaction (sent_bytes reaction.says) false (standing k held_new) behind_part new → IsServing n k (length s.read + length part) tells held_old held_new old new
     goes_serving none took = record {
       read = s.read ++ part;
       said = said;
@@ -618,7 +620,7 @@ module _ (n m : NodeState) (place : ℕ) (tells : Bool) (held_old held_now : Lis
     }
 
     -- or it ends
-    reacted : (T : Type 0) (e : SessionEnd) (ends : ℕ) → Reacts {T = T} m f reaction k tells held_now held_new behind_part new (Err e) → ServesThere n k tells held_old held_new old new ends ends e
+    reacted : (T : Type 0) (e : SessionEnd) (ends : ℕ) → Reacts {T = T} tells (standing m held_now) f reaction (standing k held_new) behind_part new (Err e) → ServesThere tells (standing n held_old) (standing k held_new) (door_told old ends) (door_told new ends) e
     reacted T end.LinkFault ends (sent, first, took) = link_failed sent ends first took
     reacted T end.AppendFault ends cut = append_failed cut ends
     reacted T end.OutOfMemory ends (inl stayed) = frame_wanted ends stayed
@@ -631,19 +633,19 @@ module _ (n m : NodeState) (place : ℕ) (tells : Bool) (held_old held_now : Lis
     reacted T end.ByteLimit ends (is, took) = ended end.ByteLimit ends is took
     reacted T end.Clash ends (is, took) = ended end.Clash ends is took
 
-  pub frame_serves : (k : NodeState) (held_new : List ℕ → Option (List ℕ)) (new : Option (List Session)) (ends_now ends_new : ℕ) (e : SessionEnd) → Handles m place k tells held_now held_new now new ends_now ends_new (Err e) → ServesThere n k tells held_old held_new old new ends_now ends_new e
+  pub frame_serves : (k : NodeState) (held_new : List ℕ → Option (List ℕ)) (new : Option (List Session)) (ends_now ends_new : ℕ) (e : SessionEnd) → Handles tells (standing m held_now) place (standing k held_new) (door_told now ends_now) (door_told new ends_new) (Err e) → ServesThere tells (standing n held_old) (standing k held_new) (door_told old ends_now) (door_told new ends_new) e
   frame_serves k held_new new ends_now ends_new e h =
-      let at : Handles m (length s.read) k tells held_now held_new now new ends_now ends_new (Err e) = subst (λ (p : ℕ). Handles m p k tells held_now held_new now new ends_now ends_new (Err e)) s.place_is h in
-      subst (λ (x : ℕ). ServesThere n k tells held_old held_new old new ends_now x e) (sym h.ends) (reacted k held_new new at.part at.frame at.has at.within ℕ e ends_now at.reacts)
+      let at : Handles tells (standing m held_now) (length s.read) (standing k held_new) (door_told now ends_now) (door_told new ends_new) (Err e) = subst (λ (p : ℕ). Handles tells (standing m held_now) p (standing k held_new) (door_told now ends_now) (door_told new ends_new) (Err e)) s.place_is h in
+      subst (λ (x : ℕ). ServesThere tells (standing n held_old) (standing k held_new) (door_told old ends_now) (door_told new x) e) (sym h.ends) (reacted k held_new new at.part at.frame at.has at.within ℕ e ends_now at.reacts)
 
-  pub frame_leads : (k : NodeState) (held_new : List ℕ → Option (List ℕ)) (new : Option (List Session)) (ends_now ends_new : ℕ) (next : ℕ) → Handles m place k tells held_now held_new now new ends_now ends_new (Ok next) → IsServing n k next tells held_old held_new old new
+  pub frame_leads : (k : NodeState) (held_new : List ℕ → Option (List ℕ)) (new : Option (List Session)) (ends_now ends_new : ℕ) (next : ℕ) → Handles tells (standing m held_now) place (standing k held_new) (door_told now ends_now) (door_told new ends_new) (Ok next) → IsServing n k next tells held_old held_new old new
   frame_leads k held_new new ends_now ends_new next h =
-      let at : Handles m (length s.read) k tells held_now held_new now new ends_now ends_new (Ok next) = subst (λ (p : ℕ). Handles m p k tells held_now held_new now new ends_now ends_new (Ok next)) s.place_is h in
+      let at : Handles tells (standing m held_now) (length s.read) (standing k held_new) (door_told now ends_now) (door_told new ends_new) (Ok next) = subst (λ (p : ℕ). Handles tells (standing m held_now) p (standing k held_new) (door_told now ends_now) (door_told new ends_new) (Ok next)) s.place_is h in
       subst (λ (p : ℕ). IsServing n k p tells held_old held_new old new) (sym at.next) (goes_serving k held_new new at.part at.frame at.has at.within at.reacts.0 at.reacts.1)
 
   -- what comes next at this place
   abbrev Next : (k : NodeState) (held_new : List ℕ → Option (List ℕ)) (new : Option (List Session)) (ends_now ends_new : ℕ) → Result ℕ SessionEnd → Type 0
-  Next k held_new new ends_now ends_new result = Quits {T = ℕ} m place k tells held_now held_new now new ends_now ends_new result ⊎ Handles m place k tells held_now held_new now new ends_now ends_new result
+  Next k held_new new ends_now ends_new result = Quits {T = ℕ} tells (standing m held_now) place (standing k held_new) (door_told now ends_now) (door_told new ends_new) result ⊎ Handles tells (standing m held_now) place (standing k held_new) (door_told now ends_now) (door_told new ends_new) result
 
   pub next_leads : (k : NodeState) (held_new : List ℕ → Option (List ℕ)) (new : Option (List Session)) (ends_now ends_new : ℕ) (next : ℕ) → Next k held_new new ends_now ends_new (Ok next) → IsServing n k next tells held_old held_new old new
   next_leads k held_new new ends_now ends_new next (inl q) = absurd (let is = q.is in cc)
@@ -660,9 +662,9 @@ module _ (n m : NodeState) (place : ℕ) (tells : Bool) (held_old held_now : Lis
   next_counts k held_new new ends_now ends_new next (inl q) = absurd (let is = q.is in cc)
   next_counts k held_new new ends_now ends_new next (inr h) = h.ends
 
-  pub next_serves : (k : NodeState) (held_new : List ℕ → Option (List ℕ)) (new : Option (List Session)) (ends_before ends_now ends_new : ℕ) (e : SessionEnd) → ends_now ≡ ends_before → Next k held_new new ends_now ends_new (Err e) → ServesThere n k tells held_old held_new old new ends_before ends_new e
-  next_serves k held_new new ends_before ends_now ends_new e same (inl q) = subst (λ (x : ℕ). ServesThere n k tells held_old held_new old new x ends_new e) same (quit_serves {T = ℕ} k held_new new ends_now ends_new e q)
-  next_serves k held_new new ends_before ends_now ends_new e same (inr h) = subst (λ (x : ℕ). ServesThere n k tells held_old held_new old new x ends_new e) same (frame_serves k held_new new ends_now ends_new e h)
+  pub next_serves : (k : NodeState) (held_new : List ℕ → Option (List ℕ)) (new : Option (List Session)) (ends_before ends_now ends_new : ℕ) (e : SessionEnd) → ends_now ≡ ends_before → Next k held_new new ends_now ends_new (Err e) → ServesThere tells (standing n held_old) (standing k held_new) (door_told old ends_before) (door_told new ends_new) e
+  next_serves k held_new new ends_before ends_now ends_new e same (inl q) = subst (λ (x : ℕ). ServesThere tells (standing n held_old) (standing k held_new) (door_told old x) (door_told new ends_new) e) same (quit_serves {T = ℕ} k held_new new ends_now ends_new e q)
+  next_serves k held_new new ends_before ends_now ends_new e same (inr h) = subst (λ (x : ℕ). ServesThere tells (standing n held_old) (standing k held_new) (door_told old x) (door_told new ends_new) e) same (frame_serves k held_new new ends_now ends_new e h)
 
 -- ---- a session that is there, and the door
 
@@ -683,7 +685,7 @@ module _ (n m : NodeState) (tells : Bool) (held_old held_new : List ℕ → Opti
   told_behind read written failed (Some sessions) =
       ap (λ (xs : List Session). Some xs) (behind_others read written failed sessions ∙ ap (λ (b : Bool). sessions ++ (record { address = None; read = read; written = written; failed = b }) ∷ []) (failed_is failed))
 
-  pub serves_peer : (new : Option (List Session)) → ServesThere n m tells held_old held_new (option_map (λ (sessions : List Session). sessions ++ fresh_session None ∷ []) old) new ends_old ends_new e → ServesPeer n m tells held_old held_new old new ends_old ends_new e
+  pub serves_peer : (new : Option (List Session)) → ServesThere tells (standing n held_old) (standing m held_new) (door_told (option_map (λ (sessions : List Session). sessions ++ fresh_session None ∷ []) old) ends_old) (door_told new ends_new) e → ServesPeer tells (standing n held_old) (standing m held_new) (door_told old ends_old) (door_told new ends_new) e
   serves_peer new s = record {
     read = s.read;
     written = s.written;
@@ -692,7 +694,7 @@ module _ (n m : NodeState) (tells : Bool) (held_old held_new : List ℕ → Opti
   }
 
 -- no peer came
-pub serves_failed : (n : NodeState) (tells : Bool) (held : List ℕ → Option (List ℕ)) (old : Option (List Session)) (ends : ℕ) → ServesPeer n n tells held held old (option_map (λ (sessions : List Session). sessions ++ with_failure (fresh_session None) ∷ []) old) ends ends end.LinkFault
+pub serves_failed : (n : NodeState) (tells : Bool) (held : List ℕ → Option (List ℕ)) (old : Option (List Session)) (ends : ℕ) → ServesPeer tells (standing n held) (standing n held) (door_told old ends) (door_told (option_map (λ (sessions : List Session). sessions ++ with_failure (fresh_session None) ∷ []) old) ends) end.LinkFault
 serves_failed n tells held old ends = record {
   read = [];
   written = [];
@@ -703,14 +705,14 @@ serves_failed n tells held old ends = record {
 
 -- a peer was taken, served and hung up on
 pub serves_accepted : (n m : NodeState) (tells : Bool) (held_old held_new : List ℕ → Option (List ℕ)) (old now then new : Option (List Session)) (ends_old ends_now ends_then ends_new : ℕ) (e : SessionEnd)
-    → now ≡ option_map (sessions_after {T = Unit {0}} None (Ok tt)) old → ends_now ≡ ends_old → ServesThere n m tells held_old held_new now then ends_now ends_then e → new ≡ then → ends_new ≡ ends_then
-    → ServesPeer n m tells held_old held_new old new ends_old ends_new e
+    → now ≡ option_map (sessions_after {T = Unit {0}} None (Ok tt)) old → ends_now ≡ ends_old → ServesThere tells (standing n held_old) (standing m held_new) (door_told now ends_now) (door_told then ends_then) e → new ≡ then → ends_new ≡ ends_then
+    → ServesPeer tells (standing n held_old) (standing m held_new) (door_told old ends_old) (door_told new ends_new) e
 serves_accepted n m tells held_old held_new old now then new ends_old ends_now ends_then ends_new e accepted same serves hung ended =
-    subst (λ (x : Option (List Session)). ServesPeer n m tells held_old held_new old x ends_old ends_new e) (sym hung)
-    (subst (λ (x : ℕ). ServesPeer n m tells held_old held_new old then ends_old x e) (sym ended)
+    subst (λ (x : Option (List Session)). ServesPeer tells (standing n held_old) (standing m held_new) (door_told old ends_old) (door_told x ends_new) e) (sym hung)
+    (subst (λ (x : ℕ). ServesPeer tells (standing n held_old) (standing m held_new) (door_told old ends_old) (door_told then x) e) (sym ended)
     (serves_peer n m tells held_old held_new old ends_old ends_then e then
-    (subst (λ (x : Option (List Session)). ServesThere n m tells held_old held_new x then ends_old ends_then e) accepted
-    (subst (λ (x : ℕ). ServesThere n m tells held_old held_new now then x ends_then e) same serves))))
+    (subst (λ (x : Option (List Session)). ServesThere tells (standing n held_old) (standing m held_new) (door_told x ends_old) (door_told then ends_then) e) accepted
+    (subst (λ (x : ℕ). ServesThere tells (standing n held_old) (standing m held_new) (door_told now x) (door_told then ends_then) e) same serves))))
 
 -- no peer came, or there was no memory to take one
 module _ (n : NodeState) (tells : Bool) (held : List ℕ → Option (List ℕ)) (old new : Option (List Session)) (ends_old ends_new : ℕ) (same : ends_new ≡ ends_old) where
@@ -718,10 +720,10 @@ module _ (n : NodeState) (tells : Bool) (held : List ℕ → Option (List ℕ)) 
   nobody None = refl
   nobody (Some sessions) = refl
 
-  pub serves_nobody : (fault : IoFault) → new ≡ option_map (sessions_after {T = Unit {0}} None (Err fault)) old → ServesPeer n n tells held held old new ends_old ends_new (end_of_fault fault) ⊎ ServesNone n n tells held held old new (end_of_fault fault)
+  pub serves_nobody : (fault : IoFault) → new ≡ option_map (sessions_after {T = Unit {0}} None (Err fault)) old → ServesPeer tells (standing n held) (standing n held) (door_told old ends_old) (door_told new ends_new) (end_of_fault fault) ⊎ ServesNone tells (standing n held) (standing n held) old new (end_of_fault fault)
   serves_nobody Failed told =
-      inl (subst (λ (x : Option (List Session)). ServesPeer n n tells held held old x ends_old ends_new end.LinkFault) (sym told)
-      (subst (λ (x : ℕ). ServesPeer n n tells held held old (option_map (λ (sessions : List Session). sessions ++ with_failure (fresh_session None) ∷ []) old) ends_old x end.LinkFault) (sym same) (serves_failed n tells held old ends_old)))
+      inl (subst (λ (x : Option (List Session)). ServesPeer tells (standing n held) (standing n held) (door_told old ends_old) (door_told x ends_new) end.LinkFault) (sym told)
+      (subst (λ (x : ℕ). ServesPeer tells (standing n held) (standing n held) (door_told old ends_old) (door_told (option_map (λ (sessions : List Session). sessions ++ with_failure (fresh_session None) ∷ []) old) x) end.LinkFault) (sym same) (serves_failed n tells held old ends_old)))
   serves_nobody NoMemory told = inr (record { ended = refl; state = refl; files = λ t name. refl; told = told ∙ nobody old })
 
 pub fault_counted : (before now : ℕ) (fault : IoFault) → HasCause {T = Unit {0}} before now (Err fault) → IsLinkCounted {T = Unit {0}} before now (Err (end_of_fault fault))

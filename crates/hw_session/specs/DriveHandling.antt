@@ -8,6 +8,7 @@ use Rattle.hw_link.specs.Frames.{byte_limit}
 use Rattle.hw_link.specs.Talk.{Reaction}
 use Rattle.hw_link.specs.Links.{after_part}
 use Rattle.hw_link.specs.UnderWay.{HasFrame}
+use Rattle.hw_link.specs.Told.{DoorTold}
 use Rattle.hw_session.specs.declared.stage.PeerMark.{PeerMark}
 use Rattle.hw_session.specs.declared.stage.Onward.{Onward}
 use Rattle.hw_session.specs.declared.stage.Stage.{Stage}
@@ -15,6 +16,7 @@ use Rattle.hw_session.specs.declared.stage.Stage.TheVariants as stage
 use Rattle.hw_session.specs.Node.{NodeState}
 use Rattle.hw_session.specs.Driving.{Driver, drive_step}
 use Rattle.hw_session.specs.Handling.{Reacts, Answers}
+use Rattle.hw_session.specs.Standing.{Standing, standing, DriverStanding}
 
 -- what a reaction leaves of the node alone
 abbrev pub node_part : Reaction Driver → Reaction NodeState
@@ -26,11 +28,11 @@ IsDue (stage.Pushing left) n mark = mark.pushed < length n.core.journal
 IsDue s n mark = Unit {0}
 
 -- It reacted so: its node did, its marks are those of the reaction, and where it goes on it waits for what the reaction says.
-pub record ReactsAs (n : NodeState) (f : Frame) (r : Reaction Driver) (m : NodeState) (now : PeerMark) (tells : Bool) (held_old held_new : List ℕ → Option (List ℕ)) (old new : Option (List Session)) (result : Result Stage SessionEnd) : Type 0 where
-  pub node : Reacts n f (node_part r) m tells held_old held_new old new result
-  pub marks : now ≡ r.state.mark
+pub record ReactsAs (tells : Bool) (before : Standing) (f : Frame) (r : Reaction Driver) (after : DriverStanding) (old new : Option (List Session)) (result : Result Stage SessionEnd) : Type 0 where
+  pub node : Reacts tells before f (node_part r) (standing after.node after.held) old new result
+  pub marks : after.mark ≡ r.state.mark
   pub waits : IfOk result (λ s. s ≡ r.state.stage)
-  pub due : IfOk result (λ s. IsDue s m now)
+  pub due : IfOk result (λ s. IsDue s after.node after.mark)
 
 -- The same of a reaction that leaves the node as it is.
 pub record AnswersAs (n : NodeState) (mark : PeerMark) (r : Reaction Driver) (old new : Option (List Session)) (result : Result Stage SessionEnd) : Type 0 where
@@ -39,14 +41,14 @@ pub record AnswersAs (n : NodeState) (mark : PeerMark) (r : Reaction Driver) (ol
   pub due : IfOk result (λ s. IsDue s n mark)
 
 -- there was a frame, and it reacted as a node that drives
-pub record HandlesAs (d : Driver) (place : ℕ) (m : NodeState) (now : PeerMark) (tells : Bool) (held_old held_new : List ℕ → Option (List ℕ)) (old new : Option (List Session)) (ends_old ends_new : ℕ) (result : Result Onward SessionEnd) : Type 0 where
+pub record HandlesAs (tells : Bool) (d : Driver) (held : List ℕ → Option (List ℕ)) (place : ℕ) (after : DriverStanding) (old new : DoorTold) (result : Result Onward SessionEnd) : Type 0 where
   pub part : List ℕ
   pub frame : Frame
   pub has : HasFrame place part frame
   pub within : place + length part ≤ byte_limit
-  pub ends : ends_new ≡ ends_old
+  pub ends : new.ends ≡ old.ends
   pub next : IfOk result (λ (o : Onward). o.place ≡ place + length part)
-  pub marks : now ≡ (drive_step d (record { at = place; frame = frame })).state.mark
+  pub marks : after.mark ≡ (drive_step d (record { at = place; frame = frame })).state.mark
   pub waits : IfOk result (λ (o : Onward). o.stage ≡ (drive_step d (record { at = place; frame = frame })).state.stage)
-  pub due : IfOk result (λ (o : Onward). IsDue o.stage m now)
-  pub reacts : Reacts d.node frame (node_part (drive_step d (record { at = place; frame = frame }))) m tells held_old held_new (after_part part [] false old) new result
+  pub due : IfOk result (λ (o : Onward). IsDue o.stage after.node after.mark)
+  pub reacts : Reacts tells (standing d.node held) frame (node_part (drive_step d (record { at = place; frame = frame }))) (standing after.node after.held) (after_part part [] false old.sessions) new.sessions result

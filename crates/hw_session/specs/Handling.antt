@@ -21,6 +21,7 @@ use Rattle.hw_link.specs.Talk.{Reaction, IsPrefixOf}
 use Rattle.hw_link.specs.Links.{after_part, IsLinkCounted}
 use Rattle.hw_link.specs.UnderWay.{HasFrame}
 use Rattle.hw_link.specs.Heard.{Hears, IsHeard}
+use Rattle.hw_link.specs.Told.{DoorTold}
 use Rattle.hw_session.specs.declared.fault.AcceptFault.{AcceptFault}
 use Rattle.hw_session.specs.declared.fault.AcceptFault.TheVariants as fault
 use Rattle.hw_session.specs.Node.{NodeState}
@@ -28,39 +29,40 @@ use Rattle.hw_session.specs.Make.{with_entry}
 use Rattle.hw_session.specs.Accept.{Accepts, WritesAccepted}
 use Rattle.hw_session.specs.Grows.{Logs, LogsAllBut}
 use Rattle.hw_session.specs.Serving.{is_clash, serve_step}
+use Rattle.hw_session.specs.Standing.{Standing}
 
 -- ---- what it did by a reaction
 
 -- it stands where the reaction says, with its log, and sent this
-pub record Took (n : NodeState) (r : Reaction NodeState) (sent : List ℕ) (failed : Bool) (m : NodeState) (tells : Bool) (held_old held_new : List ℕ → Option (List ℕ)) (old new : Option (List Session)) : Type 0 where
-  pub state : m ≡ r.state
-  pub logs : Logs n m tells held_old held_new
+pub record Took (tells : Bool) (before : Standing) (r : Reaction NodeState) (sent : List ℕ) (failed : Bool) (after : Standing) (old new : Option (List Session)) : Type 0 where
+  pub state : after.node ≡ r.state
+  pub logs : Logs before.node after.node tells before.held after.held
   pub told : new ≡ after_part [] sent failed old
 
 -- it did nothing
-pub record Stayed (n m : NodeState) (tells : Bool) (held_old held_new : List ℕ → Option (List ℕ)) (old new : Option (List Session)) : Type 0 where
-  pub state : m ≡ n
-  pub files : IsTrue tells → SameFiles held_old held_new
+pub record Stayed (tells : Bool) (before after : Standing) (old new : Option (List Session)) : Type 0 where
+  pub state : after.node ≡ before.node
+  pub files : IsTrue tells → SameFiles before.held after.held
   pub told : new ≡ old
 
 -- It accepted the frame's vertex, whose entry may be cut, and sent nothing. With all of the entry it would stand where the reaction says.
-pub record WasCut (n : NodeState) (f : Frame) (r : Reaction NodeState) (m : NodeState) (tells : Bool) (held_old held_new : List ℕ → Option (List ℕ)) (old new : Option (List Session)) : Type 0 where
+pub record WasCut (tells : Bool) (before : Standing) (f : Frame) (r : Reaction NodeState) (after : Standing) (old new : Option (List Session)) : Type 0 where
   pub vertex : Vertex
   pub frame_is : f ≡ frame.Vertex vertex
-  pub whole : r.state ≡ with_entry n vertex
-  pub logs : LogsAllBut n n vertex m tells held_old held_new
+  pub whole : r.state ≡ with_entry before.node vertex
+  pub logs : LogsAllBut before.node before.node vertex after.node tells before.held after.held
   pub told : new ≡ old
 
 -- It did what the reaction says, and sent all of the answer; or a fault of the link or want of memory cut that short.
-abbrev pub Reacts : {T : Type 0} → NodeState → Frame → Reaction NodeState → NodeState → Bool → (List ℕ → Option (List ℕ)) → (List ℕ → Option (List ℕ)) → Option (List Session) → Option (List Session) → Result T SessionEnd → Type 0
-Reacts n f r m tells held_old held_new old new (Ok x) = (r.end ≡ None) × Took n r (sent_bytes r.says) false m tells held_old held_new old new
-Reacts n f r m tells held_old held_new old new (Err end.LinkFault) = (part : List ℕ) × IsPrefixOf part (sent_bytes r.says) × Took n r part true m tells held_old held_new old new
-Reacts n f r m tells held_old held_new old new (Err end.AppendFault) = WasCut n f r m tells held_old held_new old new
-Reacts n f r m tells held_old held_new old new (Err end.OutOfMemory) =
-    Stayed n m tells held_old held_new old new
-    ⊎ ((part : List ℕ) × IsPrefixOf part (sent_bytes r.says) × Took n r part false m tells held_old held_new old new)
-    ⊎ WasCut n f r m tells held_old held_new old new
-Reacts n f r m tells held_old held_new old new (Err e) = (r.end ≡ Some e) × Took n r (sent_bytes r.says) false m tells held_old held_new old new
+abbrev pub Reacts : {T : Type 0} → Bool → Standing → Frame → Reaction NodeState → Standing → Option (List Session) → Option (List Session) → Result T SessionEnd → Type 0
+Reacts tells before f r after old new (Ok x) = (r.end ≡ None) × Took tells before r (sent_bytes r.says) false after old new
+Reacts tells before f r after old new (Err end.LinkFault) = (part : List ℕ) × IsPrefixOf part (sent_bytes r.says) × Took tells before r part true after old new
+Reacts tells before f r after old new (Err end.AppendFault) = WasCut tells before f r after old new
+Reacts tells before f r after old new (Err end.OutOfMemory) =
+    Stayed tells before after old new
+    ⊎ ((part : List ℕ) × IsPrefixOf part (sent_bytes r.says) × Took tells before r part false after old new)
+    ⊎ WasCut tells before f r after old new
+Reacts tells before f r after old new (Err e) = (r.end ≡ Some e) × Took tells before r (sent_bytes r.says) false after old new
 
 -- The same of a reaction that leaves the node as it is: what was sent, and how that ended.
 abbrev pub Answers : {T : Type 0} → Reaction NodeState → Option (List Session) → Option (List Session) → Result T SessionEnd → Type 0
@@ -107,22 +109,22 @@ StandsLast r v journal = Unit {0}
 -- ---- what it did at a place of the session
 
 -- there was no frame
-pub record Quits {T : Type 0} (n : NodeState) (place : ℕ) (m : NodeState) (tells : Bool) (held_old held_new : List ℕ → Option (List ℕ)) (old new : Option (List Session)) (ends_old ends_new : ℕ) (result : Result T SessionEnd) : Type 0 where
+pub record Quits {T : Type 0} (tells : Bool) (before : Standing) (place : ℕ) (after : Standing) (old new : DoorTold) (result : Result T SessionEnd) : Type 0 where
   pub how : SessionEnd
   pub is : result ≡ Err how
-  pub state : m ≡ n
-  pub files : IsTrue tells → SameFiles held_old held_new
-  pub heard : Hears {T = Heard} IsHeard place [] old new ends_old ends_new (Err how)
+  pub state : after.node ≡ before.node
+  pub files : IsTrue tells → SameFiles before.held after.held
+  pub heard : Hears {T = Heard} IsHeard place [] old.sessions new.sessions old.ends new.ends (Err how)
 
 -- there was a frame, and it reacted as a node that serves
-pub record Handles (n : NodeState) (place : ℕ) (m : NodeState) (tells : Bool) (held_old held_new : List ℕ → Option (List ℕ)) (old new : Option (List Session)) (ends_old ends_new : ℕ) (result : Result ℕ SessionEnd) : Type 0 where
+pub record Handles (tells : Bool) (before : Standing) (place : ℕ) (after : Standing) (old new : DoorTold) (result : Result ℕ SessionEnd) : Type 0 where
   pub part : List ℕ
   pub frame : Frame
   pub has : HasFrame place part frame
   pub within : place + length part ≤ byte_limit
-  pub ends : ends_new ≡ ends_old
+  pub ends : new.ends ≡ old.ends
   pub next : IfOk result (λ next. next ≡ place + length part)
-  pub reacts : Reacts n frame (serve_step n (record { at = place; frame = frame })) m tells held_old held_new (after_part part [] false old) new result
+  pub reacts : Reacts tells before frame (serve_step before.node (record { at = place; frame = frame })) after (after_part part [] false old.sessions) new.sessions result
 
 -- ---- causes
 

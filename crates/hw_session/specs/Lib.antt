@@ -1,4 +1,5 @@
 pub mod Node
+pub mod Standing
 pub mod Outside
 pub mod Entry
 pub mod Start

@@ -14,10 +14,12 @@ use Rattle.hw_link.specs.Frames.{byte_limit}
 use Rattle.hw_link.specs.Talk.{said_bytes, before_last, IsPrefixOf, IsWritten}
 use Rattle.hw_link.specs.Links.{after_part, is_link_fault}
 use Rattle.hw_link.specs.UnderWay.{HasFrame}
+use Rattle.hw_link.specs.Told.{DoorTold}
 use Rattle.hw_session.specs.Node.{NodeState}
 use Rattle.hw_session.specs.Make.{with_entry}
 use Rattle.hw_session.specs.Grows.{Logs, LogsAllBut}
 use Rattle.hw_session.specs.Serving.{served}
+use Rattle.hw_session.specs.Standing.{Standing}
 
 -- ---- how it ended
 
@@ -69,66 +71,66 @@ IsSaidSoFar said written = IsPrefixOf written (said_bytes said) × (length (said
 -- ---- what it left
 
 -- It stands where the first of these bytes leave it, and so does its log. It wrote no more than it says to them.
-pub record StandsBefore (n : NodeState) (read written : List ℕ) (m : NodeState) (tells : Bool) (held_old held_new : List ℕ → Option (List ℕ)) : Type 0 where
+pub record StandsBefore (tells : Bool) (before : Standing) (read written : List ℕ) (after : Standing) : Type 0 where
   pub first : List ℕ
   pub part : List ℕ
   pub split : read ≡ first ++ part
-  pub state : m ≡ (served n first).state
-  pub logs : Logs n m tells held_old held_new
-  pub wrote : IsSaidSoFar (served n first).said written
+  pub state : after.node ≡ (served before.node first).state
+  pub logs : Logs before.node after.node tells before.held after.held
+  pub wrote : IsSaidSoFar (served before.node first).said written
 
 -- The last frame's vertex was accepted, and its entry may be cut. All of these bytes leave the node that has that vertex with its whole entry.
 -- It wrote what it says to the bytes before that frame, and nothing behind it.
-pub record StandsCut (n : NodeState) (read written : List ℕ) (m : NodeState) (tells : Bool) (held_old held_new : List ℕ → Option (List ℕ)) : Type 0 where
+pub record StandsCut (tells : Bool) (before : Standing) (read written : List ℕ) (after : Standing) : Type 0 where
   pub first : List ℕ
   pub part : List ℕ
   pub vertex : Vertex
   pub split : read ≡ first ++ part
   pub has : HasFrame (length first) part (frame.Vertex vertex)
-  pub whole : (served n read).state ≡ with_entry (served n first).state vertex
-  pub logs : LogsAllBut n (served n first).state vertex m tells held_old held_new
-  pub wrote : written ≡ said_bytes (served n first).said
+  pub whole : (served before.node read).state ≡ with_entry (served before.node first).state vertex
+  pub logs : LogsAllBut before.node (served before.node first).state vertex after.node tells before.held after.held
+  pub wrote : written ≡ said_bytes (served before.node first).said
 
 -- The node stands where the bytes leave it, and so does its log. Where an append failed the last entry may be cut, and where there was
 -- no memory the node may stand before the last bytes: it stands, with its log, where what it wrote says.
-abbrev pub Leaves : SessionEnd → NodeState → List ℕ → List ℕ → NodeState → Bool → (List ℕ → Option (List ℕ)) → (List ℕ → Option (List ℕ)) → Type 0
-Leaves end.AppendFault n read written m tells held_old held_new = StandsCut n read written m tells held_old held_new
-Leaves end.OutOfMemory n read written m tells held_old held_new = StandsBefore n read written m tells held_old held_new ⊎ StandsCut n read written m tells held_old held_new
-Leaves e n read written m tells held_old held_new = (m ≡ (served n read).state) × Logs n m tells held_old held_new
+abbrev pub Leaves : SessionEnd → Bool → Standing → List ℕ → List ℕ → Standing → Type 0
+Leaves end.AppendFault tells before read written after = StandsCut tells before read written after
+Leaves end.OutOfMemory tells before read written after = StandsBefore tells before read written after ⊎ StandsCut tells before read written after
+Leaves e tells before read written after = (after.node ≡ (served before.node read).state) × Logs before.node after.node tells before.held after.held
 
 -- ---- one session
 
 -- A node served a peer that sent these bytes: how the session ended, what was written, and where the node stands.
-pub record Serves (n : NodeState) (read written : List ℕ) (m : NodeState) (tells : Bool) (held_old held_new : List ℕ → Option (List ℕ)) (ends_old ends_new : ℕ) (e : SessionEnd) : Type 0 where
+pub record Serves (tells : Bool) (before : Standing) (read written : List ℕ) (after : Standing) (ends_old ends_new : ℕ) (e : SessionEnd) : Type 0 where
   pub within : length read ≤ byte_limit
-  pub ended : EndsAs e (served n read).end
-  pub end_counted : IsEndOf n read ends_old ends_new e
-  pub no_further : StopsReading e (λ (bytes : List ℕ). (served n bytes).end) read
-  pub wrote : IsWritten e (served n read).said written
-  pub answered : IsAnswered e (served n read).said written
-  pub left : Leaves e n read written m tells held_old held_new
+  pub ended : EndsAs e (served before.node read).end
+  pub end_counted : IsEndOf before.node read ends_old ends_new e
+  pub no_further : StopsReading e (λ (bytes : List ℕ). (served before.node bytes).end) read
+  pub wrote : IsWritten e (served before.node read).said written
+  pub answered : IsAnswered e (served before.node read).said written
+  pub left : Leaves e tells before read written after
 
 -- A node served the peer of the session that is there.
-pub record ServesThere (n m : NodeState) (tells : Bool) (held_old held_new : List ℕ → Option (List ℕ)) (old new : Option (List Session)) (ends_old ends_new : ℕ) (e : SessionEnd) : Type 0 where
+pub record ServesThere (tells : Bool) (before after : Standing) (old new : DoorTold) (e : SessionEnd) : Type 0 where
   pub read : List ℕ
   pub written : List ℕ
-  pub serves : Serves n read written m tells held_old held_new ends_old ends_new e
-  pub told : new ≡ after_part read written (is_link_fault {T = Unit {0}} (Err e)) old
+  pub serves : Serves tells before read written after old.ends new.ends e
+  pub told : new.sessions ≡ after_part read written (is_link_fault {T = Unit {0}} (Err e)) old.sessions
 
 -- a session in which these bytes were read and those written; a call failed in it where it ended by that
 abbrev pub session_of : List ℕ → List ℕ → SessionEnd → Session
 session_of read written e = record { address = None; read = read; written = written; failed = is_link_fault {T = Unit {0}} (Err e) }
 
 -- A node served a peer, in a session that the door tells behind the others.
-pub record ServesPeer (n m : NodeState) (tells : Bool) (held_old held_new : List ℕ → Option (List ℕ)) (old new : Option (List Session)) (ends_old ends_new : ℕ) (e : SessionEnd) : Type 0 where
+pub record ServesPeer (tells : Bool) (before after : Standing) (old new : DoorTold) (e : SessionEnd) : Type 0 where
   pub read : List ℕ
   pub written : List ℕ
-  pub serves : Serves n read written m tells held_old held_new ends_old ends_new e
-  pub told : new ≡ option_map (λ (sessions : List Session). sessions ++ session_of read written e ∷ []) old
+  pub serves : Serves tells before read written after old.ends new.ends e
+  pub told : new.sessions ≡ option_map (λ (sessions : List Session). sessions ++ session_of read written e ∷ []) old.sessions
 
 -- there was no memory to take a peer, and nothing was done
-pub record ServesNone (n m : NodeState) (tells : Bool) (held_old held_new : List ℕ → Option (List ℕ)) (old new : Option (List Session)) (e : SessionEnd) : Type 0 where
+pub record ServesNone (tells : Bool) (before after : Standing) (old new : Option (List Session)) (e : SessionEnd) : Type 0 where
   pub ended : e ≡ end.OutOfMemory
-  pub state : m ≡ n
-  pub files : IsTrue tells → SameFiles held_old held_new
+  pub state : after.node ≡ before.node
+  pub files : IsTrue tells → SameFiles before.held after.held
   pub told : new ≡ old

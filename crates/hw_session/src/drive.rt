@@ -8,6 +8,7 @@ ghost use Rattle.hw_link.specs.Asked.{IsAskedInside, IsAskedBehind, IsPrompt};
 ghost use Rattle.hw_link.specs.Frames.{byte_limit, frame_here, framed, sent_bytes};
 ghost use Rattle.hw_link.specs.Links.{after_part, IsLinkCounted};
 ghost use Rattle.hw_link.specs.Sent.{Sends};
+ghost use Rattle.hw_link.specs.Told.{door_told};
 ghost use Rattle.hw_session.specs.declared.stage.Stage.TheVariants as stage;
 ghost use Rattle.hw_session.specs.Node.{NodeState};
 ghost use Rattle.hw_session.specs.Driving.{Driver, driven_said, hello, greeting, leave, want, pull, push, to_push, drive_step, drive_at, drive_greeting, drive_pushing, drive_told, drive_pulling, drive_wanting, drive_vertex};
@@ -15,6 +16,7 @@ ghost use Rattle.hw_session.specs.Outside.{door_calls, reading};
 ghost use Rattle.hw_session.specs.Handling.{Quits, IsLogCounted, IsLogEnd, IsLinkEnd};
 ghost use Rattle.hw_session.specs.DriveHandling.{IsDue, ReactsAs, AnswersAs, HandlesAs};
 ghost use Rattle.hw_session.specs.Drives.{DrivesThere, DrivesPeer, DrivesNone};
+ghost use Rattle.hw_session.specs.Standing.{standing, driver_standing};
 ghost use Rattle.hw_core.specs.Readers.{unmet_in};
 
 use crate::answer::send_vertex;
@@ -54,8 +56,8 @@ impl Node {
         door: &mut D,
         files: &mut F,
     ) -> SessionEnd
-        ensures driven { DrivesPeer self.old mark.old address.now self.new mark.new F.tells (F.held files.old) (F.held files.new) (D.sessions door.old) (D.sessions door.new) (D.ends door.old) (D.ends door.new) result
-            ⊎ DrivesNone self.old mark.old self.new mark.new F.tells (F.held files.old) (F.held files.new) (D.sessions door.old) (D.sessions door.new) result }
+        ensures driven { DrivesPeer F.tells address.now (driver_standing self.old mark.old (F.held files.old)) (driver_standing self.new mark.new (F.held files.new)) (door_told (D.sessions door.old) (D.ends door.old)) (door_told (D.sessions door.new) (D.ends door.new)) result
+            ⊎ DrivesNone F.tells (driver_standing self.old mark.old (F.held files.old)) (driver_standing self.new mark.new (F.held files.new)) (D.sessions door.old) (D.sessions door.new) result }
         ensures prompt { All (IsPrompt (driven_said self.old mark.old)) (D.asks door.new) }
         ensures link { IsLinkEnd (D.faults door.old) (D.faults door.new) result }
         ensures appends { IsLogEnd (F.append_faults files.old) (F.append_faults files.new) result }
@@ -85,7 +87,7 @@ impl Node {
         files: &mut F,
     ) -> SessionEnd
         requires open { D.is_open door.old ≡ true }
-        ensures driven { DrivesThere self.old mark.old self.new mark.new F.tells (F.held files.old) (F.held files.new) (D.sessions door.old) (D.sessions door.new) (D.ends door.old) (D.ends door.new) result }
+        ensures driven { DrivesThere F.tells (driver_standing self.old mark.old (F.held files.old)) (driver_standing self.new mark.new (F.held files.new)) (door_told (D.sessions door.old) (D.ends door.old)) (door_told (D.sessions door.new) (D.ends door.new)) result }
         ensures asks { AsksMore (IsAskedBehind (driven_said self.old mark.old) (D.sessions door.old)) (D.asks door.old) (D.asks door.new) }
         ensures link { IsLinkEnd (D.faults door.old) (D.faults door.new) result }
         ensures appends { IsLogEnd (F.append_faults files.old) (F.append_faults files.new) result }
@@ -119,7 +121,7 @@ impl Node {
         files: &mut F,
     ) -> SessionEnd
         requires open { D.is_open door.old ≡ true }
-        ensures driven { (first : Option (List Session)) → D.sessions door.old ≡ after_part [] (sent_bytes (hello self.old)) false first → DrivesThere self.old mark.old self.new mark.new F.tells (F.held files.old) (F.held files.new) first (D.sessions door.new) (D.ends door.old) (D.ends door.new) result }
+        ensures driven { (first : Option (List Session)) → D.sessions door.old ≡ after_part [] (sent_bytes (hello self.old)) false first → DrivesThere F.tells (driver_standing self.old mark.old (F.held files.old)) (driver_standing self.new mark.new (F.held files.new)) (door_told first (D.ends door.old)) (door_told (D.sessions door.new) (D.ends door.new)) result }
         ensures asks { (first : Option (List Session)) → D.sessions door.old ≡ after_part [] (sent_bytes (hello self.old)) false first → AsksMore (IsAskedBehind (driven_said self.old mark.old) first) (D.asks door.old) (D.asks door.new) }
         ensures link { IsLinkEnd (D.faults door.old) (D.faults door.new) result }
         ensures appends { IsLogEnd (F.append_faults files.old) (F.append_faults files.new) result }
@@ -155,8 +157,8 @@ impl Node {
         requires place { place ≤ BYTE_LIMIT }
         requires due { IsDue stage self.old mark.old }
         requires open { D.is_open door.old ≡ true }
-        ensures driven { (Quits self.old place self.new F.tells (F.held files.old) (F.held files.new) (D.sessions door.old) (D.sessions door.new) (D.ends door.old) (D.ends door.new) result × (mark.new ≡ mark.old))
-            ⊎ HandlesAs (record { stage = stage; node = self.old; mark = mark.old }) place self.new mark.new F.tells (F.held files.old) (F.held files.new) (D.sessions door.old) (D.sessions door.new) (D.ends door.old) (D.ends door.new) result }
+        ensures driven { (Quits F.tells (standing self.old (F.held files.old)) place (standing self.new (F.held files.new)) (door_told (D.sessions door.old) (D.ends door.old)) (door_told (D.sessions door.new) (D.ends door.new)) result × (mark.new ≡ mark.old))
+            ⊎ HandlesAs F.tells (record { stage = stage; node = self.old; mark = mark.old }) (F.held files.old) place (driver_standing self.new mark.new (F.held files.new)) (door_told (D.sessions door.old) (D.ends door.old)) (door_told (D.sessions door.new) (D.ends door.new)) result }
         ensures asks { AsksMore (IsAskedInside frame_here place [] (D.sessions door.old)) (D.asks door.old) (D.asks door.new) }
         ensures next { IfOk result (λ onward. (place < onward.place) × (onward.place ≤ BYTE_LIMIT)) }
         ensures link { IsLinkCounted (D.faults door.old) (D.faults door.new) result }
@@ -188,7 +190,7 @@ impl Node {
         requires fits { FrameFits frame }
         requires due { IsDue stage self.old mark.old }
         requires open { D.is_open door.old ≡ true }
-        ensures reacts { ReactsAs self.old frame (drive_at stage (record { stage = stage; node = self.old; mark = mark.old }) place frame) self.new mark.new F.tells (F.held files.old) (F.held files.new) (D.sessions door.old) (D.sessions door.new) result }
+        ensures reacts { ReactsAs F.tells (standing self.old (F.held files.old)) frame (drive_at stage (record { stage = stage; node = self.old; mark = mark.old }) place frame) (driver_standing self.new mark.new (F.held files.new)) (D.sessions door.old) (D.sessions door.new) result }
         ensures link { IsLinkCounted (D.faults door.old) (D.faults door.new) result }
         ensures appends { IsLogCounted (F.append_faults files.old) (F.append_faults files.new) result }
 
@@ -325,7 +327,7 @@ impl Node {
     ) -> Result<Stage, SessionEnd>
         requires fits { FrameFits frame }
         requires open { D.is_open door.old ≡ true }
-        ensures reacts { ReactsAs self.old frame (drive_pulling (record { stage = stage.Pulling again; node = self.old; mark = mark.old }) again place frame) self.new mark.new F.tells (F.held files.old) (F.held files.new) (D.sessions door.old) (D.sessions door.new) result }
+        ensures reacts { ReactsAs F.tells (standing self.old (F.held files.old)) frame (drive_pulling (record { stage = stage.Pulling again; node = self.old; mark = mark.old }) again place frame) (driver_standing self.new mark.new (F.held files.new)) (D.sessions door.old) (D.sessions door.new) result }
         ensures link { IsLinkCounted (D.faults door.old) (D.faults door.new) result }
         ensures appends { IsLogCounted (F.append_faults files.old) (F.append_faults files.new) result }
 
@@ -419,7 +421,7 @@ impl Node {
     ) -> Result<Stage, SessionEnd>
         requires fits { FrameFits frame }
         requires open { D.is_open door.old ≡ true }
-        ensures reacts { ReactsAs self.old frame (drive_wanting (record { stage = stage.Wanting; node = self.old; mark = mark }) place frame) self.new mark F.tells (F.held files.old) (F.held files.new) (D.sessions door.old) (D.sessions door.new) result }
+        ensures reacts { ReactsAs F.tells (standing self.old (F.held files.old)) frame (drive_wanting (record { stage = stage.Wanting; node = self.old; mark = mark }) place frame) (driver_standing self.new mark (F.held files.new)) (D.sessions door.old) (D.sessions door.new) result }
         ensures link { IsLinkCounted (D.faults door.old) (D.faults door.new) result }
         ensures appends { IsLogCounted (F.append_faults files.old) (F.append_faults files.new) result }
 
@@ -456,7 +458,7 @@ impl Node {
     ) -> Result<Stage, SessionEnd>
         requires fits { VertexFits vertex }
         requires due { (n : NodeState) → IsDue stage n mark }
-        ensures reacts { (sessions : Option (List Session)) → ReactsAs self.old (frame.Vertex vertex) (drive_vertex (record { stage = stage; node = self.old; mark = mark }) vertex) self.new mark F.tells (F.held files.old) (F.held files.new) sessions sessions result }
+        ensures reacts { (sessions : Option (List Session)) → ReactsAs F.tells (standing self.old (F.held files.old)) (frame.Vertex vertex) (drive_vertex (record { stage = stage; node = self.old; mark = mark }) vertex) (driver_standing self.new mark (F.held files.new)) sessions sessions result }
         ensures appends { IsLogCounted (F.append_faults files.old) (F.append_faults files.new) result }
         ensures link { (count : ℕ) → IsLinkCounted count count result }
 

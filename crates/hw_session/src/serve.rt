@@ -5,10 +5,12 @@ ghost use Rattle.hw_types.specs.{Spelling.{FrameFits, VertexFits}, declared.unit
 ghost use Rattle.hw_types.specs.declared.answers.Frame.TheVariants as frame;
 ghost use Rattle.hw_io.specs.{Doors.{AsksMore}, Faults.{raised}};
 ghost use Rattle.hw_link.specs.{Asked.{IsAskedInside, IsAskedBehind, IsPrompt}, Frames.{frame_here, framed}, Links.{IsLinkCounted}, Sent.{Sends}};
+ghost use Rattle.hw_link.specs.Told.{door_told};
 ghost use Rattle.hw_session.specs.Outside.{door_calls, reading};
 ghost use Rattle.hw_session.specs.Serving.{served_said, serve_first, serve_frame, serve_vertex, serve_step, wanted_by};
 ghost use Rattle.hw_session.specs.Handling.{Reacts, Answers, hello_of, StandsLast, Quits, Handles, IsLogCounted, IsLogEnd, IsLinkEnd};
 ghost use Rattle.hw_session.specs.Sessions.{ServesThere, ServesPeer, ServesNone};
+ghost use Rattle.hw_session.specs.Standing.{standing};
 
 use crate::answer::{answer_have, answer_want, wanted};
 use crate::node::Node;
@@ -32,8 +34,8 @@ impl Node {
     /// as `ByteLimit`, once the frame that ends with them was answered. After `AppendFault` and `Clash` that
     /// frame has no answer. A failed call of the door is `LinkFault`.
     pub fn serve_one<D: Door, F: Files>(&mut self, door: &mut D, files: &mut F) -> SessionEnd
-        ensures served { ServesPeer self.old self.new F.tells (F.held files.old) (F.held files.new) (D.sessions door.old) (D.sessions door.new) (D.ends door.old) (D.ends door.new) result
-            ⊎ ServesNone self.old self.new F.tells (F.held files.old) (F.held files.new) (D.sessions door.old) (D.sessions door.new) result }
+        ensures served { ServesPeer F.tells (standing self.old (F.held files.old)) (standing self.new (F.held files.new)) (door_told (D.sessions door.old) (D.ends door.old)) (door_told (D.sessions door.new) (D.ends door.new)) result
+            ⊎ ServesNone F.tells (standing self.old (F.held files.old)) (standing self.new (F.held files.new)) (D.sessions door.old) (D.sessions door.new) result }
         ensures prompt { All (IsPrompt (served_said self.old)) (D.asks door.new) }
         ensures link { IsLinkEnd (D.faults door.old) (D.faults door.new) result }
         ensures appends { IsLogEnd (F.append_faults files.old) (F.append_faults files.new) result }
@@ -58,7 +60,7 @@ impl Node {
     /// Answers the frames of the peer that is there, up to the end of the session.
     fn serve<D: Door, F: Files>(&mut self, door: &mut D, files: &mut F) -> SessionEnd
         requires open { D.is_open door.old ≡ true }
-        ensures served { ServesThere self.old self.new F.tells (F.held files.old) (F.held files.new) (D.sessions door.old) (D.sessions door.new) (D.ends door.old) (D.ends door.new) result }
+        ensures served { ServesThere F.tells (standing self.old (F.held files.old)) (standing self.new (F.held files.new)) (door_told (D.sessions door.old) (D.ends door.old)) (door_told (D.sessions door.new) (D.ends door.new)) result }
         ensures asks { AsksMore (IsAskedBehind (served_said self.old) (D.sessions door.old)) (D.asks door.old) (D.asks door.new) }
         ensures link { IsLinkEnd (D.faults door.old) (D.faults door.new) result }
         ensures appends { IsLogEnd (F.append_faults files.old) (F.append_faults files.new) result }
@@ -87,8 +89,8 @@ impl Node {
     ) -> Result<u64, SessionEnd>
         requires place { place ≤ BYTE_LIMIT }
         requires open { D.is_open door.old ≡ true }
-        ensures served { Quits self.old place self.new F.tells (F.held files.old) (F.held files.new) (D.sessions door.old) (D.sessions door.new) (D.ends door.old) (D.ends door.new) result
-            ⊎ Handles self.old place self.new F.tells (F.held files.old) (F.held files.new) (D.sessions door.old) (D.sessions door.new) (D.ends door.old) (D.ends door.new) result }
+        ensures served { Quits F.tells (standing self.old (F.held files.old)) place (standing self.new (F.held files.new)) (door_told (D.sessions door.old) (D.ends door.old)) (door_told (D.sessions door.new) (D.ends door.new)) result
+            ⊎ Handles F.tells (standing self.old (F.held files.old)) place (standing self.new (F.held files.new)) (door_told (D.sessions door.old) (D.ends door.old)) (door_told (D.sessions door.new) (D.ends door.new)) result }
         ensures asks { AsksMore (IsAskedInside frame_here place [] (D.sessions door.old)) (D.asks door.old) (D.asks door.new) }
         ensures next { IfOk result (λ next. (place < next) × (next ≤ BYTE_LIMIT)) }
         ensures link { IsLinkCounted (D.faults door.old) (D.faults door.new) result }
@@ -114,7 +116,7 @@ impl Node {
     ) -> Result<(), SessionEnd>
         requires fits { FrameFits frame }
         requires open { D.is_open door.old ≡ true }
-        ensures reacts { Reacts self.old frame (serve_step self.old (record { at = place; frame = frame })) self.new F.tells (F.held files.old) (F.held files.new) (D.sessions door.old) (D.sessions door.new) result }
+        ensures reacts { Reacts F.tells (standing self.old (F.held files.old)) frame (serve_step self.old (record { at = place; frame = frame })) (standing self.new (F.held files.new)) (D.sessions door.old) (D.sessions door.new) result }
         ensures link { IsLinkCounted (D.faults door.old) (D.faults door.new) result }
         ensures appends { IsLogCounted (F.append_faults files.old) (F.append_faults files.new) result }
 
@@ -164,7 +166,7 @@ impl Node {
     ) -> Result<(), SessionEnd>
         requires fits { FrameFits frame }
         requires open { D.is_open door.old ≡ true }
-        ensures reacts { Reacts self.old frame (serve_frame self.old place frame) self.new F.tells (F.held files.old) (F.held files.new) (D.sessions door.old) (D.sessions door.new) result }
+        ensures reacts { Reacts F.tells (standing self.old (F.held files.old)) frame (serve_frame self.old place frame) (standing self.new (F.held files.new)) (D.sessions door.old) (D.sessions door.new) result }
         ensures link { IsLinkCounted (D.faults door.old) (D.faults door.new) result }
         ensures appends { IsLogCounted (F.append_faults files.old) (F.append_faults files.new) result }
 
@@ -203,7 +205,7 @@ impl Node {
     ) -> Result<(), SessionEnd>
         requires fits { VertexFits vertex }
         requires open { D.is_open door.old ≡ true }
-        ensures reacts { Reacts self.old (frame.Vertex vertex) (serve_vertex self.old vertex) self.new F.tells (F.held files.old) (F.held files.new) (D.sessions door.old) (D.sessions door.new) result }
+        ensures reacts { Reacts F.tells (standing self.old (F.held files.old)) (frame.Vertex vertex) (serve_vertex self.old vertex) (standing self.new (F.held files.new)) (D.sessions door.old) (D.sessions door.new) result }
         ensures link { IsLinkCounted (D.faults door.old) (D.faults door.new) result }
         ensures appends { IsLogCounted (F.append_faults files.old) (F.append_faults files.new) result }
 

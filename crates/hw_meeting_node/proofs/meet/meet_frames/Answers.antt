@@ -4,10 +4,11 @@ use Rattle.hw_io.proofs.Asks.{asks_none}
 use Rattle.hw_types.specs.declared.config.Config.{Config}
 use Rattle.hw_link.specs.Asked.{IsAskedBehind}
 use Rattle.hw_link.specs.Links.{IsLinkCounted}
+use Rattle.hw_link.specs.Told.{door_told}
 use Rattle.hw_meeting_node.specs.Meeting.{met_said}
 use Rattle.hw_meeting_node.proofs.NextLaws.{asks_among}
 use Rattle.hw_meeting_node.specs.declared.end.MeetEnd.TheVariants.{ByteLimit}
-use Rattle.hw_meeting_node.specs.Taking.{TakesThere}
+use Rattle.hw_meeting_node.specs.Taking.{TakesThere, with_taker}
 use Rattle.hw_meeting_node.specs.Handling.{IsTakerCounted}
 use Rattle.hw_meeting_node.proofs.meet.meet_frames.Goals as goal
 
@@ -76,5 +77,5 @@ returns-clause-met g c =
     let l = c.loop-place in
     let i = l.invariant in
     λ first told.
-    subst (λ (x : ℕ). TakesThere g.T.Taker.steps c.args.side (g.T.Taker.received c.args.taker.now) (g.T.Taker.verdict c.args.taker.now) (g.T.Taker.received l.taker) c.args.taker.now l.taker first (g.D.Door.sessions l.door) x (g.D.Door.ends l.door) ByteLimit) i.ends
+    subst (λ (x : ℕ). TakesThere g.T.Taker.steps c.args.side (g.T.Taker.verdict c.args.taker.now) (with_taker (g.T.Taker.received c.args.taker.now) c.args.taker.now) (with_taker (g.T.Taker.received l.taker) l.taker) (door_told first x) (door_told (g.D.Door.sessions l.door) (g.D.Door.ends l.door)) ByteLimit) i.ends
     (limit_meets _ _ _ _ _ _ _ _ _ _ (i.meeting first told) (omega (arith, c.loop-place-test.false)) (g.D.Door.ends l.door))

@@ -5,12 +5,13 @@ use Rattle.hw_link.specs.Talk.{Reaction}
 use Rattle.hw_session.specs.declared.stage.Stage.TheVariants as stage
 use Rattle.hw_session.specs.Driving.{Driver, greeting, drive_pulling}
 use Rattle.hw_session.specs.DriveHandling.{ReactsAs}
+use Rattle.hw_session.specs.Standing.{standing, driver_standing}
 use Rattle.hw_session.proofs.DriveLaws.{as_reacts, bad_reacts, pulling_bad, told_node, told_alike}
 use Rattle.hw_session.proofs.node.Node.drive_pulling.Goals as goal
 
 pub returns-in-Vertex-clause-reacts : goal.returns-in-Vertex-clause-reacts
 returns-in-Vertex-clause-reacts g c =
-    subst (λ (f : Frame). ReactsAs c.args.self.now f (drive_pulling (record { stage = stage.Pulling c.args.again; node = c.args.self.now; mark = c.args.mark.now }) c.args.again c.args.place f) c.take_vertex.new.self c.args.mark.now g.F.Files.tells (g.F.Files.held c.args.files.now) (g.F.Files.held c.take_vertex.new.files) (g.D.Door.sessions c.args.door.now) (g.D.Door.sessions c.args.door.now) c.take_vertex.result)
+    subst (λ (f : Frame). ReactsAs g.F.Files.tells (standing c.args.self.now (g.F.Files.held c.args.files.now)) f (drive_pulling (record { stage = stage.Pulling c.args.again; node = c.args.self.now; mark = c.args.mark.now }) c.args.again c.args.place f) (driver_standing c.take_vertex.new.self c.args.mark.now (g.F.Files.held c.take_vertex.new.files)) (g.D.Door.sessions c.args.door.now) (g.D.Door.sessions c.args.door.now) c.take_vertex.result)
     (sym c.in-Vertex.is) (c.take_vertex.ensures.reacts (g.D.Door.sessions c.args.door.now))
 
 pub returns-in-Vertex-clause-link : goal.returns-in-Vertex-clause-link
@@ -23,8 +24,8 @@ returns-clause-reacts g c =
 
 pub returns-in-Have-clause-reacts : goal.returns-in-Have-clause-reacts
 returns-in-Have-clause-reacts g c =
-    let AtFrame : Frame → Type 0 = λ f. ReactsAs c.args.self.now f (drive_pulling (record { stage = stage.Pulling c.args.again; node = c.args.self.now; mark = c.args.mark.now }) c.args.again c.args.place f) c.args.self.now c.drive_told.new.mark g.F.Files.tells (g.F.Files.held c.args.files.now) (g.F.Files.held c.args.files.now) (g.D.Door.sessions c.args.door.now) (g.D.Door.sessions c.drive_told.new.door) c.drive_told.result in
-    let By : Reaction Driver → Type 0 = λ r. ReactsAs c.args.self.now (frame.Have c.in-Have.told) r c.args.self.now c.drive_told.new.mark g.F.Files.tells (g.F.Files.held c.args.files.now) (g.F.Files.held c.args.files.now) (g.D.Door.sessions c.args.door.now) (g.D.Door.sessions c.drive_told.new.door) c.drive_told.result in
+    let AtFrame : Frame → Type 0 = λ f. ReactsAs g.F.Files.tells (standing c.args.self.now (g.F.Files.held c.args.files.now)) f (drive_pulling (record { stage = stage.Pulling c.args.again; node = c.args.self.now; mark = c.args.mark.now }) c.args.again c.args.place f) (driver_standing c.args.self.now c.drive_told.new.mark (g.F.Files.held c.args.files.now)) (g.D.Door.sessions c.args.door.now) (g.D.Door.sessions c.drive_told.new.door) c.drive_told.result in
+    let By : Reaction Driver → Type 0 = λ r. ReactsAs g.F.Files.tells (standing c.args.self.now (g.F.Files.held c.args.files.now)) (frame.Have c.in-Have.told) r (driver_standing c.args.self.now c.drive_told.new.mark (g.F.Files.held c.args.files.now)) (g.D.Door.sessions c.args.door.now) (g.D.Door.sessions c.drive_told.new.door) c.drive_told.result in
     subst AtFrame (sym c.in-Have.is)
     (subst By (told_alike c.args.self.now c.args.mark.now stage.Greeting (stage.Pulling c.args.again) c.args.again c.in-Have.told)
     (as_reacts c.args.self.now _ c.drive_told.new.mark _ _ _ _ _ _ (told_node (greeting c.args.self.now c.args.mark.now) c.args.again c.in-Have.told) c.drive_told.ensures.marks c.drive_told.ensures.answers))

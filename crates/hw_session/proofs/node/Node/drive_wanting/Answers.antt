@@ -3,12 +3,13 @@ use Rattle.hw_types.specs.declared.answers.Frame.{Frame}
 use Rattle.hw_session.specs.declared.stage.Stage.TheVariants as stage
 use Rattle.hw_session.specs.Driving.{drive_wanting}
 use Rattle.hw_session.specs.DriveHandling.{ReactsAs}
+use Rattle.hw_session.specs.Standing.{standing, driver_standing}
 use Rattle.hw_session.proofs.DriveLaws.{as_reacts, bad_reacts, wanting_bad, goes_answers}
 use Rattle.hw_session.proofs.node.Node.drive_wanting.Goals as goal
 
 pub returns-in-Vertex-clause-reacts : goal.returns-in-Vertex-clause-reacts
 returns-in-Vertex-clause-reacts g c =
-    subst (λ (f : Frame). ReactsAs c.args.self.now f (drive_wanting (record { stage = stage.Wanting; node = c.args.self.now; mark = c.args.mark }) c.args.place f) c.take_vertex.new.self c.args.mark g.F.Files.tells (g.F.Files.held c.args.files.now) (g.F.Files.held c.take_vertex.new.files) (g.D.Door.sessions c.args.door.now) (g.D.Door.sessions c.args.door.now) c.take_vertex.result)
+    subst (λ (f : Frame). ReactsAs g.F.Files.tells (standing c.args.self.now (g.F.Files.held c.args.files.now)) f (drive_wanting (record { stage = stage.Wanting; node = c.args.self.now; mark = c.args.mark }) c.args.place f) (driver_standing c.take_vertex.new.self c.args.mark (g.F.Files.held c.take_vertex.new.files)) (g.D.Door.sessions c.args.door.now) (g.D.Door.sessions c.args.door.now) c.take_vertex.result)
     (sym c.in-Vertex.is) (c.take_vertex.ensures.reacts (g.D.Door.sessions c.args.door.now))
 
 pub returns-in-Vertex-clause-link : goal.returns-in-Vertex-clause-link
@@ -21,6 +22,6 @@ returns-clause-reacts g c =
 
 pub returns-in-Missing-clause-reacts : goal.returns-in-Missing-clause-reacts
 returns-in-Missing-clause-reacts g c =
-    let At : Frame → Type 0 = λ f. ReactsAs c.args.self.now f (drive_wanting (record { stage = stage.Wanting; node = c.args.self.now; mark = c.args.mark }) c.args.place f) c.args.self.now c.args.mark g.F.Files.tells (g.F.Files.held c.args.files.now) (g.F.Files.held c.args.files.now) (g.D.Door.sessions c.args.door.now) (g.D.Door.sessions c.args.door.now) (Ok stage.Wanting) in
+    let At : Frame → Type 0 = λ f. ReactsAs g.F.Files.tells (standing c.args.self.now (g.F.Files.held c.args.files.now)) f (drive_wanting (record { stage = stage.Wanting; node = c.args.self.now; mark = c.args.mark }) c.args.place f) (driver_standing c.args.self.now c.args.mark (g.F.Files.held c.args.files.now)) (g.D.Door.sessions c.args.door.now) (g.D.Door.sessions c.args.door.now) (Ok stage.Wanting) in
     subst At (sym c.in-Missing.is)
     (as_reacts c.args.self.now _ c.args.mark _ _ _ _ _ _ refl refl (goes_answers c.args.self.now (record { stage = stage.Wanting; node = c.args.self.now; mark = c.args.mark }) _ tt))

@@ -2,8 +2,10 @@ use Rattle.std.proofs.Common.{ℕ, refl, subst, arith, ◌∙◌}
 use Rattle.hw_link.specs.declared.end.SessionEnd.TheVariants as end
 use Rattle.hw_io.proofs.Asks.{asks_none}
 use Rattle.hw_link.specs.Asked.{IsAskedBehind}
+use Rattle.hw_link.specs.Told.{door_told}
 use Rattle.hw_session.specs.Serving.{served_said}
 use Rattle.hw_session.specs.Sessions.{ServesThere}
+use Rattle.hw_session.specs.Standing.{standing}
 use Rattle.hw_session.proofs.ServingLaws.{serving_begins, next_leads, next_asks, next_counts, next_serves, limit_serves}
 use Rattle.hw_session.proofs.node.Node.serve.Goals as goal
 
@@ -53,5 +55,5 @@ returns-clause-served g c =
     let l = c.loop-place in
     let d = g.D.Door in
     let f = g.F.Files in
-    subst (λ (x : ℕ). ServesThere c.args.self.now l.self f.tells (f.held c.args.files.now) (f.held l.files) (d.sessions c.args.door.now) (d.sessions l.door) x (d.ends l.door) end.ByteLimit) l.invariant.ends
+    subst (λ (x : ℕ). ServesThere f.tells (standing c.args.self.now (f.held c.args.files.now)) (standing l.self (f.held l.files)) (door_told (d.sessions c.args.door.now) x) (door_told (d.sessions l.door) (d.ends l.door)) end.ByteLimit) l.invariant.ends
     (limit_serves _ _ _ _ _ _ _ _ l.invariant.serving c.loop-place-test.false (d.ends l.door))
