@@ -25,3 +25,8 @@ returns-in-Missing-clause-reacts g c =
     let At : Frame → Type 0 = λ f. ReactsAs g.F.Files.tells (standing c.args.self.now (g.F.Files.held c.args.files.now)) f (drive_wanting (record { stage = stage.Wanting; node = c.args.self.now; mark = c.args.mark }) c.args.place f) (driver_standing c.args.self.now c.args.mark (g.F.Files.held c.args.files.now)) (g.D.Door.sessions c.args.door.now) (g.D.Door.sessions c.args.door.now) (Ok stage.Wanting) in
     subst At (sym c.in-Missing.is)
     (as_reacts c.args.self.now _ c.args.mark _ _ _ _ _ _ refl refl (goes_answers c.args.self.now (record { stage = stage.Wanting; node = c.args.self.now; mark = c.args.mark }) _ tt))
+
+pub returns-in-Have-clause-reacts : goal.returns-in-Have-clause-reacts
+returns-in-Have-clause-reacts g c =
+    let At : Frame → Type 0 = λ f. ReactsAs g.F.Files.tells (standing c.args.self.now (g.F.Files.held c.args.files.now)) f (drive_wanting (record { stage = stage.Wanting; node = c.args.self.now; mark = c.args.mark }) c.args.place f) (driver_standing c.args.self.now c.args.mark (g.F.Files.held c.args.files.now)) (g.D.Door.sessions c.args.door.now) (g.D.Door.sessions c.leave.new.door) c.leave.result in
+    subst At (sym c.in-Have.is) (as_reacts c.args.self.now _ c.args.mark _ _ _ _ _ _ refl refl c.leave.ensures.answers)
