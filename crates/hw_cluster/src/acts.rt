@@ -9,16 +9,15 @@ ghost use Rattle.hw_types.specs.Real.{setting_of};
 ghost use Rattle.hw_types.specs.Spelling.{VertexFits, Fits};
 ghost use Rattle.hw_honest.specs.declared.cluster.Action.TheVariants as action;
 ghost use Rattle.hw_honest.specs.declared.cluster.Acted.TheVariants as acted;
-ghost use Rattle.hw_honest.specs.Cluster.{signed, value_at, answer_at, after_delivery, after_own, is_admitted, is_foreign, heard, outcome};
+ghost use Rattle.hw_honest.specs.Cluster.{signed, answer_at, after_delivery, after_own, is_admitted, is_foreign, heard, outcome};
 ghost use Rattle.hw_cluster.specs.Nodes.{nodes_of, state_of, HaveConfig, AllFit, AreNodes, CanAct, acted_in, left_by, plan_in};
 
 use crate::named::{Answer, NamedVertex};
 use hw_codec::digest_of;
 use hw_core::Core;
 use hw_honest::{Acted, Action};
-use hw_rounds::round_id;
-use hw_types::{Bytes, Config, OutOfMemory, Plan, PlanKind, Receipt, Vertex, WireUnit};
-use hw_validator::next_unit;
+use hw_types::{Config, OutOfMemory, Plan, PlanKind, Receipt, Vertex, WireUnit};
+use hw_validator::{next_unit_of, value_at};
 use std::alloc::Global;
 
 /// Does one action on the nodes of this configuration.
@@ -167,19 +166,6 @@ fn give_to(nodes: &mut Vec<Core>, node: u32, vertex: NamedVertex) -> Result<Answ
     vertex.give(&mut nodes[node as usize])
 }
 
-/// The value of a node's block: its number as four bytes, and its round as eight.
-fn value_at(alloc: Global, config: &Config, node: u32, now: u64) -> Result<Bytes, OutOfMemory>
-    requires lawful { config_fault config.now ≡ None }
-    requires now { now < 2 ^ 63 }
-    ensures value { IfOk result (λ value. value ≡ value_at (setting_of config.now) node now) }
-    ensures short { IfOk result (λ value. length value ≤ 4096) }
-{
-    let round = round_id(now, config.min_exponent);
-    let mut value = Vec::from_slice(alloc, &node.to_be_bytes())?;
-    value.extend_from_slice(&round.to_be_bytes())?;
-    Ok(Bytes::from_vec(value))
-}
-
 /// What the node, which has this configuration, may make at this moment.
 fn plan_of(
     alloc: Global,
@@ -197,7 +183,14 @@ fn plan_of(
     ensures fits { IfOk result (λ plan. IfSome plan (λ p. Fits p.unit)) }
 {
     let value = value_at(alloc, config, node, now)?;
-    next_unit(alloc, core.state(), node, now, value.as_slice())
+    next_unit_of(
+        alloc,
+        core.state(),
+        core.instance(),
+        node,
+        now,
+        value.as_slice(),
+    )
 }
 
 /// The unit with a signature of zero bytes, under its name.

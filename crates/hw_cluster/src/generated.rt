@@ -8,17 +8,17 @@ ghost use Rattle.hw_core.specs.Promises.{begun};
 ghost use Rattle.hw_honest.specs.Generated.{gen_config, gen_key, gen_journal, journal_of_rounds, AreTotals};
 ghost use Rattle.hw_cluster.specs.{Generating.{given, IsAfter}, Nodes.{AllFit}, Numbers.{word_in, totals_of}};
 
+use crate::drawn::drawn_config;
 use crate::lanes::Lanes;
 use crate::made::{ROUND, make_round};
 use crate::named::NamedVertex;
 use crate::nodes::begin;
 use crate::order::shuffle;
-use crate::simulated::ones;
 use crate::words::{Words, key_for};
 use hw_codec::instance_of;
 use hw_core::Core;
 use hw_rounds::LeaderTable;
-use hw_types::{Config, Leaders, OutOfMemory};
+use hw_types::{Config, OutOfMemory};
 use std::alloc::Global;
 
 /// So many validators make the units of a generated journal.
@@ -62,17 +62,7 @@ pub fn generate(alloc: Global, number: u64, rounds: u32) -> Result<GenSummary, O
 fn gen_config(alloc: Global, key: [u8; 32]) -> Result<Config, OutOfMemory>
     ensures { IfOk result (λ config. config ≡ gen_config key) }
 {
-    Ok(Config {
-        weights: ones(alloc, VALIDATORS)?,
-        ftt: 3,
-        levels: 3,
-        min_exponent: 4,
-        max_exponent: 8,
-        leaders: Leaders::Drawn(key),
-        max_records: 131_072,
-        max_parked: 4_096,
-        end: None,
-    })
+    drawn_config(alloc, key, VALIDATORS, 3, 3)
 }
 
 /// What came of what a node was given.

@@ -13,6 +13,7 @@
 
 mod acts;
 mod counts;
+mod drawn;
 mod generated;
 mod lanes;
 mod laws;

@@ -16,6 +16,7 @@ use hw_honest::{Acted, Action};
 use hw_types::{Config, OutOfMemory};
 use std::alloc::Global;
 use std::marker::Model;
+use std::mem::forget;
 
 /// Some honest validators, each with its node, and the vertices that were sent. Node i is validator i.
 ///
@@ -111,6 +112,11 @@ impl Cluster {
         ensures { IsMostDecisions (setting_of self.now.config) (nodes_in self.now) self.now.cluster result }
     {
         most_decisions(&self.nodes)
+    }
+
+    /// Leaves the memory of the nodes, and of what was sent, to the end of the process.
+    pub(crate) fn leave(self) {
+        forget(self)
     }
 }
 

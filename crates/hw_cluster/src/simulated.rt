@@ -6,11 +6,12 @@ ghost use Rattle.hw_honest.specs.Cluster.{Cluster as Nodes, begun, after, answer
 ghost use Rattle.hw_honest.specs.Simulated.{next_action, actions_from, is_refused, sim_config, sim_key, sim_setting, sim_actions, culprits_in, IsMostDecisions, AreNumbers};
 ghost use Rattle.hw_cluster.specs.{Nodes.{begun_with, nodes_in, acted_in, left_by}, Numbers.{word_in, numbers_of, action_at}};
 
+use crate::drawn::drawn_config;
 use crate::nodes::Cluster;
 use crate::words::{Words, key_for};
 use hw_admit::StateStart;
 use hw_honest::{Acted, Action};
-use hw_types::{Config, Leaders, OutOfMemory, WeightList};
+use hw_types::{Config, OutOfMemory};
 use std::alloc::Global;
 
 /// What came of a simulated run.
@@ -26,35 +27,13 @@ pub struct SimSummary {
     pub culprits: u32,
 }
 
-/// So many weights of 1.
-#[tactic(auto, using(std::proofs::lemmas::List::replicate_more))]
-pub fn ones(alloc: Global, count: u32) -> Result<WeightList, OutOfMemory>
-    ensures { IfOk result (λ weights. weights ≡ replicate count 1) }
-{
-    let mut weights = WeightList::new(alloc);
-    for _ in 0..count {
-        weights.push(1)?;
-    }
-    Ok(weights)
-}
-
 /// The configuration of a simulated run: so many validators of weight 1, of which less than a third may be faulty,
 /// two levels, rounds of 16 to 256 milliseconds, and leaders drawn by the key.
 fn sim_config(alloc: Global, key: [u8; 32], nodes: u32) -> Result<Config, OutOfMemory>
     requires { 1 ≤ nodes }
     ensures { IfOk result (λ config. config ≡ sim_config key nodes) }
 {
-    Ok(Config {
-        weights: ones(alloc, nodes)?,
-        ftt: u64::from((nodes - 1) / 3),
-        levels: 2,
-        min_exponent: 4,
-        max_exponent: 8,
-        leaders: Leaders::Drawn(key),
-        max_records: 131_072,
-        max_parked: 4_096,
-        end: None,
-    })
+    drawn_config(alloc, key, nodes, (nodes - 1) / 3, 2)
 }
 
 /// The nodes of a simulated run, which received nothing.
@@ -146,6 +125,8 @@ fn refusals(answer: Acted) -> u64
 /// those of ChaCha8's first stream. Step s takes two words x and y. Where x is even, or nothing was sent yet, node
 /// `y mod nodes` makes its unit at the moment `16 + s`; else it is given the sent vertex of number `x / 2`, modulo
 /// how many were sent. The culprits are counted among what was sent, and there are none.
+///
+/// The nodes' memory is left to the end of the process.
 pub fn simulate(
     alloc: Global,
     number: u64,
@@ -161,7 +142,12 @@ pub fn simulate(
     let key = key_for(b"sim", number);
     let mut cluster = begin(alloc, key, nodes)?;
     match run(&mut cluster, &mut Words::new(key), nodes, steps) {
-        Ok(refused) => Ok(summary(&cluster, refused)),
+        Ok(refused) => {
+            let ended = summary(&cluster, refused);
+            // The program that asks for this ends after it, and so the nodes' memory is left to that end.
+            cluster.leave();
+            Ok(ended)
+        }
         Err(OutOfMemory) => Err(OutOfMemory),
     }
 }

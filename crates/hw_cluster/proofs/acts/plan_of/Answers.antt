@@ -22,11 +22,11 @@ planned c o e =
 
 pub returns-clause-plan : goal.returns-clause-plan
 returns-clause-plan c =
-    if_ok c.next_unit.result (λ plan. plan ≡ step_of c.state.result.now c.args.node c.args.now c.as_slice.result.now) (λ plan. plan ≡ plan_in c.args.core.now c.args.node c.args.now) (planned c) c.next_unit.ensures.step
+    if_ok c.next_unit_of.result (λ plan. plan ≡ step_of c.state.result.now c.args.node c.args.now c.as_slice.result.now) (λ plan. plan ≡ plan_in c.args.core.now c.args.node c.args.now) (planned c) c.next_unit_of.ensures.step
 
 pub returns-clause-fits : goal.returns-clause-fits
 returns-clause-fits c =
-    if_ok c.next_unit.result (λ plan. plan ≡ step_of c.state.result.now c.args.node c.args.now c.as_slice.result.now) (λ plan. IfSome plan (λ p. Fits p.unit))
+    if_ok c.next_unit_of.result (λ plan. plan ≡ step_of c.state.result.now c.args.node c.args.now c.as_slice.result.now) (λ plan. IfSome plan (λ p. Fits p.unit))
     (λ o e. core_plan_fits c.args.core.now c.args.node c.args.now (subst (λ (k : Config). config_fault k ≡ None) (sym c.requires.config) c.requires.lawful)
     (subst (λ (k : Config). c.args.node < length k.weights) (sym c.requires.config) c.requires.node) c.requires.now c.requires.fit o (planned c o e))
-    c.next_unit.ensures.step
+    c.next_unit_of.ensures.step

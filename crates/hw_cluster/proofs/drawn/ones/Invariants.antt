@@ -1,5 +1,5 @@
 use Rattle.std.proofs.Common.{◌≡◌, replicate}
-use Rattle.hw_cluster.proofs.simulated.ones.Given as goal
+use Rattle.hw_cluster.proofs.drawn.ones.Given as goal
 
 -- the weights so far
 abbrev pub invariant-loop : goal.invariant-loop
