@@ -1,5 +1,5 @@
 -- Lines behind the settings, one after the other.
-use Rattle.std.proofs.Common.{◌≡◌, ℕ, List, [], ◌∷◌, Option, Some, None, Result, Ok, Err, refl, sym, ap, ◌∙◌}
+use Rattle.std.proofs.Common.{◌≡◌, ℕ, List, [], ◌∷◌, Option, Some, None, Result, Ok, Err, refl, ap, ◌∙◌}
 use Rattle.hw_types.specs.Journal.{Setting}
 use Rattle.hw_script_grammar.specs.declared.lines.Line.{Line}
 use Rattle.hw_script_grammar.specs.declared.body.Said.{Said}

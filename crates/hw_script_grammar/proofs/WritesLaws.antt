@@ -8,7 +8,6 @@ use Rattle.hw_script_grammar.specs.declared.lines.Line.{Line}
 use Rattle.hw_script_grammar.specs.declared.head.Settings.{Settings}
 use Rattle.hw_script_grammar.specs.declared.head.Head.{Head}
 use Rattle.hw_script_grammar.specs.declared.body.Said.{Said}
-use Rattle.hw_script_grammar.specs.declared.fault.Fault.TheVariants as fault
 use Rattle.hw_script_grammar.specs.declared.script.Script.{Script}
 use Rattle.hw_script_grammar.specs.Wording.{is_setting}
 use Rattle.hw_script_grammar.specs.Texts.{texts_of}

@@ -1,4 +1,4 @@
-use Rattle.std.proofs.Common.{◌≡◌, List, sym, ap, ◌∙◌}
+use Rattle.std.proofs.Common.{List, sym, ap, ◌∙◌}
 use Rattle.hw_script_grammar.specs.declared.named.Named.{Named}
 use Rattle.hw_script_grammar.specs.Names.{has_unit}
 use Rattle.hw_script_grammar.proofs.PlaceLaws.{unit_nowhere}

@@ -1,4 +1,4 @@
-use Rattle.std.proofs.Common.{◌≡◌, List, ap, ◌∙◌}
+use Rattle.std.proofs.Common.{List, ap, ◌∙◌}
 use Rattle.hw_script_grammar.specs.declared.named.Named.{Named}
 use Rattle.hw_script_grammar.specs.Names.{is_taken}
 use Rattle.hw_script_grammar.proofs.PlaceLaws.{taken_placed}
