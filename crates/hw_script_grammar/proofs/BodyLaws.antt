@@ -1,5 +1,5 @@
 -- Lines behind the settings, one after the other.
-use Rattle.std.proofs.Common.{◌≡◌, ℕ, List, [], ◌∷◌, Option, Some, None, Result, Ok, Err, refl, sym, ap, ◌∙◌}
+use Rattle.std.proofs.Common.{◌≡◌, ℕ, List, [], ◌∷◌, Option, Some, None, Result, Ok, Err, refl, ap, ◌∙◌}
 use Rattle.hw_types.specs.Journal.{Setting}
 use Rattle.hw_script_grammar.specs.declared.lines.Line.{Line}
 use Rattle.hw_script_grammar.specs.declared.body.Said.{Said}
@@ -23,7 +23,7 @@ of_line s said l ls more is = go (with_line s said l.words) ∙ ap (step s l.num
   go (Some m) = refl
 
 -- one more line
-one_more : (s : Setting) (said more : Said) (lines ls : List Line) (l : Line) → lines ≡ l ∷ ls → with_line s said l.words ≡ Some more → lines_add s said lines ≡ lines_add s more ls
+pub one_more : (s : Setting) (said more : Said) (lines ls : List Line) (l : Line) → lines ≡ l ∷ ls → with_line s said l.words ≡ Some more → lines_add s said lines ≡ lines_add s more ls
 unfolding step
 one_more s said more lines ls l at is = ap (lines_add s said) at ∙ of_line s said l ls (Some more) is
 
@@ -36,10 +36,14 @@ added s said l more is = ap (λ (o : Option Adds). o >>= λ adds. Some (with_mor
 pub one_added : (s : Setting) (said : Said) (adds : Adds) (lines ls : List Line) (l : Line) → lines ≡ l ∷ ls → line_adds s said.names l.words ≡ Some adds → lines_add s said lines ≡ lines_add s (with_more said adds) ls
 one_added s said adds lines ls l at is = one_more s said (with_more said adds) lines ls l at (added s said l (Some adds) is)
 
+-- a line that is wrong
+pub line_wrong : (s : Setting) (said : Said) (lines ls : List Line) (l : Line) → lines ≡ l ∷ ls → with_line s said l.words ≡ None → lines_add s said lines ≡ Err l.number
+unfolding step
+line_wrong s said lines ls l at is = ap (lines_add s said) at ∙ of_line s said l ls None is
+
 -- a line that is wrong, or there is no memory
 pub line_fails : (fault : Fault) (s : Setting) (said : Said) (lines ls : List Line) (l : Line) → lines ≡ l ∷ ls → Fails fault (line_adds s said.names l.words) → Stops (in_line l.number fault) (lines_add s said lines)
-unfolding step
-line_fails fault.Grammar s said lines ls l at fails = ap (lines_add s said) at ∙ of_line s said l ls None (added s said l None fails)
+line_fails fault.Grammar s said lines ls l at fails = line_wrong s said lines ls l at (added s said l None fails)
 line_fails fault.OutOfMemory s said lines ls l at fails = tt
 
 -- all lines are read

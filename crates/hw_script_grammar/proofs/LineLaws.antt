@@ -1,5 +1,5 @@
 -- Lines, one after the other.
-use Rattle.std.proofs.Common.{◌≡◌, ℕ, ◌+◌, List, [], ◌∷◌, refl, sym, ap, ◌∙◌}
+use Rattle.std.proofs.Common.{◌≡◌, ℕ, ◌+◌, List, [], ◌∷◌, sym, ap, ◌∙◌}
 use Rattle.hw_script_grammar.specs.Texts.{Rest}
 use Rattle.std.specs.Prelude.{true, false, if◌then◌else◌}
 use Rattle.hw_script_grammar.specs.Words.{words_of}

@@ -1,7 +1,7 @@
 -- Bytes cut at the first byte of a kind.
-use Rattle.std.proofs.Common.{◌≡◌, ℕ, ◌+◌, ◌<◌, ◌≤◌, List, [], ◌∷◌, Bool, true, false, cond, length, take, drop, Option, Some, None, refl, sym, ap, ◌∙◌, subst, arith}
+use Rattle.std.proofs.Common.{◌≡◌, ℕ, ◌+◌, ◌<◌, ◌≤◌, List, [], ◌∷◌, Bool, true, false, cond, length, take, drop, Option, Some, None, refl, ap, ◌∙◌, arith}
 use Rattle.std.specs.Prelude.{nat_lt, ◌==◌}
-use Rattle.std.specs.List.{slice_split, onto_first, position, position_or_len, All}
+use Rattle.std.specs.List.{slice_split, onto_first, position, position_or_len}
 use Rattle.hw_script_grammar.specs.Words.{is_end, pieces}
 use Rattle.hw_script_grammar.specs.Texts.{without_last_empty}
 use Rattle.std.proofs.lemmas.Bool.{ltb-false, ltb-true}

@@ -4,16 +4,15 @@ use Rattle.std.specs.Prelude.{◌||◌, find, slice_get, bytes_eq, IfSome}
 use Rattle.std.specs.List.{list_any}
 use Rattle.std.specs.Map.{lookup, KeepsOthers}
 use Rattle.std.specs.Option.{unwrap_or, option_map}
-use Rattle.std.specs.Ordering.{is_eq, nat_cmp, eq_by_cmp}
+use Rattle.std.specs.Ordering.{is_eq, nat_cmp}
 use Rattle.std.specs.Cmp.{eq_by_cmp_equiv}
 use Rattle.std.specs.Cmp.Lexicographic.{slice_cmp, bytes_decides, nat_list_cmp_total, nat_list_eq_equiv}
-use Rattle.std.specs.BTreeMap.{BTreeMap, get, is_at, Updates}
+use Rattle.std.specs.BTreeMap.{BTreeMap, get, Updates}
 use Rattle.std.specs.declared.vec.Vec.{Vec}
 use Rattle.std.specs.declared.alloc.Global.{Global}
 use Rattle.std.proofs.lemmas.Map.Text.{is_eq-slice_cmp}
 use Rattle.hw_types.specs.declared.unit.Digest.{Digest}
 use Rattle.hw_types.specs.declared.unit.WireUnit.{WireUnit}
-use Rattle.hw_types.specs.Graph.{digest_eq}
 use Rattle.hw_types.specs.Same.{unit_eq}
 use Rattle.hw_types.specs.Spelling.{digest_of}
 use Rattle.hw_types.proofs.OrderLaws.{unit_same}
@@ -44,25 +43,26 @@ module _ {X : Type 0} (p : X → Bool) where
   -- the one at the place is the first that passes
   found_there : (xs : List X) (i : ℕ) → place_of p xs ≡ Some i → (i < length xs) × (find p xs ≡ slice_get xs i)
   found_there [] i at = absurd cc
-  found_there (x ∷ xs) i at = go (p x) (place_of p xs) refl at
+  found_there (x ∷ xs) i at = go (p x) (place_of p xs) (found_there xs) refl at
     where
-      go : (b : Bool) (o : Option ℕ) → place_of p xs ≡ o → cond b (Some 0) (option_map suc o) ≡ Some i → (i < length (x ∷ xs)) × (cond b (Some x) (find p xs) ≡ slice_get (x ∷ xs) i)
-      go true o is at = let first : 0 ≡ i = cc in subst (λ (j : ℕ). (j < length (x ∷ xs)) × (Some x ≡ slice_get (x ∷ xs) j)) first (omega arith, refl)
-      go false None is at = absurd cc
-      go false (Some j) is at =
-          let later = found_there xs j is in
+      go : (b : Bool) (o : Option ℕ) → ((j : ℕ) → place_of p xs ≡ Some j → (j < length xs) × (find p xs ≡ slice_get xs j)) → place_of p xs ≡ o → cond b (Some 0) (option_map suc o) ≡ Some i
+          → (i < length (x ∷ xs)) × (cond b (Some x) (find p xs) ≡ slice_get (x ∷ xs) i)
+      go true o rest is at = let first : 0 ≡ i = cc in subst (λ (j : ℕ). (j < length (x ∷ xs)) × (Some x ≡ slice_get (x ∷ xs) j)) first (omega arith, refl)
+      go false None rest is at = absurd cc
+      go false (Some j) rest is at =
+          let later = rest j is in
           let next : suc j ≡ i = cc in
           subst (λ (k : ℕ). (k < length (x ∷ xs)) × (find p xs ≡ slice_get (x ∷ xs) k)) next (omega (arith, later.0), later.1)
 
   -- where there is no place, none passes
   found_nowhere : (xs : List X) → place_of p xs ≡ None → find p xs ≡ None
   found_nowhere [] at = refl
-  found_nowhere (x ∷ xs) at = go (p x) (place_of p xs) refl at
+  found_nowhere (x ∷ xs) at = go (p x) (place_of p xs) (found_nowhere xs) refl at
     where
-      go : (b : Bool) (o : Option ℕ) → place_of p xs ≡ o → cond b (Some 0) (option_map suc o) ≡ None → cond b (Some x) (find p xs) ≡ None
-      go true o is at = absurd cc
-      go false None is at = found_nowhere xs is
-      go false (Some j) is at = absurd cc
+      go : (b : Bool) (o : Option ℕ) → (place_of p xs ≡ None → find p xs ≡ None) → place_of p xs ≡ o → cond b (Some 0) (option_map suc o) ≡ None → cond b (Some x) (find p xs) ≡ None
+      go true o rest is at = absurd cc
+      go false None rest is at = rest is
+      go false (Some j) rest is at = absurd cc
 
   any_placed : (xs : List X) → is_some (place_of p xs) ≡ list_any p xs
   any_placed [] = refl

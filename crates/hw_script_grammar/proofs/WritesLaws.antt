@@ -8,7 +8,6 @@ use Rattle.hw_script_grammar.specs.declared.lines.Line.{Line}
 use Rattle.hw_script_grammar.specs.declared.head.Settings.{Settings}
 use Rattle.hw_script_grammar.specs.declared.head.Head.{Head}
 use Rattle.hw_script_grammar.specs.declared.body.Said.{Said}
-use Rattle.hw_script_grammar.specs.declared.fault.Fault.TheVariants as fault
 use Rattle.hw_script_grammar.specs.declared.script.Script.{Script}
 use Rattle.hw_script_grammar.specs.Wording.{is_setting}
 use Rattle.hw_script_grammar.specs.Texts.{texts_of}
@@ -84,7 +83,7 @@ body_says s said (l ∷ ls) = go (with_line s said l.words) refl (λ next. body_
     go : (o : Option Said) → with_line s said l.words ≡ o → ((next : Said) → BodySays s next ls (lines_add s next ls)) → BodySays s said (l ∷ ls) (lines_add s said (l ∷ ls))
     go (Some next) adds more = subst (BodySays s said (l ∷ ls)) (sym (BodyLaws.one_more s said next (l ∷ ls) ls l refl adds))
         (behind_it s said next l ls (lines_add s next ls) (LineReadLaws.more_is s said l next adds) (more next))
-    go None adds more = subst (BodySays s said (l ∷ ls)) (sym (BodyLaws.line_fails fault.Grammar s said (l ∷ ls) ls l refl adds))
+    go None adds more = subst (BodySays s said (l ∷ ls)) (sym (BodyLaws.line_wrong s said (l ∷ ls) ls l refl adds))
         ([], l, ls, said, refl, refl, (λ says. none_is_some (with_line s said l.words) says.0 adds (LineReadLaws.more_there s said l says.0 says.1)), refl)
 
 said_there : (s : Setting) (said : Said) (before behind : List Line) (end : Said) → SayAll s said before end → lines_add s said (before ++ behind) ≡ lines_add s end behind
@@ -210,7 +209,7 @@ module _ (setting : Config → Setting) (text : List ℕ) where
       bound_ok _ _ (head_at t (last_number head), before ++ l ∷ behind) _ (parted_there head t (before ++ l ∷ behind) parted)
       (bound_ok _ _ config _ (config_there (number_behind text) (last_number head) (before ++ l ∷ behind) t config is)
       (bound_err _ _ l.number
-      (said_there (setting config) nothing_said before (l ∷ behind) said all ∙ BodyLaws.line_fails fault.Grammar (setting config) said (l ∷ behind) behind l refl (not_said (setting config) said l wrong))))
+      (said_there (setting config) nothing_said before (l ∷ behind) said all ∙ BodyLaws.line_wrong (setting config) said (l ∷ behind) behind l refl (not_said (setting config) said l wrong))))
       ∙ ap Err (sym number)
 
   pub written_is : (script : Script) → script_in setting text ≡ Ok script → WritesIn setting text script

@@ -1,12 +1,9 @@
 -- What the lines of a script define and do.
 -- Grammar takes `delivery_of`, `endorsements_of` and `shown_by` from here; the rest is for the prover: the reader's steps.
 -- Source: ours.
-use Rattle.std.specs.Prelude.{ℕ, ◌+◌, ◌^◌, List, [], ◌∷◌, ◌++◌, length, map, codes, bytes_eq, Option, Some, None, Result, Ok, Err, if◌then◌else◌}
+use Rattle.std.specs.Prelude.{ℕ, ◌^◌, List, [], ◌∷◌, map, codes, bytes_eq, Option, Some, None, if◌then◌else◌}
 use Rattle.hw_types.specs.declared.unit.Digest.{Digest}
-use Rattle.hw_types.specs.declared.config.Config.{Config}
 use Rattle.hw_types.specs.Journal.{Setting}
-use Rattle.hw_types.specs.Real.{setting_of}
-use Rattle.hw_script_grammar.specs.declared.lines.Line.{Line}
 use Rattle.hw_script_grammar.specs.declared.named.Named.{Named}
 use Rattle.hw_script_grammar.specs.declared.acts.Act.{Act}
 use Rattle.hw_script_grammar.specs.declared.acts.Act.TheVariants as act
@@ -15,7 +12,7 @@ use Rattle.hw_script_grammar.specs.declared.adds.Adds.TheVariants as adds
 use Rattle.hw_script_grammar.specs.declared.adds.LineKind.{LineKind}
 use Rattle.hw_script_grammar.specs.declared.adds.LineKind.TheVariants as kind
 use Rattle.hw_script_grammar.specs.Numbers.{number_below}
-use Rattle.hw_script_grammar.specs.Words.{Word, ◌>>=◌, next_word, keyword, each, one_or_more, nothing_more}
+use Rattle.hw_script_grammar.specs.Words.{Word, ◌>>=◌, next_word, keyword, one_or_more, nothing_more}
 use Rattle.hw_script_grammar.specs.Names.{NamedFits, named_as, digest_as}
 use Rattle.hw_script_grammar.specs.Units.{unit_line, evidence_line}
 

@@ -1,10 +1,10 @@
 -- The lines that count.
 -- Source: ours.
-use Rattle.std.specs.Prelude.{ℕ, ◌+◌, ◌==◌, Bool, true, false, List, [], ◌∷◌, length, Option, Some, None, if◌then◌else◌}
+use Rattle.std.specs.Prelude.{ℕ, ◌+◌, ◌==◌, Bool, true, false, List, [], ◌∷◌, if◌then◌else◌}
 use Rattle.hw_script_grammar.specs.declared.lines.Line.{Line}
-use Rattle.hw_script_grammar.specs.Words.{Word, pieces, words_of}
+use Rattle.hw_script_grammar.specs.Words.{words_of}
 use Rattle.hw_script_grammar.specs.Wording.{is_setting}
-use Rattle.hw_script_grammar.specs.Texts.{Rest, texts_of}
+use Rattle.hw_script_grammar.specs.Texts.{Rest}
 
 -- an empty line, or one that begins with #
 abbrev pub is_skipped : List ℕ → Bool

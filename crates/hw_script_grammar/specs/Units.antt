@@ -1,9 +1,8 @@
 -- Lines that define units and evidence.
 -- Grammar takes `citation_of`, `unit_number` and `in_order` from here; the rest is for the prover: the reader's steps.
 -- Source: ours.
-use Rattle.std.specs.Prelude.{ℕ, ◌+◌, ◌^◌, nat_le, nat_lt, not, ◌&&◌, List, [], ◌∷◌, ◌++◌, length, map, fold, codes, bytes_eq, slice_get, Option, Some, None, if◌then◌else◌}
+use Rattle.std.specs.Prelude.{ℕ, ◌+◌, ◌^◌, nat_le, nat_lt, not, ◌&&◌, List, [], ◌∷◌, length, map, fold, codes, bytes_eq, slice_get, Option, Some, None, if◌then◌else◌}
 use Rattle.hw_types.specs.declared.unit.Digest.{Digest}
-use Rattle.hw_types.specs.declared.unit.Obs.{Obs}
 use Rattle.hw_types.specs.declared.unit.Obs.TheVariants.{Absent, Correct, Faulty}
 use Rattle.hw_types.specs.declared.unit.WireUnit.{WireUnit}
 use Rattle.hw_types.specs.declared.unit.Vertex.TheVariants as vertex
@@ -14,7 +13,7 @@ use Rattle.hw_script_grammar.specs.declared.citation.Citation.{Citation}
 use Rattle.hw_script_grammar.specs.declared.unit.UnitNumbers.{UnitNumbers}
 use Rattle.hw_script_grammar.specs.Words.{Word, Read, ◌>>=◌, next_word, keyword, optional, number, number_behind, one_or_more, next_each, nothing_more, is_end}
 use Rattle.hw_script_grammar.specs.Wording.{is_name, is_value}
-use Rattle.hw_script_grammar.specs.Names.{named_as, is_taken, unit_as, digest_as, has_unit, unsigned}
+use Rattle.hw_script_grammar.specs.Names.{is_taken, unit_as, digest_as, has_unit, unsigned}
 
 -- a name that isn't taken
 unfoldable pub new_name : List Named → List Word → Read Word

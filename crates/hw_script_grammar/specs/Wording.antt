@@ -1,6 +1,6 @@
 -- Names, values, and the words that are neither.
 -- Source: ours.
-use Rattle.std.specs.Prelude.{ℕ, nat_le, nat_lt, Bool, false, not, ◌&&◌, ◌||◌, ◌==◌, List, [], ◌∷◌, length, codes, bytes_eq}
+use Rattle.std.specs.Prelude.{ℕ, nat_le, nat_lt, Bool, false, not, ◌&&◌, ◌||◌, List, [], ◌∷◌, length, codes, bytes_eq}
 use Rattle.std.specs.List.{list_any, list_all}
 use Rattle.hw_script_grammar.specs.Numbers.{is_digit}
 use Rattle.hw_script_grammar.specs.Words.{Word, words_of}

@@ -1,7 +1,7 @@
 -- The words of a line, and reading them one after the other.
 -- Grammar takes `Word`, `words_of`, `each` and `one_or_more` from here; the rest is for the prover: the reader's steps.
 -- Source: ours.
-use Rattle.std.specs.Prelude.{◌≡◌, ℕ, zero, suc, Bool, true, false, ◌==◌, List, [], ◌∷◌, drop, bytes_eq, Option, Some, None, if◌then◌else◌}
+use Rattle.std.specs.Prelude.{ℕ, zero, suc, Bool, true, false, ◌==◌, List, [], ◌∷◌, drop, bytes_eq, Option, Some, None, if◌then◌else◌}
 use Rattle.std.specs.List.{slice_split}
 use Rattle.hw_script_grammar.specs.Numbers.{number_below}
 

@@ -56,7 +56,7 @@ fn next_citations(
 }
 
 /// A dash, an exclamation mark, or the name of a unit.
-#[tactic(auto, unfolding(crate::specs::Units::citation_of))]
+#[tactic(auto, unfolding(crate::specs::Units::citation_of, crate::specs::Names::digest_as, crate::specs::Names::unit_as))]
 fn citation_of(names: &Names, word: &[u8]) -> Option<Citation>
     ensures { result ≡ citation_of names.now word.now }
 {

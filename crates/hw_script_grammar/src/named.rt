@@ -2,7 +2,7 @@
 
 ghost use Rattle.std.specs.{Prelude.{◌≡◌, IfOk, IfSome}, Option.{option_copied}};
 ghost use Rattle.hw_types.specs.{Same.{unit_eq}, Spelling.{Fits, VertexFits}};
-ghost use Rattle.hw_script_grammar.specs.Names.{has_name, is_digest, is_unit, unit_in, unsigned};
+ghost use Rattle.hw_script_grammar.specs.Names.{is_unit, unit_in, unsigned};
 
 use hw_types::{Bytes, Digest, OutOfMemory, Signature, SignedUnit, Vertex, WireUnit, is_same_unit};
 
@@ -30,13 +30,6 @@ impl Named {
         })
     }
 
-    /// Whether it has this name.
-    pub(crate) fn has_name(&self, name: &[u8]) -> bool
-        ensures { result ≡ has_name name.now self.now }
-    {
-        self.name.as_slice() == name
-    }
-
     /// Its unit, where it is one.
     pub(crate) fn unit(&self) -> Option<&WireUnit>
         ensures unit { option_copied result ≡ unit_in self.now.vertex }
@@ -45,16 +38,6 @@ impl Named {
         match &self.vertex {
             Vertex::Unit(signed) => Some(&signed.unit),
             Vertex::Evidence(_) | Vertex::Endorsement(_) => None,
-        }
-    }
-
-    /// Whether it is the unit of this digest.
-    pub(crate) fn has_digest(&self, digest: &Digest) -> bool
-        ensures { result ≡ is_digest digest.now self.now.digest }
-    {
-        match &self.digest {
-            None => false,
-            Some(own) => own == digest,
         }
     }
 

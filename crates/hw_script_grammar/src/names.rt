@@ -46,7 +46,6 @@ impl Names {
     }
 
     /// The same with one more definition, which stands last.
-    #[tactic(auto, using(crate::proofs::FitLaws::fit_more, crate::proofs::PlaceLaws::names_more, crate::proofs::PlaceLaws::digests_more))]
     pub(crate) fn with_definition(self, named: Named) -> Result<Names, OutOfMemory>
         requires { NamedFits named }
         ensures { IfOk result (λ names. names ≡ self ++ named ∷ []) }
@@ -68,7 +67,6 @@ impl Names {
     }
 
     /// What is defined under the name.
-    #[tactic(auto, using(crate::proofs::FitLaws::fit_as, crate::proofs::PlaceLaws::named_there, crate::proofs::PlaceLaws::named_nowhere))]
     pub(crate) fn get(&self, name: &[u8]) -> Option<&Named>
         ensures named { option_copied result ≡ named_as self.now name.now }
         ensures fits { IfSome result (λ named. VertexFits named.now.vertex) }
@@ -78,7 +76,6 @@ impl Names {
     }
 
     /// Whether something is defined under the name.
-    #[tactic(auto, using(crate::proofs::PlaceLaws::taken_placed))]
     pub(crate) fn is_taken(&self, name: &[u8]) -> bool
         ensures { result ≡ is_taken self.now name.now }
     {
@@ -109,7 +106,6 @@ impl Names {
     }
 
     /// The name under which the unit of this digest is defined, empty where there is none.
-    #[tactic(auto, using(crate::proofs::PlaceLaws::digest_there, crate::proofs::PlaceLaws::digest_nowhere))]
     pub fn name_of(&self, digest: &Digest) -> &[u8]
         ensures { result.now ≡ name_of self.now digest.now }
     {
@@ -121,7 +117,7 @@ impl Names {
 
     /// Whether this unit, which has this digest, is defined. The units are gone through only where one has
     /// the digest, and so once at most where no two units share one.
-    #[tactic(auto, using(crate::proofs::PlaceLaws::unit_nowhere), unfolding(crate::specs::Names::has_unit))]
+    #[tactic(auto, unfolding(crate::specs::Names::has_unit))]
     pub(crate) fn has_unit(&self, unit: &WireUnit, digest: &Digest) -> bool
         requires { digest.now ≡ digest_of unit.now }
         ensures { result ≡ has_unit self.now unit.now }

@@ -10,4 +10,4 @@ instance_of-requires c = config_fits c.args.config.now c.requires
 pub returns-in-Err : goal.returns-in-Err
 returns-in-Err c =
     rw c.in_line.ensures (rw (← c.loop-line.invariant)
-    (line_fails c.in-Err.fault (setting_of c.args.config.now) c.loop-line.said (lines_in c.loop-line.lines) (lines_in c.next.new.self) c.in-Some.line c.in-Some.ensures.line c.in-Err.ensures))
+    (line_fails c.in-Err.fault (setting_of c.args.config.now) c.loop-line.said (lines_in c.loop-line.lines) (lines_in c.next.new.self) c.in-Some.line c.in-Some.ensures.line c.in-Err.ensures.adds))

@@ -1,5 +1,4 @@
-use Rattle.std.proofs.Common.{◌≡◌, ◌∷◌, ◌++◌, ◌+◌, [], length, Some, sym, ap, ◌∙◌, arith, length-append}
-use Rattle.hw_script_grammar.specs.declared.citation.Citation.{Citation}
+use Rattle.std.proofs.Common.{◌+◌, sym, ap, ◌∙◌, length-append}
 use Rattle.hw_script_grammar.specs.Units.{citation_of}
 use Rattle.hw_script_grammar.proofs.NextLaws.{goes_on}
 use Rattle.hw_script_grammar.proofs.citation.next_citations.Goals as goal

@@ -1,5 +1,4 @@
-use Rattle.std.proofs.Common.{◌≡◌, length, map, sym, ap, ◌∙◌, subst, ◌≤◌}
-use Rattle.hw_types.specs.declared.unit.Obs.{Obs}
+use Rattle.std.proofs.Common.{◌≡◌, length, map, ap, ◌∙◌}
 use Rattle.hw_script_grammar.specs.declared.citation.Citation.{Citation}
 use Rattle.hw_script_grammar.proofs.FormatLaws.{panorama_fits}
 use Rattle.hw_script_grammar.proofs.unit.unit_behind.Goals as goal
