@@ -1,6 +1,6 @@
 -- A node that meets peers, and then reports.
 -- Source: ours.
-use Rattle.std.specs.Prelude.{◌≡◌, ℕ, Bool, List, codes, Result}
+use Rattle.std.specs.Prelude.{◌≡◌, ℕ, Bool, List, codes, None, Result}
 use Rattle.hw_link.specs.declared.end.SessionEnd.{SessionEnd}
 use Rattle.hw_replay.specs.Fates.{Sight}
 use Rattle.hw_meeting_node.specs.declared.end.MeetEnd.{MeetEnd}

@@ -1,6 +1,6 @@
 -- A node that serves so many sessions, one after the other, and then reports.
 -- Source: ours.
-use Rattle.std.specs.Prelude.{◌⊎◌, ℕ, Bool, codes, Result}
+use Rattle.std.specs.Prelude.{◌⊎◌, ℕ, Bool, codes, None, Result}
 use Rattle.hw_link.specs.declared.end.SessionEnd.{SessionEnd}
 use Rattle.hw_replay.specs.Fates.{Sight}
 use Rattle.hw_session.specs.Sessions.{ServesPeer, ServesNone}
