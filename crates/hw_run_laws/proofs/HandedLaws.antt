@@ -14,6 +14,7 @@ use Rattle.hw_session.specs.Accept.{given_to, taken_by, Accepts, WritesAccepted}
 use Rattle.hw_session.specs.Grows.{Logs}
 use Rattle.hw_session.specs.Handling.{Stayed, Took, WasCut, Reacts}
 use Rattle.hw_session.specs.Restart.{HasLog}
+use Rattle.hw_session.specs.Standing.{standing}
 use Rattle.hw_session.proofs.ConfigLaws.{taken_config}
 use Rattle.hw_session.proofs.GrowsLaws.{logs_nothing}
 use Rattle.hw_session.proofs.ReactLaws.{accepted_logs, refused_logs, append_failed, memory_wanted}
@@ -60,7 +61,7 @@ module _ (n m : NodeState) (v : Vertex) where
       abbrev reaction : Reaction NodeState
       reaction = goes_on (taken_by n v given) []
 
-      left_cut : WasCut n (frame.Vertex v) reaction m true old new None None → Left
+      left_cut : WasCut true (standing n old) (frame.Vertex v) reaction (standing m new) None None → Left
       left_cut s = inr (record {
         before = n;
         vertex = s.vertex;
@@ -70,17 +71,17 @@ module _ (n m : NodeState) (v : Vertex) where
         log = cut n true old new refl has n m s.vertex refl s.logs;
       })
 
-      left_stayed : Stayed n m true old new None None → Left
+      left_stayed : Stayed true (standing n old) (standing m new) None None → Left
       left_stayed s =
           inl (
             subst (λ (k : NodeState). TakesSome n (v ∷ []) k) (sym s.state) (takes_none n (v ∷ [])),
             stands n true old new refl has m (ap (λ (k : NodeState). k.core.config) s.state) (subst (λ (k : NodeState). Logs n k true old new) (sym s.state) (logs_nothing true n old new s.files)),
           )
 
-      left_took : {sent : List ℕ} {failed : Bool} → Took n reaction sent failed m true old new None None → Left
+      left_took : {sent : List ℕ} {failed : Bool} → Took true (standing n old) reaction sent failed (standing m new) None None → Left
       left_took s = inl (takes_one n m v [] s.state, keeps s.state s.logs)
 
-      left_wanting : Reacts {T = Unit {0}} n (frame.Vertex v) reaction m true old new None None (Err end.OutOfMemory) → Left
+      left_wanting : Reacts {T = Unit {0}} true (standing n old) (frame.Vertex v) reaction (standing m new) None None (Err end.OutOfMemory) → Left
       left_wanting (inl s) = left_stayed s
       left_wanting (inr (inl s)) = left_took s.2
       left_wanting (inr (inr s)) = left_cut s
