@@ -8,15 +8,11 @@ use crate::codes::{Fault, OK, status_of};
 use crate::put::copy_bytes;
 use hw_codec::{decode_unit, digest_of, encode_unit, encode_vertex, fits};
 use hw_core::Core;
-use hw_types::{Bytes, OutOfMemory, Plan, PlanKind, Signature, SignedUnit, Vertex};
+use hw_types::{
+    Bytes, END_OF_TIME, MAX_VALUE, OutOfMemory, Plan, PlanKind, Signature, SignedUnit, Vertex,
+};
 use hw_validator::next_unit;
 use std::alloc::Global;
-
-/// The end of time, in milliseconds.
-const END_OF_TIME: u64 = 1 << 63;
-
-/// The most bytes of a value.
-const LONGEST_VALUE: usize = 4096;
 
 /// What a planned unit is for, how many bytes it has without a signature, and what its creator signs.
 #[repr(C)]
@@ -83,7 +79,7 @@ pub fn next(alloc: Global, core: &Core, me: u32, now: u64, value: &[u8]) -> Resu
     if me as usize >= core.state().config().weights.len() {
         return Err(Fault::OutOfRange);
     }
-    if now >= END_OF_TIME || value.len() > LONGEST_VALUE {
+    if now >= END_OF_TIME || value.len() > MAX_VALUE {
         return Err(Fault::OutOfRange);
     }
     let Some(plan) = planned_unit(alloc, core, me, now, value)? else {

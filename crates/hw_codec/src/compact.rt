@@ -13,9 +13,10 @@ use crate::encoding::encode_vertex;
 use crate::field::{Field, list_len, put_list, read_list};
 use crate::last::{Last, due, last_by};
 use crate::reader::Reader;
-use crate::unit::{MAX_ENDORSED, MAX_OBSERVATIONS, put_value, read_time, read_value, value_len};
+use crate::unit::{put_value, read_time, read_value, value_len};
 use hw_types::{
-    Bytes, CodecError, Items, Obs, ObsList, OutOfMemory, Signature, SignedUnit, Vertex, WireUnit,
+    Bytes, CodecError, Items, MAX_LIST, MAX_VALIDATORS, Obs, ObsList, OutOfMemory, Signature,
+    SignedUnit, Vertex, WireUnit,
 };
 use std::alloc::Global;
 
@@ -176,7 +177,7 @@ fn read_told(
     let exponent = reader.u8()?;
     let panorama = read_panorama(creator, last, reader)?;
     let value = read_value(alloc, reader)?;
-    let endorsed = read_list(alloc, MAX_ENDORSED, reader)?;
+    let endorsed = read_list(alloc, MAX_LIST as u32, reader)?;
     let signature = Signature(reader.array()?);
     let unit = WireUnit {
         instance: last.instance(),
@@ -198,7 +199,7 @@ fn read_panorama(creator: u32, last: &Last, reader: &mut Reader<'_>) -> Result<O
     ensures read { Gives (λ panorama. (panorama, reader.new)) result (panorama_at creator last.now reader.old) }
     ensures limit { IfOk result (λ panorama. length panorama ≤ 1024) }
 {
-    let count = reader.count(MAX_OBSERVATIONS)?;
+    let count = reader.count(MAX_VALIDATORS as u32)?;
     let mut panorama = last.base(creator)?;
     read_changes(creator, count, panorama.as_mut_slice(), reader)?;
     Ok(ObsList::from_vec(panorama).shared()?)

@@ -6,14 +6,8 @@ ghost use Rattle.hw_types.specs.Spelling.{leaders_bytes, end_bytes, config_bytes
 
 use crate::field::{Field, list_len, put_list, read_list};
 use crate::reader::Reader;
-use hw_types::{CodecError, Config, Leaders, OutOfMemory};
+use hw_types::{CodecError, Config, Leaders, MAX_LEADERS, MAX_VALIDATORS, OutOfMemory};
 use std::alloc::Global;
-
-/// The most weights, one for each validator.
-const MAX_WEIGHTS: u32 = 1_024;
-
-/// The most entries of a table of leaders.
-const MAX_ENTRIES: u32 = 4_096;
 
 /// The version of a configuration without an end.
 const ENDLESS: u8 = 1;
@@ -26,7 +20,7 @@ pub(crate) fn read_config(alloc: Global, reader: &mut Reader<'_>) -> Result<Conf
     ensures { Gives (λ config. (config, reader.new)) result (config_at reader.old) }
 {
     let version = read_version(reader)?;
-    let weights = read_list(alloc, MAX_WEIGHTS, reader)?;
+    let weights = read_list(alloc, MAX_VALIDATORS as u32, reader)?;
     let ftt = reader.u64()?;
     let levels = reader.u8()?;
     let min_exponent = reader.u8()?;
@@ -71,7 +65,7 @@ fn read_leaders(
     ensures { Gives (λ leaders. (leaders, reader.new)) result (leaders_behind place tag reader.old) }
 {
     match tag {
-        0 => Ok(Leaders::Table(read_list(alloc, MAX_ENTRIES, reader)?)),
+        0 => Ok(Leaders::Table(read_list(alloc, MAX_LEADERS as u32, reader)?)),
         1 => Ok(Leaders::Drawn(reader.array()?)),
         _ => Err(CodecError::BadTag(place)),
     }

@@ -7,11 +7,8 @@ ghost use Rattle.hw_types.specs.{Reading.{Gives, need_at, frame_at}, Spelling.{n
 use crate::field::{Field, list_len, put_list, read_list};
 use crate::reader::Reader;
 use crate::vertex::{put_vertex, read_vertex, vertex_len};
-use hw_types::{CodecError, Frame, Need, OutOfMemory};
+use hw_types::{CodecError, Frame, MAX_LIST, Need, OutOfMemory};
 use std::alloc::Global;
-
-/// The most needs of a Want.
-const MAX_NEEDS: u32 = 256;
 
 #[tactic(auto, unfolding(hw_types::specs::Reading::frame_at))]
 pub(crate) fn read_frame(alloc: Global, reader: &mut Reader<'_>) -> Result<Frame, CodecError>
@@ -22,7 +19,7 @@ pub(crate) fn read_frame(alloc: Global, reader: &mut Reader<'_>) -> Result<Frame
         1 => Ok(Frame::Hello(reader.digest()?)),
         2 => Ok(Frame::Vertex(read_vertex(alloc, reader)?)),
         3 => Ok(Frame::Have(reader.u64()?)),
-        4 => Ok(Frame::Want(read_list(alloc, MAX_NEEDS, reader)?)),
+        4 => Ok(Frame::Want(read_list(alloc, MAX_LIST as u32, reader)?)),
         5 => Ok(Frame::Done),
         6 => Ok(Frame::Missing(Need::read(reader)?)),
         _ => Err(CodecError::BadTag(place)),

@@ -6,20 +6,11 @@ ghost use Rattle.std.proofs.Common.{lit<};
 
 use crate::field::{Field, list_len, put_list, read_list};
 use crate::reader::Reader;
-use hw_types::{Bytes, CodecError, Items, Obs, ObsList, OutOfMemory, WireUnit};
+use hw_types::{
+    Bytes, CodecError, END_OF_TIME, Items, MAX_LIST, MAX_VALIDATORS, MAX_VALUE, Obs, ObsList,
+    OutOfMemory, WireUnit,
+};
 use std::alloc::Global;
-
-/// The most observations of a unit, one for each validator.
-pub(crate) const MAX_OBSERVATIONS: u32 = 1_024;
-
-/// The most bytes of a block's value.
-const MAX_VALUE: u32 = 4_096;
-
-/// The most digests in a unit's endorsed list.
-pub(crate) const MAX_ENDORSED: u32 = 256;
-
-/// Times are below this number of milliseconds.
-const END_OF_TIME: u64 = 1 << 63;
 
 /// Whether the unit keeps the limits of its format: 1,024 observations, a value of 4,096 bytes, 256
 /// endorsed digests, and a time below 2^63.
@@ -27,9 +18,9 @@ pub fn fits(unit: &WireUnit) -> bool
     ensures { IsTrue result ↔ Fits unit.now }
 {
     unit.time < END_OF_TIME
-        && unit.panorama.len() <= MAX_OBSERVATIONS as usize
+        && unit.panorama.len() <= MAX_VALIDATORS
         && has_short_value(&unit.value)
-        && unit.endorsed.len() <= MAX_ENDORSED as usize
+        && unit.endorsed.len() <= MAX_LIST
 }
 
 /// Whether the value, if there is one, isn't too long.
@@ -38,7 +29,7 @@ fn has_short_value(value: &Option<Bytes>) -> bool
 {
     match value {
         None => true,
-        Some(value) => value.len() <= MAX_VALUE as usize,
+        Some(value) => value.len() <= MAX_VALUE,
     }
 }
 
@@ -53,7 +44,7 @@ pub(crate) fn read_unit(alloc: Global, reader: &mut Reader<'_>) -> Result<WireUn
     let exponent = reader.u8()?;
     let panorama = read_panorama(alloc, reader)?;
     let value = read_value(alloc, reader)?;
-    let endorsed = read_list(alloc, MAX_ENDORSED, reader)?;
+    let endorsed = read_list(alloc, MAX_LIST as u32, reader)?;
     Ok(WireUnit {
         instance,
         creator,
@@ -70,7 +61,7 @@ pub(crate) fn read_unit(alloc: Global, reader: &mut Reader<'_>) -> Result<WireUn
 fn read_panorama(alloc: Global, reader: &mut Reader<'_>) -> Result<ObsList, CodecError>
     ensures { Gives (λ list. (list, reader.new)) result (counted_at obs_at 1024 reader.old) }
 {
-    let list: Items<Obs> = read_list(alloc, MAX_OBSERVATIONS, reader)?;
+    let list: Items<Obs> = read_list(alloc, MAX_VALIDATORS as u32, reader)?;
     Ok(ObsList::from_vec(list.into_vec()).shared()?)
 }
 
@@ -96,7 +87,7 @@ pub(crate) fn read_value(
     match reader.u8()? {
         0 => Ok(None),
         1 => {
-            let count = reader.count(MAX_VALUE)?;
+            let count = reader.count(MAX_VALUE as u32)?;
             let value = reader.bytes(count as usize)?;
             Ok(Some(copy_of(alloc, value)?))
         }

@@ -5,11 +5,8 @@ ghost use Rattle.hw_types.specs.{Limits.{config_fault}, Reading.{Gives, whole}};
 ghost use Rattle.hw_eras.specs.Eras.{weights_at, named_by, drawn_by, if_lawful, next_config};
 
 use hw_codec::{Reader, read_list};
-use hw_types::{CodecError, Config, Digest, Leaders, OutOfMemory, WeightList};
+use hw_types::{CodecError, Config, Digest, Leaders, MAX_VALIDATORS, OutOfMemory, WeightList};
 use std::alloc::Global;
-
-/// The most weights that a value may name, one for each validator.
-const MAX_WEIGHTS: u32 = 1_024;
 
 /// The configuration of the next era, where the last block of an era has this digest and this value.
 ///
@@ -105,7 +102,7 @@ fn read_value(alloc: Global, value: &[u8]) -> Result<Named, CodecError>
 fn read_named(alloc: Global, reader: &mut Reader<'_>) -> Result<Named, CodecError>
     ensures { Gives (λ named. ((named.weights, named.ftt), reader.new)) result (weights_at reader.old) }
 {
-    let weights = read_list(alloc, MAX_WEIGHTS, reader)?;
+    let weights = read_list(alloc, MAX_VALIDATORS as u32, reader)?;
     let ftt = reader.u64()?;
     Ok(Named { weights, ftt })
 }

@@ -7,6 +7,7 @@ use Rattle.hw_types.specs.declared.unit.Vertex.{Vertex}
 use Rattle.hw_types.specs.declared.config.Config.{Config}
 use Rattle.hw_types.specs.declared.answers.CodecError.{CodecError}
 use Rattle.hw_types.specs.declared.answers.CodecError.TheVariants as codec
+use Rattle.hw_types.specs.Limits.{most_bytes}
 use Rattle.hw_types.specs.Reading.{Rest, config_of, vertex_of}
 use Rattle.hw_light.specs.declared.certificate.Certificate.{Certificate}
 use Rattle.hw_light.specs.declared.error.CertError.{CertError}
@@ -36,7 +37,7 @@ count_at limit r = field_at 4 r >>= λ b. if nat_lt limit (from_be_bytes w32 b.0
 
 -- a length of at most 1,048,576, and so many bytes
 unfoldable pub part_at : Rest → Read (List ℕ)
-part_at r = count_at 1048576 r >>= λ n. field_at n.0 n.1
+part_at r = count_at most_bytes r >>= λ n. field_at n.0 n.1
 
 -- what a codec answers, with its error as one of the certificate
 abbrev pub decoded : {A : Type 0} → (CodecError → CertError) → Result A CodecError → Result A CertError

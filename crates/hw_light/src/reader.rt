@@ -5,6 +5,7 @@ ghost use Rattle.std.specs.Prelude.{◌≡◌, ◌≤◌, length, IfOk, IfErr};
 ghost use Rattle.hw_light.specs.Reading.{Gives, WrapsNoWant, rest_at, field_at, count_at, part_at, behind_magic, behind_version, ended_at};
 
 use crate::error::CertError;
+use hw_types::MAX_LENGTH;
 use std::marker::Model;
 
 /// A certificate begins with these bytes.
@@ -12,9 +13,6 @@ pub(crate) const MAGIC: [u8; 4] = *b"HWCT";
 
 /// The version of a certificate's format.
 pub(crate) const VERSION: u8 = 1;
-
-/// A configuration or a vertex has at most this many bytes.
-const MAX_LENGTH: u32 = 1_048_576;
 
 /// A certificate has at most this many vertices.
 pub(crate) const MAX_VERTICES: u32 = 131_072;
@@ -119,7 +117,7 @@ impl<'a> Reader<'a> {
         ensures said { Gives (λ bytes. (bytes.now, self.new)) result (part_at self.old) }
         ensures memory { IfErr result WrapsNoWant }
     {
-        let length = self.count(MAX_LENGTH)?;
+        let length = self.count(MAX_LENGTH as u32)?;
         self.field(length as usize)
     }
 

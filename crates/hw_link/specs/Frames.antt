@@ -5,7 +5,7 @@ use Rattle.std.specs.List.{flat_map}
 use Rattle.std.specs.Int.{w32, from_be_bytes}
 use Rattle.hw_types.specs.declared.answers.CodecError.{CodecError}
 use Rattle.hw_types.specs.declared.answers.Frame.{Frame}
-use Rattle.hw_types.specs.Limits.{is_within}
+use Rattle.hw_types.specs.Limits.{is_within, most_bytes}
 use Rattle.hw_types.specs.Spelling.{u32_bytes, frame_bytes}
 use Rattle.hw_types.specs.Reading.{Rest, frame_of}
 use Rattle.hw_link.specs.declared.end.SessionEnd.{SessionEnd}
@@ -63,7 +63,7 @@ front_of n r = if nat_lt (length r.bytes) n then Err (cut_end r) else Ok (take n
 
 -- the length of the frame, from its first four bytes
 abbrev pub length_of : Rest → List ℕ → Result ℕ SessionEnd
-length_of r front = let n = from_be_bytes w32 front in if is_within 1 1048576 n then Ok n else Err (BadFrame r.place)
+length_of r front = let n = from_be_bytes w32 front in if is_within 1 most_bytes n then Ok n else Err (BadFrame r.place)
 
 -- the frame of these bytes, or the end where they spell none
 abbrev pub decoded : {F : Type 0} → Rest → Result F CodecError → Result F SessionEnd

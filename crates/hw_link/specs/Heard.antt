@@ -4,7 +4,7 @@ use Rattle.std.specs.Prelude.{◌≡◌, ℕ, ◌+◌, ◌≤◌, ◌⊎◌, IsT
 use Rattle.std.specs.Int.{w32, from_be_bytes}
 use Rattle.hw_io.specs.Doors.{Session}
 use Rattle.hw_io.specs.Faults.{raised}
-use Rattle.hw_types.specs.Limits.{is_within}
+use Rattle.hw_types.specs.Limits.{is_within, most_bytes}
 use Rattle.hw_types.specs.declared.answers.CodecError.{CodecError}
 use Rattle.hw_types.specs.Reading.{Rest, frame_of}
 use Rattle.hw_link.specs.declared.end.SessionEnd.{SessionEnd}
@@ -60,7 +60,7 @@ IsHeard place part h = HasFrame place part h.frame × (h.next ≡ place + length
 -- four bytes that tell a length which a frame may have
 pub record IsLength (front : List ℕ) : Type 0 where
   pub four : length front ≡ 4
-  pub within : IsTrue (is_within 1 1048576 (from_be_bytes w32 front))
+  pub within : IsTrue (is_within 1 most_bytes (from_be_bytes w32 front))
 
 -- these bytes are that length
 abbrev pub IsFrontOf : ℕ → List ℕ → List ℕ → Type 0
@@ -68,7 +68,7 @@ IsFrontOf place part front = (part ≡ front) × IsLength front
 
 -- a length which a frame may have, or the place of the frame that has none
 abbrev pub IsFront : ℕ → List ℕ → Result (List ℕ) SessionEnd → Type 0
-IsFront place front result = MatchResult result (λ x. (x ≡ front) × IsLength front) (λ e. (e ≡ BadFrame place) × (is_within 1 1048576 (from_be_bytes w32 front) ≡ false))
+IsFront place front result = MatchResult result (λ x. (x ≡ front) × IsLength front) (λ e. (e ≡ BadFrame place) × (is_within 1 most_bytes (from_be_bytes w32 front) ≡ false))
 
 -- these bytes are a length and the bytes behind it
 pub record IsBody (place : ℕ) (part body : List ℕ) : Type 0 where

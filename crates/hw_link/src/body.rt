@@ -7,14 +7,11 @@ ghost use Rattle.hw_link.specs.{Frames.{body_here}, Links.{IsLinkCounted}, Asked
 use crate::end::{BYTE_LIMIT, SessionEnd, cut_end};
 use crate::fill::fill;
 use hw_io::Door;
-use hw_types::Bytes;
+use hw_types::{Bytes, MAX_LENGTH};
 use std::alloc::Global;
 
 /// How many bytes tell the length of a frame.
 pub const FRONT: usize = 4;
-
-/// A frame has at most so many bytes behind its length.
-const LONGEST: usize = 1_048_576;
 
 /// Reads the frame that begins at this place of the session, and no byte past it: the bytes behind its length.
 ///
@@ -74,7 +71,7 @@ fn checked_front(place: u64, front: [u8; 4]) -> Result<[u8; 4], SessionEnd>
     ensures { IsFront place front result }
 {
     let length = u32::from_be_bytes(front) as usize;
-    if length < 1 || length > LONGEST {
+    if length < 1 || length > MAX_LENGTH {
         Err(SessionEnd::BadFrame(place))
     } else {
         Ok(front)

@@ -3,7 +3,7 @@
 use Rattle.std.specs.Prelude.{◌≡◌, ◌≤◌, ◌<◌, ◌⊎◌, ℕ, ◌+◌, ◌^◌, Bool, if◌then◌else◌, List, [], ◌∷◌, ◌++◌, length, codes, Option, Some, None, Result, Ok, Err}
 use Rattle.std.specs.List.{All}
 use Rattle.hw_types.specs.declared.config.Config.{Config}
-use Rattle.hw_types.specs.Limits.{config_fault}
+use Rattle.hw_types.specs.Limits.{config_fault, most_bytes}
 use Rattle.hw_types.specs.Spelling.{u32_bytes, ConfigFits}
 use Rattle.hw_types.specs.Reading.{config_of, IsFirstError}
 use Rattle.hw_codec.specs.Ranges.{ConfigInRange}
@@ -36,10 +36,6 @@ pub record Writes (bytes : List ℕ) (version : ℕ) (config : Config) (entries 
   pub bytes_are : bytes ≡ log_bytes version config entries
 
 -- ---- the errors of a header
-
--- a configuration or a vertex has at most so many bytes
-abbrev pub most_bytes : ℕ
-most_bytes = 1048576
 
 -- the bytes begin with HWLG, a version and four bytes for the length n, and this stands behind
 abbrev pub HasFront : List ℕ → ℕ → List ℕ → Type 0

@@ -8,7 +8,7 @@ use Rattle.hw_types.specs.declared.config.Config.{Config}
 use Rattle.hw_types.specs.declared.config.ConfigFault.{ConfigFault}
 use Rattle.hw_types.specs.declared.answers.CodecError.{CodecError}
 use Rattle.hw_types.specs.declared.unit.Vertex.{Vertex}
-use Rattle.hw_types.specs.Limits.{config_fault}
+use Rattle.hw_types.specs.Limits.{config_fault, most_bytes}
 use Rattle.hw_types.specs.Spelling.{u32_bytes, config_bytes}
 use Rattle.hw_types.specs.Reading.{Rest, config_of}
 use Rattle.hw_log.specs.Lasts.{LastUnits, no_lasts, lasts_after, vertex_bytes_in, vertex_in}
@@ -42,9 +42,9 @@ abbrev pub decoded : {A : Type 0} → (CodecError → LogError) → Result A Cod
 decoded wrap (Ok x) = Ok x
 decoded wrap (Err e) = Err (wrap e)
 
--- a configuration or a vertex has at most 1,048,576 bytes
+-- a configuration or a vertex has more bytes than it may
 abbrev pub is_too_long : ℕ → Bool
-is_too_long n = nat_lt 1048576 n
+is_too_long n = nat_lt most_bytes n
 
 -- ---- the header: HWLG, the version 1 or 2, the length of the configuration, the configuration
 

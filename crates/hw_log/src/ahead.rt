@@ -5,12 +5,11 @@ ghost use Rattle.sha2.specs.Sha256.{sha256};
 ghost use Rattle.hw_io.specs.Reads.{OnlyReads, CountsReads, HoldsMore};
 ghost use Rattle.hw_lanes.specs.Pieces.{IsWithin, part_of};
 
-use crate::head::MAX_LENGTH;
 use crate::held::{HeldEntry, entry_at};
 use crate::name::{SIGNATURE_LENGTH, unit_part};
 use hw_io::{Files, IoFault, ReadBuffer};
 use hw_lanes::{Part, digests_of};
-use hw_types::{Digest, OutOfMemory};
+use hw_types::{Digest, MAX_LENGTH, OutOfMemory};
 use sha2::{Digest as _, Sha256};
 use std::alloc::Global;
 use std::marker::Model;

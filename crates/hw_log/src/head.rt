@@ -4,6 +4,7 @@ ghost use Rattle.std.specs.Prelude.{◌≡◌, ◌≤◌, ◌<◌, length, IfOk,
 ghost use Rattle.hw_log.specs.{Causes.{IsOfBytes}, Lasts.{IsVersion}, Log.{front_of, head_of}};
 
 use crate::error::LogError;
+use hw_types::MAX_LENGTH;
 
 /// A log begins with these bytes.
 pub const MAGIC: [u8; 4] = *b"HWLG";
@@ -16,9 +17,6 @@ pub const COMPACT: u8 = 2;
 
 /// The one event: a vertex came.
 pub const VERTEX_EVENT: u8 = 1;
-
-/// A configuration or a vertex has at most this many bytes.
-pub const MAX_LENGTH: usize = 1_048_576;
 
 /// How many bytes of a log come before its configuration.
 pub const FRONT_LENGTH: usize = 9;

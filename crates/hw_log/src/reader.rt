@@ -14,12 +14,12 @@ use crate::ahead::NamingBuffer;
 use crate::entry::{LogEntry, NamedEntry};
 use crate::error::{LogError, error_of_read};
 use crate::following::{Following, NextUnit, ReadUnit};
-use crate::head::{EntryHead, FRONT_LENGTH, Front, HEAD_LENGTH, MAX_LENGTH, front_of, head_of};
+use crate::head::{EntryHead, FRONT_LENGTH, Front, HEAD_LENGTH, front_of, head_of};
 use crate::lasts::Lasts;
 use hw_codec::decode_config;
 use hw_io::Files;
 use hw_lanes::Part;
-use hw_types::{CodecError, Config, Digest, Vertex};
+use hw_types::{CodecError, Config, Digest, MAX_LENGTH, Vertex};
 use std::alloc::{AllocFailed, Global};
 use std::marker::Model;
 

@@ -7,11 +7,8 @@ ghost use Rattle.hw_script_grammar.specs.{Words.{each, one_or_more}, Names.{dige
 use crate::fault::Fault;
 use crate::names::Names;
 use crate::words::Words;
-use hw_types::{Digest, DigestList, OutOfMemory};
+use hw_types::{Digest, DigestList, MAX_LIST, OutOfMemory};
 use std::alloc::Global;
-
-/// The most digests in a unit's list.
-const MAX_ENDORSED: usize = 256;
 
 /// `endorsed NAME` and more, perhaps.
 #[tactic(auto, unfolding(crate::specs::Units::unit_endorsed))]
@@ -37,7 +34,7 @@ fn endorsed_names(alloc: Global, names: &Names, words: &mut Words<'_>) -> Result
     ensures fits { IfOk result (λ list. length list ≤ 256) }
 {
     let list = some_digests(alloc, names, words)?;
-    if list.len() > MAX_ENDORSED {
+    if list.len() > MAX_LIST {
         return Err(Fault::Grammar);
     }
     Ok(in_order(alloc, list.as_slice())?)

@@ -10,14 +10,8 @@ use crate::fault::{Fault, ScriptError};
 use crate::lines::{Line, Lines};
 use crate::setting::{Setting, setting_of};
 use crate::words::Words;
-use hw_types::{Config, IndexList, Leaders, WeightList};
+use hw_types::{Config, IndexList, Leaders, USUAL_PARKED, USUAL_RECORDS, WeightList};
 use std::alloc::Global;
-
-/// How long a journal may be where a script doesn't say.
-const USUAL_RECORDS: u32 = 131_072;
-
-/// How many units may wait at a time where a script doesn't say.
-const USUAL_PARKED: u32 = 4_096;
 
 /// What the settings lines have set so far.
 #[derive(Drop)]

@@ -12,11 +12,8 @@ use crate::names::Names;
 use crate::wording::{is_name, is_value};
 use crate::words::Words;
 use hw_codec::digest_of;
-use hw_types::{Bytes, Config, Digest, OutOfMemory, Vertex, WireUnit};
+use hw_types::{Bytes, Config, Digest, END_OF_TIME, OutOfMemory, Vertex, WireUnit};
 use std::alloc::Global;
-
-/// The greatest time, in milliseconds.
-const MAX_TIME: u64 = (1 << 63) - 1;
 
 /// The numbers that a unit line gives.
 #[derive(Clone, Copy, Debug, PartialEq, Eq)]
@@ -126,7 +123,7 @@ fn unit_numbers(words: &mut Words<'_>) -> Result<UnitNumbers, Fault>
     ensures time { IfOk result (λ numbers. numbers.time < 2 ^ 63) }
 {
     let creator = words.number_behind("by", u64::from(u32::MAX))?;
-    let time = words.number_behind("at", MAX_TIME)?;
+    let time = words.number_behind("at", END_OF_TIME - 1)?;
     let exponent = words.number_behind("exp", u64::from(u8::MAX))?;
     let seq = given_number(words)?;
     Ok(UnitNumbers {

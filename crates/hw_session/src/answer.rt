@@ -14,14 +14,8 @@ use hw_core::Core;
 use hw_io::Door;
 use hw_link::SessionEnd;
 use hw_needs::{KnownPairs, vertices_with};
-use hw_types::{Digest, Frame, Need, NeedList, OutOfMemory, Receipt, Vertex};
+use hw_types::{Digest, Frame, MAX_LIST, Need, NeedList, OutOfMemory, Receipt, Vertex};
 use std::alloc::Global;
-
-/// How many vertices are sent in answer to one Have.
-const MOST_VERTICES: u64 = 256;
-
-/// How many needs a Want names.
-const MOST_NEEDS: u32 = 256;
 
 /// Answers a Have: sends the journal's vertices from this place on, 256 at most, and then a Have of the
 /// place behind the last one.
@@ -48,7 +42,7 @@ fn part_length(journal: u64, place: u64) -> u64
     ensures part { (vs : List Vertex) → length vs ≡ journal → result ≡ length (part_from vs place) }
     ensures within { 0 < result → place + result ≤ journal }
 {
-    journal.saturating_sub(place).min(MOST_VERTICES)
+    journal.saturating_sub(place).min(MAX_LIST as u64)
 }
 
 /// Sends the journal's vertices from this place on, up to the next one that isn't sent.
@@ -235,7 +229,7 @@ fn first_missing(alloc: Global, core: &Core, unit: &Digest) -> Result<NeedList, 
     ensures few { IfOk result (λ needs. length needs ≤ 256) }
 {
     let mut needs = NeedList::new(alloc);
-    for place in 0..MOST_NEEDS {
+    for place in 0..MAX_LIST as u32 {
         match core.missing(unit, place) {
             Some(need) => needs.push(need)?,
             None => return Ok(needs),

@@ -25,10 +25,7 @@ use crate::say::say;
 use crate::stage::{Onward, PeerMark, Stage};
 use hw_io::{Door, Files};
 use hw_link::{BYTE_LIMIT, SessionEnd, read_frame};
-use hw_types::{Frame, Need, NeedList, OutOfMemory, Vertex};
-
-/// How many vertices are pushed in one session.
-const MOST_PUSHED: u64 = 256;
+use hw_types::{Frame, MAX_LIST, Need, NeedList, OutOfMemory, Vertex};
 
 /// How many more times a peer is asked for its journal after the first.
 const MOST_AGAIN: u64 = 64;
@@ -257,7 +254,7 @@ impl Node {
         self.core
             .journal_count()
             .saturating_sub(mark.pushed)
-            .min(MOST_PUSHED)
+            .min(MAX_LIST as u64)
     }
 
     /// Pushes the next vertex, if so many are still to be pushed, and begins to pull otherwise.

@@ -9,15 +9,9 @@ ghost use Rattle.hw_settings.specs.Answers.{Tells, IsFaultOf};
 use crate::fault::SettingsFault;
 use crate::numbers::{byte_in, count_in, counts_in, number_in, pair_in, weights_in};
 use hex::FromHex;
-use hw_types::{Config, Leaders};
+use hw_types::{Config, Leaders, USUAL_PARKED, USUAL_RECORDS};
 use serde_json::{Map, Value};
 use std::alloc::Global;
-
-/// How long a journal may be where the settings don't say.
-const USUAL_RECORDS: u32 = 131_072;
-
-/// How many units may wait at a time where the settings don't say.
-const USUAL_PARKED: u32 = 4_096;
 
 /// The configuration that settings say, which keeps all of its limits.
 ///

@@ -14,6 +14,10 @@ use Rattle.hw_types.specs.Tests.{Tests, first_broken}
 abbrev pub is_within : ℕ → ℕ → ℕ → Bool
 is_within low high n = nat_le low n && nat_le n high
 
+-- an entry of a log, a frame and a part of a certificate have at most so many bytes
+abbrev pub most_bytes : ℕ
+most_bytes = 1048576
+
 -- the number is 0
 abbrev pub is_zero : ℕ → Bool
 is_zero w = w == 0

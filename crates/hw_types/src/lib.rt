@@ -10,6 +10,7 @@ mod committee;
 mod config;
 mod items;
 mod laws;
+mod limits;
 mod same;
 mod shared;
 mod unit;
@@ -32,6 +33,7 @@ pub use laws::{
     receipt_tells_where, rounds_are_enough, settled_fork_is_the_walk, settled_is_lawful,
     step_is_settled, tip_is_one, union_is_lawful,
 };
+pub use limits::{END_OF_TIME, MAX_LENGTH, MAX_LIST, MAX_VALUE, USUAL_PARKED, USUAL_RECORDS};
 pub use same::is_same_unit;
 pub use shared::{ObsList, Shared};
 pub use unit::{Digest, Endorsement, Evidence, Need, Obs, Signature, SignedUnit, Vertex, WireUnit};
