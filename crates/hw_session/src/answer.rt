@@ -3,18 +3,16 @@
 ghost use Rattle.std.specs.{Prelude.{◌≡◌, ◌+◌, ◌<◌, ◌≤◌, ℕ, List, [], ◌∷◌, ◌++◌, true, length, map, take, drop, IfOk}, List.{All, flat_map}};
 ghost use Rattle.hw_types.specs.{Spelling.{VertexFits}, declared.unit.Vertex.{Vertex}};
 ghost use Rattle.hw_types.specs.declared.answers.Frame.TheVariants as frame;
-ghost use Rattle.hw_core.specs.Readers.{missing_needs};
 ghost use Rattle.hw_link.specs.{Frames.{framed, sent_bytes}, Links.{IsLinkCounted}, Sent.{Sends}};
 ghost use Rattle.hw_needs.specs.{Needs.{vertices_of}, Pairs.{ArePairs}};
 ghost use Rattle.hw_session.specs.{Outside.{door_calls}, Serving.{part_from, answer_to_have, answer_to_want, sent_for, first_missing, wanted_by}, Handling.{StandsLast}};
 
 use crate::say::say;
-use hw_codec::digest_of;
 use hw_core::Core;
 use hw_io::Door;
 use hw_link::SessionEnd;
 use hw_needs::{KnownPairs, vertices_with};
-use hw_types::{Digest, Frame, MAX_LIST, Need, NeedList, OutOfMemory, Receipt, Vertex};
+use hw_types::{Frame, MAX_LIST, Need, NeedList, OutOfMemory, Receipt, Vertex};
 use std::alloc::Global;
 
 /// Answers a Have: sends the journal's vertices from this place on, 256 at most, and then a Have of the
@@ -208,7 +206,8 @@ pub fn wanted(alloc: Global, core: &Core, receipt: Receipt) -> Result<NeedList, 
     }
 }
 
-/// The first 256 needs that the last vertex of the journal misses, if it is a unit.
+/// The first 256 needs that the last vertex of the journal misses, if it is a unit. Its name is the last one that the
+/// node keeps.
 fn wanted_for_last(alloc: Global, core: &Core) -> Result<NeedList, OutOfMemory>
     ensures wanted { IfOk result (λ needs. (v : Vertex) (before : List Vertex) → core.now.journal ≡ before ++ v ∷ [] → needs ≡ first_missing core.now v) }
     ensures few { IfOk result (λ needs. length needs ≤ 256) }
@@ -218,22 +217,11 @@ fn wanted_for_last(alloc: Global, core: &Core) -> Result<NeedList, OutOfMemory>
         return Ok(NeedList::new(alloc));
     }
     match core.journal_at(count - 1) {
-        Vertex::Unit(signed) => first_missing(alloc, core, &digest_of(alloc, &signed.unit)?),
+        Vertex::Unit(_) => match core.unit_names().last() {
+            Some(name) => core.first_missing(alloc, name, MAX_LIST),
+            // The unit has a name.
+            None => unreachable!(),
+        },
         Vertex::Evidence(_) | Vertex::Endorsement(_) => Ok(NeedList::new(alloc)),
     }
-}
-
-/// The first 256 needs that the journal's unit of this digest misses.
-fn first_missing(alloc: Global, core: &Core, unit: &Digest) -> Result<NeedList, OutOfMemory>
-    ensures first { IfOk result (λ needs. needs ≡ take 256 (missing_needs core.now unit.now)) }
-    ensures few { IfOk result (λ needs. length needs ≤ 256) }
-{
-    let mut needs = NeedList::new(alloc);
-    for place in 0..MAX_LIST as u32 {
-        match core.missing(unit, place) {
-            Some(need) => needs.push(need)?,
-            None => return Ok(needs),
-        }
-    }
-    Ok(needs)
 }

@@ -1,6 +1,6 @@
 //! What a node tells of its journal. No reader takes memory.
 
-ghost use Rattle.std.specs.{Prelude.{◌≡◌, ℕ, ◌<◌, ◌≤◌, ◌↔◌, IsTrue, length, slice_get, take, Some, None, IfSome, IfNone}, Option.{option_copied}};
+ghost use Rattle.std.specs.{Prelude.{◌≡◌, ℕ, ◌<◌, ◌≤◌, ◌↔◌, IsTrue, length, slice_get, take, Some, None, IfOk, IfSome, IfNone}, Option.{option_copied}};
 ghost use Rattle.hw_types.specs.Graph.{slot};
 ghost use Rattle.hw_types.specs.Settled.{has_evidence, parked_of, dropped_of};
 ghost use Rattle.hw_types.specs.Spelling.{VertexFits, Fits, instance_of};
@@ -20,12 +20,16 @@ ghost use Rattle.hw_core.specs.Shown.{HasSummitNow, IsStartNow, IsStartOf};
 ghost use Rattle.hw_core.specs.Readers.{unit_in, names_of, missing_needs, unmet_in, evidence_of, endorsements_of, IsPlace, IsUnsettled, fork_in, exceeded_in};
 
 use super::Kept;
+use crate::missing::missing;
 use crate::place::Place;
 use crate::units::known_unit;
 use crate::unmet::{Search, missing_at};
 use hw_admit::State;
 use hw_dag::View;
-use hw_types::{Decision, Digest, Endorsement, Evidence, Need, Obs, SignedUnit, Vertex};
+use hw_types::{
+    Decision, Digest, Endorsement, Evidence, Need, NeedList, Obs, OutOfMemory, SignedUnit, Vertex,
+};
+use std::alloc::Global;
 
 impl Kept {
     /// The digest of its configuration.
@@ -105,6 +109,26 @@ impl Kept {
                 Search::Found(need) => Some(need),
                 Search::Passed(_count) => None,
             },
+        }
+    }
+
+    /// The first needs, `most` at most, that the journal's unit of this digest misses, in one pass. None where there is
+    /// no such unit.
+    pub(crate) fn first_missing(
+        &self,
+        alloc: Global,
+        unit: &Digest,
+        most: usize,
+    ) -> Result<NeedList, OutOfMemory>
+        ensures { IfOk result (λ needs. needs ≡ take most (missing_needs self.now unit.now)) }
+    {
+        match known_unit(&self.names, self.journal.as_slice(), unit) {
+            None => Ok(NeedList::new(alloc)),
+            Some(known) => {
+                let mut needs = missing(alloc, &self.state, &known.unit)?;
+                needs.truncate(most);
+                Ok(NeedList::from_vec(needs))
+            }
         }
     }
 
