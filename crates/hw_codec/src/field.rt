@@ -1,6 +1,6 @@
 //! What lists are made of: how one item is read and written, and how many are.
 
-ghost use Rattle.std.specs.{Prelude.{◌≡◌, ◌≤◌, ◌<◌, ◌^◌, ◌/◌, ◌++◌, [], length, IfOk, OnOk, vec_capacity}, Int.{w32, w64}};
+ghost use Rattle.std.specs.{Prelude.{◌≡◌, ◌≤◌, ◌<◌, ◌^◌, ◌/◌, ◌∷◌, ◌++◌, [], length, IfOk, OnOk, vec_capacity}, Int.{w32, w64}};
 ghost use Rattle.hw_types.specs.{Reading.{Gives, number_at, digest_at, many_at, counted_at}, Spelling.{counted, u32_bytes, u64_bytes}};
 ghost use Rattle.std.proofs.Common.{lit<};
 
@@ -102,6 +102,14 @@ pub fn put_list<F: Field>(list: &[F], out: &mut Vec<u8>) -> Result<(), OutOfMemo
         item.put(out)?;
     }
     Ok(())
+}
+
+/// Writes a tag and one field behind what stands in `out`.
+pub(crate) fn put_tagged<F: Field>(tag: u8, field: &F, out: &mut Vec<u8>) -> Result<(), OutOfMemory>
+    ensures { OnOk result (out.new.items ≡ out.old.items ++ (tag ∷ F.spelling field.now)) }
+{
+    out.push(tag)?;
+    field.put(out)
 }
 
 impl Field for u32 {

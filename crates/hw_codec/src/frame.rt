@@ -4,7 +4,7 @@ ghost use Rattle.std.specs.Prelude.{◌≡◌, ◌++◌, OnOk};
 ghost use Rattle.std.proofs.Common.{lit<};
 ghost use Rattle.hw_types.specs.{Reading.{Gives, need_at, frame_at}, Spelling.{need_bytes, frame_bytes, FrameFits}};
 
-use crate::field::{Field, list_len, put_list, read_list};
+use crate::field::{Field, list_len, put_list, put_tagged, read_list};
 use crate::reader::Reader;
 use crate::vertex::{put_vertex, read_vertex, vertex_len};
 use hw_types::{CodecError, Frame, MAX_LIST, Need, OutOfMemory};
@@ -44,27 +44,18 @@ pub(crate) fn put_frame(frame: &Frame, out: &mut Vec<u8>) -> Result<(), OutOfMem
     ensures { OnOk result (out.new.items ≡ out.old.items ++ frame_bytes frame.now) }
 {
     match frame {
-        Frame::Hello(instance) => {
-            out.push(1)?;
-            instance.put(out)
-        }
+        Frame::Hello(instance) => put_tagged(1, instance, out),
         Frame::Vertex(vertex) => {
             out.push(2)?;
             put_vertex(vertex, out)
         }
-        Frame::Have(place) => {
-            out.push(3)?;
-            place.put(out)
-        }
+        Frame::Have(place) => put_tagged(3, place, out),
         Frame::Want(needs) => {
             out.push(4)?;
             put_list(needs.as_slice(), out)
         }
         Frame::Done => Ok(out.push(5)?),
-        Frame::Missing(need) => {
-            out.push(6)?;
-            need.put(out)
-        }
+        Frame::Missing(need) => put_tagged(6, need, out),
     }
 }
 
@@ -99,18 +90,9 @@ impl Field for Need {
 
     fn put(&self, out: &mut Vec<u8>) -> Result<(), OutOfMemory> {
         match self {
-            Need::Unit(digest) => {
-                out.push(1)?;
-                digest.put(out)
-            }
-            Need::Evidence(validator) => {
-                out.push(2)?;
-                validator.put(out)
-            }
-            Need::Endorsed(digest) => {
-                out.push(3)?;
-                digest.put(out)
-            }
+            Need::Unit(digest) => put_tagged(1, digest, out),
+            Need::Evidence(validator) => put_tagged(2, validator, out),
+            Need::Endorsed(digest) => put_tagged(3, digest, out),
         }
     }
 }

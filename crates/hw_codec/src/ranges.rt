@@ -14,7 +14,8 @@ fn slice_is_in_range(bytes: &[u8])
     ensures { AreBytes bytes.now }
 {}
 
-fn array_is_in_range(bytes: &[u8; 32])
+/// The bytes of an array are bytes, and so many.
+pub fn array_is_in_range(bytes: &[u8; 32])
     ensures { AreBytesOf 32 bytes.now }
 {
     slice_is_in_range(bytes);

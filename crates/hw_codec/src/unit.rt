@@ -4,7 +4,7 @@ ghost use Rattle.std.specs.Prelude.{◌≡◌, ◌≤◌, ◌++◌, ◌↔◌, l
 ghost use Rattle.hw_types.specs.{Reading.{Gives, counted_at, obs_at, time_at, value_at, unit_at}, Spelling.{obs_bytes, value_bytes, unit_bytes, Fits}};
 ghost use Rattle.std.proofs.Common.{lit<};
 
-use crate::field::{Field, list_len, put_list, read_list};
+use crate::field::{Field, list_len, put_list, put_tagged, read_list};
 use crate::reader::Reader;
 use hw_types::{
     Bytes, CodecError, END_OF_TIME, Items, MAX_LIST, MAX_VALIDATORS, MAX_VALUE, Obs, ObsList,
@@ -178,13 +178,9 @@ impl Field for Obs {
 
     fn put(&self, out: &mut Vec<u8>) -> Result<(), OutOfMemory> {
         match self {
-            Obs::Absent => out.push(0)?,
-            Obs::Correct(digest) => {
-                out.push(1)?;
-                digest.put(out)?;
-            }
-            Obs::Faulty => out.push(2)?,
+            Obs::Absent => Ok(out.push(0)?),
+            Obs::Correct(digest) => put_tagged(1, digest, out),
+            Obs::Faulty => Ok(out.push(2)?),
         }
-        Ok(())
     }
 }

@@ -6,7 +6,6 @@ ghost use Rattle.std.specs.Prelude.{◌≡◌, ℕ, ◌-◌, ◌^◌, ◌<◌, �
 ghost use Rattle.hw_dag.specs.{Dag.{count_of, unit_at, seq_of, IsPanorama}, Admission.{IsGraph}, Lanes.{is_lane_below}, declared.numbers.UnitNo.{UnitNo as Number}};
 ghost use Rattle.hw_horizon.specs.Firsts.{AreFirsts, IsFirst, AreNumbers};
 
-use crate::jumps::lane_at;
 use crate::table::Table;
 use hw_dag::{Dag, Panorama, UnitNo, View};
 use hw_types::OutOfMemory;
@@ -130,7 +129,7 @@ fn first_from(dag: &Dag, tip: UnitNo, start: u64) -> u32
     ensures { (n : ℕ) → n < count_of dag.now → is_lane_below dag.now n tip.0 ≡ true → nat_le result n ≡ nat_le start (seq_of (unit_at dag.now n)) }
 {
     if start <= dag.unit(tip).signed().unit.seq {
-        lane_at(dag, tip, start).0
+        dag.unit_on_lane(tip, start).0
     } else {
         NO_UNIT
     }

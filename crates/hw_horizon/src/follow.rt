@@ -6,7 +6,6 @@ ghost use Rattle.hw_horizon.specs.{Firsts.{weight_after}, Bounds.{first_of, supp
 
 use crate::bounds::Bound;
 use crate::firsts::NO_UNIT;
-use crate::jumps::lane_at;
 use crate::question::Question;
 use crate::quorums::{has_quorum, weight_after};
 use crate::votes::votes_for;
@@ -302,7 +301,7 @@ fn back(dag: &Dag, no: UnitNo, step: u64) -> UnitNo
     ensures { IsBack dag.now no.0 step result.0 }
 {
     let seq = seq_of(dag, no);
-    lane_at(dag, no, seq.saturating_sub(step).min(seq - 1))
+    dag.unit_on_lane(no, seq.saturating_sub(step).min(seq - 1))
 }
 
 // The number of the unit on its lane.

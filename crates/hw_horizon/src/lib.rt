@@ -32,7 +32,6 @@ mod firsts;
 mod follow;
 mod found;
 mod horizons;
-mod jumps;
 mod kept;
 mod laws;
 mod level_quorums;

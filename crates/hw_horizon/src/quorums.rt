@@ -5,7 +5,6 @@ ghost use Rattle.hw_dag.specs.{Dag.{count_of, unit_at, seq_of}, Admission.{IsGra
 ghost use Rattle.hw_horizon.specs.{Starts.{IsStart, IsSuffix}, Firsts.{is_after, weight_after, has_quorum as has_quorum_lem, IsNear}};
 
 use crate::firsts::Firsts;
-use crate::jumps::lane_at;
 use crate::question::Question;
 use hw_dag::{Dag, UnitNo, View};
 
@@ -30,7 +29,7 @@ pub fn quorum_start(
     let mut high = last;
     while low < high {
         let middle = low + (high - low) / 2;
-        let no = lane_at(question.dag, tip, middle);
+        let no = question.dag.unit_on_lane(tip, middle);
         if has_quorum(question, no, firsts) {
             high = middle;
         } else {

@@ -93,55 +93,31 @@ fn whole_vertex(alloc: Global, body: &[u8]) -> Result<Vertex, CodecError>
     decode_vertex(alloc, body)
 }
 
-#[tactic(auto, unfolding(hw_types::specs::Reading::whole))]
+#[tactic(auto, unfolding(hw_types::specs::Reading::whole, crate::specs::Frames::summary_at))]
 fn whole_summary(alloc: Global, validators: u32, body: &[u8]) -> Result<SummaryList, CodecError>
     ensures { Gives (λ parts. parts) result (whole (summary_at validators) body.now) }
 {
     let mut reader = Reader::new(body);
-    let parts = read_summary(alloc, validators, &mut reader)?;
+    let place = reader.place();
+    let parts = read_parts(alloc, validators, &mut reader)?;
+    if parts.len() != validators as usize {
+        return Err(CodecError::OutOfRange(place));
+    }
     reader.end()?;
     Ok(parts)
 }
 
-#[tactic(auto, unfolding(crate::specs::Frames::summary_at))]
-fn read_summary(
-    alloc: Global,
-    validators: u32,
-    reader: &mut Reader<'_>,
-) -> Result<SummaryList, CodecError>
-    ensures { Gives (λ parts. (parts, reader.new)) result (summary_at validators reader.old) }
-{
-    let place = reader.place();
-    let parts = read_parts(alloc, validators, reader)?;
-    if parts.len() != validators as usize {
-        return Err(CodecError::OutOfRange(place));
-    }
-    Ok(parts)
-}
-
-#[tactic(auto, unfolding(hw_types::specs::Reading::whole))]
+#[tactic(auto, unfolding(hw_types::specs::Reading::whole, crate::specs::Frames::torn_at))]
 fn whole_torn(alloc: Global, validators: u32, body: &[u8]) -> Result<IndexList, CodecError>
     ensures { Gives (λ numbers. numbers) result (whole (torn_at validators) body.now) }
 {
     let mut reader = Reader::new(body);
-    let numbers = read_torn(alloc, validators, &mut reader)?;
-    reader.end()?;
-    Ok(numbers)
-}
-
-#[tactic(auto, unfolding(crate::specs::Frames::torn_at))]
-fn read_torn(
-    alloc: Global,
-    validators: u32,
-    reader: &mut Reader<'_>,
-) -> Result<IndexList, CodecError>
-    ensures { Gives (λ numbers. (numbers, reader.new)) result (torn_at validators reader.old) }
-{
     let place = reader.place();
-    let numbers: IndexList = read_list(alloc, validators, reader)?;
+    let numbers: IndexList = read_list(alloc, validators, &mut reader)?;
     if !are_validators(validators, numbers.as_slice()) {
         return Err(CodecError::OutOfRange(place));
     }
+    reader.end()?;
     Ok(numbers)
 }
 

@@ -74,24 +74,7 @@ impl Sight<'_> {
         self.has_below(named, marks) && self.dag.sees(named, no, marks)
     }
 
-    /// Whether another one is below a unit of the endorsed list. Where all of the list is known to be below, one
-    /// walk at most tells of all names together.
-    pub fn is_below_endorsed(&self, no: UnitNo, listed: &Listed, marks: &mut Marks) -> bool
-        requires sight { IsSight self.now.dag.now self.now.panorama.now self.now.validators }
-        requires known { no.0 < count_of self.now.dag.now }
-        requires room { HasRoom self.now.panorama.now marks.old }
-        requires listed { IsListed self.now.dag.now self.now.panorama.now self.now.endorsed.now listed.now }
-        ensures below { IsTrue result ↔ IsBelowEndorsed self.now.dag.now self.now.panorama.now self.now.endorsed.now no.0 }
-        ensures room { marks.new ≡ marks.old }
-    {
-        if listed.is_below {
-            self.is_below_whole(no, listed, marks)
-        } else {
-            self.is_below_one_by_one(no, marks)
-        }
-    }
-
-    /// `is_below_endorsed`, where all of the list is below.
+    /// `is_covered`, where all of the list is below.
     fn is_below_whole(&self, no: UnitNo, listed: &Listed, marks: &mut Marks) -> bool
         requires sight { IsSight self.now.dag.now self.now.panorama.now self.now.validators }
         requires known { no.0 < count_of self.now.dag.now }
@@ -107,7 +90,7 @@ impl Sight<'_> {
         }
     }
 
-    /// `is_below_endorsed`, name by name.
+    /// `is_covered`, name by name.
     fn is_below_one_by_one(&self, no: UnitNo, marks: &mut Marks) -> bool
         requires sight { IsSight self.now.dag.now self.now.panorama.now self.now.validators }
         requires known { no.0 < count_of self.now.dag.now }
@@ -137,7 +120,8 @@ impl Sight<'_> {
         end
     }
 
-    /// `is_below_endorsed`, by the end of the list first. A unit from there on is below none of it.
+    /// Whether another one is below a unit of the endorsed list. A unit from the end of the list on is below none
+    /// of it. Where all of the list is known to be below, one walk at most tells of all names together.
     pub fn is_covered(&self, no: UnitNo, listed: &Listed, marks: &mut Marks) -> bool
         requires sight { IsSight self.now.dag.now self.now.panorama.now self.now.validators }
         requires known { no.0 < count_of self.now.dag.now }
@@ -146,7 +130,13 @@ impl Sight<'_> {
         ensures below { IsTrue result ↔ IsBelowEndorsed self.now.dag.now self.now.panorama.now self.now.endorsed.now no.0 }
         ensures room { marks.new ≡ marks.old }
     {
-        no.0 < listed.end && self.is_below_endorsed(no, listed, marks)
+        if no.0 >= listed.end {
+            false
+        } else if listed.is_below {
+            self.is_below_whole(no, listed, marks)
+        } else {
+            self.is_below_one_by_one(no, marks)
+        }
     }
 
     /// The tip that stands for the candidate's lane too, or the fork that the two are.

@@ -2,9 +2,10 @@
 
 ghost use Rattle.std.specs.Prelude.{◌≡◌, ◌+◌, ◌≤◌, length, not, position, IfOk, OnOk};
 ghost use Rattle.hw_types.specs.Graph.{digest_lt};
-ghost use Rattle.hw_script_grammar.specs.{Words.{each, one_or_more}, Names.{digest_as}, Units.{put_digest, in_order, endorsed_names, unit_endorsed}, Answers.{Gives}};
+ghost use Rattle.hw_script_grammar.specs.{Names.{digest_as}, Units.{put_digest, in_order, endorsed_names, unit_endorsed}, Answers.{Gives}};
 
 use crate::fault::Fault;
+use crate::lists::{Meaning, one_or_more};
 use crate::names::Names;
 use crate::words::Words;
 use hw_types::{Digest, DigestList, MAX_LIST, OutOfMemory};
@@ -33,43 +34,26 @@ fn endorsed_names(alloc: Global, names: &Names, words: &mut Words<'_>) -> Result
     ensures list { Gives (λ list. list) result (endorsed_names names.now words.old) }
     ensures fits { IfOk result (λ list. length list ≤ 256) }
 {
-    let list = some_digests(alloc, names, words)?;
+    let list = one_or_more(alloc, &DigestOf { names }, words)?;
     if list.len() > MAX_LIST {
         return Err(Fault::Grammar);
     }
     Ok(in_order(alloc, list.as_slice())?)
 }
 
-/// The digests of one or more names.
-#[tactic(auto, using(crate::proofs::EachLaws::some_words, crate::proofs::EachLaws::no_words))]
-fn some_digests(alloc: Global, names: &Names, words: &mut Words<'_>) -> Result<DigestList, Fault>
-    ensures { Gives (λ list. list) result (one_or_more (digest_as names.now) words.old) }
-{
-    if words.is_end() {
-        return Err(Fault::Grammar);
-    }
-    each_digest(alloc, names, words)
+/// A word is the name of a unit, and means its digest.
+#[derive(Clone, Copy)]
+struct DigestOf<'a> {
+    names: &'a Names,
 }
 
-/// The digests of the names that the words are.
-#[tactic(auto, using(crate::proofs::EachLaws::goes_on, crate::proofs::EachLaws::stops, crate::proofs::EachLaws::is_done, crate::proofs::EachLaws::begins))]
-fn each_digest(alloc: Global, names: &Names, words: &mut Words<'_>) -> Result<DigestList, Fault>
-    ensures { Gives (λ list. list) result (each (digest_as names.now) words.old) }
-{
-    let mut list = DigestList::new(alloc);
-    while let Some(word) = words.next() {
-        list.push(digest_as(names, word)?)?;
-    }
-    Ok(list)
-}
+impl Meaning for DigestOf<'_> {
+    type Item = Digest;
 
-/// The digest of the unit that is defined under the name.
-fn digest_as(names: &Names, word: &[u8]) -> Result<Digest, Fault>
-    ensures { Gives (λ digest. digest) result (digest_as names.now word.now) }
-{
-    match names.digest(word) {
-        Some(digest) => Ok(digest),
-        None => Err(Fault::Grammar),
+    ghost of = { λ digest. digest_as digest.names.now };
+
+    fn read(&self, word: &[u8]) -> Result<Digest, Fault> {
+        self.names.digest(word).ok_or(Fault::Grammar)
     }
 }
 

@@ -1,4 +1,4 @@
-//! Lists of numbers to the end of a line.
+//! Lists of what words mean, to the end of a line.
 
 ghost use Rattle.std.specs.Prelude.{◌^◌};
 ghost use Rattle.hw_script_grammar.specs.{Numbers.{number_below}, Words.{one_or_more, each}, Answers.{Gives}};
@@ -6,71 +6,94 @@ ghost use Rattle.hw_script_grammar.specs.{Numbers.{number_below}, Words.{one_or_
 use crate::fault::Fault;
 use crate::numbers::number_up_to;
 use crate::words::Words;
-use hw_types::{IndexList, WeightList};
+use hw_types::{IndexList, Items, WeightList};
 use std::alloc::Global;
 
-/// One or more numbers below 2^64.
+/// What the words of a list mean.
+pub(crate) trait Meaning {
+    ghost use Rattle.std.specs.Prelude.{Option};
+    ghost use Rattle.hw_script_grammar.specs.Words.{Word};
+
+    type Item: Copy;
+
+    /// What one word means.
+    ghost of: { Self → Word → Option Self.Item };
+
+    /// What the word means.
+    fn read(&self, word: &[u8]) -> Result<Self::Item, Fault>
+        ensures { Gives (λ item. item) result (of self.now word.now) };
+}
+
+/// What one or more words mean.
 #[tactic(auto, using(crate::proofs::EachLaws::some_words, crate::proofs::EachLaws::no_words))]
+pub(crate) fn one_or_more<M: Meaning>(
+    alloc: Global,
+    meaning: &M,
+    words: &mut Words<'_>,
+) -> Result<Items<M::Item>, Fault>
+    ensures { Gives (λ list. list) result (one_or_more (M.of meaning.now) words.old) }
+{
+    if words.is_end() {
+        return Err(Fault::Grammar);
+    }
+    each(alloc, meaning, words)
+}
+
+/// What each of the words means.
+#[tactic(auto, using(crate::proofs::EachLaws::goes_on, crate::proofs::EachLaws::stops, crate::proofs::EachLaws::is_done, crate::proofs::EachLaws::begins))]
+fn each<M: Meaning>(
+    alloc: Global,
+    meaning: &M,
+    words: &mut Words<'_>,
+) -> Result<Items<M::Item>, Fault>
+    ensures { Gives (λ list. list) result (each (M.of meaning.now) words.old) }
+{
+    let mut list = Items::new(alloc);
+    while let Some(word) = words.next() {
+        list.push(meaning.read(word)?)?;
+    }
+    Ok(list)
+}
+
+/// One or more numbers below 2^64.
 pub(crate) fn weights(alloc: Global, words: &mut Words<'_>) -> Result<WeightList, Fault>
     ensures { Gives (λ list. list) result (one_or_more (number_below (2 ^ 64)) words.old) }
 {
-    if words.is_end() {
-        return Err(Fault::Grammar);
-    }
-    each_weight(alloc, words)
-}
-
-/// The numbers below 2^64 that the words are.
-#[tactic(auto, using(crate::proofs::EachLaws::goes_on, crate::proofs::EachLaws::stops, crate::proofs::EachLaws::is_done, crate::proofs::EachLaws::begins))]
-fn each_weight(alloc: Global, words: &mut Words<'_>) -> Result<WeightList, Fault>
-    ensures { Gives (λ list. list) result (each (number_below (2 ^ 64)) words.old) }
-{
-    let mut list = WeightList::new(alloc);
-    while let Some(word) = words.next() {
-        list.push(weight(word)?)?;
-    }
-    Ok(list)
-}
-
-/// The number below 2^64 that the word is.
-fn weight(word: &[u8]) -> Result<u64, Fault>
-    ensures { Gives (λ n. n) result (number_below (2 ^ 64) word.now) }
-{
-    match number_up_to(u64::MAX, word) {
-        Some(number) => Ok(number),
-        None => Err(Fault::Grammar),
-    }
+    one_or_more(alloc, &Weight, words)
 }
 
 /// One or more numbers below 2^32.
-#[tactic(auto, using(crate::proofs::EachLaws::some_words, crate::proofs::EachLaws::no_words))]
 pub(crate) fn counts(alloc: Global, words: &mut Words<'_>) -> Result<IndexList, Fault>
     ensures { Gives (λ list. list) result (one_or_more (number_below (2 ^ 32)) words.old) }
 {
-    if words.is_end() {
-        return Err(Fault::Grammar);
-    }
-    each_count(alloc, words)
+    one_or_more(alloc, &Count, words)
 }
 
-/// The numbers below 2^32 that the words are.
-#[tactic(auto, using(crate::proofs::EachLaws::goes_on, crate::proofs::EachLaws::stops, crate::proofs::EachLaws::is_done, crate::proofs::EachLaws::begins))]
-fn each_count(alloc: Global, words: &mut Words<'_>) -> Result<IndexList, Fault>
-    ensures { Gives (λ list. list) result (each (number_below (2 ^ 32)) words.old) }
-{
-    let mut list = IndexList::new(alloc);
-    while let Some(word) = words.next() {
-        list.push(count(word)?)?;
+/// A word means a number below 2^64.
+#[derive(Clone, Copy)]
+struct Weight;
+
+impl Meaning for Weight {
+    type Item = u64;
+
+    ghost of = { λ _. number_below (2 ^ 64) };
+
+    fn read(&self, word: &[u8]) -> Result<u64, Fault> {
+        number_up_to(u64::MAX, word).ok_or(Fault::Grammar)
     }
-    Ok(list)
 }
 
-/// The number below 2^32 that the word is.
-fn count(word: &[u8]) -> Result<u32, Fault>
-    ensures { Gives (λ n. n) result (number_below (2 ^ 32) word.now) }
-{
-    match number_up_to(u64::from(u32::MAX), word) {
-        Some(number) => Ok(number as u32),
-        None => Err(Fault::Grammar),
+/// A word means a number below 2^32.
+#[derive(Clone, Copy)]
+struct Count;
+
+impl Meaning for Count {
+    type Item = u32;
+
+    ghost of = { λ _. number_below (2 ^ 32) };
+
+    fn read(&self, word: &[u8]) -> Result<u32, Fault> {
+        let number = number_up_to(u64::from(u32::MAX), word).ok_or(Fault::Grammar)?;
+        Ok(number as u32)
     }
 }

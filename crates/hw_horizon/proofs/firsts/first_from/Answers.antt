@@ -5,7 +5,7 @@ use Rattle.hw_horizon.proofs.FirstLaws.{lane_from, lane_ends}
 use Rattle.hw_horizon.proofs.firsts.first_from.Goals as goal
 
 pub returns-then-start-signed : goal.returns-then-start-signed
-returns-then-start-signed c = lane_from c.args.dag.now c.requires.graph c.args.tip.0 c.args.start c.lane_at.result.0 c.requires.known c.lane_at.ensures
+returns-then-start-signed c = lane_from c.args.dag.now c.requires.graph c.args.tip.0 c.args.start c.unit_on_lane.result.0 c.requires.known c.unit_on_lane.ensures
 
 pub returns-else-start-signed : goal.returns-else-start-signed
 returns-else-start-signed c =

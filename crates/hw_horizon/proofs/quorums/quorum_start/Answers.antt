@@ -14,4 +14,4 @@ pub loop-low-preserved-then-has_quorum : goal.loop-low-preserved-then-has_quorum
 loop-low-preserved-then-has_quorum c =
     let less = c.loop-low-test.true in
     searched_down c.args.question.now.dag.now c.args.question.now.asked.graph_is c.args.tip.0 c.args.floor c.requires.known (has_quorum c.args.question.now.weights.now c.args.question.now.dag.now c.args.question.now.quorum c.args.firsts.now) c.requires.suffix
-    c.loop-low.low c.loop-low.high _ c.lane_at-no.result.0 c.loop-low.invariant (omega arith) (omega arith) c.lane_at-no.ensures (sym c.has_quorum.ensures ∙ c.if-has_quorum.true)
+    c.loop-low.low c.loop-low.high _ c.unit_on_lane-no.result.0 c.loop-low.invariant (omega arith) (omega arith) c.unit_on_lane-no.ensures (sym c.has_quorum.ensures ∙ c.if-has_quorum.true)
