@@ -4,19 +4,15 @@ ghost use Rattle.std.specs.Prelude.{◌≡◌, ◌⊎◌, ◌++◌, codes, IsTru
 ghost use Rattle.hw_io.specs.Faults.{Rose};
 ghost use Rattle.hw_text.specs.{Text.{number_text}, Lines.{line_feed}};
 ghost use Rattle.hw_log.specs.{Rewritten.{mended_of, migrated_of}, Migrated.{HoldsAnew}};
-ghost use Rattle.hw_commands.specs.Faults.{HasRunFault, IsReadEnd};
-ghost use Rattle.hw_commands.specs.Due.{FailsDue};
-ghost use Rattle.hw_commands.specs.Files.{IsRewrite, status_of};
-ghost use Rattle.hw_commands.specs.Texts.{input_ended};
-ghost use Rattle.hw_commands.specs.Rewritten.{IsUnwritten, IsFaultOf};
-ghost use Rattle.hw_commands.specs.Program.{ended, mend_said, migrate_said};
+ghost use Rattle.hw_commands.specs.{Faults.{HasRunFault, IsReadEnd}, Due.{FailsDue}, Files.{IsRewrite, status_of}, Texts.{input_ended}, Rewritten.{IsUnwritten, IsFaultOf}, Program.{ended, mend_said, migrate_said}};
 ghost use Rattle.hw_commands.specs.declared.ended.RunFault.TheVariants as RunFaults;
 
-use crate::ended::{DONE, Ended, INPUT, RunFault};
-use crate::faults::{bad_log, input};
+use crate::ended::{DONE, Ended, RunFault};
+use crate::faults::{bad_input, bad_log};
+use crate::texts::Wrong;
 use hw_io::Files;
 use hw_log::{LogError, RewriteFault, mend, migrate};
-use hw_text::{end_line, put_numbered, put_word};
+use hw_text::{end_line, put_numbered};
 use hw_types::{Bytes, OutOfMemory};
 use std::alloc::Global;
 
@@ -86,15 +82,8 @@ fn unwritten(alloc: Global, log: &str, new: &str, fault: RewriteFault) -> Result
 }
 
 /// The file that was to be new is there.
-#[tactic(auto, using(std::proofs::Common::append_assoc), unfolding(crate::specs::Texts::input_ended))]
 pub fn there(alloc: Global, name: &str) -> Result<Ended, OutOfMemory>
     ensures { IfOk result (λ ended. ended ≡ input_ended name.now (codes "exists")) }
 {
-    let mut text = input(alloc, name)?;
-    put_word(&mut text, "exists")?;
-    end_line(&mut text)?;
-    Ok(Ended {
-        status: INPUT,
-        text,
-    })
+    bad_input(alloc, name, Wrong::Words("exists"))
 }
