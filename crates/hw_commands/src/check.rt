@@ -14,7 +14,7 @@ ghost use Rattle.hw_commands.specs.Program.{ended, or_misread, certificate_said,
 ghost use Rattle.hw_commands.specs.declared.ended.RunFault.TheVariants as RunFaults;
 
 use crate::audit::audit_certified;
-use crate::ended::{DONE, Ended, NO, RunFault};
+use crate::ended::{DONE, Ended, Ending, NO, RunFault};
 use crate::faults::{bad_input, bad_keys, bytes_of};
 use crate::texts::Wrong;
 use hw_core::Core;
@@ -37,7 +37,7 @@ pub fn checked<F: Files>(
     file: &str,
     keys: &str,
     log: Option<&str>,
-) -> Result<Ended, RunFault>
+) -> Ending
     ensures said { IsTrue F.tells → IfOk result (λ e. e ≡ ended (check_said (F.held files.old) file.now keys.now (option_copied log.entry))) }
     ensures alike { IsTrue F.tells → IfOk result (λ e. e.status ≡ 3 → IsAlikeIn (F.held files.old) file.now (option_copied log.entry)) }
     ensures status { IfOk result (λ e. IsCheckEnd e.status) }
@@ -86,7 +86,7 @@ fn decoded(alloc: Global, file: &str, bytes: &[u8]) -> Result<Result<Certificate
 }
 
 /// The bytes can't be read as a certificate.
-fn undecoded(alloc: Global, file: &str, error: CertError) -> Result<Ended, RunFault>
+fn undecoded(alloc: Global, file: &str, error: CertError) -> Ending
     ensures said { IfOk result (λ e. (e ≡ input_ended file.now (error_text error)) × (error ≢ CertErrors.OutOfMemory)) }
     ensures fault { IfErr result (λ fault. fault ≡ RunFaults.OutOfMemory) }
 {
@@ -104,7 +104,7 @@ fn check<F: Files>(
     certificate: &Certificate,
     keys: &str,
     log: Option<&str>,
-) -> Result<Ended, RunFault>
+) -> Ending
     requires { All VertexFits certificate.now.vertices }
     ensures said { IsTrue F.tells → IfOk result (λ e. e ≡ ended (checked_said (F.held files.old) file.now keys.now (option_copied log.entry) certificate.now (config_fault certificate.now.config))) }
     ensures alike { IsTrue F.tells → IfOk result (λ e. e.status ≡ 3 → IsAlike (F.held files.old) certificate.now (option_copied log.entry)) }
@@ -130,7 +130,7 @@ fn check_lawful<F: Files>(
     certificate: &Certificate,
     keys: &str,
     log: Option<&str>,
-) -> Result<Ended, RunFault>
+) -> Ending
     requires fits { All VertexFits certificate.now.vertices }
     requires lawful { config_fault certificate.now.config ≡ None }
     ensures said { IsTrue F.tells → IfOk result (λ e. e ≡ ended (checked_said (F.held files.old) file.now keys.now (option_copied log.entry) certificate.now None)) }
@@ -193,7 +193,7 @@ fn check_with<F: Files>(
     certificate: &Certificate,
     keys: &Keys,
     log: Option<&str>,
-) -> Result<Ended, RunFault>
+) -> Ending
     requires { All VertexFits certificate.now.vertices }
     ensures said { IsTrue F.tells → IfOk result (λ e. e ≡ ended (answer_said (F.held files.old) file.now certificate.now (option_copied log.entry) (checked_of certificate.now (verdicts_by keys.now certificate.now.vertices)))) }
     ensures alike { IsTrue F.tells → IfOk result (λ e. e.status ≡ 3 → IsAlike (F.held files.old) certificate.now (option_copied log.entry)) }
@@ -216,7 +216,7 @@ fn answer<F: Files>(
     certificate: &Certificate,
     checked: &Checked,
     log: Option<&str>,
-) -> Result<Ended, RunFault>
+) -> Ending
     requires { IfYes (IsCertified certificate.now) checked.now }
     ensures said { IsTrue F.tells → IfOk result (λ e. e ≡ ended (answer_said (F.held files.old) file.now certificate.now (option_copied log.entry) checked.now)) }
     ensures alike { IsTrue F.tells → IfOk result (λ e. e.status ≡ 3 → IsAlike (F.held files.old) certificate.now (option_copied log.entry)) }

@@ -10,7 +10,7 @@ ghost use Rattle.hw_commands.specs.Program.{Held, Part, ended, eras_said, era_au
 ghost use Rattle.hw_commands.specs.declared.ended.Ended.{Ended as RunEnd};
 ghost use Rattle.hw_commands.specs.declared.ended.RunFault.TheVariants as RunFaults;
 
-use crate::ended::{DONE, Ended, RunFault};
+use crate::ended::{DONE, Ended, Ending, RunFault};
 use crate::faults::{bad_input, stopped};
 use crate::texts::Wrong;
 use hw_eras::{EraStop, report_logs};
@@ -18,7 +18,7 @@ use hw_io::Files;
 use std::alloc::Global;
 
 /// Reports on the eras of these logs, one log for each era.
-pub fn eras<F: Files>(alloc: Global, files: &mut F, logs: &[String]) -> Result<Ended, RunFault>
+pub fn eras<F: Files>(alloc: Global, files: &mut F, logs: &[String]) -> Ending
     requires some { 1 ≤ length logs.now }
     requires few { length logs.now ≤ 64 }
     ensures said { IsTrue F.tells → IfOk result (λ e. e ≡ ended (eras_said (F.held files.old) (map string_bytes logs.now))) }
@@ -43,7 +43,7 @@ pub fn audit_eras<F: Files>(
     files: &mut F,
     left: &[String],
     right: &[String],
-) -> Result<Ended, RunFault>
+) -> Ending
     requires left_some { 1 ≤ length left.now }
     requires left_few { length left.now ≤ 64 }
     requires right_some { 1 ≤ length right.now }
@@ -67,7 +67,7 @@ pub fn audit_eras<F: Files>(
 }
 
 /// The logs of eras stopped there.
-fn logs_stopped(alloc: Global, stop: EraStop<'_>) -> Result<Ended, RunFault>
+fn logs_stopped(alloc: Global, stop: EraStop<'_>) -> Ending
     ensures said { IfOk result (EndsBy stop.entry) }
     ensures status { IfOk result (λ e. IsReadEnd e.status) }
     ensures cause { (before now : ℕ) → IsEraCounted {T = Unit {0}} before now (Err stop.entry) → IsReadCounted before now result }

@@ -11,7 +11,7 @@ ghost use Rattle.hw_commands.specs.Faults.{HasReadFault, IsReadOf, IsReadCounted
 ghost use Rattle.hw_commands.specs.Texts.{usage_line, log_text, wrong_text, input_ended, limit_ended, clash_ended, stopped_ended};
 ghost use Rattle.hw_commands.specs.declared.ended.RunFault.TheVariants as RunFaults;
 
-use crate::ended::{CLASH, Ended, INPUT, LIMIT, RunFault, USAGE};
+use crate::ended::{CLASH, Ended, Ending, INPUT, LIMIT, RunFault, USAGE};
 use crate::texts::{Wrong, put_wrong};
 use hw_io::{Files, IoFault};
 use hw_log::{LogError, read_file};
@@ -49,7 +49,7 @@ pub fn bytes_of<F: Files>(alloc: Global, files: &mut F, name: &str) -> Result<By
 }
 
 /// The replay of the log under this name stopped.
-pub fn stopped(alloc: Global, name: &str, fault: StartFault) -> Result<Ended, RunFault>
+pub fn stopped(alloc: Global, name: &str, fault: StartFault) -> Ending
     ensures said { IfOk result (λ ended. (ended ≡ stopped_ended name.now fault) × IsReadEnd ended.status × (IsOutside fault → ⊥)) }
     ensures cause { (before now : ℕ) → IsReplayCounted {T = Unit {0}} before now (Err fault) → IsReadCounted before now result }
     ensures read { IfErr result (λ f. f ≡ RunFaults.Read → fault ≡ StartFaults.Log LogErrors.ReadFault) }
@@ -66,7 +66,7 @@ pub fn stopped(alloc: Global, name: &str, fault: StartFault) -> Result<Ended, Ru
 }
 
 /// The log under this name can't be read on.
-fn unread(alloc: Global, name: &str, error: LogError) -> Result<Ended, RunFault>
+fn unread(alloc: Global, name: &str, error: LogError) -> Ending
     ensures said { IfOk result (λ ended. (ended ≡ stopped_ended name.now (StartFaults.Log error)) × IsReadEnd ended.status × (IsOutside (StartFaults.Log error) → ⊥)) }
     ensures cause { (before now : ℕ) → IsReplayCounted {T = Unit {0}} before now (Err (StartFaults.Log error)) → IsReadCounted before now result }
     ensures read { IfErr result (λ f. f ≡ RunFaults.Read → error ≡ LogErrors.ReadFault) }

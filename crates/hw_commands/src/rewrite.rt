@@ -7,7 +7,7 @@ ghost use Rattle.hw_log.specs.{Rewritten.{mended_of, migrated_of}, Migrated.{Hol
 ghost use Rattle.hw_commands.specs.{Faults.{HasRunFault, IsReadEnd}, Due.{FailsDue}, Files.{IsRewrite, status_of}, Texts.{input_ended}, Rewritten.{IsUnwritten, IsFaultOf}, Program.{ended, mend_said, migrate_said}};
 ghost use Rattle.hw_commands.specs.declared.ended.RunFault.TheVariants as RunFaults;
 
-use crate::ended::{DONE, Ended, RunFault};
+use crate::ended::{DONE, Ended, Ending, RunFault};
 use crate::faults::{bad_input, bad_log};
 use crate::texts::Wrong;
 use hw_io::Files;
@@ -18,12 +18,7 @@ use std::alloc::Global;
 
 /// Writes the whole entries of the log under the one word into a new file under the other, and says how the
 /// run ends.
-pub fn mended<F: Files>(
-    alloc: Global,
-    files: &mut F,
-    log: &str,
-    new: &str,
-) -> Result<Ended, RunFault>
+pub fn mended<F: Files>(alloc: Global, files: &mut F, log: &str, new: &str) -> Ending
     ensures said { IsTrue F.tells → IfOk result (λ e. e ≡ ended (mend_said (F.held files.old) log.now new.now)) }
     ensures status { IfOk result (λ e. IsReadEnd e.status) }
     ensures fault { HasRunFault (F.read_faults files.old) (F.read_faults files.new) (F.append_faults files.old) (F.append_faults files.new) result }
@@ -37,12 +32,7 @@ pub fn mended<F: Files>(
 }
 
 /// Writes the log under the one word in version 2 into a new file under the other, and says how the run ends.
-pub fn migrated<F: Files>(
-    alloc: Global,
-    files: &mut F,
-    log: &str,
-    new: &str,
-) -> Result<Ended, RunFault>
+pub fn migrated<F: Files>(alloc: Global, files: &mut F, log: &str, new: &str) -> Ending
     ensures said { IsTrue F.tells → IfOk result (λ e. e ≡ ended (migrate_said (F.held files.old) log.now new.now)) }
     ensures status { IfOk result (λ e. IsReadEnd e.status) }
     ensures fault { HasRunFault (F.read_faults files.old) (F.read_faults files.new) (F.append_faults files.old) (F.append_faults files.new) result }
@@ -57,7 +47,7 @@ pub fn migrated<F: Files>(
 }
 
 /// The line of what was done.
-fn count_ended(alloc: Global, words: &str, count: u64) -> Result<Ended, RunFault>
+fn count_ended(alloc: Global, words: &str, count: u64) -> Ending
     ensures said { IfOk result (λ e. e ≡ record { status = 0; text = words.now ++ number_text count ++ line_feed }) }
     ensures fault { IfErr result (λ fault. fault ≡ RunFaults.OutOfMemory) }
 {
@@ -68,7 +58,7 @@ fn count_ended(alloc: Global, words: &str, count: u64) -> Result<Ended, RunFault
 }
 
 /// Why nothing was written anew.
-fn unwritten(alloc: Global, log: &str, new: &str, fault: RewriteFault) -> Result<Ended, RunFault>
+fn unwritten(alloc: Global, log: &str, new: &str, fault: RewriteFault) -> Ending
     ensures said { IfOk result (λ e. IsUnwritten log.now new.now fault e) }
     ensures fault { IfErr result (IsFaultOf fault) }
 {

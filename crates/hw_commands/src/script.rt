@@ -6,7 +6,7 @@ ghost use Rattle.hw_script.specs.Output.{output_of};
 ghost use Rattle.hw_commands.specs.{Faults.{HasReadFault, IsReadEnd}, Due.{FailsDue}, Scripted.{script_ended}, Program.{ended, script_said}};
 ghost use Rattle.hw_commands.specs.declared.ended.RunFault.TheVariants as RunFaults;
 
-use crate::ended::{DONE, Ended, RunFault};
+use crate::ended::{DONE, Ended, Ending, RunFault};
 use crate::faults::{bad_input, bytes_of};
 use crate::texts::Wrong;
 use hw_io::Files;
@@ -14,7 +14,7 @@ use hw_script::{ScriptError, run_script};
 use std::alloc::Global;
 
 /// Runs the script in the file under this word, and says how the run ends.
-pub fn script<F: Files>(alloc: Global, files: &mut F, file: &str) -> Result<Ended, RunFault>
+pub fn script<F: Files>(alloc: Global, files: &mut F, file: &str) -> Ending
     ensures said { IsTrue F.tells → IfOk result (λ e. e ≡ ended (script_said (F.held files.old) file.now)) }
     ensures status { IfOk result (λ e. IsReadEnd e.status) }
     ensures fault { HasReadFault (F.read_faults files.old) (F.read_faults files.new) result }
@@ -28,7 +28,7 @@ pub fn script<F: Files>(alloc: Global, files: &mut F, file: &str) -> Result<Ende
 }
 
 /// What the script prints, or which of its lines is outside the grammar.
-fn scripted(alloc: Global, name: &str, text: &[u8]) -> Result<Ended, RunFault>
+fn scripted(alloc: Global, name: &str, text: &[u8]) -> Ending
     ensures said { IfOk result (λ e. e ≡ script_ended name.now (output_of text.now)) }
     ensures status { IfOk result (λ e. IsReadEnd e.status) }
     ensures fault { IfErr result (λ fault. fault ≡ RunFaults.OutOfMemory) }
