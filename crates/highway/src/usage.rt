@@ -9,175 +9,45 @@ use hw_program::{
 };
 use hw_script_grammar::number_up_to;
 
-/// A command, how many words stand behind it, and which of them are numbers.
-struct Form {
-    command: &'static str,
-    least: usize,
-    most: usize,
-    numbers: &'static [Number],
-}
+/// A command, the least and the most words that stand behind it, and which of them are numbers.
+struct Form(&'static str, usize, usize, &'static [Number]);
 
-/// A word that is a number: its place behind the command, its name, and its range.
-struct Number {
-    place: usize,
-    name: &'static str,
-    least: u64,
-    most: u64,
-}
+/// A word that is a number: its place behind the command, its name, and the least and the most that it is.
+struct Number(usize, &'static str, u64, u64);
 
-const NUMBER: Number = Number {
-    place: 0,
-    name: "NUMBER",
-    least: 0,
-    most: u64::MAX,
-};
+const NUMBER: Number = Number(0, "NUMBER", 0, u64::MAX);
 
-const ROUNDS: Number = Number {
-    place: 1,
-    name: "ROUNDS",
-    least: 1,
-    most: MAX_ROUNDS,
-};
+const ROUNDS: Number = Number(1, "ROUNDS", 1, MAX_ROUNDS);
 
-const NODES: Number = Number {
-    place: 1,
-    name: "NODES",
-    least: 1,
-    most: MAX_NODES,
-};
+const NODES: Number = Number(1, "NODES", 1, MAX_NODES);
 
-const STEPS: Number = Number {
-    place: 2,
-    name: "STEPS",
-    least: 0,
-    most: MAX_STEPS,
-};
+const STEPS: Number = Number(2, "STEPS", 0, MAX_STEPS);
 
-const COUNT: Number = Number {
-    place: 0,
-    name: "COUNT",
-    least: 1,
-    most: MAX_LOGS,
-};
+const COUNT: Number = Number(0, "COUNT", 1, MAX_LOGS);
 
-const SESSIONS: Number = Number {
-    place: 4,
-    name: "SESSIONS",
-    least: 1,
-    most: MAX_SESSIONS,
-};
+const SESSIONS: Number = Number(4, "SESSIONS", 1, MAX_SESSIONS);
 
-const ME: Number = Number {
-    place: 3,
-    name: "ME",
-    least: 0,
-    most: MAX_VALIDATOR,
-};
+const ME: Number = Number(3, "ME", 0, MAX_VALIDATOR);
 
-const TURNS: Number = Number {
-    place: 4,
-    name: "TURNS",
-    least: 1,
-    most: MAX_TURNS,
-};
+const TURNS: Number = Number(4, "TURNS", 1, MAX_TURNS);
 
 const FORMS: [Form; 16] = [
-    Form {
-        command: "replay",
-        least: 1,
-        most: 1,
-        numbers: &[],
-    },
-    Form {
-        command: "explain",
-        least: 1,
-        most: 1,
-        numbers: &[],
-    },
-    Form {
-        command: "audit",
-        least: 2,
-        most: 2,
-        numbers: &[],
-    },
-    Form {
-        command: "script",
-        least: 1,
-        most: 1,
-        numbers: &[],
-    },
-    Form {
-        command: "mend",
-        least: 2,
-        most: 2,
-        numbers: &[],
-    },
-    Form {
-        command: "migrate",
-        least: 2,
-        most: 2,
-        numbers: &[],
-    },
-    Form {
-        command: "certify",
-        least: 3,
-        most: 3,
-        numbers: &[],
-    },
-    Form {
-        command: "check",
-        least: 2,
-        most: 3,
-        numbers: &[],
-    },
-    Form {
-        command: "gen",
-        least: 2,
-        most: 2,
-        numbers: &[NUMBER, ROUNDS],
-    },
-    Form {
-        command: "sim",
-        least: 3,
-        most: 3,
-        numbers: &[NUMBER, NODES, STEPS],
-    },
-    Form {
-        command: "eras",
-        least: 1,
-        most: 64,
-        numbers: &[],
-    },
-    Form {
-        command: "era-audit",
-        least: 3,
-        most: 129,
-        numbers: &[COUNT],
-    },
-    Form {
-        command: "serve",
-        least: 5,
-        most: 5,
-        numbers: &[SESSIONS],
-    },
-    Form {
-        command: "host",
-        least: 5,
-        most: 5,
-        numbers: &[SESSIONS],
-    },
-    Form {
-        command: "run",
-        least: 6,
-        most: 21,
-        numbers: &[ME, TURNS],
-    },
-    Form {
-        command: "meet",
-        least: 4,
-        most: 4,
-        numbers: &[],
-    },
+    Form("replay", 1, 1, &[]),
+    Form("explain", 1, 1, &[]),
+    Form("audit", 2, 2, &[]),
+    Form("script", 1, 1, &[]),
+    Form("mend", 2, 2, &[]),
+    Form("migrate", 2, 2, &[]),
+    Form("certify", 3, 3, &[]),
+    Form("check", 2, 3, &[]),
+    Form("gen", 2, 2, &[NUMBER, ROUNDS]),
+    Form("sim", 3, 3, &[NUMBER, NODES, STEPS]),
+    Form("eras", 1, 64, &[]),
+    Form("era-audit", 3, 129, &[COUNT]),
+    Form("serve", 5, 5, &[SESSIONS]),
+    Form("host", 5, 5, &[SESSIONS]),
+    Form("run", 6, 21, &[ME, TURNS]),
+    Form("meet", 4, 4, &[]),
 ];
 
 /// The commands, one a line, with their words and the ranges of these.
@@ -234,7 +104,7 @@ fn tell_wrong_word(rt: &impl Eprint, words: &[String]) {
 
 fn form_of(command: &str) -> Option<&'static Form> {
     for form in &FORMS {
-        if form.command == command {
+        if form.0 == command {
             return Some(form);
         }
     }
@@ -243,15 +113,14 @@ fn form_of(command: &str) -> Option<&'static Form> {
 
 /// Tells what is wrong with the words behind a command.
 fn tell_of_form(rt: &impl Eprint, form: &Form, words: &[String]) {
-    let (command, count) = (form.command, words.len());
-    let (least, most) = (form.least, form.most);
-    if count < least || most < count {
+    let Form(command, least, most, numbers) = form;
+    let count = words.len();
+    if count < *least || *most < count {
         tell_count(rt, form, count);
         return;
     }
-    match wrong_number(form.numbers, words) {
-        Some(number) => {
-            let (name, least, most) = (number.name, number.least, number.most);
+    match wrong_number(numbers, words) {
+        Some(Number(_, name, least, most)) => {
             let _ = eprintln!(rt;
                 "highway: {name} of `{command}` is no number from {least} to {most}"
             );
@@ -262,7 +131,7 @@ fn tell_of_form(rt: &impl Eprint, form: &Form, words: &[String]) {
 
 /// Tells that so many words stand behind a command, which takes fewer or more.
 fn tell_count(rt: &impl Eprint, form: &Form, count: usize) {
-    let (command, least, most) = (form.command, form.least, form.most);
+    let Form(command, least, most, _) = form;
     let _ = if least == most {
         eprintln!(rt; "highway: words behind `{command}`: {count} in place of {least}")
     } else {
@@ -282,7 +151,7 @@ fn tell_of_other_words(rt: &impl Eprint, command: &str) {
 fn wrong_number<'n>(numbers: &'n [Number], words: &[String]) -> Option<&'n Number> {
     for number in numbers {
         if !words
-            .get(number.place)
+            .get(number.0)
             .is_some_and(|word| is_in_range(number, word.as_str()))
         {
             return Some(number);
@@ -293,5 +162,6 @@ fn wrong_number<'n>(numbers: &'n [Number], words: &[String]) -> Option<&'n Numbe
 
 /// Whether a word is a number in this range.
 fn is_in_range(number: &Number, word: &str) -> bool {
-    number_up_to(number.most, word.as_bytes()).is_some_and(|value| value >= number.least)
+    let Number(_, _, least, most) = number;
+    number_up_to(*most, word.as_bytes()).is_some_and(|value| value >= *least)
 }

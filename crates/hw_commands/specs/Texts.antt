@@ -5,10 +5,12 @@ use Rattle.hw_log.specs.declared.error.LogError.TheVariants as log
 use Rattle.hex.specs.Hex.{encode_lower}
 use Rattle.hw_text.specs.Text.{number_text}
 use Rattle.hw_text.specs.Lines.{line_of, line_feed}
-use Rattle.hw_light.specs.Texts.{codec_text, limit_text}
+use Rattle.hw_light.specs.Texts.{codec_text, limit_text, error_text}
 use Rattle.hw_replay.specs.declared.fault.StartFault.{StartFault}
 use Rattle.hw_replay.specs.declared.fault.StartFault.TheVariants as start
 use Rattle.hw_commands.specs.declared.ended.Ended.{Ended}
+use Rattle.hw_commands.specs.declared.texts.Wrong.{Wrong}
+use Rattle.hw_commands.specs.declared.texts.Wrong.TheVariants as wrong
 
 -- ---- what is wrong with the bytes of a log
 
@@ -26,6 +28,15 @@ log_text (log.BadVertex at e) = codes "bad vertex at " ++ number_text at ++ code
 log_text log.ReadFault = []
 log_text log.WriteFault = []
 log_text log.OutOfMemory = []
+
+-- ---- what is wrong with a file
+
+-- in words
+abbrev pub wrong_text : Wrong → List ℕ
+wrong_text (wrong.Words words) = words.now
+wrong_text (wrong.Numbered words number) = words.now ++ number_text number
+wrong_text (wrong.Log e) = log_text e
+wrong_text (wrong.Certificate e) = error_text e
 
 -- ---- how a run ends early, each with its status and its line
 

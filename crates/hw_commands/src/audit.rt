@@ -16,7 +16,7 @@ ghost use Rattle.hw_commands.specs.Audited.{status_of, verdict_ended, TellsVerdi
 ghost use Rattle.hw_commands.specs.Conflict.{IsAudited, IsConflictOf};
 ghost use Rattle.hw_light.specs.Checked.{IsCertified};
 
-use crate::ended::{CLASH, CONFLICT, DONE, Ended, RunFault};
+use crate::ended::{CLASH, CONFLICT, DONE, Ended, Ending};
 use crate::faults::{other_config, stopped};
 use hw_audit::{AuditError, Verdict, audit, audit_text};
 use hw_codec::config_is_in_range;
@@ -31,12 +31,7 @@ use std::alloc::Global;
 ///
 /// The left log is replayed first. The configuration of the right one is compared with the left one's
 /// as soon as its header was read.
-pub fn audit_logs<F: Files>(
-    alloc: Global,
-    files: &mut F,
-    left: &str,
-    right: &str,
-) -> Result<Ended, RunFault>
+pub fn audit_logs<F: Files>(alloc: Global, files: &mut F, left: &str, right: &str) -> Ending
     ensures said { IsTrue F.tells → IfOk result (λ e. e ≡ ended (audit_said (F.held files.old) left.now right.now)) }
     ensures conflict { IsTrue F.tells → IfOk result (λ e. e.status ≡ 3 → IsConflictOf (F.held files.old) left.now right.now e.text) }
     ensures status { IfOk result (λ e. IsAuditEnd e.status) }
@@ -67,7 +62,7 @@ pub fn audit_certified<F: Files>(
     certificate: &Certificate,
     right: &Core,
     log: &str,
-) -> Result<Ended, RunFault>
+) -> Ending
     requires { IsCertified certificate.now right.now }
     ensures said { IsTrue F.tells → IfOk result (λ e. e ≡ ended (audited_with (F.held files.old) file.now certificate.now right.now log.now)) }
     ensures alike { IsTrue F.tells → IfOk result (λ e. IsAlike (F.held files.old) certificate.now (Some log.now)) }
@@ -88,7 +83,7 @@ pub fn audit_certified<F: Files>(
 
 /// The replay of the log under the other word stopped. That it is of another configuration is told of the file
 /// under the one word.
-fn not_beside(alloc: Global, file: &str, log: &str, fault: StartFault) -> Result<Ended, RunFault>
+fn not_beside(alloc: Global, file: &str, log: &str, fault: StartFault) -> Ending
     ensures said { IfOk result (λ e. (Err e ≡ or_parted file.now log.now (Err fault)) × IsReadEnd e.status × (IsOutside fault → ⊥)) }
     ensures cause { (before now : ℕ) → IsReplayCounted {T = Unit {0}} before now (Err fault) → IsReadCounted before now result }
     ensures read { IfErr result (λ f. f ≡ RunFaults.Read → fault ≡ StartFaults.Log LogErrors.ReadFault) }
@@ -100,12 +95,7 @@ fn not_beside(alloc: Global, file: &str, log: &str, fault: StartFault) -> Result
 }
 
 /// Audits the log under this word against a node.
-fn audit_against<F: Files>(
-    alloc: Global,
-    files: &mut F,
-    left: &Core,
-    right: &str,
-) -> Result<Ended, RunFault>
+fn audit_against<F: Files>(alloc: Global, files: &mut F, left: &Core, right: &str) -> Ending
     // The left node is what some log left.
     ensures audited { IsTrue F.tells → (bytes : List ℕ) (taken : Taken) → replay_of None bytes ≡ Ok taken → taken.core ≡ left.now → IfOk result (λ e. IsAudited (F.held files.old) left.now right.now e) }
     ensures status { IfOk result (λ e. IsAuditEnd e.status) }
@@ -126,7 +116,7 @@ fn audit_against<F: Files>(
 }
 
 /// The end of a part that can't read.
-pub fn or_no_memory(part: Result<Ended, OutOfMemory>) -> Result<Ended, RunFault>
+pub fn or_no_memory(part: Result<Ended, OutOfMemory>) -> Ending
     ensures ended { IfOk result (λ e. part ≡ Ok e) }
     ensures fault { IfErr result (λ fault. fault ≡ RunFaults.OutOfMemory) }
 {

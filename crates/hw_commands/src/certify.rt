@@ -12,7 +12,7 @@ ghost use Rattle.hw_commands.specs.Program.{ended, certify_said};
 ghost use Rattle.hw_commands.specs.declared.ended.RunFault.TheVariants as RunFaults;
 
 use crate::audit::or_no_memory;
-use crate::ended::{DONE, Ended, NO, RunFault};
+use crate::ended::{DONE, Ended, Ending, NO, RunFault};
 use crate::faults::stopped;
 use crate::rewrite::there;
 use hw_core::Core;
@@ -32,7 +32,7 @@ pub fn certified<F: Files>(
     log: &str,
     block: &Digest,
     new: &str,
-) -> Result<Ended, RunFault>
+) -> Ending
     ensures said { IsTrue F.tells → IfOk result (λ e. e ≡ ended (certify_said (F.held files.old) log.now block.now new.now)) }
     ensures status { IfOk result (λ e. IsCertifyEnd e.status) }
     ensures fault { HasRunFault (F.read_faults files.old) (F.read_faults files.new) (F.append_faults files.old) (F.append_faults files.new) result }
@@ -69,7 +69,7 @@ fn certify_absent<F: Files>(
     log: &str,
     block: &Digest,
     new: &str,
-) -> Result<Ended, RunFault>
+) -> Ending
     requires { IsTrue F.tells → F.held files.old new.now ≡ None }
     ensures said { IsTrue F.tells → IfOk result (λ e. e ≡ ended (certify_said (F.held files.old) log.now block.now new.now)) }
     ensures status { IfOk result (λ e. IsCertifyEnd e.status) }
@@ -90,7 +90,7 @@ fn certify_node<F: Files>(
     core: &mut Core,
     block: &Digest,
     new: &str,
-) -> Result<Ended, RunFault>
+) -> Ending
     ensures said { IfOk result (λ e. e ≡ told_ended (told_of core.old block.now)) }
     ensures fault { HasRunFault (F.read_faults files.old) (F.read_faults files.new) (F.append_faults files.old) (F.append_faults files.new) result }
     ensures unread { IfErr result (λ fault. fault ≢ RunFaults.Read) }
@@ -101,12 +101,7 @@ fn certify_node<F: Files>(
 }
 
 /// Writes the certificate that was made, if one was, into the file under the word.
-fn write_asked<F: Files>(
-    alloc: Global,
-    files: &mut F,
-    asked: &Asked,
-    new: &str,
-) -> Result<Ended, RunFault>
+fn write_asked<F: Files>(alloc: Global, files: &mut F, asked: &Asked, new: &str) -> Ending
     requires { IfAnswered CertificateFits asked.now }
     ensures said { IfOk result (λ e. e ≡ told_ended (told_in asked.now)) }
     ensures fault { HasRunFault (F.read_faults files.old) (F.read_faults files.new) (F.append_faults files.old) (F.append_faults files.new) result }

@@ -1,15 +1,10 @@
 //! `check`: what a certificate shows, by keys, and what a log says against it.
 
-ghost use Rattle.std.specs.{Prelude.{◌≡◌, ◌≢◌, ◌++◌, length, codes, None, Some, Ok, IsTrue, IfOk, IfErr}, List.{All}, Option.{option_copied}};
+ghost use Rattle.std.specs.{Prelude.{◌≡◌, ◌≢◌, length, None, Some, Ok, IsTrue, IfOk, IfErr}, List.{All}, Option.{option_copied}};
 ghost use Rattle.hw_types.specs.{Limits.{config_fault}, Spelling.{VertexFits}};
 ghost use Rattle.hw_io.specs.Files.{SameFiles};
-ghost use Rattle.hw_text.specs.Text.{number_text};
-ghost use Rattle.hw_light.specs.Checked.{IsCertified, IfYes};
+ghost use Rattle.hw_light.specs.{Checked.{IsCertified, IfYes}, Reading.{certificate_of}, Texts.{error_text}, CheckedTexts.{verdicts_by, checked_of, checked_line}, Keys.{keys_of}};
 ghost use Rattle.hw_light.specs.declared.error.CertError.TheVariants as CertErrors;
-ghost use Rattle.hw_light.specs.Reading.{certificate_of};
-ghost use Rattle.hw_light.specs.Texts.{error_text};
-ghost use Rattle.hw_light.specs.CheckedTexts.{verdicts_by, checked_of, checked_line};
-ghost use Rattle.hw_light.specs.Keys.{keys_of};
 ghost use Rattle.hw_commands.specs.Faults.{HasReadFault, IsReadOf, IsCheckEnd};
 ghost use Rattle.hw_commands.specs.Due.{FailsDue};
 ghost use Rattle.hw_commands.specs.Texts.{input_ended};
@@ -19,16 +14,16 @@ ghost use Rattle.hw_commands.specs.Program.{ended, or_misread, certificate_said,
 ghost use Rattle.hw_commands.specs.declared.ended.RunFault.TheVariants as RunFaults;
 
 use crate::audit::audit_certified;
-use crate::ended::{DONE, Ended, INPUT, NO, RunFault};
-use crate::faults::{bytes_of, input};
+use crate::ended::{DONE, Ended, Ending, NO, RunFault};
+use crate::faults::{bad_input, bad_keys, bytes_of};
+use crate::texts::Wrong;
 use hw_core::Core;
 use hw_io::Files;
 use hw_keys::{Keys, KeysFault};
 use hw_light::{
     CertError, Certificate, CheckFault, Checked, check_by_keys, checked_text, decode_certificate,
-    put_error, put_fault, read_keys,
+    put_fault, read_keys,
 };
-use hw_text::{end_line, put_numbered};
 use hw_types::{Bytes, OutOfMemory};
 use std::alloc::Global;
 
@@ -42,7 +37,7 @@ pub fn checked<F: Files>(
     file: &str,
     keys: &str,
     log: Option<&str>,
-) -> Result<Ended, RunFault>
+) -> Ending
     ensures said { IsTrue F.tells → IfOk result (λ e. e ≡ ended (check_said (F.held files.old) file.now keys.now (option_copied log.entry))) }
     ensures alike { IsTrue F.tells → IfOk result (λ e. e.status ≡ 3 → IsAlikeIn (F.held files.old) file.now (option_copied log.entry)) }
     ensures status { IfOk result (λ e. IsCheckEnd e.status) }
@@ -91,28 +86,14 @@ fn decoded(alloc: Global, file: &str, bytes: &[u8]) -> Result<Result<Certificate
 }
 
 /// The bytes can't be read as a certificate.
-fn undecoded(alloc: Global, file: &str, error: CertError) -> Result<Ended, RunFault>
+fn undecoded(alloc: Global, file: &str, error: CertError) -> Ending
     ensures said { IfOk result (λ e. (e ≡ input_ended file.now (error_text error)) × (error ≢ CertErrors.OutOfMemory)) }
     ensures fault { IfErr result (λ fault. fault ≡ RunFaults.OutOfMemory) }
 {
     match error {
         CertError::OutOfMemory => Err(RunFault::OutOfMemory),
-        error => Ok(misread(alloc, file, error)?),
+        error => Ok(bad_input(alloc, file, Wrong::Certificate(error))?),
     }
-}
-
-/// The bytes are no certificate.
-#[tactic(auto, using(std::proofs::Common::append_assoc), unfolding(crate::specs::Texts::input_ended))]
-fn misread(alloc: Global, file: &str, error: CertError) -> Result<Ended, OutOfMemory>
-    ensures { IfOk result (λ e. e ≡ input_ended file.now (error_text error)) }
-{
-    let mut text = input(alloc, file)?;
-    put_error(&mut text, error)?;
-    end_line(&mut text)?;
-    Ok(Ended {
-        status: INPUT,
-        text,
-    })
 }
 
 /// Checks a certificate whose vertices keep the limits of their format.
@@ -123,7 +104,7 @@ fn check<F: Files>(
     certificate: &Certificate,
     keys: &str,
     log: Option<&str>,
-) -> Result<Ended, RunFault>
+) -> Ending
     requires { All VertexFits certificate.now.vertices }
     ensures said { IsTrue F.tells → IfOk result (λ e. e ≡ ended (checked_said (F.held files.old) file.now keys.now (option_copied log.entry) certificate.now (config_fault certificate.now.config))) }
     ensures alike { IsTrue F.tells → IfOk result (λ e. e.status ≡ 3 → IsAlike (F.held files.old) certificate.now (option_copied log.entry)) }
@@ -149,7 +130,7 @@ fn check_lawful<F: Files>(
     certificate: &Certificate,
     keys: &str,
     log: Option<&str>,
-) -> Result<Ended, RunFault>
+) -> Ending
     requires fits { All VertexFits certificate.now.vertices }
     requires lawful { config_fault certificate.now.config ≡ None }
     ensures said { IsTrue F.tells → IfOk result (λ e. e ≡ ended (checked_said (F.held files.old) file.now keys.now (option_copied log.entry) certificate.now None)) }
@@ -204,20 +185,6 @@ fn keys_told(
     }
 }
 
-/// The byte at this place of the keys is wrong.
-#[tactic(auto, using(std::proofs::Common::append_assoc), unfolding(crate::specs::Texts::input_ended))]
-pub fn bad_keys(alloc: Global, name: &str, place: u64) -> Result<Ended, OutOfMemory>
-    ensures { IfOk result (λ e. e ≡ input_ended name.now (codes "keys at " ++ number_text place)) }
-{
-    let mut text = input(alloc, name)?;
-    put_numbered(&mut text, "keys at ", place)?;
-    end_line(&mut text)?;
-    Ok(Ended {
-        status: INPUT,
-        text,
-    })
-}
-
 /// Checks a certificate by these keys.
 fn check_with<F: Files>(
     alloc: Global,
@@ -226,7 +193,7 @@ fn check_with<F: Files>(
     certificate: &Certificate,
     keys: &Keys,
     log: Option<&str>,
-) -> Result<Ended, RunFault>
+) -> Ending
     requires { All VertexFits certificate.now.vertices }
     ensures said { IsTrue F.tells → IfOk result (λ e. e ≡ ended (answer_said (F.held files.old) file.now certificate.now (option_copied log.entry) (checked_of certificate.now (verdicts_by keys.now certificate.now.vertices)))) }
     ensures alike { IsTrue F.tells → IfOk result (λ e. e.status ≡ 3 → IsAlike (F.held files.old) certificate.now (option_copied log.entry)) }
@@ -249,7 +216,7 @@ fn answer<F: Files>(
     certificate: &Certificate,
     checked: &Checked,
     log: Option<&str>,
-) -> Result<Ended, RunFault>
+) -> Ending
     requires { IfYes (IsCertified certificate.now) checked.now }
     ensures said { IsTrue F.tells → IfOk result (λ e. e ≡ ended (answer_said (F.held files.old) file.now certificate.now (option_copied log.entry) checked.now)) }
     ensures alike { IsTrue F.tells → IfOk result (λ e. e.status ≡ 3 → IsAlike (F.held files.old) certificate.now (option_copied log.entry)) }

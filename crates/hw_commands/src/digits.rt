@@ -1,6 +1,6 @@
 //! Digests as words.
 
-ghost use Rattle.std.specs.{Prelude.{◌≡◌}, List.{list_all}};
+ghost use Rattle.std.specs.Prelude.{◌≡◌};
 ghost use Rattle.hw_keys.specs.Keys.{is_lower_digit};
 ghost use Rattle.hw_commands.specs.Commands.{digest_told};
 
@@ -12,19 +12,13 @@ use hw_types::Digest;
 pub fn digest_told(word: &str) -> Option<Digest>
     ensures { result ≡ digest_told word.now }
 {
-    if !has_lower_digits(word.as_bytes()) {
+    if !word.as_bytes().iter().all(|byte| is_lower_digit(*byte)) {
         return None;
     }
     match <[u8; 32]>::from_hex(word) {
         Ok(bytes) => Some(Digest(bytes)),
         Err(_) => None,
     }
-}
-
-fn has_lower_digits(word: &[u8]) -> bool
-    ensures { result ≡ list_all is_lower_digit word.now }
-{
-    word.iter().all(|byte| is_lower_digit(*byte))
 }
 
 fn is_lower_digit(byte: u8) -> bool

@@ -63,3 +63,6 @@ impl From<OutOfMemory> for RunFault {
         RunFault::OutOfMemory
     }
 }
+
+/// How a run ends, or the fault that leaves it without a text.
+pub type Ending = Result<Ended, RunFault>;

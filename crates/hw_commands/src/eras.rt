@@ -1,26 +1,24 @@
 //! `eras` and `era-audit`: what the logs of eras leave, and what the eras of two nodes say of each other.
 
-ghost use Rattle.std.specs.Prelude.{◌≡◌, ℕ, ◌≤◌, List, length, map, string_bytes, codes, Err, IsTrue, IfOk, IfErr};
+ghost use Rattle.std.specs.Prelude.{◌≡◌, ℕ, ◌≤◌, List, length, map, string_bytes, Err, IsTrue, IfOk, IfErr};
 ghost use Rattle.hw_io.specs.Files.{SameFiles};
 ghost use Rattle.hw_eras.specs.{Stops.{IsEraAbout, IsReadCounted as IsEraCounted}, Turns.{StopsAt}};
 ghost use Rattle.hw_commands.specs.Faults.{HasReadFault, IsReadCounted, IsReadEnd, IsAuditEnd};
 ghost use Rattle.hw_commands.specs.Due.{IsDue, FailsDue};
-ghost use Rattle.hw_commands.specs.Texts.{input_ended};
 ghost use Rattle.hw_commands.specs.Eras.{EndsBy, IsEraConflictOf};
 ghost use Rattle.hw_commands.specs.Program.{Held, Part, ended, eras_said, era_audit_said};
 ghost use Rattle.hw_commands.specs.declared.ended.Ended.{Ended as RunEnd};
 ghost use Rattle.hw_commands.specs.declared.ended.RunFault.TheVariants as RunFaults;
 
-use crate::ended::{DONE, Ended, INPUT, RunFault};
-use crate::faults::{input, stopped};
+use crate::ended::{DONE, Ended, Ending, RunFault};
+use crate::faults::{bad_input, stopped};
+use crate::texts::Wrong;
 use hw_eras::{EraStop, report_logs};
 use hw_io::Files;
-use hw_text::{end_line, put_word};
-use hw_types::OutOfMemory;
 use std::alloc::Global;
 
 /// Reports on the eras of these logs, one log for each era.
-pub fn eras<F: Files>(alloc: Global, files: &mut F, logs: &[String]) -> Result<Ended, RunFault>
+pub fn eras<F: Files>(alloc: Global, files: &mut F, logs: &[String]) -> Ending
     requires some { 1 ≤ length logs.now }
     requires few { length logs.now ≤ 64 }
     ensures said { IsTrue F.tells → IfOk result (λ e. e ≡ ended (eras_said (F.held files.old) (map string_bytes logs.now))) }
@@ -45,7 +43,7 @@ pub fn audit_eras<F: Files>(
     files: &mut F,
     left: &[String],
     right: &[String],
-) -> Result<Ended, RunFault>
+) -> Ending
     requires left_some { 1 ≤ length left.now }
     requires left_few { length left.now ≤ 64 }
     requires right_some { 1 ≤ length right.now }
@@ -69,29 +67,15 @@ pub fn audit_eras<F: Files>(
 }
 
 /// The logs of eras stopped there.
-fn logs_stopped(alloc: Global, stop: EraStop<'_>) -> Result<Ended, RunFault>
+fn logs_stopped(alloc: Global, stop: EraStop<'_>) -> Ending
     ensures said { IfOk result (EndsBy stop.entry) }
     ensures status { IfOk result (λ e. IsReadEnd e.status) }
     ensures cause { (before now : ℕ) → IsEraCounted {T = Unit {0}} before now (Err stop.entry) → IsReadCounted before now result }
     ensures about { (said : Held → Part RunEnd) (held : Held) (before now : List ℕ → ℕ) → StopsAt (IsDue said held) stop.entry → IsEraAbout {T = Unit {0}} held before now (Err stop.entry) → IfErr result (λ fault. fault ≡ RunFaults.Read → FailsDue said held before now) }
 {
     match stop {
-        EraStop::NoEra(log) => Ok(no_era(alloc, log)?),
+        EraStop::NoEra(log) => Ok(bad_input(alloc, log, Wrong::Words("no era"))?),
         EraStop::Stopped(log, fault) => stopped(alloc, log, fault),
         EraStop::OutOfMemory => Err(RunFault::OutOfMemory),
     }
-}
-
-/// The era of the log isn't there.
-#[tactic(auto, using(std::proofs::Common::append_assoc), unfolding(crate::specs::Texts::input_ended))]
-fn no_era(alloc: Global, name: &str) -> Result<Ended, OutOfMemory>
-    ensures { IfOk result (λ ended. ended ≡ input_ended name.now (codes "no era")) }
-{
-    let mut text = input(alloc, name)?;
-    put_word(&mut text, "no era")?;
-    end_line(&mut text)?;
-    Ok(Ended {
-        status: INPUT,
-        text,
-    })
 }

@@ -5,14 +5,14 @@ ghost use Rattle.hw_io.specs.Files.{SameFiles};
 ghost use Rattle.hw_commands.specs.{Faults.{HasReadFault, IsReadEnd}, Due.{FailsDue}, Program.{ended, explain_said}};
 ghost use Rattle.hw_commands.specs.declared.ended.RunFault.TheVariants as RunFaults;
 
-use crate::ended::{DONE, Ended, RunFault};
+use crate::ended::{DONE, Ended, Ending};
 use crate::faults::stopped;
 use hw_explain::explain_log;
 use hw_io::Files;
 use std::alloc::Global;
 
 /// Explains the log under this word, and says how the run ends.
-pub fn explain<F: Files>(alloc: Global, files: &mut F, log: &str) -> Result<Ended, RunFault>
+pub fn explain<F: Files>(alloc: Global, files: &mut F, log: &str) -> Ending
     ensures said { IsTrue F.tells → IfOk result (λ e. e ≡ ended (explain_said (F.held files.old) log.now)) }
     ensures status { IfOk result (λ e. IsReadEnd e.status) }
     ensures fault { HasReadFault (F.read_faults files.old) (F.read_faults files.new) result }

@@ -8,11 +8,11 @@ ghost use Rattle.hw_log.specs.declared.error.LogError.TheVariants as LogErrors;
 ghost use Rattle.hw_replay.specs.{Replay.{IsOutside}, Causes.{IsReadCounted as IsReplayCounted}};
 ghost use Rattle.hw_replay.specs.declared.fault.StartFault.TheVariants as StartFaults;
 ghost use Rattle.hw_commands.specs.Faults.{HasReadFault, IsReadOf, IsReadCounted, IsReadEnd};
-ghost use Rattle.hw_commands.specs.Texts.{usage_line, log_text, input_ended, limit_ended, clash_ended, stopped_ended};
+ghost use Rattle.hw_commands.specs.Texts.{usage_line, log_text, wrong_text, input_ended, limit_ended, clash_ended, stopped_ended};
 ghost use Rattle.hw_commands.specs.declared.ended.RunFault.TheVariants as RunFaults;
 
-use crate::ended::{CLASH, Ended, INPUT, LIMIT, RunFault, USAGE};
-use crate::texts::put_error;
+use crate::ended::{CLASH, Ended, Ending, INPUT, LIMIT, RunFault, USAGE};
+use crate::texts::{Wrong, put_wrong};
 use hw_io::{Files, IoFault};
 use hw_log::{LogError, read_file};
 use hw_replay::StartFault;
@@ -49,7 +49,7 @@ pub fn bytes_of<F: Files>(alloc: Global, files: &mut F, name: &str) -> Result<By
 }
 
 /// The replay of the log under this name stopped.
-pub fn stopped(alloc: Global, name: &str, fault: StartFault) -> Result<Ended, RunFault>
+pub fn stopped(alloc: Global, name: &str, fault: StartFault) -> Ending
     ensures said { IfOk result (λ ended. (ended ≡ stopped_ended name.now fault) × IsReadEnd ended.status × (IsOutside fault → ⊥)) }
     ensures cause { (before now : ℕ) → IsReplayCounted {T = Unit {0}} before now (Err fault) → IsReadCounted before now result }
     ensures read { IfErr result (λ f. f ≡ RunFaults.Read → fault ≡ StartFaults.Log LogErrors.ReadFault) }
@@ -66,7 +66,7 @@ pub fn stopped(alloc: Global, name: &str, fault: StartFault) -> Result<Ended, Ru
 }
 
 /// The log under this name can't be read on.
-fn unread(alloc: Global, name: &str, error: LogError) -> Result<Ended, RunFault>
+fn unread(alloc: Global, name: &str, error: LogError) -> Ending
     ensures said { IfOk result (λ ended. (ended ≡ stopped_ended name.now (StartFaults.Log error)) × IsReadEnd ended.status × (IsOutside (StartFaults.Log error) → ⊥)) }
     ensures cause { (before now : ℕ) → IsReplayCounted {T = Unit {0}} before now (Err (StartFaults.Log error)) → IsReadCounted before now result }
     ensures read { IfErr result (λ f. f ≡ RunFaults.Read → error ≡ LogErrors.ReadFault) }
@@ -80,31 +80,34 @@ fn unread(alloc: Global, name: &str, error: LogError) -> Result<Ended, RunFault>
 }
 
 /// The log can't be read on, for what stands in it.
-#[tactic(auto, using(std::proofs::Common::append_assoc), unfolding(crate::specs::Texts::input_ended))]
 pub fn bad_log(alloc: Global, name: &str, error: LogError) -> Result<Ended, OutOfMemory>
     ensures { IfOk result (λ ended. ended ≡ input_ended name.now (log_text error)) }
 {
-    let mut text = input(alloc, name)?;
-    put_error(&mut text, error)?;
-    end_line(&mut text)?;
-    Ok(Ended {
-        status: INPUT,
-        text,
-    })
+    bad_input(alloc, name, Wrong::Log(error))
 }
 
 /// The log is of another configuration than the one that is wanted.
-#[tactic(auto, using(std::proofs::Common::append_assoc), unfolding(crate::specs::Texts::input_ended))]
 pub fn other_config(alloc: Global, name: &str) -> Result<Ended, OutOfMemory>
     ensures { IfOk result (λ ended. ended ≡ input_ended name.now (codes "other config")) }
 {
+    bad_input(alloc, name, Wrong::Words("other config"))
+}
+
+/// The byte at this place of the keys is wrong.
+pub fn bad_keys(alloc: Global, name: &str, place: u64) -> Result<Ended, OutOfMemory>
+    ensures { IfOk result (λ e. e ≡ input_ended name.now (codes "keys at " ++ number_text place)) }
+{
+    bad_input(alloc, name, Wrong::Numbered("keys at ", place))
+}
+
+/// This is wrong with the file under this name.
+#[tactic(auto, using(std::proofs::Common::append_assoc), unfolding(crate::specs::Texts::input_ended))]
+pub fn bad_input(alloc: Global, name: &str, wrong: Wrong<'_>) -> Result<Ended, OutOfMemory>
+    ensures { IfOk result (λ ended. ended ≡ input_ended name.now (wrong_text wrong.entry)) }
+{
     let mut text = input(alloc, name)?;
-    put_word(&mut text, "other config")?;
-    end_line(&mut text)?;
-    Ok(Ended {
-        status: INPUT,
-        text,
-    })
+    put_wrong(&mut text, wrong)?;
+    input_end(text)
 }
 
 /// The begin of a line that names a file's fault.
@@ -116,6 +119,17 @@ pub fn input(alloc: Global, name: &str) -> Result<Bytes, OutOfMemory>
     put_word(&mut text, name)?;
     put_word(&mut text, ": ")?;
     Ok(text)
+}
+
+/// The run ends with this line, which names a file's fault and lacks its end.
+pub fn input_end(mut text: Bytes) -> Result<Ended, OutOfMemory>
+    ensures { IfOk result (λ ended. ended ≡ record { status = 2; text = text ++ line_feed }) }
+{
+    end_line(&mut text)?;
+    Ok(Ended {
+        status: INPUT,
+        text,
+    })
 }
 
 /// The entry at this byte met a limit, which the words name.

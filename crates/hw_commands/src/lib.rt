@@ -27,7 +27,6 @@ mod words;
 mod working;
 mod workloads;
 
-pub use check::bad_keys;
 pub use command::{
     Command, MAX_LOGS, MAX_NODES, MAX_ROUNDS, MAX_STEPS, are_words, command_of, is_word,
 };
@@ -35,7 +34,7 @@ pub use ended::{
     CLASH, CONFLICT, DONE, Ended, INPUT, LIMIT, LINK_FAULT, NO, OUT_OF_MEMORY, READ_FAULT,
     RunFault, USAGE, WRITE_FAULT,
 };
-pub use faults::{clash, input, stopped, usage};
+pub use faults::{bad_keys, clash, input, input_end, stopped, usage};
 pub use laws::{
     a_conflict_is_told, a_migrated_log_reads_the_same, an_audit_tells_the_verdict,
     certificates_are_answered,

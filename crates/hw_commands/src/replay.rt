@@ -10,7 +10,7 @@ ghost use Rattle.hw_commands.specs.Files.{status_of};
 ghost use Rattle.hw_commands.specs.Program.{ended, report_of, replay_said};
 ghost use Rattle.hw_commands.specs.declared.ended.RunFault.TheVariants as RunFaults;
 
-use crate::ended::{DONE, Ended, RunFault};
+use crate::ended::{DONE, Ended, Ending};
 use crate::faults::stopped;
 use hw_explain::report;
 use hw_io::{Consumer, Files};
@@ -23,7 +23,7 @@ pub fn replay<F: Files>(
     files: &mut F,
     log: &str,
     consumers: &mut Vec<Box<dyn Consumer>>,
-) -> Result<Ended, RunFault>
+) -> Ending
     ensures said { IsTrue F.tells → IfOk result (λ e. e.status ≡ (ended (replay_said (F.held files.old) log.now)).status) }
     ensures text { IsTrue F.tells → IfOk result (λ e. IsReplayText (seen (λ b. consumed b) (λ b. faults b) (λ b. wants b) (λ b. b.vtable)) F.tells (file_replayed None (F.held files.old log.now)) (ended (replay_said (F.held files.old) log.now)) consumers.old.items consumers.new.items e.text) }
     ensures told { IsReplayTold (seen (λ b. consumed b) (λ b. faults b) (λ b. wants b) (λ b. b.vtable)) F.tells (F.held files.old log.now) (status_of result) consumers.old.items consumers.new.items }
@@ -46,7 +46,7 @@ fn replay_told<F: Files>(
     log: &str,
     fanout: &mut Fanout,
     consumers: &mut Vec<Box<dyn Consumer>>,
-) -> Result<Ended, RunFault>
+) -> Ending
     requires { fanout.old ≡ first_kept consumers.old.items }
     ensures said { IsTrue F.tells → IfOk result (λ e. e.status ≡ (ended (replay_said (F.held files.old) log.now)).status) }
     ensures text { IsTrue F.tells → IfOk result (λ e. IsReplayText (seen (λ b. consumed b) (λ b. faults b) (λ b. wants b) (λ b. b.vtable)) F.tells (file_replayed None (F.held files.old log.now)) (ended (replay_said (F.held files.old) log.now)) consumers.old.items consumers.new.items e.text) }
@@ -76,7 +76,7 @@ fn reported(
     replay: &Replay,
     fanout: &mut Fanout,
     consumers: &mut Vec<Box<dyn Consumer>>,
-) -> Result<Ended, RunFault>
+) -> Ending
     requires { length consumers.old.items ≤ length fanout.old.places }
     ensures finished { AreServed (IsFinished (seen (λ b. consumed b) (λ b. faults b) (λ b. wants b) (λ b. b.vtable))) consumers.old.items consumers.new.items fanout.old fanout.new }
     ensures text { IfOk result (λ e. e ≡ record { status = 0; text = report_of (taken_in replay.now) ++ drop_lines fanout.new.drops }) }

@@ -4,30 +4,21 @@ ghost use Rattle.std.specs.Prelude.{◌≡◌, ◌⊎◌, ◌++◌, codes, IsTru
 ghost use Rattle.hw_io.specs.Faults.{Rose};
 ghost use Rattle.hw_text.specs.{Text.{number_text}, Lines.{line_feed}};
 ghost use Rattle.hw_log.specs.{Rewritten.{mended_of, migrated_of}, Migrated.{HoldsAnew}};
-ghost use Rattle.hw_commands.specs.Faults.{HasRunFault, IsReadEnd};
-ghost use Rattle.hw_commands.specs.Due.{FailsDue};
-ghost use Rattle.hw_commands.specs.Files.{IsRewrite, status_of};
-ghost use Rattle.hw_commands.specs.Texts.{input_ended};
-ghost use Rattle.hw_commands.specs.Rewritten.{IsUnwritten, IsFaultOf};
-ghost use Rattle.hw_commands.specs.Program.{ended, mend_said, migrate_said};
+ghost use Rattle.hw_commands.specs.{Faults.{HasRunFault, IsReadEnd}, Due.{FailsDue}, Files.{IsRewrite, status_of}, Texts.{input_ended}, Rewritten.{IsUnwritten, IsFaultOf}, Program.{ended, mend_said, migrate_said}};
 ghost use Rattle.hw_commands.specs.declared.ended.RunFault.TheVariants as RunFaults;
 
-use crate::ended::{DONE, Ended, INPUT, RunFault};
-use crate::faults::{bad_log, input};
+use crate::ended::{DONE, Ended, Ending, RunFault};
+use crate::faults::{bad_input, bad_log};
+use crate::texts::Wrong;
 use hw_io::Files;
 use hw_log::{LogError, RewriteFault, mend, migrate};
-use hw_text::{end_line, put_numbered, put_word};
+use hw_text::{end_line, put_numbered};
 use hw_types::{Bytes, OutOfMemory};
 use std::alloc::Global;
 
 /// Writes the whole entries of the log under the one word into a new file under the other, and says how the
 /// run ends.
-pub fn mended<F: Files>(
-    alloc: Global,
-    files: &mut F,
-    log: &str,
-    new: &str,
-) -> Result<Ended, RunFault>
+pub fn mended<F: Files>(alloc: Global, files: &mut F, log: &str, new: &str) -> Ending
     ensures said { IsTrue F.tells → IfOk result (λ e. e ≡ ended (mend_said (F.held files.old) log.now new.now)) }
     ensures status { IfOk result (λ e. IsReadEnd e.status) }
     ensures fault { HasRunFault (F.read_faults files.old) (F.read_faults files.new) (F.append_faults files.old) (F.append_faults files.new) result }
@@ -41,12 +32,7 @@ pub fn mended<F: Files>(
 }
 
 /// Writes the log under the one word in version 2 into a new file under the other, and says how the run ends.
-pub fn migrated<F: Files>(
-    alloc: Global,
-    files: &mut F,
-    log: &str,
-    new: &str,
-) -> Result<Ended, RunFault>
+pub fn migrated<F: Files>(alloc: Global, files: &mut F, log: &str, new: &str) -> Ending
     ensures said { IsTrue F.tells → IfOk result (λ e. e ≡ ended (migrate_said (F.held files.old) log.now new.now)) }
     ensures status { IfOk result (λ e. IsReadEnd e.status) }
     ensures fault { HasRunFault (F.read_faults files.old) (F.read_faults files.new) (F.append_faults files.old) (F.append_faults files.new) result }
@@ -61,7 +47,7 @@ pub fn migrated<F: Files>(
 }
 
 /// The line of what was done.
-fn count_ended(alloc: Global, words: &str, count: u64) -> Result<Ended, RunFault>
+fn count_ended(alloc: Global, words: &str, count: u64) -> Ending
     ensures said { IfOk result (λ e. e ≡ record { status = 0; text = words.now ++ number_text count ++ line_feed }) }
     ensures fault { IfErr result (λ fault. fault ≡ RunFaults.OutOfMemory) }
 {
@@ -72,7 +58,7 @@ fn count_ended(alloc: Global, words: &str, count: u64) -> Result<Ended, RunFault
 }
 
 /// Why nothing was written anew.
-fn unwritten(alloc: Global, log: &str, new: &str, fault: RewriteFault) -> Result<Ended, RunFault>
+fn unwritten(alloc: Global, log: &str, new: &str, fault: RewriteFault) -> Ending
     ensures said { IfOk result (λ e. IsUnwritten log.now new.now fault e) }
     ensures fault { IfErr result (IsFaultOf fault) }
 {
@@ -86,15 +72,8 @@ fn unwritten(alloc: Global, log: &str, new: &str, fault: RewriteFault) -> Result
 }
 
 /// The file that was to be new is there.
-#[tactic(auto, using(std::proofs::Common::append_assoc), unfolding(crate::specs::Texts::input_ended))]
 pub fn there(alloc: Global, name: &str) -> Result<Ended, OutOfMemory>
     ensures { IfOk result (λ ended. ended ≡ input_ended name.now (codes "exists")) }
 {
-    let mut text = input(alloc, name)?;
-    put_word(&mut text, "exists")?;
-    end_line(&mut text)?;
-    Ok(Ended {
-        status: INPUT,
-        text,
-    })
+    bad_input(alloc, name, Wrong::Words("exists"))
 }

@@ -1,26 +1,20 @@
 //! `script`: what a script prints.
 
-ghost use Rattle.std.specs.Prelude.{◌≡◌, ◌++◌, codes, IsTrue, IfOk, IfErr};
+ghost use Rattle.std.specs.Prelude.{◌≡◌, IsTrue, IfOk, IfErr};
 ghost use Rattle.hw_io.specs.Files.{SameFiles};
-ghost use Rattle.hw_text.specs.Text.{number_text};
 ghost use Rattle.hw_script.specs.Output.{output_of};
-ghost use Rattle.hw_commands.specs.Faults.{HasReadFault, IsReadEnd};
-ghost use Rattle.hw_commands.specs.Due.{FailsDue};
-ghost use Rattle.hw_commands.specs.Texts.{input_ended};
-ghost use Rattle.hw_commands.specs.Scripted.{script_ended};
-ghost use Rattle.hw_commands.specs.Program.{ended, script_said};
+ghost use Rattle.hw_commands.specs.{Faults.{HasReadFault, IsReadEnd}, Due.{FailsDue}, Scripted.{script_ended}, Program.{ended, script_said}};
 ghost use Rattle.hw_commands.specs.declared.ended.RunFault.TheVariants as RunFaults;
 
-use crate::ended::{DONE, Ended, INPUT, RunFault};
-use crate::faults::{bytes_of, input};
+use crate::ended::{DONE, Ended, Ending, RunFault};
+use crate::faults::{bad_input, bytes_of};
+use crate::texts::Wrong;
 use hw_io::Files;
 use hw_script::{ScriptError, run_script};
-use hw_text::{end_line, put_numbered};
-use hw_types::OutOfMemory;
 use std::alloc::Global;
 
 /// Runs the script in the file under this word, and says how the run ends.
-pub fn script<F: Files>(alloc: Global, files: &mut F, file: &str) -> Result<Ended, RunFault>
+pub fn script<F: Files>(alloc: Global, files: &mut F, file: &str) -> Ending
     ensures said { IsTrue F.tells → IfOk result (λ e. e ≡ ended (script_said (F.held files.old) file.now)) }
     ensures status { IfOk result (λ e. IsReadEnd e.status) }
     ensures fault { HasReadFault (F.read_faults files.old) (F.read_faults files.new) result }
@@ -34,7 +28,7 @@ pub fn script<F: Files>(alloc: Global, files: &mut F, file: &str) -> Result<Ende
 }
 
 /// What the script prints, or which of its lines is outside the grammar.
-fn scripted(alloc: Global, name: &str, text: &[u8]) -> Result<Ended, RunFault>
+fn scripted(alloc: Global, name: &str, text: &[u8]) -> Ending
     ensures said { IfOk result (λ e. e ≡ script_ended name.now (output_of text.now)) }
     ensures status { IfOk result (λ e. IsReadEnd e.status) }
     ensures fault { IfErr result (λ fault. fault ≡ RunFaults.OutOfMemory) }
@@ -44,21 +38,11 @@ fn scripted(alloc: Global, name: &str, text: &[u8]) -> Result<Ended, RunFault>
             status: DONE,
             text: output,
         }),
-        Err(ScriptError::Line(number)) => Ok(bad_line(alloc, name, number)?),
+        Err(ScriptError::Line(number)) => Ok(bad_input(
+            alloc,
+            name,
+            Wrong::Numbered("line ", number),
+        )?),
         Err(ScriptError::OutOfMemory) => Err(RunFault::OutOfMemory),
     }
-}
-
-/// The line of this number is outside the grammar of scripts.
-#[tactic(auto, using(std::proofs::Common::append_assoc), unfolding(crate::specs::Texts::input_ended))]
-fn bad_line(alloc: Global, name: &str, number: u64) -> Result<Ended, OutOfMemory>
-    ensures { IfOk result (λ ended. ended ≡ input_ended name.now (codes "line " ++ number_text number)) }
-{
-    let mut text = input(alloc, name)?;
-    put_numbered(&mut text, "line ", number)?;
-    end_line(&mut text)?;
-    Ok(Ended {
-        status: INPUT,
-        text,
-    })
 }

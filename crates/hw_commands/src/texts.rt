@@ -1,16 +1,41 @@
-//! The text of what is wrong with a log.
+//! The text of what is wrong with a file.
 
 ghost use Rattle.std.specs.Prelude.{◌≡◌, ◌++◌, OnOk};
-ghost use Rattle.hw_commands.specs.Texts.{log_text};
+ghost use Rattle.hw_commands.specs.Texts.{log_text, wrong_text};
 
-use hw_light::{put_codec, put_limit};
+use hw_light::{CertError, put_codec, put_error, put_limit};
 use hw_log::LogError;
 use hw_text::{put_numbered, put_word};
 use hw_types::{Bytes, OutOfMemory};
 
-/// Puts the text of the error last. Errors of the outside have none.
+/// What is wrong with a file.
+#[derive(Clone, Copy)]
+pub enum Wrong<'w> {
+    /// What the words say.
+    Words(&'w str),
+    /// What the words say, with a number behind them.
+    Numbered(&'w str, u64),
+    /// It can't be read on as a log.
+    Log(LogError),
+    /// It is no certificate.
+    Certificate(CertError),
+}
+
+/// Puts the text of what is wrong with a file last.
+pub fn put_wrong(text: &mut Bytes, wrong: Wrong<'_>) -> Result<(), OutOfMemory>
+    ensures { OnOk result (text.new ≡ text.old ++ wrong_text wrong.entry) }
+{
+    match wrong {
+        Wrong::Words(words) => put_word(text, words),
+        Wrong::Numbered(words, number) => put_numbered(text, words, number),
+        Wrong::Log(error) => put_log(text, error),
+        Wrong::Certificate(error) => put_error(text, error),
+    }
+}
+
+/// Puts the text of what is wrong with a log last. Errors of the outside have none.
 #[tactic(auto, using(std::proofs::Common::append_assoc), unfolding(crate::specs::Texts::log_text))]
-pub fn put_error(text: &mut Bytes, error: LogError) -> Result<(), OutOfMemory>
+fn put_log(text: &mut Bytes, error: LogError) -> Result<(), OutOfMemory>
     ensures { OnOk result (text.new ≡ text.old ++ log_text error) }
 {
     match error {

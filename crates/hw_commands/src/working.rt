@@ -20,7 +20,7 @@ use crate::audit::audit_logs;
 use crate::certify::certified;
 use crate::check::checked;
 use crate::command::Command;
-use crate::ended::{CONFLICT, DONE, Ended, OUT_OF_MEMORY, READ_FAULT, RunFault, WRITE_FAULT};
+use crate::ended::{CONFLICT, DONE, Ending, OUT_OF_MEMORY, READ_FAULT, RunFault, WRITE_FAULT};
 use crate::eras::{audit_eras, eras};
 use crate::explain::explain;
 use crate::faults::usage;
@@ -122,7 +122,7 @@ fn run<F: Files>(
     command: Option<Command<'_>>,
     files: &mut F,
     consumers: &mut Vec<Box<dyn Consumer>>,
-) -> Result<Ended, RunFault>
+) -> Ending
     requires asked { asked command ≡ request_of words.now }
     requires range { IfSome command IsInRange }
     ensures said { IsTrue F.tells → IfOk result (λ ended. ended.status ≡ (run_of words.now (F.held files.old)).status) }

@@ -5,14 +5,14 @@ ghost use Rattle.hw_cluster.specs.Numbers.{totals_of, numbers_of};
 ghost use Rattle.hw_commands.specs.{Program.{ended, gen_said, sim_said}, Workloads.{height_text, gen_line, sim_line}};
 ghost use Rattle.hw_commands.specs.declared.ended.RunFault.TheVariants as RunFaults;
 
-use crate::ended::{DONE, Ended, RunFault};
+use crate::ended::{DONE, Ended, Ending};
 use hw_cluster::{GenSummary, SimSummary, generate, simulate};
 use hw_text::{end_line, put_number, put_numbered, put_word};
 use hw_types::{Bytes, OutOfMemory};
 use std::alloc::Global;
 
 /// Gives a node the units of so many rounds, which a number makes, and says how the run ends.
-pub fn generated(alloc: Global, number: u64, rounds: u32) -> Result<Ended, RunFault>
+pub fn generated(alloc: Global, number: u64, rounds: u32) -> Ending
     requires some { 1 ≤ rounds }
     requires few { rounds ≤ 4096 }
     ensures said { IfOk result (λ e. e ≡ ended (gen_said number rounds)) }
@@ -49,7 +49,7 @@ fn put_height(text: &mut Bytes, height: Option<u64>) -> Result<(), OutOfMemory>
 }
 
 /// Lets the words of a number choose so many steps of so many nodes, and says how the run ends.
-pub fn simulated(alloc: Global, number: u64, nodes: u32, steps: u32) -> Result<Ended, RunFault>
+pub fn simulated(alloc: Global, number: u64, nodes: u32, steps: u32) -> Ending
     requires some { 1 ≤ nodes }
     requires few { nodes ≤ 16 }
     requires steps { steps ≤ 20000 }

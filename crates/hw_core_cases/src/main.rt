@@ -27,7 +27,7 @@ mod script;
 
 use crate::journal::Node;
 use hw_admit::State;
-use hw_case_words::Answer;
+use hw_case_words::{Answer, Sections, answer_all};
 use std::io;
 
 /// A section of the input, with what its lines left so far.
@@ -46,57 +46,36 @@ enum Section {
 
 fn main(rt: HostRuntime) -> io::Result<()> {
     let mut section = Section::Unnamed;
-    answer_all(rt, &mut section)
+    answer_all(&rt, &mut section)
 }
 
-/// Answers each line.
-fn answer_all(rt: HostRuntime, section: &mut Section) -> io::Result<()> {
-    for line in rt.lines(rt.alloc()) {
-        answer(rt, section, line?.as_str())?;
+impl Sections<HostRuntime> for Section {
+    fn begin(&mut self, answer: &mut Answer, name: &str) {
+        *self = match name {
+            "script" => Section::Script,
+            "leaf" => Section::Leaf,
+            "log" => Section::Log,
+            "graph" => Section::Graph(None),
+            "journal" => Section::Journal(Vec::new(answer.alloc())),
+            "bench" => Section::Bench,
+            "host" => Section::Host,
+            _ => {
+                answer.refuse();
+                Section::Unnamed
+            }
+        };
     }
-    Ok(())
-}
 
-/// Answers a line.
-fn answer(rt: HostRuntime, section: &mut Section, line: &str) -> io::Result<()> {
-    let mut answer = Answer::new(rt.alloc());
-    match line.strip_prefix("section ") {
-        Some(name) => begin(&mut answer, section, name),
-        None => tell(rt, &mut answer, section, line),
-    }
-    match answer.finish() {
-        Some(text) => print!(rt; "{text}"),
-        None => Err(io::ErrorKind::InvalidInput.into()),
-    }
-}
-
-/// Begins the section of this name.
-fn begin(answer: &mut Answer, section: &mut Section, name: &str) {
-    *section = match name {
-        "script" => Section::Script,
-        "leaf" => Section::Leaf,
-        "log" => Section::Log,
-        "graph" => Section::Graph(None),
-        "journal" => Section::Journal(Vec::new(answer.alloc())),
-        "bench" => Section::Bench,
-        "host" => Section::Host,
-        _ => {
-            answer.refuse();
-            Section::Unnamed
+    fn tell(&mut self, rt: &HostRuntime, answer: &mut Answer, line: &str) {
+        match self {
+            Section::Script => script::tell(*rt, answer, line),
+            Section::Leaf => leaf::tell(answer, line),
+            Section::Log => log::tell(answer, line),
+            Section::Graph(held) => graph::tell(answer, held, line),
+            Section::Journal(nodes) => journal::tell(answer, nodes, line),
+            Section::Bench => bench::tell(*rt, answer, line),
+            Section::Host => host::tell(*rt, answer, line),
+            Section::Unnamed => answer.refuse(),
         }
-    };
-}
-
-/// The answer of the section.
-fn tell(rt: HostRuntime, answer: &mut Answer, section: &mut Section, line: &str) {
-    match section {
-        Section::Script => script::tell(rt, answer, line),
-        Section::Leaf => leaf::tell(answer, line),
-        Section::Log => log::tell(answer, line),
-        Section::Graph(held) => graph::tell(answer, held, line),
-        Section::Journal(nodes) => journal::tell(answer, nodes, line),
-        Section::Bench => bench::tell(rt, answer, line),
-        Section::Host => host::tell(rt, answer, line),
-        Section::Unnamed => answer.refuse(),
     }
 }

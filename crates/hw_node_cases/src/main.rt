@@ -19,7 +19,7 @@ mod receipts;
 mod session;
 mod spelled;
 
-use hw_case_words::Answer;
+use hw_case_words::{Answer, Sections, answer_all};
 use hw_core::Core;
 use hw_eras::Eras;
 use hw_session::Node;
@@ -38,51 +38,30 @@ enum Section {
 
 fn main(rt: HostRuntime) -> io::Result<()> {
     let mut section = Section::Unnamed;
-    answer_all(rt, &mut section)
+    answer_all(&rt, &mut section)
 }
 
-/// Answers each line.
-fn answer_all(rt: HostRuntime, section: &mut Section) -> io::Result<()> {
-    for line in rt.lines(rt.alloc()) {
-        answer(rt, section, line?.as_str())?;
+impl Sections<HostRuntime> for Section {
+    fn begin(&mut self, answer: &mut Answer, name: &str) {
+        *self = match name {
+            "node" => Section::Node(Vec::new(answer.alloc())),
+            "eras" => Section::Eras(Vec::new(answer.alloc())),
+            "meeting" => Section::Meeting(Vec::new(answer.alloc())),
+            "session" => Section::Session(Vec::new(answer.alloc())),
+            _ => {
+                answer.refuse();
+                Section::Unnamed
+            }
+        };
     }
-    Ok(())
-}
 
-/// Answers a line.
-fn answer(rt: HostRuntime, section: &mut Section, line: &str) -> io::Result<()> {
-    let mut answer = Answer::new(rt.alloc());
-    match line.strip_prefix("section ") {
-        Some(name) => begin(&mut answer, section, name),
-        None => tell(&mut answer, section, line),
-    }
-    match answer.finish() {
-        Some(text) => print!(rt; "{text}"),
-        None => Err(io::ErrorKind::InvalidInput.into()),
-    }
-}
-
-/// Begins the section of this name.
-fn begin(answer: &mut Answer, section: &mut Section, name: &str) {
-    *section = match name {
-        "node" => Section::Node(Vec::new(answer.alloc())),
-        "eras" => Section::Eras(Vec::new(answer.alloc())),
-        "meeting" => Section::Meeting(Vec::new(answer.alloc())),
-        "session" => Section::Session(Vec::new(answer.alloc())),
-        _ => {
-            answer.refuse();
-            Section::Unnamed
+    fn tell(&mut self, _rt: &HostRuntime, answer: &mut Answer, line: &str) {
+        match self {
+            Section::Node(nodes) => node::tell(answer, nodes, line),
+            Section::Eras(nodes) => eras::tell(answer, nodes, line),
+            Section::Meeting(nodes) => meeting::tell(answer, nodes, line),
+            Section::Session(nodes) => session::tell(answer, nodes, line),
+            Section::Unnamed => answer.refuse(),
         }
-    };
-}
-
-/// The answer of the section.
-fn tell(answer: &mut Answer, section: &mut Section, line: &str) {
-    match section {
-        Section::Node(nodes) => node::tell(answer, nodes, line),
-        Section::Eras(nodes) => eras::tell(answer, nodes, line),
-        Section::Meeting(nodes) => meeting::tell(answer, nodes, line),
-        Section::Session(nodes) => session::tell(answer, nodes, line),
-        Section::Unnamed => answer.refuse(),
     }
 }

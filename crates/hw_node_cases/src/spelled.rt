@@ -46,3 +46,9 @@ pub fn put_start(answer: &mut Answer, start: StateStart) {
         StateStart::OutOfMemory => answer.refuse(),
     }
 }
+
+/// Keeps a node that begins.
+pub fn begun<T: Drop>(answer: &mut Answer, nodes: &mut Vec<T>, node: T) {
+    answer.push_to(nodes, node);
+    answer.put("begun");
+}

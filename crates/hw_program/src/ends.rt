@@ -8,14 +8,14 @@ ghost use Rattle.hw_commands.specs.declared.ended.RunFault.TheVariants as RunFau
 ghost use Rattle.hw_program.specs.Served.{reported_status, settings_text, service_stopped, Tells, EndsBy};
 
 use hw_commands::{
-    APPEND_FAULT_LINE, DONE, Ended, INPUT, LIMIT, LINK_FAULT, READ_FAULT, READ_FAULT_LINE,
-    RunFault, WRITE_FAULT, bad_keys, clash, finish, input, out_of_memory, stopped, usage,
+    APPEND_FAULT_LINE, DONE, Ended, LIMIT, LINK_FAULT, READ_FAULT, READ_FAULT_LINE, RunFault,
+    WRITE_FAULT, bad_keys, clash, finish, input, input_end, out_of_memory, stopped, usage,
 };
 use hw_io::Sink;
 use hw_light::put_limit;
 use hw_service::{Served, ServiceFault, Sources};
 use hw_settings::SettingsFault;
-use hw_text::{end_line, put_word};
+use hw_text::put_word;
 use hw_types::{Bytes, OutOfMemory};
 use std::alloc::Global;
 
@@ -91,11 +91,7 @@ fn bad_settings(alloc: Global, name: &str, fault: SettingsFault) -> Result<Ended
 {
     let mut text = input(alloc, name)?;
     put_settings(&mut text, fault)?;
-    end_line(&mut text)?;
-    Ok(Ended {
-        status: INPUT,
-        text,
-    })
+    input_end(text)
 }
 
 /// Puts the text of what is wrong with settings last. Want of memory has none.

@@ -9,12 +9,9 @@
 #![tactic(auto)]
 
 mod ends;
-mod host_peers;
-mod meet_peer;
 mod request;
 mod run;
 mod run_turns;
-mod serve;
 mod services;
 
 pub use hw_commands::{

@@ -17,15 +17,13 @@ ghost use Rattle.hw_program.specs.Services.{service_of, names_in, IsWorkedOut, I
 ghost use Rattle.hw_program.specs.Serving.{service};
 ghost use Rattle.hw_program.specs.Served.{around, counts, output, RunsNode, CanRun, IsRunEnd, AsksNoValidator, OnlyLogChanges};
 
-use crate::host_peers::host_peers;
-use crate::meet_peer::meet_peer;
+use crate::ends::end_run;
 use crate::request::Request;
 use crate::run_turns::run_turns;
-use crate::serve::serve_sessions;
 use crate::services::NodeCommand;
 use hw_commands::{Words, work};
 use hw_io::{Clock, Consumer, Door, Files, Sink};
-use hw_service::Environment;
+use hw_service::{Environment, host, meet, serve};
 use std::alloc::Global;
 
 /// Runs the command that the words ask for, and answers the exit status.
@@ -137,7 +135,7 @@ pub fn highway<F: Files, S: Sink, C: Clock, D: Door>(
     }
 }
 
-/// Lets a node run as it is asked to, and answers the status.
+/// Lets a node run as it is asked to, and answers the status. The address at which peers come is the door's.
 fn run_node<F: Files, S: Sink, C: Clock, D: Door>(
     alloc: Global,
     command: &NodeCommand<'_>,
@@ -157,36 +155,35 @@ fn run_node<F: Files, S: Sink, C: Clock, D: Door>(
             sources,
             sessions,
             ..
-        } => serve_sessions(alloc, *sources, *sessions, files, out, door, consumers),
+        } => {
+            let came_to = serve(alloc, *sources, *sessions, files, out, door, consumers);
+            end_run(alloc, *sources, came_to, out)
+        }
         NodeCommand::Run {
             sources,
             me,
             turns,
             peers,
         } => {
-            let mut environment = Environment {
+            let mut outside = Environment {
                 files,
                 out,
                 clock,
                 door,
             };
-            run_turns(
-                alloc,
-                *sources,
-                *me,
-                *turns,
-                peers,
-                &mut environment,
-                consumers,
-            )
+            run_turns(alloc, *sources, *me, *turns, peers, &mut outside, consumers)
         }
         NodeCommand::Host {
             sources,
             sessions,
             ..
-        } => host_peers(alloc, *sources, *sessions, files, out, door, consumers),
+        } => {
+            let came_to = host(alloc, *sources, *sessions, files, out, door, consumers);
+            end_run(alloc, *sources, came_to, out)
+        }
         NodeCommand::Meet { sources, peer } => {
-            meet_peer(alloc, *sources, peer, files, out, door, consumers)
+            let came_to = meet(alloc, *sources, peer, files, out, door, consumers);
+            end_run(alloc, *sources, came_to, out)
         }
     }
 }

@@ -1,10 +1,8 @@
 //! What becomes of a delivery, and its text.
 
 ghost use Rattle.hw_types.specs.Spelling.{VertexFits};
-ghost use Rattle.std.specs.Prelude.{IsTrue};
 
-use hw_case_words::Answer;
-use hw_codec::fits;
+use hw_case_words::{Answer, is_in_format};
 use hw_core::{Core, Refused};
 use hw_text::rule_name;
 use hw_types::{Cause, Evidence, PairFault, Receipt, Rule, Vertex, is_same_unit};
@@ -47,17 +45,6 @@ fn refusal(refused: &Refused, vertex: &Vertex) -> Outcome {
         Outcome::Refused(refused.cause)
     } else {
         Outcome::Changed(refused.cause)
-    }
-}
-
-/// Whether each unit of the vertex keeps the limits of its format.
-fn is_in_format(vertex: &Vertex) -> bool
-    ensures { IsTrue result → VertexFits vertex.now }
-{
-    match vertex {
-        Vertex::Unit(unit) => fits(&unit.unit),
-        Vertex::Evidence(evidence) => fits(&evidence.left.unit) && fits(&evidence.right.unit),
-        Vertex::Endorsement(_) => true,
     }
 }
 

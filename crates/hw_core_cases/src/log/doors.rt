@@ -67,9 +67,7 @@ fn put_sessions(answer: &mut Answer, sessions: &[MemSession]) {
     for session in sessions {
         answer.put(session.address().unwrap_or("-"));
         answer.put("/");
-        answer.characters(session.heard());
-        answer.put("/");
-        answer.characters(session.written());
+        put_talk(answer, session.heard(), session.written());
         answer.put(if session.has_failed() { "! " } else { " " });
     }
 }
@@ -83,10 +81,15 @@ fn put_numbers(answer: &mut Answer, numbers: DoorNumbers) {
 
 fn put_asks(answer: &mut Answer, asks: &[MemAsk]) {
     for ask in asks {
-        answer.characters(ask.heard());
-        answer.put("/");
-        answer.characters(ask.said());
+        put_talk(answer, ask.heard(), ask.said());
         answer.put(" ");
     }
     answer.labelled("asks ", asks.len() as u64);
+}
+
+/// What was heard of a peer, and what it was told.
+fn put_talk(answer: &mut Answer, heard: &[u8], told: &[u8]) {
+    answer.characters(heard);
+    answer.put("/");
+    answer.characters(told);
 }

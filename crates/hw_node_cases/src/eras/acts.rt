@@ -4,7 +4,7 @@ ghost use Rattle.hw_types.specs.Spelling.{VertexFits};
 
 use crate::eras::configs::put_config;
 use crate::receipts::{SPACED, put_receipt};
-use crate::spelled::{config_of, put_error, put_start};
+use crate::spelled::{begun, config_of, put_error, put_start};
 use hw_case_words::{Answer, small};
 use hw_codec::{decode_vertex, encode_vertex};
 use hw_core::Core;
@@ -24,13 +24,6 @@ fn begin_with(answer: &mut Answer, nodes: &mut Vec<Eras>, config: Config) {
         Ok(eras) => begun(answer, nodes, eras),
         Err(start) => put_start(answer, start),
     }
-}
-
-fn begun(answer: &mut Answer, nodes: &mut Vec<Eras>, eras: Eras) {
-    if nodes.push(eras).is_err() {
-        answer.refuse();
-    }
-    answer.put("begun");
 }
 
 /// What the eras answer to these words.

@@ -1,13 +1,13 @@
 //! Lines that act on a cluster.
 
 ghost use Rattle.std.specs.Prelude.{◌≡◌, None, IsTrue, IfOk, length};
-ghost use Rattle.hw_types.specs.{Limits.{config_fault}, Spelling.{VertexFits}};
+ghost use Rattle.hw_types.specs.Limits.{config_fault};
 ghost use Rattle.hw_cluster.specs.Nodes.{ClusterState, nodes_in, CanAct};
 
 use hw_admit::StateStart;
-use hw_case_words::{no_signature, number, small};
+use hw_case_words::{is_in_format, no_signature, number, small};
 use hw_cluster::{Acted, Action, Cluster};
-use hw_codec::{fits, instance_of};
+use hw_codec::instance_of;
 use hw_types::{
     Bytes, Config, Digest, DigestList, Endorsement, Evidence, IndexList, Leaders, Obs, ObsList,
     OutOfMemory, PlanKind, Receipt, SignedUnit, Vertex, WeightList, WireUnit,
@@ -82,17 +82,6 @@ fn is_possible(nodes: u64, action: &Action) -> bool
     }
 }
 
-/// Whether each unit of the vertex keeps the limits of its format.
-fn is_in_format(vertex: &Vertex) -> bool
-    ensures { IsTrue result → VertexFits vertex.now }
-{
-    match vertex {
-        Vertex::Unit(unit) => fits(&unit.unit),
-        Vertex::Evidence(evidence) => fits(&evidence.left.unit) && fits(&evidence.right.unit),
-        Vertex::Endorsement(_) => true,
-    }
-}
-
 /// Three validators of weight 1, of which the leaders are 0, 0 and 2 in turn.
 fn config(alloc: Global, max_records: u32) -> Result<Config, OutOfMemory>
     ensures { IfOk result (λ config. length config.weights ≡ 3) }
@@ -145,34 +134,24 @@ fn action(
     who: u32,
     what: u64,
 ) -> Result<Option<Action>, OutOfMemory> {
-    match kind {
-        "step" => Ok(Some(Action::Step {
+    Ok(match kind {
+        "step" => Some(Action::Step {
             node: who,
             now: what,
-        })),
-        "give" => Ok(Some(Action::Deliver {
+        }),
+        "give" => Some(Action::Deliver {
             node: who,
             sent: what,
-        })),
-        _ => forged(alloc, instance, kind, who, what),
-    }
+        }),
+        "block" => forged(Vertex::Unit(block(alloc, instance, who, what, 1)?)),
+        "pair" => forged(Vertex::Evidence(pair(alloc, instance, who, what)?)),
+        "word" => forged(endorsement(instance, who)),
+        _ => None,
+    })
 }
 
-/// The forging of a vertex of this kind.
-fn forged(
-    alloc: Global,
-    instance: Digest,
-    kind: &str,
-    who: u32,
-    what: u64,
-) -> Result<Option<Action>, OutOfMemory> {
-    let vertex = match kind {
-        "block" => Vertex::Unit(block(alloc, instance, who, what, 1)?),
-        "pair" => Vertex::Evidence(pair(alloc, instance, who, what)?),
-        "word" => endorsement(instance, who),
-        _ => return Ok(None),
-    };
-    Ok(Some(Action::Forge { vertex }))
+fn forged(vertex: Vertex) -> Option<Action> {
+    Some(Action::Forge { vertex })
 }
 
 /// Two first blocks of the creator.

@@ -3,7 +3,7 @@
 ghost use Rattle.hw_types.specs.Spelling.{VertexFits};
 
 use crate::receipts::{SPACED, put_receipt};
-use crate::spelled::{config_of, put_error, put_start, vertex_of};
+use crate::spelled::{begun, config_of, put_error, put_start, vertex_of};
 use hw_case_words::Answer;
 use hw_core::Core;
 use hw_types::{Cause, Config, Vertex};
@@ -22,13 +22,6 @@ pub fn begin_with(answer: &mut Answer, nodes: &mut Vec<Core>, config: Config) {
         Ok(core) => begun(answer, nodes, core),
         Err(start) => put_start(answer, start),
     }
-}
-
-fn begun(answer: &mut Answer, nodes: &mut Vec<Core>, core: Core) {
-    if nodes.push(core).is_err() {
-        answer.refuse();
-    }
-    answer.put("begun");
 }
 
 /// Delivers the vertex that these digits spell.

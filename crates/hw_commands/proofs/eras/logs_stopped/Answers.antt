@@ -8,8 +8,8 @@ use Rattle.hw_commands.proofs.CauseLaws.{stopped_about}
 use Rattle.hw_commands.proofs.FaultLaws.{input_status}
 use Rattle.hw_commands.proofs.eras.logs_stopped.Goals as goal
 
-pub returns-in_ok-no_era-in-NoEra-clause-status : goal.returns-in_ok-no_era-in-NoEra-clause-status
-returns-in_ok-no_era-in-NoEra-clause-status c = inr (inl (ap (λ (x : Ended). x.status) c.in_ok-no_era-in-NoEra.ensures ∙ input_status c.in-NoEra.log.now (codes "no era")))
+pub returns-in_ok-bad_input-in-NoEra-clause-status : goal.returns-in_ok-bad_input-in-NoEra-clause-status
+returns-in_ok-bad_input-in-NoEra-clause-status c = inr (inl (ap (λ (x : Ended). x.status) c.in_ok-bad_input-in-NoEra.ensures ∙ input_status c.in-NoEra.log.now (codes "no era")))
 
 pub returns-in-Stopped-clause-cause : goal.returns-in-Stopped-clause-cause
 returns-in-Stopped-clause-cause c = λ before now counted. c.stopped.ensures.cause before now (subst (λ (x : EraStop). IsReadCounted {T = Unit {0}} before now (Err x)) c.in-Stopped.is counted)
