@@ -9,45 +9,85 @@ use hw_program::{
 };
 use hw_script_grammar::number_up_to;
 
-/// A command, the least and the most words that stand behind it, and which of them are numbers.
-struct Form(&'static str, usize, usize, &'static [Number]);
+/// A command, how many words stand behind it, and which of them are numbers.
+struct Form<'c> {
+    command: &'c str,
+    least: usize,
+    most: usize,
+    numbers: &'static [Number],
+}
 
-/// A word that is a number: its place behind the command, its name, and the least and the most that it is.
-struct Number(usize, &'static str, u64, u64);
+/// A word that is a number: its place behind the command, its name, and its range.
+struct Number {
+    place: usize,
+    name: &'static str,
+    least: u64,
+    most: u64,
+}
 
-const NUMBER: Number = Number(0, "NUMBER", 0, u64::MAX);
+const OF_GEN: [Number; 2] = [
+    Number {
+        place: 0,
+        name: "NUMBER",
+        least: 0,
+        most: u64::MAX,
+    },
+    Number {
+        place: 1,
+        name: "ROUNDS",
+        least: 1,
+        most: MAX_ROUNDS,
+    },
+];
 
-const ROUNDS: Number = Number(1, "ROUNDS", 1, MAX_ROUNDS);
+const OF_SIM: [Number; 3] = [
+    Number {
+        place: 0,
+        name: "NUMBER",
+        least: 0,
+        most: u64::MAX,
+    },
+    Number {
+        place: 1,
+        name: "NODES",
+        least: 1,
+        most: MAX_NODES,
+    },
+    Number {
+        place: 2,
+        name: "STEPS",
+        least: 0,
+        most: MAX_STEPS,
+    },
+];
 
-const NODES: Number = Number(1, "NODES", 1, MAX_NODES);
+const OF_ERA_AUDIT: [Number; 1] = [Number {
+    place: 0,
+    name: "COUNT",
+    least: 1,
+    most: MAX_LOGS,
+}];
 
-const STEPS: Number = Number(2, "STEPS", 0, MAX_STEPS);
+const OF_SERVE: [Number; 1] = [Number {
+    place: 4,
+    name: "SESSIONS",
+    least: 1,
+    most: MAX_SESSIONS,
+}];
 
-const COUNT: Number = Number(0, "COUNT", 1, MAX_LOGS);
-
-const SESSIONS: Number = Number(4, "SESSIONS", 1, MAX_SESSIONS);
-
-const ME: Number = Number(3, "ME", 0, MAX_VALIDATOR);
-
-const TURNS: Number = Number(4, "TURNS", 1, MAX_TURNS);
-
-const FORMS: [Form; 16] = [
-    Form("replay", 1, 1, &[]),
-    Form("explain", 1, 1, &[]),
-    Form("audit", 2, 2, &[]),
-    Form("script", 1, 1, &[]),
-    Form("mend", 2, 2, &[]),
-    Form("migrate", 2, 2, &[]),
-    Form("certify", 3, 3, &[]),
-    Form("check", 2, 3, &[]),
-    Form("gen", 2, 2, &[NUMBER, ROUNDS]),
-    Form("sim", 3, 3, &[NUMBER, NODES, STEPS]),
-    Form("eras", 1, 64, &[]),
-    Form("era-audit", 3, 129, &[COUNT]),
-    Form("serve", 5, 5, &[SESSIONS]),
-    Form("host", 5, 5, &[SESSIONS]),
-    Form("run", 6, 21, &[ME, TURNS]),
-    Form("meet", 4, 4, &[]),
+const OF_RUN: [Number; 2] = [
+    Number {
+        place: 3,
+        name: "ME",
+        least: 0,
+        most: MAX_VALIDATOR,
+    },
+    Number {
+        place: 4,
+        name: "TURNS",
+        least: 1,
+        most: MAX_TURNS,
+    },
 ];
 
 /// The commands, one a line, with their words and the ranges of these.
@@ -95,32 +135,46 @@ fn tell_wrong_word(rt: &impl Eprint, words: &[String]) {
         }
     }
     match form_of(command.as_str()) {
-        Some(form) => tell_of_form(rt, form, rest),
+        Some(form) => tell_of_form(rt, &form, rest),
         None => {
             let _ = eprintln!(rt; "highway: `{command}` is no command");
         }
     }
 }
 
-fn form_of(command: &str) -> Option<&'static Form> {
-    for form in &FORMS {
-        if form.0 == command {
-            return Some(form);
-        }
-    }
-    None
+fn form_of(command: &str) -> Option<Form<'_>> {
+    let (least, most, numbers): (usize, usize, &'static [Number]) = match command {
+        "replay" | "explain" | "script" => (1, 1, &[]),
+        "audit" | "mend" | "migrate" => (2, 2, &[]),
+        "certify" => (3, 3, &[]),
+        "check" => (2, 3, &[]),
+        "gen" => (2, 2, &OF_GEN),
+        "sim" => (3, 3, &OF_SIM),
+        "eras" => (1, 64, &[]),
+        "era-audit" => (3, 129, &OF_ERA_AUDIT),
+        "serve" | "host" => (5, 5, &OF_SERVE),
+        "run" => (6, 21, &OF_RUN),
+        "meet" => (4, 4, &[]),
+        _ => return None,
+    };
+    Some(Form {
+        command,
+        least,
+        most,
+        numbers,
+    })
 }
 
 /// Tells what is wrong with the words behind a command.
-fn tell_of_form(rt: &impl Eprint, form: &Form, words: &[String]) {
-    let Form(command, least, most, numbers) = form;
-    let count = words.len();
-    if count < *least || *most < count {
+fn tell_of_form(rt: &impl Eprint, form: &Form<'_>, words: &[String]) {
+    let (command, count) = (form.command, words.len());
+    if count < form.least || form.most < count {
         tell_count(rt, form, count);
         return;
     }
-    match wrong_number(numbers, words) {
-        Some(Number(_, name, least, most)) => {
+    match wrong_number(form.numbers, words) {
+        Some(number) => {
+            let (name, least, most) = (number.name, number.least, number.most);
             let _ = eprintln!(rt;
                 "highway: {name} of `{command}` is no number from {least} to {most}"
             );
@@ -130,8 +184,8 @@ fn tell_of_form(rt: &impl Eprint, form: &Form, words: &[String]) {
 }
 
 /// Tells that so many words stand behind a command, which takes fewer or more.
-fn tell_count(rt: &impl Eprint, form: &Form, count: usize) {
-    let Form(command, least, most, _) = form;
+fn tell_count(rt: &impl Eprint, form: &Form<'_>, count: usize) {
+    let (command, least, most) = (form.command, form.least, form.most);
     let _ = if least == most {
         eprintln!(rt; "highway: words behind `{command}`: {count} in place of {least}")
     } else {
@@ -151,7 +205,7 @@ fn tell_of_other_words(rt: &impl Eprint, command: &str) {
 fn wrong_number<'n>(numbers: &'n [Number], words: &[String]) -> Option<&'n Number> {
     for number in numbers {
         if !words
-            .get(number.0)
+            .get(number.place)
             .is_some_and(|word| is_in_range(number, word.as_str()))
         {
             return Some(number);
@@ -162,6 +216,5 @@ fn wrong_number<'n>(numbers: &'n [Number], words: &[String]) -> Option<&'n Numbe
 
 /// Whether a word is a number in this range.
 fn is_in_range(number: &Number, word: &str) -> bool {
-    let Number(_, _, least, most) = number;
-    number_up_to(*most, word.as_bytes()).is_some_and(|value| value >= *least)
+    number_up_to(number.most, word.as_bytes()).is_some_and(|value| value >= number.least)
 }

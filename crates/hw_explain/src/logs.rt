@@ -13,7 +13,7 @@ use std::alloc::Global;
 
 /// What is explained of the log under this name: a line for each block that the node of the log decides,
 /// made right after the vertex that decided it, and the weight of the faulty where it exceeds the
-/// threshold. A limit or a clash stops it, as it stops a replay.
+/// threshold. A limit or a clash stops it, as it stops a replay. The node's memory is left to the end of the process.
 pub fn explain_log<F: Files>(alloc: Global, files: &mut F, name: &str) -> Result<Bytes, StartFault>
     ensures said { IsTrue F.tells → Explains (F.held files.old name.now) result }
     ensures cause { HasReplayCause (F.read_faults files.old) (F.read_faults files.new) result }
@@ -23,7 +23,11 @@ pub fn explain_log<F: Files>(alloc: Global, files: &mut F, name: &str) -> Result
     ensures appends { F.append_faults files.new ≡ F.append_faults files.old }
 {
     match Replay::begin(alloc, files, name, None) {
-        Ok(mut replay) => explain_rest(alloc, files, &mut replay),
+        Ok(mut replay) => {
+            let told = explain_rest(alloc, files, &mut replay);
+            replay.core.leave();
+            told
+        }
         Err(fault) => Err(fault),
     }
 }
