@@ -1,5 +1,5 @@
 -- What the bytes of a log say is what the reader's steps give.
-use Rattle.std.proofs.Common.{◌≡◌, ℕ, zero, suc, ◌+◌, ◌<◌, ◌≤◌, List, [], ◌∷◌, ◌++◌, length, take, codes, slice_index, Option, Some, None, Result, Ok, Err, inl, inr, refl, sym, ap, subst, ◌∙◌, append_assoc, arith, length-append}
+use Rattle.std.proofs.Common.{◌≡◌, ℕ, zero, suc, ◌+◌, ◌<◌, ◌≤◌, List, [], ◌∷◌, ◌++◌, length, take, codes, slice_index, Option, Some, None, Result, Ok, Err, refl, sym, ap, subst, ◌∙◌, append_assoc, arith, length-append}
 use Rattle.std.specs.List.{AllByRecursion}
 use Rattle.std.proofs.lemmas.List.{append-nil}
 use Rattle.std.proofs.lemmas.List.Elements.{All-from_recursion, recursion_from_All}
@@ -14,7 +14,6 @@ use Rattle.hw_log.specs.declared.error.LogError.TheVariants.{Torn}
 use Rattle.hw_log.specs.Lasts.{LastUnits, IsVersion, no_lasts, lasts_after, vertex_bytes_in}
 use Rattle.hw_log.specs.Log.{◌>>=◌, Left, rest_at, header_of, body_at, head_at, entry_at, next_at, Entries, with_next, entries_of, log_of, header_bytes, entry_bytes, entries_bytes, log_bytes, lasts_behind}
 use Rattle.hw_log.specs.Spelled.{LastsInRange, EntryFits, SaysSame}
-use Rattle.hw_log.specs.Laws.{ThatLogsAreThere, ThatErrorsAreThere}
 use Rattle.hw_log.specs.Grammar.{IsSpelled, ArePlaced, Writes, IsWrongEntry, SaysTo, Says}
 use Rattle.hw_log.proofs.RangeLaws.{none_in_range, after_in_range}
 use Rattle.hw_log.proofs.EntryLaws.{bind_ok, with_body, as_next, next_at-entry, next_at-shorter, end_or_entry, entries_next}
@@ -247,24 +246,3 @@ cut_spelled bytes config given at fits e =
     ∙ take-append_seam s.0 s.1
     ∙ s.3.bytes_are
     ∙ ap (λ (v : ℕ). log_bytes v config given) (sym version)
-
--- ---- members
-
-empty_log : (version : ℕ) (config : Config) → IsVersion version → IsSpelled config → config_fault config ≡ None → Writes (header_bytes version config) version config []
-empty_log version config known spelled limits =
-    record { known = known; spelled = spelled; limits = limits; fit = All-from_recursion EntryFits [] tt; places = tt; bytes_are = sym (append-nil (header_bytes version config)) }
-
-pub logs_there : ThatLogsAreThere
-logs_there version config known spelled limits =
-    let writes = empty_log version config known spelled limits in
-    (writes, (header_bytes version config, 1 ∷ [], refl, writes, (refl, inl (omega arith, omega arith))))
-
-three_is_none : ¬ IsVersion 3
-three_is_none (inl one) = absurd (omega arith)
-three_is_none (inr two) = absurd (omega arith)
-
-too_short : (behind : List ℕ) → codes "HWL" ≡ codes "HWLG" ++ behind → ⊥
-too_short behind is = let long = ap (λ (b : List ℕ). length b) is in omega arith
-
-pub errors_there : ThatErrorsAreThere
-errors_there = ((λ h. too_short h.0 h.1), ([], refl, three_is_none))

@@ -14,6 +14,7 @@ pub mod RangeLaws
 pub mod SpelledLaws
 pub mod WrongLaws
 pub mod GrammarLaws
+pub mod GrammarMembers
 pub mod MeasureLaws
 pub mod MendLaws
 pub mod AboutLaws

@@ -7,7 +7,7 @@ ghost use Rattle.hw_log.specs.declared.entry.LogEntry.{LogEntry};
 ghost use Rattle.hw_log.specs.declared.error.LogError.TheVariants.{Torn};
 ghost use Rattle.hw_log.specs.Lasts.{LastUnits, IsVersion, vertex_in};
 ghost use Rattle.hw_log.specs.Log.{Entries, log_of, header_bytes, entry_bytes, log_bytes, lasts_in};
-ghost use Rattle.hw_log.specs.Laws.{ThatSaidIsRead, ThatOneIsSaid, ThatAllIsSaid, ThatLogsAreThere, ThatErrorsAreThere};
+ghost use Rattle.hw_log.specs.Laws.{ThatSaidIsRead, ThatOneIsSaid, ThatAllIsSaid, ThatLogsAreThere, ThatOneKeepsLimits, ThatErrorsAreThere, ThatEntryErrorsAreThere};
 ghost use Rattle.hw_log.specs.Spelled.{SpellsIn, LastsInRange, EntryFits, SaysSame};
 
 /// A header that is written is a log without entries.
@@ -64,8 +64,10 @@ pub fn writes_is_log_of()
     ensures all { ThatAllIsSaid }
 {}
 
-/// There are logs, and bytes with an error.
+/// There are logs, and bytes with each error of a header and of an entry.
 pub fn logs_and_errors_are_there()
     ensures logs { ThatLogsAreThere }
+    ensures lone { ThatOneKeepsLimits }
     ensures errors { ThatErrorsAreThere }
+    ensures entries { ThatEntryErrorsAreThere }
 {}
