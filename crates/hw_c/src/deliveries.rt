@@ -60,28 +60,7 @@ fn deliver_others(
     }
 }
 
-/// Delivers as many vertices as names are worked out at once, or fewer.
-fn deliver_units(
-    alloc: Global,
-    core: &mut Core,
-    bytes: &[u8],
-    vertices: &[Sent],
-    delivered: &mut [Delivered],
-)
-    requires few { length vertices.now ≤ MOST }
-    requires answers { length delivered.old ≡ length vertices.now }
-    ensures { AreDeliveries core.old bytes.now vertices.now delivered.new core.new }
-{
-    let mut names = [[0; 32]; MOST];
-    let names = &mut names[..vertices.len()];
-    work_out(bytes, vertices, names);
-    'vertices: for k in 0..vertices.len() {
-        let outcome = deliver_named(alloc, core, bytes, vertices[k], names[k]);
-        delivered[k] = delivered_of(outcome);
-    }
-}
-
-/// Delivers so many vertices or fewer, with the names of the units among them.
+/// Delivers as many vertices as names are worked out at once, or fewer, with the names of the units among them.
 fn deliver_few(
     alloc: Global,
     core: &mut Core,
@@ -93,10 +72,16 @@ fn deliver_few(
     requires answers { length delivered.old ≡ length vertices.now }
     ensures { AreDeliveries core.old bytes.now vertices.now delivered.new core.new }
 {
-    if has_units(bytes, vertices) {
-        deliver_units(alloc, core, bytes, vertices, delivered);
-    } else {
+    if !has_units(bytes, vertices) {
         deliver_others(alloc, core, bytes, vertices, delivered);
+        return;
+    }
+    let mut names = [[0; 32]; MOST];
+    let names = &mut names[..vertices.len()];
+    work_out(bytes, vertices, names);
+    'vertices: for k in 0..vertices.len() {
+        let outcome = deliver_named(alloc, core, bytes, vertices[k], names[k]);
+        delivered[k] = delivered_of(outcome);
     }
 }
 

@@ -24,27 +24,24 @@ fn missing_of(need: &Need) -> Missing
     ensures { result ≡ missing_of need.now }
 {
     match need {
-        Need::Unit(unit) => {
-            let digest = unit.0;
-            Missing {
-                kind: 0,
-                validator: 0,
-                digest,
-            }
-        }
+        Need::Unit(unit) => missing_unit(0, unit),
         Need::Evidence(validator) => Missing {
             kind: 1,
             validator: *validator,
             digest: [0; 32],
         },
-        Need::Endorsed(unit) => {
-            let digest = unit.0;
-            Missing {
-                kind: 2,
-                validator: 0,
-                digest,
-            }
-        }
+        Need::Endorsed(unit) => missing_unit(2, unit),
+    }
+}
+
+fn missing_unit(kind: u32, unit: &Digest) -> Missing
+    ensures { result ≡ record { kind = kind; validator = 0; digest = unit.now.0 } }
+{
+    let digest = unit.0;
+    Missing {
+        kind,
+        validator: 0,
+        digest,
     }
 }
 

@@ -11,7 +11,7 @@ use hw_core::Core;
 use hw_types::{
     Bytes, END_OF_TIME, MAX_VALUE, OutOfMemory, Plan, PlanKind, Signature, SignedUnit, Vertex,
 };
-use hw_validator::next_unit;
+use hw_validator::next_unit_of;
 use std::alloc::Global;
 
 /// What a planned unit is for, how many bytes it has without a signature, and what its creator signs.
@@ -44,7 +44,7 @@ fn planned_unit(
     requires value { length value.now ≤ 4096 }
     ensures { IfOk result (λ plan. plan ≡ step (setting_of core.now.config) (received_in core.now) me now value.now) }
 {
-    next_unit(alloc, core.state(), me, now, value)
+    next_unit_of(alloc, core.state(), core.instance(), me, now, value)
 }
 
 fn plan_number(kind: PlanKind) -> u32

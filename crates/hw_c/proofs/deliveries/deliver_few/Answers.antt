@@ -1,6 +1,6 @@
 use Rattle.std.proofs.Common.{length-set, ◌∙◌, arith}
 use Rattle.hw_c.proofs.DeliveryLaws.{one_more}
-use Rattle.hw_c.proofs.deliveries.deliver_units.Goals as goal
+use Rattle.hw_c.proofs.deliveries.deliver_few.Goals as goal
 
 pub vertices-preserved : goal.vertices-preserved
 vertices-preserved c =

@@ -1,6 +1,6 @@
 use Rattle.std.proofs.Common.{◌≡◌, length, take}
 use Rattle.hw_c.specs.Deliveries.{AreDeliveries}
-use Rattle.hw_c.proofs.deliveries.deliver_units.Given as goal
+use Rattle.hw_c.proofs.deliveries.deliver_few.Given as goal
 
 abbrev pub invariant-vertices : goal.invariant-vertices
 invariant-vertices l =
