@@ -15,5 +15,5 @@ mod state;
 mod words;
 mod work;
 
-pub use messages::Messages;
+pub use messages::{Messages, digests_in};
 pub use pieces::{Part, digests_of};

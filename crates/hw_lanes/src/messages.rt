@@ -62,8 +62,8 @@ impl Messages {
     }
 }
 
-/// The digests of these parts of the bytes.
-fn digests_in(alloc: Global, bytes: &[u8], parts: &[Part]) -> Result<Vec<[u8; 32]>, AllocError>
+/// The SHA-256 digest of each of these parts of the bytes, in their order.
+pub fn digests_in(alloc: Global, bytes: &[u8], parts: &[Part]) -> Result<Vec<[u8; 32]>, AllocError>
     requires { All (IsWithin (length bytes.now)) parts.now }
     ensures { IfOk result (λ digests. digests.items ≡ map (λ part. sha256 (part_of bytes.now part)) parts.now) }
 {

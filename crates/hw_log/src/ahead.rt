@@ -8,7 +8,7 @@ ghost use Rattle.hw_lanes.specs.Pieces.{IsWithin, part_of};
 use crate::held::{HeldEntry, entry_at};
 use crate::name::{SIGNATURE_LENGTH, unit_part};
 use hw_io::{Files, IoFault, ReadBuffer};
-use hw_lanes::{Part, digests_of};
+use hw_lanes::{Part, digests_in};
 use hw_types::{Digest, MAX_LENGTH, OutOfMemory};
 use sha2::{Digest as _, Sha256};
 use std::alloc::Global;
@@ -183,21 +183,6 @@ fn digests_from(alloc: Global, bytes: &[u8], first: Part) -> Result<Ahead, OutOf
     let parts = parts_from(alloc, bytes, first)?;
     let digests = digests_in(alloc, bytes, parts.as_slice())?;
     Ok(Ahead { parts, digests })
-}
-
-/// The digests of these parts of the bytes.
-pub(crate) fn digests_in(
-    alloc: Global,
-    bytes: &[u8],
-    parts: &[Part],
-) -> Result<Vec<[u8; 32]>, OutOfMemory>
-    requires { All (IsWithin (length bytes.now)) parts.now }
-    ensures { IfOk result (λ digests. digests.items ≡ map (λ part. sha256 (part_of bytes.now part)) parts.now) }
-{
-    let mut digests = Vec::new(alloc);
-    digests.resize(parts.len(), [0; 32])?;
-    digests_of(bytes, parts, digests.as_mut_slice());
-    Ok(digests)
 }
 
 /// This part of the bytes, behind which an entry ends with a signature, and the spellings of the units in the entries

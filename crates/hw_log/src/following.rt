@@ -7,11 +7,10 @@ ghost use Rattle.hw_log.specs.Following.{AreSpelled, Follows, IsByOther, IsFirst
 ghost use Rattle.hw_log.specs.Lasts.{IsVersion, lasts_after, no_lasts, noted_in, noted_name, with_noted};
 ghost use Rattle.hw_log.specs.Named.{IsNameOf};
 
-use crate::ahead::digests_in;
 use crate::held::entry_at;
 use crate::lasts::{Lasts, Noted};
 use hw_codec::{encode_unit, vertex_is_in_range};
-use hw_lanes::Part;
+use hw_lanes::{Part, digests_in};
 use hw_types::{Bytes, Digest, OutOfMemory, SignedUnit, Vertex};
 use std::alloc::Global;
 use std::marker::Model;

@@ -288,21 +288,10 @@ impl LogReader {
         ensures name { IfOk result (λ read. IfSome read.name (IsNameOf (box_value read.vertex))) }
         ensures same { self.new ≡ self.old }
     {
-        match self.lasts.next_unit(self.buffer.as_slice(), count) {
-            Some(next) => boxed(self.alloc, next),
-            None => self.decoded(at, count, named),
+        if let Some(next) = self.lasts.next_unit(self.buffer.as_slice(), count) {
+            return boxed(self.alloc, next);
         }
-    }
-
-    /// The same, of what wasn't decoded ahead.
-    fn decoded(&mut self, at: u64, count: usize, named: bool) -> Result<ReadVertex, LogError>
-        requires { count ≤ length self.old.held }
-        ensures said { Gives (λ read. box_value read.vertex) result (decoded (BadVertex at) (vertex_in self.old.lasts (take count self.old.held))) }
-        ensures error { IfErr result IsOfBytes }
-        ensures fits { IfOk result (λ read. VertexFits (box_value read.vertex)) }
-        ensures name { IfOk result (λ read. IfSome read.name (IsNameOf (box_value read.vertex))) }
-        ensures same { self.new ≡ self.old }
-    {
+        // It wasn't decoded ahead.
         let bytes = &self.buffer.as_slice()[..count];
         let SpelledVertex { vertex, unit } = decoded_vertex(self.lasts.lasts(), at, bytes, named)?;
         let name = self.buffer.name_of(unit);
