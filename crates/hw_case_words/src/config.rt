@@ -2,14 +2,15 @@
 
 use crate::answer::Answer;
 use crate::words::{after, number_of};
-use hw_types::{Config, IndexList, Leaders, WeightList};
+use hw_types::{Config, IndexList, Items, Leaders};
+use std::str::FromStr;
 
 /// The configuration that the words tell: `weights` with its numbers, and `ftt`, `levels`, `exponents`, `leaders`,
 /// `records`, `parked` and `end` with theirs, where they are there.
 pub fn config_of(answer: &mut Answer, words: &[&str]) -> Config {
     let (min_exponent, max_exponent) = exponents_of(words);
     Config {
-        weights: weights_of(answer, after(words, "weights")),
+        weights: numbers_of(answer, after(words, "weights")),
         ftt: number_of(words, "ftt"),
         levels: levels_of(words),
         min_exponent,
@@ -21,31 +22,25 @@ pub fn config_of(answer: &mut Answer, words: &[&str]) -> Config {
     }
 }
 
-/// The numbers up to the first word that is none.
-fn weights_of(answer: &mut Answer, words: &[&str]) -> WeightList {
-    let mut weights = WeightList::new(answer.alloc());
-    for word in words {
-        let Ok(weight) = word.parse::<u64>() else {
-            break;
-        };
-        answer.push(&mut weights, weight);
-    }
-    weights
-}
-
 /// The leaders by round, up to the first word that is no number; validator 0 alone where none are told.
 fn leaders_of(answer: &mut Answer, words: &[&str]) -> IndexList {
-    let mut leaders = IndexList::new(answer.alloc());
-    for word in words {
-        let Ok(leader) = word.parse::<u32>() else {
-            break;
-        };
-        answer.push(&mut leaders, leader);
-    }
+    let mut leaders = numbers_of(answer, words);
     if leaders.len() == 0 {
         answer.push(&mut leaders, 0);
     }
     leaders
+}
+
+/// The numbers up to the first word that is none.
+fn numbers_of<T: FromStr + Drop>(answer: &mut Answer, words: &[&str]) -> Items<T> {
+    let mut numbers = Items::new(answer.alloc());
+    for word in words {
+        let Ok(number) = word.parse::<T>() else {
+            break;
+        };
+        answer.push(&mut numbers, number);
+    }
+    numbers
 }
 
 fn levels_of(words: &[&str]) -> u8 {

@@ -1,6 +1,6 @@
 //! Digests as words.
 
-ghost use Rattle.std.specs.Prelude.{◌≡◌};
+ghost use Rattle.std.specs.{Prelude.{◌≡◌}, List.{list_all}};
 ghost use Rattle.hw_keys.specs.Keys.{is_lower_digit};
 ghost use Rattle.hw_commands.specs.Commands.{digest_told};
 
@@ -12,7 +12,7 @@ use hw_types::Digest;
 pub fn digest_told(word: &str) -> Option<Digest>
     ensures { result ≡ digest_told word.now }
 {
-    if !word.as_bytes().iter().all(|byte| is_lower_digit(*byte)) {
+    if !has_lower_digits(word.as_bytes()) {
         return None;
     }
     match <[u8; 32]>::from_hex(word) {
@@ -21,8 +21,9 @@ pub fn digest_told(word: &str) -> Option<Digest>
     }
 }
 
-fn is_lower_digit(byte: u8) -> bool
-    ensures { result ≡ is_lower_digit byte }
+fn has_lower_digits(word: &[u8]) -> bool
+    ensures { result ≡ list_all is_lower_digit word.now }
 {
-    matches!(byte, b'0'..=b'9' | b'a'..=b'f')
+    word.iter()
+        .all(|byte| matches!(byte, b'0'..=b'9' | b'a'..=b'f'))
 }
