@@ -41,6 +41,7 @@ mod question;
 mod quorums;
 mod rounds;
 mod search;
+mod shift;
 mod table;
 mod votes;
 
