@@ -77,11 +77,11 @@ module _ (dag : UnitGraph) (g : IsGraph dag) (tip : ℕ) (lt : tip < count_of da
   pub none_first : (counts : ℕ → Bool) → counts tip ≡ false → IsFirstOf dag tip counts (2 ^ 32 - 1)
   none_first counts f = come_stop counts (2 ^ 32 - 1) tip come_first f
 
--- a unit that sees less than the least quorum doesn't count
-pub too_little : (weights : List ℕ) (dag : UnitGraph) (block least : ℕ) (is_votes : Bool) (firsts : List ℕ) (n support : ℕ) → is_votes ≡ false → weight_after weights dag firsts n ≡ support → support < least
-    → counts_over weights dag block least is_votes firsts n ≡ false
-too_little weights dag block least is_votes firsts n support e le lt =
-    ap (λ (b : Bool). if b then votes_over dag block n else has_quorum weights dag least firsts n) e ∙ lt-leb least (weight_after weights dag firsts n) (omega arith)
+-- above level 0 a unit counts by what it sees
+pub counts_by_sum : (weights : List ℕ) (dag : UnitGraph) (block least : ℕ) (is_votes : Bool) (firsts : List ℕ) (n support : ℕ) → is_votes ≡ false → weight_after weights dag firsts n ≡ support
+    → nat_le least support ≡ counts_over weights dag block least is_votes firsts n
+counts_by_sum weights dag block least is_votes firsts n support e seen =
+    sym (ap (λ (b : Bool). if b then votes_over dag block n else has_quorum weights dag least firsts n) e ∙ ap (nat_le least) seen)
 
 -- ---- first units that come down
 
@@ -185,27 +185,27 @@ over_at weights dag block least levels lower (suc i) n is =
     ∙ ap (λ (b : LevelBound). has_quorum weights dag least b.firsts n) (is i refl)
 
 -- the bounds of the levels below this one follow the panorama, and those from it on are as they were
-pub record HasFollowed (weights : List ℕ) (dag : UnitGraph) (panorama : List View) (tips : List (Option UnitNo)) (block least : ℕ) (start now : List LevelBound) (lower : LevelBound) (low j : ℕ) : Type 0 where
+pub record HasFollowed (weights : List ℕ) (dag : UnitGraph) (panorama : List View) (tips : List (Option UnitNo)) (block asked least : ℕ) (start now : List LevelBound) (lower : LevelBound) (low j : ℕ) : Type 0 where
   pub long : length now ≡ length start
   pub same : (i : ℕ) → j ≤ i → bound_of now i ≡ bound_of start i
   pub lower_is : (i : ℕ) → suc i ≡ j → lower ≡ bound_of now i
   pub first : (i v : ℕ) (tip : UnitNo) → i < j → view_at panorama v ≡ view.Correct tip → IsFirstOf dag tip.0 (counts_at weights dag block least now i) (first_of (bound_of now i) v)
   pub support : (i v : ℕ) (tip : UnitNo) → i < j → view_at panorama v ≡ view.Correct tip → weight_after weights dag (bound_of now i).firsts tip.0 ≡ support_of (bound_of now i) v
-  pub ready : (v : ℕ) (tip : UnitNo) → j < length now → get_or tips v None ≡ Some tip → first_of (bound_of now j) v ≤ low → IsFirstOf dag tip.0 (counts_over weights dag block least (j == 0) lower.firsts) (first_of (bound_of now j) v)
+  pub ready : (j ≡ 0 → asked ≡ block) → (v : ℕ) (tip : UnitNo) → j < length now → get_or tips v None ≡ Some tip → first_of (bound_of now j) v ≤ low → IsFirstOf dag tip.0 (counts_over weights dag block least (j == 0) lower.firsts) (first_of (bound_of now j) v)
 
-module _ (weights : List ℕ) (dag : UnitGraph) (g : IsGraph dag) (panorama : List View) (tips : List (Option UnitNo)) (block least : ℕ) (start : List LevelBound)
-    (bounded : (v : ℕ) (tip : UnitNo) → get_or tips v None ≡ Some tip → IsBounded weights dag block least start v tip.0) where
-  pub followed_none : (lower : LevelBound) (low : ℕ) → HasFollowed weights dag panorama tips block least start start lower low 0
+module _ (weights : List ℕ) (dag : UnitGraph) (g : IsGraph dag) (panorama : List View) (tips : List (Option UnitNo)) (block asked least : ℕ) (start : List LevelBound)
+    (bounded : (v : ℕ) (tip : UnitNo) → get_or tips v None ≡ Some tip → IsBounded weights dag asked least start v tip.0) where
+  pub followed_none : (lower : LevelBound) (low : ℕ) → HasFollowed weights dag panorama tips block asked least start start lower low 0
   followed_none lower low = record {
     long = refl;
     same = λ i le. refl;
     lower_is = λ i e. absurd (omega arith);
     first = λ i v tip lt e. absurd (omega arith);
     support = λ i v tip lt e. absurd (omega arith);
-    ready = λ v tip lj e le. (bounded v tip e).first 0 lj;
+    ready = λ same v tip lj e le. subst (λ (b : ℕ). IsFirstOf dag tip.0 (votes_over dag b) (first_of (bound_of start 0) v)) (same refl) ((bounded v tip e).first 0 lj);
   }
 
-  module _ (now after : List LevelBound) (lower bound : LevelBound) (low next j : ℕ) (h : HasFollowed weights dag panorama tips block least start now lower low j) (lj : j < length now) (put : after ≡ set now j bound) where
+  module _ (now after : List LevelBound) (lower bound : LevelBound) (low next j : ℕ) (h : HasFollowed weights dag panorama tips block asked least start now lower low j) (lj : j < length now) (put : after ≡ set now j bound) where
     other : (i : ℕ) → i ≢ j → bound_of after i ≡ bound_of now i
     other i ne = ap (λ (bs : List LevelBound). bound_of bs i) put ∙ (rw get_or-set_other refl)
 
@@ -221,7 +221,7 @@ module _ (weights : List ℕ) (dag : UnitGraph) (g : IsGraph dag) (panorama : Li
 
     pub followed_more : ((v : ℕ) (tip : UnitNo) → view_at panorama v ≡ view.Correct tip → IsFirstOf dag tip.0 (counts_over weights dag block least (j == 0) lower.firsts) (first_of bound v))
         → ((v : ℕ) (tip : UnitNo) → view_at panorama v ≡ view.Correct tip → weight_after weights dag bound.firsts tip.0 ≡ support_of bound v)
-        → AreLowered (bound_of now j) bound next → HasFollowed weights dag panorama tips block least start after bound next (j + 1)
+        → AreLowered (bound_of now j) bound next → HasFollowed weights dag panorama tips block asked least start after bound next (j + 1)
     followed_more firsts supports lowered =
         let long : length after ≡ length now = ap length put ∙ length-set now j bound in record {
           long = long ∙ h.long;
@@ -243,7 +243,7 @@ module _ (weights : List ℕ) (dag : UnitGraph) (g : IsGraph dag) (panorama : Li
                 (subst (λ (b : LevelBound). weight_after weights dag b.firsts tip.0 ≡ support_of b v) (sym here) (supports v tip e))
             | inr ne ↦ subst (λ (b : LevelBound). weight_after weights dag b.firsts tip.0 ≡ support_of b v) (sym (other i ne)) (h.support i v tip (omega arith) e)
           ];
-          ready = λ v tip more e le. get_ready lowered v tip more e le;
+          ready = λ same v tip more e le. get_ready lowered v tip more e le;
         }
       where
         get_ready : AreLowered (bound_of now j) bound next → (v : ℕ) (tip : UnitNo) → j + 1 < length after → get_or tips v None ≡ Some tip → first_of (bound_of after (j + 1)) v ≤ next
@@ -261,15 +261,15 @@ module _ (weights : List ℕ) (dag : UnitGraph) (g : IsGraph dag) (panorama : Li
             (over_next weights dag block least j bound.firsts tip.0 (first_of (bound_of after (j + 1)) v) (subst (λ (b : LevelBound). IsFirstOf dag tip.0 (has_quorum weights dag least bound.firsts) (first_of b v)) (sym above) now_is))
 
   -- in the end all of them do
-  pub followed_all : (now : List LevelBound) (lower : LevelBound) (low : ℕ) → HasFollowed weights dag panorama tips block least start now lower low (length now) → (v : ℕ) (tip : UnitNo) → tip.0 < count_of dag → view_at panorama v ≡ view.Correct tip
+  pub followed_all : (now : List LevelBound) (lower : LevelBound) (low : ℕ) → HasFollowed weights dag panorama tips block asked least start now lower low (length now) → (v : ℕ) (tip : UnitNo) → tip.0 < count_of dag → view_at panorama v ≡ view.Correct tip
       → IsBounded weights dag block least now v tip.0
   followed_all now lower low h v tip known e = record { known = known; first = λ j lj. h.first j v tip lj e; support = λ j lj. h.support j v tip lj e }
 
 -- what the latest units see of a level above level 0, they see of the one that was copied
-pub support_below : (weights : List ℕ) (dag : UnitGraph) (panorama : List View) (tips : List (Option UnitNo)) (block least : ℕ) (start now : List LevelBound) (lower : LevelBound) (low j : ℕ) → HasFollowed weights dag panorama tips block least start now lower low j → (j == 0) ≡ false
+pub support_below : (weights : List ℕ) (dag : UnitGraph) (panorama : List View) (tips : List (Option UnitNo)) (block asked least : ℕ) (start now : List LevelBound) (lower : LevelBound) (low j : ℕ) → HasFollowed weights dag panorama tips block asked least start now lower low j → (j == 0) ≡ false
     → (v : ℕ) (tip : UnitNo) → view_at panorama v ≡ view.Correct tip → weight_after weights dag lower.firsts tip.0 ≡ support_of lower v
-support_below weights dag panorama tips block least start now lower low zero h e v tip t = absurd cc
-support_below weights dag panorama tips block least start now lower low (suc i) h e v tip t = subst (λ (b : LevelBound). weight_after weights dag b.firsts tip.0 ≡ support_of b v) (sym (h.lower_is i refl)) (h.support i v tip (omega arith) t)
+support_below weights dag panorama tips block asked least start now lower low zero h e v tip t = absurd cc
+support_below weights dag panorama tips block asked least start now lower low (suc i) h e v tip t = subst (λ (b : LevelBound). weight_after weights dag b.firsts tip.0 ≡ support_of b v) (sym (h.lower_is i refl)) (h.support i v tip (omega arith) t)
 
 -- ---- what was kept
 

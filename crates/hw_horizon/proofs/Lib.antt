@@ -16,6 +16,7 @@ pub mod FollowLaws
 pub mod SeenLaws
 pub mod NumberLaws
 pub mod RunLaws
+pub mod ShiftLaws
 pub mod StayLaws
 pub mod LevelLaws
 pub mod WayLaws

@@ -1,5 +1,5 @@
 -- What a unit sees of a committee, by numbers of units alone.
-use Rattle.std.specs.Prelude.{◌≡◌, ℕ, ◌+◌, ◌<◌, ◌≤◌, ◌^◌, Bool, true, false, nat_le, List, length, is_some, slice_index_or}
+use Rattle.std.specs.Prelude.{◌≡◌, ℕ, ◌+◌, ◌<◌, ◌≤◌, ◌^◌, Bool, true, false, nat_le, List, length, is_some, slice_index_or, if◌then◌else◌}
 use Rattle.hw_types.specs.Votes.{weight_of}
 use Rattle.hw_dag.specs.declared.numbers.UnitNo.{UnitNo}
 use Rattle.hw_dag.specs.declared.numbers.View.{View}
@@ -22,6 +22,14 @@ sees_after dag firsts n v = is_after (slice_index_or firsts v 0) (view_at (unit_
 -- the weight of those of whom it does
 abbrev pub weight_after : List ℕ → UnitGraph → List ℕ → ℕ → ℕ
 weight_after weights dag firsts n = weight_of weights (sees_after dag firsts n)
+
+-- the first unit of the validator, where those of the validators before this one have moved from the one list to the other
+abbrev pub first_amid : List ℕ → List ℕ → ℕ → ℕ → ℕ
+first_amid old new moved v = if nat_le moved v then slice_index_or old v 0 else slice_index_or new v 0
+
+-- the weight of those of whom the unit observes that one or one of a greater number
+abbrev pub weight_amid : List ℕ → UnitGraph → List ℕ → List ℕ → ℕ → ℕ → ℕ
+weight_amid weights dag old new moved n = weight_of weights (λ v. is_after (first_amid old new moved v) (view_at (unit_at dag n).panorama v))
 
 -- it is a quorum
 abbrev pub has_quorum : List ℕ → UnitGraph → ℕ → List ℕ → ℕ → Bool

@@ -10,8 +10,8 @@ ghost use Rattle.hw_types.specs.Votes.{weight_of};
 ghost use Rattle.hw_dag.specs.{declared.numbers.UnitNo.{UnitNo as Number}, Dag.{UnitGraph, IsPanorama, count_of, view_at}, Lanes.{AreWeights}};
 ghost use Rattle.hw_horizon.specs.Bounds.{AreBounds, AreTips, AreWide, IsBounded, IsOutside, IsRuledOut, bound_of, support_of, tip_in};
 
-use crate::firsts::{Firsts, NO_UNIT};
-use crate::follow::{Span, changed_span, follow_level};
+use crate::firsts::Firsts;
+use crate::follow::{Below, Span, changed_span, follow_level, no_moves};
 use crate::question::Question;
 use hw_dag::{Dag, Panorama, UnitNo, View};
 use hw_types::{OutOfMemory, WeightList};
@@ -119,6 +119,8 @@ pub struct Bounds {
     levels: Vec<Bound>,
     /// Scratch: the level below the one that follows.
     lower: Bound,
+    /// Scratch: the first units of a level before they moved.
+    before: Firsts,
 }
 
 impl Model for Bounds {
@@ -135,7 +137,7 @@ impl Model for Bounds {
 
     ghost use Rattle.std.specs.Prelude.{◌≡◌, length};
 
-    ghost invariant = { λ b. (length b.lower.firsts ≡ length b.tips.items) × (length b.lower.support ≡ length b.tips.items) };
+    ghost invariant = { λ b. (length b.lower.firsts ≡ length b.tips.items) × (length b.lower.support ≡ length b.tips.items) × (length b.before ≡ length b.tips.items) };
 }
 
 impl Bounds {
@@ -157,6 +159,7 @@ impl Bounds {
             tips,
             levels: bounds,
             lower: Bound::new(alloc, validators)?,
+            before: Firsts::new(alloc, validators)?,
         })
     }
 
@@ -180,7 +183,9 @@ impl Bounds {
         ensures tips { AreTips panorama.now self.new }
         ensures wide { AreWide dag.now.validators self.new }
     {
-        let again = asks_again(self.block, self.least, block, least);
+        // What the latest units see of first units is the same whichever block is asked.
+        let asked = self.block.unwrap_or(block);
+        let again = asks_again(self.block, self.least, asked, least);
         forget_unless(self.tips.as_mut_slice(), again);
         self.block = Some(block);
         self.least = least;
@@ -198,8 +203,10 @@ impl Bounds {
             &question,
             self.levels.as_mut_slice(),
             &mut self.lower,
+            &mut self.before,
             self.tips.as_slice(),
             changed,
+            asked,
         );
         put_tips(self.tips.as_mut_slice(), dag, panorama);
     }
@@ -232,13 +239,16 @@ impl Bounds {
     }
 }
 
-// Makes the bound of each level that of the panorama, from level 0 on.
+// Makes the bound of each level that of the panorama, from level 0 on. They are for the block that was asked
+// before.
 fn follow_levels(
     question: &Question<'_>,
     levels: &mut [Bound],
     lower: &mut Bound,
+    before: &mut Firsts,
     tips: &[Option<UnitNo>],
     changed: Span,
+    asked: UnitNo,
 )
     requires tips { length tips.now ≡ question.now.dag.now.validators }
     requires changed { (v : ℕ) → v < question.now.dag.now.validators → IsOutside changed v → slice_index_or tips.now v None ≡ tip_in (view_at question.now.panorama.now v) }
@@ -247,18 +257,26 @@ fn follow_levels(
     requires support { (j : ℕ) → j < length levels.old → length (bound_of levels.old j).support ≡ question.now.dag.now.validators }
     requires lower_firsts { length lower.old.firsts ≡ question.now.dag.now.validators }
     requires lower_support { length lower.old.support ≡ question.now.dag.now.validators }
-    requires bounded { (v : ℕ) (tip : Number) → slice_index_or tips.now v None ≡ Some tip → IsBounded question.now.weights.now question.now.dag.now question.now.block.0 question.now.quorum levels.old v tip.0 }
+    requires before { length before.old ≡ question.now.dag.now.validators }
+    requires bounded { (v : ℕ) (tip : Number) → slice_index_or tips.now v None ≡ Some tip → IsBounded question.now.weights.now question.now.dag.now asked.0 question.now.quorum levels.old v tip.0 }
     ensures bounded { (v : ℕ) (tip : Number) → view_at question.now.panorama.now v ≡ View.Correct tip → IsBounded question.now.weights.now question.now.dag.now question.now.block.0 question.now.quorum levels.new v tip.0 }
     ensures length { length levels.new ≡ length levels.old }
     ensures firsts { (j : ℕ) → j < length levels.new → length (bound_of levels.new j).firsts ≡ question.now.dag.now.validators }
     ensures support { (j : ℕ) → j < length levels.new → length (bound_of levels.new j).support ≡ question.now.dag.now.validators }
     ensures lower_firsts { length lower.new.firsts ≡ question.now.dag.now.validators }
     ensures lower_support { length lower.new.support ≡ question.now.dag.now.validators }
+    ensures before { length before.new ≡ question.now.dag.now.validators }
 {
-    let mut low = NO_UNIT;
+    let is_new = asked != question.block;
+    let mut moves = no_moves();
     for level in 0..levels.len() {
-        let bound = &mut levels[level];
-        low = follow_level(question, bound, lower, level == 0, tips, changed, low);
+        let below = Below {
+            bound: &*lower,
+            is_votes: level == 0,
+            is_new,
+            moves,
+        };
+        moves = follow_level(question, &mut levels[level], before, &below, tips, changed);
         lower.copy_from(&levels[level]);
     }
 }
@@ -278,7 +296,7 @@ fn supporters(dag: &Dag, weights: &[u64], bound: &Bound, quorum: u64) -> u64
     total
 }
 
-// Whether it is the block and the quorum that were asked last.
+// Whether it is the block and the quorum that were asked last, for which bounds are kept.
 fn asks_again(asked: Option<UnitNo>, asked_least: u64, block: UnitNo, least: u64) -> bool
     ensures block { IsTrue result → asked ≡ Some block }
     ensures least { IsTrue result → asked_least ≡ least }

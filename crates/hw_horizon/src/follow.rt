@@ -5,11 +5,16 @@ ghost use Rattle.hw_dag.specs.{Dag.{IsPanorama, count_of, view_at, unit_at, seq_
 ghost use Rattle.hw_horizon.specs.{Firsts.{weight_after}, Bounds.{first_of, support_of, tip_in, counts_over, IsFirstOf, AreLowered, AreSameBelow, IsOutside, IsGap, IsBack}};
 
 use crate::bounds::Bound;
-use crate::firsts::NO_UNIT;
+use crate::firsts::{Firsts, NO_UNIT};
 use crate::question::Question;
 use crate::quorums::{has_quorum, weight_after};
+use crate::shift::shift_support;
 use crate::votes::votes_for;
 use hw_dag::{Dag, Panorama, UnitNo, View};
+
+/// Sums are adjusted while no more than this share of the first units moved. A slot that is looked up by itself
+/// costs about four in a row.
+const SHARE: u32 = 4;
 
 /// The validators from one on, up to another one.
 #[derive(Clone, Copy)]
@@ -18,12 +23,23 @@ pub(crate) struct Span {
     pub(crate) to: u32,
 }
 
-/// How the first units of a level changed: none came down below the one number, and none that was or is less
-/// than the other changed at all.
+/// How the first units of a level changed: none came down below the one number, none that was or is less than
+/// the other changed at all, and so many did.
 #[derive(Clone, Copy)]
 pub(crate) struct Moves {
     pub(crate) down: u32,
     pub(crate) any: u32,
+    pub(crate) count: u32,
+}
+
+/// What a level stands on: the level below it, whose first units changed so. Level 0 stands on votes. Nothing is
+/// known of its own first units where that is new.
+#[derive(Clone, Copy)]
+pub(crate) struct Below<'a> {
+    pub(crate) bound: &'a Bound,
+    pub(crate) is_votes: bool,
+    pub(crate) is_new: bool,
+    pub(crate) moves: Moves,
 }
 
 /// What is known of a lane: its first unit that may count was `first` when its latest unit was `tip`, and no
@@ -97,85 +113,108 @@ fn looked_at(dag: &Dag, changed: Span, low: u32) -> Span
     }
 }
 
-/// Makes the bound of a level that of the panorama, over the level below it, of which no first unit came
-/// down below the number `low`. Answers the same number for this level. Outside the span no latest unit
-/// changed: there nothing has to be looked at while no first unit came down.
+// What is known of no greater first units only. Where it is the number of no unit, all of them are known.
+fn lowest(below: &Below<'_>) -> u32
+    ensures { result ≡ 2 ^ 32 - 1 → (below.now.is_new ≡ false) × (below.now.moves.down ≡ 2 ^ 32 - 1) }
+{
+    if below.is_new { 0 } else { below.moves.down }
+}
+
+/// No first unit changed.
+pub(crate) fn no_moves() -> Moves
+    ensures { result ≡ record { down = 2 ^ 32 - 1; any = 2 ^ 32 - 1; count = 0 } }
+{
+    Moves {
+        down: NO_UNIT,
+        any: NO_UNIT,
+        count: 0,
+    }
+}
+
+/// Makes the bound of a level that of the panorama, and answers how its first units moved. Outside the span no
+/// latest unit changed: there nothing has to be looked at while no first unit moved. `before` is scratch.
 pub(crate) fn follow_level(
     question: &Question<'_>,
     bound: &mut Bound,
-    lower: &Bound,
-    is_votes: bool,
+    before: &mut Firsts,
+    below: &Below<'_>,
     tips: &[Option<UnitNo>],
     changed: Span,
-    low: u32,
-) -> u32
+) -> Moves
     requires tips { length tips.now ≡ question.now.dag.now.validators }
     requires changed { (v : ℕ) → v < question.now.dag.now.validators → IsOutside changed v → slice_index_or tips.now v None ≡ tip_in (view_at question.now.panorama.now v) }
     requires span { changed.to ≤ question.now.dag.now.validators }
     requires firsts_length { length bound.old.firsts ≡ question.now.dag.now.validators }
     requires support_length { length bound.old.support ≡ question.now.dag.now.validators }
-    requires lower_firsts { length lower.now.firsts ≡ question.now.dag.now.validators }
-    requires lower_support { length lower.now.support ≡ question.now.dag.now.validators }
+    requires before { length before.old ≡ question.now.dag.now.validators }
+    requires lower_firsts { length below.now.bound.now.firsts ≡ question.now.dag.now.validators }
+    requires lower_support { length below.now.bound.now.support ≡ question.now.dag.now.validators }
     requires known { (v : ℕ) (tip : Number) → slice_index_or tips.now v None ≡ Some tip → tip.0 < count_of question.now.dag.now }
-    requires kept { (v : ℕ) (tip : Number) → slice_index_or tips.now v None ≡ Some tip → first_of bound.old v ≤ low → IsFirstOf question.now.dag.now tip.0 (counts_over question.now.weights.now question.now.dag.now question.now.block.0 question.now.quorum is_votes lower.now.firsts) (first_of bound.old v) }
+    requires kept { below.now.is_new ≡ false → (v : ℕ) (tip : Number) → slice_index_or tips.now v None ≡ Some tip → first_of bound.old v ≤ below.now.moves.down → IsFirstOf question.now.dag.now tip.0 (counts_over question.now.weights.now question.now.dag.now question.now.block.0 question.now.quorum below.now.is_votes below.now.bound.now.firsts) (first_of bound.old v) }
     requires seen { (v : ℕ) (tip : Number) → slice_index_or tips.now v None ≡ Some tip → weight_after question.now.weights.now question.now.dag.now bound.old.firsts tip.0 ≡ support_of bound.old v }
-    requires supported { is_votes ≡ false → (v : ℕ) (tip : Number) → view_at question.now.panorama.now v ≡ View.Correct tip → weight_after question.now.weights.now question.now.dag.now lower.now.firsts tip.0 ≡ support_of lower.now v }
-    ensures firsts { (v : ℕ) (tip : Number) → view_at question.now.panorama.now v ≡ View.Correct tip → IsFirstOf question.now.dag.now tip.0 (counts_over question.now.weights.now question.now.dag.now question.now.block.0 question.now.quorum is_votes lower.now.firsts) (first_of bound.new v) }
+    requires supported { below.now.is_votes ≡ false → (v : ℕ) (tip : Number) → view_at question.now.panorama.now v ≡ View.Correct tip → weight_after question.now.weights.now question.now.dag.now below.now.bound.now.firsts tip.0 ≡ support_of below.now.bound.now v }
+    ensures firsts { (v : ℕ) (tip : Number) → view_at question.now.panorama.now v ≡ View.Correct tip → IsFirstOf question.now.dag.now tip.0 (counts_over question.now.weights.now question.now.dag.now question.now.block.0 question.now.quorum below.now.is_votes below.now.bound.now.firsts) (first_of bound.new v) }
     ensures support { (v : ℕ) (tip : Number) → view_at question.now.panorama.now v ≡ View.Correct tip → weight_after question.now.weights.now question.now.dag.now bound.new.firsts tip.0 ≡ support_of bound.new v }
-    ensures lowered { AreLowered bound.old bound.new result }
+    ensures lowered { AreLowered bound.old bound.new result.down }
     ensures firsts_length { length bound.new.firsts ≡ length bound.old.firsts }
     ensures support_length { length bound.new.support ≡ length bound.old.support }
+    ensures before { length before.new ≡ length before.old }
 {
     // For the prover: recalls what is said of first units.
     bound.firsts().recall_numbers();
+    before.copy_from(bound.firsts());
+    let span = looked_at(question.dag, changed, lowest(below));
+    let moves = put_firsts(question, bound, below, tips, span);
+    let low = shift_few(question, bound, before, tips, moves);
     let span = looked_at(question.dag, changed, low);
-    let moves = put_firsts(question, bound, lower, is_votes, tips, span, low);
-    let span = looked_at(question.dag, changed, moves.any);
-    put_support(question, bound, tips, span, moves.any);
-    moves.down
+    put_support(question, bound, tips, span, low);
+    moves
 }
 
 // Puts the first units of the span, and answers how they changed.
 fn put_firsts(
     question: &Question<'_>,
     bound: &mut Bound,
-    lower: &Bound,
-    is_votes: bool,
+    below: &Below<'_>,
     tips: &[Option<UnitNo>],
     span: Span,
-    low: u32,
 ) -> Moves
     requires tips { length tips.now ≡ question.now.dag.now.validators }
     requires firsts_length { length bound.old.firsts ≡ question.now.dag.now.validators }
-    requires lower_firsts { length lower.now.firsts ≡ question.now.dag.now.validators }
-    requires lower_support { length lower.now.support ≡ question.now.dag.now.validators }
+    requires lower_firsts { length below.now.bound.now.firsts ≡ question.now.dag.now.validators }
+    requires lower_support { length below.now.bound.now.support ≡ question.now.dag.now.validators }
     requires span { span.to ≤ question.now.dag.now.validators }
-    requires outside { (v : ℕ) (tip : Number) → IsOutside span v → view_at question.now.panorama.now v ≡ View.Correct tip → IsFirstOf question.now.dag.now tip.0 (counts_over question.now.weights.now question.now.dag.now question.now.block.0 question.now.quorum is_votes lower.now.firsts) (first_of bound.old v) }
+    requires outside { (v : ℕ) (tip : Number) → IsOutside span v → view_at question.now.panorama.now v ≡ View.Correct tip → IsFirstOf question.now.dag.now tip.0 (counts_over question.now.weights.now question.now.dag.now question.now.block.0 question.now.quorum below.now.is_votes below.now.bound.now.firsts) (first_of bound.old v) }
     requires known { (v : ℕ) (tip : Number) → slice_index_or tips.now v None ≡ Some tip → tip.0 < count_of question.now.dag.now }
-    requires kept { (v : ℕ) (tip : Number) → slice_index_or tips.now v None ≡ Some tip → first_of bound.old v ≤ low → IsFirstOf question.now.dag.now tip.0 (counts_over question.now.weights.now question.now.dag.now question.now.block.0 question.now.quorum is_votes lower.now.firsts) (first_of bound.old v) }
-    requires supported { is_votes ≡ false → (v : ℕ) (tip : Number) → view_at question.now.panorama.now v ≡ View.Correct tip → weight_after question.now.weights.now question.now.dag.now lower.now.firsts tip.0 ≡ support_of lower.now v }
-    ensures firsts { (v : ℕ) (tip : Number) → view_at question.now.panorama.now v ≡ View.Correct tip → IsFirstOf question.now.dag.now tip.0 (counts_over question.now.weights.now question.now.dag.now question.now.block.0 question.now.quorum is_votes lower.now.firsts) (first_of bound.new v) }
+    requires kept { below.now.is_new ≡ false → (v : ℕ) (tip : Number) → slice_index_or tips.now v None ≡ Some tip → first_of bound.old v ≤ below.now.moves.down → IsFirstOf question.now.dag.now tip.0 (counts_over question.now.weights.now question.now.dag.now question.now.block.0 question.now.quorum below.now.is_votes below.now.bound.now.firsts) (first_of bound.old v) }
+    requires supported { below.now.is_votes ≡ false → (v : ℕ) (tip : Number) → view_at question.now.panorama.now v ≡ View.Correct tip → weight_after question.now.weights.now question.now.dag.now below.now.bound.now.firsts tip.0 ≡ support_of below.now.bound.now v }
+    ensures firsts { (v : ℕ) (tip : Number) → view_at question.now.panorama.now v ≡ View.Correct tip → IsFirstOf question.now.dag.now tip.0 (counts_over question.now.weights.now question.now.dag.now question.now.block.0 question.now.quorum below.now.is_votes below.now.bound.now.firsts) (first_of bound.new v) }
     ensures lowered { AreLowered bound.old bound.new result.down }
     ensures same { AreSameBelow bound.old bound.new result.any }
     ensures firsts_length { length bound.new.firsts ≡ length bound.old.firsts }
     ensures support { bound.new.support ≡ bound.old.support }
 {
-    let mut moves = Moves {
-        down: NO_UNIT,
-        any: NO_UNIT,
-    };
+    let mut moves = no_moves();
     for v in span.from..span.to {
         let before = bound.firsts().get(v);
         let known = Known {
-            tip: tips[v as usize],
+            tip: known_tip(below, tips[v as usize]),
             first: before,
-            low,
+            low: below.moves.down,
         };
-        let first = next_first(question, lower, is_votes, known, v);
+        let first = next_first(question, below, known, v);
         moves = moved(moves, before, first);
         bound.set_first(v, first);
     }
     moves
+}
+
+// The latest unit from which a first unit is known.
+fn known_tip(below: &Below<'_>, tip: Option<UnitNo>) -> Option<UnitNo>
+    ensures same { (no : Number) → result ≡ Some no → tip ≡ Some no }
+    ensures old { (no : Number) → result ≡ Some no → below.now.is_new ≡ false }
+{
+    if below.is_new { None } else { tip }
 }
 
 // How they changed with one more, which was `before`.
@@ -189,11 +228,13 @@ fn moved(moves: Moves, before: u32, first: u32) -> Moves
         Moves {
             down: moves.down.min(first),
             any: moves.any.min(first),
+            count: moves.count.saturating_add(1),
         }
     } else if before < first {
         Moves {
             down: moves.down,
             any: moves.any.min(before),
+            count: moves.count.saturating_add(1),
         }
     } else {
         moves
@@ -201,20 +242,14 @@ fn moved(moves: Moves, before: u32, first: u32) -> Moves
 }
 
 // The first unit of the validator's lane that may count, where this is known of it.
-fn next_first(
-    question: &Question<'_>,
-    lower: &Bound,
-    is_votes: bool,
-    known: Known,
-    validator: u32,
-) -> u32
-    requires lower_firsts { length lower.now.firsts ≡ question.now.dag.now.validators }
-    requires lower_support { length lower.now.support ≡ question.now.dag.now.validators }
+fn next_first(question: &Question<'_>, below: &Below<'_>, known: Known, validator: u32) -> u32
+    requires lower_firsts { length below.now.bound.now.firsts ≡ question.now.dag.now.validators }
+    requires lower_support { length below.now.bound.now.support ≡ question.now.dag.now.validators }
     requires within { validator < question.now.dag.now.validators }
     requires known { (tip : Number) → known.tip ≡ Some tip → tip.0 < count_of question.now.dag.now }
-    requires kept { (tip : Number) → known.tip ≡ Some tip → known.first ≤ known.low → IsFirstOf question.now.dag.now tip.0 (counts_over question.now.weights.now question.now.dag.now question.now.block.0 question.now.quorum is_votes lower.now.firsts) known.first }
-    requires supported { is_votes ≡ false → (tip : Number) → view_at question.now.panorama.now validator ≡ View.Correct tip → weight_after question.now.weights.now question.now.dag.now lower.now.firsts tip.0 ≡ support_of lower.now validator }
-    ensures { (tip : Number) → view_at question.now.panorama.now validator ≡ View.Correct tip → IsFirstOf question.now.dag.now tip.0 (counts_over question.now.weights.now question.now.dag.now question.now.block.0 question.now.quorum is_votes lower.now.firsts) result }
+    requires kept { (tip : Number) → known.tip ≡ Some tip → known.first ≤ known.low → IsFirstOf question.now.dag.now tip.0 (counts_over question.now.weights.now question.now.dag.now question.now.block.0 question.now.quorum below.now.is_votes below.now.bound.now.firsts) known.first }
+    requires supported { below.now.is_votes ≡ false → (tip : Number) → view_at question.now.panorama.now validator ≡ View.Correct tip → weight_after question.now.weights.now question.now.dag.now below.now.bound.now.firsts tip.0 ≡ support_of below.now.bound.now validator }
+    ensures { (tip : Number) → view_at question.now.panorama.now validator ≡ View.Correct tip → IsFirstOf question.now.dag.now tip.0 (counts_over question.now.weights.now question.now.dag.now question.now.block.0 question.now.quorum below.now.is_votes below.now.bound.now.firsts) result }
 {
     let View::Correct(tip) = question.panorama.get(validator) else {
         return NO_UNIT;
@@ -222,13 +257,28 @@ fn next_first(
     if known.tip == Some(tip) && known.first <= known.low {
         return known.first;
     }
-    if !is_votes && lower.support(validator) < question.quorum {
+    if !tip_counts(question, below, tip, validator) {
         return NO_UNIT;
     }
-    walk(question, lower, is_votes, tip, known)
+    walk(question, below.bound, below.is_votes, tip, known)
 }
 
-// The first unit, by a search down the lane: in steps that double for as long as the units count, and then
+// Whether the validator's latest unit may count. What it sees of the level below is known.
+fn tip_counts(question: &Question<'_>, below: &Below<'_>, tip: UnitNo, validator: u32) -> bool
+    requires lower_support { length below.now.bound.now.support ≡ question.now.dag.now.validators }
+    requires within { validator < question.now.dag.now.validators }
+    requires known { tip.0 < count_of question.now.dag.now }
+    requires supported { below.now.is_votes ≡ false → weight_after question.now.weights.now question.now.dag.now below.now.bound.now.firsts tip.0 ≡ support_of below.now.bound.now validator }
+    ensures { result ≡ counts_over question.now.weights.now question.now.dag.now question.now.block.0 question.now.quorum below.now.is_votes below.now.bound.now.firsts tip.0 }
+{
+    if below.is_votes {
+        votes_for(question.dag, tip, question.block)
+    } else {
+        question.quorum <= below.bound.support(validator)
+    }
+}
+
+// The first unit, by a search down the lane from a unit that may count: in steps that double for as long as the units count, and then
 // by bisection between the last two. Where the units that count are the last ones of the lane, as those are
 // that see a quorum, it is the first of them.
 fn walk(question: &Question<'_>, lower: &Bound, is_votes: bool, tip: UnitNo, known: Known) -> u32
@@ -238,9 +288,6 @@ fn walk(question: &Question<'_>, lower: &Bound, is_votes: bool, tip: UnitNo, kno
     requires kept { (no : Number) → known.tip ≡ Some no → known.first ≤ known.low → IsFirstOf question.now.dag.now no.0 (counts_over question.now.weights.now question.now.dag.now question.now.block.0 question.now.quorum is_votes lower.now.firsts) known.first }
     ensures { IsFirstOf question.now.dag.now tip.0 (counts_over question.now.weights.now question.now.dag.now question.now.block.0 question.now.quorum is_votes lower.now.firsts) result }
 {
-    if !counts(question, lower, is_votes, tip) {
-        return NO_UNIT;
-    }
     let mut first = tip;
     let mut step = 1;
     while 0 < seq_of(question.dag, first) {
@@ -332,6 +379,33 @@ fn is_known_from(known: Known, no: UnitNo) -> bool
     ensures earlier { IsTrue result → known.first ≤ no.0 }
 {
     known.tip == Some(no) && known.first <= known.low && known.first <= no.0
+}
+
+// Adjusts what the kept latest units see by the first units that moved, where few did. It is right of those
+// latest units that are no greater than the answer.
+fn shift_few(
+    question: &Question<'_>,
+    bound: &mut Bound,
+    before: &Firsts,
+    tips: &[Option<UnitNo>],
+    moves: Moves,
+) -> u32
+    requires tips { length tips.now ≡ question.now.dag.now.validators }
+    requires firsts_length { length bound.old.firsts ≡ question.now.dag.now.validators }
+    requires support_length { length bound.old.support ≡ question.now.dag.now.validators }
+    requires before { length before.now ≡ question.now.dag.now.validators }
+    requires known { (v : ℕ) (tip : Number) → slice_index_or tips.now v None ≡ Some tip → tip.0 < count_of question.now.dag.now }
+    requires seen { (v : ℕ) (tip : Number) → slice_index_or tips.now v None ≡ Some tip → weight_after question.now.weights.now question.now.dag.now before.now tip.0 ≡ support_of bound.old v }
+    requires same { (v : ℕ) (tip : Number) → slice_index_or tips.now v None ≡ Some tip → tip.0 ≤ moves.any → weight_after question.now.weights.now question.now.dag.now bound.old.firsts tip.0 ≡ support_of bound.old v }
+    ensures kept { (v : ℕ) (tip : Number) → slice_index_or tips.now v None ≡ Some tip → tip.0 ≤ result → weight_after question.now.weights.now question.now.dag.now bound.new.firsts tip.0 ≡ support_of bound.new v }
+    ensures firsts { bound.new.firsts ≡ bound.old.firsts }
+    ensures support_length { length bound.new.support ≡ length bound.old.support }
+{
+    if moves.count == 0 || question.dag.validators() / SHARE < moves.count {
+        return moves.any;
+    }
+    shift_support(question, bound, before, tips);
+    NO_UNIT
 }
 
 // Puts what the latest units of the span see of the first units. None that was or is less than `low` has

@@ -40,6 +40,7 @@ mod question;
 mod quorums;
 mod rounds;
 mod search;
+mod shift;
 mod table;
 mod votes;
 

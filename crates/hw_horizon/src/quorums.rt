@@ -116,8 +116,8 @@ pub fn weight_after(dag: &Dag, weights: &[u64], no: UnitNo, firsts: &Firsts) -> 
     total
 }
 
-// Whether the slot names that unit or a later one of its lane.
-fn is_after(first: u32, view: View) -> bool
+/// Whether the slot names that unit or a later one of its lane.
+pub(crate) fn is_after(first: u32, view: View) -> bool
     ensures { result ≡ is_after first view }
 {
     match view {

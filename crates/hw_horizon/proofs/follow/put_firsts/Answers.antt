@@ -35,10 +35,10 @@ loop-v-preserved c =
         | inl same ↦
             let here : view_at c.args.question.now.panorama.now c.loop-v.v ≡ view.Correct tip = subst (λ (k : ℕ). view_at c.args.question.now.panorama.now k ≡ view.Correct tip) same e in
             let is : first_of c.set_first.new.self w ≡ c.next_first-first.result = ap (λ (k : ℕ). first_of c.set_first.new.self k) same ∙ put_same c.loop-v.bound.firsts c.set_first.new.self.firsts c.loop-v.v c.next_first-first.result put inside in
-            subst (λ (n : ℕ). IsFirstOf c.args.question.now.dag.now tip.0 (counts_over c.args.question.now.weights.now c.args.question.now.dag.now c.args.question.now.block.0 c.args.question.now.quorum c.args.is_votes c.args.lower.now.firsts) n) (sym is)
+            subst (λ (n : ℕ). IsFirstOf c.args.question.now.dag.now tip.0 (counts_over c.args.question.now.weights.now c.args.question.now.dag.now c.args.question.now.block.0 c.args.question.now.quorum c.args.below.now.is_votes c.args.below.now.bound.now.firsts) n) (sym is)
             (c.next_first-first.ensures tip here)
         | inr other ↦
-            subst (λ (n : ℕ). IsFirstOf c.args.question.now.dag.now tip.0 (counts_over c.args.question.now.weights.now c.args.question.now.dag.now c.args.question.now.block.0 c.args.question.now.quorum c.args.is_votes c.args.lower.now.firsts) n)
+            subst (λ (n : ℕ). IsFirstOf c.args.question.now.dag.now tip.0 (counts_over c.args.question.now.weights.now c.args.question.now.dag.now c.args.question.now.block.0 c.args.question.now.quorum c.args.below.now.is_votes c.args.below.now.bound.now.firsts) n)
             (sym (put_other c.loop-v.bound.firsts c.set_first.new.self.firsts c.loop-v.v w c.next_first-first.result put other)) (i.firsts w tip (omega arith) e)
       ];
       lowered = lowered_more c.args.bound.now c.loop-v.bound c.set_first.new.self c.loop-v.v c.next_first-first.result c.loop-v.moves.down c.moved-moves.result.down i.lowered (i.rest c.loop-v.v (omega arith)) put inside
@@ -53,6 +53,13 @@ returns-clause-firsts c = λ w tip e. elim (cases_lt w c.loop-v.v) [
   | inl less ↦ c.loop-v.invariant.firsts w tip less e
   | inr le ↦
       (let past = c.loop-v-test.false in
-      subst (λ (n : ℕ). IsFirstOf c.args.question.now.dag.now tip.0 (counts_over c.args.question.now.weights.now c.args.question.now.dag.now c.args.question.now.block.0 c.args.question.now.quorum c.args.is_votes c.args.lower.now.firsts) n)
+      subst (λ (n : ℕ). IsFirstOf c.args.question.now.dag.now tip.0 (counts_over c.args.question.now.weights.now c.args.question.now.dag.now c.args.question.now.block.0 c.args.question.now.quorum c.args.below.now.is_votes c.args.below.now.bound.now.firsts) n)
       (sym (c.loop-v.invariant.rest w le)) (c.requires.outside w tip (inr (omega arith)) e))
 ]
+
+pub next_first-first-requires-clause-kept : goal.next_first-first-requires-clause-kept
+next_first-first-requires-clause-kept c = λ tip e le.
+    let i = c.loop-v.invariant in
+    let before : c.get-before.result ≡ first_of c.args.bound.now c.loop-v.v = c.get-before.ensures ∙ ap (λ (ns : List ℕ). get_or ns c.loop-v.v 0) c.firsts.ensures ∙ i.rest c.loop-v.v (omega arith) in
+    subst (λ (n : ℕ). IsFirstOf c.args.question.now.dag.now tip.0 (counts_over c.args.question.now.weights.now c.args.question.now.dag.now c.args.question.now.block.0 c.args.question.now.quorum c.args.below.now.is_votes c.args.below.now.bound.now.firsts) n) (sym before)
+    (c.requires.kept (c.known_tip.ensures.old tip e) c.loop-v.v tip (c.known_tip.ensures.same tip e) (omega arith))

@@ -1,13 +1,8 @@
 use Rattle.std.proofs.Common.{sym, ◌∙◌, arith}
 use Rattle.hw_horizon.specs.Bounds.{counts_over}
 use Rattle.hw_horizon.proofs.LaneLaws.{lane_self, lane_above}
-use Rattle.hw_horizon.proofs.FollowLaws.{none_first, root_first, known_first}
+use Rattle.hw_horizon.proofs.FollowLaws.{root_first, known_first}
 use Rattle.hw_horizon.proofs.follow.walk.Goals as goal
-
-pub returns-then-not-counts : goal.returns-then-not-counts
-returns-then-not-counts c =
-    none_first c.args.question.now.dag.now c.args.question.now.asked.graph_is c.args.tip.0 c.requires.tip_known (counts_over c.args.question.now.weights.now c.args.question.now.dag.now c.args.question.now.block.0 c.args.question.now.quorum c.args.is_votes c.args.lower.now.firsts)
-    (sym c.counts.ensures ∙ c.if-not-counts.true)
 
 pub loop-tip-init : goal.loop-tip-init
 loop-tip-init c = record { known = c.requires.tip_known; on_lane = lane_self c.args.question.now.dag.now c.args.question.now.asked.graph_is c.args.tip.0 c.requires.tip_known }
@@ -31,7 +26,7 @@ bisect-requires-clause-gap c =
       first_known = i.known;
       first_on_lane = i.on_lane;
       order = back.before;
-      fails = sym c.counts-in-loop-tip.ensures ∙ c.if-not-counts-2.true;
+      fails = sym c.counts.ensures ∙ c.if-not-counts.true;
     }
 
 pub loop-tip-preserved : goal.loop-tip-preserved

@@ -11,9 +11,9 @@ follow_levels-requires-clause-bounded c = λ v tip e.
     let are = subst (λ (k : KeptBounds). AreBounds c.args.weights.now c.args.dag.now k) (sym c.self.view_is) c.requires.bounds in
     let put : (with_items c.self.inside.tips c.forget_unless.new.tips).items ≡ c.forget_unless.new.tips = with_items_is c.self.inside.tips c.forget_unless.new.tips (c.forget_unless.auto.tips ∙ c.as_mut_slice.ensures.len) in
     let here : get_or c.forget_unless.new.tips v None ≡ Some tip = sym (ap (λ (ts : List (Option UnitNo)). get_or ts v None) (c.as_slice-3.ensures.value ∙ put)) ∙ e in
-    subst (λ (ls : List LevelBound). IsBounded c.as_slice.result.now c.args.dag.now c.args.block.0 c.args.least ls v tip.0) (sym c.as_mut_slice-2.ensures.value)
-    (subst (λ (ws : List ℕ). IsBounded ws c.args.dag.now c.args.block.0 c.args.least c.self.inside.levels.items v tip.0) (sym c.as_slice.ensures)
-    (bounds_again c.args.weights.now c.args.dag.now _ c.args.block c.args.least c.forget_unless.new.tips c.asks_again-again.result are c.asks_again-again.ensures.block c.asks_again-again.ensures.least
+    subst (λ (ls : List LevelBound). IsBounded c.as_slice.result.now c.args.dag.now c.unwrap_or-asked.result.0 c.args.least ls v tip.0) (sym c.as_mut_slice-2.ensures.value)
+    (subst (λ (ws : List ℕ). IsBounded ws c.args.dag.now c.unwrap_or-asked.result.0 c.args.least c.self.inside.levels.items v tip.0) (sym c.as_slice.ensures)
+    (bounds_again c.args.weights.now c.args.dag.now _ c.unwrap_or-asked.result c.args.least c.forget_unless.new.tips c.asks_again-again.result are c.asks_again-again.ensures.block c.asks_again-again.ensures.least
     (λ t. c.forget_unless.ensures.kept t ∙ c.as_mut_slice.ensures.value) c.forget_unless.ensures.none v tip here))
 
 pub returns-clause-bounds : goal.returns-clause-bounds
