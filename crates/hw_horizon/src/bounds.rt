@@ -10,6 +10,7 @@ ghost use Rattle.hw_types.specs.Votes.{weight_of};
 ghost use Rattle.hw_dag.specs.{declared.numbers.UnitNo.{UnitNo as Number}, Dag.{UnitGraph, IsPanorama, count_of, view_at}, Lanes.{AreWeights}};
 ghost use Rattle.hw_horizon.specs.Bounds.{AreBounds, AreTips, AreWide, IsBounded, IsOutside, IsRuledOut, bound_of, support_of, tip_in};
 
+use crate::edges::Edges;
 use crate::firsts::Firsts;
 use crate::follow::{Below, Span, changed_span, follow_level, no_moves};
 use crate::question::Question;
@@ -119,8 +120,8 @@ pub struct Bounds {
     levels: Vec<Bound>,
     /// Scratch: the level below the one that follows.
     lower: Bound,
-    /// Scratch: the first units of a level before they moved.
-    before: Firsts,
+    /// Scratch, and where a first unit has to be looked for again.
+    edges: Edges,
 }
 
 impl Model for Bounds {
@@ -137,7 +138,7 @@ impl Model for Bounds {
 
     ghost use Rattle.std.specs.Prelude.{◌≡◌, length};
 
-    ghost invariant = { λ b. (length b.lower.firsts ≡ length b.tips.items) × (length b.lower.support ≡ length b.tips.items) × (length b.before ≡ length b.tips.items) };
+    ghost invariant = { λ b. (length b.lower.firsts ≡ length b.tips.items) × (length b.lower.support ≡ length b.tips.items) × (length b.edges ≡ length b.tips.items) };
 }
 
 impl Bounds {
@@ -159,7 +160,7 @@ impl Bounds {
             tips,
             levels: bounds,
             lower: Bound::new(alloc, validators)?,
-            before: Firsts::new(alloc, validators)?,
+            edges: Edges::new(alloc, validators, levels)?,
         })
     }
 
@@ -203,7 +204,7 @@ impl Bounds {
             &question,
             self.levels.as_mut_slice(),
             &mut self.lower,
-            &mut self.before,
+            &mut self.edges,
             self.tips.as_slice(),
             changed,
             asked,
@@ -245,7 +246,7 @@ fn follow_levels(
     question: &Question<'_>,
     levels: &mut [Bound],
     lower: &mut Bound,
-    before: &mut Firsts,
+    edges: &mut Edges,
     tips: &[Option<UnitNo>],
     changed: Span,
     asked: UnitNo,
@@ -257,7 +258,7 @@ fn follow_levels(
     requires support { (j : ℕ) → j < length levels.old → length (bound_of levels.old j).support ≡ question.now.dag.now.validators }
     requires lower_firsts { length lower.old.firsts ≡ question.now.dag.now.validators }
     requires lower_support { length lower.old.support ≡ question.now.dag.now.validators }
-    requires before { length before.old ≡ question.now.dag.now.validators }
+    requires edges { length edges.old ≡ question.now.dag.now.validators }
     requires bounded { (v : ℕ) (tip : Number) → slice_index_or tips.now v None ≡ Some tip → IsBounded question.now.weights.now question.now.dag.now asked.0 question.now.quorum levels.old v tip.0 }
     ensures bounded { (v : ℕ) (tip : Number) → view_at question.now.panorama.now v ≡ View.Correct tip → IsBounded question.now.weights.now question.now.dag.now question.now.block.0 question.now.quorum levels.new v tip.0 }
     ensures length { length levels.new ≡ length levels.old }
@@ -265,18 +266,20 @@ fn follow_levels(
     ensures support { (j : ℕ) → j < length levels.new → length (bound_of levels.new j).support ≡ question.now.dag.now.validators }
     ensures lower_firsts { length lower.new.firsts ≡ question.now.dag.now.validators }
     ensures lower_support { length lower.new.support ≡ question.now.dag.now.validators }
-    ensures before { length before.new ≡ question.now.dag.now.validators }
+    ensures edges { length edges.new ≡ question.now.dag.now.validators }
 {
     let is_new = asked != question.block;
     let mut moves = no_moves();
     for level in 0..levels.len() {
+        // Above level 0 first units don't hang on the block.
         let below = Below {
             bound: &*lower,
+            level,
             is_votes: level == 0,
-            is_new,
+            is_new: level == 0 && is_new,
             moves,
         };
-        moves = follow_level(question, &mut levels[level], before, &below, tips, changed);
+        moves = follow_level(question, &mut levels[level], edges, &below, tips, changed);
         lower.copy_from(&levels[level]);
     }
 }

@@ -5,16 +5,13 @@ ghost use Rattle.hw_dag.specs.{Dag.{IsPanorama, count_of, view_at, unit_at, seq_
 ghost use Rattle.hw_horizon.specs.{Firsts.{weight_after}, Bounds.{first_of, support_of, tip_in, counts_over, IsFirstOf, AreLowered, AreSameBelow, IsOutside, IsGap, IsBack}};
 
 use crate::bounds::Bound;
+use crate::edges::{Edges, is_loose, put_edge, shift_edges};
 use crate::firsts::{Firsts, NO_UNIT};
 use crate::question::Question;
 use crate::quorums::{has_quorum, weight_after};
 use crate::shift::shift_support;
 use crate::votes::votes_for;
 use hw_dag::{Dag, Panorama, UnitNo, View};
-
-/// Sums are adjusted while no more than this share of the first units moved. A slot that is looked up by itself
-/// costs about four in a row.
-const SHARE: u32 = 4;
 
 /// The validators from one on, up to another one.
 #[derive(Clone, Copy)]
@@ -33,10 +30,11 @@ pub(crate) struct Moves {
 }
 
 /// What a level stands on: the level below it, whose first units changed so. Level 0 stands on votes. Nothing is
-/// known of its own first units where that is new.
+/// known of the level's own first units where that is new.
 #[derive(Clone, Copy)]
 pub(crate) struct Below<'a> {
     pub(crate) bound: &'a Bound,
+    pub(crate) level: usize,
     pub(crate) is_votes: bool,
     pub(crate) is_new: bool,
     pub(crate) moves: Moves,
@@ -117,7 +115,20 @@ fn looked_at(dag: &Dag, changed: Span, low: u32) -> Span
 fn lowest(below: &Below<'_>) -> u32
     ensures { result ≡ 2 ^ 32 - 1 → (below.now.is_new ≡ false) × (below.now.moves.down ≡ 2 ^ 32 - 1) }
 {
-    if below.is_new { 0 } else { below.moves.down }
+    if below.is_new || below.moves.any != NO_UNIT {
+        0
+    } else {
+        below.moves.down
+    }
+}
+
+/// Sums are adjusted while no more than this share of the first units moved. A slot that is looked up by itself
+/// costs about four in a row.
+const SHARE: u32 = 4;
+
+/// Whether so few first units moved that sums are adjusted, and not worked out again.
+pub(crate) fn is_few(dag: &Dag, moves: Moves) -> bool {
+    moves.count <= dag.validators() / SHARE
 }
 
 /// No first unit changed.
@@ -132,11 +143,11 @@ pub(crate) fn no_moves() -> Moves
 }
 
 /// Makes the bound of a level that of the panorama, and answers how its first units moved. Outside the span no
-/// latest unit changed: there nothing has to be looked at while no first unit moved. `before` is scratch.
+/// latest unit changed: there nothing has to be looked at while no first unit moved.
 pub(crate) fn follow_level(
     question: &Question<'_>,
     bound: &mut Bound,
-    before: &mut Firsts,
+    edges: &mut Edges,
     below: &Below<'_>,
     tips: &[Option<UnitNo>],
     changed: Span,
@@ -146,7 +157,7 @@ pub(crate) fn follow_level(
     requires span { changed.to ≤ question.now.dag.now.validators }
     requires firsts_length { length bound.old.firsts ≡ question.now.dag.now.validators }
     requires support_length { length bound.old.support ≡ question.now.dag.now.validators }
-    requires before { length before.old ≡ question.now.dag.now.validators }
+    requires edges { length edges.old ≡ question.now.dag.now.validators }
     requires lower_firsts { length below.now.bound.now.firsts ≡ question.now.dag.now.validators }
     requires lower_support { length below.now.bound.now.support ≡ question.now.dag.now.validators }
     requires known { (v : ℕ) (tip : Number) → slice_index_or tips.now v None ≡ Some tip → tip.0 < count_of question.now.dag.now }
@@ -158,14 +169,15 @@ pub(crate) fn follow_level(
     ensures lowered { AreLowered bound.old bound.new result.down }
     ensures firsts_length { length bound.new.firsts ≡ length bound.old.firsts }
     ensures support_length { length bound.new.support ≡ length bound.old.support }
-    ensures before { length before.new ≡ length before.old }
+    ensures edges { length edges.new ≡ length edges.old }
 {
     // For the prover: recalls what is said of first units.
     bound.firsts().recall_numbers();
-    before.copy_from(bound.firsts());
+    shift_edges(question, edges, bound, below);
+    edges.put_before(bound.firsts());
     let span = looked_at(question.dag, changed, lowest(below));
-    let moves = put_firsts(question, bound, below, tips, span);
-    let low = shift_few(question, bound, before, tips, moves);
+    let moves = put_firsts(question, bound, edges, below, tips, span);
+    let low = shift_few(question, bound, edges.first_units(), tips, moves);
     let span = looked_at(question.dag, changed, low);
     put_support(question, bound, tips, span, low);
     moves
@@ -175,6 +187,7 @@ pub(crate) fn follow_level(
 fn put_firsts(
     question: &Question<'_>,
     bound: &mut Bound,
+    edges: &mut Edges,
     below: &Below<'_>,
     tips: &[Option<UnitNo>],
     span: Span,
@@ -193,28 +206,41 @@ fn put_firsts(
     ensures same { AreSameBelow bound.old bound.new result.any }
     ensures firsts_length { length bound.new.firsts ≡ length bound.old.firsts }
     ensures support { bound.new.support ≡ bound.old.support }
+    ensures edges { edges.new ≡ edges.old }
 {
     let mut moves = no_moves();
     for v in span.from..span.to {
         let before = bound.firsts().get(v);
         let known = Known {
-            tip: known_tip(below, tips[v as usize]),
+            tip: known_tip(question, edges, below, before, tips[v as usize], v),
             first: before,
             low: below.moves.down,
         };
         let first = next_first(question, below, known, v);
         moves = moved(moves, before, first);
+        put_edge(question, edges, below, known, first, v);
         bound.set_first(v, first);
     }
     moves
 }
 
-// The latest unit from which a first unit is known.
-fn known_tip(below: &Below<'_>, tip: Option<UnitNo>) -> Option<UnitNo>
+// The latest unit from which a first unit is known. None where that may not count any more.
+fn known_tip(
+    question: &Question<'_>,
+    edges: &Edges,
+    below: &Below<'_>,
+    first: u32,
+    tip: Option<UnitNo>,
+    validator: u32,
+) -> Option<UnitNo>
     ensures same { (no : Number) → result ≡ Some no → tip ≡ Some no }
     ensures old { (no : Number) → result ≡ Some no → below.now.is_new ≡ false }
 {
-    if below.is_new { None } else { tip }
+    if below.is_new || is_loose(question, edges, below, first, validator) {
+        None
+    } else {
+        tip
+    }
 }
 
 // How they changed with one more, which was `before`.
@@ -401,7 +427,7 @@ fn shift_few(
     ensures firsts { bound.new.firsts ≡ bound.old.firsts }
     ensures support_length { length bound.new.support ≡ length bound.old.support }
 {
-    if moves.count == 0 || question.dag.validators() / SHARE < moves.count {
+    if moves.count == 0 || !is_few(question.dag, moves) {
         return moves.any;
     }
     shift_support(question, bound, before, tips);

@@ -27,6 +27,7 @@
 mod bounds;
 mod detector;
 mod detector_laws;
+mod edges;
 mod fences;
 mod firsts;
 mod follow;

@@ -90,8 +90,8 @@ fn shifted_of(
     }
 }
 
-// What the unit sees once the first unit of the validator moved, where this is what it saw.
-fn shifted(
+/// What the unit sees once the first unit of the validator moved, where this is what it saw.
+pub(crate) fn shifted(
     question: &Question<'_>,
     before: &Firsts,
     firsts: &Firsts,

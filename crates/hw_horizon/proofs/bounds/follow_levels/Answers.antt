@@ -39,5 +39,5 @@ loop-level-preserved c =
       ];
       lower_firsts = ap (λ (b : LevelBound). length b.firsts) lower ∙ wide_firsts;
       lower_support = ap (λ (b : LevelBound). length b.support) lower ∙ wide_support;
-      before = done.before ∙ i.before;
+      edges = done.edges ∙ i.edges;
     }

@@ -10,5 +10,5 @@ invariant-loop-level l = record {
   support : (j : ℕ) → j < length l.levels → length (bound_of l.levels j).support ≡ l.question.dag.now.validators;
   lower_firsts : length l.lower.firsts ≡ l.question.dag.now.validators;
   lower_support : length l.lower.support ≡ l.question.dag.now.validators;
-  before : length l.before ≡ l.question.dag.now.validators;
+  edges : length l.edges ≡ l.question.dag.now.validators;
 }

@@ -1,5 +1,5 @@
 use Rattle.std.proofs.Common.{◌≡◌, ◌<◌, ◌^◌, ℕ, List, Some, None, sym, ap, subst, get_or, ◌∙◌, arith}
-use Rattle.hw_horizon.specs.Bounds.{tip_in, first_of, support_of}
+use Rattle.hw_horizon.specs.Bounds.{tip_in, first_of}
 use Rattle.hw_horizon.specs.Firsts.{weight_after}
 use Rattle.hw_horizon.proofs.FirstLaws.{correct_inside}
 use Rattle.hw_horizon.proofs.FollowLaws.{same_seen}
@@ -16,7 +16,7 @@ put_firsts-moves-requires-clause-outside c = λ v tip out e.
 
 pub shift_few-low-requires-clause-seen : goal.shift_few-low-requires-clause-seen
 shift_few-low-requires-clause-seen c = λ v tip e.
-    let was = c.copy_from.ensures ∙ c.firsts-2.ensures in
+    let was = c.first_units.ensures ∙ c.put_firsts-moves.ensures.edges ∙ c.put_before.ensures ∙ c.firsts-2.ensures in
     ap (λ (ns : List ℕ). weight_after c.args.question.now.weights.now c.args.question.now.dag.now ns tip.0) was ∙ c.requires.seen v tip e ∙ ap (λ (ns : List ℕ). get_or ns v 0) (sym c.put_firsts-moves.ensures.support)
 
 pub shift_few-low-requires-clause-same : goal.shift_few-low-requires-clause-same

@@ -15,6 +15,7 @@ loop-v-init c = record {
   firsts = λ w tip lt e. c.requires.outside w tip (inl lt) e;
   lowered = λ w. inl (omega arith);
   same = λ w. inl refl;
+  edges = refl;
 }
 
 pub loop-v-preserved : goal.loop-v-preserved
@@ -46,6 +47,7 @@ loop-v-preserved c =
       same = same_more c.args.bound.now c.loop-v.bound c.set_first.new.self c.loop-v.v c.next_first-first.result c.loop-v.moves.any c.moved-moves.result.any i.same (i.rest c.loop-v.v (omega arith)) put inside
           c.moved-moves.ensures.any
           (subst (λ (k : ℕ). (k ≡ c.next_first-first.result) ⊎ ((c.moved-moves.result.any ≤ k) × (c.moved-moves.result.any ≤ c.next_first-first.result))) before c.moved-moves.ensures.same);
+      edges = c.put_edge.ensures ∙ i.edges;
     }
 
 pub returns-clause-firsts : goal.returns-clause-firsts

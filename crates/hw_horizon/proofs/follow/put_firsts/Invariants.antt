@@ -13,4 +13,5 @@ invariant-loop-v l = record {
   firsts : (v : ℕ) (tip : UnitNo) → v < l.v → view_at l.question.panorama.now v ≡ view.Correct tip → IsFirstOf l.question.dag.now tip.0 (counts_over l.question.weights.now l.question.dag.now l.question.block.0 l.question.quorum l.below.is_votes l.below.bound.now.firsts) (first_of l.bound v);
   lowered : AreLowered l.fn.bound l.bound l.moves.down;
   same : AreSameBelow l.fn.bound l.bound l.moves.any;
+  edges : l.edges ≡ l.fn.edges;
 }

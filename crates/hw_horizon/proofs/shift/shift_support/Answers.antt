@@ -1,4 +1,4 @@
-use Rattle.std.proofs.Common.{◌≡◌, ◌+◌, ◌≤◌, ℕ, length, get_or, sym, ap, subst, ◌∙◌, arith}
+use Rattle.std.proofs.Common.{◌≡◌, ◌+◌, ℕ, length, get_or, sym, ap, subst, ◌∙◌, arith}
 use Rattle.hw_horizon.specs.Firsts.{weight_amid}
 use Rattle.hw_horizon.specs.Bounds.{LevelBound}
 use Rattle.hw_horizon.proofs.ShiftLaws.{HasShifted, amid_all, shifted_none, shifted_past}
