@@ -32,7 +32,7 @@ use Rattle.hw_log.specs.Causes.{HasAppendCause}
 use Rattle.hw_replay.specs.Causes.{IsFaultAbout, IsReplayAbout}
 use Rattle.hw_replay.specs.Faults.{fault_of}
 use Rattle.hw_replay.specs.Ends.{IsReached, lasts_of_file}
-use Rattle.hw_session.specs.Node.{NodeState, IsKept, new_node}
+use Rattle.hw_session.specs.Node.{NodeState, IsKeptWith, new_node}
 use Rattle.hw_session.specs.Start.{taken_of, fault_of_read, IsUnmade, IsUnwritten, Starts, StartsThere, StartsLog, HasStartCause, IsStartCounted, HasAppendedCause, IsAppendedCounted, IsReadOfLog}
 
 -- ---- configurations
@@ -114,8 +114,8 @@ pub one_core : (c d e : Config) (k : CoreState) → ConfigInRange c → ConfigIn
 one_core c d e k c_in d_in is its c_lawful lawful same =
     one_config c k.config c_in (subst ConfigInRange (is ∙ its) d_in) c_lawful (subst (λ (x : Config). config_fault x ≡ None) its lawful) same
 
-pub node_kept : (n : NodeState) (config : Config) → n.core.config ≡ config → config_fault config ≡ None → length n.keys ≡ length config.weights → IsReached n.core → IsKept n
-node_kept n config is lawful keys reached = record {
+pub node_kept : (core : CoreState) (held : List (List ℕ)) (config : Config) → core.config ≡ config → config_fault config ≡ None → length held ≡ length config.weights → IsReached core → IsKeptWith core held
+node_kept core held config is lawful keys reached = record {
   lawful = subst (λ (c : Config). config_fault c ≡ None) (sym is) lawful;
   keys = keys ∙ ap (λ (c : Config). length c.weights) (sym is);
   reached = reached;

@@ -21,11 +21,15 @@ pub record NodeState : Type 0 where
   pub limited : ℕ
   pub clash : Option ClashUnits
 
--- The configuration keeps its limits, there is a key for each validator, and deliveries reached the node.
-pub record IsKept (n : NodeState) : Type 0 where
-  pub lawful : config_fault n.core.config ≡ None
-  pub keys : length n.keys ≡ length n.core.config.weights
-  pub reached : IsReached n.core
+-- The configuration keeps its limits, there is a key for each validator, and deliveries reached what the node received.
+pub record IsKeptWith (core : CoreState) (held : List (List ℕ)) : Type 0 where
+  pub lawful : config_fault core.config ≡ None
+  pub keys : length held ≡ length core.config.weights
+  pub reached : IsReached core
+
+-- the same of a node
+abbrev pub IsKept : NodeState → Type 0
+IsKept n = IsKeptWith n.core n.keys
 
 -- a node that has received nothing, with a log of version 2
 abbrev pub new_node : Config → List (List ℕ) → List ℕ → NodeState

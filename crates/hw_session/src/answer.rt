@@ -77,25 +77,11 @@ pub fn answer_want<D: Door>(
 
     ensures door { door_calls (D.is_open door.new) (D.ends door.new) (D.accepts door.new) (D.dials door.new) (D.asks door.new) ≡ door_calls (D.is_open door.old) (D.ends door.old) (D.accepts door.old) (D.dials door.old) (D.asks door.old) }
 {
-    send_wanted(alloc, core, door, needs)?;
+    // A peer may ask for evidence against one validator in each of its needs, so what is looked for is kept for the
+    // needs behind.
+    let mut pairs = KnownPairs::new(alloc);
+    send_each(alloc, core, &mut pairs, door, needs)?;
     say(alloc, door, Frame::Have(core.journal_count()))
-}
-
-/// Sends for each need in order what there is. A peer may ask for evidence against one validator in each of its
-/// needs, so what is looked for is kept for the needs behind.
-fn send_wanted<D: Door>(
-    alloc: Global,
-    core: &Core,
-    door: &mut D,
-    needs: &[Need],
-) -> Result<(), SessionEnd>
-    requires open { D.is_open door.old ≡ true }
-    ensures sent { Sends (sent_bytes (flat_map (λ need. sent_for need (vertices_of core.now need)) needs.now)) (D.sessions door.old) (D.sessions door.new) result }
-    ensures cause { IsLinkCounted (D.faults door.old) (D.faults door.new) result }
-
-    ensures door { door_calls (D.is_open door.new) (D.ends door.new) (D.accepts door.new) (D.dials door.new) (D.asks door.new) ≡ door_calls (D.is_open door.old) (D.ends door.old) (D.accepts door.old) (D.dials door.old) (D.asks door.old) }
-{
-    send_each(alloc, core, &mut KnownPairs::new(alloc), door, needs)
 }
 
 /// Sends for each need in order what there is, with the pairs that were looked for.
@@ -137,27 +123,9 @@ fn send_for<D: Door>(
     ensures door { door_calls (D.is_open door.new) (D.ends door.new) (D.accepts door.new) (D.dials door.new) (D.asks door.new) ≡ door_calls (D.is_open door.old) (D.ends door.old) (D.accepts door.old) (D.dials door.old) (D.asks door.old) }
 {
     let vertices = vertices_with(alloc, core, pairs, need)?;
-    send_found(alloc, door, need, vertices.as_slice())
-}
-
-/// Sends these vertices of a need, or the need as missing where there is none.
-fn send_found<D: Door>(
-    alloc: Global,
-    door: &mut D,
-    need: &Need,
-    vertices: &[Vertex],
-) -> Result<(), SessionEnd>
-    requires fit { All VertexFits vertices.now }
-    requires open { D.is_open door.old ≡ true }
-    ensures sent { Sends (sent_bytes (sent_for need.now vertices.now)) (D.sessions door.old) (D.sessions door.new) result }
-    ensures cause { IsLinkCounted (D.faults door.old) (D.faults door.new) result }
-
-    ensures door { door_calls (D.is_open door.new) (D.ends door.new) (D.accepts door.new) (D.dials door.new) (D.asks door.new) ≡ door_calls (D.is_open door.old) (D.ends door.old) (D.accepts door.old) (D.dials door.old) (D.asks door.old) }
-{
-    if vertices.is_empty() {
-        say(alloc, door, Frame::Missing(*need))
-    } else {
-        send_vertices(alloc, door, vertices)
+    match vertices.as_slice() {
+        [] => say(alloc, door, Frame::Missing(*need)),
+        some => send_vertices(alloc, door, some),
     }
 }
 

@@ -29,3 +29,4 @@ pub use hw_replay::StartFault;
 pub use laws::{a_log_gives_its_journal_back, a_node_keeps_the_log_of_its_journal};
 pub use node::{ClashUnits, Node};
 pub use stage::PeerMark;
+pub use start::{fault_of_read, name_of};

@@ -15,7 +15,7 @@ use hw_codec::digest_of;
 use hw_io::Files;
 use hw_log::{Lasts, LogError};
 use hw_types::{Cause, Digest, OutOfMemory, Plan, SignedUnit, Vertex};
-use hw_validator::next_unit;
+use hw_validator::next_unit_of;
 use std::alloc::Global;
 
 impl Node {
@@ -46,7 +46,8 @@ impl Node {
         ensures allowance { F.allowance files.new ≡ F.allowance files.old }
         ensures reads { F.read_faults files.new ≡ F.read_faults files.old }
     {
-        match next_unit(self.alloc, self.core.state(), me, now, value)? {
+        let core = &self.core;
+        match next_unit_of(self.alloc, core.state(), core.instance(), me, now, value)? {
             Some(plan) => self.make_planned(files, plan),
             None => Ok(None),
         }

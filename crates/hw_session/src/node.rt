@@ -37,7 +37,7 @@ pub struct Node {
 
 impl Model for Node {
     ghost use Rattle.std.specs.Prelude.{string_bytes};
-    ghost use Rattle.hw_session.specs.Node.{NodeState, IsKept};
+    ghost use Rattle.hw_session.specs.Node.{NodeState, IsKeptWith};
 
     ghost Value = { NodeState };
 
@@ -52,16 +52,7 @@ impl Model for Node {
       clash = n.clash;
     } };
 
-    ghost invariant = { λ n. IsKept (record {
-      core = n.core;
-      keys = n.keys;
-      log = string_bytes n.log;
-      lasts = n.lasts;
-      refused = n.refused;
-      repeats = n.repeats;
-      limited = n.limited;
-      clash = n.clash;
-    }) };
+    ghost invariant = { λ n. IsKeptWith n.core n.keys };
 }
 
 impl Node {

@@ -189,14 +189,14 @@ fn put_header<F: Files>(
 }
 
 /// A copy of a log's name.
-fn name_of(alloc: Global, log: &str) -> Result<String, OutOfMemory>
+pub fn name_of(alloc: Global, log: &str) -> Result<String, OutOfMemory>
     ensures { IfOk result (λ name. string_bytes name ≡ log.now) }
 {
     Ok(String::from_str(alloc, log)?)
 }
 
 /// What a failed `exists` is answered as.
-fn fault_of_read(fault: IoFault) -> StartFault
+pub fn fault_of_read(fault: IoFault) -> StartFault
     ensures { result ≡ fault_of_read fault }
 {
     match fault {
