@@ -32,7 +32,7 @@ fn leaders_of(answer: &mut Answer, words: &[&str]) -> IndexList {
 }
 
 /// The numbers up to the first word that is none.
-fn numbers_of<T: FromStr + Drop>(answer: &mut Answer, words: &[&str]) -> Items<T> {
+fn numbers_of<T: FromStr<Err: Drop> + Drop>(answer: &mut Answer, words: &[&str]) -> Items<T> {
     let mut numbers = Items::new(answer.alloc());
     for word in words {
         let Ok(number) = word.parse::<T>() else {

@@ -1,6 +1,6 @@
 //! The top call.
 
-ghost use Rattle.std.specs.Prelude.{◌≡◌, ◌≢◌, None, Some, IsSome, IfSome, IsTrue, ◌⊎◌};
+ghost use Rattle.std.specs.Prelude.{◌≡◌, ◌≢◌, ◌≤◌, None, Some, IsSome, IfSome, IsTrue, ◌⊎◌};
 ghost use Rattle.hw_io.specs.{Faults.{Rose}, Files.{SameFiles}};
 ghost use Rattle.hw_replay.specs.Fates.{seen};
 ghost use Rattle.hw_service.specs.{Scene.{door_seen}, Begun.{IsAbout}};
@@ -145,6 +145,8 @@ fn run_node<F: Files, S: Sink, C: Clock, D: Door>(
     door: &mut D,
     consumers: &mut Vec<Box<dyn Consumer>>,
 ) -> u8
+    // It asks for nothing. With a `requires` the proof is for whatever consumers the caller has.
+    requires { 0 ≤ D.faults door.old }
     ensures node { RunsNode (seen (λ b. consumed b) (λ b. (⟦<dyn Consumer as Consumer>⟧ b.vtable).faults b.value) (λ b. (⟦<dyn Consumer as Consumer>⟧ b.vtable).wants b.value) (λ b. b.vtable)) F.tells (service command.now) result
         (around (F.held files.old) (door_seen (D.sessions door.old) (D.accepts door.old) (D.dials door.old) (D.ends door.old)) (C.given clock.old) (output (S.taken out.old) (S.faults out.old) (S.wants out.old)) (counts (F.read_faults files.old) (F.append_faults files.old) (F.faults_about files.old) (D.faults door.old)) consumers.old.items)
         (around (F.held files.new) (door_seen (D.sessions door.new) (D.accepts door.new) (D.dials door.new) (D.ends door.new)) (C.given clock.new) (output (S.taken out.new) (S.faults out.new) (S.wants out.new)) (counts (F.read_faults files.new) (F.append_faults files.new) (F.faults_about files.new) (D.faults door.new)) consumers.new.items) }
