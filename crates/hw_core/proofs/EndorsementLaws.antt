@@ -33,9 +33,8 @@ use Rattle.hw_endorse.proofs.PairLaws.{told_turn}
 use Rattle.hw_park.specs.Parked.{Parked, Waiting, struck}
 use Rattle.hw_core.specs.Settle.{IsPart, known_in, waiting_nodes, AreWaiting, CanSettle, IsOnce, admitted_in}
 use Rattle.hw_core.specs.Keeps.{KnowsOf, HasTaken, IsNode}
-use Rattle.hw_core.specs.Deliver.{answer_to, IsTaken}
-use Rattle.hw_core.proofs.AnswerLaws.{answer_refused, answer_repeat, answer_full, answer_taken}
-use Rattle.hw_core.proofs.TakeLaws.{was_accepted}
+use Rattle.hw_core.specs.Deliver.{answer_to, IsTaken, HasPlace, MayWantMemory}
+use Rattle.hw_core.proofs.AnswerLaws.{answer_refused, answer_repeat, answer_full, answer_taken, answer_memory}
 use Rattle.hw_core.proofs.PartLaws.{part_more}
 use Rattle.hw_core.proofs.EndLaws.{same_endorsed}
 use Rattle.hw_core.proofs.WaitLaws.{length_struck, waiting_same, waiting_struck}
@@ -73,12 +72,17 @@ module _ (journal : List Vertex) (park : Parked PreparedUnit) (state : NodeState
   pub passes : e.endorser < length state.config.weights → is_told state.pairs e.unit e.endorser ≡ false → length journal < state.config.max_records → IsTaken state.config journal v
   passes lt told room = ap is_accepted (answer_taken s journal v (record { not_refused = not_refused lt; not_repeat = told_is ∙ told; room = grind (arith, nat_tests); park_room = refl }))
 
-  pub endorser_known : IsTaken state.config journal v → e.endorser < length state.config.weights
-  endorser_known taken = go (nat_le (length state.config.weights) e.endorser) refl (was_accepted state.config journal v taken).not_refused
-    where
-      go : (b : Bool) → nat_le (length state.config.weights) e.endorser ≡ b → refusal s journal v ≡ None → e.endorser < length state.config.weights
-      go false f h = grind (arith, nat_tests)
-      go true f h = absurd (let r : refusal s journal v ≡ Some (cause.Local UnknownCreator) = rw f refl in cc (sym r ∙ h))
+  -- a place is that of a new one
+  pub place_taken : HasPlace state.config journal e → is_told state.pairs e.unit e.endorser ≡ false → IsTaken state.config journal v
+  place_taken place new = passes place.endorser new place.room
+
+  -- or that of a repeat
+  pub place_known : HasPlace state.config journal e → is_told state.pairs e.unit e.endorser ≡ true → answer_to state.config journal v ≡ Ok receipt.Repeat
+  place_known place told = told_again place.endorser told
+
+  -- or there is no memory for it
+  pub place_memory : HasPlace state.config journal e → MayWantMemory (answer_to state.config journal v)
+  place_memory place = answer_memory s journal v (inl (not_refused place.endorser))
 
   -- ---- the change
 

@@ -1,6 +1,6 @@
 -- Laws of the places under needs.
 use Rattle.std.proofs.Common.{◌≡◌, ℕ, zero, suc, Bool, true, false, cond, List, [], ◌∷◌, ◌++◌, length, Option, Some, None, refl, sym, ap, subst, ◌∙◌, arith}
-use Rattle.std.specs.Prelude.{◌==◌, slice_get, Result, Ok, Err, OnOk, OnErr, if◌then◌else◌}
+use Rattle.std.specs.Prelude.{slice_get, Result, Ok, Err, OnOk, OnErr, if◌then◌else◌}
 use Rattle.std.specs.Map.{lookup}
 use Rattle.std.specs.Result.{is_err}
 use Rattle.std.specs.Option.{unwrap_or}
@@ -78,14 +78,6 @@ module _ (old new : List (NeedKey × List ℕ)) (key : NeedKey) (n : Need) (v : 
           (here ∙ more ∙ sym (ap (λ (b : Bool). places_at old n ++ (if b then place ∷ [] else [])) (need_self n)))
       go false e = other m e ∙ sym (append-nil (places_at old m)) ∙ sym (ap (λ (b : Bool). places_at old m ++ (if b then place ∷ [] else [])) (need_turned m n ∙ e))
 
-  -- the last one is taken out
-  pub less_put : (before : List (NeedKey × List ℕ)) (place : ℕ) → HasOnePlaceMore before old n place → unwrap_or v [] ≡ places_at before n → HasSamePlaces before new
-  less_put before place more less m = go (need_eq n m) refl
-    where
-      go : (b : Bool) → need_eq n m ≡ b → places_at new m ≡ places_at before m
-      go true e = subst (λ (x : Need). places_at new x ≡ places_at before x) (need_same n m e) (here ∙ less)
-      go false e = other m e ∙ more m ∙ ap (λ (b : Bool). places_at before m ++ (if b then place ∷ [] else [])) (need_turned m n ∙ e) ∙ append-nil (places_at before m)
-
 -- what is read of a table is what was there, or nothing
 pub read_put : (old : List (NeedKey × List ℕ)) (key : NeedKey) (n : Need) (places none : List ℕ) → key ≡ key_of n → places ≡ unwrap_or (lookup (ties key) old) none → none ≡ [] → places ≡ places_at old n
 read_put old key n places none of read empty =
@@ -104,24 +96,6 @@ module _ {U E : Type 0} (old new : List (NeedKey × List ℕ)) (key : NeedKey) (
   pub put_same : (r : Result U E) → OnErr r (after ≡ before) → OnErr r (HasSamePlaces old new)
   put_same (Ok u) e = tt
   put_same (Err x) e = same_put old new key n (Some after) of put (e ∙ read)
-
--- one more place stands where it was put
-pub one_more_here : (before old : List (NeedKey × List ℕ)) (n : Need) (place : ℕ) → HasOnePlaceMore before old n place → places_at old n ≡ places_at before n ++ place ∷ []
-one_more_here before old n place more = more n ∙ ap (λ (b : Bool). places_at before n ++ (if b then place ∷ [] else [])) (need_self n)
-
-pub none_more : (before old : List (NeedKey × List ℕ)) (n : Need) (place : ℕ) → HasOnePlaceMore before old n place → places_at old n ≡ [] → ⊥
-none_more before old n place more none = go (places_at before n) (sym none ∙ one_more_here before old n place more)
-  where
-    go : (ps : List ℕ) → [] ≡ ps ++ place ∷ [] → ⊥
-    go [] e = cc e
-    go (p ∷ ps) e = cc e
-
-pub same_then : (old between new : List (NeedKey × List ℕ)) → HasSamePlaces old between → HasSamePlaces between new → HasSamePlaces old new
-same_then old between new first second n = second n ∙ first n
-
-pub empty_places : (ps : List ℕ) → (length ps == 0) ≡ true → [] ≡ ps
-empty_places [] e = refl
-empty_places (p ∷ ps) e = absurd (grind (arith, e))
 
 -- ---- the last place is taken out
 

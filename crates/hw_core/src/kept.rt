@@ -11,7 +11,7 @@ ghost use Rattle.hw_types.specs.Settled.{parked_of};
 ghost use Rattle.hw_types.specs.Rules.{local_rule};
 ghost use Rattle.hw_types.specs.Spelling.{VertexFits, digest_of, instance_of};
 ghost use Rattle.hw_admit.specs.State.{IsStartFault};
-ghost use Rattle.hw_core.specs.{Deliver.{IsRefusal, IsTaken}, Units.{IsNewUnit}};
+ghost use Rattle.hw_core.specs.{Deliver.{IsRefusal, IsTaken, HasPlace}, Units.{IsNewUnit}};
 
 use crate::decided::Decided;
 use crate::digest_map::DigestMap;
@@ -23,6 +23,7 @@ use crate::follow::follow;
 use crate::journal::Journal;
 use crate::shown::Shown;
 use crate::start::begin;
+use crate::told::NotPut;
 use crate::units::{
     NamedUnit, UnitRefused, add_unit, list_unit, test_local, test_named, unit_back,
 };
@@ -309,9 +310,9 @@ impl Kept {
         }
     }
 
-    /// Takes an endorsement that passed the tests.
+    /// Takes an endorsement that passed the tests, unless it is a repeat.
     fn take_endorsement(&mut self, endorsement: Endorsement) -> Result<Receipt, EndorsementRefused>
-        requires { IsTaken self.old.config self.old.journal (vertex.Endorsement endorsement) }
+        requires { HasPlace self.old.config self.old.journal endorsement }
         ensures accepted { IfOk result (λ receipt. answer_in self.old (vertex.Endorsement endorsement) true ≡ Ok receipt) }
         ensures refused { IfErr result (λ r. IsRefusal r.cause (answer_in self.old (vertex.Endorsement endorsement) true)) }
         ensures returned { IfErr result (λ r. r.endorsement ≡ endorsement) }
@@ -344,7 +345,8 @@ impl Kept {
                 );
                 Ok(Receipt::Admitted { settled })
             }
-            Err(OutOfMemory) => Err(endorsement_back(Cause::OutOfMemory, endorsement)),
+            Err(NotPut::Repeat) => Ok(Receipt::Repeat),
+            Err(NotPut::OutOfMemory) => Err(endorsement_back(Cause::OutOfMemory, endorsement)),
         }
     }
 

@@ -1,11 +1,15 @@
 //! Where in the journal evidence and endorsements stand.
 
-ghost use Rattle.std.specs.Prelude.{◌≡◌, ◌==◌, ℕ, ◌∷◌, ◌++◌, [], List, length, slice_get, OnOk, OnErr};
-ghost use Rattle.hw_park.specs.declared.key.NeedKey.{NeedKey as Key};
+ghost use Rattle.std.specs.Prelude.{◌≡◌, ◌<◌, ℕ, ◌∷◌, ◌++◌, [], true, false, List, length, slice_get, OnOk, OnErr, IfErr};
+ghost use Rattle.hw_types.specs.declared.unit.Need.TheVariants as need;
+ghost use Rattle.hw_endorse.specs.Told.{is_told, with_pair};
+ghost use Rattle.hw_core.specs.declared.told.NotPut.TheVariants as NotPuts;
 ghost use Rattle.hw_core.specs.Journal.{HasSamePlaces, HasOnePlaceMore};
 
+use hw_admit::State;
+use hw_endorse::Added;
 use hw_park::{NeedKey, key_of};
-use hw_types::{Need, OutOfMemory};
+use hw_types::{Endorsement, Need, OutOfMemory};
 use std::alloc::Global;
 use std::collections::BTreeMap;
 use std::marker::Model;
@@ -48,13 +52,6 @@ impl Places {
         }
     }
 
-    /// Whether there is none.
-    fn is_empty(&self) -> bool
-        ensures { result ≡ (length self.now == 0) }
-    {
-        self.last.is_none() && self.earlier.is_empty()
-    }
-
     /// Puts a place last. Where there is no memory, nothing has changed.
     fn put(&mut self, place: u64) -> Result<(), OutOfMemory>
         ensures put { OnOk result (self.new ≡ self.old ++ place ∷ []) }
@@ -77,6 +74,52 @@ impl Places {
             self.earlier.pop();
         }
     }
+
+    /// Tells the state of an endorsement, and puts its place last. Where it is a repeat or there is no memory, nothing
+    /// has changed.
+    fn put_new(
+        &mut self,
+        state: &mut State,
+        endorsement: &Endorsement,
+        place: u64,
+    ) -> Result<(), NotPut>
+        requires { endorsement.now.endorser < length state.old.config.weights }
+        ensures put { OnOk result (self.new ≡ self.old ++ place ∷ []) }
+        ensures told { OnOk result (state.new ≡ record state.old { pairs = with_pair state.old.pairs endorsement.now.unit endorsement.now.endorser }) }
+        ensures fresh { OnOk result (is_told state.old.pairs endorsement.now.unit endorsement.now.endorser ≡ false) }
+        ensures same { OnErr result (self.new ≡ self.old) }
+        ensures still { OnErr result (state.new ≡ state.old) }
+        ensures repeat { IfErr result (λ why. why ≡ NotPut.Repeat → is_told state.old.pairs endorsement.now.unit endorsement.now.endorser ≡ true) }
+    {
+        self.put(place)?;
+        match state.endorse(&endorsement.unit, endorsement.endorser) {
+            Ok(Added::New) => Ok(()),
+            Ok(Added::Repeat) => {
+                self.take_last();
+                Err(NotPut::Repeat)
+            }
+            Err(OutOfMemory) => {
+                self.take_last();
+                Err(NotPut::OutOfMemory)
+            }
+        }
+    }
+}
+
+/// Why an endorsement isn't put.
+#[derive(Clone, Copy)]
+pub enum NotPut {
+    /// The state knows of it.
+    Repeat,
+    OutOfMemory,
+}
+
+impl From<OutOfMemory> for NotPut {
+    ghost from_gives = { λ _ why. why ≡ NotPuts.OutOfMemory };
+
+    fn from(_error: OutOfMemory) -> NotPut {
+        NotPut::OutOfMemory
+    }
 }
 
 /// For each need the places of the vertices that tell of it. Peers choose the digests, so the table is an ordered one:
@@ -92,33 +135,27 @@ pub fn put_place(told: &mut Told, alloc: Global, need: &Need, place: u64) -> Res
     places.put(place)
 }
 
-/// Takes back what was put last under a need.
-pub fn take_back(told: &mut Told, need: &Need)
-    ensures { (before : List (Key × List ℕ)) (place : ℕ) → HasOnePlaceMore before told.old.entries need.now place → HasSamePlaces before told.new.entries }
+/// Tells the state of an endorsement, and puts its place last under the need of which it tells. The need is looked up once.
+/// Where it is a repeat or there is no memory, nothing has changed.
+pub fn put_new_place(
+    told: &mut Told,
+    alloc: Global,
+    state: &mut State,
+    endorsement: &Endorsement,
+    place: u64,
+) -> Result<(), NotPut>
+    requires { endorsement.now.endorser < length state.old.config.weights }
+    ensures put { OnOk result (HasOnePlaceMore told.old.entries told.new.entries (need.Endorsed endorsement.now.unit) place) }
+    ensures told { OnOk result (state.new ≡ record state.old { pairs = with_pair state.old.pairs endorsement.now.unit endorsement.now.endorser }) }
+    ensures fresh { OnOk result (is_told state.old.pairs endorsement.now.unit endorsement.now.endorser ≡ false) }
+    ensures same { OnErr result (HasSamePlaces told.old.entries told.new.entries) }
+    ensures still { OnErr result (state.new ≡ state.old) }
+    ensures repeat { IfErr result (λ why. why ≡ NotPut.Repeat → is_told state.old.pairs endorsement.now.unit endorsement.now.endorser ≡ true) }
 {
-    take_last(told, need);
-    drop_empty(told, need);
-}
-
-/// Takes the last place out that stands under a need.
-fn take_last(told: &mut Told, need: &Need)
-    ensures { (before : List (Key × List ℕ)) (place : ℕ) → HasOnePlaceMore before told.old.entries need.now place → HasSamePlaces before told.new.entries }
-{
-    match told.get_mut(&key_of(need)) {
-        Some(places) => places.take_last(),
-        None => {}
-    }
-}
-
-/// Takes a need out under which no place stands.
-fn drop_empty(told: &mut Told, need: &Need)
-    ensures { HasSamePlaces told.old.entries told.new.entries }
-{
-    let key = key_of(need);
-    let Some(places) = told.get(&key) else {
-        return;
+    let need = Need::Endorsed(endorsement.unit);
+    let Ok(entry) = told.entry(key_of(&need)) else {
+        return Err(NotPut::OutOfMemory);
     };
-    if places.is_empty() {
-        told.remove(&key);
-    }
+    let places = entry.or_insert(Places::none(alloc));
+    places.put_new(state, endorsement, place)
 }

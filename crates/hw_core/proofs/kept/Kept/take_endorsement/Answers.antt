@@ -1,19 +1,30 @@
-use Rattle.std.proofs.Common.{◌+◌, List, length, refl, sym, subst, arith}
+use Rattle.std.proofs.Common.{true, ◌+◌, List, length, refl, sym, subst, arith}
 use Rattle.hw_types.specs.declared.unit.Vertex.{Vertex}
 use Rattle.hw_types.specs.declared.unit.Vertex.TheVariants as vertex
-use Rattle.hw_types.specs.Real.{CoreState, setting_of}
+use Rattle.hw_types.specs.Real.{CoreState, setting_of, answer_in}
 use Rattle.hw_dag.specs.Dag.{graph}
-use Rattle.hw_core.specs.Deliver.{IsTaken}
+use Rattle.hw_core.specs.Deliver.{HasPlace, IsRefusal, MayWantMemory}
+use Rattle.hw_core.specs.declared.endorsements.EndorsementRefused.{EndorsementRefused as Refused}
 use Rattle.hw_core.specs.Followed.{HasFollowed}
 use Rattle.hw_core.specs.Keeps.{IsNode, AreRules}
 use Rattle.hw_core.proofs.DecidedLaws.{no_room_more, room_less}
 use Rattle.hw_core.proofs.KeptLaws.{table_other, fit_more, pairs_more}
 use Rattle.hw_core.proofs.FollowLaws.{follow_told, kept_followed, kept_quiet}
+use Rattle.hw_core.proofs.EndorsementLaws.{place_memory}
 use Rattle.hw_core.proofs.StillLaws.{same_told}
 use Rattle.hw_core.proofs.kept.Kept.take_endorsement.Goals as goal
 
-pub add_endorsement-added-requires-clause-taken : goal.add_endorsement-added-requires-clause-taken
-add_endorsement-added-requires-clause-taken c = subst (λ (k : CoreState). IsTaken k.config k.journal (vertex.Endorsement c.args.endorsement)) (sym c.self.view_is) c.requires
+pub add_endorsement-added-requires-clause-place : goal.add_endorsement-added-requires-clause-place
+add_endorsement-added-requires-clause-place c = subst (λ (k : CoreState). HasPlace k.config k.journal c.args.endorsement) (sym c.self.view_is) c.requires
+
+pub returns-in-Err-OutOfMemory-clause-refused : goal.returns-in-Err-OutOfMemory-clause-refused
+returns-in-Err-OutOfMemory-clause-refused c =
+    let core = c.self.inside in
+    let v : Vertex = vertex.Endorsement c.args.endorsement in
+    let place = subst (λ (k : CoreState). HasPlace k.config k.journal c.args.endorsement) (sym c.self.view_is) c.requires in
+    let wanted = place_memory core.journal.items core.park core.state c.self.invariant.node c.args.endorsement place in
+    subst (λ (r : Refused). IsRefusal r.cause (answer_in c.args.self.now v true)) (sym c.endorsement_back.ensures)
+    (subst (λ (k : CoreState). MayWantMemory (answer_in k v true)) c.self.view_is wanted)
 
 pub follow-self-inside-requires-clause-told : goal.follow-self-inside-requires-clause-told
 follow-self-inside-requires-clause-told c =
