@@ -1,5 +1,5 @@
 -- What waits at a node, and what becomes of it as units settle.
-use Rattle.std.specs.Prelude.{◌≡◌, ◌≢◌, ◌+◌, ◌≤◌, ◌⊎◌, true, List, [], ◌∷◌, ◌++◌, length, map, filter, Option, Some}
+use Rattle.std.specs.Prelude.{◌≡◌, ◌≢◌, ◌+◌, ◌≤◌, ◌⊎◌, true, List, [], ◌∷◌, ◌++◌, length, map, filter, Option, Some, None, Result, OnOk, OnErr, IfErr}
 use Rattle.std.specs.List.{range_with_len}
 use Rattle.std.specs.Map.{lookup}
 use Rattle.hw_types.specs.declared.unit.Digest.{Digest}
@@ -15,7 +15,8 @@ use Rattle.hw_dag.specs.Dag.{GrowsTo, node_of, graph}
 use Rattle.hw_dag.specs.Admission.{PreparedUnit, node_prepared}
 use Rattle.hw_rules.specs.Judged.{KeepsLocalRules}
 use Rattle.hw_admit.specs.State.{NodeState, is_marked}
-use Rattle.hw_park.specs.Parked.{Waiting}
+use Rattle.hw_park.specs.Parked.{Waiting, Parked}
+use Rattle.hw_core.specs.Entries.{Entries, insert_entry}
 
 -- ---- what a state knows
 
@@ -137,3 +138,18 @@ pub record HasNoted (s : NodeState) (waiting : List (Waiting PreparedUnit)) (rul
   pub only : (d : Digest) (rule : Rule) → rule_in noted d ≡ Some rule
       → (rule_in rules d ≡ Some rule) ⊎ ((x : Node) × Among x (waiting_nodes waiting) × (x.digest ≡ d) × IsDropped s.config (known_in s) (waiting_nodes waiting) (admitted_in s) x rule)
   pub placed : (x : Node) → Among x (waiting_nodes waiting) → Among x (admitted_in later) ⊎ (Among x (waiting_nodes left) ⊎ ((rule : Rule) × (rule_in noted x.digest ≡ Some rule)))
+
+-- A unit that missed nothing was judged: it settled, or it was dropped and the rule that it breaks is noted under its name.
+pub record HasJudged {U : Type 0} (s : NodeState) (park : Parked PreparedUnit) (rules : Entries Rule) (prepared : PreparedUnit) (result : Result U Rule) (later : NodeState) (left : Parked PreparedUnit) (now : Entries Rule) : Type 0 where
+  pub can : CanSettle later left.waiting
+  pub same : KnowsTheSame s later
+  pub limit : left.limit ≡ park.limit
+  pub waiting : waiting_nodes left.waiting ≡ waiting_nodes park.waiting
+  pub kept : OnOk result (state_rule s.config (graph s.dag) (node_prepared prepared) ≡ None)
+  pub admitted : OnOk result (admitted_in later ≡ admitted_in s ++ node_prepared prepared ∷ [])
+  pub unnoted : OnOk result (now.entries ≡ rules.entries)
+  pub broken : IfErr result (λ rule. state_rule s.config (graph s.dag) (node_prepared prepared) ≡ Some rule)
+  pub noted : IfErr result (λ rule. now.entries ≡ insert_entry digest_eq rules.entries prepared.digest rule)
+  pub unchanged : OnErr result (later ≡ s)
+  pub unstruck : OnErr result (left ≡ park)
+  pub room : rules.room ≤ now.room + 1

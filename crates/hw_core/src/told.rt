@@ -135,8 +135,8 @@ pub fn put_place(told: &mut Told, alloc: Global, need: &Need, place: u64) -> Res
     places.put(place)
 }
 
-/// Tells the state of an endorsement, and puts its place last under the need of which it tells. The need is looked up once.
-/// Where it is a repeat or there is no memory, nothing has changed.
+/// Tells the state of an endorsement, and puts its place last under the need of which it tells. That is looked up
+/// once. Where it is a repeat or there is no memory, the same places stand under each need, and the state is as it was.
 pub fn put_new_place(
     told: &mut Told,
     alloc: Global,

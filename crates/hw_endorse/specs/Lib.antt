@@ -1,3 +1,4 @@
 pub mod Told
+pub mod Who
 pub mod Kept
 pub mod Laws

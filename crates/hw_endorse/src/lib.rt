@@ -16,6 +16,7 @@ ghost use Rattle.hw_endorse.specs.Told.{added_of, is_told, with_pair, has_majori
 
 mod laws;
 mod tally;
+mod who;
 
 use hw_types::{Config, Digest, OutOfMemory, WeightList};
 pub use laws::{majority_is_endorsed, told_in_turn};

@@ -4,6 +4,7 @@ ghost use Rattle.std.specs.Prelude.{◌≡◌, ℕ, ◌+◌, ◌*◌, ◌^◌, �
 ghost use Rattle.hw_types.specs.{Graph.{digest_eq}, declared.unit.Digest.{Digest as Named}};
 ghost use Rattle.hw_endorse.specs.Kept.{is_one, who_in, weight_in, is_listed, AreListed};
 
+use crate::who::Who;
 use hw_types::{Digest, OutOfMemory};
 use std::alloc::Global;
 use std::collections::{BTreeMap, BTreeSet};
@@ -11,17 +12,8 @@ use std::collections::{BTreeMap, BTreeSet};
 /// The endorsers of one unit, in the order in which they were told, and what they weigh together.
 #[derive(Drop)]
 pub struct Endorsers {
-    who: Vec<u32>,
+    who: Who,
     weight: u64,
-}
-
-impl Endorsers {
-    /// Whether a validator is one of them.
-    fn has(&self, endorser: u32) -> bool
-        ensures { result ≡ is_one self.now.who.items endorser }
-    {
-        self.who.contains(&endorser)
-    }
 }
 
 /// The endorsers of each unit.
@@ -33,7 +25,7 @@ pub fn has(tallies: &Tallies, unit: &Digest, endorser: u32) -> bool
 {
     match tallies.get(unit) {
         None => false,
-        Some(endorsers) => endorsers.has(endorser),
+        Some(endorsers) => endorsers.who.has(endorser),
     }
 }
 
@@ -58,7 +50,7 @@ pub fn put(
     ensures unweighed { OnErr result ((d : Named) → weight_in tallies.new.entries d ≡ weight_in tallies.old.entries d) }
 {
     let none = Endorsers {
-        who: Vec::new(alloc),
+        who: Who::new(alloc),
         weight: 0,
     };
     let endorsers = tallies.entry(*unit)?.or_insert(none);
@@ -83,10 +75,10 @@ fn put_last(
     ensures others { (d : Named) → digest_eq unit.now d ≡ false → is_listed endorsed.new.keys d ≡ is_listed endorsed.old.keys d }
     ensures err { OnErr result ((endorsers.new.who.items ≡ endorsers.old.who.items) × (endorsers.new.weight ≡ endorsers.old.weight)) }
 {
-    if endorsers.has(endorser) {
+    if endorsers.who.has(endorser) {
         return Ok(false);
     }
-    endorsers.who.reserve(1)?;
+    endorsers.who.reserve()?;
     let sum = endorsers.weight + weight;
     if 2 * sum > total {
         endorsed.insert(*unit)?;

@@ -20,22 +20,24 @@ settle_or_drop-requires-clause-resolved c =
     let known = subst (λ (d : UnitGraph). AllKnown (graph d) c.args.prepared.signed.unit.panorama) (sym c.dag.ensures.dag) (due_known c.args.state.now c.args.park.now.waiting c.args.prepared c.requires.due) in
     subst (λ (d : UnitGraph). IsResolved d c.resolve.new.prepared) c.dag.ensures.dag (c.resolve.ensures.resolved (c.resolve.ensures.all.1 known))
 
-pub returns-clause-kept : goal.returns-clause-kept
-returns-clause-kept c =
+pub returns : goal.returns
+returns c =
     let s = c.args.state.now in
-    subst (λ (x : Node). OnOk c.settle_or_drop.result (state_rule s.config (graph s.dag) x ≡ None)) (node_same c.args.prepared c.resolve.new.prepared c.resolve.ensures.signed c.resolve.ensures.digest) c.settle_or_drop.ensures.kept
-
-pub returns-clause-admitted : goal.returns-clause-admitted
-returns-clause-admitted c =
-    subst (λ (x : Node). OnOk c.settle_or_drop.result (admitted_in c.settle_or_drop.new.state ≡ admitted_in c.args.state.now ++ x ∷ [])) (node_same c.args.prepared c.resolve.new.prepared c.resolve.ensures.signed c.resolve.ensures.digest)
-    c.settle_or_drop.ensures.admitted
-
-pub returns-clause-broken : goal.returns-clause-broken
-returns-clause-broken c =
-    let s = c.args.state.now in
-    subst (λ (x : Node). IfErr c.settle_or_drop.result (λ (rule : Rule). state_rule s.config (graph s.dag) x ≡ Some rule)) (node_same c.args.prepared c.resolve.new.prepared c.resolve.ensures.signed c.resolve.ensures.digest)
-    c.settle_or_drop.ensures.broken
-
-pub returns-clause-noted : goal.returns-clause-noted
-returns-clause-noted c =
-    subst (λ (d : Digest). IfErr c.settle_or_drop.result (λ (rule : Rule). c.settle_or_drop.new.dropped.entries ≡ insert_entry digest_eq c.args.dropped.now.entries d rule)) c.resolve.ensures.digest c.settle_or_drop.ensures.noted
+    let done = c.settle_or_drop.new in
+    let r = c.settle_or_drop.result in
+    let judged = c.settle_or_drop.ensures in
+    let node = node_same c.args.prepared c.resolve.new.prepared c.resolve.ensures.signed c.resolve.ensures.digest in
+    record {
+      can = judged.can;
+      same = judged.same;
+      limit = judged.limit;
+      waiting = judged.waiting;
+      kept = subst (λ (x : Node). OnOk r (state_rule s.config (graph s.dag) x ≡ None)) node judged.kept;
+      admitted = subst (λ (x : Node). OnOk r (admitted_in done.state ≡ admitted_in s ++ x ∷ [])) node judged.admitted;
+      unnoted = judged.unnoted;
+      broken = subst (λ (x : Node). IfErr r (λ (rule : Rule). state_rule s.config (graph s.dag) x ≡ Some rule)) node judged.broken;
+      noted = subst (λ (d : Digest). IfErr r (λ (rule : Rule). done.dropped.entries ≡ insert_entry digest_eq c.args.dropped.now.entries d rule)) c.resolve.ensures.digest judged.noted;
+      unchanged = judged.unchanged;
+      unstruck = judged.unstruck;
+      room = judged.room;
+    }
