@@ -427,7 +427,11 @@ fn shift_few(
     ensures firsts { bound.new.firsts ≡ bound.old.firsts }
     ensures support_length { length bound.new.support ≡ length bound.old.support }
 {
-    if moves.count == 0 || !is_few(question.dag, moves) {
+    // Nobody sees the newest unit.
+    if question.dag.count() <= moves.any.saturating_add(1) {
+        return NO_UNIT;
+    }
+    if !is_few(question.dag, moves) {
         return moves.any;
     }
     shift_support(question, bound, before, tips);
