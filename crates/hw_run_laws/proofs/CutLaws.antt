@@ -39,7 +39,7 @@ use Rattle.hw_run_laws.proofs.SentLaws.{first_takes}
 -- ---- logs
 
 -- a vertex that is accepted by its keys is accepted with a true verdict
-taken_true : (n : NodeState) (v : Vertex) → IsTakenIn n v → is_accepted (answer_in n.core v true) ≡ true
+pub taken_true : (n : NodeState) (v : Vertex) → IsTakenIn n v → is_accepted (answer_in n.core v true) ≡ true
 taken_true n v is = subst (λ (b : Bool). is_accepted (answer_in n.core v b) ≡ true) (verdict_is (setting_of n.core.config) n.core.journal v (verdict_of n.keys v) is) is
 
 module _ (n : NodeState) (tells : Bool) (old new : List ℕ → Option (List ℕ)) (told : IsTrue tells) (has : HasLog n (old n.log)) where

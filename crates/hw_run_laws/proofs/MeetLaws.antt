@@ -26,7 +26,7 @@ use Rattle.hw_run_laws.proofs.MetLaws.{met_life, met_config, met_says, first_tol
 -- ---- the vertex whose entry was cut
 
 -- an accepted vertex goes last in the journal, and its entry last in the log
-accepted_is : (n : NodeState) (v : Vertex) (a : Result Receipt Cause) → is_accepted a ≡ true → taken_by n v a ≡ with_entry n v
+pub accepted_is : (n : NodeState) (v : Vertex) (a : Result Receipt Cause) → is_accepted a ≡ true → taken_by n v a ≡ with_entry n v
 accepted_is n v (Ok (receipt.Admitted k)) is = refl
 accepted_is n v (Ok (receipt.Parked k)) is = refl
 accepted_is n v (Ok (receipt.Dropped rule)) is = refl

@@ -24,7 +24,7 @@ use Rattle.hw_session.specs.declared.fault.MakeFault.{MakeFault}
 use Rattle.hw_session.specs.declared.fault.MakeFault.TheVariants as fault
 use Rattle.hw_session.specs.declared.fault.AcceptFault.TheVariants as accept_fault
 use Rattle.hw_session.specs.Node.{NodeState}
-use Rattle.hw_session.specs.Accept.{given_to, taken_by, IsOfNode}
+use Rattle.hw_session.specs.Accept.{given_to, taken_by, IsOfNode, IsTakenIn}
 use Rattle.hw_session.specs.Make.{planned_by, own_vertex, entry_for, with_entry, IsNamesake, IsToMake, IsTooMany, IsNothing}
 use Rattle.hw_session.specs.Restart.{journal_log}
 use Rattle.hw_session.specs.Driving.{hello}
@@ -36,6 +36,7 @@ use Rattle.hw_run_laws.proofs.AttemptLaws.{takes_fairly, make_lives, lives_sound
 use Rattle.hw_run_laws.proofs.CallLaws.{call_ready, call_validator}
 use Rattle.hw_run_laws.proofs.GivenLaws.{put, put_appends, files_after, receipt_writes, each_by, given_known}
 use Rattle.hw_run_laws.proofs.LifeLaws.{takes_one}
+use Rattle.hw_run_laws.proofs.MeetLaws.{accepted_is}
 use Rattle.hw_run_laws.proofs.PlanLaws.{hash_in_range, unit_fits, unit_in_range}
 use Rattle.hw_run_laws.proofs.QuietLaws.{fair_none, quiet_serves, quiet_drives, before_meeting, behind_meeting, quiet_meets, fair_met}
 use Rattle.hw_run_laws.proofs.StartLaws.{reached, each_fits, renewed, renews}
@@ -135,7 +136,7 @@ module _ (me : ℕ) (a : Standing) (validator : me < length a.node.core.config.w
   -- ---- a vertex that is handed over
 
   module _ (v : Vertex) (may : MayBeDone me (accepting v)) where
-    fair : IsFairVertex me a.node v
+    pub fair : IsFairVertex me a.node v
     fair = (λ accepted x there own. absurd (may.2 x there own), tt)
 
     -- each vertex behind it is in range and fits
@@ -145,6 +146,10 @@ module _ (me : ℕ) (a : Standing) (validator : me < length a.node.core.config.w
     sound_behind : IsSound (taken_by a.node v (given_to a.node v))
     sound_behind = lives_soundly me a.node sound validator ready.line (taken_by a.node v (given_to a.node v))
         (takes_fairly me a.node (taken_by a.node v (given_to a.node v)) (v ∷ []) fair (takes_one a.node (taken_by a.node v (given_to a.node v)) v [] refl)) each_behind
+
+    -- where it is accepted, so is the node with its entry
+    pub entry_sound : IsTakenIn a.node v → IsSound (with_entry a.node v)
+    entry_sound accepted = subst (λ (m : NodeState). IsSound m) (accepted_is a.node v (given_to a.node v) accepted) sound_behind
 
     accepts_by : (x : Result Receipt Cause) → given_to a.node v ≡ x → Done me a (accepting v)
     accepts_by (Ok r) is = record {

@@ -1,26 +1,32 @@
--- A unit whose append fails, and a start from the log mended.
+-- A vertex whose append fails, and a start from the log mended.
 use Rattle.std.specs.Prelude.{IsSome}
-use Rattle.std.proofs.Common.{◌≡◌, ℕ, ◌<◌, List, ◌++◌, length, take, Option, Some, None, Err, inl, inr, refl, sym, ap, subst, ◌∙◌}
+use Rattle.std.proofs.Common.{◌≡◌, ℕ, true, List, ◌++◌, take, Option, Some, None, Err, inl, inr, refl, sym, ap, subst, ◌∙◌}
 use Rattle.hw_types.specs.declared.unit.Vertex.{Vertex}
 use Rattle.hw_types.specs.declared.config.Config.{Config}
 use Rattle.hw_types.specs.declared.answers.Plan.{Plan}
+use Rattle.hw_types.specs.declared.answers.Receipt.{Receipt}
+use Rattle.hw_types.specs.Journal.{is_accepted}
+use Rattle.hw_types.specs.Real.{answer_in}
 use Rattle.hw_types.specs.Spelling.{VertexFits}
 use Rattle.hw_io.specs.Files.{bytes_of, Appended}
 use Rattle.hw_codec.specs.Ranges.{VertexInRange}
 use Rattle.hw_replay.specs.Replay.{replay_of}
 use Rattle.hw_replay.specs.Ends.{lasts_of_file}
 use Rattle.hw_session.specs.declared.fault.MakeFault.{MakeFault}
-use Rattle.hw_session.specs.declared.fault.MakeFault.TheVariants as fault
+use Rattle.hw_session.specs.declared.fault.MakeFault.TheVariants as make_fault
+use Rattle.hw_session.specs.declared.fault.AcceptFault.{AcceptFault}
+use Rattle.hw_session.specs.declared.fault.AcceptFault.TheVariants as accept_fault
 use Rattle.hw_session.specs.Node.{NodeState}
-use Rattle.hw_session.specs.Make.{planned_by, own_vertex, entry_for, with_vertex, with_entry, IsToMake}
+use Rattle.hw_session.specs.Make.{own_vertex, entry_for, with_vertex, with_entry}
 use Rattle.hw_session.specs.Restart.{journal_log, journal_lasts}
 use Rattle.hw_session.specs.Standing.{Standing}
 use Rattle.hw_session.proofs.MakeLaws.{own_accepted}
-use Rattle.hw_run_laws.specs.Calls.{IsSound, makes, StartsAgain, IsReady, MendsTo}
+use Rattle.hw_run_laws.specs.Calls.{IsSound, Attempt, makes, accepts, StartsAgain, IsReady, MendsTo}
 use Rattle.hw_run_laws.specs.Restart.{HasCutLog}
-use Rattle.hw_run_laws.specs.Members.{making, MayBeDone, IsTorn, TornLogsAreThere}
+use Rattle.hw_run_laws.specs.Members.{IsTorn, TornLogsAreThere, TornAcceptsAreThere}
+use Rattle.hw_run_laws.proofs.CutLaws.{taken_true}
 use Rattle.hw_run_laws.proofs.GivenLaws.{put, put_there, put_others}
-use Rattle.hw_run_laws.proofs.MemberLaws.{is_planned, fits, in_range, made_sound}
+use Rattle.hw_run_laws.proofs.MemberLaws.{is_planned, fits, in_range, made_sound, fair, entry_sound}
 use Rattle.hw_run_laws.proofs.MendLaws.{cut_mended}
 use Rattle.hw_run_laws.proofs.StartLaws.{gives_back, same_some}
 
@@ -84,60 +90,68 @@ module _ (c : Standing) (k : NodeState) (sound : IsSound k) (config : k.core.con
         sound = record { kept = record { lawful = sound.kept.lawful; keys = sound.kept.keys; reached = sound.kept.reached }; config = sound.config; vertices = sound.vertices };
       }
 
-module _ (me : ℕ) (a : Standing) (now : ℕ) (value : List ℕ) (p : Plan) (count : ℕ) (validator : me < length a.node.core.config.weights) (sound : IsSound a.node) (ready : IsReady me a) (may : MayBeDone me (making now value))
-    (made : IsToMake a.node (planned_by a.node me now value) p) where
-  abbrev own : Vertex
-  own = own_vertex a.node p
+-- the bytes of the log
+abbrev whole_log : (me : ℕ) (a : Standing) → IsReady me a → List ℕ
+whole_log me a ready = journal_log ready.log.version a.node.core.config a.node.core.journal
 
+-- a vertex that is accepted, and whose append fails behind so many bytes
+module _ (me : ℕ) (a : Standing) (v : Vertex) (count : ℕ) (sound : IsSound a.node) (ready : IsReady me a) (accepted : is_accepted (answer_in a.node.core v true) ≡ true) (range : VertexInRange v) (v_fits : VertexFits v) (behind : IsSound (with_entry a.node v)) where
   abbrev whole : List ℕ
-  whole = journal_log ready.log.version a.node.core.config a.node.core.journal
+  whole = whole_log me a ready
 
   abbrev torn : Standing
-  torn = record { node = with_vertex a.node own; held = put a.held a.node.log (whole ++ take count (entry_for a.node own)) }
+  torn = record { node = with_vertex a.node v; held = put a.held a.node.log (whole ++ take count (entry_for a.node v)) }
 
-  there : torn.held torn.node.log ≡ Some (whole ++ take count (entry_for a.node own))
-  there = put_there a.held a.node.log (whole ++ take count (entry_for a.node own))
+  there : torn.held torn.node.log ≡ Some (whole ++ take count (entry_for a.node v))
+  there = put_there a.held a.node.log (whole ++ take count (entry_for a.node v))
 
-  abbrev cut : HasCutLog a.node own (torn.held torn.node.log)
+  abbrev cut : HasCutLog a.node v (torn.held torn.node.log)
   cut = record {
     whole = whole;
     count = count;
     has = record { version = ready.log.version; known = ready.log.known; holds = refl; lasts = ready.log.lasts };
-    accepted = own_accepted a.node p sound.kept.reached (me, now, value, is_planned me a validator sound ready now value may p made.is) made.apart made.room;
+    accepted = accepted;
     holds = there;
   }
 
-  range : VertexInRange own
-  range = in_range me a validator sound ready now value may p made.is made.room
-
-  own_fits : VertexFits own
-  own_fits = fits me a validator sound ready now value may p made.is
-
-  entry_sound : IsSound (with_entry a.node own)
-  entry_sound = made_sound me a validator sound ready now value may p made
-
   torn_sound : IsSound torn.node
-  torn_sound = record { kept = record { lawful = sound.kept.lawful; keys = sound.kept.keys; reached = entry_sound.kept.reached }; config = sound.config; vertices = entry_sound.vertices }
+  torn_sound = record { kept = record { lawful = sound.kept.lawful; keys = sound.kept.keys; reached = behind.kept.reached }; config = sound.config; vertices = behind.vertices }
 
   mended : Mended torn
-  mended = elim (cut_mended a.node own (torn.held torn.node.log) sound cut range own_fits) [
+  mended = elim (cut_mended a.node v (torn.held torn.node.log) sound cut range v_fits) [
     | inl mends ↦ starts_mended torn a.node sound refl refl mends
-    | inr mends ↦ starts_mended torn (with_entry a.node own) entry_sound refl refl mends
+    | inr mends ↦ starts_mended torn (with_entry a.node v) behind refl refl mends
   ]
 
-  is_torn : IsTorn me a own count
-  is_torn = record {
+  torn_by : Attempt me a torn → IsTorn me a v count
+  torn_by attempt = record {
     torn = torn;
-    attempt = makes now value (Err fault.AppendFault) (p, made, refl) (p, made.is, put_cut {T = Plan} {E = MakeFault} a.held a.node.log whole (entry_for a.node own) count fault.AppendFault ready.log.holds);
+    attempt = attempt;
     sound = torn_sound;
     cut = cut;
     place = refl;
     range = range;
-    fits = own_fits;
+    fits = v_fits;
     next = mended.next;
     again = mended.again;
     goes = mended.sound;
   }
 
+-- the node's own unit
 pub logs_torn : TornLogsAreThere
-logs_torn = is_torn
+logs_torn me a now value p count validator sound ready may made =
+    let own = own_vertex a.node p in
+    let accepted = own_accepted a.node p sound.kept.reached (me, now, value, is_planned me a validator sound ready now value may p made.is) made.apart made.room in
+    torn_by me a own count sound ready accepted (in_range me a validator sound ready now value may p made.is made.room) (fits me a validator sound ready now value may p made.is) (made_sound me a validator sound ready now value may p made)
+    (makes now value (Err make_fault.AppendFault)
+    (p, made, refl) (p, made.is, put_cut {T = Plan} {E = MakeFault} a.held a.node.log (whole_log me a ready) (entry_for a.node own) count make_fault.AppendFault ready.log.holds))
+
+-- a vertex that is handed over
+pub accepts_torn : TornAcceptsAreThere
+unfolding torn_by
+accepts_torn me a v count validator sound ready may accepted = (
+  torn_by me a v count sound ready (taken_true a.node v accepted) may.0 may.1 (entry_sound me a validator sound ready v may accepted)
+      (accepts v (Err accept_fault.AppendFault) (accepted, refl) (put_cut {T = Receipt} {E = AcceptFault} a.held a.node.log (whole_log me a ready) (entry_for a.node v) count accept_fault.AppendFault ready.log.holds)
+      (fair me a validator sound ready v may)),
+  refl,
+)

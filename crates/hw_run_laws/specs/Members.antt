@@ -24,7 +24,7 @@ use Rattle.hw_link.specs.Frames.{framed}
 use Rattle.hw_log.specs.Log.{header_bytes}
 use Rattle.hw_session.specs.declared.stage.PeerMark.{PeerMark}
 use Rattle.hw_session.specs.Node.{NodeState, new_node}
-use Rattle.hw_session.specs.Accept.{given_to, taken_by}
+use Rattle.hw_session.specs.Accept.{given_to, taken_by, IsTakenIn}
 use Rattle.hw_session.specs.Make.{planned_by, own_vertex, IsToMake}
 use Rattle.hw_session.specs.Serving.{part_from, served}
 use Rattle.hw_session.specs.Sessions.{Serves}
@@ -207,3 +207,8 @@ pub record IsTorn (me : ℕ) (a : Standing) (v : Vertex) (count : ℕ) : Type 0 
 abbrev pub TornLogsAreThere : Type 0
 TornLogsAreThere = (me : ℕ) (a : Standing) (now : ℕ) (value : List ℕ) (p : Plan) (count : ℕ) → me < length a.node.core.config.weights → IsSound a.node → IsReady me a
     → MayBeDone me (making now value) → IsToMake a.node (planned_by a.node me now value) p → IsTorn me a (own_vertex a.node p) count
+
+-- And so it may be of a vertex that is handed over and that the node accepts.
+abbrev pub TornAcceptsAreThere : Type 0
+TornAcceptsAreThere = (me : ℕ) (a : Standing) (v : Vertex) (count : ℕ) → me < length a.node.core.config.weights → IsSound a.node → IsReady me a
+    → MayBeDone me (accepting v) → IsTakenIn a.node v → (torn : IsTorn me a v count) × (deed_of torn.attempt ≡ accepting v)

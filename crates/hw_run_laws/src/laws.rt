@@ -5,7 +5,7 @@ ghost use Rattle.hw_run_laws.specs.Calls.{CallsKeepOneLine, AttemptsKeepOneLine,
 ghost use Rattle.hw_run_laws.specs.Complete.{ServesAreComplete, DrivesAreComplete};
 ghost use Rattle.hw_run_laws.specs.CutMembers.{ReplaysAreFed, ReplaysStop, RunsAreCut};
 ghost use Rattle.hw_run_laws.specs.MeetMembers.{MeetingsAreThere, OneMeets};
-ghost use Rattle.hw_run_laws.specs.Members.{NewNodesAreReady, OneBegins, LivesAreThere, WholeSessionsAreThere, WholeDrivesAreThere, NothingDisturbs, VerticesAreSaid, VerticesAreTaken, TornLogsAreThere};
+ghost use Rattle.hw_run_laws.specs.Members.{NewNodesAreReady, OneBegins, LivesAreThere, WholeSessionsAreThere, WholeDrivesAreThere, NothingDisturbs, VerticesAreSaid, VerticesAreTaken, TornLogsAreThere, TornAcceptsAreThere};
 ghost use Rattle.hw_run_laws.specs.Restart.{ServedIsALife, DrivenIsALife, MetIsALife, ServesIsALife, DrivesIsALife, MeetsIsALife, AcceptsIsALife, ServesKeepsLog, DrivesKeepsLog, MeetsKeepsLog, AcceptsKeepsLog, ServesLeavesLog, DrivesLeavesLog, MeetsLeavesLog, AcceptsLeavesLog, MakeLeavesLog, ServedSaysOfLog, DrivenSaysOfLog, MetSaysOfLog, ServesSaysOfLog, DrivesSaysOfLog, MeetsSaysOfLog};
 ghost use Rattle.hw_run_laws.specs.Prefixes.{StoppedReplays, StoppedParts, CutServices, CutTurns, CutHosts, CutCalls};
 
@@ -94,7 +94,8 @@ pub fn a_cut_log_is_mended()
 /// calls, in any order: units that are made, whatever vertices that are handed over and hold no unit by the validator,
 /// sessions and meetings with peers that send nothing, starts, and nodes that are given up. Each node has a whole session that nothing disturbs, dialled or, where no unit waits, dialling. It says
 /// the vertices of its journal to a peer that asks for them, and takes a vertex that a peer sends. Wherever the append
-/// of a unit fails, the node may be given up, and starts again from its log, mended.
+/// of a unit fails, or that of a vertex that is handed over, the node may be given up, and starts again from its log,
+/// mended.
 pub fn lives_are_there()
     ensures begins { NewNodesAreReady }
     ensures one { OneBegins }
@@ -105,6 +106,7 @@ pub fn lives_are_there()
     ensures said { VerticesAreSaid }
     ensures taken { VerticesAreTaken }
     ensures torn { TornLogsAreThere }
+    ensures torn_accepts { TornAcceptsAreThere }
 {}
 
 /// There are replays and runs that are cut short, with consumers that take what they are told.

@@ -3,7 +3,7 @@ use Rattle.hw_run_laws.proofs.DrivenLaws.{whole_drives}
 use Rattle.hw_run_laws.proofs.MemberLaws.{lives_there}
 use Rattle.hw_run_laws.proofs.ShortLaws.{whole_sessions, undisturbed, vertices_said}
 use Rattle.hw_run_laws.proofs.TakenLaws.{vertices_taken}
-use Rattle.hw_run_laws.proofs.TornLaws.{logs_torn}
+use Rattle.hw_run_laws.proofs.TornLaws.{logs_torn, accepts_torn}
 use Rattle.hw_run_laws.proofs.laws.lives_are_there.Goals as goal
 
 pub returns-clause-begins : goal.returns-clause-begins
@@ -29,6 +29,9 @@ returns-clause-said c = vertices_said
 
 pub returns-clause-torn : goal.returns-clause-torn
 returns-clause-torn c = logs_torn
+
+pub returns-clause-torn_accepts : goal.returns-clause-torn_accepts
+returns-clause-torn_accepts c = accepts_torn
 
 pub returns-clause-taken : goal.returns-clause-taken
 returns-clause-taken c = vertices_taken
