@@ -1,5 +1,6 @@
-use Rattle.std.proofs.Common.{None, inl}
+use Rattle.std.proofs.Common.{ℕ, None, inl, sym, subst}
 use Rattle.hw_link.proofs.AskLaws.{all_prompt, none_prompt}
+use Rattle.hw_session.specs.Handling.{IsLinkEnd}
 use Rattle.hw_session.specs.Serving.{served_said}
 use Rattle.hw_session.proofs.ServingLaws.{serves_accepted, serves_nobody, fault_counted, fault_unlogged}
 use Rattle.hw_session.proofs.node.Node.serve_one.Goals as goal
@@ -10,6 +11,11 @@ returns-in-Ok-clause-served g c =
 
 pub returns-in-Err-clause-served : goal.returns-in-Err-clause-served
 returns-in-Err-clause-served g c = rw c.from.ensures (serves_nobody _ _ _ _ _ _ _ c.in-Err.ensures.ends c.in-Err.fault c.in-Err.ensures.sessions)
+
+pub returns-in-Ok-clause-link : goal.returns-in-Ok-clause-link
+returns-in-Ok-clause-link g c =
+    subst (λ (before : ℕ). IsLinkEnd before (g.D.Door.faults c.hang_up.new.self) c.serve-end.result) c.in-Ok.ensures.cause.failed
+    (subst (λ (now : ℕ). IsLinkEnd (g.D.Door.faults c.accept.new.self) now c.serve-end.result) (sym c.hang_up.ensures.faults) c.serve-end.ensures.link)
 
 pub returns-in-Err-clause-link : goal.returns-in-Err-clause-link
 returns-in-Err-clause-link g c = rw c.from.ensures (fault_counted _ _ c.in-Err.fault c.in-Err.ensures.cause)
