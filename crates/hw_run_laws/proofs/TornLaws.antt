@@ -148,6 +148,7 @@ logs_torn me a now value p count validator sound ready may made =
 
 -- a vertex that is handed over
 pub accepts_torn : TornAcceptsAreThere
+unfolding torn_by
 accepts_torn me a v count validator sound ready may accepted = (
   torn_by me a v count sound ready (taken_true a.node v accepted) may.0 may.1 (entry_sound me a validator sound ready v may accepted)
       (accepts v (Err accept_fault.AppendFault) (accepted, refl) (put_cut {T = Receipt} {E = AcceptFault} a.held a.node.log (whole_log me a ready) (entry_for a.node v) count accept_fault.AppendFault ready.log.holds)

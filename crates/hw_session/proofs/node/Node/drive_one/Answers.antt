@@ -1,6 +1,7 @@
-use Rattle.std.proofs.Common.{Some, inl}
+use Rattle.std.proofs.Common.{ℕ, Some, inl, sym, subst}
 use Rattle.hw_link.proofs.AskLaws.{all_prompt, none_prompt}
 use Rattle.hw_session.specs.Driving.{driven_said}
+use Rattle.hw_session.specs.Handling.{IsLinkEnd}
 use Rattle.hw_session.proofs.ServingLaws.{fault_counted, fault_unlogged}
 use Rattle.hw_session.proofs.DrivingLaws.{drives_dialled, drives_nobody}
 use Rattle.hw_session.proofs.node.Node.drive_one.Goals as goal
@@ -11,6 +12,11 @@ returns-in-Ok-clause-driven g c =
 
 pub returns-in-Err-clause-driven : goal.returns-in-Err-clause-driven
 returns-in-Err-clause-driven g c = rw c.from.ensures (drives_nobody _ _ _ _ _ _ _ _ _ c.in-Err.ensures.ends c.in-Err.fault c.in-Err.ensures.sessions)
+
+pub returns-in-Ok-clause-link : goal.returns-in-Ok-clause-link
+returns-in-Ok-clause-link g c =
+    subst (λ (before : ℕ). IsLinkEnd before (g.D.Door.faults c.hang_up.new.self) c.drive-end.result) c.in-Ok.ensures.cause.failed
+    (subst (λ (now : ℕ). IsLinkEnd (g.D.Door.faults c.dial.new.self) now c.drive-end.result) (sym c.hang_up.ensures.faults) c.drive-end.ensures.link)
 
 pub returns-in-Err-clause-link : goal.returns-in-Err-clause-link
 returns-in-Err-clause-link g c = rw c.from.ensures (fault_counted _ _ c.in-Err.fault c.in-Err.ensures.cause)
