@@ -10,6 +10,7 @@ use hw_program::{
 use hw_script_grammar::number_up_to;
 
 /// A command, how many words stand behind it, and which of them are numbers.
+#[derive(Clone, Copy)]
 struct Form<'c> {
     command: &'c str,
     least: usize,
@@ -18,6 +19,7 @@ struct Form<'c> {
 }
 
 /// A word that is a number: its place behind the command, its name, and its range.
+#[derive(Clone, Copy)]
 struct Number {
     place: usize,
     name: &'static str,
