@@ -124,45 +124,19 @@ fn service_in<'w>(
     ensures { asked_service result ≡ service_in command.now (names_of sources.entry) first.now second.now (map string_bytes rest.now) }
 {
     match command {
-        "serve" => serve_of(sources, first, second, rest),
-        "host" => host_of(sources, first, second, rest),
+        "serve" => Some(NodeCommand::Serve {
+            sources,
+            address: first,
+            sessions: sessions_of(second, rest)?,
+        }),
+        "host" => Some(NodeCommand::Host {
+            sources,
+            address: first,
+            sessions: sessions_of(second, rest)?,
+        }),
         "run" => turns_of(sources, first, second, rest),
         _ => None,
     }
-}
-
-/// To serve so many sessions at an address.
-fn serve_of<'w>(
-    sources: Sources<'w>,
-    address: &'w str,
-    sessions: &str,
-    rest: &[String],
-) -> Option<NodeCommand<'w>>
-    ensures { asked_service result ≡ option_map (Serve (names_of sources.entry) address.now) (sessions_of (number_below 65537 sessions.now) (map string_bytes rest.now)) }
-{
-    let sessions = sessions_of(sessions, rest)?;
-    Some(NodeCommand::Serve {
-        sources,
-        address,
-        sessions,
-    })
-}
-
-/// To meet so many peers that come to an address.
-fn host_of<'w>(
-    sources: Sources<'w>,
-    address: &'w str,
-    sessions: &str,
-    rest: &[String],
-) -> Option<NodeCommand<'w>>
-    ensures { asked_service result ≡ option_map (Host (names_of sources.entry) address.now) (sessions_of (number_below 65537 sessions.now) (map string_bytes rest.now)) }
-{
-    let sessions = sessions_of(sessions, rest)?;
-    Some(NodeCommand::Host {
-        sources,
-        address,
-        sessions,
-    })
 }
 
 /// So many sessions, and no word behind.

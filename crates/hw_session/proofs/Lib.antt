@@ -11,6 +11,7 @@ pub mod ServingLaws
 pub mod ReactLaws
 pub mod NextLaws
 pub mod SendLaws
+pub mod WantedLaws
 pub mod DrivingLaws
 pub mod DriveLaws
 pub mod ConfigLaws

@@ -188,8 +188,9 @@ fn wanted_for_last(alloc: Global, core: &Core) -> Result<NeedList, OutOfMemory>
         Vertex::Unit(_) => match core.unit_names().last() {
             Some(name) => core.first_missing(alloc, name, MAX_LIST),
             // The unit has a name.
-            None => unreachable!(),
+            None => Ok(NeedList::new(alloc)),
         },
-        Vertex::Evidence(_) | Vertex::Endorsement(_) => Ok(NeedList::new(alloc)),
+        Vertex::Evidence(_) => Ok(NeedList::new(alloc)),
+        Vertex::Endorsement(_) => Ok(NeedList::new(alloc)),
     }
 }
