@@ -27,13 +27,15 @@ struct Number {
     most: u64,
 }
 
+const NUMBER: Number = Number {
+    place: 0,
+    name: "NUMBER",
+    least: 0,
+    most: u64::MAX,
+};
+
 const OF_GEN: [Number; 2] = [
-    Number {
-        place: 0,
-        name: "NUMBER",
-        least: 0,
-        most: u64::MAX,
-    },
+    NUMBER,
     Number {
         place: 1,
         name: "ROUNDS",
@@ -43,12 +45,7 @@ const OF_GEN: [Number; 2] = [
 ];
 
 const OF_SIM: [Number; 3] = [
-    Number {
-        place: 0,
-        name: "NUMBER",
-        least: 0,
-        most: u64::MAX,
-    },
+    NUMBER,
     Number {
         place: 1,
         name: "NODES",

@@ -6,7 +6,6 @@ ghost use Rattle.hw_dag.specs.Dag.{count_of};
 ghost use Rattle.hw_meeting.specs.Lanes.{AreHighest, IsOnLaneOf, IsOnTip, marked, AreMarks, node_named};
 
 use crate::mark::Mark;
-use hw_codec::instance_of;
 use hw_core::Core;
 use hw_dag::{Dag, UnitNo};
 use hw_rules::local;
@@ -25,11 +24,11 @@ pub(crate) fn marks(
     ensures { IfOk result (λ marks. AreMarks dag.now tips.now (units_in (setting_of core.now.config) core.now.journal) marks.items) }
 {
     let config = core.state().config();
-    let instance = instance_of(alloc, config)?;
+    let instance = core.instance();
     let mut marks = vec![in alloc; Mark::Unseen; dag.validators() as usize]?;
     for place in 0..core.journal_count() {
         let vertex = core.journal_at(place);
-        see(dag, tips, config, &instance, vertex, marks.as_mut_slice());
+        see(dag, tips, config, instance, vertex, marks.as_mut_slice());
     }
     Ok(marks)
 }

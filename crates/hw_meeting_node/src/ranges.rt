@@ -1,10 +1,10 @@
 //! Each value of a frame is in its type's range.
 
 ghost use Rattle.std.specs.Prelude.{◌<◌, ◌^◌, All};
-ghost use Rattle.hw_codec.specs.Ranges.{AreBytesOf, AreBytes, DigestInRange};
+ghost use Rattle.hw_codec.specs.Ranges.{DigestInRange};
 ghost use Rattle.hw_meeting.specs.Frames.{PartInRange, MeetingInRange};
 
-use hw_codec::vertex_is_in_range;
+use hw_codec::{array_is_in_range, vertex_is_in_range};
 use hw_meeting::{LaneSummary, MeetingFrame};
 use hw_types::Digest;
 
@@ -26,16 +26,6 @@ fn digest_is_in_range(digest: &Digest)
 {
     array_is_in_range(&digest.0);
 }
-
-fn array_is_in_range(bytes: &[u8; 32])
-    ensures { AreBytesOf 32 bytes.now }
-{
-    bytes_are_in_range(bytes);
-}
-
-fn bytes_are_in_range(bytes: &[u8])
-    ensures { AreBytes bytes.now }
-{}
 
 fn numbers_are_in_range(numbers: &[u32])
     ensures { All (λ n. n < 2 ^ 32) numbers.now }

@@ -30,7 +30,7 @@ module _ (c : CoreState) (v : ℕ) where
     | inr le ↦ absurd (never_both (is_faulty (received_in c) (settled_in c) v) faulty (stranger c v le))
   ]
 
--- what holds of success, told otherwise
-pub on_ok_so : {A E P Q : Type 0} (r : Result A E) → OnOk r P → (P → Q) → OnOk r Q
-on_ok_so (Ok x) p so = so p
-on_ok_so (Err e) p so = tt
+-- what holds, told of success
+pub on_ok_said : {A E P : Type 0} (r : Result A E) → P → OnOk r P
+on_ok_said (Ok x) p = p
+on_ok_said (Err e) p = tt

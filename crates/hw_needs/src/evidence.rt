@@ -1,6 +1,6 @@
 //! Evidence against a validator.
 
-ghost use Rattle.std.specs.{Prelude.{◌≡◌, ◌<◌, ◌↔◌, false, true, length, None, IsTrue, IfOk, OnOk, IfSome}, Option.{option_map}};
+ghost use Rattle.std.specs.{Prelude.{◌≡◌, ◌<◌, ◌↔◌, ℕ, false, true, length, None, IsTrue, IfOk, OnOk, IfSome}, Option.{option_map}};
 ghost use Rattle.hw_types.specs.{Settled.{is_faulty}, Spelling.{VertexFits}, Real.{received_in, settled_in}, Culprits.{pair_of}};
 ghost use Rattle.hw_types.specs.declared.unit.Vertex.TheVariants as vertex;
 ghost use Rattle.hw_core.specs.Readers.{unit_in};
@@ -50,7 +50,8 @@ pub(crate) fn evidence_with(
         Some(evidence) => Ok(Some(evidence.copy()?)),
         None => {
             if is_faulty(core, validator) {
-                settled_evidence(alloc, core, pairs, validator)
+                let names = pairs.find(alloc, core, validator)?;
+                named_evidence(core, names)
             } else {
                 Ok(None)
             }
@@ -71,46 +72,42 @@ fn is_faulty(core: &Core, validator: u32) -> bool
     }
 }
 
-/// The evidence of two settled units of the validator, None where it has no two of one sequence number.
-fn settled_evidence(
-    alloc: Global,
-    core: &Core,
-    pairs: &mut KnownPairs,
-    validator: u32,
-) -> Result<Option<Evidence>, OutOfMemory>
-    requires pairs { ArePairs core.now pairs.old }
-    ensures evidence { IfOk result (λ evidence. evidence ≡ settled_evidence core.now validator) }
+/// The evidence of the two settled units of these names, None where there are none.
+fn named_evidence(core: &Core, names: Option<PairNames>) -> Result<Option<Evidence>, OutOfMemory>
+    ensures evidence { (v : ℕ) → names ≡ option_map names_of (pair_of (settled_in core.now) v) → IfOk result (λ evidence. evidence ≡ settled_evidence core.now v) }
     ensures fits { IfOk result (λ evidence. IfSome evidence (λ known. VertexFits (vertex.Evidence known))) }
-    ensures pairs { ArePairs core.now pairs.new }
-    ensures kept { OnOk result (validator < length core.now.config.weights → IsPairKept core.now validator pairs.new) }
-    ensures stay { StayKept pairs.old pairs.new }
 {
-    match pairs.of(validator) {
+    match names {
         Some(names) => evidence_between(core, &names.left, &names.right),
-        None => sought_evidence(alloc, core, pairs, validator),
+        None => Ok(None),
     }
 }
 
-/// The evidence of two settled units of the validator, which are looked for and kept.
-fn sought_evidence(
-    alloc: Global,
-    core: &Core,
-    pairs: &mut KnownPairs,
-    validator: u32,
-) -> Result<Option<Evidence>, OutOfMemory>
-    requires pairs { ArePairs core.now pairs.old }
-    ensures evidence { IfOk result (λ evidence. evidence ≡ settled_evidence core.now validator) }
-    ensures fits { IfOk result (λ evidence. IfSome evidence (λ known. VertexFits (vertex.Evidence known))) }
-    ensures pairs { ArePairs core.now pairs.new }
-    ensures kept { OnOk result (validator < length core.now.config.weights → IsPairKept core.now validator pairs.new) }
-    ensures stay { StayKept pairs.old pairs.new }
-{
-    match pair_names(alloc, core, validator)? {
-        Some(names) => {
-            pairs.keep(core, validator, names)?;
-            evidence_between(core, &names.left, &names.right)
+impl KnownPairs {
+    /// The names of the two settled units that show the validator, None where it has no two of one sequence number.
+    /// They are looked for and kept where none are kept.
+    fn find(
+        &mut self,
+        alloc: Global,
+        core: &Core,
+        validator: u32,
+    ) -> Result<Option<PairNames>, OutOfMemory>
+        requires pairs { ArePairs core.now self.old }
+        ensures names { IfOk result (λ names. names ≡ option_map names_of (pair_of (settled_in core.now) validator)) }
+        ensures pairs { ArePairs core.now self.new }
+        ensures kept { OnOk result (validator < length core.now.config.weights → IsPairKept core.now validator self.new) }
+        ensures stay { StayKept self.old self.new }
+    {
+        if let Some(names) = self.of(validator) {
+            return Ok(Some(names));
         }
-        None => Ok(None),
+        match pair_names(alloc, core, validator)? {
+            Some(names) => {
+                self.keep(core, validator, names)?;
+                Ok(Some(names))
+            }
+            None => Ok(None),
+        }
     }
 }
 

@@ -70,7 +70,6 @@ pub(crate) fn counts(alloc: Global, words: &mut Words<'_>) -> Result<IndexList, 
 }
 
 /// A word means a number below 2^64.
-#[derive(Clone, Copy)]
 struct Weight;
 
 impl Meaning for Weight {
@@ -84,7 +83,6 @@ impl Meaning for Weight {
 }
 
 /// A word means a number below 2^32.
-#[derive(Clone, Copy)]
 struct Count;
 
 impl Meaning for Count {

@@ -2,12 +2,7 @@
 -- Source: ours.
 use Rattle.std.specs.Prelude.{◌≡◌, ◌⊎◌, ℕ, Bool, true, IsTrue, List, Option, Some, Result, Ok, Err}
 use Rattle.hw_types.specs.declared.config.Config.{Config}
-use Rattle.hw_io.specs.declared.outside.IoFault.{IoFault}
-use Rattle.hw_io.specs.declared.outside.IoFault.TheVariants as io
 use Rattle.hw_io.specs.Faults.{Rose, FailsOrLacks}
-use Rattle.hw_log.specs.declared.error.LogError.TheVariants as log
-use Rattle.hw_replay.specs.declared.fault.StartFault.{StartFault}
-use Rattle.hw_replay.specs.declared.fault.StartFault.TheVariants as start
 use Rattle.hw_service.specs.declared.fault.ServiceFault.{ServiceFault}
 use Rattle.hw_service.specs.declared.fault.ServiceFault.TheVariants as fault
 use Rattle.hw_service.specs.Begin.{Names, file_settings, HoldsFault, IsValidator, Reads}
@@ -27,11 +22,6 @@ IsOfSettings tells file e = IsOfFile e
 abbrev pub IsOfKeys : Bool → ℕ → Option (List ℕ) → ServiceFault → Type 0
 IsOfKeys tells validators file (fault.Keys at) = IsTrue tells → HoldsFault validators file at
 IsOfKeys tells validators file e = IsOfFile e
-
--- what a failed look for the log is answered as
-abbrev pub fault_of_look : IoFault → StartFault
-fault_of_look io.Failed = start.Log log.ReadFault
-fault_of_look io.OutOfMemory = start.OutOfMemory
 
 -- A failed call was about one of these files, and was counted for it, or the settings or the keys aren't there. It was about the keys only where
 -- the settings say a configuration of which the validator is one, and about the log only where the keys are those of its validators too. A log

@@ -1,6 +1,6 @@
 //! How a node begins: from its settings, its keys and its log.
 
-ghost use Rattle.std.specs.Prelude.{◌≡◌, ◌≤◌, ◌<◌, ℕ, Option, List, length, All, [], Some, None, Ok, Err, IsTrue, IfOk, IfErr, OnOk, string_bytes};
+ghost use Rattle.std.specs.Prelude.{◌≡◌, ◌≤◌, ◌<◌, ℕ, Option, List, length, All, [], Some, None, Ok, Err, IsTrue, IfOk, IfErr, OnOk};
 ghost use Rattle.std.specs.List.{range_with_len};
 ghost use Rattle.hw_types.specs.Limits.{config_fault};
 ghost use Rattle.hw_core.specs.Promises.{begun};
@@ -14,7 +14,7 @@ ghost use Rattle.hw_replay.specs.Causes.{HasReplayCause, IsReplayAbout};
 ghost use Rattle.hw_session.specs.Start.{Starts, StartsThere, StartsLog, HasStartCause, IsReadOfLog};
 ghost use Rattle.hw_service.specs.Scene.{DoorSeen, sight_of, outside, scene, none_told};
 ghost use Rattle.hw_service.specs.Begin.{names_of, file_settings, HoldsKeys, IsNoValidator, IsValidator, Reads, ReadsNot, HasBegun, BeginsNot, fault_of_start};
-ghost use Rattle.hw_service.specs.Begun.{IsOfFile, IsOfSettings, IsOfKeys, fault_of_look, IsReadOf, IsAbout};
+ghost use Rattle.hw_service.specs.Begun.{IsOfFile, IsOfSettings, IsOfKeys, IsReadOf, IsAbout};
 ghost use Rattle.hw_service.specs.Counts.{IsReadCounted, IsAppendCounted, IsReadAbout};
 ghost use Rattle.hw_service.specs.declared.fault.ServiceFault.TheVariants as fault;
 
@@ -24,7 +24,7 @@ use hw_io::{Consumer, Files, IoFault};
 use hw_keys::{Keys, KeysFault};
 use hw_log::{LogError, read_file};
 use hw_replay::{Fanout, StartFault, replay_fed};
-use hw_session::Node;
+use hw_session::{Node, fault_of_read, name_of};
 use hw_settings::{SettingsFault, read_settings};
 use hw_types::{Bytes, Config, OutOfMemory};
 use std::alloc::Global;
@@ -213,7 +213,7 @@ fn start_fed<F: Files>(
     match files.exists(log) {
         Ok(true) => go_on_fed(alloc, files, log, &config, keys, fanout, consumers),
         Ok(false) => Node::begin(alloc, files, log, config, keys),
-        Err(fault) => Err(fault_of_look(fault)),
+        Err(fault) => Err(fault_of_read(fault)),
     }
 }
 
@@ -247,23 +247,6 @@ fn go_on_fed<F: Files>(
     let name = name_of(alloc, log)?;
     let replay = replay_fed(alloc, files, log, Some(config), fanout, consumers)?;
     Ok(Node::replayed(alloc, name, config, keys, replay))
-}
-
-/// A copy of a log's name.
-fn name_of(alloc: Global, log: &str) -> Result<String, OutOfMemory>
-    ensures { IfOk result (λ name. string_bytes name ≡ log.now) }
-{
-    Ok(String::from_str(alloc, log)?)
-}
-
-/// What a failed look for the log is answered as.
-fn fault_of_look(fault: IoFault) -> StartFault
-    ensures { result ≡ fault_of_look fault }
-{
-    match fault {
-        IoFault::Failed => StartFault::Log(LogError::ReadFault),
-        IoFault::OutOfMemory => StartFault::OutOfMemory,
-    }
 }
 
 /// What a failed start is answered as.

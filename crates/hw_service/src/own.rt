@@ -1,8 +1,7 @@
 //! A validator's own units in a run.
 
 ghost use Rattle.std.specs.{Prelude.{◌≡◌, ◌≢◌, ◌≤◌, ◌<◌, ◌++◌, ◌^◌, ℕ, List, Option, length, IsTrue, IfOk, IfErr, IfSome, OnOk, Some}, Prelude.{None}};
-ghost use Rattle.hw_types.specs.{Real.{setting_of}, Limits.{config_fault}, Spelling.{Fits}};
-ghost use Rattle.hw_honest.specs.Cluster.{value_at};
+ghost use Rattle.hw_types.specs.Spelling.{Fits};
 ghost use Rattle.hw_service.specs.Scene.{DoorSeen, sight_of, outside, scene, IsReady};
 ghost use Rattle.hw_service.specs.Run.{HaveTaken};
 ghost use Rattle.hw_service.specs.Turns.{MakesUnit, MakesWith, kind_word, made_line};
@@ -15,10 +14,10 @@ use crate::lines::write_bytes;
 use crate::node_host::Host;
 use hw_codec::digest_of;
 use hw_io::{Consumer, Files, Sink};
-use hw_rounds::round_id;
 use hw_session::MakeFault;
 use hw_text::{end_line, put_digest, put_word};
-use hw_types::{Bytes, Config, OutOfMemory, Plan, PlanKind};
+use hw_types::{Bytes, OutOfMemory, Plan, PlanKind};
+use hw_validator::value_at;
 use std::alloc::Global;
 
 /// What a validator makes its unit of.
@@ -63,19 +62,6 @@ pub(crate) fn make_unit<F: Files, S: Sink>(
         value: value.as_slice(),
     };
     make_with(alloc, host, own, files, out, consumers)
-}
-
-/// The value of a block: the validator's number as four bytes, and its round as eight.
-fn value_at(alloc: Global, config: &Config, me: u32, now: u64) -> Result<Bytes, OutOfMemory>
-    requires lawful { config_fault config.now ≡ None }
-    requires now { now < 2 ^ 63 }
-    ensures value { IfOk result (λ value. value ≡ value_at (setting_of config.now) me now) }
-    ensures short { IfOk result (λ value. length value ≤ 4096) }
-{
-    let round = round_id(now, config.min_exponent);
-    let mut value = Vec::from_slice(alloc, &me.to_be_bytes())?;
-    value.extend_from_slice(&round.to_be_bytes())?;
-    Ok(Bytes::from_vec(value))
 }
 
 /// Makes the unit that the validator may make of this, and tells of it.

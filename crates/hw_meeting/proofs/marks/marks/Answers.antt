@@ -2,17 +2,12 @@ use Rattle.std.proofs.Common.{◌≡◌, ◌∷◌, [], ◌++◌, ◌+◌, List,
 use Rattle.std.proofs.lemmas.List.{take_at}
 use Rattle.hw_types.specs.declared.config.Config.{Config}
 use Rattle.hw_types.specs.Graph.{Node}
-use Rattle.hw_types.specs.Limits.{config_fault}
 use Rattle.hw_types.specs.Real.{setting_of}
 use Rattle.hw_types.specs.laws.StateLaws.{units_in}
-use Rattle.hw_core.proofs.StartLaws.{config_fits}
 use Rattle.hw_meeting.specs.Lanes.{AreMarks}
 use Rattle.hw_meeting.specs.declared.mark.Mark.{Mark}
 use Rattle.hw_meeting.proofs.LocalLaws.{units_more}
 use Rattle.hw_meeting.proofs.marks.marks.Goals as goal
-
-pub instance_of-requires : goal.instance_of-requires
-instance_of-requires c = config_fits c.config-config.result.now (ap config_fault c.config-config.ensures.config ∙ c.config-config.ensures.lawful)
 
 pub loop-place-preserved : goal.loop-place-preserved
 loop-place-preserved c =

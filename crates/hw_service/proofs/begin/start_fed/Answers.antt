@@ -16,7 +16,7 @@ pub returns-in-Ok-false-clause-room : goal.returns-in-Ok-false-clause-room
 returns-in-Ok-false-clause-room g c = room_for _ _ c.requires.none
 
 pub returns-in-Err-clause-log : goal.returns-in-Err-clause-log
-returns-in-Err-clause-log g c = λ tells. writes_not c.args.config c.args.log.now _ _ _ c.fault_of_look.result c.in-Err.ensures.files
+returns-in-Err-clause-log g c = λ tells. writes_not c.args.config c.args.log.now _ _ _ c.fault_of_read.result c.in-Err.ensures.files
 
 pub returns-in-Err-clause-room : goal.returns-in-Err-clause-room
 returns-in-Err-clause-room g c = room_for _ _ c.requires.none
