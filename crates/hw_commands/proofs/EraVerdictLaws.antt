@@ -80,8 +80,8 @@ module _ (l r : CoreState) (ls rs : List CoreState) (same : l.config ≡ r.confi
   with_first (verdict.Clash a b) is first behind = at_once (verdict.Clash a b) is first tt
 
 found_from : (p q : Option Config) (ls rs : List CoreState) → AreErasFrom p ls → AreErasFrom q rs → ((a b : Config) → p ≡ Some a → q ≡ Some b → a ≡ b) → Found ls rs
-found_from p q [] rs left right one = (let none : 0 ≡ min (length []) (length rs) = omega arith in (eras.Agree 0, subst (λ (n : ℕ). AreAgreed [] rs n 0) none refl))
-found_from p q (l ∷ ls) [] left right one = (let none : 0 ≡ min (length (l ∷ ls)) (length []) = omega arith in (eras.Agree 0, subst (λ (n : ℕ). AreAgreed (l ∷ ls) [] n 0) none refl))
+found_from p q [] rs left right one = (let none : 0 ≡ min 0 (length rs) = omega arith in (eras.Agree 0, subst (λ (n : ℕ). AreAgreed [] rs n 0) none refl))
+found_from p q (l ∷ ls) [] left right one = (let none : 0 ≡ min (length (l ∷ ls)) 0 = omega arith in (eras.Agree 0, subst (λ (n : ℕ). AreAgreed (l ∷ ls) [] n 0) none refl))
 found_from p q (l ∷ ls) (r ∷ rs) left right one =
     let same = one l.config r.config left.0 right.0 in
     let here = verdict_is_there (setting_of l.config) l.journal r.journal (decided_in l) (decided_in r) in
@@ -92,9 +92,7 @@ telling : (ls rs : List CoreState) (v : EraVerdict) → IsVerdictByEras ls rs v 
 telling ls rs (eras.Agree common) by = (agreed common, refl)
 telling ls rs (eras.At era v) by = (
     in_era era (record { status = status_of v; text = audit_text by.first.config.ftt v }),
-    by.first.config.ftt,
-    ap (option_map (λ (c : CoreState). c.config.ftt)) by.first_is,
-    refl,
+    (by.first.config.ftt, ap (option_map (λ (c : CoreState). c.config.ftt)) by.first_is, refl),
   )
 
 pub era_verdict_is_there : EraVerdictIsThere
