@@ -38,20 +38,20 @@ module _ (l r : CoreState) (ls rs : List CoreState) (same : l.config ≡ r.confi
   -- it differs
   at_once : (v : Verdict) → IsVerdictOn l r v → ShowsFirstClash (setting_of l.config) l.journal r.journal v → IsNoAgreement v → Found (l ∷ ls) (r ∷ rs)
   at_once v is first other = (
-      eras.At 0 v,
-      record {
-        before = 0;
-        agreed = refl;
-        first = l;
-        first_is = refl;
-        second = r;
-        second_is = refl;
-        one_config = same;
-        is_verdict = is;
-        shows_first = first;
-        other = other;
-      },
-    )
+    eras.At 0 v,
+    record {
+      before = 0;
+      agreed = refl;
+      first = l;
+      first_is = refl;
+      second = r;
+      second_is = refl;
+      one_config = same;
+      is_verdict = is;
+      shows_first = first;
+      other = other;
+    },
+  )
 
   -- it agrees
   one_more : (here : ℕ) → IsVerdictOn l r (verdict.Agree here) → (w : EraVerdict) → IsVerdictByEras ls rs w → Found (l ∷ ls) (r ∷ rs)
@@ -59,20 +59,20 @@ module _ (l r : CoreState) (ls rs : List CoreState) (same : l.config ≡ r.confi
       let count : suc (min (length ls) (length rs)) ≡ min (length (l ∷ ls)) (length (r ∷ rs)) = omega arith in
       (eras.Agree (here + later), subst (λ (n : ℕ). AreAgreed (l ∷ ls) (r ∷ rs) n (here + later)) count (here, later, same, is, by, refl))
   one_more here is (eras.At era v) by = (
-      eras.At (suc era) v,
-      record {
-        before = here + by.before;
-        agreed = (here, by.before, same, is, by.agreed, refl);
-        first = by.first;
-        first_is = by.first_is;
-        second = by.second;
-        second_is = by.second_is;
-        one_config = by.one_config;
-        is_verdict = by.is_verdict;
-        shows_first = by.shows_first;
-        other = by.other;
-      },
-    )
+    eras.At (suc era) v,
+    record {
+      before = here + by.before;
+      agreed = (here, by.before, same, is, by.agreed, refl);
+      first = by.first;
+      first_is = by.first_is;
+      second = by.second;
+      second_is = by.second_is;
+      one_config = by.one_config;
+      is_verdict = by.is_verdict;
+      shows_first = by.shows_first;
+      other = by.other;
+    },
+  )
 
   with_first : (v : Verdict) → IsVerdictOn l r v → ShowsFirstClash (setting_of l.config) l.journal r.journal v → ((here : ℕ) → IsVerdictOn l r (verdict.Agree here) → Found ls rs) → Found (l ∷ ls) (r ∷ rs)
   with_first (verdict.Agree here) is first behind = (let rest = behind here is in one_more here is rest.0 rest.1)
@@ -91,9 +91,9 @@ found_from p q (l ∷ ls) (r ∷ rs) left right one =
 telling : (ls rs : List CoreState) (v : EraVerdict) → IsVerdictByEras ls rs v → (told : EraAudit) × TellsVerdict ls v told
 telling ls rs (eras.Agree common) by = (agreed common, refl)
 telling ls rs (eras.At era v) by = (
-    in_era era (record { status = status_of v; text = audit_text by.first.config.ftt v }),
-    (by.first.config.ftt, ap (option_map (λ (c : CoreState). c.config.ftt)) by.first_is, refl),
-  )
+  in_era era (record { status = status_of v; text = audit_text by.first.config.ftt v }),
+  (by.first.config.ftt, ap (option_map (λ (c : CoreState). c.config.ftt)) by.first_is, refl),
+)
 
 pub era_verdict_is_there : EraVerdictIsThere
 era_verdict_is_there left right left_are right_are same =
