@@ -21,6 +21,7 @@ pub mod CertifyLaws
 pub mod AgainstLaws
 pub mod ShownLaws
 pub mod EraLaws
+pub mod EraVerdictLaws
 pub mod CheckRunLaws
 pub mod EndLaws
 pub mod WrittenLaws

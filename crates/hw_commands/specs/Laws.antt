@@ -5,19 +5,26 @@ use Rattle.hw_types.specs.declared.unit.Vertex.{Vertex}
 use Rattle.hw_types.specs.declared.answers.Decision.{Decision}
 use Rattle.hw_types.specs.Journal.{Setting}
 use Rattle.hw_types.specs.Decisions.{AreDecisions}
-use Rattle.hw_types.specs.Real.{setting_of}
+use Rattle.hw_types.specs.Real.{CoreState, setting_of}
 use Rattle.hw_safety.specs.Chain.{Begins}
 use Rattle.hw_safety.specs.Decided.{decisions_of}
 use Rattle.hw_safety.specs.declared.verdict.Verdict.{Verdict}
 use Rattle.hw_safety.specs.Verdicts.{journals_clash, chain_of, IsVerdict}
 use Rattle.hw_audit.specs.First.{ShowsFirstClash}
 use Rattle.hw_replay.specs.Taken.{Taken}
+use Rattle.hw_eras.specs.declared.verdict.EraVerdict.{EraVerdict}
+use Rattle.hw_eras.specs.declared.audits.EraAudit.{EraAudit}
+use Rattle.hw_eras.specs.Nodes.{first_config, AreNodeEras}
+use Rattle.hw_eras.specs.Logs.{eras_of, nodes_of}
+use Rattle.hw_eras.specs.EraAudit.{IsVerdictByEras}
+use Rattle.hw_eras.specs.Audits.{TellsVerdict}
 use Rattle.hw_light.specs.declared.certificate.Certificate.{Certificate}
 use Rattle.hw_commands.specs.Commands.{Word, Audit, Certify, Check, request_of}
 use Rattle.hw_log.specs.Migrated.{HoldsAnew}
 use Rattle.hw_commands.specs.Shown.{IsShown, CanBeChecked, CanBeReplayed}
 use Rattle.hw_commands.specs.Audited.{verdict_ended}
-use Rattle.hw_commands.specs.Program.{Held, done, log_replayed, replay_said, explain_said, audit_said, run_of}
+use Rattle.hw_commands.specs.Eras.{era_audit_ended}
+use Rattle.hw_commands.specs.Program.{Held, done, log_replayed, replay_said, explain_said, audit_said, era_audit_said, run_of}
 
 -- Where two logs of one configuration report conflicting final blocks, neither chain beginning the other, and no two units clash, the run of their audit says so.
 abbrev pub ConflictIsTold : Type 0
@@ -40,6 +47,18 @@ AuditIsTheVerdict = (held : Held) (left right : Word) (first second : Taken) (dl
 -- There is such a verdict on any two journals.
 abbrev pub VerdictIsThere : Type 0
 VerdictIsThere = (s : Setting) (left right : List Vertex) (dl dr : List Decision) → (v : Verdict) × IsVerdict s left right dl dr v × ShowsFirstClash s left right v
+
+-- An audit of eras whose logs can be replayed ends by the verdict, era by era, on the nodes that they leave.
+abbrev pub EraAuditIsTheVerdict : Type 0
+EraAuditIsTheVerdict = (held : Held) (left right : List Word) (ls rs : List Taken) (v : EraVerdict) (told : EraAudit)
+    → eras_of held None left ≡ Ok ls → eras_of held (first_config (nodes_of ls)) right ≡ Ok rs
+    → IsVerdictByEras (nodes_of ls) (nodes_of rs) v → TellsVerdict (nodes_of ls) v told
+    → era_audit_said held left right ≡ Ok (era_audit_ended (Ok told))
+
+-- There is such a verdict, and what tells it, on the eras of any two nodes that begin with one configuration.
+abbrev pub EraVerdictIsThere : Type 0
+EraVerdictIsThere = (left right : List CoreState) → AreNodeEras left → AreNodeEras right → first_config left ≡ first_config right
+    → (v : EraVerdict) × (told : EraAudit) × IsVerdictByEras left right v × TellsVerdict left v told
 
 -- Of a log that was written anew in version 2, the report on the new one is the report on the old one, and what is told of each decided block too.
 abbrev pub ReadsTheSame : Type 0

@@ -1,12 +1,19 @@
 //! What follows of a run.
 
-ghost use Rattle.hw_commands.specs.Laws.{AuditIsTheVerdict, VerdictIsThere, ConflictIsTold, ReadsTheSame, LogIsAnswered, CheckIsAnswered};
+ghost use Rattle.hw_commands.specs.Laws.{AuditIsTheVerdict, VerdictIsThere, EraAuditIsTheVerdict, EraVerdictIsThere, ConflictIsTold, ReadsTheSame, LogIsAnswered, CheckIsAnswered};
 
 /// An audit of two logs that can be replayed tells the verdict on what their nodes accepted, with any decided blocks
 /// that the definition allows. There is one on any two journals.
 pub fn an_audit_tells_the_verdict()
     ensures tells { AuditIsTheVerdict }
     ensures there { VerdictIsThere }
+{}
+
+/// An audit of eras whose logs can be replayed tells the verdict on the nodes that they leave, era by era. There is
+/// one on the eras of any two nodes that begin with one configuration.
+pub fn an_era_audit_tells_the_verdict()
+    ensures tells { EraAuditIsTheVerdict }
+    ensures there { EraVerdictIsThere }
 {}
 
 /// Where two logs report conflicting final blocks, and no two of their units clash, the status is that of a

@@ -37,7 +37,7 @@ pub use ended::{
 pub use faults::{bad_keys, clash, input, input_end, stopped, usage};
 pub use laws::{
     a_conflict_is_told, a_migrated_log_reads_the_same, an_audit_tells_the_verdict,
-    certificates_are_answered,
+    an_era_audit_tells_the_verdict, certificates_are_answered,
 };
 pub use words::Words;
 pub use working::{APPEND_FAULT_LINE, READ_FAULT_LINE, finish, out_of_memory, work};

@@ -114,22 +114,20 @@ signed_at [] n c are e = absurd cc
 signed_at (k ∷ ks) zero c are e = (let same : k ≡ c = cc in subst IsSignedNode same are.0)
 signed_at (k ∷ ks) (suc n) c are e = signed_at ks n c are.1 e
 
-pub audit_told : (ls rs : List CoreState) (e : EraAudit) → AreSignedNodes ls → AreSignedNodes rs → IsAudit ls rs e → e ≡ eras_audited 0 0 ls rs
-audit_told ls rs e left right a = go a.said a.by_eras a.told
-  where
-    go : (v : EraVerdict) → IsVerdictByEras ls rs v → TellsVerdict ls v e → e ≡ eras_audited 0 0 ls rs
-    go (eras.Agree common) is told =
-        let sum : 0 + common ≡ common = omega arith in
-        told ∙ sym (agreed_all (min (length ls) (length rs)) ls rs 0 0 common is refl ∙ ap agreed sum)
-    go (eras.At era v) is told =
-        let c = is.first in
-        let d = is.second in
-        let at : 0 + era ≡ era = omega arith in
-        let signed = both_signed c d (signed_at ls era c left is.first_is) (signed_at rs era d right is.second_is) in
-        let said = differs c.config c.journal d.journal signed v (over_one c d is.one_config v is.is_verdict) is.shows_first is.other in
-        let ftt : told.0 ≡ c.config.ftt = (let one : Some told.0 ≡ Some c.config.ftt = sym told.1 ∙ ap (option_map (λ (k : CoreState). k.config.ftt)) is.first_is in cc) in
-        told.2 ∙ ap (λ (n : ℕ). in_era era (record { status = status_of v; text = audit_text n v })) ftt
-        ∙ sym (differ_at era ls rs 0 0 is.before is.agreed c d is.first_is is.second_is (record { status = status_of v; text = audit_text c.config.ftt v }) said ∙ ap (λ (m : ℕ). in_era m (record { status = status_of v; text = audit_text c.config.ftt v })) at)
+-- what tells the verdict by eras is what the definitions give
+pub told_by_eras : (ls rs : List CoreState) (v : EraVerdict) (e : EraAudit) → AreSignedNodes ls → AreSignedNodes rs → IsVerdictByEras ls rs v → TellsVerdict ls v e → e ≡ eras_audited 0 0 ls rs
+told_by_eras ls rs (eras.Agree common) e left right is told =
+    let sum : 0 + common ≡ common = omega arith in
+    told ∙ sym (agreed_all (min (length ls) (length rs)) ls rs 0 0 common is refl ∙ ap agreed sum)
+told_by_eras ls rs (eras.At era v) e left right is told =
+    let c = is.first in
+    let d = is.second in
+    let at : 0 + era ≡ era = omega arith in
+    let signed = both_signed c d (signed_at ls era c left is.first_is) (signed_at rs era d right is.second_is) in
+    let said = differs c.config c.journal d.journal signed v (over_one c d is.one_config v is.is_verdict) is.shows_first is.other in
+    let ftt : told.0 ≡ c.config.ftt = (let one : Some told.0 ≡ Some c.config.ftt = sym told.1 ∙ ap (option_map (λ (k : CoreState). k.config.ftt)) is.first_is in cc) in
+    told.2 ∙ ap (λ (n : ℕ). in_era era (record { status = status_of v; text = audit_text n v })) ftt
+    ∙ sym (differ_at era ls rs 0 0 is.before is.agreed c d is.first_is is.second_is (record { status = status_of v; text = audit_text c.config.ftt v }) said ∙ ap (λ (m : ℕ). in_era m (record { status = status_of v; text = audit_text c.config.ftt v })) at)
 
 -- what was told is the audit
 pub audit_tells : {E : Type 0} (left right : List CoreState) (r : Result EraAudit E) (v w : EraVerdict) → v ≡ w → AreNodeEras left → AreNodeEras right → IsVerdictOnEras left right v → IsVerdictByEras left right v → IsAccounted left right v
