@@ -16,6 +16,7 @@ pub mod SentLaws
 pub mod StartLaws
 pub mod AttemptLaws
 pub mod SaidLaws
+pub mod WroteLaws
 pub mod PlanLaws
 pub mod QuietLaws
 pub mod GivenLaws

@@ -14,6 +14,7 @@ use Rattle.hw_honest.specs.Restart.{Logged, Event, take as arrives, life_of, May
 use Rattle.hw_link.specs.declared.end.SessionEnd.{SessionEnd}
 use Rattle.hw_link.specs.declared.end.SessionEnd.TheVariants as end
 use Rattle.hw_link.specs.Frames.{Placed, frames_of}
+use Rattle.hw_link.specs.Talk.{said_bytes, IsPrefixOf}
 use Rattle.hw_session.specs.declared.stage.PeerMark.{PeerMark}
 use Rattle.hw_session.specs.declared.fault.MakeFault.{MakeFault}
 use Rattle.hw_session.specs.declared.fault.AcceptFault.{AcceptFault}
@@ -223,6 +224,31 @@ ServesSaysOfLog = (n m : NodeState) (read written : List ℕ) (tells : Bool) (he
 abbrev pub DrivesSaysOfLog : Type 0
 DrivesSaysOfLog = (n m : NodeState) (mark now : PeerMark) (read written : List ℕ) (tells : Bool) (held_old held_new : List ℕ → Option (List ℕ)) (ends_old ends_new : ℕ) (e : SessionEnd)
     → Drives tells (driver_standing n mark held_old) read written (driver_standing m now held_new) ends_old ends_new e → IsLogged e → SaysOfLog (logged_of m) (driven n mark read).said
+
+-- The node is this one, and the file holds its log. Or it took one vertex more, of whose entry a first part stands behind that log.
+abbrev pub StandsWith : NodeState → NodeState → Option (List ℕ) → Type 0
+StandsWith logged m file = ((m ≡ logged) × HasLog logged file) ⊎ ((v : Vertex) × (m ≡ with_vertex logged v) × HasCutLog logged v file)
+
+-- What a session wrote is a first part of what is said in it to the first of the bytes that were read. Each vertex of that is of the log of the node
+-- that those bytes leave.
+pub record WroteOfLog (node : List ℕ → NodeState) (said : List ℕ → List (List Frame)) (read written : List ℕ) : Type 0 where
+  pub first : List ℕ
+  pub part : List ℕ
+  pub split : read ≡ first ++ part
+  pub wrote : IsPrefixOf written (said_bytes (said first))
+  pub of_log : SaysOfLog (logged_of (node first)) (said first)
+
+-- However a session ends, what it wrote is of the log that stands in the file behind it, where the node serves,
+abbrev pub ServesWritesOfLog : Type 0
+ServesWritesOfLog = (n m : NodeState) (read written : List ℕ) (tells : Bool) (held_old held_new : List ℕ → Option (List ℕ)) (ends_old ends_new : ℕ) (e : SessionEnd)
+    → Serves tells (standing n held_old) read written (standing m held_new) ends_old ends_new e
+    → (w : WroteOfLog (λ bytes. (served n bytes).state) (λ bytes. (served n bytes).said) read written) × (IsTrue tells → HasLog n (held_old n.log) → StandsWith (served n w.first).state m (held_new m.log))
+
+-- and where it drives.
+abbrev pub DrivesWritesOfLog : Type 0
+DrivesWritesOfLog = (n m : NodeState) (mark now : PeerMark) (read written : List ℕ) (tells : Bool) (held_old held_new : List ℕ → Option (List ℕ)) (ends_old ends_new : ℕ) (e : SessionEnd)
+    → Drives tells (driver_standing n mark held_old) read written (driver_standing m now held_new) ends_old ends_new e
+    → (w : WroteOfLog (λ bytes. (driven n mark bytes).state.node) (λ bytes. (driven n mark bytes).said) read written) × (IsTrue tells → HasLog n (held_old n.log) → StandsWith (driven n mark w.first).state.node m (held_new m.log))
 
 -- each vertex that was said in a meeting may go out
 abbrev pub MetSaysOf : Logged → List MeetingFrame → Type 0

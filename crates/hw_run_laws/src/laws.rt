@@ -6,7 +6,7 @@ ghost use Rattle.hw_run_laws.specs.Complete.{ServesAreComplete, DrivesAreComplet
 ghost use Rattle.hw_run_laws.specs.CutMembers.{ReplaysAreFed, ReplaysStop, RunsAreCut};
 ghost use Rattle.hw_run_laws.specs.MeetMembers.{MeetingsAreThere, OneMeets};
 ghost use Rattle.hw_run_laws.specs.Members.{NewNodesAreReady, OneBegins, LivesAreThere, WholeSessionsAreThere, WholeDrivesAreThere, NothingDisturbs, VerticesAreSaid, VerticesAreTaken, TornLogsAreThere, TornAcceptsAreThere};
-ghost use Rattle.hw_run_laws.specs.Restart.{ServedIsALife, DrivenIsALife, MetIsALife, ServesIsALife, DrivesIsALife, MeetsIsALife, AcceptsIsALife, ServesKeepsLog, DrivesKeepsLog, MeetsKeepsLog, AcceptsKeepsLog, ServesLeavesLog, DrivesLeavesLog, MeetsLeavesLog, AcceptsLeavesLog, MakeLeavesLog, ServedSaysOfLog, DrivenSaysOfLog, MetSaysOfLog, ServesSaysOfLog, DrivesSaysOfLog, MeetsSaysOfLog};
+ghost use Rattle.hw_run_laws.specs.Restart.{ServedIsALife, DrivenIsALife, MetIsALife, ServesIsALife, DrivesIsALife, MeetsIsALife, AcceptsIsALife, ServesKeepsLog, DrivesKeepsLog, MeetsKeepsLog, AcceptsKeepsLog, ServesLeavesLog, DrivesLeavesLog, MeetsLeavesLog, AcceptsLeavesLog, MakeLeavesLog, ServedSaysOfLog, DrivenSaysOfLog, MetSaysOfLog, ServesSaysOfLog, DrivesSaysOfLog, ServesWritesOfLog, DrivesWritesOfLog, MeetsSaysOfLog};
 ghost use Rattle.hw_run_laws.specs.Prefixes.{StoppedReplays, StoppedParts, CutServices, CutTurns, CutHosts, CutCalls};
 
 /// Consumers that had taken nothing, and are left where a replay or a run stops, have taken the first blocks of the
@@ -49,13 +49,16 @@ pub fn sessions_keep_the_log()
 {}
 
 /// What goes out of a node in a session is of its log: a vertex that stands there, or evidence of two units that do.
-/// What goes out in a meeting stood there before it.
+/// That is so of each byte that was written, however the session ends, and also by a failed append or for want of
+/// memory. What goes out in a meeting stood there before it.
 pub fn sessions_say_what_is_logged()
     ensures served { ServedSaysOfLog }
     ensures driven { DrivenSaysOfLog }
     ensures met { MetSaysOfLog }
     ensures serves { ServesSaysOfLog }
     ensures drives { DrivesSaysOfLog }
+    ensures serves_writes { ServesWritesOfLog }
+    ensures drives_writes { DrivesWritesOfLog }
     ensures meets { MeetsSaysOfLog }
 {}
 
