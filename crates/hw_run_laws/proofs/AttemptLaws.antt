@@ -24,13 +24,15 @@ use Rattle.hw_session.specs.Make.{planned_by, own_vertex, with_vertex, with_entr
 use Rattle.hw_session.specs.Restart.{HasLog, logged_of}
 use Rattle.hw_session.specs.Standing.{Standing}
 use Rattle.hw_session.proofs.LineLaws.{make_is_an_event}
-use Rattle.hw_run_laws.specs.Restart.{arrivals, vertices_sent, vertices_told, TakesSome, HasCutLog, LeavesLog}
+use Rattle.hw_service.specs.Meets.{vertices_of}
+use Rattle.hw_run_laws.specs.Restart.{arrivals, TakesSome, HasCutLog, LeavesLog}
+use Rattle.hw_run_laws.specs.Taken.{taken_served, taken_driven}
 use Rattle.hw_run_laws.specs.Calls.{IsSound, at_door, Attempt, makes, accepts, serves, drives, meets, IsReady, AttemptsKeepOneLine}
 use Rattle.hw_run_laws.proofs.LifeLaws.{life_both}
 use Rattle.hw_run_laws.proofs.StartLaws.{reached}
-use Rattle.hw_run_laws.proofs.CutLaws.{serves_leave, drives_leave, make_leaves}
+use Rattle.hw_run_laws.proofs.CutLaws.{serves_leave_taken, drives_leave_taken, make_leaves}
 use Rattle.hw_run_laws.proofs.HandedLaws.{accepts_leave}
-use Rattle.hw_run_laws.proofs.MeetLaws.{meets_leave}
+use Rattle.hw_run_laws.proofs.MeetLaws.{leaves_met}
 
 -- ---- fair lives
 
@@ -202,11 +204,11 @@ module _ (me : ℕ) (a b : Standing) (sound : IsSound a.node) (validator : me < 
   ]
   attempt_leaves (accepts v result does wrote fair) = fair_leaves me a.node b.node (v ∷ []) (b.held b.node.log) fair (accepts_leave a.node b.node v result a.held b.held does wrote ready.log)
   attempt_leaves (serves read written ends_old ends_new e does fair) =
-      fair_leaves me a.node b.node (vertices_sent read) (b.held b.node.log) fair (serves_leave a.node b.node read written true a.held b.held ends_old ends_new e does refl ready.log)
+      fair_leaves me a.node b.node (taken_served a.node read) (b.held b.node.log) fair (serves_leave_taken a.node b.node read written true a.held b.held ends_old ends_new e does refl ready.log)
   attempt_leaves (drives mark now read written ends_old ends_new e does fair) =
-      fair_leaves me a.node b.node (vertices_sent read) (b.held b.node.log) fair (drives_leave a.node b.node mark now read written true a.held b.held ends_old ends_new e does refl ready.log)
+      fair_leaves me a.node b.node (taken_driven a.node mark read) (b.held b.node.log) fair (drives_leave_taken a.node b.node mark now read written true a.held b.held ends_old ends_new e does refl ready.log)
   attempt_leaves (meets side address from to e does fair) =
-      fair_leaves me a.node b.node (vertices_told a.node does.meets.read) (b.held b.node.log) fair (meets_leave side address true (at_door a from) (at_door b to) e does refl ready.log)
+      fair_leaves me a.node b.node (vertices_of side a.node does.meets.read) (b.held b.node.log) fair (leaves_met side address true (at_door a from) (at_door b to) e does refl ready.log)
 
 pub attempts_keep : AttemptsKeepOneLine
 attempts_keep me a b validator sound ready attempt = go (attempt_leaves me a b sound validator ready attempt)

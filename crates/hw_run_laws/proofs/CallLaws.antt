@@ -16,12 +16,13 @@ use Rattle.hw_session.specs.Restart.{HasLog, logged_of}
 use Rattle.hw_session.specs.Start.{GoesOn}
 use Rattle.hw_session.specs.Standing.{Standing}
 use Rattle.hw_run_laws.specs.Calls.{IsSound, at_door, Attempt, makes, accepts, serves, drives, meets, IsWhole, StartsAgain, Call, goes_on, starts, gives_up, AreCalls, IsReady, CallsKeepOneLine, CallsKeepApart}
-use Rattle.hw_run_laws.specs.Restart.{vertices_sent, vertices_told}
-use Rattle.hw_run_laws.proofs.LifeLaws.{serves_life}
+use Rattle.hw_service.specs.Meets.{vertices_of}
+use Rattle.hw_run_laws.specs.Taken.{taken_served, taken_driven}
+use Rattle.hw_run_laws.proofs.LifeLaws.{serves_takes}
 use Rattle.hw_run_laws.proofs.KeepLaws.{serves_keep, drives_keep}
-use Rattle.hw_run_laws.proofs.DriverLaws.{drives_life}
+use Rattle.hw_run_laws.proofs.DriverLaws.{drives_takes}
 use Rattle.hw_run_laws.proofs.HandedLaws.{accepts_life, accepts_keep}
-use Rattle.hw_run_laws.proofs.MeetLaws.{meets_life, meets_keep}
+use Rattle.hw_run_laws.proofs.MeetLaws.{takes_met, meets_keep}
 use Rattle.hw_run_laws.proofs.OutLaws.{Grows, goes_later}
 use Rattle.hw_run_laws.proofs.StartLaws.{each_fits, start_lives, start_keeps, from_log}
 use Rattle.hw_run_laws.proofs.MendLaws.{sound_mends, cut_mended}
@@ -107,15 +108,15 @@ module _ (me : ℕ) (a b : Standing) (sound : IsSound a.node) (validator : me < 
     log = accepts_keep a.node b.node v result a.held b.held does wrote judged ready.log;
   }
   goes (serves read written ends_old ends_new e does fair) logged = record {
-    lives = takes_fairly me a.node b.node (vertices_sent read) fair (serves_life a.node b.node read written true a.held b.held ends_old ends_new e does logged);
+    lives = takes_fairly me a.node b.node (taken_served a.node read) fair (serves_takes a.node b.node read written true a.held b.held ends_old ends_new e does logged);
     log = serves_keep a.node b.node read written true a.held b.held ends_old ends_new e does logged refl ready.log;
   }
   goes (drives mark now read written ends_old ends_new e does fair) logged = record {
-    lives = takes_fairly me a.node b.node (vertices_sent read) fair (drives_life a.node b.node mark now read written true a.held b.held ends_old ends_new e does logged);
+    lives = takes_fairly me a.node b.node (taken_driven a.node mark read) fair (drives_takes a.node b.node mark now read written true a.held b.held ends_old ends_new e does logged);
     log = drives_keep a.node b.node mark now read written true a.held b.held ends_old ends_new e does logged refl ready.log;
   }
   goes (meets side address from to e does fair) logged = record {
-    lives = takes_fairly me a.node b.node (vertices_told a.node does.meets.read) fair (meets_life side address true (at_door a from) (at_door b to) e does logged);
+    lives = takes_fairly me a.node b.node (vertices_of side a.node does.meets.read) fair (takes_met side address true (at_door a from) (at_door b to) e does logged);
     log = meets_keep side address true (at_door a from) (at_door b to) e does logged refl ready.log;
   }
 

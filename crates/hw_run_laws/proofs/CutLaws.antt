@@ -20,10 +20,10 @@ use Rattle.hw_session.specs.Make.{planned_by, own_vertex, entry_for, with_vertex
 use Rattle.hw_session.specs.Accept.{IsTakenIn}
 use Rattle.hw_session.specs.Restart.{journal_log, journal_lasts, HasLog}
 use Rattle.hw_session.specs.Grows.{entries_for, Logs, LogsAllBut}
-use Rattle.hw_session.specs.Serving.{served}
-use Rattle.hw_session.specs.Sessions.{StandsBefore, StandsCut, Leaves}
-use Rattle.hw_session.specs.Driving.{driven}
-use Rattle.hw_session.specs.Drives.{StandsDriven, StandsDrivenCut, LeavesDriven}
+use Rattle.hw_session.specs.Serving.{serve_step, served}
+use Rattle.hw_session.specs.Sessions.{StandsBefore, StandsCut, Leaves, Serves}
+use Rattle.hw_session.specs.Driving.{greeting, drive_step, driven}
+use Rattle.hw_session.specs.Drives.{StandsDriven, StandsDrivenCut, LeavesDriven, Drives}
 use Rattle.hw_session.specs.Standing.{standing, driver_standing}
 use Rattle.hw_session.proofs.ConfigLaws.{driven_config}
 use Rattle.hw_session.proofs.MakeLaws.{own_accepted}
@@ -31,10 +31,11 @@ use Rattle.hw_session.proofs.RestartLaws.{make_keeps_log}
 use Rattle.hw_service.proofs.GrowLaws.{served_config}
 use Rattle.hw_run_laws.specs.Calls.{IsMade}
 use Rattle.hw_run_laws.specs.Restart.{vertices_sent, TakesSome, HasCutLog, LeavesLog, ServesLeavesLog, DrivesLeavesLog, MakeLeavesLog}
-use Rattle.hw_run_laws.proofs.LifeLaws.{served_life}
-use Rattle.hw_run_laws.proofs.DriverLaws.{driven_life}
+use Rattle.hw_run_laws.specs.Taken.{taken_served, taken_driven}
+use Rattle.hw_run_laws.proofs.LifeLaws.{served_these, served_takes}
+use Rattle.hw_run_laws.proofs.DriverLaws.{driven_these, driven_takes}
 use Rattle.hw_run_laws.proofs.KeepLaws.{file_is, file_grew, gained_log, logs_keep}
-use Rattle.hw_run_laws.proofs.SentLaws.{first_takes}
+use Rattle.hw_run_laws.proofs.TakingLaws.{taken_before, takes_more, leaves_more}
 
 -- ---- logs
 
@@ -67,16 +68,20 @@ module _ (n : NodeState) (tells : Bool) (old new : List ℕ → Option (List ℕ
 
 module _ (n m : NodeState) (read written : List ℕ) (few : length read ≤ byte_limit) (tells : Bool) (old new : List ℕ → Option (List ℕ)) (told : IsTrue tells) (has : HasLog n (old n.log)) where
   abbrev LeftServed : Type 0
-  LeftServed = LeavesLog n (vertices_sent read) m (new m.log)
+  LeftServed = LeavesLog n (taken_served n read) m (new m.log)
+
+  -- what is taken of the first bytes comes first
+  served_on : (k : NodeState) (first part : List ℕ) → read ≡ first ++ part → TakesSome n (taken_served n first) k → TakesSome n (taken_served n read) k
+  served_on k first part split = takes_more n k (taken_served n first) (taken_served n read) (taken_before serve_step n read first part split few)
 
   served_whole : (m ≡ (served n read).state) × Logs n m tells old new → LeftServed
   served_whole (is, logs) =
-      inl (subst (λ (k : NodeState). TakesSome n (vertices_sent read) k) (sym is) (served_life n read), stands n tells old new told has m (ap (λ (k : NodeState). k.core.config) is ∙ served_config n read) logs)
+      inl (subst (λ (k : NodeState). TakesSome n (taken_served n read) k) (sym is) (served_takes n read), stands n tells old new told has m (ap (λ (k : NodeState). k.core.config) is ∙ served_config n read) logs)
 
   served_before : StandsBefore tells (standing n old) read written (standing m new) → LeftServed
   served_before s =
       inl (
-        first_takes n m read s.first s.part s.split few (subst (λ (k : NodeState). TakesSome n (vertices_sent s.first) k) (sym s.state) (served_life n s.first)),
+        served_on m s.first s.part s.split (subst (λ (k : NodeState). TakesSome n (taken_served n s.first) k) (sym s.state) (served_takes n s.first)),
         stands n tells old new told has m (ap (λ (k : NodeState). k.core.config) s.state ∙ served_config n s.first) s.logs,
       )
 
@@ -86,8 +91,8 @@ module _ (n m : NodeState) (read written : List ℕ) (few : length read ≤ byte
       inr (record {
         before = before;
         vertex = s.vertex;
-        takes = first_takes n before read s.first s.part s.split few (served_life n s.first);
-        whole = subst (λ (k : NodeState). TakesSome n (vertices_sent read) k) s.whole (served_life n read);
+        takes = served_on before s.first s.part s.split (served_takes n s.first);
+        whole = subst (λ (k : NodeState). TakesSome n (taken_served n read) k) s.whole (served_takes n read);
         unlogged = s.logs.unlogged.1;
         log = cut n tells old new told has before m s.vertex (served_config n s.first) s.logs;
       })
@@ -104,23 +109,31 @@ module _ (n m : NodeState) (read written : List ℕ) (few : length read ≤ byte
   served_leaves end.OutOfMemory (inl s) = served_before s
   served_leaves end.OutOfMemory (inr s) = served_cut s
 
+pub serves_leave_taken : (n m : NodeState) (read written : List ℕ) (tells : Bool) (held_old held_new : List ℕ → Option (List ℕ)) (ends_old ends_new : ℕ) (e : SessionEnd)
+    → Serves tells (standing n held_old) read written (standing m held_new) ends_old ends_new e → IsTrue tells → HasLog n (held_old n.log) → LeavesLog n (taken_served n read) m (held_new m.log)
+serves_leave_taken n m read written tells held_old held_new ends_old ends_new e s told has = served_leaves n m read written s.within tells held_old held_new told has e s.left
+
 pub serves_leave : ServesLeavesLog
-serves_leave n m read written tells held_old held_new ends_old ends_new e s told has = served_leaves n m read written s.within tells held_old held_new told has e s.left
+serves_leave n m read written tells held_old held_new ends_old ends_new e s told has =
+    leaves_more n m (taken_served n read) (vertices_sent read) (held_new m.log) (served_these n read).1 (serves_leave_taken n m read written tells held_old held_new ends_old ends_new e s told has)
 
 -- ---- driving
 
 module _ (n m : NodeState) (mark now : PeerMark) (read written : List ℕ) (few : length read ≤ byte_limit) (tells : Bool) (old new : List ℕ → Option (List ℕ)) (told : IsTrue tells) (has : HasLog n (old n.log)) where
   abbrev LeftDriven : Type 0
-  LeftDriven = LeavesLog n (vertices_sent read) m (new m.log)
+  LeftDriven = LeavesLog n (taken_driven n mark read) m (new m.log)
+
+  driven_on : (k : NodeState) (first part : List ℕ) → read ≡ first ++ part → TakesSome n (taken_driven n mark first) k → TakesSome n (taken_driven n mark read) k
+  driven_on k first part split = takes_more n k (taken_driven n mark first) (taken_driven n mark read) (taken_before drive_step (greeting n mark) read first part split few)
 
   driven_whole : (m ≡ (driven n mark read).state.node) × Logs n m tells old new → LeftDriven
   driven_whole (is, logs) =
-      inl (subst (λ (k : NodeState). TakesSome n (vertices_sent read) k) (sym is) (driven_life n mark read), stands n tells old new told has m (ap (λ (k : NodeState). k.core.config) is ∙ driven_config n mark read) logs)
+      inl (subst (λ (k : NodeState). TakesSome n (taken_driven n mark read) k) (sym is) (driven_takes n mark read), stands n tells old new told has m (ap (λ (k : NodeState). k.core.config) is ∙ driven_config n mark read) logs)
 
   driven_before : StandsDriven tells (driver_standing n mark old) read written (driver_standing m now new) → LeftDriven
   driven_before s =
       inl (
-        first_takes n m read s.first s.part s.split few (subst (λ (k : NodeState). TakesSome n (vertices_sent s.first) k) (sym s.state) (driven_life n mark s.first)),
+        driven_on m s.first s.part s.split (subst (λ (k : NodeState). TakesSome n (taken_driven n mark s.first) k) (sym s.state) (driven_takes n mark s.first)),
         stands n tells old new told has m (ap (λ (k : NodeState). k.core.config) s.state ∙ driven_config n mark s.first) s.logs,
       )
 
@@ -130,8 +143,8 @@ module _ (n m : NodeState) (mark now : PeerMark) (read written : List ℕ) (few 
       inr (record {
         before = before;
         vertex = s.vertex;
-        takes = first_takes n before read s.first s.part s.split few (driven_life n mark s.first);
-        whole = subst (λ (k : NodeState). TakesSome n (vertices_sent read) k) s.whole (driven_life n mark read);
+        takes = driven_on before s.first s.part s.split (driven_takes n mark s.first);
+        whole = subst (λ (k : NodeState). TakesSome n (taken_driven n mark read) k) s.whole (driven_takes n mark read);
         unlogged = s.logs.unlogged.1;
         log = cut n tells old new told has before m s.vertex (driven_config n mark s.first) s.logs;
       })
@@ -148,8 +161,13 @@ module _ (n m : NodeState) (mark now : PeerMark) (read written : List ℕ) (few 
   driven_leaves end.OutOfMemory (inl s) = driven_before s
   driven_leaves end.OutOfMemory (inr s) = driven_cut s
 
+pub drives_leave_taken : (n m : NodeState) (mark now : PeerMark) (read written : List ℕ) (tells : Bool) (held_old held_new : List ℕ → Option (List ℕ)) (ends_old ends_new : ℕ) (e : SessionEnd)
+    → Drives tells (driver_standing n mark held_old) read written (driver_standing m now held_new) ends_old ends_new e → IsTrue tells → HasLog n (held_old n.log) → LeavesLog n (taken_driven n mark read) m (held_new m.log)
+drives_leave_taken n m mark now read written tells held_old held_new ends_old ends_new e s told has = driven_leaves n m mark now read written s.within tells held_old held_new told has e s.left
+
 pub drives_leave : DrivesLeavesLog
-drives_leave n m mark now read written tells held_old held_new ends_old ends_new e s told has = driven_leaves n m mark now read written s.within tells held_old held_new told has e s.left
+drives_leave n m mark now read written tells held_old held_new ends_old ends_new e s told has =
+    leaves_more n m (taken_driven n mark read) (vertices_sent read) (held_new m.log) (driven_these n mark read).1 (drives_leave_taken n m mark now read written tells held_old held_new ends_old ends_new e s told has)
 
 -- ---- own units
 

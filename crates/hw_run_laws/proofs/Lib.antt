@@ -13,6 +13,7 @@ pub mod CallLaws
 pub mod CutLaws
 pub mod MendLaws
 pub mod SentLaws
+pub mod TakingLaws
 pub mod StartLaws
 pub mod AttemptLaws
 pub mod SaidLaws

@@ -1,6 +1,7 @@
 -- What a session leaves is a life of the node.
-use Rattle.std.specs.Prelude.{◌==◌, take, map}
-use Rattle.std.proofs.Common.{◌≡◌, ◌⊎◌, ℕ, suc, Bool, true, false, cond, List, [], ◌∷◌, ◌++◌, Option, Some, None, Result, Ok, Err, inl, inr, refl, sym, ap, subst, ◌∙◌}
+use Rattle.std.specs.Prelude.{◌==◌, map}
+use Rattle.std.proofs.Common.{◌≡◌, ℕ, Bool, true, false, cond, List, [], ◌∷◌, ◌++◌, length, Option, Some, None, Result, Ok, Err, refl, sym, ap, subst, ◌∙◌, arith}
+use Rattle.std.proofs.lemmas.List.{take_all}
 use Rattle.hw_types.specs.declared.config.Config.{Config}
 use Rattle.hw_types.specs.declared.unit.Vertex.{Vertex}
 use Rattle.hw_types.specs.declared.answers.Frame.{Frame}
@@ -23,10 +24,13 @@ use Rattle.hw_session.specs.Node.{NodeState}
 use Rattle.hw_session.specs.Restart.{logged_of}
 use Rattle.hw_session.specs.Accept.{given_to, taken_by}
 use Rattle.hw_session.specs.Serving.{is_clash, answer_to_vertex, serve_first, serve_frame, serve_step, served}
-use Rattle.hw_session.specs.Sessions.{Leaves}
+use Rattle.hw_session.specs.Sessions.{Leaves, Serves}
 use Rattle.hw_session.specs.Standing.{standing}
 use Rattle.hw_session.proofs.ConfigLaws.{taken_config}
-use Rattle.hw_run_laws.specs.Restart.{vertex_in, vertices_among, vertices_sent, arrivals, LivesOn, TakesSome, ServedIsALife, IsLogged, ServesIsALife}
+use Rattle.hw_service.specs.Meets.{after_vertex, after_all}
+use Rattle.hw_run_laws.specs.Restart.{vertex_in, vertices_sent, arrivals, LivesOn, TakesSome, ServedIsALife, IsLogged, ServesIsALife}
+use Rattle.hw_run_laws.specs.Taken.{behind, taken_last, taken_then, taken_over, taken_served, ServedTakesThese}
+use Rattle.hw_run_laws.proofs.TakingLaws.{taken_first, takes_more}
 
 -- ---- one life after the other
 
@@ -109,112 +113,122 @@ lives_taken me n m v is = subst (λ (k : NodeState). LivesOn me n (arrivals n (v
 pub takes_one : (n m : NodeState) (v : Vertex) (vs : List Vertex) → m ≡ taken_by n v (given_to n v) → TakesSome n (v ∷ vs) m
 takes_one n m v vs is = (1, λ me. lives_taken me n m v is)
 
-takes_more : (n m l : NodeState) (v : Vertex) (vs : List Vertex) → m ≡ taken_by n v (given_to n v) → TakesSome m vs l → TakesSome n (v ∷ vs) l
-takes_more n m l v vs is (count, lives) = (
-  suc count,
+-- ---- all of some vertices
+
+-- each reaches the node in its turn, with the verdict of its keys
+pub all_live : (me : ℕ) (n : NodeState) (vs : List Vertex) → LivesOn me n (arrivals n vs) (after_all n vs)
+all_live me n [] = lives_nothing me n
+all_live me n (v ∷ vs) =
+    let m = after_vertex n v in
+    let first = lives_taken me n m v refl in
+    let P : List (List ℕ) → Type 0 = λ keys. LivesOn me m (map (λ (w : Vertex). arrives w (verdict_of keys w)) vs) (after_all m vs) in
+    lives_then me n m (after_all m vs) (arrivals n (v ∷ [])) (arrivals n vs) first (subst P first.keys (all_live me m vs))
+
+pub takes_all : (n m : NodeState) (vs : List Vertex) → m ≡ after_all n vs → TakesSome n vs m
+takes_all n m vs is = (
+  length vs,
   λ me.
-      let first = lives_taken me n m v is in
-      let P : List (List ℕ) → Type 0 = λ keys. LivesOn me m (map (λ (w : Vertex). arrives w (verdict_of keys w)) (take count vs)) l in
-      lives_then me n m l (arrivals n (v ∷ [])) (arrivals n (take count vs)) first (subst P first.keys (lives me)),
+      let all = subst (λ (k : NodeState). LivesOn me n (arrivals n vs) k) (sym is) (all_live me n vs) in
+      subst (λ (ws : List Vertex). LivesOn me n (arrivals n ws) m) (sym (take_all (length vs) vs (omega arith))) all,
 )
 
 -- ---- frame by frame
 
--- it took the vertex of the frame
-abbrev pub TakesIts : NodeState → Frame → NodeState → Type 0
-TakesIts n f m = (v : Vertex) × (f ≡ frame.Vertex v) × (m ≡ taken_by n v (given_to n v))
+-- the node behind a vertex, if there is one
+abbrev pub after_one : NodeState → Option Vertex → NodeState
+after_one n None = n
+after_one n (Some v) = after_vertex n v
 
--- it stayed as it was, and the session ended or there was no vertex
-abbrev pub Stays : NodeState → Frame → NodeState → Option SessionEnd → Type 0
-Stays n f m (Some e) = m ≡ n
-Stays n f m None = (m ≡ n) × (vertex_in f ≡ None)
+-- what is taken of the frame is what leads from the one node to the other
+abbrev pub Leads : NodeState → Frame → NodeState → Option SessionEnd → Type 0
+Leads n f m None = m ≡ after_one n (vertex_in f)
+Leads n f m (Some e) = m ≡ after_all n (taken_last f e)
 
-abbrev pub Acts : NodeState → Frame → NodeState → Option SessionEnd → Type 0
-Acts n f m end = TakesIts n f m ⊎ Stays n f m end
+after_both : (n : NodeState) (o : Option Vertex) (vs : List Vertex) → after_all (after_one n o) vs ≡ after_all n (behind o vs)
+after_both n None vs = refl
+after_both n (Some v) vs = refl
 
-among_more : (f : Placed) (fs : List Placed) (v : Vertex) → f.frame ≡ frame.Vertex v → vertices_among (f ∷ fs) ≡ v ∷ vertices_among fs
-among_more f fs v is = subst (λ (g : Frame). vertices_among (record { at = f.at; frame = g } ∷ fs) ≡ v ∷ vertices_among fs) (sym is) refl
-
-among_same : (f : Placed) (fs : List Placed) → vertex_in f.frame ≡ None → vertices_among (f ∷ fs) ≡ vertices_among fs
-among_same f fs none = go f.frame none
-  where
-    go : (g : Frame) → vertex_in g ≡ None → vertices_among (record { at = f.at; frame = g } ∷ fs) ≡ vertices_among fs
-    go (frame.Vertex v) some = absurd cc
-    go (frame.Hello instance) some = refl
-    go (frame.Have place) some = refl
-    go (frame.Want needs) some = refl
-    go frame.Done some = refl
-    go (frame.Missing need) some = refl
-
-module _ {S : Type 0} (IsState : S → Type 0) (node : S → NodeState) (step : S → Placed → Reaction S) (states : (s : S) (f : Placed) → IsState s → IsState (step s f).state) (acts : (s : S) (f : Placed) → IsState s → Acts (node s) f.frame (node (step s f).state) (step s f).end) where
-  pub talk_takes : (end : SessionEnd) (s : S) (fs : List Placed) → IsState s → TakesSome (node s) (vertices_among fs) (node (talk step end s fs).state)
-  unfolding talk
-  talk_takes end s [] is = takes_none (node s) []
-  talk_takes end s (f ∷ fs) is = go (talk_takes end (step s f).state fs (states s f is)) (step s f).end (acts s f is)
+module _ {S : Type 0} (IsState : S → Type 0) (node : S → NodeState) (step : S → Placed → Reaction S) (states : (s : S) (f : Placed) → IsState s → IsState (step s f).state) (leads : (s : S) (f : Placed) → IsState s → Leads (node s) f.frame (node (step s f).state) (step s f).end) where
+  pub talk_leads : (end : SessionEnd) (s : S) (fs : List Placed) → IsState s → node (talk step end s fs).state ≡ after_all (node s) (taken_over step s fs)
+  unfolding talk taken_over
+  talk_leads end s [] is = refl
+  talk_leads end s (f ∷ fs) is = go (talk_leads end (step s f).state fs (states s f is)) (step s f).end (leads s f is)
     where
-      Goal : Option SessionEnd → Type 0
-      Goal o = TakesSome (node s) (vertices_among (f ∷ fs)) (node (with_reaction (record { state = (step s f).state; says = (step s f).says; end = o }) (λ t. talk step end t fs)).state)
+      rest : List Vertex
+      rest = taken_over step (step s f).state fs
 
-      go : TakesSome (node (step s f).state) (vertices_among fs) (node (talk step end (step s f).state fs).state) → (o : Option SessionEnd) → Acts (node s) f.frame (node (step s f).state) o → Goal o
-      go rest (Some e) (inl (v, brings, left)) = subst (λ (vs : List Vertex). TakesSome (node s) vs (node (step s f).state)) (sym (among_more f fs v brings)) (takes_one (node s) (node (step s f).state) v (vertices_among fs) left)
-      go rest None (inl (v, brings, left)) = subst (λ (vs : List Vertex). TakesSome (node s) vs (node (talk step end (step s f).state fs).state)) (sym (among_more f fs v brings)) (takes_more (node s) (node (step s f).state) (node (talk step end (step s f).state fs).state) v (vertices_among fs) left rest)
-      go rest (Some e) (inr left) = subst (λ (k : NodeState). TakesSome (node s) (vertices_among (f ∷ fs)) k) (sym left) (takes_none (node s) (vertices_among (f ∷ fs)))
-      go rest None (inr (left, none)) =
-          subst (λ (vs : List Vertex). TakesSome (node s) vs (node (talk step end (step s f).state fs).state)) (sym (among_same f fs none)) (subst (λ (k : NodeState). TakesSome k (vertices_among fs) (node (talk step end (step s f).state fs).state)) left rest)
+      go : node (talk step end (step s f).state fs).state ≡ after_all (node (step s f).state) rest → (o : Option SessionEnd) → Leads (node s) f.frame (node (step s f).state) o
+          → node (with_reaction (record { state = (step s f).state; says = (step s f).says; end = o }) (λ t. talk step end t fs)).state ≡ after_all (node s) (taken_then f.frame o rest)
+      go others (Some e) lead = lead
+      go others None lead = others ∙ ap (λ (k : NodeState). after_all k rest) lead ∙ after_both (node s) (vertex_in f.frame) rest
 
 -- ---- serving
 
-answer_acts : (n : NodeState) (v : Vertex) (m : NodeState) (a : Result Receipt Cause) → (answer_to_vertex m v a).state ≡ m
-answer_acts n v m (Ok r) = refl
-answer_acts n v m (Err c) = go (is_clash c)
+answer_leads : (n : NodeState) (v : Vertex) (a : Result Receipt Cause) → Leads n (frame.Vertex v) (answer_to_vertex (after_vertex n v) v a).state (answer_to_vertex (after_vertex n v) v a).end
+answer_leads n v (Ok r) = refl
+answer_leads n v (Err c) = go (is_clash c)
   where
-    go : (b : Bool) → (cond b (ends m [] end.Clash) (goes_on m (frame.Want [] ∷ []))).state ≡ m
+    either : Bool → Reaction NodeState
+    either b = cond b (ends (after_vertex n v) [] end.Clash) (goes_on (after_vertex n v) (frame.Want [] ∷ []))
+
+    go : (b : Bool) → Leads n (frame.Vertex v) (either b).state (either b).end
     go true = refl
     go false = refl
 
-first_acts : (n : NodeState) (f : Frame) → Acts n f (serve_first n f).state (serve_first n f).end
-first_acts n (frame.Hello instance) = go (digest_eq instance (instance_of n.core.config))
+first_leads : (n : NodeState) (f : Frame) → Leads n f (serve_first n f).state (serve_first n f).end
+first_leads n (frame.Hello instance) = go (digest_eq instance (instance_of n.core.config))
   where
     either : Bool → Reaction NodeState
     either b = cond b (goes_on n (frame.Hello (instance_of n.core.config) ∷ [])) (ends n [] end.WrongInstance)
 
-    go : (b : Bool) → Acts n (frame.Hello instance) (either b).state (either b).end
-    go true = inr (refl, refl)
-    go false = inr refl
-first_acts n (frame.Vertex v) = inr refl
-first_acts n (frame.Have place) = inr refl
-first_acts n (frame.Want needs) = inr refl
-first_acts n frame.Done = inr refl
-first_acts n (frame.Missing need) = inr refl
+    go : (b : Bool) → Leads n (frame.Hello instance) (either b).state (either b).end
+    go true = refl
+    go false = refl
+first_leads n (frame.Vertex v) = refl
+first_leads n (frame.Have place) = refl
+first_leads n (frame.Want needs) = refl
+first_leads n frame.Done = refl
+first_leads n (frame.Missing need) = refl
 
-frame_acts : (n : NodeState) (at : ℕ) (f : Frame) → Acts n f (serve_frame n at f).state (serve_frame n at f).end
-frame_acts n at (frame.Hello instance) = inr refl
-frame_acts n at (frame.Vertex v) = inl (v, refl, answer_acts n v (taken_by n v (given_to n v)) (given_to n v))
-frame_acts n at (frame.Have place) = inr (refl, refl)
-frame_acts n at (frame.Want needs) = inr (refl, refl)
-frame_acts n at (frame.Missing need) = inr (refl, refl)
-frame_acts n at frame.Done = inr refl
+frame_leads : (n : NodeState) (at : ℕ) (f : Frame) → Leads n f (serve_frame n at f).state (serve_frame n at f).end
+frame_leads n at (frame.Hello instance) = refl
+frame_leads n at (frame.Vertex v) = answer_leads n v (given_to n v)
+frame_leads n at (frame.Have place) = refl
+frame_leads n at (frame.Want needs) = refl
+frame_leads n at (frame.Missing need) = refl
+frame_leads n at frame.Done = refl
 
-serve_acts : (n : NodeState) (f : Placed) → Acts n f.frame (serve_step n f).state (serve_step n f).end
+serve_leads : (n : NodeState) (f : Placed) → Leads n f.frame (serve_step n f).state (serve_step n f).end
 unfolding serve_step
-serve_acts n f = go (f.at == 0)
+serve_leads n f = go (f.at == 0)
   where
-    go : (b : Bool) → Acts n f.frame (cond b (serve_first n f.frame) (serve_frame n f.at f.frame)).state (cond b (serve_first n f.frame) (serve_frame n f.at f.frame)).end
-    go true = first_acts n f.frame
-    go false = frame_acts n f.at f.frame
+    go : (b : Bool) → Leads n f.frame (cond b (serve_first n f.frame) (serve_frame n f.at f.frame)).state (cond b (serve_first n f.frame) (serve_frame n f.at f.frame)).end
+    go true = first_leads n f.frame
+    go false = frame_leads n f.at f.frame
+
+-- the vertices that it takes are handed to it, and they are the first
+pub served_these : ServedTakesThese
+served_these n bytes = (
+  talk_leads (λ (m : NodeState). Unit {0}) (λ (m : NodeState). m) serve_step (λ m f is. tt) (λ m f is. serve_leads m f) (frames_of bytes).end n (frames_of bytes).given tt,
+  taken_first serve_step n (frames_of bytes).given,
+)
+
+pub served_takes : (n : NodeState) (bytes : List ℕ) → TakesSome n (taken_served n bytes) (served n bytes).state
+served_takes n bytes = takes_all n (served n bytes).state (taken_served n bytes) (served_these n bytes).0
 
 pub served_life : ServedIsALife
-served_life n bytes = talk_takes (λ (m : NodeState). Unit {0}) (λ (m : NodeState). m) serve_step (λ m f is. tt) (λ m f is. serve_acts m f) (frames_of bytes).end n (frames_of bytes).given tt
+served_life n bytes = takes_more n (served n bytes).state (taken_served n bytes) (vertices_sent bytes) (served_these n bytes).1 (served_takes n bytes)
 
 -- ---- sessions that took place
 
-pub serves_life : ServesIsALife
-serves_life n m read written tells held_old held_new ends_old ends_new e s logged = go e logged s.left
+pub serves_takes : (n m : NodeState) (read written : List ℕ) (tells : Bool) (held_old held_new : List ℕ → Option (List ℕ)) (ends_old ends_new : ℕ) (e : SessionEnd)
+    → Serves tells (standing n held_old) read written (standing m held_new) ends_old ends_new e → IsLogged e → TakesSome n (taken_served n read) m
+serves_takes n m read written tells held_old held_new ends_old ends_new e s logged = go e logged s.left
   where
-    whole : m ≡ (served n read).state → TakesSome n (vertices_sent read) m
-    whole is = subst (λ (k : NodeState). TakesSome n (vertices_sent read) k) (sym is) (served_life n read)
+    whole : m ≡ (served n read).state → TakesSome n (taken_served n read) m
+    whole is = subst (λ (k : NodeState). TakesSome n (taken_served n read) k) (sym is) (served_takes n read)
 
-    go : (e : SessionEnd) → IsLogged e → Leaves e tells (standing n held_old) read written (standing m held_new) → TakesSome n (vertices_sent read) m
+    go : (e : SessionEnd) → IsLogged e → Leaves e tells (standing n held_old) read written (standing m held_new) → TakesSome n (taken_served n read) m
     go end.Done logged left = whole left.0
     go end.EndOfInput logged left = whole left.0
     go end.WrongInstance logged left = whole left.0
@@ -224,3 +238,7 @@ serves_life n m read written tells held_old held_new ends_old ends_new e s logge
     go end.Clash logged left = whole left.0
     go end.AppendFault logged left = absurd logged
     go end.OutOfMemory logged left = absurd logged
+
+pub serves_life : ServesIsALife
+serves_life n m read written tells held_old held_new ends_old ends_new e s logged =
+    takes_more n m (taken_served n read) (vertices_sent read) (served_these n read).1 (serves_takes n m read written tells held_old held_new ends_old ends_new e s logged)

@@ -21,7 +21,9 @@ use Rattle.hw_service.specs.Meets.{after_vertex, after_all, vertices_of, after_m
 use Rattle.hw_run_laws.specs.Restart.{TakesSome, vertices_told, IsMetLogged, LeavesLog, MeetsIsALife, MeetsKeepsLog, MeetsLeavesLog, MeetsSaysOfLog}
 use Rattle.hw_run_laws.proofs.OutLaws.{Grows, goes_later}
 use Rattle.hw_run_laws.proofs.CutLaws.{stands, cut}
-use Rattle.hw_run_laws.proofs.MetLaws.{met_life, met_config, met_says, first_told}
+use Rattle.hw_run_laws.proofs.LifeLaws.{takes_all}
+use Rattle.hw_run_laws.proofs.MetLaws.{met_config, met_says, met_before, met_first}
+use Rattle.hw_run_laws.proofs.TakingLaws.{takes_more, leaves_more}
 
 -- ---- the vertex whose entry was cut
 
@@ -64,8 +66,12 @@ module _ (side : Side) (address : Option (List ℕ)) (tells : Bool) (old new : T
   whole end.OutOfMemory logged left = absurd logged
 
   -- the first of these bytes leave it
-  stands_behind : (bytes : List ℕ) → m ≡ after_meeting side n bytes → TakesSome n (vertices_told n bytes) m
-  stands_behind bytes is = subst (λ (k : NodeState). TakesSome n (vertices_told n bytes) k) (sym is) (met_life side n bytes)
+  stands_behind : (bytes : List ℕ) → m ≡ after_meeting side n bytes → TakesSome n (vertices_of side n bytes) m
+  stands_behind bytes = takes_all n m (vertices_of side n bytes)
+
+  -- what is taken of the first bytes comes first
+  takes_on : (k : NodeState) (first part : List ℕ) → read ≡ first ++ part → TakesSome n (vertices_of side n first) k → TakesSome n (vertices_of side n read) k
+  takes_on k first part split = takes_more n k (vertices_of side n first) (vertices_of side n read) (met_before side n read first part split s.meets.meets.within)
 
   config_behind : (bytes : List ℕ) → m ≡ after_meeting side n bytes → m.core.config ≡ n.core.config
   config_behind bytes is = ap (λ (k : NodeState). k.core.config) is ∙ met_config side n bytes
@@ -93,23 +99,23 @@ module _ (side : Side) (address : Option (List ℕ)) (tells : Bool) (old new : T
   by_end all before cut end.OutOfMemory (inr left) = cut left
 
   abbrev Left : Type 0
-  Left = LeavesLog n (vertices_told n read) m (new.files m.log)
+  Left = LeavesLog n (vertices_of side n read) m (new.files m.log)
 
-  takes_all : IsMetLogged e → TakesSome n (vertices_told n read) m
-  takes_all logged = stands_behind read (whole e logged s.left).0
+  pub takes_met : IsMetLogged e → TakesSome n (vertices_of side n read) m
+  takes_met logged = stands_behind read (whole e logged s.left).0
 
   keeps_log : IsMetLogged e → IsTrue tells → HasLog n (old.files n.log) → HasLog m (new.files m.log)
   keeps_log logged told has = let left = whole e logged s.left in stands n tells old.files new.files told has m (config_behind read left.0) left.1
 
-  leaves_log : IsTrue tells → HasLog n (old.files n.log) → Left
-  leaves_log told has = by_end all first last e s.left
+  pub leaves_met : IsTrue tells → HasLog n (old.files n.log) → Left
+  leaves_met told has = by_end all first last e s.left
     where
       all : IsWhole → Left
       all (is, logs) = inl (stands_behind read is, stands n tells old.files new.files told has m (config_behind read is) logs)
 
       first : IsBefore → Left
       first b = inl (
-        first_told n m read b.first b.part b.split s.meets.meets.within (stands_behind b.first b.state),
+        takes_on m b.first b.part b.split (stands_behind b.first b.state),
         stands n tells old.files new.files told has m (config_behind b.first b.state) b.logs,
       )
 
@@ -119,8 +125,8 @@ module _ (side : Side) (address : Option (List ℕ)) (tells : Bool) (old new : T
           inr (record {
             before = before;
             vertex = c.vertex;
-            takes = first_told n before read c.first c.part c.split s.meets.meets.within (met_life side n c.first);
-            whole = subst (λ (k : NodeState). TakesSome n (vertices_told n read) k) (with_last side n read c.first c.vertex c.last c.logs.unlogged.0) (met_life side n read);
+            takes = takes_on before c.first c.part c.split (takes_all n before (vertices_of side n c.first) refl);
+            whole = takes_all n (with_entry before c.vertex) (vertices_of side n read) (sym (with_last side n read c.first c.vertex c.last c.logs.unlogged.0));
             unlogged = c.logs.unlogged.1;
             log = cut n tells old.files new.files told has before m c.vertex (met_config side n c.first) c.logs;
           })
@@ -139,13 +145,15 @@ module _ (side : Side) (address : Option (List ℕ)) (tells : Bool) (old new : T
           subst (λ (k : NodeState). Among v k.core.journal) (sym c.logs.unlogged.1) (from_left v before.core.journal (c.vertex ∷ []) (gains_grow c.logs.vertices before c.logs.gains v there))
 
 pub meets_life : MeetsIsALife
-meets_life = takes_all
+meets_life side address tells old new e s logged =
+    takes_more old.node new.node (vertices_of side old.node s.meets.read) (vertices_told old.node s.meets.read) (met_first side old.node s.meets.read) (takes_met side address tells old new e s logged)
 
 pub meets_keep : MeetsKeepsLog
 meets_keep = keeps_log
 
 pub meets_leave : MeetsLeavesLog
-meets_leave = leaves_log
+meets_leave side address tells old new e s told has =
+    leaves_more old.node new.node (vertices_of side old.node s.meets.read) (vertices_told old.node s.meets.read) (new.files new.node.log) (met_first side old.node s.meets.read) (leaves_met side address tells old new e s told has)
 
 pub meets_say : MeetsSaysOfLog
 meets_say side address tells old new e s v said = goes_later old.node new.node (grows side address tells old new e s) v (met_says side old.node s.meets.read v said)

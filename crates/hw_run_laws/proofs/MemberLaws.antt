@@ -38,7 +38,7 @@ use Rattle.hw_run_laws.proofs.GivenLaws.{put, put_appends, files_after, receipt_
 use Rattle.hw_run_laws.proofs.LifeLaws.{takes_one}
 use Rattle.hw_run_laws.proofs.MeetLaws.{accepted_is}
 use Rattle.hw_run_laws.proofs.PlanLaws.{hash_in_range, unit_fits, unit_in_range}
-use Rattle.hw_run_laws.proofs.QuietLaws.{fair_none, quiet_serves, quiet_drives, before_meeting, behind_meeting, quiet_meets, fair_met}
+use Rattle.hw_run_laws.proofs.QuietLaws.{fair_to_server, fair_to_driver, quiet_serves, quiet_drives, before_meeting, behind_meeting, quiet_meets, fair_met}
 use Rattle.hw_run_laws.proofs.StartLaws.{reached, each_fits, renewed, renews}
 
 -- ---- one call
@@ -174,21 +174,21 @@ module _ (me : ℕ) (a : Standing) (validator : me < length a.node.core.config.w
   done (accepting v) may = accepts_by v may (given_to a.node v) refl
   done serving may = record {
     next = a;
-    attempt = serves [] [] 0 (raised 0) end.EndOfInput (quiet_serves a.node a.held 0) (fair_none me a.node);
+    attempt = serves [] [] 0 (raised 0) end.EndOfInput (quiet_serves a.node a.held 0) (fair_to_server me a.node);
     is = refl;
     whole = tt;
     sound = sound;
   }
   done (driving mark) may = record {
     next = a;
-    attempt = drives mark mark [] (said_bytes (hello a.node ∷ [])) 0 (raised 0) end.EndOfInput (quiet_drives a.node mark a.held 0) (fair_none me a.node);
+    attempt = drives mark mark [] (said_bytes (hello a.node ∷ [])) 0 (raised 0) end.EndOfInput (quiet_drives a.node mark a.held 0) (fair_to_driver me a.node mark);
     is = refl;
     whole = tt;
     sound = sound;
   }
   done (meeting side address) may = record {
     next = a;
-    attempt = meets side address before_meeting (behind_meeting side address a.node.core) met_end.EndOfInput (quiet_meets side address a) (fair_met me a.node);
+    attempt = meets side address before_meeting (behind_meeting side address a.node.core) met_end.EndOfInput (quiet_meets side address a) (fair_met me side a.node);
     is = refl;
     whole = tt;
     sound = sound;

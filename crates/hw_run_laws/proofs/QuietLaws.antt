@@ -28,8 +28,7 @@ use Rattle.hw_session.proofs.ServingLaws.{before_less}
 use Rattle.hw_meeting_node.specs.Frames.{sent_bytes}
 use Rattle.hw_meeting_node.specs.declared.end.MeetEnd.TheVariants as met_end
 use Rattle.hw_meeting_node.specs.declared.meeter.Side.{Side}
-use Rattle.hw_meeting_node.specs.Talk.{frames_of as met_frames, Frames as MetFrames, frames_from as met_from, Talk as MetTalk}
-use Rattle.hw_meeting_node.specs.Laws.{vertices_among as met_vertices}
+use Rattle.hw_meeting_node.specs.Talk.{Talk as MetTalk}
 use Rattle.hw_meeting_node.specs.Meeting.{Meeting, begun, first_word, meet_step, met}
 use Rattle.hw_meeting_node.specs.Sessions.{Meets, end_of}
 use Rattle.hw_meeting_node.specs.Taking.{TakingMeeting, taking_step, taking_nothing, taken_in}
@@ -37,8 +36,9 @@ use Rattle.hw_meeting_node.proofs.FurtherLaws.{none_further as none_met_further}
 use Rattle.hw_meeting_node.proofs.TalkLaws.{begins, heard_here}
 use Rattle.hw_service.specs.Scene.{DoorSeen, door_seen}
 use Rattle.hw_service.specs.Meets.{after_all, NodeMeets}
-use Rattle.hw_run_laws.specs.Calls.{at_door, IsFairPeer, IsFairMet}
-use Rattle.hw_run_laws.specs.Restart.{arrivals, vertices_among}
+use Rattle.hw_run_laws.specs.Calls.{at_door, IsFairServed, IsFairDriven, IsFairMet}
+use Rattle.hw_run_laws.specs.Restart.{arrivals, vertices_among, vertices_sent}
+use Rattle.hw_run_laws.proofs.TakingLaws.{fair_served, fair_driven}
 
 -- ---- nothing is sent
 
@@ -50,8 +50,14 @@ no_frames : frames_of [] ≡ record { given = []; end = end.EndOfInput }
 unfolding frames_in frames_by
 no_frames = ap (λ (bytes : List ℕ). frames_from (rest_at 0 bytes)) (take_all byte_limit [] (omega arith))
 
-pub fair_none : (me : ℕ) (n : NodeState) → IsFairPeer me n []
-fair_none me n = subst (λ (frames : Frames). AreFair (setting_of n.core.config) me (logged_of n) (arrivals n (vertices_among frames.given))) (sym no_frames) tt
+none_sent : (me : ℕ) (n : NodeState) → AreFair (setting_of n.core.config) me (logged_of n) (arrivals n (vertices_sent []))
+none_sent me n = subst (λ (frames : Frames). AreFair (setting_of n.core.config) me (logged_of n) (arrivals n (vertices_among frames.given))) (sym no_frames) tt
+
+pub fair_to_server : (me : ℕ) (n : NodeState) → IsFairServed me n []
+fair_to_server me n = fair_served me n [] (none_sent me n)
+
+pub fair_to_driver : (me : ℕ) (n : NodeState) (mark : PeerMark) → IsFairDriven me n mark []
+fair_to_driver me n mark = fair_driven me n mark [] (none_sent me n)
 
 pub stays : (n : NodeState) (held : List ℕ → Option (List ℕ)) → Logs n n true held held
 stays n held = logs_nothing true n held held (λ told name. refl)
@@ -131,9 +137,5 @@ quiet_meets side address a = record {
   left = (ap (after_all a.node) (sym (none_taken side a.node.core (verdict_of a.node.keys))), stays a.node a.held);
 }
 
-none_met : (validators : ℕ) → met_frames validators [] ≡ record { given = []; end = end.EndOfInput }
-unfolding frames_by
-none_met validators = ap (λ (bytes : List ℕ). met_from validators (rest_at 0 bytes)) (take_all byte_limit [] (omega arith))
-
-pub fair_met : (me : ℕ) (n : NodeState) → IsFairMet me n []
-fair_met me n = subst (λ (frames : MetFrames). AreFair (setting_of n.core.config) me (logged_of n) (arrivals n (met_vertices frames.given))) (sym (none_met (length n.core.config.weights))) tt
+pub fair_met : (me : ℕ) (side : Side) (n : NodeState) → IsFairMet me side n []
+fair_met me side n = subst (λ (vs : List Vertex). AreFair (setting_of n.core.config) me (logged_of n) (arrivals n vs)) (sym (none_taken side n.core (verdict_of n.keys))) tt

@@ -27,10 +27,11 @@ use Rattle.hw_session.specs.Node.{NodeState}
 use Rattle.hw_session.specs.Restart.{logged_of}
 use Rattle.hw_session.specs.Serving.{served}
 use Rattle.hw_session.specs.Driving.{driven}
-use Rattle.hw_run_laws.specs.Restart.{vertices_sent, arrivals, TakesSome, SaysOfLog}
-use Rattle.hw_run_laws.specs.Calls.{IsSound, IsFairPeer, makes, accepts, serves, drives, meets, CouldGoOut, AttemptsSayNoNew}
-use Rattle.hw_run_laws.proofs.LifeLaws.{served_life}
-use Rattle.hw_run_laws.proofs.DriverLaws.{driven_life, driven_says}
+use Rattle.hw_run_laws.specs.Restart.{arrivals, TakesSome, SaysOfLog}
+use Rattle.hw_run_laws.specs.Taken.{taken_served, taken_driven}
+use Rattle.hw_run_laws.specs.Calls.{IsSound, makes, accepts, serves, drives, meets, CouldGoOut, AttemptsSayNoNew}
+use Rattle.hw_run_laws.proofs.LifeLaws.{served_takes}
+use Rattle.hw_run_laws.proofs.DriverLaws.{driven_takes, driven_says}
 use Rattle.hw_run_laws.proofs.OutLaws.{served_says}
 use Rattle.hw_run_laws.proofs.MetLaws.{met_says}
 use Rattle.hw_run_laws.proofs.AttemptLaws.{first_fair, lives_safely, same_lives}
@@ -83,14 +84,14 @@ module _ (s : Setting) (me : ℕ) where
 
 -- ---- a session
 
-module _ (me : ℕ) (a k : NodeState) (sound : IsSound a) (validator : me < length a.core.config.weights) (line : OneLine (setting_of a.core.config) a.core.journal me) (read : List ℕ) (fair : IsFairPeer me a read) (takes : TakesSome a (vertices_sent read) k) where
+module _ (me : ℕ) (a k : NodeState) (sound : IsSound a) (validator : me < length a.core.config.weights) (line : OneLine (setting_of a.core.config) a.core.journal me) (taken : List Vertex) (fair : AreFair (setting_of a.core.config) me (logged_of a) (arrivals a taken)) (takes : TakesSome a taken k) where
   abbrev s : Setting
   s = setting_of a.core.config
 
   old_there : (w : Vertex) → Among w k.core.journal → IsOld s me a.core.journal w
   old_there w m =
-      let vs : List Vertex = take takes.0 (vertices_sent read) in
-      all_back s me sound.kept.lawful validator a (logged_of a) vs (lives_safely me a sound validator line a (same_lives me a a refl refl)) (first_fair s me (logged_of a) a takes.0 (vertices_sent read) fair) w
+      let vs : List Vertex = take takes.0 taken in
+      all_back s me sound.kept.lawful validator a (logged_of a) vs (lives_safely me a sound validator line a (same_lives me a a refl refl)) (first_fair s me (logged_of a) a takes.0 taken fair) w
       (inl (subst (λ (l : Logged). Among w l.journal) (takes.1 me).life m))
 
   -- a unit of its own by itself
@@ -119,7 +120,7 @@ pub attempts_say : AttemptsSayNoNew
 attempts_say me a b validator sound ready (makes now value result does wrote) v said x m by = absurd said
 attempts_say me a b validator sound ready (accepts w result does wrote fair) v said x m by = absurd said
 attempts_say me a b validator sound ready (serves read written ends_old ends_new e does fair) v said x m by =
-    says_no_new me a.node (served a.node read).state sound validator ready.line read fair (served_life a.node read) (served a.node read).said (served_says a.node read) v said x m by
+    says_no_new me a.node (served a.node read).state sound validator ready.line (taken_served a.node read) fair (served_takes a.node read) (served a.node read).said (served_says a.node read) v said x m by
 attempts_say me a b validator sound ready (drives mark now read written ends_old ends_new e does fair) v said x m by =
-    says_no_new me a.node (driven a.node mark read).state.node sound validator ready.line read fair (driven_life a.node mark read) (driven a.node mark read).said (driven_says a.node mark read) v said x m by
+    says_no_new me a.node (driven a.node mark read).state.node sound validator ready.line (taken_driven a.node mark read) fair (driven_takes a.node mark read) (driven a.node mark read).said (driven_says a.node mark read) v said x m by
 attempts_say me a b validator sound ready (meets side address from to e does fair) v said x m by = (v, met_says side a.node does.meets.read v said, x, m, refl)

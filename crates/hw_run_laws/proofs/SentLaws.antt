@@ -2,14 +2,13 @@
 use Rattle.std.specs.Prelude.{take}
 use Rattle.std.proofs.Common.{◌≡◌, ℕ, zero, suc, ◌+◌, ◌<◌, ◌≤◌, List, [], ◌∷◌, ◌++◌, length, Result, Ok, Err, refl, sym, ap, subst, ◌∙◌, arith, length-append}
 use Rattle.std.proofs.lemmas.List.{append_assoc, take_all}
-use Rattle.std.proofs.lemmas.List.Elements.{filter_map-append}
 use Rattle.hw_types.specs.declared.unit.Vertex.{Vertex}
 use Rattle.hw_types.specs.Reading.{Rest, frame_of}
 use Rattle.hw_link.specs.declared.end.SessionEnd.{SessionEnd}
 use Rattle.hw_link.specs.Frames.{PlacedOf, Placed, FramesOf, rest_at, cut_end, frame_here, with_next, frames_by, frames_in, frames_of, byte_limit}
 use Rattle.hw_link.proofs.FrameLaws.{frame_here-shorter, frame_by-none, frames_by-next}
 use Rattle.hw_session.specs.Node.{NodeState}
-use Rattle.hw_run_laws.specs.Restart.{vertex_in, vertices_among, vertices_sent, arrivals, LivesOn, TakesSome}
+use Rattle.hw_run_laws.specs.Restart.{arrivals, LivesOn, TakesSome}
 use Rattle.hw_run_laws.proofs.FrameLaws.{IsSplit, split}
 
 -- ---- frames that are read in this way, where each takes bytes
@@ -59,20 +58,16 @@ module _ {F : Type 0} (here : Rest → Result (PlacedOf F × Rest) SessionEnd) (
         ap (frames_at 0) (take_all byte_limit (first ++ part) few) ∙ frames.1 ∙ ap (λ (b : List ℕ). frames_at 0 b ++ frames.0) (sym (take_all byte_limit first less)),
       )
 
--- ---- vertices
+-- ---- frames
 
 nothing_here : (r : Rest) → length r.bytes ≡ 0 → frame_here r ≡ Err (cut_end r)
 unfolding frame_here
 nothing_here r none = frame_by-none frame_of r none
 
--- the vertices in the first bytes are the first
-sent_first : (first part : List ℕ) → length (first ++ part) ≤ byte_limit → (more : List Vertex) × (vertices_sent (first ++ part) ≡ vertices_sent first ++ more)
+-- the frames in the first bytes are the first
+pub given_first : (first part : List ℕ) → length (first ++ part) ≤ byte_limit → (later : List Placed) × ((frames_of (first ++ part)).given ≡ (frames_of first).given ++ later)
 unfolding frames_in
-sent_first first part few =
-    let frames = limited_first frame_here frame_here-shorter nothing_here split first part few in (
-      vertices_among frames.0,
-      ap vertices_among frames.1 ∙ filter_map-append (λ (f : Placed). vertex_in f.frame) (frames_of first).given frames.0,
-    )
+given_first first part few = limited_first frame_here frame_here-shorter nothing_here split first part few
 
 -- ---- lives
 
@@ -91,9 +86,3 @@ pub takes_first : (n m : NodeState) (vs more : List Vertex) → TakesSome n vs m
 takes_first n m vs more (count, lives) =
     let k = taken_first count vs more in
     (k.0, λ me. subst (λ (ws : List Vertex). LivesOn me n (arrivals n ws) m) (sym k.1) (lives me))
-
--- What the vertices in the first bytes do those in all of them do.
-pub first_takes : (n m : NodeState) (read first part : List ℕ) → read ≡ first ++ part → length read ≤ byte_limit → TakesSome n (vertices_sent first) m → TakesSome n (vertices_sent read) m
-first_takes n m read first part is few takes =
-    let more = sent_first first part (subst (λ (b : List ℕ). length b ≤ byte_limit) is few) in
-    subst (λ (vs : List Vertex). TakesSome n vs m) (sym (ap vertices_sent is ∙ more.1)) (takes_first n m (vertices_sent first) more.0 takes)

@@ -37,10 +37,11 @@ use Rattle.hw_session.specs.Standing.{standing}
 use Rattle.hw_session.proofs.FurtherLaws.{NoneBehind, frame_alone, part_cut, none_further, no_further, stops_so}
 use Rattle.hw_session.proofs.GrowsLaws.{logs_nothing}
 use Rattle.hw_session.proofs.ServingLaws.{before_less, no_frame_so, cut_so_far, IsPlain, all_written, is_answered}
-use Rattle.hw_run_laws.specs.Calls.{serves, IsFairPeer}
+use Rattle.hw_run_laws.specs.Calls.{serves, IsFairServed}
 use Rattle.hw_run_laws.specs.Members.{short_session, WholeSessionsAreThere, NothingDisturbs, VerticesAreSaid}
 use Rattle.hw_run_laws.specs.Restart.{vertices_among, arrivals}
 use Rattle.hw_run_laws.proofs.PlanLaws.{instance_in_range}
+use Rattle.hw_run_laws.proofs.TakingLaws.{fair_served}
 
 -- ---- a frame that was spelled
 
@@ -244,8 +245,8 @@ module _ (n : NodeState) (place : ℕ) (range : place < 2 ^ 64) where
       ∙ (reads_frame_by_frame NodeState).no_frame_ends serve_step [] n asked asked_said n [] end.EndOfInput heard_asked (ends_here (length asked) (omega (arith, size)))
       (subst (λ (bytes : List ℕ). length bytes ≤ byte_limit) (sym (append-nil asked)) (omega (arith, size)))
 
-  asks_fairly : (me : ℕ) → IsFairPeer me n asked
-  asks_fairly me = subst (λ (vs : List Vertex). AreFair (setting_of n.core.config) me (logged_of n) (arrivals n vs)) (sym (sent n have range tt (omega arith) (omega arith))) tt
+  asks_fairly : (me : ℕ) → IsFairServed me n asked
+  asks_fairly me = fair_served me n asked (subst (λ (vs : List Vertex). AreFair (setting_of n.core.config) me (logged_of n) (arrivals n vs)) (sym (sent n have range tt (omega arith) (omega arith))) tt)
 
   serves_asked : (held : List ℕ → Option (List ℕ)) → Serves true (standing n held) asked (said_bytes asked_said) (standing n held) 0 (raised 0) end.EndOfInput
   serves_asked held =

@@ -32,14 +32,16 @@ use Rattle.hw_session.specs.Serving.{wanted_by, is_clash, answer_to_vertex, serv
 use Rattle.hw_session.specs.Sessions.{Serves}
 use Rattle.hw_session.specs.Standing.{Standing, standing}
 use Rattle.hw_session.proofs.GrowsLaws.{gains_one, logs_counts}
-use Rattle.hw_run_laws.specs.Calls.{IsSound, serves, IsFairPeer, IsReady}
+use Rattle.hw_run_laws.specs.Calls.{IsSound, serves, IsFairServed, IsReady}
 use Rattle.hw_run_laws.specs.Members.{HoldsNone, IsTaken, VerticesAreTaken}
-use Rattle.hw_run_laws.specs.Restart.{arrivals, vertices_sent, IsLogged}
+use Rattle.hw_run_laws.specs.Restart.{arrivals, IsLogged}
+use Rattle.hw_run_laws.specs.Taken.{taken_served}
 use Rattle.hw_run_laws.proofs.AttemptLaws.{takes_fairly, lives_soundly}
-use Rattle.hw_run_laws.proofs.LifeLaws.{serves_life}
+use Rattle.hw_run_laws.proofs.LifeLaws.{serves_takes}
 use Rattle.hw_run_laws.proofs.GivenLaws.{put_there, put_others, files_after, each_by}
 use Rattle.hw_run_laws.proofs.ShortLaws.{hello, heard_hello, read, long, has_second, further_second, second, sent, ends_here, serves_so}
 use Rattle.hw_run_laws.proofs.StartLaws.{each_fits}
+use Rattle.hw_run_laws.proofs.TakingLaws.{fair_served}
 
 -- ---- what is left
 
@@ -101,8 +103,8 @@ module _ (me : ℕ) (a : Standing) (v : Vertex) (range : VertexInRange v) (fits 
   logs : Logs n m true a.held held
   logs = left_by n v a.held given
 
-  fair : IsFairPeer me n bytes
-  fair = subst (λ (vs : List Vertex). AreFair (setting_of n.core.config) me (logged_of n) (arrivals n vs)) (sym (sent n f range fits some few)) (λ accepted x there own. absurd (apart x there own), tt)
+  fair : IsFairServed me n bytes
+  fair = fair_served me n bytes (subst (λ (vs : List Vertex). AreFair (setting_of n.core.config) me (logged_of n) (arrivals n vs)) (sym (sent n f range fits some few)) (λ accepted x there own. absurd (apart x there own), tt))
 
   abbrev Is : Type 0
   Is = IsTaken me a v
@@ -116,7 +118,7 @@ module _ (me : ℕ) (a : Standing) (v : Vertex) (range : VertexInRange v) (fits 
 
   sound_behind : (written : List ℕ) (ends : ℕ) (e : SessionEnd) → Serves true (standing n a.held) bytes written (standing m held) 0 ends e → IsLogged e → me < length n.core.config.weights → IsSound n → IsReady me a → IsSound m
   sound_behind written ends e does logged validator sound ready =
-      lives_soundly me n sound validator ready.line m (takes_fairly me n m (vertices_sent bytes) fair (serves_life n m bytes written true a.held held 0 ends e does logged)) (each sound)
+      lives_soundly me n sound validator ready.line m (takes_fairly me n m (taken_served n bytes) fair (serves_takes n m bytes written true a.held held 0 ends e does logged)) (each sound)
 
   -- the session goes on, and the peer hangs up
   goes : (says : List Frame) → serve_step n (placed_behind (framed (hello n)) f) ≡ goes_on m says → Is

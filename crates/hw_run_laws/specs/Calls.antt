@@ -41,8 +41,9 @@ use Rattle.hw_meeting_node.specs.declared.meeter.Side.{Side}
 use Rattle.hw_meeting_node.specs.Meeting.{met}
 use Rattle.hw_service.specs.Scene.{DoorSeen}
 use Rattle.hw_service.specs.Talk.{Talker}
-use Rattle.hw_service.specs.Meets.{NodeMeets}
-use Rattle.hw_run_laws.specs.Restart.{vertices_sent, vertices_told, arrivals, IsLogged, IsMetLogged, IsJudged, HasCutLog}
+use Rattle.hw_service.specs.Meets.{vertices_of, NodeMeets}
+use Rattle.hw_run_laws.specs.Restart.{arrivals, IsLogged, IsMetLogged, IsJudged, HasCutLog}
+use Rattle.hw_run_laws.specs.Taken.{taken_served, taken_driven}
 
 -- ---- calls
 
@@ -52,13 +53,17 @@ pub record IsSound (n : NodeState) : Type 0 where
   pub config : ConfigInRange n.core.config
   pub vertices : All VertexInRange n.core.journal
 
--- No vertex that a peer sends by these bytes, and that the node accepts in its turn, brings a new unit by the validator.
-abbrev pub IsFairPeer : ℕ → NodeState → List ℕ → Type 0
-IsFairPeer me n read = AreFair (setting_of n.core.config) me (logged_of n) (arrivals n (vertices_sent read))
+-- No vertex that the node takes where it serves a peer that sends these bytes, and that it accepts in its turn, brings a new unit by the validator.
+abbrev pub IsFairServed : ℕ → NodeState → List ℕ → Type 0
+IsFairServed me n read = AreFair (setting_of n.core.config) me (logged_of n) (arrivals n (taken_served n read))
 
--- The same of the vertices that another node sends by these bytes in a meeting.
-abbrev pub IsFairMet : ℕ → NodeState → List ℕ → Type 0
-IsFairMet me n read = AreFair (setting_of n.core.config) me (logged_of n) (arrivals n (vertices_told n read))
+-- The same of the vertices that it takes where it drives one,
+abbrev pub IsFairDriven : ℕ → NodeState → PeerMark → List ℕ → Type 0
+IsFairDriven me n mark read = AreFair (setting_of n.core.config) me (logged_of n) (arrivals n (taken_driven n mark read))
+
+-- and in a meeting with another node that sends these bytes.
+abbrev pub IsFairMet : ℕ → Side → NodeState → List ℕ → Type 0
+IsFairMet me side n read = AreFair (setting_of n.core.config) me (logged_of n) (arrivals n (vertices_of side n read))
 
 -- The same of a vertex that a host hands over.
 abbrev pub IsFairVertex : ℕ → NodeState → Vertex → Type 0
@@ -73,9 +78,9 @@ at_door a door = record { node = a.node; files = a.held; door = door }
 pub data Attempt (me : ℕ) (a b : Standing) : Type 0 where
   makes : (now : ℕ) (value : List ℕ) (result : Result (Option Plan) MakeFault) → Makes a.node (planned_by a.node me now value) b.node result → WritesOwn a.node (planned_by a.node me now value) b.node a.held b.held result → Attempt me a b
   accepts : (v : Vertex) (result : Result Receipt AcceptFault) → Accepts a.node v b.node result → WritesAccepted a.node v b.node a.held b.held result → IsFairVertex me a.node v → Attempt me a b
-  serves : (read written : List ℕ) (ends_old ends_new : ℕ) (e : SessionEnd) → Serves true a read written b ends_old ends_new e → IsFairPeer me a.node read → Attempt me a b
-  drives : (mark now : PeerMark) (read written : List ℕ) (ends_old ends_new : ℕ) (e : SessionEnd) → Drives true (driver_standing a.node mark a.held) read written (driver_standing b.node now b.held) ends_old ends_new e → IsFairPeer me a.node read → Attempt me a b
-  meets : (side : Side) (address : Option (List ℕ)) (from to : DoorSeen) (e : MeetEnd) → (does : NodeMeets side address true (at_door a from) (at_door b to) e) → IsFairMet me a.node does.meets.read → Attempt me a b
+  serves : (read written : List ℕ) (ends_old ends_new : ℕ) (e : SessionEnd) → Serves true a read written b ends_old ends_new e → IsFairServed me a.node read → Attempt me a b
+  drives : (mark now : PeerMark) (read written : List ℕ) (ends_old ends_new : ℕ) (e : SessionEnd) → Drives true (driver_standing a.node mark a.held) read written (driver_standing b.node now b.held) ends_old ends_new e → IsFairDriven me a.node mark read → Attempt me a b
+  meets : (side : Side) (address : Option (List ℕ)) (from to : DoorSeen) (e : MeetEnd) → (does : NodeMeets side address true (at_door a from) (at_door b to) e) → IsFairMet me side a.node does.meets.read → Attempt me a b
 
 -- no append failed in a `make`, and there was memory
 abbrev pub IsMade : Result (Option Plan) MakeFault → Type 0

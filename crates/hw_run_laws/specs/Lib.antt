@@ -5,3 +5,4 @@ pub mod MeetMembers
 pub mod Members
 pub mod Prefixes
 pub mod Restart
+pub mod Taken

@@ -7,6 +7,7 @@ ghost use Rattle.hw_run_laws.specs.CutMembers.{ReplaysAreFed, ReplaysStop, RunsA
 ghost use Rattle.hw_run_laws.specs.MeetMembers.{MeetingsAreThere, OneMeets};
 ghost use Rattle.hw_run_laws.specs.Members.{NewNodesAreReady, OneBegins, LivesAreThere, WholeSessionsAreThere, WholeDrivesAreThere, NothingDisturbs, VerticesAreSaid, VerticesAreTaken, TornLogsAreThere, TornAcceptsAreThere};
 ghost use Rattle.hw_run_laws.specs.Restart.{ServedIsALife, DrivenIsALife, MetIsALife, ServesIsALife, DrivesIsALife, MeetsIsALife, AcceptsIsALife, ServesKeepsLog, DrivesKeepsLog, MeetsKeepsLog, AcceptsKeepsLog, ServesLeavesLog, DrivesLeavesLog, MeetsLeavesLog, AcceptsLeavesLog, MakeLeavesLog, ServedSaysOfLog, DrivenSaysOfLog, MetSaysOfLog, ServesSaysOfLog, DrivesSaysOfLog, ServesWritesOfLog, DrivesWritesOfLog, MeetsSaysOfLog};
+ghost use Rattle.hw_run_laws.specs.Taken.{ServedTakesThese, DrivenTakesThese};
 ghost use Rattle.hw_run_laws.specs.Prefixes.{StoppedReplays, StoppedParts, CutServices, CutTurns, CutHosts, CutCalls};
 
 /// Consumers that had taken nothing, and are left where a replay or a run stops, have taken the first blocks of the
@@ -29,8 +30,10 @@ pub fn undisturbed_sessions_are_whole()
 
 /// What a session or a meeting does to the journal and the log of a node is that the first of the peer's vertices reach
 /// it: so its life is one of those that start again without a second unit of one number. So it is of a vertex that a
-/// host hands over.
+/// host hands over. Which vertices a session takes is told by the frames that it handles.
 pub fn sessions_are_lives()
+    ensures served_takes { ServedTakesThese }
+    ensures driven_takes { DrivenTakesThese }
     ensures served { ServedIsALife }
     ensures driven { DrivenIsALife }
     ensures met { MetIsALife }
@@ -64,7 +67,8 @@ pub fn sessions_say_what_is_logged()
 
 /// A node that begins with its own units on one line and the log of its journal keeps both through any calls of
 /// `make`, `accept` of fair vertices, sessions and meetings with fair peers, and starts; and no two different units by
-/// it of one number ever stood in its log or went out.
+/// it of one number ever stood in its log or went out. A peer is fair if no vertex that the node takes from it brings a
+/// new unit by the node.
 ///
 /// Where an append fails or there is no memory, and at the end of any other call, the node may be given up, and is
 /// started again from its log, mended where that is torn. What it said until then has no unit of its own that couldn't
