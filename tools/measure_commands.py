@@ -213,10 +213,26 @@ def version_row(options, words):
     return [words, *shown(*medians(options, one, other))]
 
 
+# Runs a program, and prints the most memory that it had, in KB.
+MOST_OF = """import resource, subprocess, sys
+subprocess.run(sys.argv[1:], stdout=subprocess.DEVNULL, stderr=subprocess.DEVNULL, check=True)
+print(resource.getrusage(resource.RUSAGE_CHILDREN).ru_maxrss)"""
+
+
+def most_memory(program, *words):
+    """The most memory of a run, in bytes. The system counts the memory of whoever starts a program, so a small process starts it."""
+    with tempfile.TemporaryDirectory() as folder:
+        command = [sys.executable, "-S", "-c", MOST_OF, program, *map(str, words)]
+        ran = subprocess.run(command, cwd=folder, capture_output=True, text=True)
+    if ran.returncode:
+        raise Failed(f"{program}: {ran.stderr.strip().splitlines()[-1]}")
+    return int(ran.stdout) * 1024
+
+
 def memory_row(options, words):
     """The most memory of a replay beside the bytes of its log, in MB."""
     log = made(options.logs, words)
-    most = used(options.program, "replay", log.path).ru_maxrss * 1024
+    most = most_memory(options.program, "replay", log.path)
     return [words, f"{most / 1e6:.1f}", f"{log.size / 1e6:.1f}", f"{most / log.size:.2f}"]
 
 
