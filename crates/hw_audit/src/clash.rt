@@ -5,10 +5,10 @@ ghost use Rattle.hw_types.specs.{Graph.{digest_eq}, Spelling.{unit_bytes}};
 ghost use Rattle.hw_safety.specs.declared.verdict.Verdict.TheVariants as Verdict;
 ghost use Rattle.hw_audit.specs.{Clashes.{AreKnown, known_with, unlike, clash_with, first_clash}, Held.{HeldUnit}};
 
-use crate::held::{Held, are_one};
+use crate::held::Held;
 use hw_codec::encode_unit;
 use hw_safety::Verdict;
-use hw_types::{Digest, OutOfMemory};
+use hw_types::{Digest, OutOfMemory, is_same_unit};
 use std::alloc::Global;
 use std::collections::HashMap;
 use std::marker::Model;
@@ -55,7 +55,7 @@ impl<'a> Known<'a> {
     fn with(&self, unit: &'a Held<'a>) -> Known<'a>
         ensures { result ≡ known_with (Some self.now) unit.now.signed.unit }
     {
-        let other = if self.other.is_some() || are_one(self.first.unit(), unit.unit()) {
+        let other = if self.other.is_some() || is_same_unit(self.first.unit(), unit.unit()) {
             self.other
         } else {
             Some(unit)
@@ -70,7 +70,7 @@ impl<'a> Known<'a> {
     fn unlike(&self, unit: &Held<'_>) -> Option<&'a Held<'a>>
         ensures { option_map (λ h. h.now.signed.unit) result ≡ unlike (Some self.now) unit.now.signed.unit }
     {
-        if are_one(self.first.unit(), unit.unit()) {
+        if is_same_unit(self.first.unit(), unit.unit()) {
             self.other
         } else {
             Some(self.first)

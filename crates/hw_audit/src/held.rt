@@ -1,7 +1,7 @@
 //! The units that stand in a journal.
 
 ghost use Rattle.std.specs.Prelude.{◌≡◌, List, ◌∷◌, ◌++◌, true, OnOk, IfOk};
-ghost use Rattle.hw_types.specs.{declared.unit.Vertex.{Vertex as Accepted}, Same.{unit_eq}, Spelling.{Fits, VertexFits, digest_of}};
+ghost use Rattle.hw_types.specs.{declared.unit.Vertex.{Vertex as Accepted}, Spelling.{Fits, VertexFits, digest_of}};
 ghost use Rattle.hw_dag.specs.Dag.{graph};
 ghost use Rattle.hw_core.specs.Readers.{names_of};
 ghost use Rattle.hw_audit.specs.Held.{held_as, held_by, is_settled};
@@ -85,13 +85,6 @@ fn named<'a>(name: Digest, signed: &'a SignedUnit, is_shown: bool) -> Held<'a>
     }
 }
 
-/// Whether the two are one unit.
-pub fn are_one(left: &WireUnit, right: &WireUnit) -> bool
-    ensures { result ≡ unit_eq left.now right.now }
-{
-    is_same_unit(left, right)
-}
-
 /// Whether this very unit is in the graph, where it has this name.
 fn is_settled(dag: &Dag, name: &Digest, unit: &WireUnit) -> bool
     requires { name.now ≡ digest_of unit.now }
@@ -100,7 +93,7 @@ fn is_settled(dag: &Dag, name: &Digest, unit: &WireUnit) -> bool
     // For the prover: what stands behind a `Dag` is a graph.
     dag.recall_graph();
     match dag.find(name) {
-        Some(no) => are_one(&dag.unit(no).signed().unit, unit),
+        Some(no) => is_same_unit(&dag.unit(no).signed().unit, unit),
         None => false,
     }
 }

@@ -5,14 +5,12 @@ ghost use Rattle.hex.specs.Hex.{encode_lower};
 ghost use Rattle.hw_text.specs.Text.{digest_text};
 ghost use Rattle.hw_audit.specs.Text.{name_in, culprit_line, agree_line, height_words, block_words, conflict_line, weight_line, clash_lines, audit_text};
 
+use hw_codec::SIGNATURE_LENGTH;
 use hw_safety::Verdict;
 use hw_text::{end_line, put_digest, put_numbered, put_word};
 use hw_types::{Bytes, Config, Culprit, Digest, OutOfMemory};
 use sha2::{Digest as _, Sha256};
 use std::alloc::Global;
-
-/// How many bytes a signature has.
-const SIGNATURE: usize = 32;
 
 /// What an audit of two nodes of this configuration prints.
 pub fn audit_text(alloc: Global, verdict: &Verdict, config: &Config) -> Result<Bytes, OutOfMemory>
@@ -107,7 +105,7 @@ fn name_in(signed: &Bytes) -> Digest
     ensures { result ≡ name_in signed.now }
 {
     let signed = signed.as_slice();
-    let unit = &signed[..signed.len().saturating_sub(SIGNATURE)];
+    let unit = &signed[..signed.len().saturating_sub(SIGNATURE_LENGTH)];
     Digest(Sha256::digest(unit))
 }
 

@@ -6,9 +6,9 @@ ghost use Rattle.hw_audit.specs.Held.{HeldUnit, node_held};
 ghost use Rattle.hw_audit.specs.Twins.{place_of, place_eq, Precedes, AreOne, IsLesser, AreTwins, AreTwinsAt, AreTwinsOfEach, HasTwins, IsLowered, AreNoted, AreShown, pair_in, IsPairOf};
 ghost use Rattle.hw_safety.specs.Pairs.{lower_of};
 
-use crate::held::{Held, are_one};
+use crate::held::Held;
 use hw_codec::{encode_unit, unit_is_in_range};
-use hw_types::OutOfMemory;
+use hw_types::{OutOfMemory, is_same_unit};
 use std::alloc::Global;
 use std::collections::HashMap;
 use std::marker::Model;
@@ -114,7 +114,7 @@ impl<'a> Twins<'a> {
         ensures { IfOk result (λ f. (ys : List HeldUnit) → AreTwins ys self.now → AreTwins (ys ++ unit.now ∷ []) f) }
     {
         let first = self.first();
-        if are_one(first.unit(), unit.unit()) {
+        if is_same_unit(first.unit(), unit.unit()) {
             return Ok(make_twins(first, self.second()));
         }
         if comes_before(alloc, unit, first)? {

@@ -5,16 +5,11 @@ ghost use Rattle.hw_lanes.specs.Pieces.{IsWithin};
 ghost use Rattle.hw_c.specs.Named.{looks_like_unit, name_of, unit_part};
 
 use crate::sent::Sent;
+use hw_codec::{SIGNATURE_LENGTH, UNIT_KIND};
 use hw_lanes::{Part, digests_of};
 
 /// At most this many names are worked out at once, four side by side.
 pub const MOST: usize = 64;
-
-/// The kind of a vertex that is a unit.
-const UNIT: u8 = 1;
-
-/// How many bytes a signature has.
-const SIGNATURE_LENGTH: usize = 32;
 
 /// No part of any bytes.
 const NOWHERE: Part = Part { start: 0, end: 0 };
@@ -31,7 +26,7 @@ fn looks_like_unit(bytes: &[u8], sent: Sent) -> bool
         && start <= bytes.len()
         && length <= bytes.len() - start
         && length > SIGNATURE_LENGTH
-        && bytes[start] == UNIT
+        && bytes[start] == UNIT_KIND
 }
 
 /// Whether one of the vertices looks like a unit with a right verdict. No answer depends on it: where there is none, no

@@ -69,7 +69,7 @@ fn whole_vertex(alloc: Global, bytes: &[u8]) -> Result<Vertex, CodecError>
     }
 }
 
-/// Lets a vertex go that an error follows. It stands apart, since a function clears the room of all that it may let go.
+/// Lets a vertex go that an error follows. Out of line: the back end zeroes a function's whole frame on entry.
 fn let_go(read: Result<Vertex, CodecError>, error: CodecError) -> CodecError
     ensures { result ≡ error }
 {

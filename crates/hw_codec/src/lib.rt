@@ -42,3 +42,4 @@ pub use ranges::{
 };
 pub use reader::Reader;
 pub use unit::fits;
+pub use vertex::{SIGNATURE_LENGTH, UNIT_KIND};

@@ -9,24 +9,27 @@ use crate::unit::{put_unit, read_unit, unit_len};
 use hw_types::{CodecError, Endorsement, Evidence, OutOfMemory, Signature, SignedUnit, Vertex};
 use std::alloc::Global;
 
+/// The kind of a vertex that is a unit: its first byte.
+pub const UNIT_KIND: u8 = 1;
+
+/// How many bytes a signature has.
+pub const SIGNATURE_LENGTH: usize = 32;
+
 #[tactic(auto, unfolding(hw_types::specs::Reading::vertex_at))]
 pub(crate) fn read_vertex(alloc: Global, reader: &mut Reader<'_>) -> Result<Vertex, CodecError>
     ensures { Gives (λ vertex. (vertex, reader.new)) result (vertex_at reader.old) }
 {
     let place = reader.place();
     match reader.u8()? {
-        1 => match read_signed(alloc, reader) {
-            Ok(unit) => Ok(Vertex::Unit(unit)),
-            Err(error) => Err(error),
-        },
+        UNIT_KIND => Ok(Vertex::Unit(read_signed(alloc, reader)?)),
         2 => read_evidence(alloc, reader),
         3 => read_endorsement(reader),
         _ => Err(CodecError::BadTag(place)),
     }
 }
 
-/// What stands behind the kind of an evidence. It stands apart, since a function clears the room of all that it may
-/// hold, and mostly a vertex is a unit.
+/// What follows the kind of an evidence. Out of line: the back end zeroes a function's whole frame on entry, and mostly
+/// a vertex is a unit.
 fn read_evidence(alloc: Global, reader: &mut Reader<'_>) -> Result<Vertex, CodecError>
     ensures { Gives (λ vertex. (vertex, reader.new)) result (vertex_behind 0 2 reader.old) }
 {
@@ -70,7 +73,7 @@ pub(crate) fn vertex_len(vertex: &Vertex) -> usize {
 }
 
 fn signed_len(unit: &SignedUnit) -> usize {
-    unit_len(&unit.unit).saturating_add(32)
+    unit_len(&unit.unit).saturating_add(SIGNATURE_LENGTH)
 }
 
 /// Writes a vertex behind what stands in `out`.

@@ -253,9 +253,8 @@ fn earlier_vote(dag: &Dag, no: UnitNo, block: UnitNo) -> Option<UnitNo>
     requires block_known { block.0 < count_of dag.now }
     ensures { IsEarlierVote dag.now no.0 block.0 result }
 {
-    let unit = dag.unit(no);
-    match unit.panorama().get(unit.signed().unit.creator) {
-        View::Correct(before) if votes_for(dag, before, block) => Some(before),
+    match dag.predecessor(no) {
+        Some(before) if votes_for(dag, before, block) => Some(before),
         _ => None,
     }
 }

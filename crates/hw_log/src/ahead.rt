@@ -6,7 +6,8 @@ ghost use Rattle.hw_io.specs.Reads.{OnlyReads, CountsReads, HoldsMore};
 ghost use Rattle.hw_lanes.specs.Pieces.{IsWithin, part_of};
 
 use crate::held::{HeldEntry, entry_at};
-use crate::name::{SIGNATURE_LENGTH, unit_part};
+use crate::name::unit_part;
+use hw_codec::{SIGNATURE_LENGTH, UNIT_KIND};
 use hw_io::{Files, IoFault, ReadBuffer};
 use hw_lanes::{Part, digests_in};
 use hw_types::{Digest, MAX_LENGTH, OutOfMemory};
@@ -16,9 +17,6 @@ use std::marker::Model;
 
 /// At most this many names are worked out at once.
 const MOST: usize = 64;
-
-/// The kind of a vertex that is a unit in its full form.
-const UNIT: u8 = 1;
 
 /// Parts of a log's bytes, and the digest of each.
 #[derive(Drop)]
@@ -219,7 +217,7 @@ fn unit_of(bytes: &[u8], entry: HeldEntry) -> Option<Part>
         start,
         end,
     } = entry;
-    if verdict && end - start > SIGNATURE_LENGTH && bytes[start] == UNIT {
+    if verdict && end - start > SIGNATURE_LENGTH && bytes[start] == UNIT_KIND {
         Some(unit_part(start, end))
     } else {
         None

@@ -198,8 +198,8 @@ impl Lasts {
     }
 }
 
-/// That this unit becomes its creator's last one. It stands apart, since a function clears the room of all that it may
-/// hold, and in version 1 none is kept.
+/// That this unit becomes its creator's last one. Out of line: the back end zeroes a function's whole frame on entry,
+/// and in version 1 none is kept.
 fn noted_of(alloc: Global, unit: &WireUnit) -> Result<Noted, OutOfMemory>
     requires { Fits unit.now }
     ensures { IfOk result (λ noted. noted ≡ Some (record { creator = unit.now.creator; last = last_of unit.now })) }

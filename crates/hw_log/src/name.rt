@@ -4,11 +4,9 @@ ghost use Rattle.std.specs.Prelude.{◌≡◌, ◌+◌, ◌-◌, ◌<◌, Ok, If
 ghost use Rattle.hw_types.specs.Reading.{vertex_of};
 ghost use Rattle.hw_log.specs.Named.{NamesUnit};
 
+use hw_codec::SIGNATURE_LENGTH;
 use hw_lanes::Part;
 use hw_types::Vertex;
-
-/// How many bytes a signature has.
-pub(crate) const SIGNATURE_LENGTH: usize = 32;
 
 /// The part of these bytes that spells the unit, where they are its vertex in the full form; None of another vertex. So
 /// nothing has to be spelled again for the unit's name.

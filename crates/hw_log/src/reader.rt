@@ -448,8 +448,7 @@ fn boxed(alloc: Global, next: NextUnit) -> Result<ReadVertex, LogError>
     }
 }
 
-/// Lets a vertex go for which there was no memory. It stands apart, since a function clears the room of all that it may
-/// let go.
+/// Lets a vertex go for which there was no memory. Out of line: the back end zeroes a function's whole frame on entry.
 fn let_go(refused: AllocFailed<Vertex>) -> LogError
     ensures { result ≡ OutOfMemory }
 {

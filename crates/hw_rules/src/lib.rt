@@ -23,5 +23,5 @@ mod rounds;
 pub use alone::local;
 pub use judge::Judge;
 pub use laws::{endorsed_is_kept, endorsed_is_seen};
-pub use lookups::{previous_of, wire_unit};
+pub use lookups::wire_unit;
 pub use rounds::may_follow;

@@ -4,8 +4,7 @@ ghost use Rattle.std.specs.Prelude.{◌≡◌, ◌<◌, ◌-◌, length, IfSome,
 ghost use Rattle.hw_dag.specs.declared.numbers.UnitNo.{UnitNo as Number};
 ghost use Rattle.hw_dag.specs.declared.numbers.View.TheVariants as view;
 ghost use Rattle.hw_dag.specs.Dag.{count_of, unit_at, view_at};
-ghost use Rattle.hw_dag.specs.Admission.{IsGraph};
-ghost use Rattle.hw_dag.specs.Tables.{number_of, predecessor_of};
+ghost use Rattle.hw_dag.specs.Tables.{number_of};
 ghost use Rattle.hw_rules.specs.Judged.{before_of};
 
 use hw_dag::{Dag, Panorama, Prepared, Slot, Unit, UnitNo, View};
@@ -57,16 +56,6 @@ pub fn previous(prepared: &Prepared) -> Option<UnitNo>
     ensures { result ≡ before_of prepared.now }
 {
     cited(prepared, prepared.signed().unit.creator)
-}
-
-/// The unit that one of the graph cites of its own creator.
-pub fn previous_of(dag: &Dag, no: UnitNo) -> Option<UnitNo>
-    requires graph { IsGraph dag.now }
-    requires known { no.0 < count_of dag.now }
-    ensures { result ≡ predecessor_of (unit_at dag.now no.0) }
-{
-    let unit = dag.unit(no);
-    unit_in(unit.panorama(), unit.signed().unit.creator)
 }
 
 /// A unit of the graph, as its creator signed it.

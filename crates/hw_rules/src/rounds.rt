@@ -5,7 +5,7 @@ ghost use Rattle.hw_types.specs.{Rounds.{changes_lawfully}, Tests.{first_broken}
 ghost use Rattle.hw_dag.specs.Admission.{node_prepared};
 ghost use Rattle.hw_rules.specs.{Judged.{IsCase, below_of, round_tests, changes_round, is_third, is_unled, repeats_time}, Verdict.{verdict_of}};
 
-use crate::lookups::{previous, previous_of, wire_unit};
+use crate::lookups::{previous, wire_unit};
 use hw_dag::{Dag, Prepared};
 use hw_rounds::{LeaderTable, changes_lawfully, round_id};
 use hw_types::{MAX_EXPONENT, Rule};
@@ -64,7 +64,7 @@ fn is_third(dag: &Dag, prepared: &Prepared) -> bool
     let Some(no) = previous(prepared) else {
         return false;
     };
-    let Some(first) = previous_of(dag, no) else {
+    let Some(first) = dag.predecessor(no) else {
         return false;
     };
     let unit = &prepared.signed().unit;

@@ -1,6 +1,7 @@
 //! Whether two units are one, compared whole and not by their digests.
 
 ghost use Rattle.std.specs.Prelude.{◌≡◌, ◌↔◌, IsTrue};
+ghost use Rattle.hw_types.specs.Same.{unit_eq};
 
 use crate::items::{Bytes, DigestList};
 use crate::shared::ObsList;
@@ -8,7 +9,8 @@ use crate::unit::WireUnit;
 
 /// Whether the two units are equal, field by field.
 pub fn is_same_unit(left: &WireUnit, right: &WireUnit) -> bool
-    ensures { IsTrue result ↔ (left.now ≡ right.now) }
+    ensures same { IsTrue result ↔ (left.now ≡ right.now) }
+    ensures test { result ≡ unit_eq left.now right.now }
 {
     has_same_numbers(left, right) && has_same_lists(left, right)
 }

@@ -6,7 +6,7 @@ ghost use Rattle.hw_dag.specs.Jumps.{jump_count};
 ghost use Rattle.hw_dag.specs.Dag.{unit_at, node_at, count_of, creator_of, seq_of, view_at};
 ghost use Rattle.hw_dag.specs.Lanes.{is_lane_below, is_seen, IsLaneAt, IsAncestorAt, IsBelow};
 ghost use Rattle.hw_dag.specs.declared.numbers.UnitNo.{UnitNo as Number};
-ghost use Rattle.hw_dag.specs.Tables.{IsKnown};
+ghost use Rattle.hw_dag.specs.Tables.{IsKnown, predecessor_of};
 ghost use Rattle.hw_dag.specs.Walks.{is_marked, Cites, HasRoom, IsInNoSlot, IsCitedBySome, IsBelowMarked};
 
 use crate::Steps;
@@ -38,6 +38,16 @@ impl Dag {
     {
         let from = self.unit(block).height().unwrap_or(0);
         self.chains.walk(block, from, height, steps)
+    }
+
+    /// The unit that comes before it on its lane.
+    pub fn predecessor(&self, no: UnitNo) -> Option<UnitNo>
+        requires { no.0 < count_of self.now }
+        ensures { result ≡ predecessor_of (unit_at self.now no.0) }
+    {
+        // For the prover: what stands behind a `Dag` is a graph.
+        self.recall_graph();
+        self.unit(no).predecessor()
     }
 
     /// Whether a unit is another one or on its lane.

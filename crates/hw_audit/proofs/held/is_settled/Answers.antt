@@ -10,7 +10,7 @@ use Rattle.hw_audit.proofs.held.is_settled.Goals as goal
 
 pub returns-in-Some : goal.returns-in-Some
 returns-in-Some c =
-    c.are_one.ensures
+    c.is_same_unit.ensures.test
     ∙ ap (λ (s : SignedUnit). unit_eq s.unit c.args.unit.now) (c.signed.ensures ∙ ap (λ (u : SettledUnit). u.signed) c.unit.ensures)
     ∙ settled_found c.args.dag.now c.args.unit.now c.recall_graph.ensures c.in-Some.no.0 c.in-Some.ensures.found.0 (c.in-Some.ensures.found.1 ∙ c.requires)
 

@@ -15,13 +15,13 @@ pub returns-then-is_same_unit-clause-repeat : goal.returns-then-is_same_unit-cla
 returns-then-is_same_unit-clause-repeat c _ =
     let found = c.in-Some.ensures.found in
     let at = subst (λ (d : Digest). lookup (digest_eq d) c.args.names.now.entries ≡ Some found.0) c.requires.name found.1 in
-    unit_repeats c.args.journal.now c.requires.node.0 c.args.state.now c.requires.node.1 c.args.names.now.entries c.requires.table c.args.unit.now c.requires.local c.in-Some.known.now found.0 at found.2 (c.is_same_unit.ensures.0 c.if-is_same_unit.true)
+    unit_repeats c.args.journal.now c.requires.node.0 c.args.state.now c.requires.node.1 c.args.names.now.entries c.requires.table c.args.unit.now c.requires.local c.in-Some.known.now found.0 at found.2 (c.is_same_unit.ensures.same.0 c.if-is_same_unit.true)
 
 pub returns-in-Some-clause-refused : goal.returns-in-Some-clause-refused
 returns-in-Some-clause-refused c =
     let found = c.in-Some.ensures.found in
     let at = subst (λ (d : Digest). lookup (digest_eq d) c.args.names.now.entries ≡ Some found.0) c.requires.name found.1 in
-    unit_clashes c.args.journal.now c.requires.node.0 c.args.state.now c.requires.node.1 c.args.names.now.entries c.requires.table c.args.unit.now c.requires.local c.in-Some.known.now found.0 at found.2 (λ same. false≢true (sym c.if-is_same_unit.false ∙ c.is_same_unit.ensures.1 same))
+    unit_clashes c.args.journal.now c.requires.node.0 c.args.state.now c.requires.node.1 c.args.names.now.entries c.requires.table c.args.unit.now c.requires.local c.in-Some.known.now found.0 at found.2 (λ same. false≢true (sym c.if-is_same_unit.false ∙ c.is_same_unit.ensures.same.1 same))
     ∙ ap (λ (d : Digest). Err (cause.Clash d)) (sym c.requires.name)
 
 pub returns-then-journal-config-clause-refused : goal.returns-then-journal-config-clause-refused

@@ -14,6 +14,6 @@ pub returns : goal.returns
 returns c =
     let found = c.unit_on_lane-found.result.0 in
     let is : (unit_at c.args.dag.now found).signed.unit ≡ c.signed-2.result.now.unit = ap (λ (s : SignedUnit). s.unit) (sym (c.signed-2.ensures ∙ ap (λ (u : SettledUnit). u.signed) c.unit-2.ensures)) in (
-      λ t. found_is c.args.dag.now c.recall_graph.ensures c.args.tip.0 c.requires c.args.unit.now found c.unit_on_lane-found.ensures (is ∙ c.is_same_unit.ensures.0 t),
-      λ on. c.is_same_unit.ensures.1 (sym is ∙ only_found c.args.dag.now c.recall_graph.ensures c.args.tip.0 c.requires c.args.unit.now found c.unit_on_lane-found.ensures on),
+      λ t. found_is c.args.dag.now c.recall_graph.ensures c.args.tip.0 c.requires c.args.unit.now found c.unit_on_lane-found.ensures (is ∙ c.is_same_unit.ensures.same.0 t),
+      λ on. c.is_same_unit.ensures.same.1 (sym is ∙ only_found c.args.dag.now c.recall_graph.ensures c.args.tip.0 c.requires c.args.unit.now found c.unit_on_lane-found.ensures on),
     )
