@@ -3,6 +3,7 @@
 ghost use Rattle.std.specs.Prelude.{◌≡◌, ℕ, ◌+◌, ◌<◌, ◌≤◌, ◌↔◌, length, true, Some, IsTrue, IfSome, IfNone};
 ghost use Rattle.hw_types.specs.Graph.{is_consistent};
 ghost use Rattle.hw_dag.specs.{Dag.{graph, observations, count_of, unit_at, IsPanorama}, Admission.{IsGraph}, Lanes.{AreWeights}};
+ghost use Rattle.hw_horizon.specs.Asked.{IsAsked};
 ghost use Rattle.hw_horizon.specs.Kept.{AreKept};
 ghost use Rattle.hw_horizon.specs.Bounds.{AreBounds, AreTips};
 ghost use Rattle.hw_horizon.specs.Detected.{IsSearched, HasSummitAt, IsLeastLevel, HasNoLevel, IsFoundAt, StandsNot, HasSearched};
@@ -154,14 +155,10 @@ impl Searcher {
         level: u32,
         quorum: u64,
     ) -> bool
-        requires graph { IsGraph dag.now }
-        requires weights { AreWeights self.old.config.weights dag.now }
-        requires panorama { IsPanorama dag.now panorama.now }
+        requires question { IsAsked self.old.config.weights dag.now panorama.now block.0 }
         requires consistent { is_consistent (graph dag.now) (observations dag.now panorama.now) ≡ true }
-        requires known { block.0 < count_of dag.now }
         requires level { level ≤ self.old.config.levels }
-        requires walks { AreKept dag.now self.old.horizons.walks }
-        requires bounds { AreBounds self.old.config.weights dag.now self.old.bounds }
+        requires kept { IsTrueIn dag.now self.old.config self.old.horizons self.old.bounds }
         requires tips { AreTips panorama.now self.old.bounds }
         requires asked { self.old.bounds.block ≡ Some block }
         ensures exact { IsTrue result ↔ HasSummitAt self.old.config dag.now panorama.now block.0 level quorum }

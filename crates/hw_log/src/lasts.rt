@@ -35,7 +35,7 @@ impl Model for Lasts {
 
 /// A unit that becomes its creator's last one.
 #[derive(Drop)]
-struct KeptUnit {
+struct LastUnit {
     creator: u32,
     last: Last,
 }
@@ -43,7 +43,7 @@ struct KeptUnit {
 /// What an entry's vertex changes of the last units: one becomes its creator's, or none does.
 #[derive(Drop)]
 pub struct Noted {
-    kept: Option<KeptUnit>,
+    kept: Option<LastUnit>,
 }
 
 impl Model for Noted {
@@ -207,7 +207,7 @@ fn noted_of(alloc: Global, unit: &WireUnit) -> Result<Noted, OutOfMemory>
     let last = Last::of(alloc, unit)?;
     let creator = unit.creator;
     Ok(Noted {
-        kept: Some(KeptUnit { creator, last }),
+        kept: Some(LastUnit { creator, last }),
     })
 }
 
@@ -220,7 +220,7 @@ fn noted_by(unit: &WireUnit, name: Digest) -> Result<Noted, OutOfMemory>
     let last = Last::named(unit, name)?;
     let creator = unit.creator;
     Ok(Noted {
-        kept: Some(KeptUnit { creator, last }),
+        kept: Some(LastUnit { creator, last }),
     })
 }
 
