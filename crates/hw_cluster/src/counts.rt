@@ -17,7 +17,9 @@ use hw_types::{Config, SignedUnit, Vertex, WireUnit, is_same_unit};
 fn is_other(validator: u32, unit: &WireUnit, signed: &SignedUnit) -> bool
     ensures { result ≡ is_other validator unit.now signed.now }
 {
-    signed.unit.creator == validator && signed.unit.seq == unit.seq && !is_same_unit(unit, &signed.unit)
+    signed.unit.creator == validator
+        && signed.unit.seq == unit.seq
+        && !is_same_unit(unit, &signed.unit)
 }
 
 /// Whether the vertex has such a unit.
