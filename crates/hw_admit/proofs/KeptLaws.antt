@@ -10,7 +10,7 @@ use Rattle.hw_dag.specs.Admission.{IsGraph, IsFork}
 use Rattle.hw_dag.proofs.AdmitLaws.{panorama_stays, is_fork_stays}
 use Rattle.hw_dag.proofs.GrowthLaws.{node_stays, observations_stay, fork_stays}
 use Rattle.hw_dag.proofs.NodeLaws.{AreApart}
-use Rattle.hw_admit.specs.declared.kept.KeptFork.{KeptFork}
+use Rattle.hw_admit.specs.declared.kept.CachedForkChoice.{CachedForkChoice}
 use Rattle.hw_admit.specs.Kept.{IsChoice, IsKept}
 
 module _ (weights : List ℕ) (dag later : UnitGraph) (grows : GrowsTo dag later) (g : IsGraph dag) (apart : AreApart later) where
@@ -31,7 +31,7 @@ module _ (weights : List ℕ) (dag later : UnitGraph) (grows : GrowsTo dag later
         block = subst (λ (os : List Obs). IsFork later os fork) (sym same) (is_fork_stays dag later grows g apart (observations dag panorama) fork is.block);
       }
 
-  pub kept_stays : (kept : KeptFork) → IsKept weights dag kept → IsKept weights later kept
+  pub kept_stays : (kept : CachedForkChoice) → IsKept weights dag kept → IsKept weights later kept
   kept_stays kept is = record {
     length_is = is.length_is ∙ sym grows.validators_are;
     choice = λ t. choice_stays kept.panorama kept.fork (is.choice t);

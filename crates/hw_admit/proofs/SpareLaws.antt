@@ -12,7 +12,7 @@ use Rattle.hw_naivety.specs.Naivety.{NaiveTips, IsNoted}
 use Rattle.hw_naivety.proofs.GrowLaws.{noted_stays}
 use Rattle.hw_rules.specs.Judged.{AllEndorseSeen}
 use Rattle.hw_rules.proofs.SeenLaws.{list_stays}
-use Rattle.hw_admit.specs.declared.kept.KeptFork.{KeptFork}
+use Rattle.hw_admit.specs.declared.kept.CachedForkChoice.{CachedForkChoice}
 use Rattle.hw_admit.specs.Kept.{IsKept}
 use Rattle.hw_admit.proofs.KeptLaws.{kept_stays}
 use Rattle.hw_admit.specs.State.{NodeState, IsState, MarksAreMet, observed_in}
@@ -31,7 +31,7 @@ module _ (dag later : UnitGraph) (g : IsGraph dag) (h : IsGraph later) (units : 
   pub noted_respaced : (tips : NaiveTips) → IsNoted tips dag → IsNoted tips later
   noted_respaced tips noted = noted_stays dag later g h grows_none tips noted
 
-  pub kept_respaced : (weights : List ℕ) (kept : KeptFork) → IsKept weights dag kept → IsKept weights later kept
+  pub kept_respaced : (weights : List ℕ) (kept : CachedForkChoice) → IsKept weights dag kept → IsKept weights later kept
   kept_respaced weights kept is = kept_stays weights dag later grows_none g h.distinct kept is
 
   weights_respaced : (weights : List ℕ) → AreWeights weights dag → AreWeights weights later

@@ -18,7 +18,7 @@ use Rattle.hw_dag.proofs.SlotLaws.{slot_of}
 use Rattle.hw_types.specs.declared.config.Config.{Config}
 use Rattle.hw_endorse.specs.Told.{Told}
 use Rattle.hw_naivety.specs.Naivety.{NaiveTips}
-use Rattle.hw_admit.specs.declared.kept.KeptFork.{KeptFork}
+use Rattle.hw_admit.specs.declared.kept.CachedForkChoice.{CachedForkChoice}
 use Rattle.hw_admit.specs.State.{NodeState, IsState, IsBeside, is_marked, is_faulty_in, observed_in}
 use Rattle.hw_admit.proofs.FaultyLaws.{lawful_in, over_faulty, length_over, observations_set, panorama_with}
 
@@ -106,7 +106,7 @@ module _ (s : NodeState) (is : IsState s) where
     }
 
 -- what is kept beside doesn't read the marks
-pub is_beside_marked : (s : NodeState) {leaders : Config} {told : Told} {naivety : NaiveTips} {forks marks : ℕ} {own judged : KeptFork} → IsBeside s leaders told naivety forks marks own judged → {marked : List Bool} {panorama : List View}
+pub is_beside_marked : (s : NodeState) {leaders : Config} {told : Told} {naivety : NaiveTips} {forks marks : ℕ} {own judged : CachedForkChoice} → IsBeside s leaders told naivety forks marks own judged → {marked : List Bool} {panorama : List View}
     → IsBeside (record s { marked = marked; panorama = panorama }) leaders told naivety forks marks own judged
 is_beside_marked s b = record {
   leaders_are = b.leaders_are;

@@ -6,7 +6,7 @@ use Rattle.hw_dag.specs.declared.numbers.UnitNo.{UnitNo}
 use Rattle.hw_dag.specs.declared.numbers.View.{View}
 use Rattle.hw_dag.specs.Dag.{UnitGraph, node_at, graph, observations, IsPanorama}
 use Rattle.hw_dag.specs.Admission.{IsFork}
-use Rattle.hw_admit.specs.declared.kept.KeptFork.{KeptFork}
+use Rattle.hw_admit.specs.declared.kept.CachedForkChoice.{CachedForkChoice}
 
 -- a block of the graph that is the fork choice of a panorama of it
 pub record IsChoice (weights : List ℕ) (dag : UnitGraph) (panorama : List View) (fork : Option UnitNo) : Type 0 where
@@ -15,6 +15,6 @@ pub record IsChoice (weights : List ℕ) (dag : UnitGraph) (panorama : List View
   pub block : IsFork dag (observations dag panorama) fork
 
 -- the panorama has the graph's slots, and where the two belong together the fork choice is that of the panorama
-pub record IsKept (weights : List ℕ) (dag : UnitGraph) (kept : KeptFork) : Type 0 where
+pub record IsKept (weights : List ℕ) (dag : UnitGraph) (kept : CachedForkChoice) : Type 0 where
   pub length_is : length kept.panorama ≡ dag.validators
   pub choice : kept.is_known ≡ true → IsChoice weights dag kept.panorama kept.fork

@@ -16,10 +16,10 @@ use Rattle.hw_dag.specs.Lanes.{AreWeights}
 use Rattle.hw_endorse.specs.Told.{Told}
 use Rattle.hw_naivety.specs.Naivety.{NaiveTips, IsNoted}
 use Rattle.hw_rules.specs.Judged.{IsForkOf, AllEndorseSeen}
-use Rattle.hw_admit.specs.declared.kept.KeptFork.{KeptFork}
+use Rattle.hw_admit.specs.declared.kept.CachedForkChoice.{CachedForkChoice}
 use Rattle.hw_admit.specs.Kept.{IsKept}
-use Rattle.hw_admit.specs.declared.start.StateStart.{StateStart}
-use Rattle.hw_admit.specs.declared.start.StateStart.TheVariants as start
+use Rattle.hw_admit.specs.declared.start.StateError.{StateError}
+use Rattle.hw_admit.specs.declared.start.StateError.TheVariants as start
 
 -- ---- who is faulty
 
@@ -69,7 +69,7 @@ pub record IsState (s : NodeState) : Type 0 where
   pub observed : observations s.dag s.panorama ≡ observed_in s.config s.marked (graph s.dag)
 
 -- what is kept beside the state is of the same configuration and graph, and serves for its validators and for as many units as there is room for
-pub record IsBeside (s : NodeState) (leaders : Config) (told : Told) (naivety : NaiveTips) (forks marks : ℕ) (own judged : KeptFork) : Type 0 where
+pub record IsBeside (s : NodeState) (leaders : Config) (told : Told) (naivety : NaiveTips) (forks marks : ℕ) (own judged : CachedForkChoice) : Type 0 where
   pub leaders_are : leaders ≡ s.config
   pub weights_are : told.weights ≡ s.config.weights
   pub noted : IsNoted naivety s.dag
@@ -84,7 +84,7 @@ pub record IsBeside (s : NodeState) (leaders : Config) (told : Told) (naivety : 
 -- ---- how it begins and grows
 
 -- why there is no state: a limit that the configuration breaks, or want of memory where it breaks none
-abbrev pub IsStartFault : Option ConfigFault → StateStart → Type 0
+abbrev pub IsStartFault : Option ConfigFault → StateError → Type 0
 IsStartFault broken (start.Fault fault) = broken ≡ Some fault
 IsStartFault broken start.OutOfMemory = broken ≡ None
 

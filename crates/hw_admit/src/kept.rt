@@ -16,19 +16,19 @@ use std::alloc::Global;
 /// A panorama and its fork choice. More units change nothing of it, so it serves until another panorama
 /// is asked for.
 #[derive(Drop)]
-pub struct KeptFork {
+pub struct CachedForkChoice {
     pub panorama: Panorama,
     pub fork: Option<UnitNo>,
     /// Whether the two belong together. At first nothing is kept.
     pub is_known: bool,
 }
 
-impl KeptFork {
+impl CachedForkChoice {
     /// Nothing is kept.
-    pub fn new(alloc: Global, validators: u32) -> Result<KeptFork, OutOfMemory>
+    pub fn new(alloc: Global, validators: u32) -> Result<CachedForkChoice, OutOfMemory>
         ensures { IfOk result (λ kept. (weights : List ℕ) (dag : UnitGraph) → dag.validators ≡ validators → IsKept weights dag kept) }
     {
-        Ok(KeptFork {
+        Ok(CachedForkChoice {
             panorama: Panorama::new(alloc, validators)?,
             fork: None,
             is_known: false,

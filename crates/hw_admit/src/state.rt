@@ -19,8 +19,8 @@ ghost use Rattle.hw_naivety.specs.{Naivety.{KeepsEndorsed, IsNoted, HasNoNaiveFo
 ghost use Rattle.hw_rules.specs.Judged.{KeepsLocalRules};
 ghost use Rattle.hw_admit.specs.{Kept.{IsKept}, State.{NodeState, IsState, IsStartFault, IsAdmitted, MarksAreMet, is_faulty_in, is_marked, observed_in, told_in}};
 
-use crate::kept::KeptFork;
-use crate::start::StateStart;
+use crate::kept::CachedForkChoice;
+use crate::start::StateError;
 use hw_dag::{Dag, Marks, Panorama, Prepared, UnitNo, View};
 use hw_endorse::{Added, EndorsedUnits, Endorsements};
 use hw_forks::Forks;
@@ -52,9 +52,9 @@ pub struct State {
     endorsements: Endorsements,
     panorama: Panorama,
     /// The fork choice of its panorama.
-    own_fork: KeptFork,
+    own_fork: CachedForkChoice,
     /// The fork choice of the unit that was judged last.
-    judged_fork: KeptFork,
+    judged_fork: CachedForkChoice,
 }
 
 impl Drop for State {
@@ -96,7 +96,7 @@ impl Model for State {
 
 impl State {
     /// The state of a node that has settled nothing and knows of no fault, and has no room so far.
-    pub fn new(alloc: Global, config: Config) -> Result<State, StateStart>
+    pub fn new(alloc: Global, config: Config) -> Result<State, StateError>
         // There is none for a configuration that breaks a limit, which is named.
         ensures lawful { IfOk result (λ state. config_fault config ≡ None) }
         ensures fault { IfErr result (IsStartFault (config_fault config)) }
@@ -109,8 +109,8 @@ impl State {
         ensures unseen { IfOk result (λ state. state.panorama ≡ replicate (length config.weights) view.Absent) }
     {
         match config.check() {
-            Ok(()) => begin(alloc, config).map_err(|_| StateStart::OutOfMemory),
-            Err(fault) => Err(StateStart::Fault(fault)),
+            Ok(()) => begin(alloc, config).map_err(|_| StateError::OutOfMemory),
+            Err(fault) => Err(StateError::Fault(fault)),
         }
     }
 
@@ -444,12 +444,15 @@ fn nothing_told(
 }
 
 /// No fork choice, neither of the state nor of a unit.
-fn nothing_kept(alloc: Global, validators: u32) -> Result<(KeptFork, KeptFork), OutOfMemory>
+fn nothing_kept(
+    alloc: Global,
+    validators: u32,
+) -> Result<(CachedForkChoice, CachedForkChoice), OutOfMemory>
     ensures own { IfOk result (λ kept. (weights : List ℕ) (dag : UnitGraph) → dag.validators ≡ validators → IsKept weights dag kept.0) }
     ensures judged { IfOk result (λ kept. (weights : List ℕ) (dag : UnitGraph) → dag.validators ≡ validators → IsKept weights dag kept.1) }
 {
-    let own = KeptFork::new(alloc, validators)?;
-    Ok((own, KeptFork::new(alloc, validators)?))
+    let own = CachedForkChoice::new(alloc, validators)?;
+    Ok((own, CachedForkChoice::new(alloc, validators)?))
 }
 
 /// Scratch for the fork choices of so many validators. It never grows.

@@ -218,7 +218,7 @@ module _ (config : Config) (left right : List Vertex) where
   blamed_weigh b s = s.weight_is ∙ sym (weigh (setting_of config) left right)
 
 module _ (config : Config) (left right : List Vertex) (dl dr : List Decision) (weights : List ℕ) (units : List HeldUnit) (middle : ℕ) (left_chain right_chain : List Digest)
-    (read : IsRead config left right dl dr weights units middle left_chain right_chain) (l r : List HeldUnit) (front : l ≡ take middle units) (back : r ≡ drop middle units) where
+    (read : IsRead config left right dl dr (record { weights = weights; units = units; middle = middle; left_chain = left_chain; right_chain = right_chain })) (l r : List HeldUnit) (front : l ≡ take middle units) (back : r ≡ drop middle units) where
   left_units : l ≡ units_of config left
   left_units = front ∙ ap (take middle) read.units_are ∙ take_at (units_of config left) (units_of config right) middle (sym read.middle_is)
 

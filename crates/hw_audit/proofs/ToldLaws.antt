@@ -110,7 +110,7 @@ module _ (config : Config) (left right : List Vertex) where
       ∙ ap (flat_map (told_line s left right)) are.validators_are
 
   -- the text of a conflict
-  pub conflict_told : AreSigned (left ++ right) → (dl dr : List Decision) (height : ℕ) (a b : Digest) (cs : List Culprit) (weight : ℕ) → AreInConflict s left right dl dr height a b cs weight
+  pub conflict_told : AreSigned (left ++ right) → (dl dr : List Decision) (height : ℕ) (a b : Digest) (cs : List Culprit) (weight : ℕ) → AreInConflict s left right dl dr (record { height = height; left_block = a; right_block = b; culprits = cs; weight = weight })
       → conflict_line height a b ++ flat_map culprit_line cs ++ weight_line weight config.ftt ≡ conflict_text s left right (record { height = height; left = a; right = b })
   unfolding conflict_text
   conflict_told signed dl dr height a b cs weight is =
@@ -137,7 +137,7 @@ module _ (dl dr : List Decision) where
 
 -- chains that are in conflict part there
 pub conflict_part : (s : Setting) (left right : List Vertex) (dl dr : List Decision) (height : ℕ) (a b : Digest) (cs : List Culprit) (weight : ℕ) → journals_clash s left right ≡ false
-    → AreInConflict s left right dl dr height a b cs weight → parting_of (chain_of dl) (chain_of dr) ≡ Some (record { height = height; left = a; right = b })
+    → AreInConflict s left right dl dr (record { height = height; left_block = a; right_block = b; culprits = cs; weight = weight }) → parting_of (chain_of dl) (chain_of dr) ≡ Some (record { height = height; left = a; right = b })
 conflict_part s left right dl dr height a b cs weight none is = go (parting_of (chain_of dl) (chain_of dr)) refl
   where
     go : (o : Option Parting) → parting_of (chain_of dl) (chain_of dr) ≡ o → o ≡ Some (record { height = height; left = a; right = b })

@@ -29,7 +29,7 @@ weighty s left right dl dr (verdict.Conflict height a b culprits weight) left_pa
 -- what was read of two nodes, the left one first
 pub read_is : (config : Config) (left right : List Vertex) (dl dr : List Decision) (weights : List ℕ) (first units : List HeldUnit) (middle : ℕ) (left_chain right_chain : List Digest)
     → weights ≡ config.weights → first ≡ units_of config left → units ≡ first ++ units_of config right → middle ≡ length first → left_chain ≡ chain_of dl → right_chain ≡ chain_of dr
-    → IsRead config left right dl dr weights units middle left_chain right_chain
+    → IsRead config left right dl dr (record { weights = weights; units = units; middle = middle; left_chain = left_chain; right_chain = right_chain })
 read_is config left right dl dr weights first units middle left_chain right_chain w f u m l r = record {
   weights_are = w;
   units_are = u ∙ ap (λ (hs : List HeldUnit). hs ++ units_of config right) f;

@@ -20,13 +20,21 @@ use Rattle.hw_audit.specs.First.{ShowsFirstClash}
 abbrev pub units_of : Config → List Vertex → List HeldUnit
 units_of config journal = held_units (settled_of config (received_of (setting_of config) journal)) journal
 
--- the weights, the units of both journals, the left ones first, and the two chains
-pub record IsRead (config : Config) (left right : List Vertex) (dl dr : List Decision) (weights : List ℕ) (units : List HeldUnit) (middle : ℕ) (left_chain right_chain : List Digest) : Type 0 where
-  pub weights_are : weights ≡ config.weights
-  pub units_are : units ≡ units_of config left ++ units_of config right
-  pub middle_is : middle ≡ length (units_of config left)
-  pub left_is : left_chain ≡ chain_of dl
-  pub right_is : right_chain ≡ chain_of dr
+-- the weights, the units of both journals, the left ones first and so many, and the two chains
+pub record ReadPair : Type 0 where
+  pub weights : List ℕ
+  pub units : List HeldUnit
+  pub middle : ℕ
+  pub left_chain : List Digest
+  pub right_chain : List Digest
+
+-- this is read of two nodes of the configuration, with these journals and decisions
+pub record IsRead (config : Config) (left right : List Vertex) (dl dr : List Decision) (read : ReadPair) : Type 0 where
+  pub weights_are : read.weights ≡ config.weights
+  pub units_are : read.units ≡ units_of config left ++ units_of config right
+  pub middle_is : read.middle ≡ length (units_of config left)
+  pub left_is : read.left_chain ≡ chain_of dl
+  pub right_is : read.right_chain ≡ chain_of dr
 
 -- a conflict at this height, which blames all who equivocated
 pub record IsConflict (units : List HeldUnit) (nodes : List Node) (weights : List ℕ) (height : ℕ) (left right : Digest) (v : Verdict) : Type 0 where

@@ -54,10 +54,8 @@ pub fn audit(alloc: Global, left: &Core, right: &Core) -> Result<Verdict, AuditE
     }
     let left_chain = blocks(alloc, left)?;
     let right_chain = blocks(alloc, right)?;
-    match verdict_on(alloc, left, right, &left_chain, &right_chain) {
-        Ok(verdict) => Ok(verdict),
-        Err(OutOfMemory) => Err(AuditError::OutOfMemory),
-    }
+    let verdict = verdict_on(alloc, left, right, &left_chain, &right_chain)?;
+    Ok(verdict)
 }
 
 /// The node's decided blocks, by height.

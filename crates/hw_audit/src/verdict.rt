@@ -27,7 +27,8 @@ pub fn verdict<'a>(
     requires many { length weights.now < 2 ^ 32 }
     requires fits { sum weights.now < 2 ^ 64 }
     ensures { IfOk result (λ verdict. (config : Configured) (left right : List Vertex) (dl dr : List Decision)
-        → IsRead config left right dl dr weights.now units.now middle left_chain.now right_chain.now → IsAnswer config left right dl dr verdict) }
+        → IsRead config left right dl dr (record { weights = weights.now; units = units.now; middle = middle; left_chain = left_chain.now; right_chain = right_chain.now })
+        → IsAnswer config left right dl dr verdict) }
 {
     let (left, right) = units.split_at(middle);
     if let Some(clash) = first_clash(alloc, left, right)? {

@@ -1,6 +1,6 @@
 //! What is counted of a cluster.
 
-ghost use Rattle.std.specs.{Prelude.{◌≡◌, ◌<◌, ◌≤◌, ℕ, false, [], List, length, max}, List.{list_any}};
+ghost use Rattle.std.specs.{Prelude.{◌≡◌, ◌<◌, ◌≤◌, ℕ, false, [], List, length}, List.{list_any}};
 ghost use Rattle.hw_types.specs.declared.config.Config.{Config as Configuration};
 ghost use Rattle.hw_types.specs.declared.unit.Vertex.{Vertex as AVertex};
 ghost use Rattle.hw_types.specs.Culprits.{signed_in};
@@ -98,13 +98,6 @@ pub fn count_culprits(config: &Config, nodes: &[Core], sent: &[NamedVertex]) -> 
     count
 }
 
-/// The greater of the two.
-fn greater(left: u64, right: u64) -> u64
-    ensures { result ≡ max left right }
-{
-    if left < right { right } else { left }
-}
-
 /// The most blocks that one of the nodes has decided.
 pub fn most_decisions(nodes: &[Core]) -> u64
     requires { 1 ≤ length nodes.now }
@@ -113,7 +106,7 @@ pub fn most_decisions(nodes: &[Core]) -> u64
 {
     let mut most = 0;
     for core in nodes {
-        most = greater(most, core.decision_count());
+        most = most.max(core.decision_count());
     }
     most
 }

@@ -3,7 +3,7 @@
 ghost use Rattle.std.specs.Prelude.{◌≡◌, replicate, None, IfOk};
 ghost use Rattle.hw_types.specs.declared.config.Leaders.TheVariants.{Drawn};
 
-use hw_types::{Config, Leaders, OutOfMemory, WeightList};
+use hw_types::{Config, Leaders, OutOfMemory, USUAL_PARKED, USUAL_RECORDS, WeightList};
 use std::alloc::Global;
 
 /// The configuration of so many validators of weight 1, with this threshold and so many levels. Rounds last 16 to 256
@@ -24,8 +24,8 @@ pub fn drawn_config(
         min_exponent: 4,
         max_exponent: 8,
         leaders: Leaders::Drawn(key),
-        max_records: 131_072,
-        max_parked: 4_096,
+        max_records: USUAL_RECORDS,
+        max_parked: USUAL_PARKED,
         end: None,
     })
 }

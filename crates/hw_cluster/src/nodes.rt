@@ -10,7 +10,7 @@ ghost use Rattle.hw_cluster.specs.{Nodes.{begun_with, nodes_in, node_in, CanAct,
 use crate::acts::act_on;
 use crate::counts::{count_culprits, most_decisions};
 use crate::named::NamedVertex;
-use hw_admit::StateStart;
+use hw_admit::StateError;
 use hw_core::Core;
 use hw_honest::{Acted, Action};
 use hw_types::{Config, OutOfMemory};
@@ -41,7 +41,7 @@ impl Model for Cluster {
 impl Cluster {
     /// So many nodes that received nothing: the validators 0, 1, 2 and so on. There is no cluster exactly where
     /// the configuration breaks one of its limits, which is named, or for want of memory.
-    pub fn new(alloc: Global, config: Config, nodes: u32) -> Result<Cluster, StateStart>
+    pub fn new(alloc: Global, config: Config, nodes: u32) -> Result<Cluster, StateError>
         requires some { 1 ≤ nodes }
         requires few { nodes ≤ length config.weights }
         ensures lawful { IfOk result (λ cluster. config_fault config ≡ None) }
@@ -49,16 +49,14 @@ impl Cluster {
         ensures begun { IfOk result (λ cluster. cluster ≡ begun_with config nodes) }
     {
         if let Err(fault) = config.check() {
-            return Err(StateStart::Fault(fault));
+            return Err(StateError::Fault(fault));
         }
-        match begin_all(alloc, &config, nodes) {
-            Ok(nodes) => Ok(Cluster {
-                config,
-                nodes,
-                sent: Vec::new(alloc),
-            }),
-            Err(OutOfMemory) => Err(StateStart::OutOfMemory),
-        }
+        let nodes = begin_all(alloc, &config, nodes)?;
+        Ok(Cluster {
+            config,
+            nodes,
+            sent: Vec::new(alloc),
+        })
     }
 
     /// Does one action, and says what came of it.
@@ -127,9 +125,9 @@ pub fn begin(alloc: Global, config: Config) -> Result<Core, OutOfMemory>
 {
     match Core::new(alloc, config) {
         Ok(core) => Ok(core),
-        Err(StateStart::OutOfMemory) => Err(OutOfMemory),
+        Err(StateError::OutOfMemory) => Err(OutOfMemory),
         // The configuration keeps all limits.
-        Err(StateStart::Fault(_)) => unreachable!(),
+        Err(StateError::Fault(_)) => unreachable!(),
     }
 }
 
@@ -139,10 +137,8 @@ pub fn begin_all(alloc: Global, config: &Config, nodes: u32) -> Result<Vec<Core>
     ensures { IfOk result (λ cores. cores.items ≡ replicate nodes (begun_core config.now)) }
 {
     let mut cores = Vec::new(alloc);
-    match fill(&mut cores, config, nodes) {
-        Ok(()) => Ok(cores),
-        Err(OutOfMemory) => Err(OutOfMemory),
-    }
+    fill(&mut cores, config, nodes)?;
+    Ok(cores)
 }
 
 /// Puts so many nodes into a list that has none.

@@ -9,7 +9,7 @@ ghost use Rattle.hw_cluster.specs.{Nodes.{begun_with, nodes_in, acted_in, left_b
 use crate::drawn::drawn_config;
 use crate::nodes::Cluster;
 use crate::words::{Words, key_for};
-use hw_admit::StateStart;
+use hw_admit::StateError;
 use hw_honest::{Acted, Action};
 use hw_types::{Config, OutOfMemory};
 use std::alloc::Global;
@@ -44,9 +44,9 @@ fn begin(alloc: Global, key: [u8; 32], nodes: u32) -> Result<Cluster, OutOfMemor
 {
     match Cluster::new(alloc, sim_config(alloc, key, nodes)?, nodes) {
         Ok(cluster) => Ok(cluster),
-        Err(StateStart::OutOfMemory) => Err(OutOfMemory),
+        Err(StateError::OutOfMemory) => Err(OutOfMemory),
         // The configuration keeps all limits.
-        Err(StateStart::Fault(_)) => unreachable!(),
+        Err(StateError::Fault(_)) => unreachable!(),
     }
 }
 
@@ -141,15 +141,11 @@ pub fn simulate(
 {
     let key = key_for(b"sim", number);
     let mut cluster = begin(alloc, key, nodes)?;
-    match run(&mut cluster, &mut Words::new(key), nodes, steps) {
-        Ok(refused) => {
-            let ended = summary(&cluster, refused);
-            // The program that asks for this ends after it, and so the nodes' memory is left to that end.
-            cluster.leave();
-            Ok(ended)
-        }
-        Err(OutOfMemory) => Err(OutOfMemory),
-    }
+    let refused = run(&mut cluster, &mut Words::new(key), nodes, steps)?;
+    let ended = summary(&cluster, refused);
+    // The program that asks for this ends after it, and so the nodes' memory is left to that end.
+    cluster.leave();
+    Ok(ended)
 }
 
 /// What came of the actions of a cluster, of which so many were refused.

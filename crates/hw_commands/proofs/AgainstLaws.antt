@@ -207,7 +207,7 @@ pub record IsConflict (config : Config) (left right : List Vertex) (text : List 
   pub right_block : Digest
   pub culprits : List Rattle.hw_types.specs.declared.answers.Culprit.Culprit
   pub weight : ℕ
-  pub conflict : AreInConflict (setting_of config) left right (decisions_of (setting_of config) left) (decisions_of (setting_of config) right) height left_block right_block culprits weight
+  pub conflict : AreInConflict (setting_of config) left right (decisions_of (setting_of config) left) (decisions_of (setting_of config) right) (record { height = height; left_block = left_block; right_block = right_block; culprits = culprits; weight = weight })
   pub exceeds : config.ftt < weight
   pub told : text ≡ audit_text config.ftt (verdict.Conflict height left_block right_block culprits weight)
 
@@ -230,7 +230,7 @@ module _ (config : Config) (ls rs : List (Vertex × Bool)) where
       let cs = culprits_found s left right in
       let differ = part_differs (decisions_of s left) (decisions_of s right) p.parting p.parting_is in
       let weight = culprit_weight s left right in
-      let shown : AreInConflict s left right (decisions_of s left) (decisions_of s right) p.parting.height p.parting.left p.parting.right cs.0 weight = record { blocks = differ; culprits_are = cs.1; weight_is = refl } in
+      let shown : AreInConflict s left right (decisions_of s left) (decisions_of s right) (record { height = p.parting.height; left_block = p.parting.left; right_block = p.parting.right; culprits = cs.0; weight = weight }) = record { blocks = differ; culprits_are = cs.1; weight_is = refl } in
       record {
         no_clash = p.no_clash;
         height = p.parting.height;

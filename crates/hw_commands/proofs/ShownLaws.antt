@@ -241,7 +241,7 @@ module _ (words : List Word) (held : Held) (file keys name : Word) (asked : requ
             right_block = x.right_block;
             culprits = x.culprits;
             weight = x.weight;
-            conflict = subst (λ (g : Config). AreInConflict (setting_of k.config) t.core.journal k.journal (decisions_of (setting_of g) t.core.journal) (decisions_of (setting_of k.config) k.journal) x.height x.left_block x.right_block x.culprits x.weight) (sym one) x.conflict;
+            conflict = subst (λ (g : Config). AreInConflict (setting_of k.config) t.core.journal k.journal (decisions_of (setting_of g) t.core.journal) (decisions_of (setting_of k.config) k.journal) (record { height = x.height; left_block = x.left_block; right_block = x.right_block; culprits = x.culprits; weight = x.weight })) (sym one) x.conflict;
             exceeds = x.exceeds;
             told = text ∙ x.told;
           }

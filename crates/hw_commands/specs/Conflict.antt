@@ -26,7 +26,7 @@ pub record IsConflictWith (held : Held) (left : CoreState) (right : Word) (text 
   pub right_block : Digest
   pub culprits : List Culprit
   pub weight : ℕ
-  pub conflict : AreInConflict (setting_of left.config) left.journal second.core.journal (decided_in left) (decided_in second.core) height left_block right_block culprits weight
+  pub conflict : AreInConflict (setting_of left.config) left.journal second.core.journal (decided_in left) (decided_in second.core) (record { height = height; left_block = left_block; right_block = right_block; culprits = culprits; weight = weight })
   pub exceeds : left.config.ftt < weight
   pub told : text ≡ audit_text left.config.ftt (verdict.Conflict height left_block right_block culprits weight)
 

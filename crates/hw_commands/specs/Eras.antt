@@ -63,6 +63,6 @@ pub record IsEraConflictOf (held : Held) (left right : List (List ℕ)) (text : 
   pub right_block : Digest
   pub culprits : List Culprit
   pub weight : ℕ
-  pub conflict : AreInConflict (setting_of first.config) first.journal second.journal (decided_in first) (decided_in second) height left_block right_block culprits weight
+  pub conflict : AreInConflict (setting_of first.config) first.journal second.journal (decided_in first) (decided_in second) (record { height = height; left_block = left_block; right_block = right_block; culprits = culprits; weight = weight })
   pub exceeds : first.config.ftt < weight
   pub told : text ≡ era_line era ++ audit_text first.config.ftt (verdict.Conflict height left_block right_block culprits weight)

@@ -78,7 +78,7 @@ pub record ContradictsCertificate (words : List Word) (held : Held) (text : List
   pub right_block : Digest
   pub culprits : List Culprit
   pub weight : ℕ
-  pub conflict : AreInConflict (setting_of core.config) first.core.journal core.journal (decided_in first.core) (decided_in core) height left_block right_block culprits weight
+  pub conflict : AreInConflict (setting_of core.config) first.core.journal core.journal (decided_in first.core) (decided_in core) (record { height = height; left_block = left_block; right_block = right_block; culprits = culprits; weight = weight })
   pub exceeds : core.config.ftt < weight
   pub told : text ≡ audit_text core.config.ftt (verdict.Conflict height left_block right_block culprits weight)
 

@@ -31,7 +31,7 @@ choice_still : (state later : NodeState) (fork : Option UnitNo) → HasSameUnits
 choice_still state later fork still is = subst (λ (t : NodeState). IsChoice t fork) (sym still) (record { choice = is.choice; known = is.known })
 
 module _ (instance : Digest) (journal : List Vertex) (names : List (Digest × ℕ)) (park : Parked PreparedUnit) (rules : List (Digest × Rule)) (room : ℕ) (state : NodeState) (fork : Option UnitNo) (decided : DecidedState) (shown : ShownState)
-    (kept : IsKept instance journal names park rules room state fork decided shown) where
+    (kept : IsKept instance journal park state (record { names = names; rules = rules; room = room }) (record { fork = fork; decided = decided; shown = shown })) where
   -- one vertex more was taken, and room was made before
   module _ (v : Vertex) (later : NodeState) (after : Parked PreparedUnit) (roomy : DecidedState) (node : IsNode (journal ++ v ∷ []) after later) (config : later.config ≡ state.config) (grows : GrowsTo state.dag later.dag)
       (f : IsGraph state.dag) (g : IsGraph later.dag) (more : HasOnlyRoom decided roomy) (few : HasRoomFor roomy (length (graph later.dag) + length after.waiting)) where
@@ -46,10 +46,10 @@ module _ (instance : Digest) (journal : List Vertex) (names : List (Digest × �
     pub kept_followed : (vs : List Vertex) → vs ≡ journal ++ v ∷ [] → (names' : List (Digest × ℕ)) (rules' : List (Digest × Rule)) (room' : ℕ) → IsTable (setting_of state.config) (journal ++ v ∷ []) names' → AreRules (setting_of state.config) (journal ++ v ∷ []) rules'
         → length after.waiting ≤ room' → ((w : Vertex) → Among w (journal ++ v ∷ []) → VertexFits w) → HasPairs (setting_of state.config) (journal ++ v ∷ [])
         → (done : DecidedState) (choice : Option UnitNo) → HasFollowed later (length vs) roomy done choice → (forgot : ShownState) → forgot ≡ record shown { asked = None }
-        → (still : NodeState) → still ≡ later → IsKept instance vs names' after rules' room' still choice done forgot
+        → (still : NodeState) → still ≡ later → IsKept instance vs after still (record { names = names'; rules = rules'; room = room' }) (record { fork = choice; decided = done; shown = forgot })
     kept_followed vs is names' rules' room' table are places fit pairs done choice followed forgot forgets still same =
-        subst (λ (t : NodeState). IsKept instance vs names' after rules' room' t choice done forgot) (sym same)
-        (subst (λ (ws : List Vertex). IsKept instance ws names' after rules' room' later choice done forgot) (sym is)
+        subst (λ (t : NodeState). IsKept instance vs after t (record { names = names'; rules = rules'; room = room' }) (record { fork = choice; decided = done; shown = forgot })) (sym same)
+        (subst (λ (ws : List Vertex). IsKept instance ws after later (record { names = names'; rules = rules'; room = room' }) (record { fork = choice; decided = done; shown = forgot })) (sym is)
         (kept_with instance journal names park rules room state fork decided shown kept (journal ++ v ∷ []) names' after rules' room' later choice done forgot config table are places fit pairs node followed.choice
         (decided_after journal v state later (length park.waiting) after decided roomy done kept.decided_is more node config f g grows few (length vs) (ap (λ (ws : List Vertex). length ws) is)
         followed.observed followed.decides followed.told followed.spare followed.more)
@@ -58,9 +58,9 @@ module _ (instance : Digest) (journal : List Vertex) (names : List (Digest × �
     -- nothing settled, and the node keeps what it should
     pub kept_quiet : HasSameUnits state later → (vs : List Vertex) → vs ≡ journal ++ v ∷ [] → (names' : List (Digest × ℕ)) (rules' : List (Digest × Rule)) (room' : ℕ) → IsTable (setting_of state.config) (journal ++ v ∷ []) names' → AreRules (setting_of state.config) (journal ++ v ∷ []) rules'
         → length after.waiting ≤ room' → ((w : Vertex) → Among w (journal ++ v ∷ []) → VertexFits w) → HasPairs (setting_of state.config) (journal ++ v ∷ []) → (forgot : ShownState) → forgot ≡ record shown { asked = None }
-        → IsKept instance vs names' after rules' room' later fork roomy forgot
+        → IsKept instance vs after later (record { names = names'; rules = rules'; room = room' }) (record { fork = fork; decided = roomy; shown = forgot })
     kept_quiet still vs is names' rules' room' table are places fit pairs forgot forgets =
-        subst (λ (ws : List Vertex). IsKept instance ws names' after rules' room' later fork roomy forgot) (sym is)
+        subst (λ (ws : List Vertex). IsKept instance ws after later (record { names = names'; rules = rules'; room = room' }) (record { fork = fork; decided = roomy; shown = forgot })) (sym is)
         (kept_with instance journal names park rules room state fork decided shown kept (journal ++ v ∷ []) names' after rules' room' later fork roomy forgot config table are places fit pairs node
         (choice_still state later fork still kept.fork_is)
         (decided_quiet journal v park after state later decided roomy kept.node kept.decided_is more node f g still few)
@@ -69,17 +69,17 @@ module _ (instance : Digest) (journal : List Vertex) (names : List (Digest × �
   -- nothing was taken, and there is more room
   module _ (later : NodeState) (roomy : DecidedState) (f : IsGraph state.dag) (g : IsGraph later.dag) (still : HasMoreRoom state later) (more : HasOnlyRoom decided roomy) where
     pub kept_roomy : (vs : List Vertex) → vs ≡ journal → (names' : List (Digest × ℕ)) → names' ≡ names → (after : Parked PreparedUnit) → after ≡ park → (rules' : List (Digest × Rule)) → rules' ≡ rules → (room' : ℕ) → length after.waiting ≤ room'
-        → IsKept instance vs names' after rules' room' later fork roomy shown
+        → IsKept instance vs after later (record { names = names'; rules = rules'; room = room' }) (record { fork = fork; decided = roomy; shown = shown })
     kept_roomy vs a names' b after d rules' e room' places =
-        subst (λ (ws : List Vertex). IsKept instance ws names' after rules' room' later fork roomy shown) (sym a)
-        (subst (λ (ns : List (Digest × ℕ)). IsKept instance journal ns after rules' room' later fork roomy shown) (sym b)
-        (subst (λ (rs : List (Digest × Rule)). IsKept instance journal names after rs room' later fork roomy shown) (sym e)
-        (subst (λ (k : Parked PreparedUnit). length k.waiting ≤ room' → IsKept instance journal names k rules room' later fork roomy shown) (sym d) whole places)))
+        subst (λ (ws : List Vertex). IsKept instance ws after later (record { names = names'; rules = rules'; room = room' }) (record { fork = fork; decided = roomy; shown = shown })) (sym a)
+        (subst (λ (ns : List (Digest × ℕ)). IsKept instance journal after later (record { names = ns; rules = rules'; room = room' }) (record { fork = fork; decided = roomy; shown = shown })) (sym b)
+        (subst (λ (rs : List (Digest × Rule)). IsKept instance journal after later (record { names = names; rules = rs; room = room' }) (record { fork = fork; decided = roomy; shown = shown })) (sym e)
+        (subst (λ (k : Parked PreparedUnit). length k.waiting ≤ room' → IsKept instance journal k later (record { names = names; rules = rules; room = room' }) (record { fork = fork; decided = roomy; shown = shown })) (sym d) whole places)))
       where
         config : later.config ≡ state.config
         config = ap (λ (t : NodeState). t.config) still.unchanged
 
-        whole : length park.waiting ≤ room' → IsKept instance journal names park rules room' later fork roomy shown
+        whole : length park.waiting ≤ room' → IsKept instance journal park later (record { names = names; rules = rules; room = room' }) (record { fork = fork; decided = roomy; shown = shown })
         whole fits = kept_with instance journal names park rules room state fork decided shown kept journal names park rules room' later fork roomy shown config kept.table kept.rules_are fits kept.fit kept.pairs
             (node_roomy journal park state kept.node later still.unchanged still.kept) (choice_still state later fork (same_roomy state later still) kept.fork_is)
             (decided_still (setting_of later.config) journal state later (length park.waiting) (length park.waiting) roomy f g still refl

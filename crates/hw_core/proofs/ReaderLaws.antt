@@ -40,7 +40,7 @@ use Rattle.hw_rules.proofs.LocalLaws.{fits}
 use Rattle.hw_admit.specs.State.{NodeState, observed_in}
 use Rattle.hw_park.specs.Parked.{Parked}
 use Rattle.hw_core.specs.declared.place.Place.TheVariants as place
-use Rattle.hw_core.specs.declared.unmet.Search.TheVariants as search
+use Rattle.hw_core.specs.declared.unmet.SearchEnd.TheVariants as search
 use Rattle.hw_core.specs.Settle.{known_in, admitted_in, rule_in}
 use Rattle.hw_horizon.specs.Detected.{decisions_of as found_in}
 use Rattle.hw_core.specs.Decided.{DecidedState, decided_in}
@@ -114,7 +114,7 @@ map_twice g f None = refl
 map_twice g f (Some a) = refl
 
 module _ (instance : Digest) (journal : List Vertex) (names : List (Digest × ℕ)) (park : Parked PreparedUnit) (rules : List (Digest × Rule)) (room : ℕ) (state : NodeState) (fork : Option UnitNo) (decided : DecidedState) (shown : ShownState)
-    (kept : IsKept instance journal names park rules room state fork decided shown) where
+    (kept : IsKept instance journal park state (record { names = names; rules = rules; room = room }) (record { fork = fork; decided = decided; shown = shown })) where
   abbrev pub core : CoreState
   core = record { config = state.config; journal = journal }
 

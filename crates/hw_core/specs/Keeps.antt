@@ -82,15 +82,27 @@ pub record IsChoice (state : NodeState) (fork : Option UnitNo) : Type 0 where
   pub choice : option_map (λ (no : UnitNo). node_at state.dag no.0) fork ≡ fork_of state.config.weights (graph state.dag) (observations state.dag state.panorama)
   pub known : IfSome fork (λ no. no.0 < count_of state.dag)
 
+-- what a node finds by name: the place of each unit of its journal, and the rule that each dropped unit breaks, with room for so many
+pub record NamedTables : Type 0 where
+  pub names : List (Digest × ℕ)
+  pub rules : List (Digest × Rule)
+  pub room : ℕ
+
+-- what a node works out of its state: its fork choice, its decisions, and the summit that was asked for last
+pub record WorkedOut : Type 0 where
+  pub fork : Option UnitNo
+  pub decided : DecidedState
+  pub shown : ShownState
+
 -- What a node keeps stands to its journal as the definitions say, and there is room for the rule of each unit that waits.
-pub record IsKept (instance : Digest) (journal : List Vertex) (names : List (Digest × ℕ)) (park : Parked PreparedUnit) (rules : List (Digest × Rule)) (room : ℕ) (state : NodeState) (fork : Option UnitNo) (decided : DecidedState) (shown : ShownState) : Type 0 where
+pub record IsKept (instance : Digest) (journal : List Vertex) (park : Parked PreparedUnit) (state : NodeState) (tables : NamedTables) (worked : WorkedOut) : Type 0 where
   pub instance_is : instance ≡ instance_of state.config
-  pub table : IsTable (setting_of state.config) journal names
-  pub rules_are : AreRules (setting_of state.config) journal rules
-  pub places : length park.waiting ≤ room
+  pub table : IsTable (setting_of state.config) journal tables.names
+  pub rules_are : AreRules (setting_of state.config) journal tables.rules
+  pub places : length park.waiting ≤ tables.room
   pub fit : (v : Vertex) → Among v journal → VertexFits v
   pub pairs : HasPairs (setting_of state.config) journal
   pub node : IsNode journal park state
-  pub fork_is : IsChoice state fork
-  pub decided_is : IsDecided (setting_of state.config) journal state (length park.waiting) decided
-  pub shown_is : IsShown (record { config = state.config; journal = journal }) state shown
+  pub fork_is : IsChoice state worked.fork
+  pub decided_is : IsDecided (setting_of state.config) journal state (length park.waiting) worked.decided
+  pub shown_is : IsShown (record { config = state.config; journal = journal }) state worked.shown

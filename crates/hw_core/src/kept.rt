@@ -27,7 +27,7 @@ use crate::told::NotPut;
 use crate::units::{
     NamedUnit, UnitRefused, add_unit, list_unit, test_local, test_named, unit_back,
 };
-use hw_admit::{State, StateStart};
+use hw_admit::{State, StateError};
 use hw_codec::digest_of;
 use hw_dag::{Prepared, UnitNo};
 use hw_park::Park;
@@ -45,7 +45,7 @@ pub struct Refused {
 }
 
 /// All that a node keeps. Contracts see its configuration and its journal, and nothing else.
-pub(crate) struct Kept {
+pub(crate) struct CoreInner {
     /// The digest of its configuration.
     instance: Digest,
     journal: Journal,
@@ -65,9 +65,9 @@ pub(crate) struct Kept {
 }
 
 // For the prover: so its drop is one call, and else is written out wherever one is let go.
-impl Drop for Kept {
+impl Drop for CoreInner {
     fn drop(self) {
-        let Kept {
+        let CoreInner {
             instance: _,
             journal: _journal,
             names: _names,
@@ -81,7 +81,7 @@ impl Drop for Kept {
     }
 }
 
-impl Model for Kept {
+impl Model for CoreInner {
     ghost use Rattle.hw_types.specs.Real.{CoreState};
     ghost use Rattle.hw_core.specs.Keeps.{IsKept};
 
@@ -92,39 +92,37 @@ impl Model for Kept {
       journal = c.journal.items;
     } };
 
-    ghost invariant = { λ c. IsKept c.instance c.journal.items c.names.entries c.park c.dropped.entries c.dropped.room c.state c.fork c.decided c.shown };
+    ghost invariant = { λ c. IsKept c.instance c.journal.items c.park c.state
+        (record { names = c.names.entries; rules = c.dropped.entries; room = c.dropped.room })
+        (record { fork = c.fork; decided = c.decided; shown = c.shown }) };
 }
 
-impl Kept {
+impl CoreInner {
     /// A node that has received nothing.
-    pub(crate) fn new(alloc: Global, config: Config) -> Result<Kept, StateStart>
+    pub(crate) fn new(alloc: Global, config: Config) -> Result<CoreInner, StateError>
         ensures lawful { IfOk result (λ core. config_fault config ≡ None) }
         ensures fault { IfErr result (IsStartFault (config_fault config)) }
         ensures config { IfOk result (λ core. core.config ≡ config) }
         ensures empty { IfOk result (λ core. core.journal ≡ []) }
     {
         let state = State::new(alloc, config)?;
-        match begin(alloc, state.config()) {
-            Ok(start) => {
-                // For the prover: recalls what is said of each graph.
-                let _graph = state.dag();
-                let journal = Journal::new(alloc);
-                let names = DigestMap::new(alloc);
-                let dropped = DigestMap::new(alloc);
-                Ok(Kept {
-                    instance: start.instance,
-                    journal,
-                    names,
-                    park: start.park,
-                    dropped,
-                    state,
-                    fork: None,
-                    decided: start.decided,
-                    shown: start.shown,
-                })
-            }
-            Err(OutOfMemory) => Err(StateStart::OutOfMemory),
-        }
+        let start = begin(alloc, state.config())?;
+        // For the prover: recalls what is said of each graph.
+        let _graph = state.dag();
+        let journal = Journal::new(alloc);
+        let names = DigestMap::new(alloc);
+        let dropped = DigestMap::new(alloc);
+        Ok(CoreInner {
+            instance: start.instance,
+            journal,
+            names,
+            park: start.park,
+            dropped,
+            state,
+            fork: None,
+            decided: start.decided,
+            shown: start.shown,
+        })
     }
 
     /// Takes a vertex with the verdict on its signatures, and says what became of it.

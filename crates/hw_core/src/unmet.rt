@@ -13,7 +13,7 @@ use hw_types::{Digest, Need, Obs, WireUnit};
 
 /// How a search for the need at a place ends.
 #[derive(Clone, Copy, Debug, PartialEq, Eq)]
-pub enum Search {
+pub enum SearchEnd {
     /// This need is there.
     Found(Need),
     /// There are so many needs, and none at that place.
@@ -22,16 +22,16 @@ pub enum Search {
 
 /// Looks for the need at this place among those that the unit misses, which stand in the order of its
 /// panorama and then of its list, each once.
-pub fn missing_at(state: &State, unit: &WireUnit, place: u32) -> Search
+pub fn missing_at(state: &State, unit: &WireUnit, place: u32) -> SearchEnd
     requires { length unit.now.panorama ≡ length state.now.config.weights }
     ensures { (d : Name) → IsFoundIn (missing_of state.now.config (known_in state.now) (graph state.now.dag) (record { digest = d; unit = unit.now })) place result }
 {
     let panorama = unit.panorama.as_slice();
     match unmet_units(state, panorama, place) {
-        Search::Found(need) => Search::Found(need),
-        Search::Passed(units) => match unmet_marks(state, panorama, units, place) {
-            Search::Found(need) => Search::Found(need),
-            Search::Passed(count) => unmet_list(state, unit, count, place),
+        SearchEnd::Found(need) => SearchEnd::Found(need),
+        SearchEnd::Passed(units) => match unmet_marks(state, panorama, units, place) {
+            SearchEnd::Found(need) => SearchEnd::Found(need),
+            SearchEnd::Passed(count) => unmet_list(state, unit, count, place),
         },
     }
 }
@@ -56,16 +56,16 @@ fn is_met_beside(state: &State, unit: &WireUnit) -> bool
     ensures { (d : Name) → IsTrue result ↔ missing_of state.now.config (known_in state.now) (graph state.now.dag) (record { digest = d; unit = unit.now }) ≡ [] }
 {
     match unmet_marks(state, unit.panorama.as_slice(), 0, 0) {
-        Search::Found(_need) => false,
-        Search::Passed(count) => match unmet_list(state, unit, count, 0) {
-            Search::Found(_need) => false,
-            Search::Passed(_count) => true,
+        SearchEnd::Found(_need) => false,
+        SearchEnd::Passed(count) => match unmet_list(state, unit, count, 0) {
+            SearchEnd::Found(_need) => false,
+            SearchEnd::Passed(_count) => true,
         },
     }
 }
 
 /// Looks among the units that the panorama observes.
-fn unmet_units(state: &State, panorama: &[Obs], place: u32) -> Search
+fn unmet_units(state: &State, panorama: &[Obs], place: u32) -> SearchEnd
     ensures { IsFoundIn (unmet (is_met_in state.now) (unit_needs panorama.now)) place result }
 {
     let mut count = 0;
@@ -73,13 +73,13 @@ fn unmet_units(state: &State, panorama: &[Obs], place: u32) -> Search
         if let Obs::Correct(digest) = obs {
             if is_wanted_unit(state, &panorama[..slot], digest) {
                 if count == place {
-                    return Search::Found(Need::Unit(*digest));
+                    return SearchEnd::Found(Need::Unit(*digest));
                 }
                 count += 1;
             }
         }
     }
-    Search::Passed(count)
+    SearchEnd::Passed(count)
 }
 
 /// Whether the unit of this digest is missing and isn't among the observations before.
@@ -90,7 +90,7 @@ fn is_wanted_unit(state: &State, before: &[Obs], digest: &Digest) -> bool
 }
 
 /// Looks on among the marks of the panorama, with so many needs before them.
-fn unmet_marks(state: &State, panorama: &[Obs], units: u32, place: u32) -> Search
+fn unmet_marks(state: &State, panorama: &[Obs], units: u32, place: u32) -> SearchEnd
     requires many { length panorama.now ≡ length state.now.config.weights }
     requires units { length (unmet (is_met_in state.now) (unit_needs panorama.now)) ≡ units }
     requires passed { units ≤ place }
@@ -102,17 +102,17 @@ fn unmet_marks(state: &State, panorama: &[Obs], units: u32, place: u32) -> Searc
         if let Obs::Faulty = panorama[validator as usize] {
             if !is_met(state, &Need::Evidence(validator)) {
                 if count == place {
-                    return Search::Found(Need::Evidence(validator));
+                    return SearchEnd::Found(Need::Evidence(validator));
                 }
                 count += 1;
             }
         }
     }
-    Search::Passed(count)
+    SearchEnd::Passed(count)
 }
 
 /// Looks on in the endorsed list, with so many needs before it.
-fn unmet_list(state: &State, unit: &WireUnit, before: u32, place: u32) -> Search
+fn unmet_list(state: &State, unit: &WireUnit, before: u32, place: u32) -> SearchEnd
     requires before { length (unmet (is_met_in state.now) (unit_needs unit.now.panorama ++ evidence_needs unit.now.panorama)) ≡ before }
     requires passed { before ≤ place }
     ensures { IsFoundIn (unmet (is_met_in state.now) (needs_as_they_stand unit.now)) place result }
@@ -122,12 +122,12 @@ fn unmet_list(state: &State, unit: &WireUnit, before: u32, place: u32) -> Search
     for (listed, digest) in endorsed.iter().enumerate() {
         if is_wanted_listed(state, &endorsed[..listed], *digest) {
             if count == place {
-                return Search::Found(Need::Endorsed(*digest));
+                return SearchEnd::Found(Need::Endorsed(*digest));
             }
             count += 1;
         }
     }
-    Search::Passed(count)
+    SearchEnd::Passed(count)
 }
 
 /// Whether the unit of this digest isn't endorsed and isn't in the list before.

@@ -35,12 +35,10 @@ pub fn audit_eras(alloc: Global, left: &Eras, right: &Eras) -> Result<EraVerdict
             // Both nodes have the era.
             unreachable!()
         };
-        match audit_era(alloc, first, second) {
-            Ok(verdict) => match verdict {
-                Verdict::Agree { common: here } => common += here,
-                verdict => return Ok(EraVerdict::At { era, verdict }),
-            },
-            Err(fault) => return Err(fault),
+        let verdict = audit_era(alloc, first, second)?;
+        match verdict {
+            Verdict::Agree { common: here } => common += here,
+            verdict => return Ok(EraVerdict::At { era, verdict }),
         }
     }
     Ok(EraVerdict::Agree { common })

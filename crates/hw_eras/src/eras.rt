@@ -10,7 +10,7 @@ ghost use Rattle.hw_eras.specs.Nodes.{IsMadeAgain, last_core, AreNodeEras, HasDe
 use crate::answers::{EraOpen, EraRefused};
 use crate::deliveries::{deliver_to, put_last};
 use crate::opening::{add, open_after};
-use hw_admit::StateStart;
+use hw_admit::StateError;
 use hw_core::Core;
 use hw_types::{Config, Receipt, Vertex};
 use std::alloc::Global;
@@ -39,16 +39,14 @@ impl Model for Eras {
 impl Eras {
     /// Era 0 alone, with this configuration, in which nothing was received. There is none exactly where the
     /// configuration breaks one of its limits, which is named, or for want of memory.
-    pub fn new(alloc: Global, config: Config) -> Result<Eras, StateStart>
+    pub fn new(alloc: Global, config: Config) -> Result<Eras, StateError>
         ensures lawful { IfOk result (λ eras. config_fault config ≡ None) }
         ensures fault { IfErr result (IsStartFault (config_fault config)) }
         ensures begun { IfOk result (λ eras. eras ≡ begun config ∷ []) }
     {
         let mut cores = Vec::new(alloc);
-        match add(&mut cores, config) {
-            Ok(()) => Ok(Eras { cores }),
-            Err(fault) => Err(fault),
-        }
+        add(&mut cores, config)?;
+        Ok(Eras { cores })
     }
 
     /// Takes a vertex in an era, with the verdict on its signatures, and says what became of it.

@@ -13,7 +13,7 @@ ghost use Rattle.hw_replay.specs.Replay.{taken_in};
 
 use crate::stop::EraStop;
 use crate::{EraOpen, Eras};
-use hw_admit::StateStart;
+use hw_admit::StateError;
 use hw_codec::config_is_in_range;
 use hw_core::Core;
 use hw_io::Files;
@@ -264,8 +264,8 @@ fn era_of(alloc: Global, core: &Core) -> Result<Eras, OutOfMemory>
 {
     match Eras::new(alloc, core.state().config().copy()?) {
         Ok(eras) => Ok(eras),
-        Err(StateStart::OutOfMemory) => Err(OutOfMemory),
+        Err(StateError::OutOfMemory) => Err(OutOfMemory),
         // A node's configuration keeps all limits.
-        Err(StateStart::Fault(_)) => unreachable!(),
+        Err(StateError::Fault(_)) => unreachable!(),
     }
 }

@@ -22,14 +22,10 @@ pub fn explain_log<F: Files>(alloc: Global, files: &mut F, name: &str) -> Result
     ensures files { SameFiles (F.held files.old) (F.held files.new) }
     ensures appends { F.append_faults files.new ≡ F.append_faults files.old }
 {
-    match Replay::begin(alloc, files, name, None) {
-        Ok(mut replay) => {
-            let told = explain_rest(alloc, files, &mut replay);
-            replay.core.leave();
-            told
-        }
-        Err(fault) => Err(fault),
-    }
+    let mut replay = Replay::begin(alloc, files, name, None)?;
+    let told = explain_rest(alloc, files, &mut replay);
+    replay.core.leave();
+    told
 }
 
 /// What is explained of a log behind whose header this replay stands.
@@ -47,11 +43,9 @@ fn explain_rest<F: Files>(
     ensures files { SameFiles (F.held files.old) (F.held files.new) }
     ensures appends { F.append_faults files.new ≡ F.append_faults files.old }
 {
-    let mut told = Told::new(alloc, &replay.core);
-    match tell_all(files, replay, &mut told) {
-        Ok(()) => Ok(told.finish(&replay.core)?),
-        Err(fault) => Err(fault),
-    }
+    let mut told = Told::new(alloc);
+    tell_all(files, replay, &mut told)?;
+    Ok(told.finish(&replay.core)?)
 }
 
 /// Takes all entries that are left, and tells what each decides.

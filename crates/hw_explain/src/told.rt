@@ -1,6 +1,7 @@
 //! What is explained of a node, vertex by vertex.
 
 ghost use Rattle.std.specs.Prelude.{◌≡◌, ◌+◌, ◌<◌, [], length, IfOk, OnOk};
+ghost use Rattle.hw_types.specs.Real.{CoreState};
 ghost use Rattle.hw_core.specs.Decided.{decided_in};
 ghost use Rattle.hw_explain.specs.{Explain.{explained_in}, Told.{HasLines, HasTold, IsBehind, AreNewFrom}};
 
@@ -21,12 +22,9 @@ pub(crate) struct Told {
 
 impl Told {
     /// Nothing is told of a node that has received nothing.
-    pub(crate) fn new(alloc: Global, core: &Core) -> Told
-        requires { core.now.journal ≡ [] }
-        ensures { HasTold result core.now }
+    pub(crate) fn new(alloc: Global) -> Told
+        ensures { (c : CoreState) → c.journal ≡ [] → HasTold result c }
     {
-        // The node stands in the contract alone.
-        let _ = core;
         Told {
             alloc,
             text: Bytes::new(alloc),

@@ -45,9 +45,9 @@ record IsShownBy (xs : List Node) (v : ℕ) : Type 0 where
 forked : (xs : List Node) (v : ℕ) → IsShownBy xs v → list_any (λ x. true) (equivocations_of xs v) ≡ true
 forked xs v h =
     let other : Node → Node → Bool = λ x y. (y.unit.creator == v) && (y.unit.seq == x.unit.seq) && not (unit_eq x.unit y.unit) in
-    let fork : Node → Bool = λ x. (x.unit.creator == v) && list_any (λ y. (y.unit.creator == v) && (y.unit.seq == x.unit.seq) && not (unit_eq x.unit y.unit)) xs in
+    let equivocal : Node → Bool = λ x. (x.unit.creator == v) && list_any (λ y. (y.unit.creator == v) && (y.unit.seq == x.unit.seq) && not (unit_eq x.unit y.unit)) xs in
     any_of (λ x. true) h.first (equivocations_of xs v)
-    (filter-Among fork h.first xs h.first_in
+    (filter-Among equivocal h.first xs h.first_in
     (and_whole (h.first.unit.creator == v) (list_any (other h.first) xs) (eq-eqb h.first.unit.creator v h.first_made)
     (any_of (other h.first) h.second xs h.second_in
     (and_whole ((h.second.unit.creator == v) && (h.second.unit.seq == h.first.unit.seq)) (not (unit_eq h.first.unit h.second.unit))

@@ -80,16 +80,16 @@ module _ (xs : List Node) (v : ℕ) where
   abbrev other : Node → Node → Bool
   other x y = (y.unit.creator == v) && (y.unit.seq == x.unit.seq) && not (unit_eq x.unit y.unit)
 
-  abbrev fork : Node → Bool
-  fork x = (x.unit.creator == v) && list_any (other x) xs
+  abbrev equivocal : Node → Bool
+  equivocal x = (x.unit.creator == v) && list_any (other x) xs
 
-  abbrev forks : List Node
-  forks = equivocations_of xs v
+  abbrev equivocations : List Node
+  equivocations = equivocations_of xs v
 
-  -- what shows a fork with one unit is itself one of the fork
-  partner : (a : Node) → Among a forks → (b : Node) × Among b forks × (b.unit.seq ≡ a.unit.seq) × (unit_eq a.unit b.unit ≡ false)
+  -- what shows an equivocation with one unit is itself one of them
+  partner : (a : Node) → Among a equivocations → (b : Node) × Among b equivocations × (b.unit.seq ≡ a.unit.seq) × (unit_eq a.unit b.unit ≡ false)
   partner a m =
-      let p = Among-filter fork a xs m in
+      let p = Among-filter equivocal a xs m in
       let q = and_parts (a.unit.creator == v) (list_any (other a) xs) p.1 in
       let b = some_of (other a) xs q.1 in
       let r = and_parts ((b.0.unit.creator == v) && (b.0.unit.seq == a.unit.seq)) (not (unit_eq a.unit b.0.unit)) b.2 in
@@ -98,28 +98,28 @@ module _ (xs : List Node) (v : ℕ) where
       let differ : unit_eq a.unit b.0.unit ≡ false = not_true (unit_eq a.unit b.0.unit) r.1 in
       let back : other b.0 a ≡ true = and_whole ((a.unit.creator == v) && (a.unit.seq == b.0.unit.seq)) (not (unit_eq b.0.unit a.unit))
       (and_whole (a.unit.creator == v) (a.unit.seq == b.0.unit.seq) q.0 (eq-eqb a.unit.seq b.0.unit.seq (sym number))) (ap not (other_way a.unit b.0.unit differ)) in
-      (b.0, filter-Among fork b.0 xs b.1 (and_whole (b.0.unit.creator == v) (list_any (other b.0) xs) t.0 (any_of (other b.0) a xs p.0 back)), number, differ)
+      (b.0, filter-Among equivocal b.0 xs b.1 (and_whole (b.0.unit.creator == v) (list_any (other b.0) xs) t.0 (any_of (other b.0) a xs p.0 back)), number, differ)
 
-  at_least : (m : ℕ) → least_seq None forks ≡ Some m → (p : Node × Node) → first_two (filter (λ z. z.unit.seq == m) forks) ≡ Some p → pair_of xs v ≡ Some p
+  at_least : (m : ℕ) → least_seq None equivocations ≡ Some m → (p : Node × Node) → first_two (filter (λ z. z.unit.seq == m) equivocations) ≡ Some p → pair_of xs v ≡ Some p
   unfolding pair_of
-  at_least m e p f = ap (λ o. first_two (at_seq o forks)) e ∙ f
+  at_least m e p f = ap (λ o. first_two (at_seq o equivocations)) e ∙ f
 
-  pub paired : list_any (λ x. true) forks ≡ true → (a : Node) × (b : Node) × (pair_of xs v ≡ Some (a, b)) × Among a xs × Among b xs
+  pub paired : list_any (λ x. true) equivocations ≡ true → (a : Node) × (b : Node) × (pair_of xs v ≡ Some (a, b)) × Among a xs × Among b xs
   paired h =
-      let x = some_of (λ x. true) forks h in
-      let least = least_of forks x.0 x.1 in
+      let x = some_of (λ x. true) equivocations h in
+      let least = least_of equivocations x.0 x.1 in
       let low : Node → Bool = λ z. z.unit.seq == least.0 in
-      let lowest : List Node = filter low forks in
-      let start = filter-Among low least.2 forks least.3 (eq-eqb least.2.unit.seq least.0 least.4) in
+      let lowest : List Node = filter low equivocations in
+      let start = filter-Among low least.2 equivocations least.3 (eq-eqb least.2.unit.seq least.0 least.4) in
       let a = first_of_some lowest least.2 start in
-      let in_forks = Among-filter low a.0 forks a.2 in
-      let p = partner a.0 in_forks.0 in
+      let in_all = Among-filter low a.0 equivocations a.2 in
+      let p = partner a.0 in_all.0 in
       let apart : Node → Bool = λ y. not (unit_eq a.0.unit y.unit) in
-      let there = filter-Among low p.0 forks p.1 (same_number a.0 p.0 least.0 p.2 in_forks.1) in
+      let there = filter-Among low p.0 equivocations p.1 (same_number a.0 p.0 least.0 p.2 in_all.1) in
       let b = first_of_some (filter apart lowest) p.0 (filter-Among apart p.0 lowest there (differs a.0 p.0 p.3)) in
       let b_low = Among-filter apart b.0 lowest b.2 in
-      let b_forks = Among-filter low b.0 forks b_low.0 in
-      (a.0, b.0, at_least least.0 least.1 (a.0, b.0) (two_are lowest a.0 b.0 a.1 b.1), (Among-filter fork a.0 xs in_forks.0).0, (Among-filter fork b.0 xs b_forks.0).0)
+      let b_in_all = Among-filter low b.0 equivocations b_low.0 in
+      (a.0, b.0, at_least least.0 least.1 (a.0, b.0) (two_are lowest a.0 b.0 a.1 b.1), (Among-filter equivocal a.0 xs in_all.0).0, (Among-filter equivocal b.0 xs b_in_all.0).0)
 
 -- ---- signatures
 

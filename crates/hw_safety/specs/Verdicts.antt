@@ -62,17 +62,25 @@ pub record DifferAt (dl dr : List Decision) (height : ℕ) (left right : Digest)
 unfoldable pub culprit_weight : Setting → List Vertex → List Vertex → ℕ
 culprit_weight s left right = weight_of s.config.weights (λ v. list_any (λ w. w == v) (culprits_of s left right))
 
+-- what is said of a conflict: the height and the two blocks, and the culprits with their weight
+pub record ShownConflict : Type 0 where
+  pub height : ℕ
+  pub left_block : Digest
+  pub right_block : Digest
+  pub culprits : List Culprit
+  pub weight : ℕ
+
 -- the two journals decided different blocks of this height first, and these are the culprits
-pub record AreInConflict (s : Setting) (left right : List Vertex) (dl dr : List Decision) (height : ℕ) (left_block right_block : Digest) (culprits : List Culprit) (weight : ℕ) : Type 0 where
-  pub blocks : DifferAt dl dr height left_block right_block
-  pub culprits_are : AreCulprits s left right culprits
-  pub weight_is : weight ≡ culprit_weight s left right
+pub record AreInConflict (s : Setting) (left right : List Vertex) (dl dr : List Decision) (c : ShownConflict) : Type 0 where
+  pub blocks : DifferAt dl dr c.height c.left_block c.right_block
+  pub culprits_are : AreCulprits s left right c.culprits
+  pub weight_is : c.weight ≡ culprit_weight s left right
 
 -- The verdict on two journals and their decisions.
 abbrev pub IsVerdict : Setting → List Vertex → List Vertex → List Decision → List Decision → Verdict → Type 0
 IsVerdict s left right dl dr (verdict.Clash first second) = IsClash s left right first second
 IsVerdict s left right dl dr (verdict.Agree common) = (journals_clash s left right ≡ false) × AreInAgreement dl dr common
-IsVerdict s left right dl dr (verdict.Conflict height left_block right_block culprits weight) = (journals_clash s left right ≡ false) × AreInConflict s left right dl dr height left_block right_block culprits weight
+IsVerdict s left right dl dr (verdict.Conflict height left_block right_block culprits weight) = (journals_clash s left right ≡ false) × AreInConflict s left right dl dr (record { height = height; left_block = left_block; right_block = right_block; culprits = culprits; weight = weight })
 
 -- the verdict is a conflict whose culprits weigh more than the threshold, or a clash
 abbrev pub IsAccountable : ℕ → Verdict → Type 0

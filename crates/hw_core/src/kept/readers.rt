@@ -19,11 +19,11 @@ ghost use Rattle.hw_core.specs.Settle.{admitted_in};
 ghost use Rattle.hw_core.specs.Shown.{HasSummitNow, IsStartNow, IsStartOf};
 ghost use Rattle.hw_core.specs.Readers.{unit_in, names_of, missing_needs, unmet_in, evidence_of, endorsements_of, IsPlace, IsUnsettled, fork_in, exceeded_in};
 
-use super::Kept;
+use super::CoreInner;
 use crate::missing::missing;
 use crate::place::Place;
 use crate::units::known_unit;
-use crate::unmet::{Search, missing_at};
+use crate::unmet::{SearchEnd, missing_at};
 use hw_admit::State;
 use hw_dag::View;
 use hw_types::{
@@ -31,7 +31,7 @@ use hw_types::{
 };
 use std::alloc::Global;
 
-impl Kept {
+impl CoreInner {
     /// The digest of its configuration.
     pub(crate) fn instance(&self) -> &Digest
         ensures { result.now ≡ instance_of self.now.config }
@@ -83,9 +83,9 @@ impl Kept {
         match known_unit(&self.names, self.journal.as_slice(), unit) {
             None => Place::Unknown,
             Some(known) => match missing_at(&self.state, &known.unit, u32::MAX) {
-                Search::Passed(count) => Place::Parked(count),
+                SearchEnd::Passed(count) => Place::Parked(count),
                 // No unit has so many needs.
-                Search::Found(_need) => unreachable!(),
+                SearchEnd::Found(_need) => unreachable!(),
             },
         }
     }
@@ -106,8 +106,8 @@ impl Kept {
         match known_unit(&self.names, self.journal.as_slice(), unit) {
             None => None,
             Some(known) => match missing_at(&self.state, &known.unit, place) {
-                Search::Found(need) => Some(need),
-                Search::Passed(_count) => None,
+                SearchEnd::Found(need) => Some(need),
+                SearchEnd::Passed(_count) => None,
             },
         }
     }

@@ -8,7 +8,7 @@ loop-core-init c = most_of_none c.args.nodes.now
 
 pub loop-core-preserved : goal.loop-core-preserved
 loop-core-preserved c =
-    most_of_more c.args.nodes.now c.loop-core.core-index c.loop-core.most c.core-item.result c.greater-most.result c.loop-core-test.true c.core-item.is c.loop-core.invariant (c.greater-most.ensures ∙ ap (max c.loop-core.most) c.decision_count.ensures)
+    most_of_more c.args.nodes.now c.loop-core.core-index c.loop-core.most c.core-item.result c.max-most.result c.loop-core-test.true c.core-item.is c.loop-core.invariant (c.max-most.ensures ∙ ap (max c.loop-core.most) c.decision_count.ensures)
 
 pub returns : goal.returns
 returns c = λ config sent have. most_is config c.args.nodes.now sent have c.loop-core.most c.requires

@@ -7,7 +7,7 @@ use Rattle.hw_dag.specs.declared.numbers.View.{View}
 use Rattle.hw_dag.specs.Dag.{graph, node_at}
 use Rattle.hw_dag.specs.Admission.{IsFork, IsResolved}
 use Rattle.hw_rules.specs.Judged.{KeepsLocalRules}
-use Rattle.hw_admit.specs.declared.kept.KeptFork.{KeptFork}
+use Rattle.hw_admit.specs.declared.kept.CachedForkChoice.{CachedForkChoice}
 use Rattle.hw_admit.specs.Kept.{IsKept}
 use Rattle.hw_admit.specs.State.{NodeState}
 use Rattle.hw_admit.proofs.RuleLaws.{sound}
@@ -29,7 +29,7 @@ invariant_of-self-2 c =
     let resolved = subst (λ (s : NodeState). IsResolved s.dag c.args.prepared.now) (sym c.self.view_is) c.requires.resolved in
     let is = sound c.self.inside.config dag c.validators.ensures.graph c.self.invariant.0.weights_are.length_is p alone resolved c.in_ok-fork.ensures.kept in
     let beside = c.self.invariant.1 in
-    let kept : KeptFork = record { panorama = p.panorama; fork = c.in_ok-fork.fork; is_known = true } in
+    let kept : CachedForkChoice = record { panorama = p.panorama; fork = c.in_ok-fork.fork; is_known = true } in
     let same : c.keep.new.self ≡ kept = c.keep.ensures ∙ ap (λ (ws : List View). record { panorama = ws; fork = c.in_ok-fork.fork; is_known = true }) c.panorama.ensures in (
       c.self.invariant.0,
       record {
@@ -42,7 +42,7 @@ invariant_of-self-2 c =
         forks_serve = let room = c.judge.ensures.forks in let had = beside.forks_serve in omega arith;
         marks_serve = let room = c.judge.ensures.marks in let had = beside.marks_serve in omega arith;
         own_kept = beside.own_kept;
-        judged_kept = subst (λ (k : KeptFork). IsKept weights dag k) (sym same) record {
+        judged_kept = subst (λ (k : CachedForkChoice). IsKept weights dag k) (sym same) record {
           length_is = is.length_is;
           choice = λ t. record {
             panorama_is = is;

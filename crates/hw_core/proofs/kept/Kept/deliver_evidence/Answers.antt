@@ -1,9 +1,0 @@
-use Rattle.std.proofs.Common.{List, sym, subst}
-use Rattle.hw_types.specs.declared.unit.Vertex.{Vertex}
-use Rattle.hw_core.specs.Keeps.{IsNode}
-use Rattle.hw_core.proofs.kept.Kept.deliver_evidence.Goals as goal
-
-pub test_evidence-requires-clause-node : goal.test_evidence-requires-clause-node
-test_evidence-requires-clause-node c =
-    let core = c.self.inside in
-    (core.park, subst (λ (vs : List Vertex). IsNode vs core.park core.state) (sym c.as_slice.ensures.value) c.self.invariant.node)
