@@ -24,6 +24,7 @@
 //! | `door PIECE CALLS PEERS STEPS` | what a door answers to the steps, its sessions and its numbers; the calls of these numbers fail, a read gives at most PIECE bytes, and the peers say these words |
 //! | `sure PEERS STEPS` | the same of a door of which no call is to fail |
 //! | `watched PEERS STEPS` | the same of one that tells the calls of `read` in its last session: each as `HEARD/WRITTEN`, what had been by then, and how many |
+//! | `paced PIECE HOLDS PEERS STEPS` | the same as of `door`, where no call is to fail and the peers wait: each of HOLDS, with commas between, is `SAID:WRITTEN`, and what a peer says behind so many bytes comes only once so many were written |
 //! | `consumer CALLS STEPS` | what a consumer answers to the steps, and what it took; the calls of these numbers fail |
 //!
 //! CALLS and PEERS are lists with commas between, or `-`. A step of a door is `accept`, `dial:ADDRESS`, `read:COUNT`,

@@ -4,7 +4,7 @@ use Rattle.std.specs.List.{find, list_any}
 use Rattle.std.specs.Option.{option_map}
 use Rattle.hw_io.specs.declared.outside.IoFault.{IoFault}
 use Rattle.hw_io.specs.declared.outside.IoFault.TheVariants.{Failed, OutOfMemory}
-use Rattle.hw_io.specs.Faults.{raised}
+use Rattle.hw_io.specs.Faults.{raised, HasCause}
 use Rattle.hw_io.specs.Files.{bytes_of}
 use Rattle.hw_doubles.specs.Shelves.{held_in, begun_in, unread_in, allowance_of, faults_in}
 use Rattle.hw_doubles.specs.declared.memory.Planned.{Planned}
@@ -125,6 +125,10 @@ FailsAsPlanned planned result = planned ≡ true → result ≡ Err Failed
 -- a call that isn't planned fails for want of memory alone
 abbrev pub FailsForMemory : {T : Type 0} → Bool → Result T IoFault → Type 0
 FailsForMemory planned result = planned ≡ false → IfErr result (λ fault. fault ≡ OutOfMemory)
+
+-- a failure of the outside is counted
+abbrev pub CountsFailure : ℕ → ℕ → Type 0
+CountsFailure before now = HasCause {T = ℕ} before now (Err Failed)
 
 -- the sessions of a door in memory
 abbrev pub door_sessions : MemDoor → List Session

@@ -10,19 +10,17 @@ use hw_io::IoFault;
 use std::alloc::{AllocError, Global};
 use std::collections::VecDeque;
 
-/// The sessions so far, and what the peers to come say. Reads and writes move at most `piece` bytes
-/// at once.
+/// The sessions so far, and what the peers to come say.
 #[derive(Drop)]
 pub(crate) struct SessionBook {
     pub(crate) sessions: Vec<MemSession>,
     pub(crate) is_open: bool,
     coming: VecDeque<Vec<u8>>,
-    piece: usize,
     ghost there: { is_open ≡ true → 0 < vec_len sessions },
 }
 
 impl SessionBook {
-    pub(crate) fn new(alloc: Global, piece: usize) -> SessionBook
+    pub(crate) fn new(alloc: Global) -> SessionBook
         ensures sessions { result.sessions.items ≡ [] }
         ensures open { result.is_open ≡ false }
     {
@@ -30,7 +28,6 @@ impl SessionBook {
             sessions: Vec::new(alloc),
             is_open: false,
             coming: VecDeque::new(alloc),
-            piece,
         }
     }
 
@@ -89,8 +86,9 @@ impl SessionBook {
         self.add_failed(Some(address))
     }
 
-    /// Reads the next bytes that the peer says. It fails only where no session is there.
-    pub(crate) fn read(&mut self, buf: &mut [u8]) -> Result<usize, IoFault>
+    /// Reads the next bytes that the peer says, at most `piece` of them, or one where that is 0. It fails only
+    /// where no session is there.
+    pub(crate) fn read(&mut self, buf: &mut [u8], piece: usize) -> Result<usize, IoFault>
         ensures bound { ReadsAtMost result buf.new }
         ensures sessions { self.new.sessions.items ≡ in_session self.old.is_open (after_read result buf.new) self.old.sessions.items }
         ensures none { self.old.is_open ≡ false → IsErr result }
@@ -98,22 +96,23 @@ impl SessionBook {
         ensures cause { IfErr result (λ fault. fault ≡ IoFault.Failed) }
         ensures open { self.new.is_open ≡ self.old.is_open }
     {
-        let (count, piece) = (self.sessions.len(), self.piece);
+        let count = self.sessions.len();
         if self.is_open && count > 0 {
             return Ok(self.sessions[count - 1].hear(buf, piece));
         }
         Err(IoFault::Failed)
     }
 
-    /// Takes the first of the bytes. It fails only where no session is there.
-    pub(crate) fn write(&mut self, bytes: &[u8]) -> Result<usize, IoFault>
+    /// Takes the first of the bytes, at most `piece` of them, or one where that is 0. It fails only where no
+    /// session is there.
+    pub(crate) fn write(&mut self, bytes: &[u8], piece: usize) -> Result<usize, IoFault>
         ensures some { TakesSome result bytes.now }
         ensures sessions { self.new.sessions.items ≡ in_session self.old.is_open (after_write result bytes.now) self.old.sessions.items }
         ensures none { self.old.is_open ≡ false → IsErr result }
         ensures sure { self.old.is_open ≡ true → IfErr result (λ fault. fault ≡ IoFault.OutOfMemory) }
         ensures open { self.new.is_open ≡ self.old.is_open }
     {
-        let (count, piece) = (self.sessions.len(), self.piece);
+        let count = self.sessions.len();
         if self.is_open && count > 0 {
             return self.sessions[count - 1].tell(bytes, piece);
         }

@@ -2,8 +2,8 @@
 ghost use Rattle.std.specs.Prelude.{◌≡◌, ℕ, [], Some, None, true, false, IfErr, IsErr, IsOk, IsSome, length, is_ok};
 ghost use Rattle.std.specs.Io.{ReadsAtMost};
 ghost use Rattle.std.specs.Option.{option_map};
-ghost use Rattle.hw_io.specs.{Faults.{HasCause, raised}, Sinks.{TakesSome}, Doors.{Session, sessions_after, after_read, after_write, in_session, ends_after}};
-ghost use Rattle.hw_doubles.specs.Memory.{fails_next, after_call, FailsAsPlanned, FailsForMemory};
+ghost use Rattle.hw_io.specs.{Faults.{HasCause, raised}, Sinks.{TakesSome}, Doors.{Session, sessions_after, after_read, after_write, in_session, with_failure, ends_after}};
+ghost use Rattle.hw_doubles.specs.Memory.{fails_next, after_call, FailsAsPlanned, FailsForMemory, CountsFailure};
 
 use crate::book::SessionBook;
 use crate::plan::Plan;
@@ -22,6 +22,7 @@ pub struct MemDoor {
     /// The calls that are to fail.
     pub plan: Plan,
     numbers: DoorNumbers,
+    piece: usize,
 }
 
 impl MemDoor {
@@ -47,9 +48,10 @@ impl MemDoor {
         ensures numbers { door_numbers result ≡ record { accepts = 0; dials = 0; ends = 0; faults = 0 } }
     {
         MemDoor {
-            book: SessionBook::new(alloc, piece),
+            book: SessionBook::new(alloc),
             plan: Plan::new(alloc),
             numbers: DoorNumbers::new(),
+            piece,
         }
     }
 
@@ -76,6 +78,36 @@ impl MemDoor {
         ensures { result ≡ door_numbers self.now }
     {
         self.numbers
+    }
+
+    /// The most bytes that a read gives and a write takes.
+    pub(crate) fn piece(&self) -> usize
+        ensures { result ≡ self.now.piece }
+    {
+        self.piece
+    }
+
+    /// From now on a read gives and a write takes at most `piece` bytes, or one where that is 0.
+    pub(crate) fn set_piece(&mut self, piece: usize)
+        ensures { self.new ≡ record self.old { piece = piece } }
+    {
+        self.piece = piece;
+    }
+
+    /// Keeps and counts that a read failed which isn't planned to. It uses up no call of the plan.
+    pub(crate) fn stall(&mut self)
+        ensures sessions { door_sessions self.new ≡ in_session (door_is_open self.old) with_failure (door_sessions self.old) }
+        ensures open { door_is_open self.new ≡ door_is_open self.old }
+        ensures planned { door_planned self.new ≡ door_planned self.old }
+        ensures calls { door_calls self.new ≡ door_calls self.old }
+        ensures cause { CountsFailure (door_numbers self.old).faults (door_numbers self.new).faults }
+        ensures accepts { (door_numbers self.new).accepts ≡ (door_numbers self.old).accepts }
+        ensures dials { (door_numbers self.new).dials ≡ (door_numbers self.old).dials }
+        ensures ends { (door_numbers self.new).ends ≡ (door_numbers self.old).ends }
+    {
+        let outcome: Result<usize, IoFault> = Err(IoFault::Failed);
+        self.book.fail();
+        self.numbers.count_failure(&outcome);
     }
 
     /// Accepts, or fails as planned.
@@ -127,7 +159,7 @@ impl MemDoor {
             self.book.fail();
             return Err(IoFault::Failed);
         }
-        self.book.read(buf)
+        self.book.read(buf, self.piece)
     }
 
     /// Writes, or fails as planned.
@@ -145,7 +177,7 @@ impl MemDoor {
             self.book.fail();
             return Err(IoFault::Failed);
         }
-        self.book.write(bytes)
+        self.book.write(bytes, self.piece)
     }
 }
 

@@ -15,6 +15,7 @@
 mod eras;
 mod meeting;
 mod node;
+mod paced;
 mod receipts;
 mod session;
 mod spelled;

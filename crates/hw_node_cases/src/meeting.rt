@@ -1,9 +1,9 @@
 //! What nodes that meet tell, owe and take, for the lines of its input, one line for each.
 //!
-//! CONFIG, BODY, BYTES, the vertices and what a peer SAYS are hexadecimal digits. LEFT, RIGHT and HAS are the vertices
-//! that a node was given before, each with a true verdict, and FALSE those to which it gives a false one, each joined
-//! by `,`, or `-` for none. A read gives and a write takes at most PIECE bytes. The call of the door of number FAULT
-//! fails, counted from 0, or none for `-`.
+//! CONFIG, BODY, BYTES and the vertices are hexadecimal digits, and what a peer SAYS is a script of them, as in the
+//! section `session`. LEFT, RIGHT and HAS are the vertices that a node was given before, each with a true verdict, and
+//! FALSE those to which it gives a false one, each joined by `,`, or `-` for none. A read gives and a write takes at
+//! most PIECE bytes. The call of the door of number FAULT fails, counted from 0, or none for `-`.
 //!
 //! | Line | Answer |
 //! |---|---|
@@ -22,7 +22,9 @@
 //! - 215 meetings of nodes in memory as caller and as host: whole, in pieces, cut between and inside frames, with
 //!   frames left out, twice and in another order; other instances; summaries and torn validators out of form, and
 //!   others that fit nothing; vertices with false verdicts, that break rules, or in another order; each call of the
-//!   door failing in turn. What each sent is compared byte for byte.
+//!   door failing in turn. What each sent is compared byte for byte;
+//! - meetings whose peer says nothing more until it has each answer whole, and one whose peer waits for a byte more
+//!   than it is due, or for what the other side says only behind it.
 
 mod ends;
 mod exchange;

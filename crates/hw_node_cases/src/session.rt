@@ -9,7 +9,11 @@
 //! | keys | their text, in which a `/` stands for a line feed |
 //! | log | the log's bytes as hexadecimal digits, or `-` where there is none |
 //! | failure | `CALL:LEFT`: that call on the files fails, counted from 0, and an append then keeps so many bytes; or `-` |
-//! | act | `ME:NOW:VALUE`: the validator makes its unit at this moment, with this value as hexadecimal digits; `accept:VERTEX`: it takes a peer's vertex, whose bytes are hexadecimal digits; `serve:BYTES:PIECE:CALL`: it serves a peer that says these bytes, over a door that gives and takes at most so many bytes at once, or all for `-`, and of which that call fails, counted from 0, or none for `-`; `drive:BYTES:PIECE:CALL:PUSHED:PULLED`: it drives a session with such a peer, with these marks, and the marks then stand behind the answer; or `again`: another node starts from the log |
+//! | act | `ME:NOW:VALUE`: the validator makes its unit at this moment, with this value as hexadecimal digits; `accept:VERTEX`: it takes a peer's vertex, whose bytes are hexadecimal digits; `serve:SCRIPT:PIECE:CALL`: it serves a peer that says what this script tells, over a door that gives and takes at most so many bytes at once, or all for `-`, and of which that call fails, counted from 0, or none for `-`; `drive:SCRIPT:PIECE:CALL:PUSHED:PULLED`: it drives a session with such a peer, with these marks, and the marks then stand behind the answer; or `again`: another node starts from the log |
+//!
+//! A SCRIPT is the bytes that the peer says, as hexadecimal digits, in one part or in some with `+` between them. With
+//! `COUNT.` before its digits, the peer holds a part and all behind it back, its end too, until so many bytes were
+//! written to it. A node that reads before that gets a link fault, since it would wait for ever.
 //!
 //! The answer has a word for the start and one for each act, the counts, and the log as it is then.
 //!
@@ -39,6 +43,8 @@
 //! - sessions that a node serves and drives: whole, in pieces and byte by byte, with each kind of frame, other
 //!   instances, bad and cut frames, limits, parked and refused vertices, more than 256 vertices and needs, appends
 //!   and each call of the link failing, and random ones;
+//! - sessions whose peer says nothing more until it has each answer whole, whether the node serves or drives; and one
+//!   whose peer waits for a byte more than it is due;
 //! - services over honest and hostile streams, with and without a log, with wrong settings, keys and logs, with
 //!   consumers that fail at a block or at the end, and with calls of files, output and door that fail;
 //! - 298 reunions: worked pairs of nodes as host and as the one that dials, met once and again, with one journal in

@@ -3,7 +3,7 @@
 use crate::log::counts::{Count, done, put_count};
 use crate::log::plans::plan;
 use hw_case_words::{Answer, number};
-use hw_doubles::{MemAsk, MemDoor, MemSession, WatchedDoor};
+use hw_doubles::{MemAsk, MemDoor, MemSession, PacedDoor, WatchedDoor};
 use hw_io::{Door, DoorNumbers};
 
 /// What a door in such pieces answers to the steps, and what it tells then.
@@ -24,6 +24,27 @@ pub fn watched_text(answer: &mut Answer, peers: &str, steps: &str) {
     walk(answer, &mut door, steps);
     put_sessions(answer, door.sessions());
     put_asks(answer, door.asks());
+}
+
+/// The same of one in such pieces, whose peers wait for what is written to them.
+pub fn paced_text(answer: &mut Answer, piece: usize, holds: &str, peers: &str, steps: &str) {
+    let mut door = MemDoor::in_pieces(answer.alloc(), piece);
+    expect(answer, &mut door, peers);
+    let mut paced = PacedDoor::new(answer.alloc(), door);
+    hold(answer, &mut paced, holds);
+    walk(answer, &mut paced, steps);
+    put_sessions(answer, paced.door.sessions());
+    put_numbers(answer, paced.door.numbers());
+}
+
+/// Holds back what the peers say behind so many bytes until so many were written.
+fn hold(answer: &mut Answer, paced: &mut PacedDoor, holds: &str) {
+    for hold in holds.split(',') {
+        if let Some((said, written)) = hold.split_once(':') {
+            let held = paced.hold(number(said) as usize, number(written) as usize);
+            answer.keep(held);
+        }
+    }
 }
 
 /// Tells of the peers.

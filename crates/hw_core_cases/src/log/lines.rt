@@ -1,7 +1,7 @@
 //! Lines of words.
 
 use crate::log::consumers::consumer_text;
-use crate::log::doors::{door_text, watched_text};
+use crate::log::doors::{door_text, paced_text, watched_text};
 use crate::log::files::{buffered, files_text};
 use crate::log::logs::{both, copied, counted, cuts, faults, missing};
 use crate::log::rewritten::{failed_in_turn, rewritten};
@@ -53,6 +53,7 @@ fn of_four(answer: &mut Answer, kind: &str, first: &str, second: &str, third: &s
         "count" => counted(answer, first, second, third, fourth),
         "copy" => copied(answer, first, second, third, fourth),
         "door" => door_text(answer, number(first) as usize, second, third, fourth),
+        "paced" => paced_text(answer, number(first) as usize, second, third, fourth),
         _ => rewritten(answer, kind, first, second, third, fourth),
     }
 }

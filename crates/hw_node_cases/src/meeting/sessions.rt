@@ -2,10 +2,11 @@
 
 use crate::meeting::ends::{put_core, put_end, put_sent};
 use crate::meeting::nodes::{begin, deliver_all};
+use crate::paced::door_of;
 use crate::spelled::vertex_of;
-use hw_case_words::{Answer, number};
+use hw_case_words::Answer;
 use hw_core::Core;
-use hw_doubles::MemDoor;
+use hw_doubles::PacedDoor;
 use hw_meeting_node::{MemTaker, Taker, VertexList, host_one, meet_one};
 use hw_types::CodecError;
 
@@ -26,11 +27,11 @@ pub fn session_text(
     match nodes.pop() {
         Some(core) => {
             let mut taker = taker_of(answer, core, has, refused);
-            let mut door = door_of(answer, piece, fault, says);
-            meet(answer, side, &mut taker, &mut door);
+            let mut paced = door_of(answer, says, piece, fault);
+            meet(answer, side, &mut taker, &mut paced);
             put_core(answer, taker.core());
             answer.put(" ");
-            put_sent(answer, &door);
+            put_sent(answer, &paced.door);
         }
         None => answer.put("no node"),
     }
@@ -65,21 +66,8 @@ fn put_vertex(answer: &mut Answer, list: &mut VertexList, digits: &str) {
     }
 }
 
-/// A door with a peer that says what these digits spell, which gives and takes pieces, and of which a call may fail.
-fn door_of(answer: &mut Answer, piece: &str, fault: &str, says: &str) -> MemDoor {
-    let said = answer.bytes(says);
-    let mut door = MemDoor::in_pieces(answer.alloc(), number(piece) as usize);
-    let expected = door.expect(said.as_slice());
-    answer.keep(expected);
-    if let Ok(call) = fault.parse() {
-        let planned = door.plan.fail_at(call);
-        answer.keep(planned);
-    }
-    door
-}
-
 /// The node dials the peer, or is dialled.
-fn meet(answer: &mut Answer, side: &str, taker: &mut MemTaker, door: &mut MemDoor) {
+fn meet(answer: &mut Answer, side: &str, taker: &mut MemTaker, door: &mut PacedDoor) {
     let end = if side == "meet" {
         meet_one(answer.alloc(), taker, "peer", door)
     } else {

@@ -93,7 +93,7 @@ pub fn put_log(answer: &mut Answer, files: &mut MemFiles, log: &str) {
 }
 
 /// Expects a peer that says these bytes.
-pub fn expect(answer: &mut Answer, door: &mut MemDoor, said: &str) {
+fn expect(answer: &mut Answer, door: &mut MemDoor, said: &str) {
     let said = answer.bytes(said);
     let expected = door.expect(said.as_slice());
     answer.keep(expected);

@@ -1,7 +1,7 @@
 //! What peers do to a node.
 
+use crate::paced::door_of;
 use crate::receipts::{BRACKETED, put_receipt};
-use crate::session::outside::expect;
 use crate::spelled::vertex_of;
 use hw_case_words::{Answer, number};
 use hw_doubles::{MemDoor, MemFiles};
@@ -32,9 +32,9 @@ pub fn serve(answer: &mut Answer, files: &mut MemFiles, node: &mut Node, peer: &
     let [said, piece, call] = words.as_slice() else {
         return answer.put("-");
     };
-    let mut door = door_of(answer, said, piece, call);
-    let end = node.serve_one(&mut door, files);
-    put_session(answer, &door, end);
+    let mut paced = door_of(answer, said, piece, call);
+    let end = node.serve_one(&mut paced, files);
+    put_session(answer, &paced.door, end);
 }
 
 /// Lets the node drive a session with a peer, and tells the same and the marks then.
@@ -43,27 +43,16 @@ pub fn drive(answer: &mut Answer, files: &mut MemFiles, node: &mut Node, peer: &
     let [said, piece, call, pushed, pulled] = words.as_slice() else {
         return answer.put("-");
     };
-    let mut door = door_of(answer, said, piece, call);
+    let mut paced = door_of(answer, said, piece, call);
     let mut mark = PeerMark {
         pushed: number(pushed),
         pulled: number(pulled),
     };
-    let end = node.drive_one(&mut mark, "peer", &mut door, files);
-    put_session(answer, &door, end);
+    let end = node.drive_one(&mut mark, "peer", &mut paced, files);
+    put_session(answer, &paced.door, end);
     let PeerMark { pushed, pulled } = mark;
     let put = write!(answer.text, " {pushed}:{pulled}");
     answer.keep(put);
-}
-
-/// A door with a peer that says these bytes.
-fn door_of(answer: &mut Answer, said: &str, piece: &str, call: &str) -> MemDoor {
-    let mut door = MemDoor::in_pieces(answer.alloc(), piece.parse().unwrap_or(usize::MAX));
-    expect(answer, &mut door, said);
-    if let Ok(call) = call.parse() {
-        let planned = door.plan.fail_at(call);
-        answer.keep(planned);
-    }
-    door
 }
 
 /// Tells what came of a session.
