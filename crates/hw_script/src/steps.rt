@@ -1,19 +1,22 @@
 //! The steps of a script, done on a node.
 
-ghost use Rattle.std.specs.Prelude.{◌≡◌, ◌++◌, [], true, codes, Err, IfOk, OnOk};
+ghost use Rattle.std.specs.Prelude.{◌≡◌, ◌++◌, [], true, codes, Some, Err, IfOk, IfSome, OnOk};
 ghost use Rattle.hw_text.specs.Text.{number_text};
-ghost use Rattle.hw_types.specs.{Spelling.{VertexFits}, Real.{setting_of, answer_in, after_in}};
+ghost use Rattle.hw_types.specs.{Spelling.{VertexFits, digest_of}, Real.{setting_of, answer_in, after_in}};
 ghost use Rattle.hw_types.specs.declared.answers.Cause.TheVariants as Causes;
-ghost use Rattle.hw_script_grammar.specs.Fits.{ActFits};
+ghost use Rattle.hw_types.specs.declared.unit.Vertex.TheVariants as vertex;
+ghost use Rattle.hw_script_grammar.specs.{Fits.{ActFits}, Names.{NamedFits, unit_in}};
 ghost use Rattle.hw_script.specs.{Output.{endorsement_of, answer_line, act_text, acts_text, journal_behind}, Told.{HasTold}};
 
 use crate::answers::put_answer;
 use crate::finals::Finals;
 use crate::shows::{put_faulty_of, put_fork, put_panorama};
-use hw_core::{Core, Refused};
+use hw_core::{Core, Refused, UnitRefused};
 use hw_script_grammar::{Act, Acts, Named, Names};
 use hw_text::{end_line, put_numbered, put_word};
-use hw_types::{Bytes, Cause, Digest, Endorsement, OutOfMemory, Receipt, Signature, Vertex};
+use hw_types::{
+    Bytes, Cause, Digest, Endorsement, OutOfMemory, Receipt, Signature, SignedUnit, Vertex,
+};
 use std::alloc::Global;
 
 /// Does all steps on a node that has received nothing, and puts what they print last.
@@ -59,6 +62,7 @@ fn act(
                 alloc,
                 names,
                 endorsement_of(*unit, *endorser),
+                None,
                 core,
                 finals,
                 out,
@@ -82,7 +86,7 @@ fn deliver(
     out: &mut Bytes,
 ) -> Result<(), OutOfMemory>
     requires told { HasTold names.now finals.old core.old }
-    requires fits { VertexFits named.now.vertex }
+    requires fits { NamedFits named.now }
     ensures told { OnOk result (HasTold names.now finals.new core.new) }
     ensures out { OnOk result (out.new ≡ out.old ++ (named.now.name ++ (codes " " ++ answer_line (setting_of core.old.config) core.old.journal named.now.vertex))) }
     ensures core { OnOk result (core.new ≡ after_in core.old named.now.vertex true) }
@@ -90,7 +94,7 @@ fn deliver(
     out.extend(named.name.as_slice())?;
     put_word(out, " ")?;
     let vertex = named.vertex.copy()?;
-    take(alloc, names, vertex, core, finals, out)
+    take(alloc, names, vertex, named.digest, core, finals, out)
 }
 
 /// Puts the words before the answer to an endorsement of the unit of this name last.
@@ -104,31 +108,68 @@ fn put_endorsed(out: &mut Bytes, name: &[u8], endorser: u32) -> Result<(), OutOf
     put_word(out, " ")
 }
 
-/// Delivers the vertex, and puts what it is answered last, to the end of the line.
+/// Delivers the vertex, and puts what it is answered last, to the end of the line. `digest` is that of a unit.
 #[tactic(auto, using(std::proofs::Common::append_assoc, crate::proofs::ToldLaws::behind_after))]
 fn take(
     alloc: Global,
     names: &Names,
     vertex: Vertex,
+    digest: Option<Digest>,
     core: &mut Core,
     finals: &mut Finals,
     out: &mut Bytes,
 ) -> Result<(), OutOfMemory>
     requires told { HasTold names.now finals.old core.old }
     requires fits { VertexFits vertex }
+    requires digest { IfSome (unit_in vertex) (λ unit. digest ≡ Some (digest_of unit)) }
     ensures told { OnOk result (HasTold names.now finals.new core.new) }
     ensures out { OnOk result (out.new ≡ out.old ++ answer_line (setting_of core.old.config) core.old.journal vertex) }
     ensures core { OnOk result (core.new ≡ after_in core.old vertex true) }
 {
-    let answer = answer_of(core, vertex)?;
+    let answer = answer_of(core, vertex, digest)?;
     put_answer(out, answer)?;
     end_line(out)?;
     finals.tell(alloc, names, core)
 }
 
-/// Delivers the vertex, and says what it is answered.
+/// Delivers the vertex, and says what it is answered. `digest` is that of a unit, which isn't hashed again.
+fn answer_of(
+    core: &mut Core,
+    vertex: Vertex,
+    digest: Option<Digest>,
+) -> Result<Result<Receipt, Cause>, OutOfMemory>
+    requires fits { VertexFits vertex }
+    requires digest { IfSome (unit_in vertex) (λ unit. digest ≡ Some (digest_of unit)) }
+    ensures answer { IfOk result (λ answer. answer ≡ answer_in core.old vertex true) }
+    ensures core { OnOk result (core.new ≡ after_in core.old vertex true) }
+{
+    match (vertex, digest) {
+        (Vertex::Unit(unit), Some(name)) => unit_answer(core, unit, name),
+        (vertex, _) => vertex_answer(core, vertex),
+    }
+}
+
+/// Delivers the unit under its name, and says what it is answered.
 #[tactic(auto, using(crate::proofs::AnswerLaws::refusal_is, crate::proofs::AnswerLaws::refused_stays))]
-fn answer_of(core: &mut Core, vertex: Vertex) -> Result<Result<Receipt, Cause>, OutOfMemory>
+fn unit_answer(
+    core: &mut Core,
+    unit: SignedUnit,
+    name: Digest,
+) -> Result<Result<Receipt, Cause>, OutOfMemory>
+    requires fits { VertexFits (vertex.Unit unit) }
+    requires name { name ≡ digest_of unit.unit }
+    ensures answer { IfOk result (λ answer. answer ≡ answer_in core.old (vertex.Unit unit) true) }
+    ensures core { OnOk result (core.new ≡ after_in core.old (vertex.Unit unit) true) }
+{
+    match core.deliver_named(unit, name) {
+        Ok(receipt) => Ok(Ok(receipt)),
+        Err(UnitRefused { cause, .. }) => cause_of(cause),
+    }
+}
+
+/// Delivers the vertex, whose name the node works out where it is a unit, and says what it is answered.
+#[tactic(auto, using(crate::proofs::AnswerLaws::refusal_is, crate::proofs::AnswerLaws::refused_stays))]
+fn vertex_answer(core: &mut Core, vertex: Vertex) -> Result<Result<Receipt, Cause>, OutOfMemory>
     requires { VertexFits vertex }
     ensures answer { IfOk result (λ answer. answer ≡ answer_in core.old vertex true) }
     ensures core { OnOk result (core.new ≡ after_in core.old vertex true) }

@@ -25,7 +25,7 @@ pub enum Act {
     ShowFinal,
 }
 
-/// What is done, in order. Contracts see a list. Each vertex keeps the limits of its format.
+/// What is done, in order. Contracts see a list. Each vertex keeps the limits of its format, and has its unit's digest.
 #[derive(Drop)]
 pub struct Acts {
     items: Vec<Act>,

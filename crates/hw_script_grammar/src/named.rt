@@ -1,8 +1,8 @@
 //! What a name stands for.
 
 ghost use Rattle.std.specs.{Prelude.{◌≡◌, IfOk, IfSome}, Option.{option_copied}};
-ghost use Rattle.hw_types.specs.Spelling.{Fits, VertexFits};
-ghost use Rattle.hw_script_grammar.specs.Names.{is_unit, unit_in, unsigned};
+ghost use Rattle.hw_types.specs.Spelling.{Fits};
+ghost use Rattle.hw_script_grammar.specs.Names.{NamedFits, is_unit, unit_in, unsigned};
 
 use hw_types::{Bytes, Digest, OutOfMemory, Signature, SignedUnit, Vertex, WireUnit, is_same_unit};
 
@@ -33,7 +33,7 @@ impl Named {
     /// Its unit, where it is one.
     pub(crate) fn unit(&self) -> Option<&WireUnit>
         ensures unit { option_copied result ≡ unit_in self.now.vertex }
-        ensures fits { VertexFits self.now.vertex → IfSome result (λ unit. Fits unit.now) }
+        ensures fits { NamedFits self.now → IfSome result (λ unit. Fits unit.now) }
     {
         match &self.vertex {
             Vertex::Unit(signed) => Some(&signed.unit),

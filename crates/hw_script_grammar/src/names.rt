@@ -1,7 +1,7 @@
 //! All that is defined in a script, by name.
 
 ghost use Rattle.std.specs.{Prelude.{◌≡◌, ◌++◌, ◌∷◌, [], IfOk, IfSome, OnOk}, Option.{option_copied}};
-ghost use Rattle.hw_types.specs.Spelling.{Fits, VertexFits, digest_of};
+ghost use Rattle.hw_types.specs.Spelling.{Fits, digest_of};
 ghost use Rattle.hw_script_grammar.specs.{Names.{NamedFits, named_as, is_taken, unit_as, digest_as, name_of, has_unit}, Places.{HasNoted, HasNotedDigest}};
 
 use crate::named::Named;
@@ -69,7 +69,7 @@ impl Names {
     /// What is defined under the name.
     pub(crate) fn get(&self, name: &[u8]) -> Option<&Named>
         ensures named { option_copied result ≡ named_as self.now name.now }
-        ensures fits { IfSome result (λ named. VertexFits named.now.vertex) }
+        ensures fits { IfSome result (λ named. NamedFits named.now) }
     {
         let place = self.by_name.get(name)?;
         Some(&self.items[*place])

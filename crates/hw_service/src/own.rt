@@ -1,7 +1,6 @@
 //! A validator's own units in a run.
 
-ghost use Rattle.std.specs.{Prelude.{◌≡◌, ◌≢◌, ◌≤◌, ◌<◌, ◌++◌, ◌^◌, ℕ, List, Option, length, IsTrue, IfOk, IfErr, IfSome, OnOk, Some}, Prelude.{None}};
-ghost use Rattle.hw_types.specs.Spelling.{Fits};
+ghost use Rattle.std.specs.{Prelude.{◌≡◌, ◌≢◌, ◌≤◌, ◌<◌, ◌++◌, ◌^◌, ℕ, List, Option, length, IsTrue, IfOk, IfErr, OnOk, Some}, Prelude.{None}};
 ghost use Rattle.hw_service.specs.Scene.{DoorSeen, sight_of, outside, scene, IsReady};
 ghost use Rattle.hw_service.specs.Run.{HaveTaken};
 ghost use Rattle.hw_service.specs.Turns.{MakesUnit, MakesWith, kind_word, made_line};
@@ -12,11 +11,10 @@ ghost use Rattle.hw_service.specs.declared.fault.ServiceFault.TheVariants as fau
 use crate::fault::ServiceFault;
 use crate::lines::write_bytes;
 use crate::node_host::Host;
-use hw_codec::digest_of;
 use hw_io::{Consumer, Files, Sink};
-use hw_session::MakeFault;
+use hw_session::{MadeUnit, MakeFault};
 use hw_text::{end_line, put_digest, put_word};
-use hw_types::{Bytes, OutOfMemory, Plan, PlanKind};
+use hw_types::{Bytes, OutOfMemory, PlanKind};
 use hw_validator::value_at;
 use std::alloc::Global;
 
@@ -88,7 +86,7 @@ fn make_with<F: Files, S: Sink>(
 
     ensures reads { F.read_faults files.new ≡ F.read_faults files.old }
 {
-    match host.node.make(files, own.me, own.moment, own.value) {
+    match host.node.make_named(files, own.me, own.moment, own.value) {
         Ok(made) => {
             host.fanout.pass(consumers, host.node.core());
             tell_made(alloc, out, &made)
@@ -102,33 +100,35 @@ fn make_with<F: Files, S: Sink>(
     }
 }
 
-/// Writes the line of an own unit, if there is one. The unit keeps the limits of its format.
-fn tell_made<S: Sink>(alloc: Global, out: &mut S, made: &Option<Plan>) -> Result<(), ServiceFault>
-    requires fits { IfSome made.now (λ plan. Fits plan.unit) }
+/// Writes the line of an own unit, if there is one.
+fn tell_made<S: Sink>(
+    alloc: Global,
+    out: &mut S,
+    made: &Option<MadeUnit>,
+) -> Result<(), ServiceFault>
     ensures written { Writes (S.taken out.old) (S.taken out.new) (made_line made.now) result }
     ensures fault { IfErr result IsOfOutput }
     ensures writes { IsWriteCounted (S.faults out.old) (S.faults out.new) result }
 {
     match made {
-        Some(plan) => {
-            let line = made_line(alloc, plan)?;
+        Some(made) => {
+            let line = made_line(alloc, made)?;
             write_bytes(out, line.as_slice())
         }
         None => Ok(()),
     }
 }
 
-/// The line of an own unit, which keeps the limits of its format.
+/// The line of an own unit.
 #[tactic(auto, using(std::proofs::Common::append_assoc), unfolding(crate::specs::Turns::made_line, hw_text::specs::Lines::line_of))]
-fn made_line(alloc: Global, plan: &Plan) -> Result<Bytes, OutOfMemory>
-    requires fits { Fits plan.now.unit }
-    ensures { IfOk result (λ line. line ≡ made_line (Some plan.now)) }
+fn made_line(alloc: Global, made: &MadeUnit) -> Result<Bytes, OutOfMemory>
+    ensures { IfOk result (λ line. line ≡ made_line (Some made.now)) }
 {
     let mut line = Bytes::new(alloc);
     put_word(&mut line, "made ")?;
-    put_word(&mut line, kind_word(plan.kind))?;
+    put_word(&mut line, kind_word(made.kind()))?;
     put_word(&mut line, " ")?;
-    put_digest(&mut line, &digest_of(alloc, &plan.unit)?)?;
+    put_digest(&mut line, &made.name())?;
     end_line(&mut line)?;
     Ok(line)
 }

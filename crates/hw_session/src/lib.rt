@@ -27,6 +27,7 @@ pub use hw_keys::{Keys, KeysFault};
 pub use hw_link::SessionEnd;
 pub use hw_replay::StartFault;
 pub use laws::{a_log_gives_its_journal_back, a_node_keeps_the_log_of_its_journal};
+pub use make::MadeUnit;
 pub use node::{ClashUnits, Node};
 pub use stage::PeerMark;
 pub use start::{fault_of_read, name_of};

@@ -14,9 +14,52 @@ use crate::node::Node;
 use hw_codec::digest_of;
 use hw_io::Files;
 use hw_log::{Lasts, LogError};
-use hw_types::{Cause, Digest, OutOfMemory, Plan, SignedUnit, Vertex};
+use hw_types::{Cause, Digest, OutOfMemory, Plan, PlanKind, SignedUnit, Vertex};
 use hw_validator::next_unit_of;
 use std::alloc::Global;
+use std::marker::Model;
+
+/// A unit that was made: its plan, and its name, so that nobody works it out again. Contracts see the plan.
+#[derive(Drop)]
+pub struct MadeUnit {
+    plan: Plan,
+    name: Digest,
+}
+
+impl Model for MadeUnit {
+    ghost use Rattle.std.specs.Prelude.{◌≡◌};
+    ghost use Rattle.hw_types.specs.Spelling.{digest_of};
+    ghost use Rattle.hw_types.specs.declared.answers.Plan.{Plan};
+
+    ghost Value = { Plan };
+
+    ghost view = { λ m. m.plan };
+
+    ghost invariant = { λ m. m.name ≡ digest_of m.plan.unit };
+}
+
+impl MadeUnit {
+    /// What the unit is for.
+    pub fn kind(&self) -> PlanKind
+        ensures { result ≡ self.now.kind }
+    {
+        self.plan.kind
+    }
+
+    /// The name of the unit.
+    pub fn name(&self) -> Digest
+        ensures { result ≡ digest_of self.now.unit }
+    {
+        self.name
+    }
+
+    /// The plan alone.
+    pub fn into_plan(self) -> Plan
+        ensures { result ≡ self }
+    {
+        self.plan
+    }
+}
 
 impl Node {
     /// Makes the unit that this validator may make at this moment, in milliseconds, with this value of at
@@ -46,11 +89,48 @@ impl Node {
         ensures allowance { F.allowance files.new ≡ F.allowance files.old }
         ensures reads { F.read_faults files.new ≡ F.read_faults files.old }
     {
+        match self.make_named(files, me, now, value) {
+            Ok(made) => Ok(plan_of(made)),
+            Err(fault) => Err(fault),
+        }
+    }
+
+    /// Makes the unit as [`make`](Node::make) does, and answers it with its name.
+    pub fn make_named<F: Files>(
+        &mut self,
+        files: &mut F,
+        me: u32,
+        now: u64,
+        value: &[u8],
+    ) -> Result<Option<MadeUnit>, MakeFault>
+        requires me { me < length self.old.core.config.weights }
+        requires now { now < 2 ^ 63 }
+        requires value { length value.now ≤ 4096 }
+        ensures made { Makes self.old (planned_by self.old me now value.now) self.new result }
+        ensures line { KeepsLine self.old me self.new result }
+        ensures fits { IfOk result (λ made. IfSome made (λ plan. Fits plan.unit)) }
+        ensures log { IsTrue F.tells → WritesOwn self.old (planned_by self.old me now value.now) self.new (F.held files.old) (F.held files.new) result }
+        ensures cause { IsMakeCounted (F.append_faults files.old) (F.append_faults files.new) result }
+
+        ensures begun { F.begun files.new ≡ F.begun files.old }
+        ensures allowance { F.allowance files.new ≡ F.allowance files.old }
+        ensures reads { F.read_faults files.new ≡ F.read_faults files.old }
+    {
         let core = &self.core;
         match next_unit_of(self.alloc, core.state(), core.instance(), me, now, value)? {
             Some(plan) => self.make_planned(files, plan),
             None => Ok(None),
         }
+    }
+}
+
+/// The plan of a unit that was made, if one was.
+fn plan_of(made: Option<MadeUnit>) -> Option<Plan>
+    ensures { result ≡ made }
+{
+    match made {
+        Some(made) => Some(made.into_plan()),
+        None => None,
     }
 }
 
@@ -68,7 +148,7 @@ impl Node {
         &mut self,
         files: &mut F,
         plan: Plan,
-    ) -> Result<Option<Plan>, MakeFault>
+    ) -> Result<Option<MadeUnit>, MakeFault>
         requires planned { IsAStep self.old plan }
         requires fits { Fits plan.unit }
         ensures made { Makes self.old (Some plan) self.new result }
@@ -78,8 +158,12 @@ impl Node {
         ensures reading { reading (F.begun files.new) (F.allowance files.new) (F.read_faults files.new) ≡ reading (F.begun files.old) (F.allowance files.old) (F.read_faults files.old) }
     {
         let own = self.own_unit(&plan)?;
+        let made = MadeUnit {
+            plan,
+            name: own.name,
+        };
         match self.core.deliver_named(own.unit, own.name) {
-            Ok(_receipt) => put_own(&mut self.lasts, files, self.log.as_str(), plan, own.entry),
+            Ok(_receipt) => put_own(&mut self.lasts, files, self.log.as_str(), made, own.entry),
             Err(refused) => self.refuse_own(refused.cause),
         }
     }
@@ -108,7 +192,7 @@ impl Node {
     }
 
     /// What the refusal of an own unit is answered. A full journal is counted.
-    fn refuse_own(&mut self, cause: Cause) -> Result<Option<Plan>, MakeFault>
+    fn refuse_own(&mut self, cause: Cause) -> Result<Option<MadeUnit>, MakeFault>
         requires { IsOfOwn cause }
         ensures { Refuses self.old cause self.new result }
     {
@@ -126,22 +210,22 @@ impl Node {
     }
 }
 
-/// Appends the entry of a plan's unit to the log of this name, and notes it.
+/// Appends the entry of a unit that was made to the log of this name, and notes it.
 fn put_own<F: Files>(
     lasts: &mut Lasts,
     files: &mut F,
     log: &str,
-    plan: Plan,
+    made: MadeUnit,
     entry: NewEntry,
-) -> Result<Option<Plan>, MakeFault>
-    ensures put { PutsOwn lasts.old lasts.new entry plan result }
+) -> Result<Option<MadeUnit>, MakeFault>
+    ensures put { PutsOwn lasts.old lasts.new entry made result }
     ensures log { IsTrue F.tells → Appended (F.held files.old) (F.held files.new) log.now entry.bytes result }
     ensures cause { IsMakeCounted (F.append_faults files.old) (F.append_faults files.new) result }
 
     ensures reading { reading (F.begun files.new) (F.allowance files.new) (F.read_faults files.new) ≡ reading (F.begun files.old) (F.allowance files.old) (F.read_faults files.old) }
 {
     put_entry(lasts, files, log, entry)?;
-    Ok(Some(plan))
+    Ok(Some(made))
 }
 
 /// What a failed append is answered as.

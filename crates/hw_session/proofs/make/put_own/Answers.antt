@@ -8,7 +8,7 @@ use Rattle.hw_session.proofs.make.put_own.Goals as goal
 pub returns-in_err-put_entry-clause-put : goal.returns-in_err-put_entry-clause-put
 returns-in_err-put_entry-clause-put g c =
     let p = err_from_is_err_and c.from_residual.result c.from_residual.ensures.1 in
-    rw (p.1, p.2) (cut_puts _ _ c.args.entry c.args.plan c.in_err-put_entry.field-0.0 c.in_err-put_entry.ensures.same)
+    rw (p.1, p.2) (cut_puts _ _ c.args.entry c.args.made c.in_err-put_entry.field-0.0 c.in_err-put_entry.ensures.same)
 
 pub returns-in_err-put_entry-clause-log : goal.returns-in_err-put_entry-clause-log
 returns-in_err-put_entry-clause-log g c = λ tells.

@@ -6,7 +6,7 @@ use Rattle.hw_session.specs.Make.{Makes, WritesOwn}
 use Rattle.hw_session.proofs.StepLaws.{planned_is, node_plans, node_plan_fits}
 use Rattle.hw_session.proofs.LineLaws.{keeps_line}
 use Rattle.hw_session.proofs.ConfigLaws.{made_fits}
-use Rattle.hw_session.proofs.node.Node.make.Goals as goal
+use Rattle.hw_session.proofs.node.Node.make_named.Goals as goal
 
 pub make_planned-requires-clause-planned : goal.make_planned-requires-clause-planned
 make_planned-requires-clause-planned g c =
