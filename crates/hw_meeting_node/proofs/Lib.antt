@@ -15,3 +15,4 @@ pub mod SameLaws
 pub mod NextLaws
 pub mod ReadLaws
 pub mod LengthLaws
+pub mod RangeLaws
