@@ -1,41 +1,20 @@
 -- What a node's state plans is what its journal plans.
-use Rattle.std.proofs.Common.{◌≡◌, ℕ, List, [], Option, refl, sym, ap, ◌∙◌}
+use Rattle.std.proofs.Common.{◌≡◌, ℕ, List, Option, ap, ◌∙◌}
 use Rattle.hw_types.specs.declared.answers.Plan.{Plan}
-use Rattle.hw_types.specs.declared.config.Config.{Config}
-use Rattle.hw_types.specs.declared.unit.Digest.{Digest}
-use Rattle.hw_types.specs.declared.unit.Obs.{Obs}
-use Rattle.hw_types.specs.Graph.{Node}
 use Rattle.hw_types.specs.Real.{CoreState, setting_of, received_in, settled_in, panorama_in}
-use Rattle.hw_types.specs.Settled.{Received, is_endorsed}
-use Rattle.hw_types.specs.Journal.{Setting}
-use Rattle.hw_types.specs.Step.{step, step_in, chosen_panorama, is_fit, list_of}
+use Rattle.hw_types.specs.Step.{step}
 use Rattle.hw_dag.specs.Dag.{graph, observations}
 use Rattle.hw_admit.specs.State.{NodeState}
-use Rattle.hw_validator.specs.Step.{known_to, step_of}
+use Rattle.hw_validator.specs.Step.{step_of}
+use Rattle.hw_validator.proofs.JournalLaws.{step_is}
 use Rattle.hw_honest.specs.Cluster.{value_at}
 use Rattle.hw_cluster.specs.Nodes.{plan_in}
 
--- what was received of endorsements alone
-abbrev endorsed_of : Received → Received
-endorsed_of r = record { units = []; with_evidence = []; endorsements = r.endorsements }
-
--- A step reads of what was received the endorsements alone.
-step_reads : (s : Setting) (r : Received) (units : List Node) (state : List Obs) (me now : ℕ) (value : List ℕ) → step_in s r units state me now value ≡ step_in s (endorsed_of r) units state me now value
-unfolding step_in chosen_panorama is_fit list_of is_endorsed
-step_reads s r units state me now value = refl
-
 module _ (core : CoreState) (st : NodeState) (config : st.config ≡ core.config) (settled : graph st.dag ≡ settled_in core) (panorama : observations st.dag st.panorama ≡ panorama_in core)
     (pairs : st.pairs ≡ (received_in core).endorsements) (me now : ℕ) (value : List ℕ) where
-  pub step_is : step_of st me now value ≡ step (setting_of core.config) (received_in core) me now value
-  unfolding step
-  step_is =
-      ap (λ (k : Config). step_in (setting_of k) (known_to st) (graph st.dag) (observations st.dag st.panorama) me now value) config
-      ∙ ap (λ (us : List Node). step_in (setting_of core.config) (known_to st) us (observations st.dag st.panorama) me now value) settled
-      ∙ ap (λ (os : List Obs). step_in (setting_of core.config) (known_to st) (settled_in core) os me now value) panorama
-      ∙ step_reads (setting_of core.config) (known_to st) (settled_in core) (panorama_in core) me now value
-      ∙ ap (λ (es : List (Digest × ℕ)). let r : Received = record { units = []; with_evidence = []; endorsements = es } in step_in (setting_of core.config) r (settled_in core) (panorama_in core) me now value) pairs
-      ∙ sym (step_reads (setting_of core.config) (received_in core) (settled_in core) (panorama_in core) me now value)
-
   -- the step of the state is the plan of the node, where the value is that of its block
   pub plan_is : value ≡ value_at (setting_of core.config) me now → (o : Option Plan) → o ≡ step_of st me now value → o ≡ plan_in core me now
-  plan_is v o e = e ∙ step_is ∙ ap (λ (x : List ℕ). step (setting_of core.config) (received_in core) me now x) v
+  plan_is v o e =
+      e
+      ∙ step_is core st me now value (record { config = config; settled = settled; panorama = panorama; endorsements = pairs })
+      ∙ ap (λ (x : List ℕ). step (setting_of core.config) (received_in core) me now x) v

@@ -115,7 +115,7 @@ done_of by.ByteLimit k is = absurd cc
 done_of by.Clash k is = absurd cc
 done_of by.OutOfMemory k is = absurd cc
 
-by_bytes : (t : Talk Meeting) → EndsAs (end.Done 0) t → (t.end ≡ by.Done) × (t.state.refused ≡ 0)
+pub by_bytes : (t : Talk Meeting) → EndsAs (end.Done 0) t → (t.end ≡ by.Done) × (t.state.refused ≡ 0)
 by_bytes t (inl is) = done_of t.end t.state.refused is
 by_bytes t (inr of) = absurd of
 

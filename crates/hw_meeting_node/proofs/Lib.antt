@@ -14,3 +14,4 @@ pub mod VertexLaws
 pub mod NextLaws
 pub mod ReadLaws
 pub mod LengthLaws
+pub mod RangeLaws

@@ -1,6 +1,6 @@
 -- Laws of meetings: the statements.
 -- Source: ours.
-use Rattle.std.specs.Prelude.{◌≡◌, ◌⊎◌, ℕ, ◌≤◌, Bool, List, ◌∷◌, ◌++◌, length, take, map, filter_map, fold, is_ok, Option, Some, None, Result, if◌then◌else◌}
+use Rattle.std.specs.Prelude.{◌≡◌, ◌⊎◌, ℕ, ◌<◌, ◌≤◌, ◌^◌, Bool, List, ◌∷◌, ◌++◌, length, take, map, filter_map, fold, is_ok, Option, Some, None, Result, if◌then◌else◌}
 use Rattle.std.specs.List.{All}
 use Rattle.hw_types.specs.declared.unit.Vertex.{Vertex}
 use Rattle.hw_types.specs.declared.config.Config.{Config}
@@ -12,6 +12,7 @@ use Rattle.hw_types.specs.Limits.{config_fault}
 use Rattle.hw_types.specs.Spelling.{instance_of, VertexFits}
 use Rattle.hw_types.specs.Real.{CoreState, setting_of}
 use Rattle.hw_types.specs.laws.StateLaws.{SaysTheSame, HasSameState}
+use Rattle.hw_codec.specs.Ranges.{VertexInRange}
 use Rattle.hw_io.specs.Faults.{Rose, raised}
 use Rattle.hw_link.specs.declared.end.SessionEnd.TheVariants as by
 use Rattle.hw_link.specs.Frames.{byte_limit}
@@ -115,6 +116,13 @@ MeetingsAreComplete = (side : Side) (c : CoreState) (judge : Vertex → Bool) (r
     → (door_old door_new : ℕ) → IsLinkEnd door_old door_new e → (Rose door_old door_new → ⊥)
     → (taker_old taker_new : ℕ) → IsTakerEnd taker_old taker_new e → (Rose taker_old taker_new → ⊥)
     → ((refused : ℕ) × (e ≡ end.Done refused)) ⊎ (e ≡ end.OutOfMemory)
+
+-- ---- ranges
+
+-- All that a node says in a meeting that ended as both said is in the ranges of its types, where its journal is: its length, and each vertex.
+abbrev pub MeetingsSayInRange : Type 0
+MeetingsSayInRange = (side : Side) (c : CoreState) (judge : Vertex → Bool) (bytes : List ℕ) → config_fault c.config ≡ None → length c.journal < 2 ^ 64 → All VertexInRange c.journal
+    → (met side c judge bytes).end ≡ by.Done → All MeetingInRange (met side c judge bytes).said
 
 -- ---- convergence
 

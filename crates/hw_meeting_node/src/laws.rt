@@ -1,6 +1,6 @@
 //! Laws of meetings.
 
-ghost use Rattle.hw_meeting_node.specs.Laws.{MeetingsTake, MeetingsTakeTheFirst, MeetingsSayWhatStood, MeetingsAreDone, MeetingsAreComplete, MeetingsConverge, MetNodesAreOne};
+ghost use Rattle.hw_meeting_node.specs.Laws.{MeetingsTake, MeetingsTakeTheFirst, MeetingsSayWhatStood, MeetingsAreDone, MeetingsAreComplete, MeetingsSayInRange, MeetingsConverge, MetNodesAreOne};
 
 /// What a node has received behind whatever bytes of a peer, by the vertices that it took of them: the first that the
 /// peer sends.
@@ -19,6 +19,12 @@ pub fn meetings_say_what_stood()
 pub fn meetings_are_done()
     ensures done { MeetingsAreDone }
     ensures complete { MeetingsAreComplete }
+{}
+
+/// What a node says in a meeting that ended as done is in the ranges of its types, where what its journal holds is. So
+/// it is with each node in hand.
+pub fn meetings_say_what_is_in_range()
+    ensures { MeetingsSayInRange }
 {}
 
 /// Where two nodes met, each read what the other wrote, and nothing was refused, their journals say the same and

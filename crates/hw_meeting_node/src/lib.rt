@@ -23,7 +23,10 @@ mod send;
 mod taker;
 
 pub use end::MeetEnd;
-pub use laws::{meetings_are_done, meetings_converge, meetings_say_what_stood, meetings_take};
+pub use laws::{
+    meetings_are_done, meetings_converge, meetings_say_what_is_in_range, meetings_say_what_stood,
+    meetings_take,
+};
 pub use meet::{host_one, meet_one};
 pub use meeter::Side;
 pub use memory::{MemTaker, VertexList};

@@ -19,7 +19,7 @@ use Rattle.hw_honest.specs.Laws.{IsSafeToStart}
 use Rattle.hw_honest.proofs.RestartLaws.{kept_life}
 use Rattle.hw_session.specs.declared.fault.MakeFault.{MakeFault}
 use Rattle.hw_session.specs.declared.fault.MakeFault.TheVariants as fault
-use Rattle.hw_session.specs.Node.{NodeState}
+use Rattle.hw_session.specs.Node.{NodeState, IsSound}
 use Rattle.hw_session.specs.Make.{planned_by, own_vertex, with_vertex, with_entry, IsToMake, Makes}
 use Rattle.hw_session.specs.Restart.{HasLog, logged_of}
 use Rattle.hw_session.specs.Standing.{Standing}
@@ -27,7 +27,7 @@ use Rattle.hw_session.proofs.LineLaws.{make_is_an_event}
 use Rattle.hw_service.specs.Meets.{vertices_of}
 use Rattle.hw_run_laws.specs.Restart.{arrivals, TakesSome, HasCutLog, LeavesLog}
 use Rattle.hw_run_laws.specs.Taken.{taken_served, taken_driven}
-use Rattle.hw_run_laws.specs.Calls.{IsSound, at_door, Attempt, makes, accepts, serves, drives, meets, IsReady, AttemptsKeepOneLine}
+use Rattle.hw_run_laws.specs.Calls.{at_door, Attempt, makes, accepts, serves, drives, meets, IsReady, AttemptsKeepOneLine}
 use Rattle.hw_run_laws.proofs.LifeLaws.{life_both}
 use Rattle.hw_run_laws.proofs.StartLaws.{reached}
 use Rattle.hw_run_laws.proofs.CutLaws.{serves_leave_taken, drives_leave_taken, make_leaves}

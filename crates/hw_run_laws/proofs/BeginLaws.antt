@@ -11,12 +11,12 @@ use Rattle.hw_keys.specs.Signed.{endorsement_signature, verdict_of}
 use Rattle.hw_core.specs.Readers.{unmet_in}
 use Rattle.hw_log.specs.Log.{header_bytes}
 use Rattle.hw_honest.proofs.OneLineLaws.{begins}
-use Rattle.hw_session.specs.Node.{new_node}
+use Rattle.hw_session.specs.Node.{new_node, IsSound}
 use Rattle.hw_session.specs.Accept.{given_to}
 use Rattle.hw_session.specs.Make.{planned_by, IsToMake}
 use Rattle.hw_session.specs.Restart.{HasLog}
 use Rattle.hw_session.proofs.RestartLaws.{new_node_has_log}
-use Rattle.hw_run_laws.specs.Calls.{IsSound, IsReady}
+use Rattle.hw_run_laws.specs.Calls.{IsReady}
 use Rattle.hw_run_laws.specs.Members.{NewNodesAreReady, alone, first_standing, first_block, first_endorsement, OneBegins}
 
 pub new_ready : NewNodesAreReady

@@ -10,12 +10,12 @@ use Rattle.hw_codec.specs.Ranges.{VertexInRange}
 use Rattle.hw_honest.specs.Restart.{Logged, restart}
 use Rattle.hw_honest.specs.Laws.{IsSafeToStart}
 use Rattle.hw_honest.proofs.RestartLaws.{log_grows, out_apart}
-use Rattle.hw_session.specs.Node.{NodeState}
+use Rattle.hw_session.specs.Node.{NodeState, IsSound}
 use Rattle.hw_session.specs.Make.{with_entry}
 use Rattle.hw_session.specs.Restart.{HasLog, logged_of}
 use Rattle.hw_session.specs.Start.{GoesOn}
 use Rattle.hw_session.specs.Standing.{Standing}
-use Rattle.hw_run_laws.specs.Calls.{IsSound, at_door, Attempt, makes, accepts, serves, drives, meets, IsWhole, StartsAgain, Call, goes_on, starts, gives_up, AreCalls, IsReady, CallsKeepOneLine, CallsKeepApart}
+use Rattle.hw_run_laws.specs.Calls.{at_door, Attempt, makes, accepts, serves, drives, meets, IsWhole, StartsAgain, Call, goes_on, starts, gives_up, AreCalls, IsReady, CallsKeepOneLine, CallsKeepApart}
 use Rattle.hw_service.specs.Meets.{vertices_of}
 use Rattle.hw_run_laws.specs.Taken.{taken_served, taken_driven}
 use Rattle.hw_run_laws.proofs.LifeLaws.{serves_takes}

@@ -23,21 +23,22 @@ use Rattle.hw_link.specs.Talk.{said_bytes}
 use Rattle.hw_session.specs.declared.fault.MakeFault.{MakeFault}
 use Rattle.hw_session.specs.declared.fault.MakeFault.TheVariants as fault
 use Rattle.hw_session.specs.declared.fault.AcceptFault.TheVariants as accept_fault
-use Rattle.hw_session.specs.Node.{NodeState}
+use Rattle.hw_session.specs.Node.{NodeState, IsSound}
 use Rattle.hw_session.specs.Accept.{given_to, taken_by, IsOfNode, IsTakenIn}
 use Rattle.hw_session.specs.Make.{planned_by, own_vertex, entry_for, with_entry, IsNamesake, IsToMake, IsTooMany, IsNothing}
 use Rattle.hw_session.specs.Restart.{journal_log}
 use Rattle.hw_session.specs.Driving.{hello}
 use Rattle.hw_session.specs.Standing.{Standing}
 use Rattle.hw_meeting_node.specs.declared.end.MeetEnd.TheVariants as met_end
-use Rattle.hw_run_laws.specs.Calls.{IsSound, IsFairVertex, Attempt, makes, accepts, serves, drives, meets, IsWhole, StartsAgain, Call, goes_on, starts, gives_up, IsReady}
+use Rattle.hw_run_laws.specs.Calls.{IsFairVertex, Attempt, makes, accepts, serves, drives, meets, IsWhole, StartsAgain, Call, goes_on, starts, gives_up, IsReady}
 use Rattle.hw_run_laws.specs.Members.{Deed, making, accepting, serving, driving, meeting, Turn, does, stops, drops, deed_of, turn_of, MayBeDone, MayTurn, LivesAreThere}
 use Rattle.hw_run_laws.proofs.AttemptLaws.{takes_fairly, make_lives, lives_soundly}
 use Rattle.hw_run_laws.proofs.CallLaws.{call_ready, call_validator}
 use Rattle.hw_run_laws.proofs.GivenLaws.{put, put_appends, files_after, receipt_writes, each_by, given_known}
 use Rattle.hw_run_laws.proofs.LifeLaws.{takes_one}
 use Rattle.hw_run_laws.proofs.MeetLaws.{accepted_is}
-use Rattle.hw_run_laws.proofs.PlanLaws.{hash_in_range, unit_fits, unit_in_range}
+use Rattle.hw_meeting_node.proofs.RangeLaws.{hash_in_range}
+use Rattle.hw_run_laws.proofs.PlanLaws.{unit_fits, unit_in_range}
 use Rattle.hw_run_laws.proofs.QuietLaws.{fair_to_server, fair_to_driver, quiet_serves, quiet_drives, before_meeting, behind_meeting, quiet_meets, fair_met}
 use Rattle.hw_run_laws.proofs.StartLaws.{reached, each_fits, renewed, renews}
 

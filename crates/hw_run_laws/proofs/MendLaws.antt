@@ -30,14 +30,14 @@ use Rattle.hw_log.proofs.AppendLaws.{entry_again, header_again, log_ok}
 use Rattle.hw_log.proofs.SpelledLaws.{spelled_said}
 use Rattle.hw_log.specs.Rewritten.{whole_entries, with_bytes, mended_of}
 use Rattle.hw_io.specs.Files.{bytes_of}
-use Rattle.hw_session.specs.Node.{NodeState}
+use Rattle.hw_session.specs.Node.{NodeState, IsSound}
 use Rattle.hw_session.specs.Make.{entry_for, with_entry}
 use Rattle.hw_session.specs.Restart.{true_entries, journal_log, journal_lasts, HasLog}
 use Rattle.hw_session.proofs.StartLaws.{config_fits}
 use Rattle.hw_session.proofs.RestartLaws.{entry_keeps}
 use Rattle.std.proofs.Math.Seq.{take-append-add}
 use Rattle.hw_run_laws.specs.Restart.{HasCutLog}
-use Rattle.hw_run_laws.specs.Calls.{IsSound, MendsTo, CutLogIsMended}
+use Rattle.hw_run_laws.specs.Calls.{MendsTo, CutLogIsMended}
 use Rattle.hw_run_laws.proofs.StartLaws.{entries_fit, fits}
 
 -- ---- a torn entry

@@ -33,7 +33,7 @@ use Rattle.hw_run_laws.specs.Members.{alone, first_standing, first_block}
 use Rattle.hw_run_laws.specs.MeetMembers.{MayBeSaid, words_to, with_all, MayBeTold, one_block, has_block, by_keys, no_session, one_session, OneMeets}
 use Rattle.hw_run_laws.proofs.BeginLaws.{one_begins, lawful}
 use Rattle.hw_run_laws.proofs.MemberLaws.{in_range, fits}
-use Rattle.hw_run_laws.proofs.PlanLaws.{hash_in_range, instance_in_range}
+use Rattle.hw_meeting_node.proofs.RangeLaws.{hash_in_range, instance_in_range}
 use Rattle.hw_run_laws.proofs.QuietLaws.{stays}
 use Rattle.hw_run_laws.proofs.TakenLaws.{logs_entry}
 use Rattle.hw_run_laws.proofs.TogetherLaws.{meetings_there, meets_whole, takes_due}

@@ -1,11 +1,7 @@
 -- The unit of a plan is in the ranges of its types, where the vertices of the journal are.
 use Rattle.std.specs.Prelude.{IfSome}
 use Rattle.std.specs.List.{All}
-use Rattle.std.specs.Int.{w32, to_be_bytes}
-use Rattle.std.proofs.Common.{◌≡◌, ◌⊎◌, ℕ, zero, suc, ◌<◌, ◌≤◌, ◌^◌, List, [], length, get_or, Option, Some, None, inl, inr, sym, ap, subst, arith}
-use Rattle.std.proofs.lemmas.List.Elements.{All-append, All-from_recursion}
-use Rattle.sha2.specs.Sha256.{sha256, digest_bytes}
-use Rattle.sha2.proofs.Facts256.{length-sha256}
+use Rattle.std.proofs.Common.{◌≡◌, ◌⊎◌, ℕ, ◌<◌, ◌≤◌, ◌^◌, List, length, Option, Some, None, inl, inr, sym, ap, subst, arith}
 use Rattle.hw_types.specs.declared.unit.Digest.{Digest}
 use Rattle.hw_types.specs.declared.unit.Obs.{Obs}
 use Rattle.hw_types.specs.declared.unit.Obs.TheVariants.{Absent, Correct, Faulty}
@@ -17,7 +13,7 @@ use Rattle.hw_types.specs.Below.{Among}
 use Rattle.hw_types.specs.Graph.{Node, cites, unit_cites}
 use Rattle.hw_types.specs.Journal.{Setting, unit_of_vertex, received_of}
 use Rattle.hw_types.specs.Real.{setting_of}
-use Rattle.hw_types.specs.Spelling.{unit_bytes, config_bytes, digest_of, instance_of, Fits}
+use Rattle.hw_types.specs.Spelling.{Fits}
 use Rattle.hw_types.specs.Step.{list_of}
 use Rattle.hw_types.proofs.EntryLaws.{mapped_among}
 use Rattle.hw_types.proofs.JournalLaws.{received_rising}
@@ -26,8 +22,7 @@ use Rattle.hw_types.proofs.LimitLaws.{within_limits}
 use Rattle.hw_types.proofs.OrderLaws.{received_in, unit_vertex}
 use Rattle.hw_types.proofs.PastLaws.{reach_within}
 use Rattle.hw_types.proofs.WordsLaws.{among_slot}
-use Rattle.hw_codec.specs.Ranges.{AreBytes, AreBytesOf, DigestInRange, ObsInRange, UnitInRange, SignedInRange, VertexInRange}
-use Rattle.hw_codec.proofs.Fields.{wide32}
+use Rattle.hw_codec.specs.Ranges.{AreBytes, DigestInRange, ObsInRange, UnitInRange, SignedInRange, VertexInRange}
 use Rattle.hw_core.proofs.EndLaws.{all_at}
 use Rattle.hw_honest.specs.Plans.{settled_in, IsPlannedOver, IsPlanned, JournalFits}
 use Rattle.hw_honest.proofs.CountLaws.{plan_follows_own}
@@ -36,29 +31,8 @@ use Rattle.hw_honest.proofs.ListLaws.{list_from}
 use Rattle.hw_honest.proofs.NewLaws.{plan_fits}
 use Rattle.hw_honest.proofs.PlanRuleLaws.{planned_is_over_settled}
 use Rattle.hw_honest.proofs.StepLaws.{chosen, IsMade, step_made}
+use Rattle.hw_meeting_node.proofs.RangeLaws.{name_in_range, instance_in_range}
 use Rattle.hw_run_laws.proofs.AttemptLaws.{all_of}
-
--- ---- digests
-
-digest_bytes_are : (h : List ℕ) (n : ℕ) → AreBytes (digest_bytes h n)
-unfolding digest_bytes
-digest_bytes_are h zero = All-from_recursion (λ (b : ℕ). b < 2 ^ 8) [] tt
-digest_bytes_are h (suc n) = All-append (λ (b : ℕ). b < 2 ^ 8) (digest_bytes h n) (to_be_bytes w32 (get_or h n 0)) (digest_bytes_are h n) (wide32.each (get_or h n 0))
-
-hash_is : (bytes : List ℕ) → AreBytes (sha256 bytes)
-unfolding sha256
-hash_is bytes = digest_bytes_are _ 8
-
-pub hash_in_range : (bytes : List ℕ) → AreBytesOf 32 (sha256 bytes)
-hash_in_range bytes = record { size = length-sha256 bytes; each = hash_is bytes }
-
-name_in_range : (u : WireUnit) → DigestInRange (digest_of u)
-unfolding digest_of
-name_in_range u = hash_in_range (unit_bytes u)
-
-pub instance_in_range : (c : Config) → DigestInRange (instance_of c)
-unfolding instance_of
-instance_in_range c = hash_in_range (config_bytes c)
 
 -- ---- settled units
 

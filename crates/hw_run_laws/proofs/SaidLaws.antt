@@ -23,13 +23,13 @@ use Rattle.hw_honest.specs.Laws.{IsSafeToStart}
 use Rattle.hw_honest.proofs.OneLineLaws.{is_by, by_has}
 use Rattle.hw_honest.proofs.HonestLaws.{settled_vertex}
 use Rattle.hw_honest.proofs.RestartLaws.{kept_life}
-use Rattle.hw_session.specs.Node.{NodeState}
+use Rattle.hw_session.specs.Node.{NodeState, IsSound}
 use Rattle.hw_session.specs.Restart.{logged_of}
 use Rattle.hw_session.specs.Serving.{served}
 use Rattle.hw_session.specs.Driving.{driven}
 use Rattle.hw_run_laws.specs.Restart.{arrivals, TakesSome, SaysOfLog}
 use Rattle.hw_run_laws.specs.Taken.{taken_served, taken_driven}
-use Rattle.hw_run_laws.specs.Calls.{IsSound, makes, accepts, serves, drives, meets, CouldGoOut, AttemptsSayNoNew}
+use Rattle.hw_run_laws.specs.Calls.{makes, accepts, serves, drives, meets, CouldGoOut, AttemptsSayNoNew}
 use Rattle.hw_run_laws.proofs.LifeLaws.{served_takes}
 use Rattle.hw_run_laws.proofs.DriverLaws.{driven_takes, driven_says}
 use Rattle.hw_run_laws.proofs.OutLaws.{served_says}

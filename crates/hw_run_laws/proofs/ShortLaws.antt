@@ -40,7 +40,7 @@ use Rattle.hw_session.proofs.ServingLaws.{before_less, no_frame_so, cut_so_far, 
 use Rattle.hw_run_laws.specs.Calls.{serves, IsFairServed}
 use Rattle.hw_run_laws.specs.Members.{short_session, WholeSessionsAreThere, NothingDisturbs, VerticesAreSaid}
 use Rattle.hw_run_laws.specs.Restart.{vertices_among, arrivals}
-use Rattle.hw_run_laws.proofs.PlanLaws.{instance_in_range}
+use Rattle.hw_meeting_node.proofs.RangeLaws.{instance_in_range}
 use Rattle.hw_run_laws.proofs.TakingLaws.{fair_served}
 
 -- ---- a frame that was spelled

@@ -24,12 +24,12 @@ use Rattle.hw_replay.specs.Replay.{is_wanted, said_replayed, replay_of}
 use Rattle.hw_replay.specs.Ends.{lasts_of_file}
 use Rattle.hw_log.specs.declared.rewritten.Rewritten.{Rewritten}
 use Rattle.hw_log.specs.Rewritten.{whole_entries, with_bytes, mended_of}
-use Rattle.hw_session.specs.Node.{NodeState}
+use Rattle.hw_session.specs.Node.{NodeState, IsSound}
 use Rattle.hw_session.specs.Restart.{true_entries, journal_log, journal_lasts, GivesBack, HasLog, logged_of}
 use Rattle.hw_session.specs.Start.{taken_of, GoesOn}
 use Rattle.hw_session.proofs.MakeLaws.{journal_is}
 use Rattle.hw_session.proofs.RestartLaws.{log_gives_back}
-use Rattle.hw_run_laws.specs.Calls.{IsSound, MendsTo}
+use Rattle.hw_run_laws.specs.Calls.{MendsTo}
 
 -- ---- a sound node
 

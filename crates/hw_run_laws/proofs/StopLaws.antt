@@ -14,7 +14,7 @@ use Rattle.hw_replay.specs.Told.{with_more, blocks_between, IsTold, IsFinished}
 use Rattle.hw_replay.specs.Feed.{Moment, moment, first_moment, IsPassed, ArePassed, AreFed}
 use Rattle.hw_replay.proofs.TellingLaws.{took_none}
 use Rattle.hw_link.specs.declared.end.SessionEnd.TheVariants as end
-use Rattle.hw_session.specs.Node.{NodeState}
+use Rattle.hw_session.specs.Node.{NodeState, IsSound}
 use Rattle.hw_session.specs.Restart.{HasLog}
 use Rattle.hw_session.specs.Start.{Starts, StartsLog}
 use Rattle.hw_session.specs.Standing.{Standing}
@@ -27,7 +27,6 @@ use Rattle.hw_service.specs.Turns.{TakesTurn}
 use Rattle.hw_service.specs.Runs.{hosts_session, calls_peer}
 use Rattle.hw_service.specs.Steps.{AreTaken, TakesAll, TakesUntil}
 use Rattle.hw_service.specs.Told.{HoldsSession}
-use Rattle.hw_run_laws.specs.Calls.{IsSound}
 use Rattle.hw_run_laws.specs.CutMembers.{plain_sight, all_took, all_finished, none_dropped, ReplaysAreFed, ReplaysStop, named_as, door_asked, outside_at, IsCutAtReport, RunsAreCut}
 use Rattle.hw_run_laws.proofs.QuietLaws.{quiet_serves}
 use Rattle.hw_run_laws.proofs.StartLaws.{renewed, renews}

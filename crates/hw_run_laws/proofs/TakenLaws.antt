@@ -23,7 +23,7 @@ use Rattle.hw_link.specs.Frames.{framed, byte_limit}
 use Rattle.hw_link.specs.Talk.{Reaction, Talk, goes_on, ends, said_bytes}
 use Rattle.hw_link.specs.UnderWay.{HasHeard, placed_behind}
 use Rattle.hw_link.proofs.HeardLaws.{reads_frame_by_frame}
-use Rattle.hw_session.specs.Node.{NodeState}
+use Rattle.hw_session.specs.Node.{NodeState, IsSound}
 use Rattle.hw_session.specs.Make.{entry_for, with_entry}
 use Rattle.hw_session.specs.Accept.{given_to, refused_by, taken_by}
 use Rattle.hw_session.specs.Grows.{Gains, Logs}
@@ -32,7 +32,7 @@ use Rattle.hw_session.specs.Serving.{wanted_by, is_clash, answer_to_vertex, serv
 use Rattle.hw_session.specs.Sessions.{Serves}
 use Rattle.hw_session.specs.Standing.{Standing, standing}
 use Rattle.hw_session.proofs.GrowsLaws.{gains_one, logs_counts}
-use Rattle.hw_run_laws.specs.Calls.{IsSound, serves, IsFairServed, IsReady}
+use Rattle.hw_run_laws.specs.Calls.{serves, IsFairServed, IsReady}
 use Rattle.hw_run_laws.specs.Members.{HoldsNone, IsTaken, VerticesAreTaken}
 use Rattle.hw_run_laws.specs.Restart.{arrivals, IsLogged}
 use Rattle.hw_run_laws.specs.Taken.{taken_served}

@@ -16,12 +16,12 @@ use Rattle.hw_session.specs.declared.fault.MakeFault.{MakeFault}
 use Rattle.hw_session.specs.declared.fault.MakeFault.TheVariants as make_fault
 use Rattle.hw_session.specs.declared.fault.AcceptFault.{AcceptFault}
 use Rattle.hw_session.specs.declared.fault.AcceptFault.TheVariants as accept_fault
-use Rattle.hw_session.specs.Node.{NodeState}
+use Rattle.hw_session.specs.Node.{NodeState, IsSound}
 use Rattle.hw_session.specs.Make.{own_vertex, entry_for, with_vertex, with_entry}
 use Rattle.hw_session.specs.Restart.{journal_log, journal_lasts}
 use Rattle.hw_session.specs.Standing.{Standing}
 use Rattle.hw_session.proofs.MakeLaws.{own_accepted}
-use Rattle.hw_run_laws.specs.Calls.{IsSound, Attempt, makes, accepts, StartsAgain, IsReady, MendsTo}
+use Rattle.hw_run_laws.specs.Calls.{Attempt, makes, accepts, StartsAgain, IsReady, MendsTo}
 use Rattle.hw_run_laws.specs.Restart.{HasCutLog}
 use Rattle.hw_run_laws.specs.Members.{IsTorn, TornLogsAreThere, TornAcceptsAreThere}
 use Rattle.hw_run_laws.proofs.CutLaws.{taken_true}

@@ -1,7 +1,6 @@
 -- A node with a log through its calls, its stops and its starts: the statements.
 -- Source: ours.
 use Rattle.std.specs.Prelude.{◌≡◌, ◌⊎◌, ℕ, ◌<◌, true, List, [], ◌∷◌, length, Option, Some, Result, Ok, Err}
-use Rattle.std.specs.List.{All}
 use Rattle.hw_types.specs.declared.unit.SignedUnit.{SignedUnit}
 use Rattle.hw_types.specs.declared.unit.Vertex.{Vertex}
 use Rattle.hw_types.specs.declared.unit.WireUnit.{WireUnit}
@@ -14,7 +13,7 @@ use Rattle.hw_types.specs.Culprits.{signed_in}
 use Rattle.hw_types.specs.Real.{setting_of}
 use Rattle.hw_types.specs.Spelling.{VertexFits}
 use Rattle.hw_io.specs.Files.{bytes_of}
-use Rattle.hw_codec.specs.Ranges.{ConfigInRange, VertexInRange}
+use Rattle.hw_codec.specs.Ranges.{VertexInRange}
 use Rattle.hw_keys.specs.Signed.{verdict_of}
 use Rattle.hw_honest.specs.OneLine.{OneLine}
 use Rattle.hw_honest.specs.Restart.{AreFair, MayGoOut}
@@ -25,7 +24,7 @@ use Rattle.hw_session.specs.declared.stage.PeerMark.{PeerMark}
 use Rattle.hw_session.specs.declared.fault.MakeFault.{MakeFault}
 use Rattle.hw_session.specs.declared.fault.MakeFault.TheVariants as fault
 use Rattle.hw_session.specs.declared.fault.AcceptFault.{AcceptFault}
-use Rattle.hw_session.specs.Node.{NodeState, IsKept}
+use Rattle.hw_session.specs.Node.{NodeState, IsSound}
 use Rattle.hw_session.specs.Make.{planned_by, with_entry, Makes, WritesOwn}
 use Rattle.hw_session.specs.Accept.{Accepts, WritesAccepted}
 use Rattle.hw_session.specs.Restart.{HasLog, logged_of}
@@ -46,12 +45,6 @@ use Rattle.hw_run_laws.specs.Restart.{arrivals, IsLogged, IsMetLogged, IsJudged,
 use Rattle.hw_run_laws.specs.Taken.{taken_served, taken_driven}
 
 -- ---- calls
-
--- what each node is: it keeps its limits, deliveries reached it, and its numbers are those of their types
-pub record IsSound (n : NodeState) : Type 0 where
-  pub kept : IsKept n
-  pub config : ConfigInRange n.core.config
-  pub vertices : All VertexInRange n.core.journal
 
 -- No vertex that the node takes where it serves a peer that sends these bytes, and that it accepts in its turn, brings a new unit by the validator.
 abbrev pub IsFairServed : ℕ → NodeState → List ℕ → Type 0

@@ -18,6 +18,7 @@ use Rattle.hw_replay.specs.Taken.{Taken, nothing_taken, entries_taken, rest_take
 use Rattle.hw_replay.specs.Midway.{midway, next_taken}
 use Rattle.hw_replay.specs.Feed.{first_moment, AreFedUntil, AreFedTo}
 use Rattle.hw_session.specs.Restart.{HasLog}
+use Rattle.hw_session.specs.Node.{IsSound}
 use Rattle.hw_session.specs.Standing.{Standing}
 use Rattle.hw_service.specs.declared.fault.ServiceFault.TheVariants as fault
 use Rattle.hw_service.specs.Scene.{DoorSeen, door_seen, Outside, outside, none_told}
@@ -26,7 +27,6 @@ use Rattle.hw_service.specs.Run.{StepOver, RunsPart, course, runner}
 use Rattle.hw_service.specs.Serve.{serves_session}
 use Rattle.hw_service.specs.Turns.{TakesTurn}
 use Rattle.hw_service.specs.Runs.{hosts_session, calls_peer}
-use Rattle.hw_run_laws.specs.Calls.{IsSound}
 
 -- ---- consumers
 

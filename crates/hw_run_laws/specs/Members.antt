@@ -23,7 +23,7 @@ use Rattle.hw_link.specs.declared.end.SessionEnd.TheVariants as end
 use Rattle.hw_link.specs.Frames.{framed}
 use Rattle.hw_log.specs.Log.{header_bytes}
 use Rattle.hw_session.specs.declared.stage.PeerMark.{PeerMark}
-use Rattle.hw_session.specs.Node.{NodeState, new_node}
+use Rattle.hw_session.specs.Node.{NodeState, new_node, IsSound}
 use Rattle.hw_session.specs.Accept.{given_to, taken_by, IsTakenIn}
 use Rattle.hw_session.specs.Make.{planned_by, own_vertex, IsToMake}
 use Rattle.hw_session.specs.Serving.{part_from, served}
@@ -32,7 +32,7 @@ use Rattle.hw_session.specs.Driving.{driven}
 use Rattle.hw_session.specs.Drives.{Drives}
 use Rattle.hw_session.specs.Standing.{Standing, standing, driver_standing}
 use Rattle.hw_meeting_node.specs.declared.meeter.Side.{Side}
-use Rattle.hw_run_laws.specs.Calls.{IsSound, Attempt, makes, accepts, serves, drives, meets, StartsAgain, Call, goes_on, starts, gives_up, AreCalls, IsWhole, IsReady, IsSaid}
+use Rattle.hw_run_laws.specs.Calls.{Attempt, makes, accepts, serves, drives, meets, StartsAgain, Call, goes_on, starts, gives_up, AreCalls, IsWhole, IsReady, IsSaid}
 use Rattle.hw_run_laws.specs.Complete.{IsUndisturbed}
 use Rattle.hw_run_laws.specs.Restart.{HasCutLog}
 

@@ -15,3 +15,4 @@ pub mod WantedLaws
 pub mod DrivingLaws
 pub mod DriveLaws
 pub mod ConfigLaws
+pub mod RecallLaws

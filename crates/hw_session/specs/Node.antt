@@ -1,9 +1,11 @@
 -- A node: what it received, and its log.
 -- Source: ours.
 use Rattle.std.specs.Prelude.{◌≡◌, ℕ, List, length, Option, None}
+use Rattle.std.specs.List.{All}
 use Rattle.hw_types.specs.declared.config.Config.{Config}
 use Rattle.hw_types.specs.Limits.{config_fault}
 use Rattle.hw_types.specs.Real.{CoreState}
+use Rattle.hw_codec.specs.Ranges.{ConfigInRange, VertexInRange}
 use Rattle.hw_core.specs.Promises.{begun}
 use Rattle.hw_log.specs.Lasts.{LastUnits, no_lasts}
 use Rattle.hw_replay.specs.Ends.{IsReached}
@@ -30,6 +32,12 @@ pub record IsKeptWith (core : CoreState) (held : List (List ℕ)) : Type 0 where
 -- the same of a node
 abbrev pub IsKept : NodeState → Type 0
 IsKept n = IsKeptWith n.core n.keys
+
+-- what each node is: it keeps its limits, deliveries reached it, and its numbers are those of their types
+pub record IsSound (n : NodeState) : Type 0 where
+  pub kept : IsKept n
+  pub config : ConfigInRange n.core.config
+  pub vertices : All VertexInRange n.core.journal
 
 -- a node that has received nothing, with a log of version 2
 abbrev pub new_node : Config → List (List ℕ) → List ℕ → NodeState
