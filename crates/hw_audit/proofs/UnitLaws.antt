@@ -10,15 +10,11 @@ use Rattle.hw_types.specs.Spelling.{digest_of}
 use Rattle.hw_types.proofs.PastLaws.{some_of, any_of}
 use Rattle.hw_types.proofs.StableLaws.{and_parts, and_whole, both_ways}
 use Rattle.hw_types.proofs.SettledLaws.{digest_same, digest_self}
-use Rattle.hw_types.proofs.OrderLaws.{unit_same, unit_self}
+use Rattle.hw_types.proofs.OrderLaws.{unit_same}
 use Rattle.hw_dag.specs.Dag.{UnitGraph, unit_at, count_of, node_at, graph}
 use Rattle.hw_dag.specs.Admission.{IsGraph, IsNew}
 use Rattle.hw_dag.proofs.NodeLaws.{among_node, node_among, graph_one_name}
 use Rattle.hw_audit.specs.Held.{is_settled}
-
--- the test is whether the two are one
-pub unit_test : (u v : WireUnit) (b : Bool) → (b ≡ true → u ≡ v) → (u ≡ v → b ≡ true) → b ≡ unit_eq u v
-unit_test u v b there back = both_ways b (unit_eq u v) (λ h. subst (λ (w : WireUnit). unit_eq u w ≡ true) (there h) (unit_self u)) (λ h. back (unit_same u v h))
 
 -- what is equal to one unit is equal to another exactly where that one is
 pub unit_as : (u v w : WireUnit) → unit_eq u v ≡ true → unit_eq u w ≡ unit_eq v w

@@ -5,10 +5,10 @@ ghost use Rattle.hw_types.specs.{Graph.{digest_eq}, Spelling.{unit_bytes}};
 ghost use Rattle.hw_safety.specs.declared.verdict.Verdict.TheVariants as Verdict;
 ghost use Rattle.hw_audit.specs.{Clashes.{AreKnown, known_with, unlike, clash_with, first_clash}, Held.{HeldUnit}};
 
-use crate::held::{Held, are_one};
+use crate::held::Held;
 use hw_codec::encode_unit;
 use hw_safety::Verdict;
-use hw_types::{Digest, OutOfMemory};
+use hw_types::{Digest, OutOfMemory, are_one};
 use std::alloc::Global;
 use std::collections::HashMap;
 use std::marker::Model;

@@ -1,14 +1,14 @@
 //! The units that stand in a journal.
 
 ghost use Rattle.std.specs.Prelude.{◌≡◌, List, ◌∷◌, ◌++◌, true, OnOk, IfOk};
-ghost use Rattle.hw_types.specs.{declared.unit.Vertex.{Vertex as Accepted}, Same.{unit_eq}, Spelling.{Fits, VertexFits, digest_of}};
+ghost use Rattle.hw_types.specs.{declared.unit.Vertex.{Vertex as Accepted}, Spelling.{Fits, VertexFits, digest_of}};
 ghost use Rattle.hw_dag.specs.Dag.{graph};
 ghost use Rattle.hw_core.specs.Readers.{names_of};
 ghost use Rattle.hw_audit.specs.Held.{held_as, held_by, is_settled};
 
 use hw_codec::digest_of;
 use hw_dag::Dag;
-use hw_types::{Digest, OutOfMemory, SignedUnit, Vertex, WireUnit, is_same_unit};
+use hw_types::{Digest, OutOfMemory, SignedUnit, Vertex, WireUnit, are_one};
 use std::alloc::Global;
 use std::marker::Model;
 
@@ -83,13 +83,6 @@ fn named<'a>(name: Digest, signed: &'a SignedUnit, is_shown: bool) -> Held<'a>
         signed,
         is_shown,
     }
-}
-
-/// Whether the two are one unit.
-pub fn are_one(left: &WireUnit, right: &WireUnit) -> bool
-    ensures { result ≡ unit_eq left.now right.now }
-{
-    is_same_unit(left, right)
 }
 
 /// Whether this very unit is in the graph, where it has this name.

@@ -6,9 +6,9 @@ ghost use Rattle.hw_audit.specs.Held.{HeldUnit, node_held};
 ghost use Rattle.hw_audit.specs.Twins.{place_of, place_eq, Precedes, AreOne, IsLesser, AreTwins, AreTwinsAt, AreTwinsOfEach, HasTwins, IsLowered, AreNoted, AreShown, pair_in, IsPairOf};
 ghost use Rattle.hw_safety.specs.Pairs.{lower_of};
 
-use crate::held::{Held, are_one};
+use crate::held::Held;
 use hw_codec::{encode_unit, unit_is_in_range};
-use hw_types::OutOfMemory;
+use hw_types::{OutOfMemory, are_one};
 use std::alloc::Global;
 use std::collections::HashMap;
 use std::marker::Model;

@@ -1,5 +1,5 @@
 -- What is counted of a cluster.
-use Rattle.std.proofs.Common.{◌≡◌, ℕ, ◌+◌, ◌<◌, ◌≤◌, inl, inr, Bool, true, false, cond, List, [], ◌∷◌, length, map, get_or, take, drop, refl, sym, ap, subst, ◌∙◌, arith}
+use Rattle.std.proofs.Common.{◌≡◌, ℕ, ◌+◌, ◌<◌, ◌≤◌, inl, inr, Bool, true, false, cond, List, [], ◌∷◌, length, map, get_or, take, drop, refl, sym, ap, ◌∙◌, arith}
 use Rattle.std.specs.Prelude.{◌&&◌, ◌||◌, ◌==◌, not, filter, max}
 use Rattle.std.specs.List.{list_any, range_with_len}
 use Rattle.std.proofs.lemmas.Bool.{cases_lt, cases_eq}
@@ -7,7 +7,6 @@ use Rattle.std.proofs.lemmas.List.{get_or-map, get_or_read, take_all, drop_more,
 use Rattle.std.proofs.lemmas.List.Filters.{length-filter_more}
 use Rattle.std.proofs.lemmas.List.FromFn.{length-range_with_len, get_or-range_with_len}
 use Rattle.std.proofs.lemmas.List.Folds.{list_any-append}
-use Rattle.hw_types.specs.declared.unit.WireUnit.{WireUnit}
 use Rattle.hw_types.specs.declared.unit.SignedUnit.{SignedUnit}
 use Rattle.hw_types.specs.declared.unit.Vertex.{Vertex}
 use Rattle.hw_types.specs.declared.config.Config.{Config}
@@ -20,7 +19,6 @@ use Rattle.hw_types.specs.Culprits.{signed_in, equivocations_of}
 use Rattle.hw_types.specs.Real.{CoreState, setting_of}
 use Rattle.hw_types.specs.Decisions.{AreDecisions}
 use Rattle.hw_types.proofs.DecisionLaws.{decisions_one}
-use Rattle.hw_types.proofs.OrderLaws.{unit_same, unit_self}
 use Rattle.hw_safety.specs.Decided.{decisions_of}
 use Rattle.hw_safety.proofs.DecidedLaws.{decisions_are}
 use Rattle.hw_safety.proofs.HeightLaws.{one_block_each}
@@ -53,17 +51,6 @@ any_filter p (x ∷ xs) = go (p x) (any_filter p xs)
 filter_agrees : {A : Type 0} (p q : A → Bool) → ((x : A) → p x ≡ q x) → (xs : List A) → filter p xs ≡ filter q xs
 filter_agrees p q same [] = refl
 filter_agrees {A} p q same (x ∷ xs) = ap (λ b. cond b (x ∷ filter p xs) (filter p xs)) (same x) ∙ ap (λ (ys : List A). cond (q x) (x ∷ ys) ys) (filter_agrees p q same xs)
-
--- ---- units
-
--- a test that says whether two units are one is that of the definitions
-pub unit_test : (u w : WireUnit) (b : Bool) → (b ≡ true → u ≡ w) → (u ≡ w → b ≡ true) → b ≡ unit_eq u w
-unit_test u w true one two = sym (subst (λ (x : WireUnit). unit_eq u x ≡ true) (one refl) (unit_self u))
-unit_test u w false one two = go (unit_eq u w) refl
-  where
-    go : (t : Bool) → unit_eq u w ≡ t → false ≡ t
-    go true e = two (unit_same u w e)
-    go false e = refl
 
 -- ---- culprits
 

@@ -5,21 +5,13 @@ ghost use Rattle.hw_types.specs.declared.config.Config.{Config as Configuration}
 ghost use Rattle.hw_types.specs.declared.unit.Vertex.{Vertex as AVertex};
 ghost use Rattle.hw_types.specs.Culprits.{signed_in};
 ghost use Rattle.hw_types.specs.Real.{setting_of};
-ghost use Rattle.hw_types.specs.Same.{unit_eq};
 ghost use Rattle.hw_honest.specs.Simulated.{culprits_in, IsMostDecisions};
 ghost use Rattle.hw_safety.specs.Verdicts.{held_in};
 ghost use Rattle.hw_cluster.specs.{Counts.{is_other, has_other, equivocates_in}, Nodes.{nodes_of, HaveConfig}};
 
 use crate::named::NamedVertex;
 use hw_core::Core;
-use hw_types::{Config, SignedUnit, Vertex, WireUnit, is_same_unit};
-
-/// Whether the two are one unit.
-fn are_one(left: &WireUnit, right: &WireUnit) -> bool
-    ensures { result ≡ unit_eq left.now right.now }
-{
-    is_same_unit(left, right)
-}
+use hw_types::{Config, SignedUnit, Vertex, WireUnit, are_one};
 
 /// Whether this is a unit by the validator with the number of that unit, and not that unit.
 fn is_other(validator: u32, unit: &WireUnit, signed: &SignedUnit) -> bool

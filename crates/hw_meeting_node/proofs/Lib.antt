@@ -11,7 +11,6 @@ pub mod ReactLaws
 pub mod DoneLaws
 pub mod ConvergeLaws
 pub mod VertexLaws
-pub mod SameLaws
 pub mod NextLaws
 pub mod ReadLaws
 pub mod LengthLaws

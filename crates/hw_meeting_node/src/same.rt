@@ -3,7 +3,7 @@
 ghost use Rattle.std.specs.Prelude.{◌≡◌};
 ghost use Rattle.hw_meeting_node.specs.Memory.{vertex_eq, signed_eq};
 
-use hw_types::{SignedUnit, Vertex, is_same_unit};
+use hw_types::{SignedUnit, Vertex, are_one};
 
 /// Whether the two vertices are equal, with their signatures.
 #[tactic(auto, unfolding(crate::specs::Memory::vertex_eq))]
@@ -23,5 +23,5 @@ pub(crate) fn is_same_vertex(left: &Vertex, right: &Vertex) -> bool
 fn is_same_signed(left: &SignedUnit, right: &SignedUnit) -> bool
     ensures { result ≡ signed_eq left.now right.now }
 {
-    left.signature == right.signature && is_same_unit(&left.unit, &right.unit)
+    left.signature == right.signature && are_one(&left.unit, &right.unit)
 }

@@ -1,10 +1,10 @@
 //! What a name stands for.
 
 ghost use Rattle.std.specs.{Prelude.{◌≡◌, IfOk, IfSome}, Option.{option_copied}};
-ghost use Rattle.hw_types.specs.{Same.{unit_eq}, Spelling.{Fits, VertexFits}};
+ghost use Rattle.hw_types.specs.{Spelling.{Fits, VertexFits}};
 ghost use Rattle.hw_script_grammar.specs.Names.{is_unit, unit_in, unsigned};
 
-use hw_types::{Bytes, Digest, OutOfMemory, Signature, SignedUnit, Vertex, WireUnit, is_same_unit};
+use hw_types::{Bytes, Digest, OutOfMemory, Signature, SignedUnit, Vertex, WireUnit, are_one};
 
 /// A vertex that is defined in a script.
 #[derive(Drop)]
@@ -60,12 +60,4 @@ pub(crate) fn unsigned(unit: WireUnit) -> SignedUnit
         unit,
         signature: Signature([0; 32]),
     }
-}
-
-/// Whether the two are one unit.
-#[tactic(auto, using(hw_types::proofs::OrderLaws::unit_same, hw_types::proofs::OrderLaws::unit_self))]
-fn are_one(left: &WireUnit, right: &WireUnit) -> bool
-    ensures { result ≡ unit_eq left.now right.now }
-{
-    is_same_unit(left, right)
 }

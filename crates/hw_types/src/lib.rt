@@ -34,6 +34,6 @@ pub use laws::{
     step_is_settled, tip_is_one, union_is_lawful,
 };
 pub use limits::{END_OF_TIME, MAX_LENGTH, MAX_LIST, MAX_VALUE, USUAL_PARKED, USUAL_RECORDS};
-pub use same::is_same_unit;
+pub use same::{are_one, is_same_unit};
 pub use shared::{ObsList, Shared};
 pub use unit::{Digest, Endorsement, Evidence, Need, Obs, Signature, SignedUnit, Vertex, WireUnit};

@@ -1,6 +1,7 @@
 //! Whether two units are one, compared whole and not by their digests.
 
 ghost use Rattle.std.specs.Prelude.{◌≡◌, ◌↔◌, IsTrue};
+ghost use Rattle.hw_types.specs.Same.{unit_eq};
 
 use crate::items::{Bytes, DigestList};
 use crate::shared::ObsList;
@@ -11,6 +12,14 @@ pub fn is_same_unit(left: &WireUnit, right: &WireUnit) -> bool
     ensures { IsTrue result ↔ (left.now ≡ right.now) }
 {
     has_same_numbers(left, right) && has_same_lists(left, right)
+}
+
+/// Whether the two are one unit, by the test of the definitions.
+#[tactic(auto, using(crate::proofs::OrderLaws::unit_same, crate::proofs::OrderLaws::unit_self))]
+pub fn are_one(left: &WireUnit, right: &WireUnit) -> bool
+    ensures { result ≡ unit_eq left.now right.now }
+{
+    is_same_unit(left, right)
 }
 
 fn has_same_numbers(left: &WireUnit, right: &WireUnit) -> bool
