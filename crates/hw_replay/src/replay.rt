@@ -376,7 +376,7 @@ fn clash(
     }
 }
 
-/// The spelling of a unit, if there is one.
+/// The spelling of a unit, which keeps the limits of its format. Where there is none, no bytes.
 pub fn spelling_of(alloc: Global, unit: Option<&SignedUnit>) -> Result<Bytes, OutOfMemory>
     requires { IfSome unit (λ u. Fits u.now.unit) }
     ensures { IfOk result (λ bytes. bytes ≡ spelling_of (option_copied unit.entry)) }

@@ -1,7 +1,7 @@
 //! What a name stands for.
 
 ghost use Rattle.std.specs.{Prelude.{◌≡◌, IfOk, IfSome}, Option.{option_copied}};
-ghost use Rattle.hw_types.specs.{Spelling.{Fits, VertexFits}};
+ghost use Rattle.hw_types.specs.Spelling.{Fits, VertexFits};
 ghost use Rattle.hw_script_grammar.specs.Names.{is_unit, unit_in, unsigned};
 
 use hw_types::{Bytes, Digest, OutOfMemory, Signature, SignedUnit, Vertex, WireUnit, are_one};
