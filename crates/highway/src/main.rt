@@ -27,11 +27,13 @@ const SHORT_FILE: usize = 67_108_864;
 const CERTIFICATE: usize = 536_870_912;
 
 fn main(rt: HostRuntime) -> ExitCode {
-    let status = match command_line(&rt) {
-        Ok(words) => run_on_host(rt, &words),
-        Err(error) => Err(error),
-    };
-    ExitCode::from(status.unwrap_or(OUT_OF_MEMORY))
+    ExitCode::from(run(rt).unwrap_or(OUT_OF_MEMORY))
+}
+
+/// Runs with the words behind the program's name.
+fn run(rt: HostRuntime) -> Result<u8, OutOfMemory> {
+    let words = command_line(&rt)?;
+    run_on_host(rt, &words)
 }
 
 /// Runs over the files, the output, the clock and the network of the host. The values of decided blocks go into a

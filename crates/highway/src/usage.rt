@@ -7,7 +7,7 @@ use hw_program::{
     MAX_LOGS, MAX_NODES, MAX_ROUNDS, MAX_SESSIONS, MAX_STEPS, MAX_TURNS, MAX_VALIDATOR,
     NodeCommand, Request, is_word,
 };
-use hw_script_grammar::number_up_to;
+use hw_text::number_up_to;
 
 /// A command, how many words stand behind it, and which of them are numbers.
 #[derive(Clone, Copy)]

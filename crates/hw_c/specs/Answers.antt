@@ -19,7 +19,8 @@ use Rattle.hw_core.specs.declared.place.Place.{Place}
 use Rattle.hw_core.specs.declared.place.Place.TheVariants as place
 use Rattle.hw_core.specs.Decided.{decided_in}
 use Rattle.hw_core.specs.Readers.{fork_in, exceeded_in}
-use Rattle.hw_c.specs.Told.{zeros, rule_number}
+use Rattle.hw_text.specs.Text.{rule_number}
+use Rattle.hw_c.specs.Told.{zeros}
 use Rattle.hw_c.specs.declared.signed.Signer.{Signer}
 use Rattle.hw_c.specs.declared.signed.Signed.{Signed}
 use Rattle.hw_c.specs.declared.calls.Summary.{Summary}

@@ -11,12 +11,15 @@ use Rattle.std_heap.specs.contracts.GlobalAllocator.TheImpl.{ghosts}
 use Rattle.hw_c.specs.declared.content.Content.{Content}
 use Rattle.hw_core.specs.contracts.node.Core.{the_row}
 
+-- what the box of a handle holds: the value of a node
 abbrev pub Held : Type 0
 Held = the_row.Denot
 
+-- how a pointer that may be null spells a held node, or none
 abbrev pub held_coded : Coded (Option Held)
 held_coded = coded_option the_row.coded
 
+-- what is owned at a pointer: the box of the held node with the right to free it, or nothing where there is none
 unfoldable pub held_owns : Global → Ptr → Option Held → Fml
 held_owns alloc at None = feq Ptr at null_ptr
 held_owns alloc at (Some held) = box_owns (ghosts.dealloc_token alloc) the_row at held

@@ -1,8 +1,6 @@
 -- What the numbers of an answer mean.
 -- Source: ours.
 use Rattle.std.specs.Prelude.{◌≡◌, ℕ, ◌+◌, List, replicate, Result, Ok, Err}
-use Rattle.hw_types.specs.declared.answers.Rule.{Rule}
-use Rattle.hw_types.specs.declared.answers.Rule.TheVariants as rule
 use Rattle.hw_types.specs.declared.answers.CodecError.{CodecError}
 use Rattle.hw_types.specs.declared.answers.CodecError.TheVariants as codec
 use Rattle.hw_types.specs.declared.answers.PairFault.TheVariants as pair
@@ -12,6 +10,7 @@ use Rattle.hw_types.specs.declared.answers.Receipt.{Receipt}
 use Rattle.hw_types.specs.declared.answers.Receipt.TheVariants as receipt
 use Rattle.hw_types.specs.declared.config.ConfigFault.{ConfigFault}
 use Rattle.hw_types.specs.declared.config.ConfigFault.TheVariants as limit
+use Rattle.hw_text.specs.Text.{rule_number}
 use Rattle.hw_light.specs.declared.error.CertError.{CertError}
 use Rattle.hw_light.specs.declared.error.CertError.TheVariants as cert
 use Rattle.hw_c.specs.declared.codes.Answer.{Answer}
@@ -21,28 +20,6 @@ use Rattle.hw_c.specs.declared.codes.Fault.TheVariants as fault
 -- 32 bytes that say nothing
 abbrev pub zeros : List ℕ
 zeros = replicate 32 0
-
--- a rule, by its place in the order in which rules are tested, counted from 1 as in printed answers
-abbrev pub rule_number : Rule → ℕ
-rule_number rule.WrongInstance = 1
-rule_number rule.UnknownCreator = 2
-rule_number rule.PanoramaLength = 3
-rule_number rule.FaultySelf = 4
-rule_number rule.FirstSequence = 5
-rule_number rule.RoundExponent = 6
-rule_number rule.EndorsedOrder = 7
-rule_number rule.NoBlock = 8
-rule_number rule.SlotCreator = 9
-rule_number rule.SequenceNumber = 10
-rule_number rule.Inconsistent = 11
-rule_number rule.TimeGoesBack = 12
-rule_number rule.RoundChange = 13
-rule_number rule.ThirdInRound = 14
-rule_number rule.NotLeader = 15
-rule_number rule.EndorsedShrinks = 16
-rule_number rule.EndorsedUnseen = 17
-rule_number rule.Naive = 18
-rule_number rule.AfterTerminal = 19
 
 -- ---- faults
 

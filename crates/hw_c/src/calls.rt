@@ -9,10 +9,11 @@ ghost use Rattle.hw_c.specs.Answers.{flag, digest_bytes, summary_of, observed_of
 ghost use Rattle.hw_c.specs.Calls.{IsNodeOf, IsVertexDelivery, IsDelivery, IsEntry, IsSummary, IsObserved, IsPlaced, IsDecided};
 ghost use Rattle.hw_c.specs.Named.{IsNameIn};
 
-use crate::codes::{Fault, rule_number};
+use crate::codes::Fault;
 use hw_admit::StateError;
 use hw_codec::{decode_config, decode_vertex, encode_vertex};
 use hw_core::{Core, Place};
+use hw_text::rule_number;
 use hw_types::{Bytes, Decision, Digest, Obs, Receipt, Vertex};
 use std::alloc::Global;
 

@@ -1,11 +1,12 @@
 //! What calls answer: a status, and what stands behind it.
 
 ghost use Rattle.std.specs.Prelude.{◌≡◌, ◌≤◌};
-ghost use Rattle.hw_c.specs.Told.{rule_number, codec_status, codec_place, config_status, config_place, cause_status, cause_digest, cert_status, cert_place, status_of, answer_of, zeros};
+ghost use Rattle.hw_c.specs.Told.{codec_status, codec_place, config_status, config_place, cause_status, cause_digest, cert_status, cert_place, status_of, answer_of, zeros};
 ghost use Rattle.hw_c.specs.declared.codes.Fault.TheVariants as faults;
 
 use hw_light::CertError;
-use hw_types::{Cause, CodecError, ConfigFault, OutOfMemory, PairFault, Rule};
+use hw_text::rule_number;
+use hw_types::{Cause, CodecError, ConfigFault, OutOfMemory, PairFault};
 
 /// It is done.
 pub const OK: u32 = 0;
@@ -123,34 +124,6 @@ pub struct Answer {
     pub count: u32,
     pub at: u64,
     pub digest: [u8; 32],
-}
-
-/// The number of a rule in the order in which rules are tested, counted from 1 as in printed answers.
-pub fn rule_number(rule: Rule) -> u32
-    ensures number { result ≡ rule_number rule }
-    ensures small { result ≤ 19 }
-{
-    match rule {
-        Rule::WrongInstance => 1,
-        Rule::UnknownCreator => 2,
-        Rule::PanoramaLength => 3,
-        Rule::FaultySelf => 4,
-        Rule::FirstSequence => 5,
-        Rule::RoundExponent => 6,
-        Rule::EndorsedOrder => 7,
-        Rule::NoBlock => 8,
-        Rule::SlotCreator => 9,
-        Rule::SequenceNumber => 10,
-        Rule::Inconsistent => 11,
-        Rule::TimeGoesBack => 12,
-        Rule::RoundChange => 13,
-        Rule::ThirdInRound => 14,
-        Rule::NotLeader => 15,
-        Rule::EndorsedShrinks => 16,
-        Rule::EndorsedUnseen => 17,
-        Rule::Naive => 18,
-        Rule::AfterTerminal => 19,
-    }
 }
 
 fn codec_status(error: CodecError) -> u32

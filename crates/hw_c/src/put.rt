@@ -3,7 +3,8 @@
 ghost use Rattle.std.specs.Prelude.{◌≡◌, length};
 ghost use Rattle.hw_c.specs.{Told.{status, behind, Puts, PutsWith, receipt_answer}, Buffers.{IsWritten, copied}};
 
-use crate::codes::{Answer, Fault, OK, answer_of, blank, rule_number, status_of};
+use crate::codes::{Answer, Fault, OK, answer_of, blank, status_of};
+use hw_text::rule_number;
 use hw_types::{Bytes, Receipt};
 
 /// Puts the value, where there is one, and answers the status.

@@ -3,7 +3,7 @@ use Rattle.std.proofs.Common.{◌≡◌, ℕ, Bool, true, false, List, [], ◌�
 use Rattle.std.specs.Prelude.{map, take, drop, if◌then◌else◌}
 use Rattle.std.specs.List.{list_all, take-map, drop-map}
 use Rattle.std.proofs.lemmas.List.Folds.{list_all-map}
-use Rattle.hw_script_grammar.specs.Numbers.{number_below}
+use Rattle.hw_text.specs.Numbers.{number_below}
 use Rattle.hw_commands.specs.declared.command.Command.{Command}
 use Rattle.hw_commands.specs.Asked.{request, asked}
 use Rattle.hw_commands.specs.Commands.{Word, Request, is_word, of_words, request_of, two_nodes, split_at, numbered_of}

@@ -5,8 +5,8 @@ use Rattle.std.specs.Option.{option_map}
 use Rattle.std.specs.Result.{result_ok}
 use Rattle.hex.specs.Hex.{decode_sized}
 use Rattle.hw_types.specs.declared.unit.Digest.{Digest}
-use Rattle.hw_script_grammar.specs.Numbers.{number_below}
-use Rattle.hw_keys.specs.Keys.{is_lower_digit}
+use Rattle.hw_text.specs.Numbers.{number_below}
+use Rattle.hw_text.specs.Digits.{is_lower_digit}
 
 -- a word of the command line
 abbrev pub Word : Type 0

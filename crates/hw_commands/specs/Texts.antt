@@ -5,7 +5,8 @@ use Rattle.hw_log.specs.declared.error.LogError.TheVariants as log
 use Rattle.hex.specs.Hex.{encode_lower}
 use Rattle.hw_text.specs.Text.{number_text}
 use Rattle.hw_text.specs.Lines.{line_of, line_feed}
-use Rattle.hw_light.specs.Texts.{codec_text, limit_text, error_text}
+use Rattle.hw_text.specs.Errors.{codec_text, limit_text}
+use Rattle.hw_light.specs.Texts.{error_text}
 use Rattle.hw_replay.specs.declared.fault.StartFault.{StartFault}
 use Rattle.hw_replay.specs.declared.fault.StartFault.TheVariants as start
 use Rattle.hw_commands.specs.declared.ended.Ended.{Ended}

@@ -1,13 +1,13 @@
 //! The grammar of a command line.
 
 ghost use Rattle.std.specs.{Prelude.{◌≡◌, ◌<◌, ◌+◌, ◌^◌, length, map, string_bytes, IfSome}, List.{list_all}};
-ghost use Rattle.hw_script_grammar.specs.Numbers.{number_below};
+ghost use Rattle.hw_text.specs.Numbers.{number_below};
 ghost use Rattle.hw_commands.specs.Commands.{is_word, are_logs, eras_of, two_nodes, numbered_of, of_words, of_few, of_one, of_two, of_three, gen_of, sim_of, certify_of, digest_told, request_of};
 ghost use Rattle.hw_commands.specs.Asked.{asked, IsInRange};
 
 use crate::digits::digest_told;
 use crate::words::Words;
-use hw_script_grammar::number_up_to;
+use hw_text::number_up_to;
 use hw_types::Digest;
 
 /// A node has at most this many logs, one for each era.

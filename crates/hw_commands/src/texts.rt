@@ -3,9 +3,9 @@
 ghost use Rattle.std.specs.Prelude.{◌≡◌, ◌++◌, OnOk};
 ghost use Rattle.hw_commands.specs.Texts.{log_text, wrong_text};
 
-use hw_light::{CertError, put_codec, put_error, put_limit};
+use hw_light::{CertError, put_error};
 use hw_log::LogError;
-use hw_text::{put_numbered, put_word};
+use hw_text::{put_codec, put_limit, put_numbered, put_word};
 use hw_types::{Bytes, OutOfMemory};
 
 /// What is wrong with a file.

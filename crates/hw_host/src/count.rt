@@ -76,10 +76,8 @@ fn write_count<S: Sink>(alloc: Global, out: &mut S, count: u64) -> Result<(), Io
     ensures line { OnOk result (Appends (S.taken out.old) (S.taken out.new) (number_text count ++ line_feed)) }
     ensures cause { HasCause (S.faults out.old) (S.faults out.new) result }
 {
-    match count_line(alloc, count) {
-        Ok(line) => write_all(out, line.as_slice()),
-        Err(OutOfMemory) => Err(IoFault::OutOfMemory),
-    }
+    let line = count_line(alloc, count).map_err(|_| IoFault::OutOfMemory)?;
+    write_all(out, line.as_slice())
 }
 
 /// The number as a line.

@@ -257,10 +257,8 @@ impl<'a, R: rt::Files<File = File> + Voice> Files for NodeFiles<'a, R> {
     ghost faults_about = { λ files _. files.files.faults_about };
 
     fn exists(&mut self, name: &str) -> Result<bool, IoFault> {
-        match self.take_log(name) {
-            Ok(()) => self.look_for(name),
-            Err(fault) => Err(fault),
-        }
+        self.take_log(name)?;
+        self.look_for(name)
     }
 
     fn begin(&mut self, name: &str) -> Result<(), IoFault> {

@@ -70,10 +70,8 @@ fn append_line<F: Files>(
     ensures bytes { IsTrue F.tells → Appended (F.held files.old) (F.held files.new) name.now (value.now ++ 10 ∷ []) result }
     ensures cause { HasCause (F.append_faults files.old) (F.append_faults files.new) result }
 {
-    match line_of(alloc, value) {
-        Ok(line) => files.append(name, line.as_slice()),
-        Err(OutOfMemory) => Err(IoFault::OutOfMemory),
-    }
+    let line = line_of(alloc, value).map_err(|_| IoFault::OutOfMemory)?;
+    files.append(name, line.as_slice())
 }
 
 /// These bytes and a line feed.

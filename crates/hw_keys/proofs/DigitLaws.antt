@@ -7,7 +7,7 @@ use Rattle.std.proofs.lemmas.List.Elements.{All-cons, All-head, All-nil, All-tai
 use Rattle.hex.specs.Hex.{decode_pairs, digit_or_error, hex_digit_value, is_hex_digit, lower_digits, encode_lower, encode_with, pair_value, value_at, ◌>>=◌}
 use Rattle.hex.specs.declared.error.FromHexError.{FromHexError}
 use Rattle.hw_codec.specs.Ranges.{AreBytes}
-use Rattle.hw_keys.specs.Keys.{is_lower_digit}
+use Rattle.hw_text.specs.Digits.{is_lower_digit}
 
 abbrev pub IsLower : ℕ → Type 0
 IsLower c = is_lower_digit c ≡ true

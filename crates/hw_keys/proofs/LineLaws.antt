@@ -8,7 +8,8 @@ use Rattle.hex.specs.Hex.{decode_of, encode_lower, lower_digits, IsBytes}
 use Rattle.hex.specs.declared.error.FromHexError.{FromHexError}
 use Rattle.hex.proofs.HexLemmas.{length-encode_with, decode_of-encode_lower}
 use Rattle.hw_codec.specs.Ranges.{AreBytesOf}
-use Rattle.hw_keys.specs.Keys.{key_line, is_lower_digit, may_stand_in_line}
+use Rattle.hw_text.specs.Digits.{is_lower_digit}
+use Rattle.hw_keys.specs.Keys.{key_line, may_stand_in_line}
 use Rattle.hw_keys.proofs.DigitLaws.{encoded_lower}
 
 pub digits_size : (key : List ℕ) → AreBytesOf 32 key → length (encode_lower key) ≡ 64

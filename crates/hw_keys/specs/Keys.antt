@@ -1,11 +1,12 @@
 -- The text of keys.
 -- Source: ours.
-use Rattle.std.specs.Prelude.{◌≡◌, ℕ, ◌*◌, ◌%◌, ◌<◌, nat_lt, nat_le, ◌==◌, Bool, true, false, ◌&&◌, ◌||◌, ◌⊎◌, List, [], ◌∷◌, ◌++◌, length, slice_index, if◌then◌else◌}
+use Rattle.std.specs.Prelude.{◌≡◌, ℕ, ◌*◌, ◌%◌, ◌<◌, nat_lt, ◌==◌, Bool, true, false, ◌&&◌, ◌⊎◌, List, [], ◌∷◌, ◌++◌, length, slice_index, if◌then◌else◌}
 use Rattle.std.specs.List.{All, flat_map}
 use Rattle.hex.specs.Hex.{encode_lower}
+use Rattle.hw_text.specs.Digits.{is_lower_digit}
 use Rattle.hw_codec.specs.Ranges.{AreBytesOf}
-use Rattle.hw_keys.specs.declared.fault.KeysFault.{KeysFault}
-use Rattle.hw_keys.specs.declared.fault.KeysFault.TheVariants.{At, OutOfMemory}
+use Rattle.hw_keys.specs.declared.fault.KeysError.{KeysError}
+use Rattle.hw_keys.specs.declared.fault.KeysError.TheVariants.{At, OutOfMemory}
 
 -- the line of a key: its hexadecimal digits in lower case, two for each byte, and a line feed
 abbrev pub key_line : List ℕ → List ℕ
@@ -22,10 +23,6 @@ pub record IsTextOf (validators : ℕ) (text : List ℕ) (keys : List (List ℕ)
   pub is : text ≡ keys_text keys
 
 -- ---- by places
-
--- the digits 0 to 9 and a to f
-abbrev pub is_lower_digit : ℕ → Bool
-is_lower_digit c = (nat_le 48 c && nat_le c 57) || (nat_le 97 c && nat_le c 102)
 
 -- what may stand in a line of 65 bytes: a digit, and a line feed at the last place
 abbrev pub may_stand_in_line : ℕ → ℕ → Bool
@@ -50,6 +47,6 @@ pub record HasNoFault (validators : ℕ) (text : List ℕ) : Type 0 where
   pub size : length text ≡ 65 * validators
 
 -- a fault is the first place that is wrong, unless memory ran out
-abbrev pub IsFaultOf : ℕ → List ℕ → KeysFault → Type 0
+abbrev pub IsFaultOf : ℕ → List ℕ → KeysError → Type 0
 IsFaultOf validators text (At place) = IsFirstFault validators text place
 IsFaultOf validators text OutOfMemory = Unit {0}

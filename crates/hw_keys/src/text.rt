@@ -3,20 +3,16 @@
 ghost use Rattle.std.specs.{Prelude.{◌≡◌, length, MatchOption}, List.{AllPass}};
 ghost use Rattle.hex.specs.Hex.{encode_lower};
 ghost use Rattle.hw_codec.specs.Ranges.{AreBytesOf};
-ghost use Rattle.hw_keys.specs.Keys.{is_lower_digit, may_stand, IsFirstFault, HasNoFault};
+ghost use Rattle.hw_text.specs.Digits.{is_lower_digit};
+ghost use Rattle.hw_keys.specs.Keys.{may_stand, IsFirstFault, HasNoFault};
+
+use hw_text::is_lower_digit;
 
 /// How many digits a key has in the text.
 pub(crate) const DIGITS: usize = 64;
 
 /// How many bytes the line of a key has.
 pub(crate) const LINE: usize = DIGITS + 1;
-
-/// Whether the byte is a digit, 0 to 9 or a to f.
-fn is_lower_digit(byte: u8) -> bool
-    ensures { result ≡ is_lower_digit byte }
-{
-    matches!(byte, b'0'..=b'9' | b'a'..=b'f')
-}
 
 /// Whether the byte may stand at the place of a text of so many keys.
 fn may_stand(validators: u32, place: usize, byte: u8) -> bool

@@ -82,11 +82,11 @@ pair_facts : (xs : List Node) (v : ℕ) (a b : Node) → pair_of xs v ≡ Some (
 unfolding pair_of
 pair_facts xs v a b e = go (least_seq None (equivocations_of xs v)) e
   where
-    fork : Node → Bool
-    fork x = (x.unit.creator == v) && list_any (λ y. (y.unit.creator == v) && (y.unit.seq == x.unit.seq) && not (unit_eq x.unit y.unit)) xs
+    equivocal : Node → Bool
+    equivocal x = (x.unit.creator == v) && list_any (λ y. (y.unit.creator == v) && (y.unit.seq == x.unit.seq) && not (unit_eq x.unit y.unit)) xs
 
     by : (x : Node) → Among x (equivocations_of xs v) → Among x xs × (x.unit.creator ≡ v)
-    by x m = let f = Among-filter fork x xs m in (f.0, eqb-true x.unit.creator v (and_parts (x.unit.creator == v) _ f.1).0)
+    by x m = let f = Among-filter equivocal x xs m in (f.0, eqb-true x.unit.creator v (and_parts (x.unit.creator == v) _ f.1).0)
 
     go : (o : Option ℕ) → first_two (at_seq o (equivocations_of xs v)) ≡ Some (a, b) → IsPairOf xs v a b
     go None h = absurd (let bad : None ≡ Some (a, b) = h in cc)
@@ -164,9 +164,9 @@ module _ (core : CoreState) (deliveries : List (Vertex × Bool)) (from : core.jo
       let differ = units_differ x.0 y.0 x.1 y.1 q.1 in
       let other = any_of (λ (z : Node). (z.unit.creator == v) && (z.unit.seq == x.0.unit.seq) && not (unit_eq x.0.unit z.unit)) y.0 large y.1
       (and_whole ((y.0.unit.creator == v) && (y.0.unit.seq == x.0.unit.seq)) (not (unit_eq x.0.unit y.0.unit)) q.0 (ap not differ)) in
-      let fork = filter-Among (λ (x : Node). (x.unit.creator == v) && list_any (λ z. (z.unit.creator == v) && (z.unit.seq == x.unit.seq) && not (unit_eq x.unit z.unit)) large) x.0 large x.1
+      let equivocal = filter-Among (λ (x : Node). (x.unit.creator == v) && list_any (λ z. (z.unit.creator == v) && (z.unit.seq == x.unit.seq) && not (unit_eq x.unit z.unit)) large) x.0 large x.1
       (and_whole (x.0.unit.creator == v) (list_any (λ z. (z.unit.creator == v) && (z.unit.seq == x.0.unit.seq) && not (unit_eq x.0.unit z.unit)) large) p.0 other) in
-      let pair = paired large v (any_of (λ (z : Node). true) x.0 (equivocations_of large v) fork refl) in
+      let pair = paired large v (any_of (λ (z : Node). true) x.0 (equivocations_of large v) equivocal refl) in
       let left = signed_there core deliveries from pair.0 pair.3 in
       let right = signed_there core deliveries from pair.1 pair.4 in (
         record { left = left.0; right = right.0 },

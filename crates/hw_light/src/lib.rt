@@ -44,7 +44,7 @@ pub use checking::check;
 pub use decoding::decode_certificate;
 pub use encoding::encode_certificate;
 pub use error::CertError;
-pub use errors::{put_codec, put_error, put_limit};
+pub use errors::put_error;
 pub use keys::read_keys;
 pub use laws::{
     a_yes_is_accountable, answers_are_worked_out, keys_are_read_alike,

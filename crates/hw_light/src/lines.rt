@@ -1,14 +1,13 @@
 //! The lines of answers.
 
 ghost use Rattle.std.specs.Prelude.{◌≡◌, ◌++◌, codes, OnOk};
-ghost use Rattle.hw_text.specs.{Text.{number_text}, Lines.{line_feed}};
-ghost use Rattle.hw_light.specs.{Asked.{told_in}, Texts.{limit_text, told_line, fault_line}};
+ghost use Rattle.hw_text.specs.{Text.{number_text}, Lines.{line_feed}, Errors.{limit_text}};
+ghost use Rattle.hw_light.specs.{Asked.{told_in}, Texts.{told_line, fault_line}};
 ghost use Rattle.hw_light.specs.declared.asked.Asked.TheVariants as Answers;
 
 use crate::asked::Asked;
-use crate::errors::put_limit;
 use crate::{Certified, CheckFault};
-use hw_text::{end_line, put_numbered, put_word};
+use hw_text::{end_line, put_limit, put_numbered, put_word};
 use hw_types::{Bytes, ConfigFault, OutOfMemory};
 
 /// Puts the line of what is answered of a block last.

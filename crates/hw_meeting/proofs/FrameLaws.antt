@@ -14,7 +14,7 @@ use Rattle.hw_codec.proofs.Fields.{digest_reading}
 use Rattle.hw_codec.proofs.Spelled.{whole_takes, whole_again, vertex_read_spells, vertex_read_in_range, vertex_spelled_reads}
 use Rattle.hw_meeting.specs.declared.frame.MeetingFrame.{MeetingFrame}
 use Rattle.hw_meeting.specs.declared.frame.MeetingFrame.TheVariants.{Hello, Vertex, Summary, Torn, Done}
-use Rattle.hw_meeting.specs.declared.frame.FrameFault.TheVariants as fault
+use Rattle.hw_meeting.specs.declared.frame.FrameError.TheVariants as fault
 use Rattle.hw_meeting.specs.Frames.{meeting_bytes, HasUnits, PartInRange, IsSaid, SpellsMeeting, MeetingInRange, summary_at, torn_at, meeting_behind, meeting_of, fault_of}
 use Rattle.hw_meeting.proofs.PartLaws.{IsPart, summary_reading, torn_reading, few_validators}
 

@@ -12,8 +12,8 @@ use Rattle.hw_agree.specs.declared.summary.LaneSummary.{LaneSummary}
 use Rattle.hw_agree.specs.declared.summary.LaneSummary.TheVariants.{Nothing, Line, Tangled}
 use Rattle.hw_meeting.specs.declared.frame.MeetingFrame.{MeetingFrame}
 use Rattle.hw_meeting.specs.declared.frame.MeetingFrame.TheVariants.{Hello, Vertex, Summary, Torn, Done}
-use Rattle.hw_meeting.specs.declared.frame.FrameFault.{FrameFault}
-use Rattle.hw_meeting.specs.declared.frame.FrameFault.TheVariants.{Form, OutOfMemory}
+use Rattle.hw_meeting.specs.declared.frame.FrameError.{FrameError}
+use Rattle.hw_meeting.specs.declared.frame.FrameError.TheVariants.{Form, OutOfMemory}
 
 -- ---- spelled
 
@@ -120,7 +120,7 @@ meeting_of validators [] = Err (error.Truncated 0)
 meeting_of validators (kind ∷ body) = meeting_behind validators kind body
 
 -- why bytes are no frame: their form, or want of memory
-abbrev pub fault_of : CodecError → FrameFault
+abbrev pub fault_of : CodecError → FrameError
 fault_of error.OutOfMemory = OutOfMemory
 fault_of (error.Truncated at) = Form
 fault_of (error.Trailing at) = Form

@@ -3,10 +3,10 @@
 ghost use Rattle.std.specs.{Prelude.{◌≡◌, ◌⊎◌, ◌==◌, ◌&&◌, nat_lt, length, Ok, Err, IfOk, IfErr, if◌then◌else◌}, List.{list_all}};
 ghost use Rattle.hw_types.specs.{declared.answers.CodecError.{CodecError}, Reading.{Gives, vertex_of, whole, digest_at}};
 ghost use Rattle.hw_meeting.specs.declared.frame.MeetingFrame.{MeetingFrame};
-ghost use Rattle.hw_meeting.specs.declared.frame.FrameFault.TheVariants as Faults;
+ghost use Rattle.hw_meeting.specs.declared.frame.FrameError.TheVariants as Faults;
 ghost use Rattle.hw_meeting.specs.Frames.{rise_from, are_validators, SpellsMeeting, MeetingInRange, summary_at, torn_at, meeting_behind, meeting_of, fault_of};
 
-use crate::frame::{FrameFault, MeetingFrame, SummaryList};
+use crate::frame::{FrameError, MeetingFrame, SummaryList};
 use crate::part::read_parts;
 use hw_codec::{Reader, decode_vertex, read_list};
 use hw_types::{CodecError, Digest, IndexList, Vertex};
@@ -21,7 +21,7 @@ pub fn decode_meeting(
     alloc: Global,
     validators: u32,
     body: &[u8],
-) -> Result<MeetingFrame, FrameFault>
+) -> Result<MeetingFrame, FrameError>
     // What is read is spelled so, every byte of it.
     ensures ok { IfOk result (λ frame. SpellsMeeting validators body.now frame) }
 
@@ -39,12 +39,12 @@ pub fn decode_meeting(
     }
 }
 
-fn fault_of(error: CodecError) -> FrameFault
+fn fault_of(error: CodecError) -> FrameError
     ensures { result ≡ fault_of error }
 {
     match error {
-        CodecError::OutOfMemory => FrameFault::OutOfMemory,
-        _ => FrameFault::Form,
+        CodecError::OutOfMemory => FrameError::OutOfMemory,
+        _ => FrameError::Form,
     }
 }
 

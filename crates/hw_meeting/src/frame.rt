@@ -1,7 +1,7 @@
 //! Frames of nodes that meet.
 
 ghost use Rattle.std.specs.Prelude.{◌≡◌};
-ghost use Rattle.hw_meeting.specs.declared.frame.FrameFault.TheVariants as Faults;
+ghost use Rattle.hw_meeting.specs.declared.frame.FrameError.TheVariants as Faults;
 
 use hw_agree::LaneSummary;
 use hw_types::{Digest, IndexList, Items, OutOfMemory, Vertex};
@@ -26,17 +26,17 @@ pub enum MeetingFrame {
 
 /// Why bytes are no frame.
 #[derive(Clone, Copy, Debug, PartialEq, Eq)]
-pub enum FrameFault {
+pub enum FrameError {
     /// They spell none.
     Form,
     /// There was no memory.
     OutOfMemory,
 }
 
-impl From<OutOfMemory> for FrameFault {
+impl From<OutOfMemory> for FrameError {
     ghost from_gives = { λ _ fault. fault ≡ Faults.OutOfMemory };
 
-    fn from(_error: OutOfMemory) -> FrameFault {
-        FrameFault::OutOfMemory
+    fn from(_error: OutOfMemory) -> FrameError {
+        FrameError::OutOfMemory
     }
 }

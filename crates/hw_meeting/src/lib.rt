@@ -20,7 +20,7 @@ mod torn;
 pub use decoding::decode_meeting;
 pub use due::{PlaceList, due_places};
 pub use encoding::encode_meeting;
-pub use frame::{FrameFault, MeetingFrame, SummaryList};
+pub use frame::{FrameError, MeetingFrame, SummaryList};
 pub use hw_agree::LaneSummary;
 pub use samples::small_meetings_are_told;
 pub use summary::summary_of;

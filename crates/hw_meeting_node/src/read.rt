@@ -8,7 +8,7 @@ ghost use Rattle.hw_meeting_node.specs.{Frames.{frame_here}, Heard.{Hears, IsHea
 
 use hw_io::Door;
 use hw_link::{BYTE_LIMIT, FRONT, SessionEnd, read_body};
-use hw_meeting::{FrameFault, MeetingFrame, decode_meeting};
+use hw_meeting::{FrameError, MeetingFrame, decode_meeting};
 use std::alloc::Global;
 
 /// A frame that was read, and the place in the session behind it.
@@ -59,7 +59,7 @@ fn decoded(
     let next = place + (FRONT + body.len()) as u64;
     match decode_meeting(alloc, validators, body) {
         Ok(frame) => Ok(HeardMeeting { frame, next }),
-        Err(FrameFault::OutOfMemory) => Err(SessionEnd::OutOfMemory),
-        Err(FrameFault::Form) => Err(SessionEnd::BadFrame(place)),
+        Err(FrameError::OutOfMemory) => Err(SessionEnd::OutOfMemory),
+        Err(FrameError::Form) => Err(SessionEnd::BadFrame(place)),
     }
 }

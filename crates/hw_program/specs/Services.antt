@@ -3,7 +3,7 @@
 use Rattle.std.specs.Prelude.{◌≡◌, ℕ, ◌||◌, ◌==◌, nat_lt, List, [], ◌∷◌, length, codes, bytes_eq, Option, Some, None, if◌then◌else◌}
 use Rattle.std.specs.List.{list_all}
 use Rattle.std.specs.Option.{option_map}
-use Rattle.hw_script_grammar.specs.Numbers.{number_below}
+use Rattle.hw_text.specs.Numbers.{number_below}
 use Rattle.hw_service.specs.Begin.{Names}
 use Rattle.hw_commands.specs.Commands.{Word, is_word, request_of}
 

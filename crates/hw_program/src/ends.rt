@@ -12,10 +12,9 @@ use hw_commands::{
     WRITE_FAULT, bad_keys, clash, finish, input, input_end, out_of_memory, stopped, usage,
 };
 use hw_io::Sink;
-use hw_light::put_limit;
 use hw_service::{Served, ServiceFault, Sources};
-use hw_settings::SettingsFault;
-use hw_text::put_word;
+use hw_settings::SettingsError;
+use hw_text::{put_limit, put_word};
 use hw_types::{Bytes, OutOfMemory};
 use std::alloc::Global;
 
@@ -86,7 +85,7 @@ fn stopped_run(alloc: Global, sources: Sources<'_>, fault: ServiceFault) -> Resu
 
 /// The settings in the file of this name say no configuration.
 #[tactic(auto, using(std::proofs::Common::append_assoc), unfolding(hw_commands::specs::Texts::input_ended))]
-fn bad_settings(alloc: Global, name: &str, fault: SettingsFault) -> Result<Ended, OutOfMemory>
+fn bad_settings(alloc: Global, name: &str, fault: SettingsError) -> Result<Ended, OutOfMemory>
     ensures { IfOk result (λ ended. ended ≡ input_ended name.now (settings_text fault)) }
 {
     let mut text = input(alloc, name)?;
@@ -96,15 +95,15 @@ fn bad_settings(alloc: Global, name: &str, fault: SettingsFault) -> Result<Ended
 
 /// Puts the text of what is wrong with settings last. Want of memory has none.
 #[tactic(auto, using(std::proofs::Common::append_assoc), unfolding(crate::specs::Served::settings_text))]
-fn put_settings(text: &mut Bytes, fault: SettingsFault) -> Result<(), OutOfMemory>
+fn put_settings(text: &mut Bytes, fault: SettingsError) -> Result<(), OutOfMemory>
     ensures { OnOk result (text.new ≡ text.old ++ settings_text fault) }
 {
     match fault {
-        SettingsFault::Form => put_word(text, "config form"),
-        SettingsFault::Fault(fault) => {
+        SettingsError::Form => put_word(text, "config form"),
+        SettingsError::Fault(fault) => {
             put_word(text, "config ")?;
             put_limit(text, fault)
         }
-        SettingsFault::OutOfMemory => Ok(()),
+        SettingsError::OutOfMemory => Ok(()),
     }
 }

@@ -1,13 +1,13 @@
 //! The grammar of a command line: what a node is asked for that runs.
 
 ghost use Rattle.std.specs.{Prelude.{◌≡◌, map, string_bytes}, Option.{option_map}};
-ghost use Rattle.hw_script_grammar.specs.Numbers.{number_below};
+ghost use Rattle.hw_text.specs.Numbers.{number_below};
 ghost use Rattle.hw_service.specs.Begin.{names_of};
 ghost use Rattle.hw_program.specs.{Services.{Serve, Host, sessions_of, turns_of, service_in, meeting_in, service_of, names_in}, Serving.{service, asked_service}};
 
 use hw_commands::{Words, are_words};
-use hw_script_grammar::number_up_to;
 use hw_service::Sources;
+use hw_text::number_up_to;
 
 /// A node serves at most this many sessions in one run, or meets so many peers that come.
 pub const MAX_SESSIONS: u64 = 65_536;

@@ -24,5 +24,5 @@ pub use fault::StartFault;
 pub use feed::replay_fed;
 pub use laws::{a_replay_delivers, a_replay_is_led_on};
 pub use lines::put_drops;
-pub use replay::{Replay, Replayed, replay_log};
+pub use replay::{Replay, Replayed, replay_log, spelling_of};
 pub use told_laws::what_was_told_stays;

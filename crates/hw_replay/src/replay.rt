@@ -376,8 +376,8 @@ fn clash(
     }
 }
 
-/// The spelling of a unit, if there is one.
-fn spelling_of(alloc: Global, unit: Option<&SignedUnit>) -> Result<Bytes, OutOfMemory>
+/// The spelling of a unit, which keeps the limits of its format. Where there is none, no bytes.
+pub fn spelling_of(alloc: Global, unit: Option<&SignedUnit>) -> Result<Bytes, OutOfMemory>
     requires { IfSome unit (λ u. Fits u.now.unit) }
     ensures { IfOk result (λ bytes. bytes ≡ spelling_of (option_copied unit.entry)) }
 {
@@ -414,10 +414,7 @@ fn new_core(alloc: Global, config: Config) -> Result<Core, OutOfMemory>
     requires limits { config_fault config ≡ None }
     ensures { IfOk result (λ core. core ≡ record { config = config; journal = [] }) }
 {
-    match Core::new(alloc, config) {
-        Ok(core) => Ok(core),
-        Err(_) => Err(OutOfMemory),
-    }
+    Core::new(alloc, config).map_err(|_| OutOfMemory)
 }
 
 /// Whether a configuration is the wanted one, if one is wanted.

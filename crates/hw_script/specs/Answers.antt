@@ -8,32 +8,9 @@ use Rattle.hw_types.specs.declared.answers.Cause.TheVariants as cause
 use Rattle.hw_types.specs.declared.answers.PairFault.{PairFault}
 use Rattle.hw_types.specs.declared.answers.PairFault.TheVariants as pair
 use Rattle.hw_types.specs.declared.answers.Rule.{Rule}
-use Rattle.hw_types.specs.declared.answers.Rule.TheVariants.{WrongInstance, UnknownCreator, PanoramaLength, FaultySelf, FirstSequence, RoundExponent, EndorsedOrder, NoBlock, SlotCreator, SequenceNumber, Inconsistent, TimeGoesBack, RoundChange, ThirdInRound, NotLeader, EndorsedShrinks, EndorsedUnseen, Naive, AfterTerminal}
-use Rattle.hw_text.specs.Text.{number_text, rule_text}
+use Rattle.hw_text.specs.Text.{number_text, rule_text, rule_number}
 
--- the number of a rule, in the order in which they are tested
-unfoldable pub rule_number : Rule → ℕ
-rule_number WrongInstance = 1
-rule_number UnknownCreator = 2
-rule_number PanoramaLength = 3
-rule_number FaultySelf = 4
-rule_number FirstSequence = 5
-rule_number RoundExponent = 6
-rule_number EndorsedOrder = 7
-rule_number NoBlock = 8
-rule_number SlotCreator = 9
-rule_number SequenceNumber = 10
-rule_number Inconsistent = 11
-rule_number TimeGoesBack = 12
-rule_number RoundChange = 13
-rule_number ThirdInRound = 14
-rule_number NotLeader = 15
-rule_number EndorsedShrinks = 16
-rule_number EndorsedUnseen = 17
-rule_number Naive = 18
-rule_number AfterTerminal = 19
-
--- its number and its name
+-- the number and the name of a rule
 abbrev pub numbered_rule : Rule → List ℕ
 numbered_rule r = number_text (rule_number r) ++ (codes " " ++ rule_text r)
 

@@ -1,9 +1,9 @@
 //! What a delivery is answered, as text.
 
 ghost use Rattle.std.specs.Prelude.{◌≡◌, ◌++◌, OnOk};
-ghost use Rattle.hw_script.specs.Answers.{rule_number, numbered_rule, pair_text, cause_text, receipt_text, answer_text};
+ghost use Rattle.hw_script.specs.Answers.{numbered_rule, pair_text, cause_text, receipt_text, answer_text};
 
-use hw_text::{put_number, put_numbered, put_word, rule_name};
+use hw_text::{put_number, put_numbered, put_word, rule_name, rule_number};
 use hw_types::{Bytes, Cause, OutOfMemory, PairFault, Receipt, Rule};
 
 /// Puts what a delivery is answered last.
@@ -77,33 +77,5 @@ fn pair_word(fault: PairFault) -> &'static str
         PairFault::Sequence => "sequence",
         PairFault::Instance => "instance",
         PairFault::Same => "same",
-    }
-}
-
-/// The number of a rule, in the order in which they are tested.
-#[tactic(auto, unfolding(crate::specs::Answers::rule_number))]
-fn rule_number(rule: Rule) -> u8
-    ensures { result ≡ rule_number rule }
-{
-    match rule {
-        Rule::WrongInstance => 1,
-        Rule::UnknownCreator => 2,
-        Rule::PanoramaLength => 3,
-        Rule::FaultySelf => 4,
-        Rule::FirstSequence => 5,
-        Rule::RoundExponent => 6,
-        Rule::EndorsedOrder => 7,
-        Rule::NoBlock => 8,
-        Rule::SlotCreator => 9,
-        Rule::SequenceNumber => 10,
-        Rule::Inconsistent => 11,
-        Rule::TimeGoesBack => 12,
-        Rule::RoundChange => 13,
-        Rule::ThirdInRound => 14,
-        Rule::NotLeader => 15,
-        Rule::EndorsedShrinks => 16,
-        Rule::EndorsedUnseen => 17,
-        Rule::Naive => 18,
-        Rule::AfterTerminal => 19,
     }
 }

@@ -1,7 +1,7 @@
 -- Words that are read one after the other, taken apart.
 use Rattle.std.proofs.Common.{◌≡◌, ℕ, zero, suc, List, [], ◌∷◌, ◌++◌, length, drop, bytes_eq, Option, Some, None, Bool, true, false, cond, refl, sym, ap, ◌∙◌, subst}
 use Rattle.std.proofs.lemmas.Slice.Eq.{bytes_eq-Decides}
-use Rattle.hw_script_grammar.specs.Numbers.{number_below}
+use Rattle.hw_text.specs.Numbers.{number_below}
 use Rattle.hw_script_grammar.specs.Words.{Word, Read, ◌>>=◌, next_word, begins_with, keyword, optional, number, number_behind, each, next_each, nothing_more}
 use Rattle.hw_script_grammar.specs.Grammar.{Perhaps}
 

@@ -1,5 +1,4 @@
 pub mod Pieces
-pub mod NumberLaws
 pub mod LineLaws
 pub mod EachLaws
 pub mod HeadLaws

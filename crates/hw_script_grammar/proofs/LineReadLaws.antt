@@ -11,7 +11,7 @@ use Rattle.hw_script_grammar.specs.declared.adds.Adds.TheVariants as adds
 use Rattle.hw_script_grammar.specs.declared.adds.LineKind.{LineKind}
 use Rattle.hw_script_grammar.specs.declared.adds.LineKind.TheVariants as kind
 use Rattle.hw_script_grammar.specs.declared.body.Said.{Said}
-use Rattle.hw_script_grammar.specs.Numbers.{number_below}
+use Rattle.hw_text.specs.Numbers.{number_below}
 use Rattle.hw_script_grammar.specs.Words.{Word, ◌>>=◌, next_word, keyword, one_or_more, nothing_more}
 use Rattle.hw_script_grammar.specs.Names.{unit_as, digest_as, unsigned}
 use Rattle.hw_script_grammar.specs.Units.{new_name, unit_line, next_unit, evidence_line}

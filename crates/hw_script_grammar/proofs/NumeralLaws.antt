@@ -6,7 +6,7 @@ use Rattle.std.proofs.lemmas.Fmt.{decimal_digit, decimal_nonempty, first_decimal
 use Rattle.std.proofs.lemmas.Str.Parse.{IsDigitsTest, FoldsDigits, IsNumeralModel, numerals_by_fold}
 use Rattle.std.specs.Prelude.{fold}
 use Rattle.hw_types.proofs.StableLaws.{and_parts}
-use Rattle.hw_script_grammar.specs.Numbers.{is_digit, is_number, with_digit, value_of, number_below}
+use Rattle.hw_text.specs.Numbers.{is_digit, is_number, with_digit, value_of, number_below}
 use Rattle.hw_script_grammar.proofs.BindLaws.{chosen}
 
 abbrev AreDigits : List ℕ → Type 0

@@ -7,7 +7,7 @@ use Rattle.hw_script_grammar.specs.declared.setting.Kind.TheVariants as kind
 use Rattle.hw_script_grammar.specs.declared.setting.Setting.{Setting as Set}
 use Rattle.hw_script_grammar.specs.declared.setting.Setting.TheVariants as sets
 use Rattle.hw_script_grammar.specs.declared.head.Settings.{Settings}
-use Rattle.hw_script_grammar.specs.Numbers.{number_below}
+use Rattle.hw_text.specs.Numbers.{number_below}
 use Rattle.hw_script_grammar.specs.Words.{Word, ◌>>=◌, next_word, number, one_or_more, nothing_more}
 use Rattle.hw_script_grammar.specs.Wording.{is_one_of, is_setting_word, is_setting}
 use Rattle.hw_script_grammar.specs.Settings.{kind_of, one_number, two_exponents, setting_behind, setting_of, with_setting, with_words}

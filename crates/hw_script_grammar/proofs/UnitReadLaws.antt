@@ -8,7 +8,7 @@ use Rattle.hw_types.specs.Journal.{Setting}
 use Rattle.hw_script_grammar.specs.declared.named.Named.{Named}
 use Rattle.hw_script_grammar.specs.declared.citation.Citation.{Citation}
 use Rattle.hw_script_grammar.specs.declared.unit.UnitNumbers.{UnitNumbers}
-use Rattle.hw_script_grammar.specs.Numbers.{number_below}
+use Rattle.hw_text.specs.Numbers.{number_below}
 use Rattle.hw_script_grammar.specs.Words.{Word, ◌>>=◌, next_word, begins_with, keyword, optional, number, number_behind, each, one_or_more, next_each}
 use Rattle.hw_script_grammar.specs.Wording.{is_name, is_value}
 use Rattle.hw_script_grammar.specs.Names.{is_taken, digest_as, has_unit, unsigned}

@@ -11,7 +11,7 @@ use Rattle.hw_script_grammar.specs.declared.adds.Adds.{Adds}
 use Rattle.hw_script_grammar.specs.declared.adds.Adds.TheVariants as adds
 use Rattle.hw_script_grammar.specs.declared.adds.LineKind.{LineKind}
 use Rattle.hw_script_grammar.specs.declared.adds.LineKind.TheVariants as kind
-use Rattle.hw_script_grammar.specs.Numbers.{number_below}
+use Rattle.hw_text.specs.Numbers.{number_below}
 use Rattle.hw_script_grammar.specs.Words.{Word, ◌>>=◌, next_word, keyword, one_or_more, nothing_more}
 use Rattle.hw_script_grammar.specs.Names.{NamedFits, named_as, digest_as}
 use Rattle.hw_script_grammar.specs.Units.{unit_line, evidence_line}

@@ -19,7 +19,7 @@ use Rattle.hw_script_grammar.specs.declared.adds.Adds.{Adds}
 use Rattle.hw_script_grammar.specs.declared.adds.Adds.TheVariants as adds
 use Rattle.hw_script_grammar.specs.declared.body.Said.{Said}
 use Rattle.hw_script_grammar.specs.declared.script.Script.{Script}
-use Rattle.hw_script_grammar.specs.Numbers.{number_below}
+use Rattle.hw_text.specs.Numbers.{number_below}
 use Rattle.hw_script_grammar.specs.Words.{Word, each, one_or_more}
 use Rattle.hw_script_grammar.specs.Wording.{is_name, is_value, is_setting}
 use Rattle.hw_script_grammar.specs.Texts.{texts_of}
@@ -207,5 +207,6 @@ pub data IsFirstWrongIn (setting : Config → Setting) (text : List ℕ) (n : �
 abbrev pub Writes : List ℕ → Script → Type 0
 Writes = WritesIn setting_of
 
+-- the first line that is wrong is that of this number, with names by SHA-256
 abbrev pub IsFirstWrong : List ℕ → ℕ → Type 0
 IsFirstWrong = IsFirstWrongIn setting_of

@@ -4,7 +4,7 @@ use Rattle.std.specs.Prelude.{◌≡◌, ◌≤◌, ◌<◌, ◌↔◌, ◌⊎�
 use Rattle.hw_types.specs.declared.config.Config.{Config}
 use Rattle.hw_types.specs.Journal.{Setting}
 use Rattle.hw_script_grammar.specs.declared.script.Script.{Script}
-use Rattle.hw_script_grammar.specs.Numbers.{number_below}
+use Rattle.hw_text.specs.Numbers.{number_below}
 use Rattle.hw_script_grammar.specs.Grammar.{WritesIn, IsFirstWrongIn}
 use Rattle.hw_script_grammar.specs.Script.{script_in}
 

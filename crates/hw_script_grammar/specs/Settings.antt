@@ -13,7 +13,7 @@ use Rattle.hw_script_grammar.specs.declared.setting.Setting.{Setting}
 use Rattle.hw_script_grammar.specs.declared.setting.Setting.TheVariants as setting
 use Rattle.hw_script_grammar.specs.declared.head.Settings.{Settings}
 use Rattle.hw_script_grammar.specs.declared.head.Head.{Head}
-use Rattle.hw_script_grammar.specs.Numbers.{number_below}
+use Rattle.hw_text.specs.Numbers.{number_below}
 use Rattle.hw_script_grammar.specs.Words.{Word, ◌>>=◌, next_word, number, one_or_more, nothing_more}
 use Rattle.hw_script_grammar.specs.Wording.{is_setting}
 use Rattle.hw_script_grammar.specs.Lines.{first_number}

@@ -2,7 +2,7 @@
 -- Source: ours.
 use Rattle.std.specs.Prelude.{ℕ, nat_le, nat_lt, Bool, false, not, ◌&&◌, ◌||◌, List, [], ◌∷◌, length, codes, bytes_eq}
 use Rattle.std.specs.List.{list_any, list_all}
-use Rattle.hw_script_grammar.specs.Numbers.{is_digit}
+use Rattle.hw_text.specs.Numbers.{is_digit}
 use Rattle.hw_script_grammar.specs.Words.{Word, words_of}
 
 -- the word is one of these

@@ -1,11 +1,12 @@
 //! Lists of what words mean, to the end of a line.
 
 ghost use Rattle.std.specs.Prelude.{◌^◌};
-ghost use Rattle.hw_script_grammar.specs.{Numbers.{number_below}, Words.{one_or_more, each}, Answers.{Gives}};
+ghost use Rattle.hw_text.specs.Numbers.{number_below};
+ghost use Rattle.hw_script_grammar.specs.{Words.{one_or_more, each}, Answers.{Gives}};
 
 use crate::fault::Fault;
-use crate::numbers::number_up_to;
 use crate::words::Words;
+use hw_text::number_up_to;
 use hw_types::{IndexList, Items, WeightList};
 use std::alloc::Global;
 

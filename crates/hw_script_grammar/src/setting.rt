@@ -1,7 +1,7 @@
 //! What one settings line sets.
 
 ghost use Rattle.std.specs.Prelude.{◌≡◌, ◌+◌, ◌^◌};
-ghost use Rattle.hw_script_grammar.specs.Numbers.{number_below};
+ghost use Rattle.hw_text.specs.Numbers.{number_below};
 ghost use Rattle.hw_script_grammar.specs.Words.{next_word, one_or_more};
 ghost use Rattle.hw_script_grammar.specs.Settings.{kind_of, one_number, two_exponents, setting_behind, setting_of};
 ghost use Rattle.hw_script_grammar.specs.Answers.{Gives};

@@ -4,8 +4,8 @@ ghost use Rattle.std.specs.{Prelude.{◌≡◌, bytes_eq}, List.{list_all}};
 ghost use Rattle.hw_script_grammar.specs.Words.{words_of};
 ghost use Rattle.hw_script_grammar.specs.Wording.{is_one_of, is_reserved, is_setting_word, is_line_word, is_answer_word, is_lower, is_upper, is_name_byte, is_value_byte, is_name, is_value};
 
-use crate::numbers::is_digit;
 use crate::words::Words;
+use hw_text::is_digit;
 
 /// The words that begin a settings line.
 const SETTING_WORDS: &[u8] = b"weights ftt levels exponents leaders records parked end";

@@ -9,8 +9,8 @@ ghost use Rattle.hw_script_grammar.specs.Texts.{most_lines};
 ghost use Rattle.hw_script_grammar.specs.Answers.{Gives};
 
 use crate::fault::Fault;
-use crate::numbers::number_up_to;
 use crate::wording::{is_setting_word, is_word};
+use hw_text::number_up_to;
 use std::marker::Model;
 
 /// The words of a line that aren't read yet.

@@ -1,12 +1,11 @@
 //! A peer's vertex.
 
-ghost use Rattle.std.specs.{Prelude.{◌≡◌, Ok, IsTrue, IfOk, IfErr, IfSome, OnOk, OnErr}, Option.{option_copied}};
+ghost use Rattle.std.specs.Prelude.{◌≡◌, Ok, IsTrue, IfOk, IfErr, IfSome, OnOk, OnErr};
 ghost use Rattle.hw_types.specs.Real.{answer_in, after_in};
-ghost use Rattle.hw_types.specs.Spelling.{VertexFits, Fits};
+ghost use Rattle.hw_types.specs.Spelling.{VertexFits};
 ghost use Rattle.hw_types.specs.declared.answers.Cause.TheVariants as cause;
 ghost use Rattle.hw_types.specs.declared.unit.Vertex.TheVariants as Vertices;
 ghost use Rattle.hw_core.specs.Deliver.{IsRefusal};
-ghost use Rattle.hw_replay.specs.Taken.{spelling_of};
 ghost use Rattle.hw_keys.specs.Signed.{verdict_of};
 ghost use Rattle.hw_log.specs.Named.{IsNameOf};
 ghost use Rattle.hw_session.specs.Entry.{IsEntryOf};
@@ -20,7 +19,8 @@ use hw_codec::{digest_of, encode_unit};
 use hw_core::{Core, Refused, UnitRefused};
 use hw_io::Files;
 use hw_log::LogError;
-use hw_types::{Bytes, Cause, Digest, OutOfMemory, Receipt, SignedUnit, Vertex};
+use hw_replay::spelling_of;
+use hw_types::{Bytes, Cause, Digest, OutOfMemory, Receipt, Vertex};
 use std::alloc::Global;
 
 /// The verdict on a peer's vertex, its name where it is a unit, and its entry in the log.
@@ -213,17 +213,6 @@ fn clash_units(
             known: Bytes::new(alloc),
             other: Bytes::new(alloc),
         }),
-    }
-}
-
-/// The spelling of a unit, if there is one.
-fn spelling_of(alloc: Global, unit: Option<&SignedUnit>) -> Result<Bytes, OutOfMemory>
-    requires { IfSome unit (λ u. Fits u.now.unit) }
-    ensures { IfOk result (λ bytes. bytes ≡ spelling_of (option_copied unit.entry)) }
-{
-    match unit {
-        Some(signed) => encode_unit(alloc, &signed.unit),
-        None => Ok(Bytes::new(alloc)),
     }
 }
 

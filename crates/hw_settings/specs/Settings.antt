@@ -1,6 +1,6 @@
 -- The configuration that settings say: a JSON value with certain members and no others.
 -- Source: ours.
-use Rattle.std.specs.Prelude.{ℕ, ◌^◌, nat_lt, nat_le, Bool, ◌&&◌, ◌||◌, List, [], ◌∷◌, codes, bytes_eq, Option, Some, None, option_map, option_and_then, Result, Ok, Err, if◌then◌else◌}
+use Rattle.std.specs.Prelude.{ℕ, ◌^◌, nat_lt, Bool, ◌||◌, List, [], ◌∷◌, codes, bytes_eq, Option, Some, None, option_map, option_and_then, Result, Ok, Err, if◌then◌else◌}
 use Rattle.std.specs.List.{list_any, list_all}
 use Rattle.std.specs.Option.{option_or}
 use Rattle.std.specs.Result.{result_ok}
@@ -15,8 +15,9 @@ use Rattle.hw_types.specs.declared.config.Leaders.TheVariants.{Table, Drawn}
 use Rattle.hw_types.specs.declared.config.ConfigFault.{ConfigFault}
 use Rattle.hw_types.specs.Graph.{is_some_and}
 use Rattle.hw_types.specs.Limits.{config_fault}
-use Rattle.hw_settings.specs.declared.fault.SettingsFault.{SettingsFault}
-use Rattle.hw_settings.specs.declared.fault.SettingsFault.TheVariants.{Form, Fault}
+use Rattle.hw_text.specs.Digits.{is_lower_digit}
+use Rattle.hw_settings.specs.declared.fault.SettingsError.{SettingsError}
+use Rattle.hw_settings.specs.declared.fault.SettingsError.TheVariants.{Form, Fault}
 
 -- go on with what is there
 infixl 10 ◌>>=◌
@@ -62,10 +63,6 @@ two_in limit (item d (item e (item f ds))) = None
 -- an array of two whole numbers below the limit
 abbrev pub pair_in : ℕ → Data → Option (ℕ × ℕ)
 pair_in limit d = as_array d >>= two_in limit
-
--- the digits 0 to 9 and a to f
-abbrev pub is_lower_digit : ℕ → Bool
-is_lower_digit c = (nat_le 48 c && nat_le c 57) || (nat_le 97 c && nat_le c 102)
 
 -- the 32 bytes that 64 hexadecimal digits in lower case tell
 abbrev pub key_of : List ℕ → Option (List ℕ)
@@ -141,12 +138,12 @@ unfoldable pub config_in : Data → Option Config
 config_in d = if is_object_of is_setting_name d then members_say d else None
 
 -- the configuration, unless it breaks a limit
-abbrev pub within_limits : Config → Option ConfigFault → Result Config SettingsFault
+abbrev pub within_limits : Config → Option ConfigFault → Result Config SettingsError
 within_limits config None = Ok config
 within_limits config (Some fault) = Err (Fault fault)
 
 -- a configuration that keeps its limits, or what is wrong
-abbrev pub checked : Option Config → Result Config SettingsFault
+abbrev pub checked : Option Config → Result Config SettingsError
 checked None = Err Form
 checked (Some config) = within_limits config (config_fault config)
 
@@ -155,5 +152,5 @@ unfoldable pub json_of : List ℕ → Option Data
 json_of bytes = if is_utf8 bytes then read bytes else None
 
 -- The configuration that these settings say, or what is wrong with them.
-unfoldable pub settings_of : List ℕ → Result Config SettingsFault
+unfoldable pub settings_of : List ℕ → Result Config SettingsError
 settings_of bytes = checked (json_of bytes >>= config_in)

@@ -1,13 +1,13 @@
 //! What is wrong with settings.
 
 ghost use Rattle.std.specs.Prelude.{◌≡◌};
-ghost use Rattle.hw_settings.specs.declared.fault.SettingsFault.TheVariants as Faults;
+ghost use Rattle.hw_settings.specs.declared.fault.SettingsError.TheVariants as Faults;
 
 use hw_types::{ConfigFault, OutOfMemory};
 
 /// Why settings give no configuration.
 #[derive(Clone, Copy, Debug, PartialEq, Eq)]
-pub enum SettingsFault {
+pub enum SettingsError {
     /// The bytes aren't the JSON text of an object with the members that settings have.
     Form,
     /// The configuration breaks this limit, the first one that it breaks.
@@ -16,10 +16,10 @@ pub enum SettingsFault {
     OutOfMemory,
 }
 
-impl From<OutOfMemory> for SettingsFault {
+impl From<OutOfMemory> for SettingsError {
     ghost from_gives = { λ _ fault. fault ≡ Faults.OutOfMemory };
 
-    fn from(_error: OutOfMemory) -> SettingsFault {
-        SettingsFault::OutOfMemory
+    fn from(_error: OutOfMemory) -> SettingsError {
+        SettingsError::OutOfMemory
     }
 }

@@ -3,12 +3,13 @@
 ghost use Rattle.std.specs.{Prelude.{◌≡◌, ◌^◌, None, IfOk, IfErr, bytes_eq, codes, option_map, string_bytes}, BTreeMap.{keys}, List.{list_all, list_any}};
 ghost use Rattle.serde_json.specs.{Find.{get}, View.{view}};
 ghost use Rattle.hw_types.specs.Limits.{config_fault};
-ghost use Rattle.hw_settings.specs.Settings.{number_in, is_lower_digit, key_of, is_object_of, may, drawn_in, leaders_in, needed_names, further_names, is_setting_name, members_say, config_in, json_of, settings_of};
+ghost use Rattle.hw_settings.specs.Settings.{number_in, key_of, is_object_of, may, drawn_in, leaders_in, needed_names, further_names, is_setting_name, members_say, config_in, json_of, settings_of};
 ghost use Rattle.hw_settings.specs.Answers.{Tells, IsFaultOf};
 
-use crate::fault::SettingsFault;
+use crate::fault::SettingsError;
 use crate::numbers::{byte_in, count_in, counts_in, number_in, pair_in, weights_in};
 use hex::FromHex;
+use hw_text::are_lower_digits;
 use hw_types::{Config, Leaders, USUAL_PARKED, USUAL_RECORDS};
 use serde_json::{Map, Value};
 use std::alloc::Global;
@@ -22,7 +23,7 @@ use std::alloc::Global;
 /// The value is made whole before its members are read, so it takes memory and time in proportion to
 /// the bytes.
 #[tactic(auto, unfolding(crate::specs::Settings::settings_of))]
-pub fn read_settings(alloc: Global, bytes: &[u8]) -> Result<Config, SettingsFault>
+pub fn read_settings(alloc: Global, bytes: &[u8]) -> Result<Config, SettingsError>
     // What is answered is what the settings say, and want of memory may stand in place of it.
     ensures config { IfOk result (λ config. settings_of bytes.now ≡ Ok config) }
     ensures fault { IfErr result (IsFaultOf (settings_of bytes.now)) }
@@ -33,37 +34,37 @@ pub fn read_settings(alloc: Global, bytes: &[u8]) -> Result<Config, SettingsFaul
     let config = config_in(alloc, &value)?;
     match config.check() {
         Ok(()) => Ok(config),
-        Err(fault) => Err(SettingsFault::Fault(fault)),
+        Err(fault) => Err(SettingsError::Fault(fault)),
     }
 }
 
 /// The value that the bytes are the text of.
 #[tactic(auto, unfolding(crate::specs::Settings::json_of))]
-fn json_of(alloc: Global, bytes: &[u8]) -> Result<Value, SettingsFault>
+fn json_of(alloc: Global, bytes: &[u8]) -> Result<Value, SettingsError>
     ensures { Tells view result (json_of bytes.now) }
 {
     match Value::from_slice(alloc, bytes) {
         Ok(value) => Ok(value),
-        Err(error) if error.is_memory() => Err(SettingsFault::OutOfMemory),
-        Err(_) => Err(SettingsFault::Form),
+        Err(error) if error.is_memory() => Err(SettingsError::OutOfMemory),
+        Err(_) => Err(SettingsError::Form),
     }
 }
 
 /// The configuration that an object says which has no other members.
 #[tactic(auto, unfolding(crate::specs::Settings::config_in))]
-fn config_in(alloc: Global, value: &Value) -> Result<Config, SettingsFault>
+fn config_in(alloc: Global, value: &Value) -> Result<Config, SettingsError>
     ensures { Tells (λ config. config) result (config_in (view value.now)) }
 {
     if is_settings_object(value) {
         members_say(alloc, value)
     } else {
-        Err(SettingsFault::Form)
+        Err(SettingsError::Form)
     }
 }
 
 /// What the members say.
 #[tactic(auto, unfolding(crate::specs::Settings::members_say))]
-fn members_say(alloc: Global, value: &Value) -> Result<Config, SettingsFault>
+fn members_say(alloc: Global, value: &Value) -> Result<Config, SettingsError>
     ensures { Tells (λ config. config) result (members_say (view value.now)) }
 {
     let weights = weights_in(alloc, member(value, "weights")?)?;
@@ -88,17 +89,17 @@ fn members_say(alloc: Global, value: &Value) -> Result<Config, SettingsFault>
 }
 
 /// The member of that name, which has to be there.
-fn member<'v>(value: &'v Value, name: &str) -> Result<&'v Value, SettingsFault>
+fn member<'v>(value: &'v Value, name: &str) -> Result<&'v Value, SettingsError>
     ensures { Tells (λ found. view found.now) result (get name.now (view value.now)) }
 {
     match value.get(name) {
         Some(found) => Ok(found),
-        None => Err(SettingsFault::Form),
+        None => Err(SettingsError::Form),
     }
 }
 
 /// The number of that name, or the usual one.
-fn count_or(usual: u32, value: &Value, name: &str) -> Result<u32, SettingsFault>
+fn count_or(usual: u32, value: &Value, name: &str) -> Result<u32, SettingsError>
     ensures { Tells (λ n. n) result (may name.now (number_in (2 ^ 32)) usual (view value.now)) }
 {
     match value.get(name) {
@@ -108,7 +109,7 @@ fn count_or(usual: u32, value: &Value, name: &str) -> Result<u32, SettingsFault>
 }
 
 /// The height of the last block, if there is one.
-fn end_in(value: &Value) -> Result<Option<u64>, SettingsFault>
+fn end_in(value: &Value) -> Result<Option<u64>, SettingsError>
     ensures { Tells (λ end. end) result (may (codes "end") (λ e. option_map Some (number_in (2 ^ 64) e)) None (view value.now)) }
 {
     match value.get("end") {
@@ -119,7 +120,7 @@ fn end_in(value: &Value) -> Result<Option<u64>, SettingsFault>
 
 /// The leaders: a table or a key.
 #[tactic(auto, unfolding(crate::specs::Settings::leaders_in))]
-fn leaders_in(alloc: Global, value: &Value) -> Result<Leaders, SettingsFault>
+fn leaders_in(alloc: Global, value: &Value) -> Result<Leaders, SettingsError>
     ensures { Tells (λ leaders. leaders) result (leaders_in (view value.now)) }
 {
     if value.is_array() {
@@ -130,15 +131,15 @@ fn leaders_in(alloc: Global, value: &Value) -> Result<Leaders, SettingsFault>
 }
 
 /// The key in an object that has no other member.
-fn drawn_in(value: &Value) -> Result<Leaders, SettingsFault>
+fn drawn_in(value: &Value) -> Result<Leaders, SettingsError>
     ensures { Tells (λ leaders. leaders) result (drawn_in (view value.now)) }
 {
     if !is_drawn_object(value) {
-        return Err(SettingsFault::Form);
+        return Err(SettingsError::Form);
     }
     match member(value, "drawn")?.as_str().and_then(key_of) {
         Some(key) => Ok(Leaders::Drawn(key)),
-        None => Err(SettingsFault::Form),
+        None => Err(SettingsError::Form),
     }
 }
 
@@ -146,23 +147,11 @@ fn drawn_in(value: &Value) -> Result<Leaders, SettingsFault>
 fn key_of(text: &str) -> Option<[u8; 32]>
     ensures { result ≡ key_of text.now }
 {
-    if has_lower_digits(text.as_bytes()) {
+    if are_lower_digits(text.as_bytes()) {
         <[u8; 32]>::from_hex(text).ok()
     } else {
         None
     }
-}
-
-fn has_lower_digits(text: &[u8]) -> bool
-    ensures { result ≡ list_all is_lower_digit text.now }
-{
-    text.iter().all(|byte| is_lower_digit(*byte))
-}
-
-fn is_lower_digit(byte: u8) -> bool
-    ensures { result ≡ is_lower_digit byte }
-{
-    matches!(byte, b'0'..=b'9' | b'a'..=b'f')
 }
 
 /// Whether the value is an object that has no other members than settings.

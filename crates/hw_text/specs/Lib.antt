@@ -1,2 +1,5 @@
 pub mod Text
 pub mod Lines
+pub mod Errors
+pub mod Digits
+pub mod Numbers

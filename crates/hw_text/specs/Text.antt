@@ -35,3 +35,25 @@ rule_text EndorsedShrinks = codes "endorsed-shrinks"
 rule_text EndorsedUnseen = codes "endorsed-unseen"
 rule_text Naive = codes "naive"
 rule_text AfterTerminal = codes "after-terminal"
+
+-- the number of each rule: its place in the order in which they are tested, counted from 1
+unfoldable pub rule_number : Rule → ℕ
+rule_number WrongInstance = 1
+rule_number UnknownCreator = 2
+rule_number PanoramaLength = 3
+rule_number FaultySelf = 4
+rule_number FirstSequence = 5
+rule_number RoundExponent = 6
+rule_number EndorsedOrder = 7
+rule_number NoBlock = 8
+rule_number SlotCreator = 9
+rule_number SequenceNumber = 10
+rule_number Inconsistent = 11
+rule_number TimeGoesBack = 12
+rule_number RoundChange = 13
+rule_number ThirdInRound = 14
+rule_number NotLeader = 15
+rule_number EndorsedShrinks = 16
+rule_number EndorsedUnseen = 17
+rule_number Naive = 18
+rule_number AfterTerminal = 19

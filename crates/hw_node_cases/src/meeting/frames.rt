@@ -3,15 +3,15 @@
 ghost use Rattle.hw_meeting.specs.Frames.{IsSaid};
 
 use hw_case_words::Answer;
-use hw_meeting::{FrameFault, MeetingFrame, decode_meeting, encode_meeting};
+use hw_meeting::{FrameError, MeetingFrame, decode_meeting, encode_meeting};
 
 /// The kind of the frame that the digits spell, where encoding gives them back.
 pub fn frame_text(answer: &mut Answer, validators: u32, digits: &str) {
     let body = answer.bytes(digits);
     match decode_meeting(answer.alloc(), validators, body.as_slice()) {
         Ok(frame) => spelled_text(answer, validators, &frame, body.as_slice()),
-        Err(FrameFault::Form) => answer.put("none"),
-        Err(FrameFault::OutOfMemory) => answer.refuse(),
+        Err(FrameError::Form) => answer.put("none"),
+        Err(FrameError::OutOfMemory) => answer.refuse(),
     }
 }
 

@@ -1,6 +1,6 @@
 use Rattle.std.proofs.Common.{◌≡◌, sym, ap, ◌∙◌}
 use Rattle.std.specs.Prelude.{string_bytes}
-use Rattle.hw_script_grammar.specs.Numbers.{number_below}
+use Rattle.hw_text.specs.Numbers.{number_below}
 use Rattle.hw_commands.specs.Asked.{asked}
 use Rattle.hw_commands.proofs.CommandLaws.{numbered_logs}
 use Rattle.hw_commands.proofs.command.era_audit.Goals as goal

@@ -6,7 +6,7 @@ use Rattle.hex.specs.declared.error.FromHexError.{FromHexError}
 use Rattle.hex.proofs.HexLemmas.{IsOk-decode_sized, IsOk-written, decode_sized-twice, decode_of-even, decode_of-ok}
 use Rattle.hw_codec.specs.Ranges.{AreBytesOf}
 use Rattle.std.specs.List.{AllPass}
-use Rattle.hw_keys.specs.Keys.{is_lower_digit}
+use Rattle.hw_text.specs.Digits.{is_lower_digit}
 use Rattle.hw_keys.proofs.DigitLaws.{lower_are_hex, encoded_again}
 use Rattle.hw_keys.proofs.text.key_of.Goals as goal
 

@@ -1,6 +1,6 @@
 use Rattle.std.proofs.Common.{refl}
 use Rattle.hw_types.specs.Limits.{config_fault}
-use Rattle.hw_script_grammar.specs.Numbers.{number_below}
+use Rattle.hw_text.specs.Numbers.{number_below}
 use Rattle.hw_script_grammar.specs.Words.{keyword, optional, number, number_behind, each, one_or_more, next_each}
 use Rattle.hw_script_grammar.specs.Wording.{is_one_of, is_setting_word, is_line_word, is_answer_word, is_name, is_value}
 use Rattle.hw_script_grammar.specs.Texts.{texts_of}

@@ -1,6 +1,6 @@
 use Rattle.std.proofs.Common.{◌≡◌, ◌<◌, ◌^◌, take}
-use Rattle.hw_script_grammar.specs.Numbers.{value_of}
-use Rattle.hw_script_grammar.proofs.numbers.value_of.Given as goal
+use Rattle.hw_text.specs.Numbers.{value_of}
+use Rattle.hw_text.proofs.numbers.value_of.Given as goal
 
 abbrev pub invariant-loop-digit : goal.invariant-loop-digit
 invariant-loop-digit l = (l.value ≡ value_of (take l.digit-index l.digits)) × (l.value < 2 ^ 64)

@@ -1,7 +1,7 @@
-//! Decimal numbers.
+//! Decimal numbers, as they are read.
 
 ghost use Rattle.std.specs.{Prelude.{◌≡◌, ◌+◌, ◌-◌, ◌*◌, ◌<◌, ◌≤◌, ◌^◌, IfSome}, Option.{SomeIff}, List.{list_all}};
-ghost use Rattle.hw_script_grammar.specs.Numbers.{is_digit, is_number, with_digit, value_of, number_below};
+ghost use Rattle.hw_text.specs.Numbers.{is_digit, is_number, with_digit, value_of, number_below};
 
 /// The number that the word is, in decimal digits without a zero in front, where it is at most this.
 ///
@@ -40,7 +40,7 @@ fn are_digits(word: &[u8]) -> bool
 }
 
 /// Whether the byte is a decimal digit.
-pub(crate) fn is_digit(c: u8) -> bool
+pub fn is_digit(c: u8) -> bool
     ensures { result ≡ is_digit c }
 {
     b'0' <= c && c <= b'9'

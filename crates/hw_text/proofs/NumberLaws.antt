@@ -3,7 +3,7 @@ use Rattle.std.proofs.Common.{◌≡◌, ℕ, ◌+◌, ◌^◌, ◌<◌, ◌≤�
 use Rattle.std.specs.Prelude.{fold}
 use Rattle.std.proofs.lemmas.List.{take-append-drop, take_more}
 use Rattle.std.proofs.lemmas.List.Sums.{fold-append}
-use Rattle.hw_script_grammar.specs.Numbers.{with_digit, value_of}
+use Rattle.hw_text.specs.Numbers.{with_digit, value_of}
 
 -- more digits stand for no less
 grows : (n : ℕ) (cs : List ℕ) → n ≤ fold with_digit n cs

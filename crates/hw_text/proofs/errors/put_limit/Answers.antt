@@ -1,5 +1,5 @@
-use Rattle.hw_light.specs.Texts.{limit_text}
-use Rattle.hw_light.proofs.errors.put_limit.Goals as goal
+use Rattle.hw_text.specs.Errors.{limit_text}
+use Rattle.hw_text.proofs.errors.put_limit.Goals as goal
 
 pub returns-in-ZeroWeight : goal.returns-in-ZeroWeight
 unfolding limit_text
