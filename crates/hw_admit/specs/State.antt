@@ -18,8 +18,8 @@ use Rattle.hw_naivety.specs.Naivety.{NaiveTips, IsNoted}
 use Rattle.hw_rules.specs.Judged.{IsForkOf, AllEndorseSeen}
 use Rattle.hw_admit.specs.declared.kept.CachedForkChoice.{CachedForkChoice}
 use Rattle.hw_admit.specs.Kept.{IsKept}
-use Rattle.hw_admit.specs.declared.start.StateError.{StateError}
-use Rattle.hw_admit.specs.declared.start.StateError.TheVariants as start
+use Rattle.hw_admit.specs.declared.start.StateFault.{StateFault}
+use Rattle.hw_admit.specs.declared.start.StateFault.TheVariants as start
 
 -- ---- who is faulty
 
@@ -84,7 +84,7 @@ pub record IsBeside (s : NodeState) (leaders : Config) (told : Told) (naivety : 
 -- ---- how it begins and grows
 
 -- why there is no state: a limit that the configuration breaks, or want of memory where it breaks none
-abbrev pub IsStartFault : Option ConfigFault → StateError → Type 0
+abbrev pub IsStartFault : Option ConfigFault → StateFault → Type 0
 IsStartFault broken (start.Fault fault) = broken ≡ Some fault
 IsStartFault broken start.OutOfMemory = broken ≡ None
 

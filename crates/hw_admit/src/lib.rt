@@ -14,5 +14,5 @@ mod start;
 mod state;
 
 pub use hw_rules::local;
-pub use start::StateError;
+pub use start::StateFault;
 pub use state::State;

@@ -20,7 +20,7 @@ ghost use Rattle.hw_rules.specs.Judged.{KeepsLocalRules};
 ghost use Rattle.hw_admit.specs.{Kept.{IsKept}, State.{NodeState, IsState, IsStartFault, IsAdmitted, MarksAreMet, is_faulty_in, is_marked, observed_in, told_in}};
 
 use crate::kept::CachedForkChoice;
-use crate::start::StateError;
+use crate::start::StateFault;
 use hw_dag::{Dag, Marks, Panorama, Prepared, UnitNo, View};
 use hw_endorse::{Added, EndorsedUnits, Endorsements};
 use hw_forks::Forks;
@@ -96,7 +96,7 @@ impl Model for State {
 
 impl State {
     /// The state of a node that has settled nothing and knows of no fault, and has no room so far.
-    pub fn new(alloc: Global, config: Config) -> Result<State, StateError>
+    pub fn new(alloc: Global, config: Config) -> Result<State, StateFault>
         // There is none for a configuration that breaks a limit, which is named.
         ensures lawful { IfOk result (λ state. config_fault config ≡ None) }
         ensures fault { IfErr result (IsStartFault (config_fault config)) }
@@ -109,8 +109,8 @@ impl State {
         ensures unseen { IfOk result (λ state. state.panorama ≡ replicate (length config.weights) view.Absent) }
     {
         match config.check() {
-            Ok(()) => begin(alloc, config).map_err(|_| StateError::OutOfMemory),
-            Err(fault) => Err(StateError::Fault(fault)),
+            Ok(()) => begin(alloc, config).map_err(|_| StateFault::OutOfMemory),
+            Err(fault) => Err(StateFault::Fault(fault)),
         }
     }
 

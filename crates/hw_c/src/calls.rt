@@ -10,7 +10,7 @@ ghost use Rattle.hw_c.specs.Calls.{IsNodeOf, IsVertexDelivery, IsDelivery, IsEnt
 ghost use Rattle.hw_c.specs.Named.{IsNameIn};
 
 use crate::codes::Fault;
-use hw_admit::StateError;
+use hw_admit::StateFault;
 use hw_codec::{decode_config, decode_vertex, encode_vertex};
 use hw_core::{Core, Place};
 use hw_text::rule_number;
@@ -68,8 +68,8 @@ pub fn make(alloc: Global, config: &[u8]) -> Result<Core, Fault>
     let config = decode_config(alloc, config)?;
     match Core::new(alloc, config) {
         Ok(core) => Ok(core),
-        Err(StateError::Fault(fault)) => Err(Fault::Config(fault)),
-        Err(StateError::OutOfMemory) => Err(Fault::OutOfMemory),
+        Err(StateFault::Fault(fault)) => Err(Fault::Config(fault)),
+        Err(StateFault::OutOfMemory) => Err(Fault::OutOfMemory),
     }
 }
 

@@ -17,8 +17,8 @@ use Rattle.hw_types.specs.Journal.{Setting, is_accepted, answer, journal_after}
 use Rattle.hw_types.specs.Real.{CoreState, setting_of, answer_in, after_in}
 use Rattle.hw_types.proofs.EntryLaws.{append_cases}
 use Rattle.hw_types.proofs.LimitLaws.{within_limits}
-use Rattle.hw_admit.specs.declared.start.StateError.{StateError}
-use Rattle.hw_admit.specs.declared.start.StateError.TheVariants as start
+use Rattle.hw_admit.specs.declared.start.StateFault.{StateFault}
+use Rattle.hw_admit.specs.declared.start.StateFault.TheVariants as start
 use Rattle.hw_admit.specs.State.{IsStartFault}
 use Rattle.hw_core.specs.Deliver.{IsRefusal}
 use Rattle.hw_core.specs.Promises.{begun as begun_core}
@@ -117,7 +117,7 @@ module _ (config : Config) (cores : List CoreState) (sent : List Vertex) (have :
   ]
 
 -- a configuration within its limits has no fault
-pub no_fault : (broken : Option ConfigFault) (why : StateError) (fault : ConfigFault) → broken ≡ None → why ≡ start.Fault fault → IsStartFault broken why → ⊥
+pub no_fault : (broken : Option ConfigFault) (why : StateFault) (fault : ConfigFault) → broken ≡ None → why ≡ start.Fault fault → IsStartFault broken why → ⊥
 no_fault broken why fault none e is = never (subst (IsStartFault broken) e is)
   where
     never : broken ≡ Some fault → ⊥

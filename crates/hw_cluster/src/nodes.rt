@@ -10,7 +10,7 @@ ghost use Rattle.hw_cluster.specs.{Nodes.{begun_with, nodes_in, node_in, CanAct,
 use crate::acts::act_on;
 use crate::counts::{count_culprits, most_decisions};
 use crate::named::NamedVertex;
-use hw_admit::StateError;
+use hw_admit::StateFault;
 use hw_core::Core;
 use hw_honest::{Acted, Action};
 use hw_types::{Config, OutOfMemory};
@@ -41,7 +41,7 @@ impl Model for Cluster {
 impl Cluster {
     /// So many nodes that received nothing: the validators 0, 1, 2 and so on. There is no cluster exactly where
     /// the configuration breaks one of its limits, which is named, or for want of memory.
-    pub fn new(alloc: Global, config: Config, nodes: u32) -> Result<Cluster, StateError>
+    pub fn new(alloc: Global, config: Config, nodes: u32) -> Result<Cluster, StateFault>
         requires some { 1 ≤ nodes }
         requires few { nodes ≤ length config.weights }
         ensures lawful { IfOk result (λ cluster. config_fault config ≡ None) }
@@ -49,7 +49,7 @@ impl Cluster {
         ensures begun { IfOk result (λ cluster. cluster ≡ begun_with config nodes) }
     {
         if let Err(fault) = config.check() {
-            return Err(StateError::Fault(fault));
+            return Err(StateFault::Fault(fault));
         }
         let nodes = begin_all(alloc, &config, nodes)?;
         Ok(Cluster {
@@ -125,9 +125,9 @@ pub fn begin(alloc: Global, config: Config) -> Result<Core, OutOfMemory>
 {
     match Core::new(alloc, config) {
         Ok(core) => Ok(core),
-        Err(StateError::OutOfMemory) => Err(OutOfMemory),
+        Err(StateFault::OutOfMemory) => Err(OutOfMemory),
         // The configuration keeps all limits.
-        Err(StateError::Fault(_)) => unreachable!(),
+        Err(StateFault::Fault(_)) => unreachable!(),
     }
 }
 

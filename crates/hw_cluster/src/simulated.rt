@@ -9,7 +9,7 @@ ghost use Rattle.hw_cluster.specs.{Nodes.{begun_with, nodes_in, acted_in, left_b
 use crate::drawn::drawn_config;
 use crate::nodes::Cluster;
 use crate::words::{Words, key_for};
-use hw_admit::StateError;
+use hw_admit::StateFault;
 use hw_honest::{Acted, Action};
 use hw_types::{Config, OutOfMemory};
 use std::alloc::Global;
@@ -44,9 +44,9 @@ fn begin(alloc: Global, key: [u8; 32], nodes: u32) -> Result<Cluster, OutOfMemor
 {
     match Cluster::new(alloc, sim_config(alloc, key, nodes)?, nodes) {
         Ok(cluster) => Ok(cluster),
-        Err(StateError::OutOfMemory) => Err(OutOfMemory),
+        Err(StateFault::OutOfMemory) => Err(OutOfMemory),
         // The configuration keeps all limits.
-        Err(StateError::Fault(_)) => unreachable!(),
+        Err(StateFault::Fault(_)) => unreachable!(),
     }
 }
 

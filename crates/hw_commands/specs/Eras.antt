@@ -13,8 +13,8 @@ use Rattle.hw_replay.specs.Replay.{IsOutside}
 use Rattle.hw_eras.specs.Nodes.{first_config}
 use Rattle.hw_eras.specs.EraAudit.{AreAgreed}
 use Rattle.hw_eras.specs.declared.audits.EraAudit.{EraAudit}
-use Rattle.hw_eras.specs.declared.stop.EraStop.{EraStop}
-use Rattle.hw_eras.specs.declared.stop.EraStop.TheVariants as stop
+use Rattle.hw_eras.specs.declared.stop.EraFault.{EraFault}
+use Rattle.hw_eras.specs.declared.stop.EraFault.TheVariants as stop
 use Rattle.hw_eras.specs.Logs.{Held, Stop, NoEra, Stopped, eras_of, nodes_of}
 use Rattle.hw_eras.specs.Reports.{era_line}
 use Rattle.hw_commands.specs.declared.ended.Ended.{Ended}
@@ -36,7 +36,7 @@ era_audit_ended (Ok e) = record { status = e.status; text = e.text }
 era_audit_ended (Err s) = logs_stopped s
 
 -- the same, by what a run over logs answers; want of memory and a failed read end it in another way
-abbrev pub EndsBy : EraStop → Ended → Type 0
+abbrev pub EndsBy : EraFault → Ended → Type 0
 EndsBy (stop.NoEra log) e = e ≡ logs_stopped (NoEra log.now)
 EndsBy (stop.Stopped log fault) e = (e ≡ logs_stopped (Stopped log.now fault)) × (IsOutside fault → ⊥)
 EndsBy stop.OutOfMemory e = ⊥

@@ -13,7 +13,7 @@ ghost use Rattle.hw_commands.specs.declared.ended.RunFault.TheVariants as RunFau
 use crate::ended::{DONE, Ended, Ending, RunFault};
 use crate::faults::{bad_input, stopped};
 use crate::texts::Wrong;
-use hw_eras::{EraStop, report_logs};
+use hw_eras::{EraFault, report_logs};
 use hw_io::Files;
 use std::alloc::Global;
 
@@ -67,15 +67,15 @@ pub fn audit_eras<F: Files>(
 }
 
 /// The logs of eras stopped there.
-fn logs_stopped(alloc: Global, stop: EraStop<'_>) -> Ending
+fn logs_stopped(alloc: Global, stop: EraFault<'_>) -> Ending
     ensures said { IfOk result (EndsBy stop.entry) }
     ensures status { IfOk result (λ e. IsReadEnd e.status) }
     ensures cause { (before now : ℕ) → IsEraCounted {T = Unit {0}} before now (Err stop.entry) → IsReadCounted before now result }
     ensures about { (said : Held → Part RunEnd) (held : Held) (before now : List ℕ → ℕ) → StopsAt (IsDue said held) stop.entry → IsEraAbout {T = Unit {0}} held before now (Err stop.entry) → IfErr result (λ fault. fault ≡ RunFaults.Read → FailsDue said held before now) }
 {
     match stop {
-        EraStop::NoEra(log) => Ok(bad_input(alloc, log, Wrong::Words("no era"))?),
-        EraStop::Stopped(log, fault) => stopped(alloc, log, fault),
-        EraStop::OutOfMemory => Err(RunFault::OutOfMemory),
+        EraFault::NoEra(log) => Ok(bad_input(alloc, log, Wrong::Words("no era"))?),
+        EraFault::Stopped(log, fault) => stopped(alloc, log, fault),
+        EraFault::OutOfMemory => Err(RunFault::OutOfMemory),
     }
 }

@@ -27,7 +27,7 @@ use crate::told::NotPut;
 use crate::units::{
     NamedUnit, UnitRefused, add_unit, list_unit, test_local, test_named, unit_back,
 };
-use hw_admit::{State, StateError};
+use hw_admit::{State, StateFault};
 use hw_codec::digest_of;
 use hw_dag::{Prepared, UnitNo};
 use hw_park::Park;
@@ -99,7 +99,7 @@ impl Model for CoreInner {
 
 impl CoreInner {
     /// A node that has received nothing.
-    pub(crate) fn new(alloc: Global, config: Config) -> Result<CoreInner, StateError>
+    pub(crate) fn new(alloc: Global, config: Config) -> Result<CoreInner, StateFault>
         ensures lawful { IfOk result (λ core. config_fault config ≡ None) }
         ensures fault { IfErr result (IsStartFault (config_fault config)) }
         ensures config { IfOk result (λ core. core.config ≡ config) }

@@ -12,7 +12,7 @@ use Rattle.hw_eras.specs.declared.audits.EraAudit.{EraAudit}
 use Rattle.hw_eras.specs.declared.verdict.EraVerdict.{EraVerdict}
 use Rattle.hw_eras.specs.EraAudit.{IsVerdictByEras}
 use Rattle.hw_eras.specs.declared.filled.Filled.{Filled}
-use Rattle.hw_eras.specs.declared.stop.EraStop.{EraStop}
+use Rattle.hw_eras.specs.declared.stop.EraFault.{EraFault}
 use Rattle.hw_eras.specs.Stops.{StopsSo}
 use Rattle.hw_eras.specs.Filled.{eras_in}
 use Rattle.hw_eras.specs.Audits.{eras_audited, audited_against, logs_audited, TellsVerdict, IsAudit, IsAuditOfLogs}
@@ -23,7 +23,7 @@ use Rattle.hw_eras.proofs.TellLaws.{told_by_eras}
 
 module _ (held : Held) (left right : List (List ℕ)) where
   -- a left log stops
-  pub left_stops : (e : EraStop) → StopsSo e (eras_of held None left) → StopsSo e (logs_audited held left right)
+  pub left_stops : (e : EraFault) → StopsSo e (eras_of held None left) → StopsSo e (logs_audited held left right)
   left_stops e stops = stops_then (eras_of held None left) (λ ls. audited_against held ls right) e stops
 
   -- what tells the verdict by eras on the nodes that the logs leave is what the definitions say
@@ -46,7 +46,7 @@ module _ (held : Held) (left right : List (List ℕ)) where
         ∙ ap (λ (h : Held). eras_of h (Some core.config) right) (sym (same_held held now same))
 
     -- one of them stops
-    pub right_stops : (e : EraStop) → StopsSo e (eras_of now (Some core.config) right) → StopsSo e (logs_audited held left right)
+    pub right_stops : (e : EraFault) → StopsSo e (eras_of now (Some core.config) right) → StopsSo e (logs_audited held left right)
     right_stops e stops =
         subst (StopsSo e) (sym (ap (λ (x : Result (List Taken) Stop). x >>= λ ls. audited_against held ls right) there))
         (stops_then (eras_of held (first_config (nodes_of (eras_in l))) right) (λ rs. Ok (eras_audited 0 0 (nodes_of (eras_in l)) (nodes_of rs))) e (subst (StopsSo e) (sym rights) stops))

@@ -8,21 +8,21 @@ use Rattle.hw_eras.specs.Nodes.{next_of}
 use Rattle.hw_replay.specs.Taken.{Taken}
 use Rattle.hw_eras.specs.Logs.{Held, Stop, ◌>>=◌, log_left, eras_from, eras_of}
 use Rattle.hw_eras.specs.declared.filled.Filled.{Filled}
-use Rattle.hw_eras.specs.declared.stop.EraStop.{EraStop}
-use Rattle.hw_eras.specs.declared.stop.EraStop.TheVariants as stop
+use Rattle.hw_eras.specs.declared.stop.EraFault.{EraFault}
+use Rattle.hw_eras.specs.declared.stop.EraFault.TheVariants as stop
 use Rattle.hw_eras.specs.Stops.{StopsSo, IsOfLogs, HasEraCause, IsEraAbout}
 use Rattle.hw_eras.specs.Filled.{eras_in, logs_in, next_in, ahead_in, IsFilled, HasBegun}
 use Rattle.hw_eras.proofs.FilledLaws.{begun_ahead, nothing_ahead}
 
 -- what stops, stops what follows
-pub stops_then : {A B : Type 0} (r : Result A Stop) (f : A → Result B Stop) (e : EraStop) → StopsSo e r → StopsSo e (r >>= f)
+pub stops_then : {A B : Type 0} (r : Result A Stop) (f : A → Result B Stop) (e : EraFault) → StopsSo e r → StopsSo e (r >>= f)
 stops_then r f (stop.NoEra log) is = ap (λ x. x >>= f) is
 stops_then r f (stop.Stopped log e) (inl out) = inl out
 stops_then r f (stop.Stopped log e) (inr is) = inr (ap (λ x. x >>= f) is)
 stops_then r f stop.OutOfMemory is = tt
 
 -- the log of the next era stops
-pub stopped_ahead : (held : Held) (f : Filled) (log : List ℕ) (logs : List (List ℕ)) (config : Config) (e : EraStop) → next_in f ≡ Some config → StopsSo e (log_left held (Some config) log) → StopsSo e (ahead_in held f (log ∷ logs))
+pub stopped_ahead : (held : Held) (f : Filled) (log : List ℕ) (logs : List (List ℕ)) (config : Config) (e : EraFault) → next_in f ≡ Some config → StopsSo e (log_left held (Some config) log) → StopsSo e (ahead_in held f (log ∷ logs))
 unfolding eras_from
 stopped_ahead held f log logs config e next stops =
     let behind : List Taken → Result (List Taken) Stop = λ ts. Ok (take 64 (take (logs_in f) (eras_in f) ++ ts)) in
@@ -59,7 +59,7 @@ none_left (x ∷ xs) zero le = absurd (omega arith)
 none_left (x ∷ xs) (suc n) le = none_left xs n (omega arith)
 
 -- one that stops is one of more logs
-pub named_in : (logs : List (List ℕ)) (log : List ℕ) (e : EraStop) → Among log logs → IsOfLogs (log ∷ []) e → IsOfLogs logs e
+pub named_in : (logs : List (List ℕ)) (log : List ℕ) (e : EraFault) → Among log logs → IsOfLogs (log ∷ []) e → IsOfLogs logs e
 named_in logs log (stop.NoEra name) among (inl is) = subst (λ (n : List ℕ). Among n logs) is among
 named_in logs log (stop.NoEra name) among (inr none) = absurd none
 named_in logs log (stop.Stopped name f) among (inl is) = subst (λ (n : List ℕ). Among n logs) is among
@@ -72,7 +72,7 @@ among_left (z ∷ zs) ys x (inl e) = inl e
 among_left (z ∷ zs) ys x (inr m) = inr (among_left zs ys x m)
 
 -- of logs in front of others, or behind them
-pub named_left : (left right : List (List ℕ)) (e : EraStop) → IsOfLogs left e → IsOfLogs (left ++ right) e
+pub named_left : (left right : List (List ℕ)) (e : EraFault) → IsOfLogs left e → IsOfLogs (left ++ right) e
 named_left left right (stop.NoEra name) is = among_left left right name.now is
 named_left left right (stop.Stopped name f) is = among_left left right name.now is
 named_left left right stop.OutOfMemory is = tt
@@ -81,20 +81,20 @@ among_right : (xs ys : List (List ℕ)) (x : List ℕ) → Among x ys → Among 
 among_right [] ys x m = m
 among_right (z ∷ zs) ys x m = inr (among_right zs ys x m)
 
-pub named_right : (left right : List (List ℕ)) (e : EraStop) → IsOfLogs right e → IsOfLogs (left ++ right) e
+pub named_right : (left right : List (List ℕ)) (e : EraFault) → IsOfLogs right e → IsOfLogs (left ++ right) e
 named_right left right (stop.NoEra name) is = among_right left right name.now is
 named_right left right (stop.Stopped name f) is = among_right left right name.now is
 named_right left right stop.OutOfMemory is = tt
 
 -- of the other logs
-pub named_behind : (first : List ℕ) (logs : List (List ℕ)) (e : EraStop) → IsOfLogs logs e → IsOfLogs (first ∷ logs) e
+pub named_behind : (first : List ℕ) (logs : List (List ℕ)) (e : EraFault) → IsOfLogs logs e → IsOfLogs (first ∷ logs) e
 named_behind first logs e is = named_right (first ∷ []) logs e is
 
 -- nothing was counted before
-pub cause_then : {T : Type 0} (old mid new : ℕ) (r : Result T EraStop) → mid ≡ old → HasEraCause mid new r → HasEraCause old new r
+pub cause_then : {T : Type 0} (old mid new : ℕ) (r : Result T EraFault) → mid ≡ old → HasEraCause mid new r → HasEraCause old new r
 cause_then {T} old mid new r same cause = subst (λ (n : ℕ). HasEraCause {T = T} n new r) same cause
 
-pub about_then : (held now : Held) (old mid new : List ℕ → ℕ) (e : EraStop) → SameFiles held now → mid ≡ old → IsEraAbout {T = Unit {0}} now mid new (Err e) → IsEraAbout {T = Unit {0}} held old new (Err e)
+pub about_then : (held now : Held) (old mid new : List ℕ → ℕ) (e : EraFault) → SameFiles held now → mid ≡ old → IsEraAbout {T = Unit {0}} now mid new (Err e) → IsEraAbout {T = Unit {0}} held old new (Err e)
 about_then held now old mid new e files same about =
     let one : now ≡ held = λ i name. files name i in
     subst (λ (h : Held). IsEraAbout {T = Unit {0}} h old new (Err e)) one (subst (λ (n : List ℕ → ℕ). IsEraAbout {T = Unit {0}} now n new (Err e)) same about)
@@ -115,7 +115,7 @@ module _ (held now : Held) (same : SameFiles held now) (f s : Filled) (names : L
       sym one ∙ ap (ahead_in held f) (sym at) ∙ so_far
 
   -- or it stopped
-  pub stopped_so : (e : EraStop) → StopsSo e (ahead_in now f (log ∷ drop j names)) → StopsSo e (ahead_in held s names)
+  pub stopped_so : (e : EraFault) → StopsSo e (ahead_in now f (log ∷ drop j names)) → StopsSo e (ahead_in held s names)
   stopped_so e stops =
       subst (StopsSo e) (ap (ahead_in held f) (sym at) ∙ so_far) (subst (λ (h : Held). StopsSo e (ahead_in h f (log ∷ drop j names))) (same_held held now same) stops)
 
@@ -136,6 +136,6 @@ module _ (held : Held) (wanted : Option Config) (log : List ℕ) (logs : List (L
   pub begun_eras : (now : Held) (f : Filled) → SameFiles held now → HasBegun (log_left held wanted log) (Ok f) → eras_of held wanted (log ∷ logs) ≡ ahead_in now f logs
   begun_eras now f same has = begun_ahead f has.0 has.2 held wanted log logs has.1 ∙ ap (λ (h : Held). ahead_in h f logs) (sym (same_held held now same))
 
-  pub stopped_eras : (e : EraStop) → StopsSo e (log_left held wanted log) → StopsSo e (eras_of held wanted (log ∷ logs))
+  pub stopped_eras : (e : EraFault) → StopsSo e (log_left held wanted log) → StopsSo e (eras_of held wanted (log ∷ logs))
   unfolding eras_of
   stopped_eras e stops = stops_then (log_left held wanted log) (λ t. eras_from held (next_of t.core) logs >>= λ ts. Ok (take 64 (t ∷ ts))) e stops

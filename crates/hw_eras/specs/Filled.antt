@@ -12,7 +12,7 @@ use Rattle.hw_replay.specs.Replay.{taken_in}
 use Rattle.hw_eras.specs.Logs.{Held, Stop, ◌>>=◌, eras_from}
 use Rattle.hw_eras.specs.declared.filled.EraCounts.{EraCounts}
 use Rattle.hw_eras.specs.declared.filled.Filled.{Filled}
-use Rattle.hw_eras.specs.declared.stop.EraStop.{EraStop}
+use Rattle.hw_eras.specs.declared.stop.EraFault.{EraFault}
 use Rattle.hw_eras.specs.Stops.{StopsSo}
 
 -- each node with what was counted in its era, and with nothing where nothing was
@@ -65,26 +65,26 @@ pub record HasFirst (f : Filled) (t : Taken) : Type 0 where
   pub counts : f.counts.items ≡ record { refused = t.refused; repeats = t.repeats } ∷ []
 
 -- the replay took what the log left, or it stops there
-abbrev pub Leaves : Result Taken Stop → Result Replay EraStop → Type 0
+abbrev pub Leaves : Result Taken Stop → Result Replay EraFault → Type 0
 Leaves left (Ok replay) = left ≡ Ok (taken_in replay)
 Leaves left (Err e) = StopsSo e left
 
 -- the first log was taken, or it stops there
-abbrev pub HasBegun : Result Taken Stop → Result Filled EraStop → Type 0
+abbrev pub HasBegun : Result Taken Stop → Result Filled EraFault → Type 0
 HasBegun left (Ok f) = (t : Taken) × (left ≡ Ok t) × HasFirst f t
 HasBegun left (Err e) = StopsSo e left
 
 -- The log was taken, and what will be there is the same; or it stops there.
-abbrev pub TakesLog : Held → Filled → List ℕ → Filled → Result (Unit {0}) EraStop → Type 0
+abbrev pub TakesLog : Held → Filled → List ℕ → Filled → Result (Unit {0}) EraFault → Type 0
 TakesLog held old log new (Ok x) = (logs : List (List ℕ)) → logs_in old + 1 + length logs ≤ 64 → ahead_in held old (log ∷ logs) ≡ ahead_in held new logs
 TakesLog held old log new (Err e) = (logs : List (List ℕ)) → StopsSo e (ahead_in held old (log ∷ logs))
 
 -- all that was ahead is there, or it stops there
-abbrev pub TakesAll : Result (List Taken) Stop → Filled → Result (Unit {0}) EraStop → Type 0
+abbrev pub TakesAll : Result (List Taken) Stop → Filled → Result (Unit {0}) EraFault → Type 0
 TakesAll ahead new (Ok x) = ahead ≡ Ok (eras_in new)
 TakesAll ahead new (Err e) = StopsSo e ahead
 
 -- these eras are there, or the logs stop there
-abbrev pub Fills : Result (List Taken) Stop → Result Filled EraStop → Type 0
+abbrev pub Fills : Result (List Taken) Stop → Result Filled EraFault → Type 0
 Fills eras (Ok f) = eras ≡ Ok (eras_in f)
 Fills eras (Err e) = StopsSo e eras

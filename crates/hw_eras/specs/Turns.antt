@@ -6,8 +6,8 @@ use Rattle.hw_eras.specs.Nodes.{next_of, first_config}
 use Rattle.hw_replay.specs.Taken.{Taken}
 use Rattle.hw_eras.specs.Logs.{Held, log_left, eras_of, nodes_of}
 use Rattle.hw_eras.specs.declared.filled.Filled.{Filled}
-use Rattle.hw_eras.specs.declared.stop.EraStop.{EraStop}
-use Rattle.hw_eras.specs.declared.stop.EraStop.TheVariants as stop
+use Rattle.hw_eras.specs.declared.stop.EraFault.{EraFault}
+use Rattle.hw_eras.specs.declared.stop.EraFault.TheVariants as stop
 use Rattle.hw_eras.specs.Filled.{next_in}
 
 -- The turn of a log comes where the next era, which has this configuration, is there: at once if it is the first, or else once
@@ -27,12 +27,12 @@ abbrev pub HasTurnIn : Held → List (List ℕ) → List (List ℕ) → List ℕ
 HasTurnIn held left right name = HasTurnOf held None left name ⊎ ((ls : List Taken) × (eras_of held None left ≡ Ok ls) × HasTurnOf held (first_config (nodes_of ls)) right name)
 
 -- the log whose replay stopped is such a one
-abbrev pub StopsAt : (List ℕ → Type 0) → EraStop → Type 0
+abbrev pub StopsAt : (List ℕ → Type 0) → EraFault → Type 0
 StopsAt is_such (stop.NoEra log) = Unit {0}
 StopsAt is_such (stop.Stopped log e) = is_such log.now
 StopsAt is_such stop.OutOfMemory = Unit {0}
 
 -- the turns of the logs behind this one come once it was taken; or its replay stops in its turn
-abbrev pub TakesTurn : Held → Filled → List ℕ → Filled → Result (Unit {0}) EraStop → Type 0
+abbrev pub TakesTurn : Held → Filled → List ℕ → Filled → Result (Unit {0}) EraFault → Type 0
 TakesTurn held old log new (Ok x) = (logs : List (List ℕ)) (name : List ℕ) → HasTurnFrom held (next_in new) logs name → HasTurnFrom held (next_in old) (log ∷ logs) name
 TakesTurn held old log new (Err e) = (logs : List (List ℕ)) → StopsAt (HasTurnFrom held (next_in old) (log ∷ logs)) e

@@ -10,8 +10,8 @@ ghost use Rattle.hw_eras.specs.Turns.{HasTurnIn, StopsAt};
 
 use crate::filled::Filled;
 use crate::reports::put_era;
-use crate::stop::EraStop;
-use crate::{AuditError, EraVerdict, Eras, audit_eras};
+use crate::stop::EraFault;
+use crate::{AuditFault, EraVerdict, Eras, audit_eras};
 use hw_audit::{Verdict, audit_text};
 use hw_core::Core;
 use hw_io::Files;
@@ -46,7 +46,7 @@ pub fn audit_logs<'a, F: Files>(
     files: &mut F,
     left: &'a [String],
     right: &'a [String],
-) -> Result<EraAudit, EraStop<'a>>
+) -> Result<EraAudit, EraFault<'a>>
     requires left_some { 1 ≤ length left.now }
     requires left_few { length left.now ≤ 64 }
     requires right_some { 1 ≤ length right.now }
@@ -90,9 +90,9 @@ fn audited(alloc: Global, left: &Eras, right: &Eras) -> Result<EraAudit, OutOfMe
     match audit_eras(alloc, left, right) {
         Ok(EraVerdict::Agree { common }) => agreed(alloc, common),
         Ok(EraVerdict::At { era, verdict }) => differing(alloc, left, era, &verdict),
-        Err(AuditError::OutOfMemory) => Err(OutOfMemory),
+        Err(AuditFault::OutOfMemory) => Err(OutOfMemory),
         // They begin with one configuration.
-        Err(AuditError::Instances) => unreachable!(),
+        Err(AuditFault::Instances) => unreachable!(),
     }
 }
 

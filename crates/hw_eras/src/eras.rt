@@ -10,7 +10,7 @@ ghost use Rattle.hw_eras.specs.Nodes.{IsMadeAgain, last_core, AreNodeEras, HasDe
 use crate::answers::{EraOpen, EraRefused};
 use crate::deliveries::{deliver_to, put_last};
 use crate::opening::{add, open_after};
-use hw_admit::StateError;
+use hw_admit::StateFault;
 use hw_core::Core;
 use hw_types::{Config, Receipt, Vertex};
 use std::alloc::Global;
@@ -39,7 +39,7 @@ impl Model for Eras {
 impl Eras {
     /// Era 0 alone, with this configuration, in which nothing was received. There is none exactly where the
     /// configuration breaks one of its limits, which is named, or for want of memory.
-    pub fn new(alloc: Global, config: Config) -> Result<Eras, StateError>
+    pub fn new(alloc: Global, config: Config) -> Result<Eras, StateFault>
         ensures lawful { IfOk result (λ eras. config_fault config ≡ None) }
         ensures fault { IfErr result (IsStartFault (config_fault config)) }
         ensures begun { IfOk result (λ eras. eras ≡ begun config ∷ []) }

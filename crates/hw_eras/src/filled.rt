@@ -11,9 +11,9 @@ ghost use Rattle.hw_eras.specs.Filled.{logs_in, next_in, ahead_in, IsFilled, ope
 ghost use Rattle.hw_eras.specs.Turns.{HasTurnFrom, HasTurnOf, StopsAt, TakesTurn};
 ghost use Rattle.hw_replay.specs.Replay.{taken_in};
 
-use crate::stop::EraStop;
+use crate::stop::EraFault;
 use crate::{EraOpen, Eras};
-use hw_admit::StateError;
+use hw_admit::StateFault;
 use hw_codec::config_is_in_range;
 use hw_core::Core;
 use hw_io::Files;
@@ -46,7 +46,7 @@ impl Filled {
         alloc: Global,
         files: &mut F,
         logs: &'a [String],
-    ) -> Result<Filled, EraStop<'a>>
+    ) -> Result<Filled, EraFault<'a>>
         requires some { 1 ≤ length logs.now }
         requires few { length logs.now ≤ 64 }
         ensures said { IsTrue F.tells → Fills (eras_of (F.held files.old) None (map string_bytes logs.now)) result }
@@ -69,7 +69,7 @@ impl Filled {
         files: &mut F,
         core: &Core,
         logs: &'a [String],
-    ) -> Result<Filled, EraStop<'a>>
+    ) -> Result<Filled, EraFault<'a>>
         requires some { 1 ≤ length logs.now }
         requires few { length logs.now ≤ 64 }
         ensures said { IsTrue F.tells → Fills (eras_of (F.held files.old) (Some core.now.config) (map string_bytes logs.now)) result }
@@ -92,7 +92,7 @@ impl Filled {
         alloc: Global,
         files: &mut F,
         log: &'a str,
-    ) -> Result<Filled, EraStop<'a>>
+    ) -> Result<Filled, EraFault<'a>>
         ensures said { IsTrue F.tells → HasBegun (log_left (F.held files.old) None log.now) result }
         ensures filled { IfOk result IsFilled }
         ensures one { IfOk result (λ filled. logs_in filled ≡ 1) }
@@ -105,7 +105,7 @@ impl Filled {
     {
         match replay_log(alloc, files, log, None) {
             Ok(mut replay) => Ok(first(alloc, &mut replay)?),
-            Err(fault) => Err(EraStop::Stopped(log, fault)),
+            Err(fault) => Err(EraFault::Stopped(log, fault)),
         }
     }
 
@@ -115,7 +115,7 @@ impl Filled {
         files: &mut F,
         core: &Core,
         log: &'a str,
-    ) -> Result<Filled, EraStop<'a>>
+    ) -> Result<Filled, EraFault<'a>>
         ensures said { IsTrue F.tells → HasBegun (log_left (F.held files.old) (Some core.now.config) log.now) result }
         ensures filled { IfOk result IsFilled }
         ensures one { IfOk result (λ filled. logs_in filled ≡ 1) }
@@ -136,7 +136,7 @@ impl Filled {
         &mut self,
         files: &mut F,
         logs: &'a [String],
-    ) -> Result<(), EraStop<'a>>
+    ) -> Result<(), EraFault<'a>>
         requires filled { IsFilled self.old }
         requires few { logs_in self.old + length logs.now ≤ 64 }
         ensures said { IsTrue F.tells → TakesAll (ahead_in (F.held files.old) self.old (map string_bytes logs.now)) self.new result }
@@ -157,7 +157,7 @@ impl Filled {
     }
 
     /// Replays the log under this name into the next era.
-    fn take<'a, F: Files>(&mut self, files: &mut F, log: &'a str) -> Result<(), EraStop<'a>>
+    fn take<'a, F: Files>(&mut self, files: &mut F, log: &'a str) -> Result<(), EraFault<'a>>
         requires filled { IsFilled self.old }
         requires room { logs_in self.old < 64 }
         ensures said { IsTrue F.tells → TakesLog (F.held files.old) self.old log.now self.new result }
@@ -173,7 +173,7 @@ impl Filled {
         ensures appends { F.append_faults files.new ≡ F.append_faults files.old }
     {
         let Some(core) = self.eras.core(self.counts.len() as u32) else {
-            return Err(EraStop::NoEra(log));
+            return Err(EraFault::NoEra(log));
         };
         let mut replay = replay_like(self.alloc, files, core, log)?;
         self.put(&mut replay)?;
@@ -220,7 +220,7 @@ fn replay_like<'a, F: Files>(
     files: &mut F,
     core: &Core,
     log: &'a str,
-) -> Result<Replay, EraStop<'a>>
+) -> Result<Replay, EraFault<'a>>
     ensures said { IsTrue F.tells → Leaves (log_left (F.held files.old) (Some core.now.config) log.now) result }
     ensures like { IfOk result (λ replay. replay.core.config ≡ core.now.config) }
     ensures made { IfOk result (λ replay. IsMadeAgain replay.core) }
@@ -240,7 +240,7 @@ fn replay_like<'a, F: Files>(
             config_is_in_range(replay.core.state().config());
             Ok(replay)
         }
-        Err(fault) => Err(EraStop::Stopped(log, fault)),
+        Err(fault) => Err(EraFault::Stopped(log, fault)),
     }
 }
 
@@ -264,8 +264,8 @@ fn era_of(alloc: Global, core: &Core) -> Result<Eras, OutOfMemory>
 {
     match Eras::new(alloc, core.state().config().copy()?) {
         Ok(eras) => Ok(eras),
-        Err(StateError::OutOfMemory) => Err(OutOfMemory),
+        Err(StateFault::OutOfMemory) => Err(OutOfMemory),
         // A node's configuration keeps all limits.
-        Err(StateError::Fault(_)) => unreachable!(),
+        Err(StateFault::Fault(_)) => unreachable!(),
     }
 }

@@ -9,7 +9,7 @@ ghost use Rattle.hw_eras.specs.Nodes.{IsMadeAgain, next_of, IsUnended, IsLastBlo
 
 use crate::answers::EraOpen;
 use crate::next::next_config;
-use hw_admit::StateError;
+use hw_admit::StateFault;
 use hw_core::Core;
 use hw_types::{Config, Digest, OutOfMemory, WireUnit};
 use std::alloc::Global;
@@ -79,9 +79,9 @@ fn open(cores: &mut Vec<Core>, block: &Digest) -> Result<u32, OutOfMemory>
     let config = config_after(alloc, last(cores), block)?;
     match add(cores, config) {
         Ok(()) => Ok(number),
-        Err(StateError::OutOfMemory) => Err(OutOfMemory),
+        Err(StateFault::OutOfMemory) => Err(OutOfMemory),
         // The configuration keeps all limits.
-        Err(StateError::Fault(_)) => unreachable!(),
+        Err(StateFault::Fault(_)) => unreachable!(),
     }
 }
 
@@ -119,7 +119,7 @@ fn value_of(block: &WireUnit) -> &[u8]
 }
 
 /// Puts a node that received nothing last.
-pub fn add(cores: &mut Vec<Core>, config: Config) -> Result<(), StateError>
+pub fn add(cores: &mut Vec<Core>, config: Config) -> Result<(), StateFault>
     ensures lawful { OnOk result (config_fault config ≡ None) }
     ensures fault { IfErr result (IsStartFault (config_fault config)) }
     ensures added { OnOk result (cores.new.items ≡ cores.old.items ++ begun config ∷ []) }
@@ -129,6 +129,6 @@ pub fn add(cores: &mut Vec<Core>, config: Config) -> Result<(), StateError>
     let core = Core::new(alloc, config)?;
     match cores.push(core) {
         Ok(()) => Ok(()),
-        Err(_unpushed) => Err(StateError::OutOfMemory),
+        Err(_unpushed) => Err(StateFault::OutOfMemory),
     }
 }

@@ -10,7 +10,7 @@ ghost use Rattle.hw_eras.specs.Turns.{HasTurnOf, StopsAt};
 ghost use Rattle.hw_eras.specs.Filled.{eras_in, counts_at};
 
 use crate::filled::{EraCounts, Filled};
-use crate::stop::EraStop;
+use crate::stop::EraFault;
 use hw_core::Core;
 use hw_explain::report;
 use hw_io::Files;
@@ -27,7 +27,7 @@ pub fn report_logs<'a, F: Files>(
     alloc: Global,
     files: &mut F,
     logs: &'a [String],
-) -> Result<Bytes, EraStop<'a>>
+) -> Result<Bytes, EraFault<'a>>
     requires some { 1 ≤ length logs.now }
     requires few { length logs.now ≤ 64 }
     ensures said { IsTrue F.tells → Says (logs_reported (F.held files.old) (map string_bytes logs.now)) result }

@@ -1,14 +1,14 @@
 //! Why a run over logs of eras stops.
 
 ghost use Rattle.std.specs.Prelude.{◌≡◌};
-ghost use Rattle.hw_eras.specs.declared.stop.EraStop.TheVariants as EraStops;
+ghost use Rattle.hw_eras.specs.declared.stop.EraFault.TheVariants as EraFaults;
 
 use hw_replay::StartFault;
 use hw_types::OutOfMemory;
 
 /// Why a run over logs of eras stops. A text is the log's name.
 #[derive(Drop)]
-pub enum EraStop<'a> {
+pub enum EraFault<'a> {
     /// The era of this log isn't there.
     NoEra(&'a str),
     /// The replay of this log stopped.
@@ -17,10 +17,10 @@ pub enum EraStop<'a> {
     OutOfMemory,
 }
 
-impl From<OutOfMemory> for EraStop<'_> {
-    ghost from_gives = { λ _ stop. stop ≡ EraStops.OutOfMemory };
+impl From<OutOfMemory> for EraFault<'_> {
+    ghost from_gives = { λ _ stop. stop ≡ EraFaults.OutOfMemory };
 
     fn from(_error: OutOfMemory) -> Self {
-        EraStop::OutOfMemory
+        EraFault::OutOfMemory
     }
 }

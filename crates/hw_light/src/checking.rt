@@ -7,7 +7,7 @@ ghost use Rattle.hw_light.specs.Checked.{IsAnswer, IsBegun, IsCertified, IfYes, 
 use crate::answers::{CheckFault, Checked};
 use crate::certificate::Certificate;
 use crate::standing::stands;
-use hw_admit::StateError;
+use hw_admit::StateFault;
 use hw_core::Core;
 use hw_types::{Cause, Config, ConfigFault, Digest, OutOfMemory, Vertex};
 use std::alloc::Global;
@@ -54,8 +54,8 @@ fn begin(
             nodes.push(core)?;
             Ok(None)
         }
-        Err(StateError::Fault(fault)) => Ok(Some(fault)),
-        Err(StateError::OutOfMemory) => Err(OutOfMemory),
+        Err(StateFault::Fault(fault)) => Ok(Some(fault)),
+        Err(StateFault::OutOfMemory) => Err(OutOfMemory),
     }
 }
 

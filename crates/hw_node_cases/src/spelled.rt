@@ -3,7 +3,7 @@
 ghost use Rattle.std.specs.Prelude.{IfOk};
 ghost use Rattle.hw_types.specs.Spelling.{VertexFits};
 
-use hw_admit::StateError;
+use hw_admit::StateFault;
 use hw_case_words::{Answer, digest_of_byte};
 use hw_codec::{decode_config, decode_vertex};
 use hw_types::{CodecError, Config, Digest, Vertex};
@@ -40,10 +40,10 @@ pub fn put_error(answer: &mut Answer, error: CodecError) {
 }
 
 /// Puts the limit that a configuration breaks with which nothing begins.
-pub fn put_start(answer: &mut Answer, start: StateError) {
+pub fn put_start(answer: &mut Answer, start: StateFault) {
     match start {
-        StateError::Fault(fault) => answer.debug(&fault),
-        StateError::OutOfMemory => answer.refuse(),
+        StateFault::Fault(fault) => answer.debug(&fault),
+        StateFault::OutOfMemory => answer.refuse(),
     }
 }
 

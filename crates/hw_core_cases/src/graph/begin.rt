@@ -1,6 +1,6 @@
 //! A state to begin with.
 
-use hw_admit::{State, StateError};
+use hw_admit::{State, StateFault};
 use hw_case_words::{Answer, config_of};
 
 /// Begins a state with the configuration that the words tell. Where there is none, why.
@@ -11,7 +11,7 @@ pub fn weights(answer: &mut Answer, held: &mut Option<State>, words: &[&str]) {
             *held = Some(state);
             answer.put("began");
         }
-        Err(StateError::Fault(fault)) => answer.debug(&fault),
-        Err(StateError::OutOfMemory) => answer.refuse(),
+        Err(StateFault::Fault(fault)) => answer.debug(&fault),
+        Err(StateFault::OutOfMemory) => answer.refuse(),
     }
 }

@@ -8,7 +8,7 @@ use crate::journal::shown::show;
 use crate::journal::summits::{explain, starts, summit};
 use crate::journal::units::{evidence, unit};
 use crate::journal::wanted::{against, endorsers, unmet};
-use hw_admit::StateError;
+use hw_admit::StateFault;
 use hw_case_words::{Answer, config_of, digest_of_byte};
 use hw_codec::instance_of;
 use hw_core::Core;
@@ -44,11 +44,11 @@ fn began(answer: &mut Answer, nodes: &mut Vec<Node>, words: &[&str]) {
 fn began_in(answer: &mut Answer, nodes: &mut Vec<Node>, config: Config, instance: Digest) {
     match Core::new(answer.alloc(), config) {
         Ok(core) => begins(answer, nodes, core, instance),
-        Err(StateError::Fault(fault)) => {
+        Err(StateFault::Fault(fault)) => {
             answer.debug(&fault);
             answer.put("\n");
         }
-        Err(StateError::OutOfMemory) => answer.refuse(),
+        Err(StateFault::OutOfMemory) => answer.refuse(),
     }
 }
 

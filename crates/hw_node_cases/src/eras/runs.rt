@@ -2,7 +2,7 @@
 
 use hw_case_words::{Answer, number};
 use hw_doubles::MemFiles;
-use hw_eras::{EraStop, audit_logs, report_logs};
+use hw_eras::{EraFault, audit_logs, report_logs};
 use hw_log::LogError;
 use hw_replay::StartFault;
 use std::alloc::AllocError;
@@ -104,11 +104,11 @@ pub fn put_text(answer: &mut Answer, word: &str, number: u32, text: &[u8]) {
     }
 }
 
-fn put_stop(answer: &mut Answer, stop: EraStop<'_>) {
+fn put_stop(answer: &mut Answer, stop: EraFault<'_>) {
     match stop {
-        EraStop::NoEra(log) => put_input(answer, log, ": no era"),
-        EraStop::Stopped(log, fault) => put_fault(answer, log, fault),
-        EraStop::OutOfMemory => answer.refuse(),
+        EraFault::NoEra(log) => put_input(answer, log, ": no era"),
+        EraFault::Stopped(log, fault) => put_fault(answer, log, fault),
+        EraFault::OutOfMemory => answer.refuse(),
     }
 }
 

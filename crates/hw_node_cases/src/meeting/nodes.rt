@@ -1,7 +1,7 @@
 //! Nodes from words.
 
 use crate::spelled::{config_of, vertex_of};
-use hw_admit::StateError;
+use hw_admit::StateFault;
 use hw_case_words::Answer;
 use hw_core::Core;
 use hw_types::{CodecError, Config};
@@ -18,8 +18,8 @@ pub fn begin(answer: &mut Answer, nodes: &mut Vec<Core>, config: &str) {
 fn begin_with(answer: &mut Answer, nodes: &mut Vec<Core>, config: Config) {
     match Core::new(answer.alloc(), config) {
         Ok(core) => begun(answer, nodes, core),
-        Err(StateError::Fault(_)) => {}
-        Err(StateError::OutOfMemory) => answer.refuse(),
+        Err(StateFault::Fault(_)) => {}
+        Err(StateFault::OutOfMemory) => answer.refuse(),
     }
 }
 

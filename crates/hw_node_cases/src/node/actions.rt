@@ -4,7 +4,7 @@ ghost use Rattle.std.specs.Prelude.{◌≡◌, None, IsTrue, IfOk, length};
 ghost use Rattle.hw_types.specs.Limits.{config_fault};
 ghost use Rattle.hw_cluster.specs.Nodes.{ClusterState, nodes_in, CanAct};
 
-use hw_admit::StateError;
+use hw_admit::StateFault;
 use hw_case_words::{is_in_format, no_signature, number, small};
 use hw_cluster::{Acted, Action, Cluster};
 use hw_codec::instance_of;
@@ -28,8 +28,8 @@ pub fn acts(
     let config = config(alloc, records)?;
     match Cluster::new(alloc, config.copy()?, nodes as u32) {
         Ok(mut cluster) => acted(alloc, &mut cluster, &config, nodes, actions),
-        Err(StateError::Fault(fault)) => Ok(format!(in alloc; "{fault:?}")?),
-        Err(StateError::OutOfMemory) => Err(OutOfMemory),
+        Err(StateFault::Fault(fault)) => Ok(format!(in alloc; "{fault:?}")?),
+        Err(StateFault::OutOfMemory) => Err(OutOfMemory),
     }
 }
 
