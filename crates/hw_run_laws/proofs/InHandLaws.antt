@@ -66,8 +66,8 @@ plan_taken c me now value p (deliveries, is) planned room signature =
     let s = setting_of c.config in
     subst (λ (j : List Vertex). TakesOrHas s p signature j) (sym is)
     (plan_is_admitted s deliveries me now value p signature
-        (subst (λ (j : List Vertex). IsPlanned s j me now value p) is planned)
-        (subst (λ (j : List Vertex). length j < c.config.max_records) is room))
+    (subst (λ (j : List Vertex). IsPlanned s j me now value p) is planned)
+    (subst (λ (j : List Vertex). length j < c.config.max_records) is room))
 
 -- what the step over a core's state plans may be taken
 pub next_taken : {E : Type 0} (c : CoreState) (st : Admitted) (me now : ℕ) (value : List ℕ) (result : Result (Option Plan) E)
