@@ -30,3 +30,4 @@ pub mod DrivenLaws
 pub mod StopLaws
 pub mod TogetherLaws
 pub mod OneMeetLaws
+pub mod InHandLaws

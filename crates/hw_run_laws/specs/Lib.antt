@@ -1,6 +1,7 @@
 pub mod Calls
 pub mod Complete
 pub mod CutMembers
+pub mod InHand
 pub mod MeetMembers
 pub mod Members
 pub mod Prefixes

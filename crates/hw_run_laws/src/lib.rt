@@ -8,12 +8,20 @@
 //! A session that nothing outside disturbs, with a peer that sends what is due, ends as both said, or for want of
 //! memory.
 //!
+//! Each law whose premises are about nodes holds of nodes in hand: a call of these, with what it recalls of its node,
+//! leaves no premise that a caller hasn't.
+//!
 //! A run that comes to its report says itself that each consumer that is left took the whole decided chain. Of one that
 //! a fault, a clash or want of memory ends, and of a replay that stops, each took a prefix of it.
 #![tactic(auto)]
 
+mod in_hand;
 mod laws;
 
+pub use in_hand::{
+    a_make_keeps_one_line, a_new_node_is_ready, a_planned_unit_may_be_taken,
+    a_session_keeps_one_line, a_start_keeps_one_line, nodes_that_met_agree,
+};
 pub use laws::{
     a_cut_log_is_mended, calls_keep_one_line, cut_calls_leave_a_log, cut_runs_are_there,
     cut_runs_leave_prefixes, lives_are_there, meetings_are_there, sessions_are_lives,

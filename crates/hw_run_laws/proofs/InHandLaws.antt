@@ -1,0 +1,213 @@
+-- The laws of nodes in hand, by what public calls promise of them.
+use Rattle.std.specs.Prelude.{IfOk, IfSome}
+use Rattle.std.specs.List.{All}
+use Rattle.std.proofs.Common.{◌≡◌, ◌⊎◌, ℕ, ◌<◌, ◌≤◌, ◌^◌, Bool, List, [], ◌∷◌, ◌++◌, length, Option, Some, None, Result, Ok, Err, IsTrue, inl, inr, refl, sym, ap, subst, ◌∙◌, arith}
+use Rattle.hw_types.specs.declared.config.Config.{Config}
+use Rattle.hw_types.specs.declared.unit.Signature.{Signature}
+use Rattle.hw_types.specs.declared.unit.Vertex.{Vertex}
+use Rattle.hw_types.specs.declared.answers.Plan.{Plan}
+use Rattle.hw_types.specs.declared.answers.Receipt.TheVariants as receipt
+use Rattle.hw_types.specs.declared.answers.Cause.TheVariants as cause
+use Rattle.hw_types.specs.Below.{Among}
+use Rattle.hw_types.specs.Journal.{Setting, received_of}
+use Rattle.hw_types.specs.Limits.{config_fault}
+use Rattle.hw_types.specs.Real.{CoreState, setting_of}
+use Rattle.hw_types.specs.Spelling.{VertexFits}
+use Rattle.hw_types.specs.laws.StateLaws.{SaysTheSame, HasSameState}
+use Rattle.hw_types.proofs.LimitLaws.{within_limits}
+use Rattle.hw_io.specs.Files.{SameFiles, Appended, bytes_of}
+use Rattle.hw_codec.specs.Ranges.{VertexInRange}
+use Rattle.hw_log.specs.Log.{header_bytes}
+use Rattle.hw_link.specs.Told.{DoorTold}
+use Rattle.hw_admit.specs.State.{NodeState as Admitted}
+use Rattle.hw_core.specs.Deliver.{HasCome}
+use Rattle.hw_core.specs.Promises.{IsSound as IsSoundCore}
+use Rattle.hw_core.proofs.PromiseLaws.{deliveries_are, nodes_sound}
+use Rattle.hw_honest.specs.Plans.{IsPlanned, HasNamesake, delivered}
+use Rattle.hw_honest.proofs.NewLaws.{plan_is_admitted}
+use Rattle.hw_agree.specs.Converge.{UnitsClash}
+use Rattle.hw_validator.specs.Step.{step_of}
+use Rattle.hw_validator.specs.Laws.{IsStateOf}
+use Rattle.hw_validator.proofs.JournalLaws.{step_is}
+use Rattle.hw_link.specs.declared.end.SessionEnd.{SessionEnd}
+use Rattle.hw_replay.specs.declared.fault.StartFault.{StartFault}
+use Rattle.hw_replay.specs.Ends.{IsReached}
+use Rattle.hw_session.specs.declared.fault.MakeFault.{MakeFault}
+use Rattle.hw_session.specs.Make.{planned_by, Makes, WritesOwn}
+use Rattle.hw_session.specs.Node.{NodeState, IsSound, new_node}
+use Rattle.hw_session.specs.Restart.{journal_log}
+use Rattle.hw_session.specs.Sessions.{Serves, ServesPeer, ServesNone}
+use Rattle.hw_session.specs.Standing.{Standing, standing}
+use Rattle.hw_session.specs.Start.{GoesOn, Starts, StartsLog}
+use Rattle.hw_meeting.specs.Frames.{MeetingInRange}
+use Rattle.hw_meeting_node.specs.declared.end.MeetEnd.{MeetEnd}
+use Rattle.hw_meeting_node.specs.declared.end.MeetEnd.TheVariants as met_end
+use Rattle.hw_meeting_node.specs.declared.meeter.Side.TheVariants.{Caller, Host}
+use Rattle.hw_meeting_node.specs.Meeting.{met}
+use Rattle.hw_meeting_node.specs.Sessions.{Meets, CallsPeer, HostsPeer, MeetsNone}
+use Rattle.hw_meeting_node.specs.Laws.{node_of, HaveMet}
+use Rattle.hw_meeting_node.proofs.ConvergeLaws.{by_bytes, converge, states}
+use Rattle.hw_meeting_node.proofs.RangeLaws.{said_in_range}
+use Rattle.hw_run_laws.specs.Calls.{makes, serves, IsMade, StartsAgain, Call, goes_on, starts, IsReady}
+use Rattle.hw_run_laws.specs.Restart.{IsLogged}
+use Rattle.hw_run_laws.specs.InHand.{MayTake, KeepsLine, IsFairTold, AreCrossed, Agree, AreDone}
+use Rattle.hw_run_laws.proofs.BeginLaws.{new_ready}
+use Rattle.hw_run_laws.proofs.CallLaws.{calls_keep, calls_apart}
+
+-- ---- a planned unit
+
+abbrev TakesOrHas : Setting → Plan → Signature → List Vertex → Type 0
+TakesOrHas s p signature journal =
+    ((n : ℕ) × (1 ≤ n) × (delivered s journal p signature ≡ Ok (receipt.Admitted n)))
+    ⊎ (HasNamesake s journal p × (delivered s journal p signature ≡ Err (cause.Clash (s.name p.unit))))
+
+plan_taken : (c : CoreState) (me now : ℕ) (value : List ℕ) (p : Plan) → HasCome c.config c.journal → IsPlanned (setting_of c.config) c.journal me now value p → MayTake c p
+plan_taken c me now value p (deliveries, is) planned room signature =
+    let s = setting_of c.config in
+    subst (λ (j : List Vertex). TakesOrHas s p signature j) (sym is)
+    (plan_is_admitted s deliveries me now value p signature
+    (subst (λ (j : List Vertex). IsPlanned s j me now value p) is planned)
+    (subst (λ (j : List Vertex). length j < c.config.max_records) is room))
+
+-- what the step over a core's state plans may be taken
+pub next_taken : {E : Type 0} (c : CoreState) (st : Admitted) (me now : ℕ) (value : List ℕ) (result : Result (Option Plan) E)
+    → HasCome c.config c.journal → config_fault c.config ≡ None → IsStateOf c st → me < length c.config.weights
+    → IfOk result (λ plan. plan ≡ step_of st me now value) → IfOk result (λ plan. IfSome plan (MayTake c))
+next_taken c st me now value (Ok (Some p)) come lawful of validator is =
+    plan_taken c me now value p come (record { sound = lawful; validator = validator; is = sym (step_is c st me now value of) ∙ sym is })
+next_taken c st me now value (Ok None) come lawful of validator is = tt
+next_taken c st me now value (Err e) come lawful of validator is = tt
+
+-- ---- calls
+
+call_keeps : (me : ℕ) (a b : Standing) → me < length a.node.core.config.weights → IsSound a.node → IsSound b.node → IsReady me a → Call me a b → KeepsLine me a b
+call_keeps me a b validator sound sound_behind ready call = record {
+  ready = calls_keep me a (b ∷ []) validator sound ready (call, sound_behind, tt) b (inl refl);
+  apart = calls_apart me a (b ∷ []) validator sound ready (call, sound_behind, tt);
+}
+
+-- a `make`
+pub make_keeps : (me now : ℕ) (value : List ℕ) (a b : Standing) (result : Result (Option Plan) MakeFault) → me < length a.node.core.config.weights → IsSound a.node → IsSound b.node
+    → Makes a.node (planned_by a.node me now value) b.node result → WritesOwn a.node (planned_by a.node me now value) b.node a.held b.held result → IsReady me a → IsMade result → KeepsLine me a b
+make_keeps me now value a b result validator sound sound_behind does wrote ready made =
+    call_keeps me a b validator sound sound_behind ready (goes_on (makes now value result does wrote) made)
+
+-- a session
+pub serve_keeps : (me : ℕ) (a b : Standing) (tells : Bool) (old new : DoorTold) (e : SessionEnd) → me < length a.node.core.config.weights → IsSound a.node → IsSound b.node
+    → ServesPeer tells a b old new e ⊎ ServesNone tells a b old.sessions new.sessions e → IsTrue tells → IsReady me a → IsFairTold me a.node old.sessions new.sessions e → IsLogged e → KeepsLine me a b
+serve_keeps me a b tells old new e validator sound sound_behind (inl peer) telling ready fair logged =
+    let does = subst (λ (t : Bool). Serves t a peer.read peer.written b old.ends new.ends e) telling peer.serves in
+    call_keeps me a b validator sound sound_behind ready (goes_on (serves peer.read peer.written old.ends new.ends e does (fair peer.read peer.written peer.told)) logged)
+serve_keeps me a b tells old new e validator sound sound_behind (inr none) telling ready fair logged = absurd (subst (λ (x : SessionEnd). IsLogged x) none.ended logged)
+
+-- a start
+pub start_keeps : (me : ℕ) (n m : NodeState) (config : Config) (keys : List (List ℕ)) (name : List ℕ) (old new : List ℕ → Option (List ℕ))
+    → me < length n.core.config.weights → IsSound n → IsSound m → config ≡ n.core.config → keys ≡ n.keys → name ≡ n.log
+    → Starts config keys name (old name) (Ok m) → StartsLog config name old new (old name) (Ok m) → IsReady me (standing n old) → KeepsLine me (standing n old) (standing m new)
+start_keeps me n m config keys name old new validator sound sound_behind config_is keys_are name_is said wrote ready =
+    let bytes = journal_log ready.log.version n.core.config n.core.journal in
+    let by_config = subst (λ (k : Config). Starts k keys name (old name) (Ok m)) config_is said in
+    let by_keys = subst (λ (ks : List (List ℕ)). Starts n.core.config ks name (old name) (Ok m)) keys_are by_config in
+    let by_name = subst (λ (x : List ℕ). Starts n.core.config n.keys x (old x) (Ok m)) name_is by_keys in
+    let on : GoesOn n.core.config n.keys n.log bytes m = subst (λ (file : Option (List ℕ)). Starts n.core.config n.keys n.log file (Ok m)) ready.log.holds by_name in
+    let by_log = subst (λ (x : List ℕ). StartsLog config x old new (old x) (Ok m)) name_is wrote in
+    let same : SameFiles old new = subst (λ (file : Option (List ℕ)). StartsLog config n.log old new file (Ok m)) ready.log.holds by_log in
+    let again : StartsAgain (standing n old) (standing m new) = record {
+      bytes = bytes;
+      from = inl ready.log.holds;
+      there = same m.log ∙ ap old on.log_is ∙ ready.log.holds;
+      on = subst (λ (x : List ℕ). GoesOn n.core.config n.keys x bytes m) (sym on.log_is) on;
+    } in
+    call_keeps me (standing n old) (standing m new) validator sound sound_behind ready (starts again)
+
+-- a beginning
+pub begin_ready : (me : ℕ) (config : Config) (keys : List (List ℕ)) (name : List ℕ) (old new : List ℕ → Option (List ℕ)) (m : NodeState)
+    → m ≡ new_node config keys name → IsSound m → Appended {E = StartFault} old new name (header_bytes 2 config) (Ok m) → old name ≡ None → IsReady me (standing m new)
+begin_ready me config keys name old new m is sound wrote none =
+    let new_sound : IsSound (new_node config keys name) = subst (λ (n : NodeState). IsSound n) is sound in
+    let there : new name ≡ Some (header_bytes 2 config) = wrote.whole ∙ ap (λ (file : Option (List ℕ)). Some (bytes_of file ++ header_bytes 2 config)) none in
+    subst (λ (n : NodeState). IsReady me (standing n new)) (sym is) (new_ready config keys name new me new_sound.kept.lawful new_sound.config new_sound.kept.keys there).1
+
+-- ---- two nodes that met
+
+-- what holds of a core in hand
+pub record IsHeld (c : CoreState) : Type 0 where
+  pub reached : IsReached c
+  pub lawful : config_fault c.config ≡ None
+  pub vertices : All VertexInRange c.journal
+
+node_is : (c : CoreState) (r : IsReached c) → c ≡ node_of c.config r.deliveries
+node_is c r = r.made ∙ (deliveries_are c.config r.deliveries).0
+
+short : (c : CoreState) → IsHeld c → length c.journal < 2 ^ 64
+short c held =
+    let sound = subst (λ (k : CoreState). IsSoundCore k) (sym held.reached.made) (nodes_sound c.config held.reached.deliveries) in
+    let records = sound.records in
+    let most = (within_limits c.config held.lawful).records.1 in
+    omega arith
+
+module _ (address : List ℕ) (c d : CoreState) (config : c.config ≡ d.config) (left : IsHeld c) (right : IsHeld d) (judge_left judge_right : Vertex → Bool) (one other : CoreState) (one_config : one.config ≡ c.config) where
+  module _ (caller_old caller_new host_old host_new : DoorTold) (l : CallsPeer address c judge_left one caller_old caller_new (met_end.Done 0)) (r : HostsPeer d judge_right other host_old host_new (met_end.Done 0))
+      (crossed : AreCrossed address caller_old.sessions caller_new.sessions host_old.sessions host_new.sessions) where
+    abbrev caller : CoreState
+    caller = node_of c.config left.reached.deliveries
+
+    abbrev host : CoreState
+    host = node_of c.config right.reached.deliveries
+
+    c_is : c ≡ caller
+    c_is = node_is c left.reached
+
+    d_is : d ≡ host
+    d_is = subst (λ (k : Config). d ≡ node_of k right.reached.deliveries) (sym config) (node_is d right.reached)
+
+    each_read : (l.read ≡ r.written) × (r.read ≡ l.written)
+    each_read = crossed l.read l.written r.read r.written l.told r.told
+
+    left_met : Meets Caller caller judge_left l.read r.read one caller_old.ends caller_new.ends (met_end.Done 0)
+    left_met = subst (λ (written : List ℕ). Meets Caller caller judge_left l.read written one caller_old.ends caller_new.ends (met_end.Done 0)) (sym each_read.1)
+        (subst (λ (k : CoreState). Meets Caller k judge_left l.read l.written one caller_old.ends caller_new.ends (met_end.Done 0)) c_is l.meets)
+
+    right_met : Meets Host host judge_right r.read l.read other host_old.ends host_new.ends (met_end.Done 0)
+    right_met = subst (λ (written : List ℕ). Meets Host host judge_right r.read written other host_old.ends host_new.ends (met_end.Done 0)) (sym each_read.0)
+        (subst (λ (k : CoreState). Meets Host k judge_right r.read r.written other host_old.ends host_new.ends (met_end.Done 0)) d_is r.meets)
+
+    have_met : HaveMet c.config left.reached.deliveries right.reached.deliveries judge_left judge_right one other
+    have_met = record {
+      read_left = l.read;
+      read_right = r.read;
+      ends_left = (caller_old.ends, caller_new.ends);
+      ends_right = (host_old.ends, host_new.ends);
+      left_met = left_met;
+      right_met = right_met;
+      lawful = left.lawful;
+      left_fit = λ v m. left.reached.fit v (subst (λ (k : CoreState). Among v k.journal) (sym c_is) m);
+      right_fit = λ v m. right.reached.fit v (subst (λ (k : CoreState). Among v k.journal) (sym d_is) m);
+      left_in_range = said_in_range Caller caller judge_left l.read left.lawful (subst (λ (k : CoreState). length k.journal < 2 ^ 64) c_is (short c left)) (subst (λ (k : CoreState). All VertexInRange k.journal) c_is left.vertices)
+          (by_bytes (met Caller caller judge_left l.read) left_met.ended).0;
+      right_in_range = said_in_range Host host judge_right r.read left.lawful (subst (λ (k : CoreState). length k.journal < 2 ^ 64) d_is (short d right)) (subst (λ (k : CoreState). All VertexInRange k.journal) d_is right.vertices)
+          (by_bytes (met Host host judge_right r.read) right_met.ended).0;
+    }
+
+    both_agree : Agree one other
+    both_agree = record {
+      same = subst (λ (k : Config). SaysTheSame (setting_of k) one.journal other.journal ⊎ UnitsClash (setting_of k) one.journal other.journal) (sym one_config)
+          (converge c.config left.reached.deliveries right.reached.deliveries judge_left judge_right one other have_met);
+      state = subst (λ (k : Config). HasSameState k (received_of (setting_of k) one.journal) (received_of (setting_of k) other.journal) ⊎ UnitsClash (setting_of k) one.journal other.journal) (sym one_config)
+          (states c.config left.reached.deliveries right.reached.deliveries judge_left judge_right one other have_met);
+    }
+
+  no_memory : (e : MeetEnd) → e ≡ met_end.OutOfMemory → e ≡ met_end.Done 0 → ⊥
+  no_memory e is also = let both : met_end.OutOfMemory ≡ met_end.Done 0 = sym is ∙ also in cc
+
+  pub met_agree : (caller_old caller_new host_old host_new : DoorTold) (e f : MeetEnd)
+      → CallsPeer address c judge_left one caller_old caller_new e ⊎ MeetsNone c one caller_old.sessions caller_new.sessions e
+      → HostsPeer d judge_right other host_old host_new f ⊎ MeetsNone d other host_old.sessions host_new.sessions f
+      → AreDone e f → AreCrossed address caller_old.sessions caller_new.sessions host_old.sessions host_new.sessions → Agree one other
+  met_agree caller_old caller_new host_old host_new e f (inl l) (inl r) ends crossed =
+      both_agree caller_old caller_new host_old host_new
+      (subst (λ (x : MeetEnd). CallsPeer address c judge_left one caller_old caller_new x) ends.0 l)
+      (subst (λ (x : MeetEnd). HostsPeer d judge_right other host_old host_new x) ends.1 r)
+      crossed
+  met_agree caller_old caller_new host_old host_new e f (inl l) (inr none) ends crossed = absurd (no_memory f none.ended ends.1)
+  met_agree caller_old caller_new host_old host_new e f (inr none) r ends crossed = absurd (no_memory e none.ended ends.0)
