@@ -21,5 +21,5 @@ mod verdict;
 
 pub use hw_safety::Verdict;
 pub use hw_types::Culprit;
-pub use nodes::{AuditFault, audit};
+pub use nodes::{AuditError, audit};
 pub use text::audit_text;

@@ -4,7 +4,7 @@ ghost use Rattle.std.specs.Prelude.{◌≡◌, ◌≢◌, ◌↔◌, ◌++◌, L
 ghost use Rattle.hw_types.specs.{declared.answers.Decision.{Decision}, Real.{setting_of}};
 ghost use Rattle.hw_safety.specs.Verdicts.{chain_of};
 ghost use Rattle.hw_audit.specs.{Read.{units_of, IsAnswer}, First.{ShowsFirstClash}, Audit.{IsVerdictOn, IsWeighty}};
-ghost use Rattle.hw_audit.specs.declared.nodes.AuditFault.TheVariants as AuditFaults;
+ghost use Rattle.hw_audit.specs.declared.nodes.AuditError.TheVariants as AuditErrors;
 ghost use Rattle.hw_core.specs.Decided.{decided_in};
 
 use crate::held::{Held, put_units};
@@ -17,18 +17,18 @@ use std::alloc::Global;
 
 /// Why there is no verdict on two nodes.
 #[derive(Clone, Copy, Debug, PartialEq, Eq)]
-pub enum AuditFault {
+pub enum AuditError {
     /// They are of different configurations.
     Instances,
     /// There was no memory.
     OutOfMemory,
 }
 
-impl From<OutOfMemory> for AuditFault {
-    ghost from_gives = { λ _ e. e ≡ AuditFaults.OutOfMemory };
+impl From<OutOfMemory> for AuditError {
+    ghost from_gives = { λ _ e. e ≡ AuditErrors.OutOfMemory };
 
-    fn from(_e: OutOfMemory) -> AuditFault {
-        AuditFault::OutOfMemory
+    fn from(_e: OutOfMemory) -> AuditError {
+        AuditError::OutOfMemory
     }
 }
 
@@ -40,8 +40,8 @@ impl From<OutOfMemory> for AuditFault {
 /// more than the threshold.
 ///
 /// Instances is answered exactly where the configurations differ.
-pub fn audit(alloc: Global, left: &Core, right: &Core) -> Result<Verdict, AuditFault>
-    ensures instances { (left.now.config ≢ right.now.config) ↔ (result ≡ Err AuditFaults.Instances) }
+pub fn audit(alloc: Global, left: &Core, right: &Core) -> Result<Verdict, AuditError>
+    ensures instances { (left.now.config ≢ right.now.config) ↔ (result ≡ Err AuditErrors.Instances) }
     // What is answered otherwise is the verdict on the two, and a clash that is shown is the first one.
     ensures verdict { IfOk result (λ verdict. IsVerdictOn left.now right.now verdict) }
     ensures first { IfOk result (λ verdict. ShowsFirstClash (setting_of left.now.config) left.now.journal right.now.journal verdict) }
@@ -50,7 +50,7 @@ pub fn audit(alloc: Global, left: &Core, right: &Core) -> Result<Verdict, AuditF
     ensures accountable { IfOk result (λ verdict. IsWeighty left.now.config.ftt verdict) }
 {
     if !is_same_config(left.state().config(), right.state().config()) {
-        return Err(AuditFault::Instances);
+        return Err(AuditError::Instances);
     }
     let left_chain = blocks(alloc, left)?;
     let right_chain = blocks(alloc, right)?;

@@ -5,7 +5,7 @@ ghost use Rattle.hw_c.specs.{Audits.{audited_of, IsAudit, IsAuditPut}, Told.{sta
 
 use crate::codes::{Fault, OK, status_of};
 use crate::put::copy_bytes;
-use hw_audit::{AuditFault, Verdict, audit, audit_text};
+use hw_audit::{AuditError, Verdict, audit, audit_text};
 use hw_core::Core;
 use hw_types::Bytes;
 use std::alloc::Global;
@@ -71,8 +71,8 @@ pub fn audit_of(alloc: Global, left: &Core, right: &Core) -> Result<AuditText, F
 {
     let verdict = match audit(alloc, left, right) {
         Ok(verdict) => verdict,
-        Err(AuditFault::Instances) => return Err(Fault::OtherInstance),
-        Err(AuditFault::OutOfMemory) => return Err(Fault::OutOfMemory),
+        Err(AuditError::Instances) => return Err(Fault::OtherInstance),
+        Err(AuditError::OutOfMemory) => return Err(Fault::OutOfMemory),
     };
     let text = audit_text(alloc, &verdict, left.state().config())?;
     let audited = audited_of(&verdict, text.len() as u64);

@@ -18,7 +18,7 @@ ghost use Rattle.hw_light.specs.Checked.{IsCertified};
 
 use crate::ended::{CLASH, CONFLICT, DONE, Ended, Ending};
 use crate::faults::{other_config, stopped};
-use hw_audit::{AuditFault, Verdict, audit, audit_text};
+use hw_audit::{AuditError, Verdict, audit, audit_text};
 use hw_codec::config_is_in_range;
 use hw_core::Core;
 use hw_io::Files;
@@ -150,8 +150,8 @@ fn audited(alloc: Global, left: &Core, right: &Core, name: &str) -> Result<Ended
     config_is_in_range(right.state().config());
     match audit(alloc, left, right) {
         Ok(verdict) => verdict_ended(alloc, &verdict, left.state().config()),
-        Err(AuditFault::Instances) => other_config(alloc, name),
-        Err(AuditFault::OutOfMemory) => Err(OutOfMemory),
+        Err(AuditError::Instances) => other_config(alloc, name),
+        Err(AuditError::OutOfMemory) => Err(OutOfMemory),
     }
 }
 

@@ -19,7 +19,7 @@ use crate::faults::{bad_input, bad_keys, bytes_of};
 use crate::texts::Wrong;
 use hw_core::Core;
 use hw_io::Files;
-use hw_keys::{Keys, KeysError};
+use hw_keys::{Keys, KeysFault};
 use hw_light::{
     CertError, Certificate, CheckFault, Checked, check_by_keys, checked_text, decode_certificate,
     put_fault, read_keys,
@@ -180,8 +180,8 @@ fn keys_told(
 {
     match read_keys(alloc, text, validators) {
         Ok(keys) => Ok(Ok(keys)),
-        Err(KeysError::At(place)) => Ok(Err(bad_keys(alloc, name, place)?)),
-        Err(KeysError::OutOfMemory) => Err(RunFault::OutOfMemory),
+        Err(KeysFault::At(place)) => Ok(Err(bad_keys(alloc, name, place)?)),
+        Err(KeysFault::OutOfMemory) => Err(RunFault::OutOfMemory),
     }
 }
 

@@ -20,8 +20,8 @@ use Rattle.hw_safety.proofs.DecidedChainLaws.{heights}
 use Rattle.hw_safety.proofs.StoodLaws.{record_in, record_height}
 use Rattle.hw_audit.specs.Audit.{IsVerdictOn}
 use Rattle.hw_audit.specs.First.{ShowsFirstClash}
-use Rattle.hw_audit.specs.declared.nodes.AuditFault.{AuditFault}
-use Rattle.hw_audit.specs.declared.nodes.AuditFault.TheVariants as fault_of
+use Rattle.hw_audit.specs.declared.nodes.AuditError.{AuditError}
+use Rattle.hw_audit.specs.declared.nodes.AuditError.TheVariants as fault_of
 use Rattle.hw_core.specs.Decided.{decided_in}
 use Rattle.hw_eras.specs.declared.verdict.EraVerdict.{EraVerdict}
 use Rattle.hw_eras.specs.declared.verdict.EraVerdict.TheVariants as eras
@@ -231,7 +231,7 @@ is_short c d (verdict.Agree common) few is =
 is_short c d (verdict.Conflict height a b culprits weight) few is = tt
 is_short c d (verdict.Clash a b) few is = tt
 
-pub answers_short : (c d : CoreState) (r : Result Verdict AuditFault) → length (settled_in c) < 2 ^ 32 → IfOk r (λ v. IsVerdictOn c d v) → IfOk r IsShort
+pub answers_short : (c d : CoreState) (r : Result Verdict AuditError) → length (settled_in c) < 2 ^ 32 → IfOk r (λ v. IsVerdictOn c d v) → IfOk r IsShort
 answers_short c d (Ok v) few is = is_short c d v few is
 answers_short c d (Err e) few is = tt
 
@@ -256,10 +256,10 @@ shorter m n k le = elim (cases_lt k m) [
 ]
 
 -- no verdict on one era, and on all
-abbrev unsaid : AuditFault → Result Verdict AuditFault
+abbrev unsaid : AuditError → Result Verdict AuditError
 unsaid fault = Err fault
 
-abbrev unsaid_of_all : AuditFault → Result EraVerdict AuditFault
+abbrev unsaid_of_all : AuditError → Result EraVerdict AuditError
 unsaid_of_all fault = Err fault
 
 module _ (cs ds : List CoreState) (left : AreNodeEras cs) (right : AreNodeEras ds) (era common : ℕ) (so_far : Audited cs ds era common)
@@ -273,7 +273,7 @@ module _ (cs ds : List CoreState) (left : AreNodeEras cs) (right : AreNodeEras d
       go (suc n) e f known = known (omega arith)
 
   -- no verdict: the configurations of era 0 differ, or there was no memory
-  pub fault_is : (fault : AuditFault) → (c.config ≢ d.config) ↔ (unsaid fault ≡ unsaid fault_of.Instances) → AreOfDifferent cs ds ↔ (unsaid_of_all fault ≡ unsaid_of_all fault_of.Instances)
+  pub fault_is : (fault : AuditError) → (c.config ≢ d.config) ↔ (unsaid fault ≡ unsaid fault_of.Instances) → AreOfDifferent cs ds ↔ (unsaid_of_all fault ≡ unsaid_of_all fault_of.Instances)
   fault_is fault instances = (
     λ differ. (let bad = instances.0 (λ same. differ (first_known same)) in let is : fault ≡ fault_of.Instances = cc in ap unsaid_of_all is),
     λ e. λ first. (let is : fault ≡ fault_of.Instances = cc in instances.1 (ap unsaid is) (one_config cs ds left right first era common so_far.agreed c d i j)),

@@ -7,11 +7,11 @@
 ghost use Rattle.std.specs.Prelude.{◌≡◌, ◌≢◌, ◌↔◌, Err, IfOk};
 ghost use Rattle.hw_types.specs.Real.{setting_of};
 ghost use Rattle.hw_audit.specs.{Audit.{IsVerdictOn}, First.{ShowsFirstClash}};
-ghost use Rattle.hw_audit.specs.declared.nodes.AuditFault.TheVariants as AuditFaults;
+ghost use Rattle.hw_audit.specs.declared.nodes.AuditError.TheVariants as AuditErrors;
 ghost use Rattle.hw_eras.specs.EraAudit.{AreOfDifferent, IsVerdictOnEras, IsVerdictByEras, IsAccounted, IsShort};
 
 use crate::{EraVerdict, Eras};
-use hw_audit::{AuditFault, Verdict, audit};
+use hw_audit::{AuditError, Verdict, audit};
 use hw_core::Core;
 use std::alloc::Global;
 
@@ -21,8 +21,8 @@ use std::alloc::Global;
 /// so many blocks of all eras that both have.
 ///
 /// Instances is answered exactly where the configurations of era 0 differ.
-pub fn audit_eras(alloc: Global, left: &Eras, right: &Eras) -> Result<EraVerdict, AuditFault>
-    ensures instances { AreOfDifferent left.now right.now ↔ (result ≡ Err AuditFaults.Instances) }
+pub fn audit_eras(alloc: Global, left: &Eras, right: &Eras) -> Result<EraVerdict, AuditError>
+    ensures instances { AreOfDifferent left.now right.now ↔ (result ≡ Err AuditErrors.Instances) }
     ensures verdict { IfOk result (IsVerdictOnEras left.now right.now) }
     ensures by_eras { IfOk result (IsVerdictByEras left.now right.now) }
 
@@ -45,8 +45,8 @@ pub fn audit_eras(alloc: Global, left: &Eras, right: &Eras) -> Result<EraVerdict
 }
 
 /// The verdict on one era. There are no more blocks than a node may have units.
-fn audit_era(alloc: Global, left: &Core, right: &Core) -> Result<Verdict, AuditFault>
-    ensures instances { (left.now.config ≢ right.now.config) ↔ (result ≡ Err AuditFaults.Instances) }
+fn audit_era(alloc: Global, left: &Core, right: &Core) -> Result<Verdict, AuditError>
+    ensures instances { (left.now.config ≢ right.now.config) ↔ (result ≡ Err AuditErrors.Instances) }
     ensures verdict { IfOk result (λ verdict. IsVerdictOn left.now right.now verdict) }
     ensures first { IfOk result (λ verdict. ShowsFirstClash (setting_of left.now.config) left.now.journal right.now.journal verdict) }
     ensures short { IfOk result IsShort }

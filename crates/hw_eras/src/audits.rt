@@ -11,7 +11,7 @@ ghost use Rattle.hw_eras.specs.Turns.{HasTurnIn, StopsAt};
 use crate::filled::Filled;
 use crate::reports::put_era;
 use crate::stop::EraFault;
-use crate::{AuditFault, EraVerdict, Eras, audit_eras};
+use crate::{AuditError, EraVerdict, Eras, audit_eras};
 use hw_audit::{Verdict, audit_text};
 use hw_core::Core;
 use hw_io::Files;
@@ -90,9 +90,9 @@ fn audited(alloc: Global, left: &Eras, right: &Eras) -> Result<EraAudit, OutOfMe
     match audit_eras(alloc, left, right) {
         Ok(EraVerdict::Agree { common }) => agreed(alloc, common),
         Ok(EraVerdict::At { era, verdict }) => differing(alloc, left, era, &verdict),
-        Err(AuditFault::OutOfMemory) => Err(OutOfMemory),
+        Err(AuditError::OutOfMemory) => Err(OutOfMemory),
         // They begin with one configuration.
-        Err(AuditFault::Instances) => unreachable!(),
+        Err(AuditError::Instances) => unreachable!(),
     }
 }
 

@@ -5,8 +5,8 @@ use Rattle.std.specs.List.{All, flat_map}
 use Rattle.hex.specs.Hex.{encode_lower}
 use Rattle.hw_text.specs.Digits.{is_lower_digit}
 use Rattle.hw_codec.specs.Ranges.{AreBytesOf}
-use Rattle.hw_keys.specs.declared.fault.KeysError.{KeysError}
-use Rattle.hw_keys.specs.declared.fault.KeysError.TheVariants.{At, OutOfMemory}
+use Rattle.hw_keys.specs.declared.fault.KeysFault.{KeysFault}
+use Rattle.hw_keys.specs.declared.fault.KeysFault.TheVariants.{At, OutOfMemory}
 
 -- the line of a key: its hexadecimal digits in lower case, two for each byte, and a line feed
 abbrev pub key_line : List ℕ → List ℕ
@@ -47,6 +47,6 @@ pub record HasNoFault (validators : ℕ) (text : List ℕ) : Type 0 where
   pub size : length text ≡ 65 * validators
 
 -- a fault is the first place that is wrong, unless memory ran out
-abbrev pub IsFaultOf : ℕ → List ℕ → KeysError → Type 0
+abbrev pub IsFaultOf : ℕ → List ℕ → KeysFault → Type 0
 IsFaultOf validators text (At place) = IsFirstFault validators text place
 IsFaultOf validators text OutOfMemory = Unit {0}

@@ -6,7 +6,7 @@ ghost use Rattle.hw_types.specs.Spelling.{Fits, VertexFits, digest_of};
 ghost use Rattle.hw_types.specs.declared.unit.Vertex.TheVariants as vertex;
 ghost use Rattle.hw_keys.specs.{Keys.{IsTextOf, IsFaultOf, HasNoFault}, Signed.{unit_signature, endorsement_signature, endorsed_digest, is_signed, is_endorsed, verdict_of}};
 
-use crate::fault::KeysError;
+use crate::fault::KeysFault;
 use crate::text::{DIGITS, LINE, first_fault, key_of};
 use hw_codec::digest_of;
 use hw_types::{Digest, Endorsement, OutOfMemory, Signature, SignedUnit, Vertex};
@@ -34,18 +34,18 @@ impl Keys {
     /// The text has a line for each key, 64 hexadecimal digits in lower case and a line feed, and
     /// nothing else. `At` answers the place of the first byte that can't stand where it stands, or
     /// the length of a text that is too short.
-    pub fn read(alloc: Global, text: &[u8], validators: u32) -> Result<Keys, KeysError>
+    pub fn read(alloc: Global, text: &[u8], validators: u32) -> Result<Keys, KeysFault>
         // What is read is told so, every byte of the text.
         ensures ok { IfOk result (IsTextOf validators text.now) }
 
         // What is told so is read, unless memory runs out.
-        ensures read { (keys : List (List ℕ)) → IsTextOf validators text.now keys → (result ≡ Ok keys) ⊎ (result ≡ Err KeysError.OutOfMemory) }
+        ensures read { (keys : List (List ℕ)) → IsTextOf validators text.now keys → (result ≡ Ok keys) ⊎ (result ≡ Err KeysFault.OutOfMemory) }
 
         // The place is the first one that is wrong.
         ensures at { IfErr result (IsFaultOf validators text.now) }
     {
         match first_fault(validators, text) {
-            Some(place) => Err(KeysError::At(place as u64)),
+            Some(place) => Err(KeysFault::At(place as u64)),
             None => Ok(Keys::in_lines(alloc, text, validators)?),
         }
     }

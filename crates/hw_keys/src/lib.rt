@@ -10,5 +10,5 @@ mod fault;
 mod keys;
 mod text;
 
-pub use fault::KeysError;
+pub use fault::KeysFault;
 pub use keys::Keys;

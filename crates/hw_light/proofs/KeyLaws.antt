@@ -11,8 +11,8 @@ use Rattle.hex.specs.Hex.{decode_of, encode_lower, IsBytes}
 use Rattle.hex.specs.declared.error.FromHexError.{FromHexError}
 use Rattle.hex.proofs.HexLemmas.{decode_of-encode_lower}
 use Rattle.hw_codec.specs.Ranges.{AreBytesOf}
-use Rattle.hw_keys.specs.declared.fault.KeysError.{KeysError}
-use Rattle.hw_keys.specs.declared.fault.KeysError.TheVariants.{At, OutOfMemory}
+use Rattle.hw_keys.specs.declared.fault.KeysFault.{KeysFault}
+use Rattle.hw_keys.specs.declared.fault.KeysFault.TheVariants.{At, OutOfMemory}
 use Rattle.hw_keys.specs.Keys.{key_line, keys_text, may_stand, IsTextOf, IsFirstFault, IsFaultOf}
 use Rattle.hw_keys.proofs.LineLaws.{digits_size, line_size}
 use Rattle.hw_keys.proofs.TextLaws.{text_has_no_fault}
@@ -81,7 +81,7 @@ module _ (n : ℕ) (text : List ℕ) where
         ∙ ap (λ (k : ℕ). Err k) (sym short.0)
   ]
 
-pub reads_keys : (n : ℕ) (text : List ℕ) (r : Result (List (List ℕ)) KeysError) → Rattle.std.specs.Prelude.IfOk r (IsTextOf n text) → Rattle.std.specs.Prelude.IfErr r (IsFaultOf n text) → ReadsKeys n text r
+pub reads_keys : (n : ℕ) (text : List ℕ) (r : Result (List (List ℕ)) KeysFault) → Rattle.std.specs.Prelude.IfOk r (IsTextOf n text) → Rattle.std.specs.Prelude.IfErr r (IsFaultOf n text) → ReadsKeys n text r
 reads_keys n text (Ok keys) ok err = keys_read n text keys ok
 reads_keys n text (Err (At place)) ok err = place_read n text place err
 reads_keys n text (Err OutOfMemory) ok err = tt

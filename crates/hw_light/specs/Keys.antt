@@ -5,8 +5,8 @@ use Rattle.std.specs.List.{range_with_len}
 use Rattle.std.specs.Option.{option_or}
 use Rattle.std.specs.Result.{result_unwrap_or}
 use Rattle.hex.specs.Hex.{decode_of}
-use Rattle.hw_keys.specs.declared.fault.KeysError.{KeysError}
-use Rattle.hw_keys.specs.declared.fault.KeysError.TheVariants.{At, OutOfMemory}
+use Rattle.hw_keys.specs.declared.fault.KeysFault.{KeysFault}
+use Rattle.hw_keys.specs.declared.fault.KeysFault.TheVariants.{At, OutOfMemory}
 use Rattle.hw_keys.specs.Keys.{may_stand}
 
 -- the first byte that may not stand where it does
@@ -27,7 +27,7 @@ unfoldable pub keys_of : ℕ → List ℕ → Result (List (List ℕ)) ℕ
 keys_of validators text = elim (option_or (wrong_byte validators text) (short_end validators text)) [ Some place ↦ Err place | None ↦ Ok (keys_in validators text) ]
 
 -- these keys, or this place, are what the text says, unless memory ran out
-abbrev pub ReadsKeys : ℕ → List ℕ → Result (List (List ℕ)) KeysError → Type 0
+abbrev pub ReadsKeys : ℕ → List ℕ → Result (List (List ℕ)) KeysFault → Type 0
 ReadsKeys validators text (Ok keys) = keys_of validators text ≡ Ok keys
 ReadsKeys validators text (Err (At place)) = keys_of validators text ≡ Err place
 ReadsKeys validators text (Err OutOfMemory) = Unit {0}

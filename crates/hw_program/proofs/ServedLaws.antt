@@ -8,7 +8,7 @@ use Rattle.hw_log.specs.declared.error.LogError.TheVariants as log
 use Rattle.hw_replay.specs.declared.fault.StartFault.{StartFault}
 use Rattle.hw_replay.specs.declared.fault.StartFault.TheVariants as start
 use Rattle.hw_replay.specs.Replay.{IsOutside}
-use Rattle.hw_settings.specs.declared.fault.SettingsError.{SettingsError}
+use Rattle.hw_settings.specs.declared.fault.SettingsFault.{SettingsFault}
 use Rattle.hw_keys.proofs.TextLaws.{text_has_no_fault, no_first_fault}
 use Rattle.hw_link.specs.declared.end.SessionEnd.{SessionEnd}
 use Rattle.hw_session.specs.Node.{NodeState}
@@ -238,7 +238,7 @@ keys_fit : (n : ℕ) (file : Option (List ℕ)) (keys : List (List ℕ)) (at : �
 keys_fit n (Some text) keys at is wrong = no_first_fault n text at (text_has_no_fault n text keys is) wrong
 keys_fit n None keys at is wrong = is
 
-pub one_config : (file : Option (Result Config SettingsError)) (a b : Config) → file ≡ Some (Ok a) → file ≡ Some (Ok b) → a ≡ b
+pub one_config : (file : Option (Result Config SettingsFault)) (a b : Config) → file ≡ Some (Ok a) → file ≡ Some (Ok b) → a ≡ b
 one_config file a b is so = let both : Some (Ok a) ≡ Some (Ok b) = sym is ∙ so in cc
 
 -- what isn't read

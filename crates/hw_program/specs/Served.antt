@@ -4,8 +4,8 @@ use Rattle.std.specs.Prelude.{◌≡◌, ◌≢◌, ◌≤◌, ◌*◌, ◌⊎�
 use Rattle.hw_types.specs.declared.config.Config.{Config}
 use Rattle.hw_io.specs.Consumers.{Consumed}
 use Rattle.hw_io.specs.Faults.{raised}
-use Rattle.hw_settings.specs.declared.fault.SettingsError.{SettingsError}
-use Rattle.hw_settings.specs.declared.fault.SettingsError.TheVariants as settings
+use Rattle.hw_settings.specs.declared.fault.SettingsFault.{SettingsFault}
+use Rattle.hw_settings.specs.declared.fault.SettingsFault.TheVariants as settings
 use Rattle.hw_replay.specs.Taken.{Taken}
 use Rattle.hw_replay.specs.Replay.{replay_of}
 use Rattle.hw_text.specs.Text.{number_text}
@@ -39,7 +39,7 @@ reported_status s = if nat_lt 0 s.limits then 8 else if s.link_failed then 6 els
 -- ---- the line of what stopped it
 
 -- what is wrong with settings
-unfoldable pub settings_text : SettingsError → List ℕ
+unfoldable pub settings_text : SettingsFault → List ℕ
 settings_text settings.Form = codes "config form"
 settings_text (settings.Fault f) = codes "config " ++ limit_text f
 settings_text settings.OutOfMemory = []

@@ -13,7 +13,7 @@ use hw_commands::{
 };
 use hw_io::Sink;
 use hw_service::{Served, ServiceFault, Sources};
-use hw_settings::SettingsError;
+use hw_settings::SettingsFault;
 use hw_text::{put_limit, put_word};
 use hw_types::{Bytes, OutOfMemory};
 use std::alloc::Global;
@@ -85,7 +85,7 @@ fn stopped_run(alloc: Global, sources: Sources<'_>, fault: ServiceFault) -> Resu
 
 /// The settings in the file of this name say no configuration.
 #[tactic(auto, using(std::proofs::Common::append_assoc), unfolding(hw_commands::specs::Texts::input_ended))]
-fn bad_settings(alloc: Global, name: &str, fault: SettingsError) -> Result<Ended, OutOfMemory>
+fn bad_settings(alloc: Global, name: &str, fault: SettingsFault) -> Result<Ended, OutOfMemory>
     ensures { IfOk result (λ ended. ended ≡ input_ended name.now (settings_text fault)) }
 {
     let mut text = input(alloc, name)?;
@@ -95,15 +95,15 @@ fn bad_settings(alloc: Global, name: &str, fault: SettingsError) -> Result<Ended
 
 /// Puts the text of what is wrong with settings last. Want of memory has none.
 #[tactic(auto, using(std::proofs::Common::append_assoc), unfolding(crate::specs::Served::settings_text))]
-fn put_settings(text: &mut Bytes, fault: SettingsError) -> Result<(), OutOfMemory>
+fn put_settings(text: &mut Bytes, fault: SettingsFault) -> Result<(), OutOfMemory>
     ensures { OnOk result (text.new ≡ text.old ++ settings_text fault) }
 {
     match fault {
-        SettingsError::Form => put_word(text, "config form"),
-        SettingsError::Fault(fault) => {
+        SettingsFault::Form => put_word(text, "config form"),
+        SettingsFault::Fault(fault) => {
             put_word(text, "config ")?;
             put_limit(text, fault)
         }
-        SettingsError::OutOfMemory => Ok(()),
+        SettingsFault::OutOfMemory => Ok(()),
     }
 }

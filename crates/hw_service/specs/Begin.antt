@@ -4,7 +4,7 @@ use Rattle.std.specs.Prelude.{◌≡◌, ◌<◌, ◌≤◌, ◌⊎◌, ℕ, Boo
 use Rattle.hw_types.specs.declared.config.Config.{Config}
 use Rattle.hw_core.specs.Promises.{begun}
 use Rattle.hw_io.specs.Files.{SameFiles}
-use Rattle.hw_settings.specs.declared.fault.SettingsError.{SettingsError}
+use Rattle.hw_settings.specs.declared.fault.SettingsFault.{SettingsFault}
 use Rattle.hw_settings.specs.Settings.{settings_of}
 use Rattle.hw_keys.specs.Keys.{IsTextOf, IsFirstFault}
 use Rattle.hw_log.specs.declared.error.LogError.TheVariants as log
@@ -33,7 +33,7 @@ names_of s = record { config = s.config.now; keys = s.keys.now; log = s.log.now 
 -- ---- what is read
 
 -- what the settings in a file say, if it is there
-abbrev pub file_settings : Option (List ℕ) → Option (Result Config SettingsError)
+abbrev pub file_settings : Option (List ℕ) → Option (Result Config SettingsFault)
 file_settings (Some bytes) = Some (settings_of bytes)
 file_settings None = None
 

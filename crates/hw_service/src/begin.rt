@@ -21,11 +21,11 @@ ghost use Rattle.hw_service.specs.declared.fault.ServiceFault.TheVariants as fau
 use crate::fault::ServiceFault;
 use crate::node_host::Host;
 use hw_io::{Consumer, Files, IoFault};
-use hw_keys::{Keys, KeysError};
+use hw_keys::{Keys, KeysFault};
 use hw_log::{LogError, read_file};
 use hw_replay::{Fanout, StartFault, replay_fed};
 use hw_session::{Node, fault_of_read, name_of};
-use hw_settings::{SettingsError, read_settings};
+use hw_settings::{SettingsFault, read_settings};
 use hw_types::{Bytes, Config, OutOfMemory};
 use std::alloc::Global;
 
@@ -142,7 +142,7 @@ fn read_config<F: Files>(alloc: Global, files: &mut F, name: &str) -> Result<Con
     let bytes = read_bytes(alloc, files, name)?;
     match read_settings(alloc, bytes.as_slice()) {
         Ok(config) => Ok(config),
-        Err(SettingsError::OutOfMemory) => Err(ServiceFault::OutOfMemory),
+        Err(SettingsFault::OutOfMemory) => Err(ServiceFault::OutOfMemory),
         Err(fault) => Err(ServiceFault::Settings(fault)),
     }
 }
@@ -179,8 +179,8 @@ fn read_keys<F: Files>(
     let text = read_bytes(alloc, files, name)?;
     match Keys::read(alloc, text.as_slice(), config.weights.len() as u32) {
         Ok(keys) => Ok(keys),
-        Err(KeysError::At(place)) => Err(ServiceFault::Keys(place)),
-        Err(KeysError::OutOfMemory) => Err(ServiceFault::OutOfMemory),
+        Err(KeysFault::At(place)) => Err(ServiceFault::Keys(place)),
+        Err(KeysFault::OutOfMemory) => Err(ServiceFault::OutOfMemory),
     }
 }
 

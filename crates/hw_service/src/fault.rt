@@ -5,14 +5,14 @@ ghost use Rattle.hw_service.specs.declared.fault.ServiceFault.TheVariants as fau
 
 use hw_replay::StartFault;
 use hw_session::ClashUnits;
-use hw_settings::SettingsError;
+use hw_settings::SettingsFault;
 use hw_types::OutOfMemory;
 
 /// Why a node's run ends before its report.
 #[derive(Drop)]
 pub enum ServiceFault {
     /// The settings say no configuration.
-    Settings(SettingsError),
+    Settings(SettingsFault),
     /// The validator that is to make units is none of the configuration.
     NoValidator,
     /// The text of the keys is wrong first at this byte.

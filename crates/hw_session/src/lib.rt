@@ -24,7 +24,7 @@ mod stage;
 mod start;
 
 pub use fault::{AcceptFault, MakeFault};
-pub use hw_keys::{Keys, KeysError};
+pub use hw_keys::{Keys, KeysFault};
 pub use hw_link::SessionEnd;
 pub use hw_replay::StartFault;
 pub use laws::{a_log_gives_its_journal_back, a_node_keeps_the_log_of_its_journal};

@@ -4,7 +4,7 @@ use Rattle.std.specs.Prelude.{◌≡◌, [], ◌∷◌, codes, None, Ok, Err}
 use Rattle.hw_types.specs.declared.config.Config.{Config}
 use Rattle.hw_types.specs.declared.config.Leaders.TheVariants.{Table}
 use Rattle.hw_types.specs.declared.config.ConfigFault.TheVariants.{Threshold}
-use Rattle.hw_settings.specs.declared.fault.SettingsError.TheVariants.{Form, Fault}
+use Rattle.hw_settings.specs.declared.fault.SettingsFault.TheVariants.{Form, Fault}
 use Rattle.hw_settings.specs.Settings.{settings_of}
 
 -- three validators of one weight

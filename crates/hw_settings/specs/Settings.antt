@@ -16,8 +16,8 @@ use Rattle.hw_types.specs.declared.config.ConfigFault.{ConfigFault}
 use Rattle.hw_types.specs.Graph.{is_some_and}
 use Rattle.hw_types.specs.Limits.{config_fault}
 use Rattle.hw_text.specs.Digits.{is_lower_digit}
-use Rattle.hw_settings.specs.declared.fault.SettingsError.{SettingsError}
-use Rattle.hw_settings.specs.declared.fault.SettingsError.TheVariants.{Form, Fault}
+use Rattle.hw_settings.specs.declared.fault.SettingsFault.{SettingsFault}
+use Rattle.hw_settings.specs.declared.fault.SettingsFault.TheVariants.{Form, Fault}
 
 -- go on with what is there
 infixl 10 ◌>>=◌
@@ -138,12 +138,12 @@ unfoldable pub config_in : Data → Option Config
 config_in d = if is_object_of is_setting_name d then members_say d else None
 
 -- the configuration, unless it breaks a limit
-abbrev pub within_limits : Config → Option ConfigFault → Result Config SettingsError
+abbrev pub within_limits : Config → Option ConfigFault → Result Config SettingsFault
 within_limits config None = Ok config
 within_limits config (Some fault) = Err (Fault fault)
 
 -- a configuration that keeps its limits, or what is wrong
-abbrev pub checked : Option Config → Result Config SettingsError
+abbrev pub checked : Option Config → Result Config SettingsFault
 checked None = Err Form
 checked (Some config) = within_limits config (config_fault config)
 
@@ -152,5 +152,5 @@ unfoldable pub json_of : List ℕ → Option Data
 json_of bytes = if is_utf8 bytes then read bytes else None
 
 -- The configuration that these settings say, or what is wrong with them.
-unfoldable pub settings_of : List ℕ → Result Config SettingsError
+unfoldable pub settings_of : List ℕ → Result Config SettingsFault
 settings_of bytes = checked (json_of bytes >>= config_in)

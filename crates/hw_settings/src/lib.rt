@@ -10,6 +10,6 @@ mod numbers;
 mod samples;
 mod settings;
 
-pub use fault::SettingsError;
+pub use fault::SettingsFault;
 pub use samples::small_settings_are_read;
 pub use settings::read_settings;

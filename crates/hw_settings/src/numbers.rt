@@ -4,7 +4,7 @@ ghost use Rattle.std.specs.Prelude.{◌≡◌, ◌+◌, ◌≤◌, ◌^◌, IfSo
 ghost use Rattle.serde_json.specs.{View.{view, items_view}, Find.{as_array}};
 ghost use Rattle.hw_settings.specs.{Settings.{number_in, numbers_in, list_in, both_in, two_in, pair_in}, Answers.{Tells}};
 
-use crate::fault::SettingsError;
+use crate::fault::SettingsFault;
 use hw_types::{IndexList, WeightList};
 use serde_json::Value;
 use std::alloc::Global;
@@ -22,51 +22,51 @@ fn json_number_up_to(most: u64, value: &Value) -> Option<u64>
 }
 
 /// A whole number below 2^64.
-pub(crate) fn number_in(value: &Value) -> Result<u64, SettingsError>
+pub(crate) fn number_in(value: &Value) -> Result<u64, SettingsFault>
     ensures { Tells (λ n. n) result (number_in (2 ^ 64) (view value.now)) }
 {
-    json_number_up_to(u64::MAX, value).ok_or(SettingsError::Form)
+    json_number_up_to(u64::MAX, value).ok_or(SettingsFault::Form)
 }
 
 /// A whole number below 2^32.
-pub(crate) fn count_in(value: &Value) -> Result<u32, SettingsError>
+pub(crate) fn count_in(value: &Value) -> Result<u32, SettingsFault>
     ensures { Tells (λ n. n) result (number_in (2 ^ 32) (view value.now)) }
 {
     match json_number_up_to(u64::from(u32::MAX), value) {
         Some(number) => Ok(number as u32),
-        None => Err(SettingsError::Form),
+        None => Err(SettingsFault::Form),
     }
 }
 
 /// A whole number below 256.
-pub(crate) fn byte_in(value: &Value) -> Result<u8, SettingsError>
+pub(crate) fn byte_in(value: &Value) -> Result<u8, SettingsFault>
     ensures { Tells (λ n. n) result (number_in (2 ^ 8) (view value.now)) }
 {
     match json_number_up_to(u64::from(u8::MAX), value) {
         Some(number) => Ok(number as u8),
-        None => Err(SettingsError::Form),
+        None => Err(SettingsFault::Form),
     }
 }
 
 /// The values of an array.
-fn values_in(value: &Value) -> Result<&[Value], SettingsError>
+fn values_in(value: &Value) -> Result<&[Value], SettingsFault>
     ensures { Tells (λ values. items_view values.now) result (as_array (view value.now)) }
 {
     match value.as_array() {
         Some(values) => Ok(values.as_slice()),
-        None => Err(SettingsError::Form),
+        None => Err(SettingsFault::Form),
     }
 }
 
 /// An array of whole numbers below 2^64.
-pub(crate) fn weights_in(alloc: Global, value: &Value) -> Result<WeightList, SettingsError>
+pub(crate) fn weights_in(alloc: Global, value: &Value) -> Result<WeightList, SettingsFault>
     ensures { Tells (λ list. list) result (list_in (2 ^ 64) (view value.now)) }
 {
     each_weight(alloc, values_in(value)?)
 }
 
 #[tactic(auto, using(crate::proofs::NumberLaws::begins, crate::proofs::NumberLaws::goes_on, crate::proofs::NumberLaws::stops, crate::proofs::NumberLaws::is_done))]
-fn each_weight(alloc: Global, values: &[Value]) -> Result<WeightList, SettingsError>
+fn each_weight(alloc: Global, values: &[Value]) -> Result<WeightList, SettingsFault>
     ensures { Tells (λ list. list) result (numbers_in (2 ^ 64) (items_view values.now)) }
 {
     let mut list = WeightList::new(alloc);
@@ -77,14 +77,14 @@ fn each_weight(alloc: Global, values: &[Value]) -> Result<WeightList, SettingsEr
 }
 
 /// An array of whole numbers below 2^32.
-pub(crate) fn counts_in(alloc: Global, value: &Value) -> Result<IndexList, SettingsError>
+pub(crate) fn counts_in(alloc: Global, value: &Value) -> Result<IndexList, SettingsFault>
     ensures { Tells (λ list. list) result (list_in (2 ^ 32) (view value.now)) }
 {
     each_count(alloc, values_in(value)?)
 }
 
 #[tactic(auto, using(crate::proofs::NumberLaws::begins, crate::proofs::NumberLaws::goes_on, crate::proofs::NumberLaws::stops, crate::proofs::NumberLaws::is_done))]
-fn each_count(alloc: Global, values: &[Value]) -> Result<IndexList, SettingsError>
+fn each_count(alloc: Global, values: &[Value]) -> Result<IndexList, SettingsFault>
     ensures { Tells (λ list. list) result (numbers_in (2 ^ 32) (items_view values.now)) }
 {
     let mut list = IndexList::new(alloc);
@@ -95,23 +95,23 @@ fn each_count(alloc: Global, values: &[Value]) -> Result<IndexList, SettingsErro
 }
 
 /// An array of two whole numbers below 256.
-pub(crate) fn pair_in(value: &Value) -> Result<(u8, u8), SettingsError>
+pub(crate) fn pair_in(value: &Value) -> Result<(u8, u8), SettingsFault>
     ensures { Tells (λ pair. pair) result (pair_in (2 ^ 8) (view value.now)) }
 {
     two_in(values_in(value)?)
 }
 
 #[tactic(auto, using(crate::proofs::NumberLaws::two_values, crate::proofs::NumberLaws::too_few, crate::proofs::NumberLaws::too_many))]
-fn two_in(values: &[Value]) -> Result<(u8, u8), SettingsError>
+fn two_in(values: &[Value]) -> Result<(u8, u8), SettingsFault>
     ensures { Tells (λ pair. pair) result (two_in (2 ^ 8) (items_view values.now)) }
 {
     match values {
         [first, second] => both_in(first, second),
-        _ => Err(SettingsError::Form),
+        _ => Err(SettingsFault::Form),
     }
 }
 
-fn both_in(first: &Value, second: &Value) -> Result<(u8, u8), SettingsError>
+fn both_in(first: &Value, second: &Value) -> Result<(u8, u8), SettingsFault>
     ensures { Tells (λ pair. pair) result (both_in (2 ^ 8) (view first.now) (view second.now)) }
 {
     let first = byte_in(first)?;

@@ -6,7 +6,7 @@ ghost use Rattle.hw_types.specs.Limits.{config_fault};
 ghost use Rattle.hw_settings.specs.Settings.{number_in, key_of, is_object_of, may, drawn_in, leaders_in, needed_names, further_names, is_setting_name, members_say, config_in, json_of, settings_of};
 ghost use Rattle.hw_settings.specs.Answers.{Tells, IsFaultOf};
 
-use crate::fault::SettingsError;
+use crate::fault::SettingsFault;
 use crate::numbers::{byte_in, count_in, counts_in, number_in, pair_in, weights_in};
 use hex::FromHex;
 use hw_text::are_lower_digits;
@@ -23,7 +23,7 @@ use std::alloc::Global;
 /// The value is made whole before its members are read, so it takes memory and time in proportion to
 /// the bytes.
 #[tactic(auto, unfolding(crate::specs::Settings::settings_of))]
-pub fn read_settings(alloc: Global, bytes: &[u8]) -> Result<Config, SettingsError>
+pub fn read_settings(alloc: Global, bytes: &[u8]) -> Result<Config, SettingsFault>
     // What is answered is what the settings say, and want of memory may stand in place of it.
     ensures config { IfOk result (λ config. settings_of bytes.now ≡ Ok config) }
     ensures fault { IfErr result (IsFaultOf (settings_of bytes.now)) }
@@ -34,37 +34,37 @@ pub fn read_settings(alloc: Global, bytes: &[u8]) -> Result<Config, SettingsErro
     let config = config_in(alloc, &value)?;
     match config.check() {
         Ok(()) => Ok(config),
-        Err(fault) => Err(SettingsError::Fault(fault)),
+        Err(fault) => Err(SettingsFault::Fault(fault)),
     }
 }
 
 /// The value that the bytes are the text of.
 #[tactic(auto, unfolding(crate::specs::Settings::json_of))]
-fn json_of(alloc: Global, bytes: &[u8]) -> Result<Value, SettingsError>
+fn json_of(alloc: Global, bytes: &[u8]) -> Result<Value, SettingsFault>
     ensures { Tells view result (json_of bytes.now) }
 {
     match Value::from_slice(alloc, bytes) {
         Ok(value) => Ok(value),
-        Err(error) if error.is_memory() => Err(SettingsError::OutOfMemory),
-        Err(_) => Err(SettingsError::Form),
+        Err(error) if error.is_memory() => Err(SettingsFault::OutOfMemory),
+        Err(_) => Err(SettingsFault::Form),
     }
 }
 
 /// The configuration that an object says which has no other members.
 #[tactic(auto, unfolding(crate::specs::Settings::config_in))]
-fn config_in(alloc: Global, value: &Value) -> Result<Config, SettingsError>
+fn config_in(alloc: Global, value: &Value) -> Result<Config, SettingsFault>
     ensures { Tells (λ config. config) result (config_in (view value.now)) }
 {
     if is_settings_object(value) {
         members_say(alloc, value)
     } else {
-        Err(SettingsError::Form)
+        Err(SettingsFault::Form)
     }
 }
 
 /// What the members say.
 #[tactic(auto, unfolding(crate::specs::Settings::members_say))]
-fn members_say(alloc: Global, value: &Value) -> Result<Config, SettingsError>
+fn members_say(alloc: Global, value: &Value) -> Result<Config, SettingsFault>
     ensures { Tells (λ config. config) result (members_say (view value.now)) }
 {
     let weights = weights_in(alloc, member(value, "weights")?)?;
@@ -89,17 +89,17 @@ fn members_say(alloc: Global, value: &Value) -> Result<Config, SettingsError>
 }
 
 /// The member of that name, which has to be there.
-fn member<'v>(value: &'v Value, name: &str) -> Result<&'v Value, SettingsError>
+fn member<'v>(value: &'v Value, name: &str) -> Result<&'v Value, SettingsFault>
     ensures { Tells (λ found. view found.now) result (get name.now (view value.now)) }
 {
     match value.get(name) {
         Some(found) => Ok(found),
-        None => Err(SettingsError::Form),
+        None => Err(SettingsFault::Form),
     }
 }
 
 /// The number of that name, or the usual one.
-fn count_or(usual: u32, value: &Value, name: &str) -> Result<u32, SettingsError>
+fn count_or(usual: u32, value: &Value, name: &str) -> Result<u32, SettingsFault>
     ensures { Tells (λ n. n) result (may name.now (number_in (2 ^ 32)) usual (view value.now)) }
 {
     match value.get(name) {
@@ -109,7 +109,7 @@ fn count_or(usual: u32, value: &Value, name: &str) -> Result<u32, SettingsError>
 }
 
 /// The height of the last block, if there is one.
-fn end_in(value: &Value) -> Result<Option<u64>, SettingsError>
+fn end_in(value: &Value) -> Result<Option<u64>, SettingsFault>
     ensures { Tells (λ end. end) result (may (codes "end") (λ e. option_map Some (number_in (2 ^ 64) e)) None (view value.now)) }
 {
     match value.get("end") {
@@ -120,7 +120,7 @@ fn end_in(value: &Value) -> Result<Option<u64>, SettingsError>
 
 /// The leaders: a table or a key.
 #[tactic(auto, unfolding(crate::specs::Settings::leaders_in))]
-fn leaders_in(alloc: Global, value: &Value) -> Result<Leaders, SettingsError>
+fn leaders_in(alloc: Global, value: &Value) -> Result<Leaders, SettingsFault>
     ensures { Tells (λ leaders. leaders) result (leaders_in (view value.now)) }
 {
     if value.is_array() {
@@ -131,15 +131,15 @@ fn leaders_in(alloc: Global, value: &Value) -> Result<Leaders, SettingsError>
 }
 
 /// The key in an object that has no other member.
-fn drawn_in(value: &Value) -> Result<Leaders, SettingsError>
+fn drawn_in(value: &Value) -> Result<Leaders, SettingsFault>
     ensures { Tells (λ leaders. leaders) result (drawn_in (view value.now)) }
 {
     if !is_drawn_object(value) {
-        return Err(SettingsError::Form);
+        return Err(SettingsFault::Form);
     }
     match member(value, "drawn")?.as_str().and_then(key_of) {
         Some(key) => Ok(Leaders::Drawn(key)),
-        None => Err(SettingsError::Form),
+        None => Err(SettingsFault::Form),
     }
 }
 

@@ -5,7 +5,7 @@ ghost use Rattle.hw_types.specs.Spelling.{VertexFits};
 
 use hw_case_words::{Answer, lines_of, small};
 use hw_codec::decode_vertex;
-use hw_keys::{Keys, KeysError};
+use hw_keys::{Keys, KeysFault};
 use hw_types::{Digest, Signature, Vertex};
 
 /// What keys answer: what is asked, and behind it how many validators there are, and the text of the keys.
@@ -21,11 +21,11 @@ pub fn keyed(answer: &mut Answer, kind: &str, words: &[&str]) {
 fn read(answer: &mut Answer, kind: &str, text: &[u8], validators: u32, words: &[&str]) {
     match Keys::read(answer.alloc(), text, validators) {
         Ok(keys) => put_read(answer, kind, &keys, validators, words),
-        Err(KeysError::At(place)) => {
+        Err(KeysFault::At(place)) => {
             answer.put("at ");
             answer.number(place);
         }
-        Err(KeysError::OutOfMemory) => answer.refuse(),
+        Err(KeysFault::OutOfMemory) => answer.refuse(),
     }
 }
 

@@ -2,7 +2,7 @@
 
 use crate::leaf::configs::limits_text;
 use hw_case_words::Answer;
-use hw_settings::{SettingsError, read_settings};
+use hw_settings::{SettingsFault, read_settings};
 use hw_types::{Config, ConfigFault, Leaders};
 
 /// What the settings of this text say, or of the bytes that it spells behind `hex`.
@@ -25,18 +25,18 @@ fn said(answer: &mut Answer, bytes: &[u8]) {
 }
 
 /// What is wrong with settings.
-fn fault_text(answer: &mut Answer, fault: SettingsError) {
+fn fault_text(answer: &mut Answer, fault: SettingsFault) {
     match fault {
-        SettingsError::Form => answer.put("config form"),
-        SettingsError::Fault(ConfigFault::ZeroWeight(validator)) => {
+        SettingsFault::Form => answer.put("config form"),
+        SettingsFault::Fault(ConfigFault::ZeroWeight(validator)) => {
             answer.put("config zero weight ");
             answer.number(validator as u64);
         }
-        SettingsError::Fault(fault) => {
+        SettingsFault::Fault(fault) => {
             answer.put("config ");
             answer.put(name_of(fault));
         }
-        SettingsError::OutOfMemory => answer.refuse(),
+        SettingsFault::OutOfMemory => answer.refuse(),
     }
 }
 

@@ -4,7 +4,7 @@ use crate::eras::nodes::tell_of;
 use crate::eras::runs::put_text;
 use hw_audit::audit_text;
 use hw_case_words::Answer;
-use hw_eras::{AuditFault, EraVerdict, Eras, audit_eras};
+use hw_eras::{AuditError, EraVerdict, Eras, audit_eras};
 use hw_safety::Verdict;
 
 /// The audit of the two nodes that the words tell. They stand in the place of those that began.
@@ -23,8 +23,8 @@ pub fn audited(answer: &mut Answer, nodes: &mut Vec<Eras>, words: &[&str]) {
 fn audit_of(answer: &mut Answer, left: &Eras, right: &Eras) {
     match audit_eras(answer.alloc(), left, right) {
         Ok(verdict) => put_verdict(answer, left, &verdict),
-        Err(AuditFault::Instances) => answer.put("other config"),
-        Err(AuditFault::OutOfMemory) => answer.refuse(),
+        Err(AuditError::Instances) => answer.put("other config"),
+        Err(AuditError::OutOfMemory) => answer.refuse(),
     }
 }
 

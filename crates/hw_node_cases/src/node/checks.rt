@@ -7,7 +7,7 @@ ghost use Rattle.hw_light.specs.Spelling.{CertificateFits};
 use crate::node::printed::put_signed_line;
 use hw_case_words::{Answer, with_line_feeds};
 use hw_core::Core;
-use hw_keys::{Keys, KeysError};
+use hw_keys::{Keys, KeysFault};
 use hw_light::{Certificate, CheckFault, Checked, check};
 use hw_types::{Digest, Vertex};
 
@@ -37,11 +37,11 @@ fn read_keys(
     match Keys::read(answer.alloc(), text, validators) {
         Ok(keys) if kind == "print" => put_signed_line(answer, certificate, &keys),
         Ok(keys) => put_signed(answer, certificate, &keys),
-        Err(KeysError::At(place)) => {
+        Err(KeysFault::At(place)) => {
             answer.put("keys at ");
             answer.number(place);
         }
-        Err(KeysError::OutOfMemory) => answer.refuse(),
+        Err(KeysFault::OutOfMemory) => answer.refuse(),
     }
 }
 

@@ -2,7 +2,7 @@ use Rattle.std.proofs.Common.{◌≡◌, codes, None, Err, inl, inr, ap, subst, 
 use Rattle.hw_types.specs.declared.config.Config.{Config}
 use Rattle.hw_types.specs.Limits.{config_fault}
 use Rattle.hw_codec.specs.Ranges.{ConfigInRange}
-use Rattle.hw_audit.specs.declared.nodes.AuditFault.{AuditFault}
+use Rattle.hw_audit.specs.declared.nodes.AuditError.{AuditError}
 use Rattle.hw_audit.proofs.TwinLaws.{ok_so}
 use Rattle.hw_commands.specs.declared.ended.Ended.{Ended}
 use Rattle.hw_commands.specs.Audited.{verdict_ended}
@@ -27,7 +27,7 @@ returns-in-Ok-clause-told c =
 pub returns-in-Err-Instances-clause-told : goal.returns-in-Err-Instances-clause-told
 returns-in-Err-Instances-clause-told c =
     ok_so c.other_config.result c.other_config.ensures (λ e is same.
-    absurd (c.audit.ensures.instances.1 (c.in-Err-Instances.is ∙ ap (λ (x : AuditFault). Err x) c.in-Err-Instances.field-0-is)
+    absurd (c.audit.ensures.instances.1 (c.in-Err-Instances.is ∙ ap (λ (x : AuditError). Err x) c.in-Err-Instances.field-0-is)
     (one_config c.args.left.now.config c.args.right.now.config (subst ConfigInRange (c.config.ensures.config ∙ c.state.ensures.config) c.config_is_in_range.ensures)
     (subst ConfigInRange (c.config-2.ensures.config ∙ c.state-2.ensures.config) c.config_is_in_range-2.ensures)
     (config_fits c.args.left.now.config (subst (λ (g : Config). config_fault g ≡ None) c.state.ensures.config c.config.ensures.lawful))
