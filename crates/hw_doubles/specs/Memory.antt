@@ -1,5 +1,5 @@
 -- What the outside in memory tells, and which of its calls are to fail.
-use Rattle.std.specs.Prelude.{◌≡◌, ℕ, ◌==◌, Bool, true, false, List, ◌++◌, take, Option, Some, Result, Err, IfErr}
+use Rattle.std.specs.Prelude.{◌≡◌, ℕ, ◌-◌, ◌^◌, ◌==◌, nat_lt, min, if◌then◌else◌, Bool, true, false, List, [], ◌∷◌, ◌++◌, length, take, Option, Some, None, Result, Err, IfErr}
 use Rattle.std.specs.List.{find, list_any}
 use Rattle.std.specs.Option.{option_map}
 use Rattle.hw_io.specs.declared.outside.IoFault.{IoFault}
@@ -14,8 +14,10 @@ use Rattle.hw_doubles.specs.declared.plan.Plan.{Plan}
 use Rattle.hw_doubles.specs.declared.door.MemDoor.{MemDoor}
 use Rattle.hw_io.specs.declared.numbers.DoorNumbers.{DoorNumbers}
 use Rattle.hw_doubles.specs.declared.watched.WatchedDoor.{WatchedDoor}
+use Rattle.hw_doubles.specs.declared.paced.Hold.{Hold}
+use Rattle.hw_doubles.specs.declared.paced.PacedDoor.{PacedDoor}
 use Rattle.hw_doubles.specs.declared.consumer.ListConsumer.{ListConsumer}
-use Rattle.hw_io.specs.Doors.{Session, Ask}
+use Rattle.hw_io.specs.Doors.{Session, Ask, ask_of}
 use Rattle.hw_io.specs.Consumers.{Consumed}
 
 -- what files in memory hold
@@ -157,6 +159,24 @@ watched_sessions door = door_sessions door.door
 -- the calls of `read` in the last one, as far as they are kept
 abbrev pub watched_asks : WatchedDoor → List Ask
 watched_asks door = door.asks.items
+
+-- what the peers of a paced door hold back
+abbrev pub paced_holds : PacedDoor → List Hold
+paced_holds paced = paced.holds.items
+
+-- how many of the next bytes of a session are held back by none of these, after so many that were read and written; 2 ^ 64 - 1 where nothing is held back
+abbrev pub free_behind : List Hold → ℕ → ℕ → ℕ
+free_behind [] heard written = 2 ^ 64 - 1
+free_behind (hold ∷ rest) heard written = if nat_lt written hold.written then min (free_behind rest heard written) (hold.said - heard) else free_behind rest heard written
+
+-- the same of the last session
+abbrev pub free_of : List Hold → Option Ask → ℕ
+free_of holds None = 2 ^ 64 - 1
+free_of holds (Some ask) = free_behind holds (length ask.heard) (length ask.said)
+
+-- how many of the next bytes a paced door gives, if the peer says them
+abbrev pub paced_free : PacedDoor → ℕ
+paced_free paced = free_of (paced_holds paced) (ask_of (door_sessions paced.door))
 
 -- what a consumer in memory took
 abbrev pub list_consumed : ListConsumer → Consumed

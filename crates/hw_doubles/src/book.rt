@@ -1,6 +1,6 @@
 //! The sessions of a door in memory, of which the last one may be there still. It fails only where the rules of `Door`
 //! say so.
-ghost use Rattle.std.specs.Prelude.{◌≡◌, ◌++◌, ◌∷◌, ◌<◌, [], Some, None, true, false, IfErr, IsOk, IsErr, OnOk, OnErr, is_ok, string_bytes, vec_len};
+ghost use Rattle.std.specs.Prelude.{◌≡◌, ◌++◌, ◌∷◌, ◌<◌, ◌≤◌, [], Some, None, true, false, max, IfErr, IfOk, IsOk, IsErr, OnOk, OnErr, is_ok, string_bytes, vec_len};
 ghost use Rattle.std.specs.Io.{ReadsAtMost};
 ghost use Rattle.std.specs.Option.{option_map};
 ghost use Rattle.hw_io.specs.{Sinks.{TakesSome}, Doors.{Session, sessions_after, fresh_session, with_failure, with_last, after_read, after_write, in_session}};
@@ -90,6 +90,7 @@ impl SessionBook {
     /// where no session is there.
     pub(crate) fn read(&mut self, buf: &mut [u8], piece: usize) -> Result<usize, IoFault>
         ensures bound { ReadsAtMost result buf.new }
+        ensures piece { IfOk result (λ count. count ≤ max piece 1) }
         ensures sessions { self.new.sessions.items ≡ in_session self.old.is_open (after_read result buf.new) self.old.sessions.items }
         ensures none { self.old.is_open ≡ false → IsErr result }
         ensures sure { self.old.is_open ≡ true → IsOk result }

@@ -1,5 +1,5 @@
 //! Doors in memory, which tell their sessions.
-ghost use Rattle.std.specs.Prelude.{◌≡◌, ℕ, [], Some, None, true, false, IfErr, IsErr, IsOk, IsSome, length, is_ok};
+ghost use Rattle.std.specs.Prelude.{◌≡◌, ◌≤◌, ℕ, [], Some, None, true, false, max, IfErr, IfOk, IsErr, IsOk, IsSome, length, is_ok};
 ghost use Rattle.std.specs.Io.{ReadsAtMost};
 ghost use Rattle.std.specs.Option.{option_map};
 ghost use Rattle.hw_io.specs.{Faults.{HasCause, raised}, Sinks.{TakesSome}, Doors.{Session, sessions_after, after_read, after_write, in_session, with_failure, ends_after}};
@@ -149,6 +149,7 @@ impl MemDoor {
         ensures planned { FailsAsPlanned (fails_next self.old.plan) result }
         ensures sure { fails_next self.old.plan ≡ false → self.old.book.is_open ≡ true → IsOk result }
         ensures plan { self.new.plan ≡ after_call self.old.plan }
+        ensures piece { IfOk result (λ count. count ≤ max self.old.piece 1) }
         ensures bound { ReadsAtMost result buf.new }
         ensures sessions { self.new.book.sessions.items ≡ in_session self.old.book.is_open (after_read result buf.new) self.old.book.sessions.items }
         ensures none { self.old.book.is_open ≡ false → IsErr result }
@@ -236,6 +237,7 @@ impl Door for MemDoor {
         ensures planned { FailsAsPlanned (fails_next self.old.plan) result }
         ensures sure { fails_next self.old.plan ≡ false → self.old.book.is_open ≡ true → IsOk result }
         ensures plan { self.new.plan ≡ after_call self.old.plan }
+        ensures piece { IfOk result (λ count. count ≤ max self.old.piece 1) }
 
         ensures bound { ReadsAtMost result buf.new }
         ensures sessions { Some self.new.book.sessions.items ≡ option_map (in_session self.old.book.is_open (after_read result buf.new)) (Some self.old.book.sessions.items) }

@@ -1,5 +1,5 @@
 //! A session in memory.
-ghost use Rattle.std.specs.{Prelude.{◌≡◌, ◌≤◌, ◌++◌, length, take, string_bytes, IfErr}, Option.{option_map, option_copied}};
+ghost use Rattle.std.specs.{Prelude.{◌≡◌, ◌≤◌, ◌++◌, length, max, take, string_bytes, IfErr}, Option.{option_map, option_copied}};
 ghost use Rattle.hw_io.specs.{Sinks.{TakesSome}, Doors.{Session, fresh_session, with_failure, after_write}};
 
 use crate::shelf::{copy_front, rest_of};
@@ -77,6 +77,7 @@ impl MemSession {
     /// Reads the next bytes that the peer says, at most `piece` of them, or one where that is 0.
     pub(crate) fn hear(&mut self, buf: &mut [u8], piece: usize) -> usize
         ensures bound { result ≤ length buf.new }
+        ensures piece { result ≤ max piece 1 }
         ensures heard { self.new ≡ record self.old { read = self.old.read ++ take result buf.new } }
     {
         let rest = rest_of(self.said.as_slice(), self.given);

@@ -1,4 +1,4 @@
-use Rattle.std.proofs.Common.{ℕ, List, Option, refl, sym, ap, ◌∙◌, is_some}
+use Rattle.std.proofs.Common.{Option, refl, sym, ap, ◌∙◌, is_some}
 use Rattle.std.specs.Option.{option_map}
 use Rattle.hw_io.specs.Faults.{subject_of}
 use Rattle.hw_doubles.specs.Shelves.{has_name}
