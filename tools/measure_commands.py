@@ -1,7 +1,7 @@
 #!/usr/bin/env python3
 """Measures what a built program's other commands cost: beside another program, beside its own replay, or beside a log's bytes.
 
-    python3 tools/measure_commands.py PROGRAM [--beside OTHER] [--runs 15] [--logs FOLDER] [--instructions] [NAME ..]
+    python3 tools/measure_commands.py PROGRAM [--beside OTHER [--without NAME]] [--runs 15] [--logs FOLDER] [--instructions] [NAME ..]
     python3 tools/measure_commands.py --list
 
     explain, audit, script, gen, sim    processor seconds, and their ratio to those of OTHER
@@ -11,8 +11,9 @@
                                         replay of the log that it wrote
 
 Seconds are medians, of processor time (user and system) but for `serve`, which is by the clock. Ratios are medians of the ratios of two
-runs that followed each other. With --instructions the commands and the versions are counted once each by `valgrind --tool=callgrind`, in
-millions, in place of seconds. Logs are made by tools/worst_logs.py and kept in FOLDER.
+runs that followed each other. With --without OTHER is run a third time in each turn, without that variable of the environment, in columns
+of its own. With --instructions the commands and the versions are counted once each by `valgrind --tool=callgrind`, in millions, in place
+of seconds. Logs are made by tools/worst_logs.py and kept in FOLDER.
 
 The status is 0, and 2 where the words aren't understood or a run ends with another status than it should. It stands outside the gate and
 proves nothing.
@@ -34,7 +35,7 @@ import time
 from dataclasses import replace
 
 from lens_log import ABSENT, read_log, spelled_vertex, unit_signature
-from measure_replay import Failed, instructions_of, made, seconds_of, table, used
+from measure_replay import Failed, environments, instructions_of, made, seconds_of, table, used
 from rejoin import free_port
 
 EVEN = "rounds --validators 10 --rounds 1000"
@@ -44,9 +45,9 @@ SERVED = "rounds --validators 10 --rounds 200"
 HELLO, VERTEX, DONE = b"\1", b"\2", b"\5"
 
 
-def cost(options, program, *words):
+def cost(options, program, *words, environment=None):
     """What a run costs: millions of instructions where they are asked for, else seconds."""
-    return instructions_of(program, *words) / 1e6 if options.instructions else seconds_of(program, *words)
+    return instructions_of(program, *words) / 1e6 if options.instructions else seconds_of(program, *words, environment=environment)
 
 
 def runs_of(options):
@@ -54,14 +55,13 @@ def runs_of(options):
     return 1 if options.instructions else options.runs
 
 
-def medians(options, one, other):
-    """The medians of the costs of two calls in turn, and of their ratios."""
-    ours, others = [], []
-    for _ in range(runs_of(options)):
-        ours.append(one())
-        others.append(other())
-    ratios = [left / right if right else math.inf for left, right in zip(ours, others)]
-    return statistics.median(ours), statistics.median(others), statistics.median(ratios)
+def medians(options, one, *others):
+    """The medians of the costs of these calls in turn, behind each other call that of the first one's ratio to it."""
+    ours, *theirs = zip(*[(one(), *[other() for other in others]) for _ in range(runs_of(options))])
+    told = [statistics.median(ours)]
+    for costs in theirs:
+        told += [statistics.median(costs), statistics.median(left / right if right else math.inf for left, right in zip(ours, costs))]
+    return told
 
 
 # ---- scripts
@@ -178,9 +178,9 @@ def serve_row(options):
 
 # ---- the rows
 
-def shown(one, other, ratio):
-    """Two numbers of seconds with their ratio."""
-    return [f"{one:.3f}", f"{other:.3f}", f"{ratio:.2f}"]
+def shown(one, *others):
+    """Numbers of seconds, each but the first with the ratio behind it."""
+    return [f"{one:.3f}", *[f"{number:.3f}" if place % 2 == 0 else f"{number:.2f}" for place, number in enumerate(others)]]
 
 
 def words_of(name, folder):
@@ -200,7 +200,8 @@ def beside_row(options, name):
     said = " ".join(str(word.name) if isinstance(word, pathlib.Path) else word for word in words)
     if not options.beside:
         return [said, f"{statistics.median(cost(options, options.program, *words) for _ in range(runs_of(options))):.3f}", "", ""]
-    return [said, *shown(*medians(options, lambda: cost(options, options.program, *words), lambda: cost(options, options.beside, *words)))]
+    others = [functools.partial(cost, options, options.beside, *words, environment=shade) for shade in environments(options)]
+    return [said, *shown(*medians(options, lambda: cost(options, options.program, *words), *others))]
 
 
 def version_row(options, words):
@@ -252,6 +253,7 @@ def options_of(words):
     parser.add_argument("program", metavar="PROGRAM", nargs="?", help="the built program")
     parser.add_argument("names", metavar="NAME", nargs="*", help="which rows (all)")
     parser.add_argument("--beside", metavar="OTHER", help="another program, which is run in turn with it")
+    parser.add_argument("--without", metavar="NAME", help="run the other program without this variable of the environment too")
     parser.add_argument("--runs", type=int, default=15, help="how many runs of each (15)")
     parser.add_argument("--logs", type=pathlib.Path, default=pathlib.Path("logs"), help="the folder of the logs (logs)")
     parser.add_argument("--instructions", action="store_true", help="count instructions, with valgrind, in place of seconds")
@@ -269,6 +271,8 @@ def options_of(words):
             parser.error(f"{name} isn't one of {', '.join(ROWS)}")
     if options.runs < 1:
         parser.error("argument --runs: at least 1")
+    if options.without and (options.instructions or not options.beside):
+        parser.error("argument --without: goes with --beside, and not with --instructions")
     options.program = os.path.abspath(options.program)
     options.beside = options.beside and os.path.abspath(options.beside)
     options.logs, options.names = options.logs.absolute(), options.names or list(ROWS)
@@ -282,7 +286,9 @@ def main(words):
         print("\n".join(ROWS))
         return 0
     try:
-        print("\n".join(table([["row", "of", "this", "beside", "ratio"]])), flush=True)
+        names = ["row", "of", "this", "beside", "ratio"]
+        names += [f"without {options.without}", "ratio"] if options.without else []
+        print("\n".join(table([names])), flush=True)
         for name in options.names:
             print("| " + " | ".join([name, *ROWS[name](options)]) + " |", flush=True)
     except Failed as failed:

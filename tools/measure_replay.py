@@ -1,14 +1,15 @@
 #!/usr/bin/env python3
 """Measures how long a built program takes to replay logs that are hard on it, alone or beside another one.
 
-    python3 tools/measure_replay.py PROGRAM [--beside OTHER] [--runs 15] [--logs FOLDER] [--instructions] [NAME ..]
+    python3 tools/measure_replay.py PROGRAM [--beside OTHER [--without NAME]] [--runs 15] [--logs FOLDER] [--instructions] [NAME ..]
     python3 tools/measure_replay.py PROGRAM --growth [NAME ..]
     python3 tools/measure_replay.py --list
 
 The logs are those of `--list`, or of them only the named ones; they are made by tools/worst_logs.py and kept in FOLDER. Each run is
 `PROGRAM replay LOG` in an empty folder. What is told are processor seconds (user and system), medians; beside another program the two run
-in turn, and the ratio is the median of the ratios of two runs that followed each other. With --instructions one more run of each
-program is counted by `valgrind --tool=callgrind`. With --growth each kind is replayed at several sizes, and what is told of each is how
+in turn, and the ratio is the median of the ratios of two runs that followed each other. With --without OTHER is run a third time in each
+turn, without that variable of the environment, in columns of its own. With --instructions one more run of each program is counted by
+`valgrind --tool=callgrind`. With --growth each kind is replayed at several sizes, and what is told of each is how
 much more it takes than the size before, beside how much more there are of bytes: the time of no kind should grow faster than its bytes
 times their logarithm.
 
@@ -95,10 +96,11 @@ def made(folder, words):
     return Log(path, path.stat().st_size)
 
 
-def used(program, *words):
-    """What a run of a program used of the machine, as `os.wait4` has it."""
+def used(program, *words, environment=None):
+    """What a run of a program used of the machine, as `os.wait4` has it, with this environment in place of our own."""
+    command = [program, *map(str, words)]
     with tempfile.TemporaryDirectory() as folder:
-        running = subprocess.Popen([program, *map(str, words)], cwd=folder, stdout=subprocess.DEVNULL, stderr=subprocess.PIPE)
+        running = subprocess.Popen(command, cwd=folder, env=environment, stdout=subprocess.DEVNULL, stderr=subprocess.PIPE)
         said = running.stderr.read()
         _, ended, usage = os.wait4(running.pid, 0)
         running.returncode = os.waitstatus_to_exitcode(ended)
@@ -109,9 +111,9 @@ def used(program, *words):
     return usage
 
 
-def seconds_of(program, *words):
+def seconds_of(program, *words, environment=None):
     """The processor seconds of a run, user and system."""
-    usage = used(program, *words)
+    usage = used(program, *words, environment=environment)
     return usage.ru_utime + usage.ru_stime
 
 
@@ -127,9 +129,9 @@ def instructions_of(program, *words):
     return int(counted[1])
 
 
-def seconds(program, log):
+def seconds(program, log, environment=None):
     """The processor seconds of one replay of the log."""
-    return seconds_of(program, "replay", log.path)
+    return seconds_of(program, "replay", log.path, environment=environment)
 
 
 def instructions(program, log):
@@ -137,14 +139,23 @@ def instructions(program, log):
     return instructions_of(program, "replay", log.path)
 
 
+def environments(options):
+    """With which environments the other program runs: our own, and perhaps the same without a variable."""
+    lacking = {name: value for name, value in os.environ.items() if name != options.without}
+    return [None, lacking] if options.without else [None]
+
+
 def compared(options, log):
-    """The medians of both programs' seconds, and of their ratios, of so many runs in turn."""
-    ours, others = [], []
+    """The medians of our seconds, and of the other program's and of their ratio with each environment, of so many runs in turn."""
+    turns = []
     for _ in range(options.runs):
-        ours.append(seconds(options.program, log))
-        others.append(seconds(options.beside, log))
-    ratios = [one / other if other else math.inf for one, other in zip(ours, others)]
-    return statistics.median(ours), statistics.median(others), statistics.median(ratios)
+        ours = seconds(options.program, log)
+        turns.append((ours, *[seconds(options.beside, log, environment) for environment in environments(options)]))
+    ours, *others = zip(*turns)
+    told = [statistics.median(ours)]
+    for other in others:
+        told += [statistics.median(other), statistics.median(one / two if two else math.inf for one, two in zip(ours, other))]
+    return told
 
 
 def row(options, name):
@@ -152,8 +163,10 @@ def row(options, name):
     log = made(options.logs, LOGS[name])
     told = [name, f"{log.size / 1e6:.1f}"]
     if options.beside:
-        ours, other, ratio = compared(options, log)
-        told += [f"{ours:.3f}", f"{other:.3f}", f"{ratio:.2f}"]
+        ours, *others = compared(options, log)
+        told += [f"{ours:.3f}"]
+        for other, ratio in zip(others[::2], others[1::2]):
+            told += [f"{other:.3f}", f"{ratio:.2f}"]
     else:
         told.append(f"{statistics.median(seconds(options.program, log) for _ in range(options.runs)):.3f}")
     if options.instructions:
@@ -167,6 +180,7 @@ def head(options):
     """The names of the columns."""
     names = ["log", "MB", "s"]
     names += ["other, s", "ratio"] if options.beside else []
+    names += [f"without {options.without}, s", "ratio"] if options.beside and options.without else []
     if options.instructions:
         names += ["M instructions"]
         names += ["other, M", "ratio"] if options.beside else []
@@ -213,6 +227,7 @@ def parser_of_words():
     parser.add_argument("program", metavar="PROGRAM", nargs="?", help="the built program")
     parser.add_argument("names", metavar="NAME", nargs="*", help="which logs (all)")
     parser.add_argument("--beside", metavar="OTHER", help="another program, which is run in turn with it")
+    parser.add_argument("--without", metavar="NAME", help="run the other program without this variable of the environment too")
     parser.add_argument("--runs", type=int, default=15, help="how many runs of each (15)")
     parser.add_argument("--logs", type=pathlib.Path, default=pathlib.Path("logs"), help="the folder of the logs (logs)")
     parser.add_argument("--instructions", action="store_true", help="count instructions too, with valgrind")
@@ -242,6 +257,8 @@ def options_of(words):
             parser.error(f"{name} isn't one of {', '.join(known)}")
     if options.runs < 1:
         parser.error("argument --runs: at least 1")
+    if options.without and not options.beside:
+        parser.error("argument --without: goes with --beside")
     options.names = options.names or list(known)
     return options
 

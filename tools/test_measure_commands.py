@@ -60,6 +60,15 @@ class Measured(unittest.TestCase):
         self.assertEqual(status, 0)
         self.assertRegex(out, r"\| gen \| gen 10 3000 \| \d\.\d{3} \|  \|  \|\n\Z")
 
+    def test_without_a_variable(self):
+        good = self.program("good", f"echo \"${{SHADE-none}}\" >>{self.room / 'shades'}")
+        with mock.patch.dict("os.environ", {"SHADE": "plain"}):
+            status, out, _ = said_by([*self.words(good, "--beside", good, "--without", "SHADE"), "gen"])
+        self.assertEqual(status, 0)
+        self.assertIn("| row | of | this | beside | ratio | without SHADE | ratio |", out)
+        self.assertEqual(len(out.splitlines()[2].split("|")), 9)
+        self.assertEqual((self.room / "shades").read_text(encoding="utf-8").split(), ["plain", "plain", "none"] * 2)
+
     def test_a_run_that_fails(self):
         status, _, err = said_by([*self.words(self.program("bad", "echo no >&2; exit 8")), "gen"])
         self.assertEqual(status, 2)
@@ -78,7 +87,8 @@ class Measured(unittest.TestCase):
         self.assertEqual([call.split()[0] for call in calls if call], ["migrate"] + ["replay"] * 4)
 
     def test_wrong_words(self):
-        for words in ([], ["no-such-program"], [self.program("good", "exit 0"), "no-row"]):
+        good = self.program("good", "exit 0")
+        for words in ([], ["no-such-program"], [good, "no-row"], [good, "--without", "SHADE"]):
             self.assertEqual(said_by(words)[0], 2)
 
     def test_the_rows(self):

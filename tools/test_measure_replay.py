@@ -57,6 +57,14 @@ class Measured(unittest.TestCase):
         self.assertEqual(status, 0)
         self.assertIn("| log | MB | s | other, s | ratio |", out)
 
+    def test_without_a_variable(self):
+        good = self.program("good", f"echo \"${{SHADE-none}}\" >>{self.room / 'shades'}")
+        with mock.patch.dict("os.environ", {"SHADE": "plain"}):
+            status, out, _ = said_by([*self.words(good, "--beside", good, "--without", "SHADE"), "small"])
+        self.assertEqual(status, 0)
+        self.assertIn("| log | MB | s | other, s | ratio | without SHADE, s | ratio |", out)
+        self.assertEqual((self.room / "shades").read_text(encoding="utf-8").split(), ["plain", "plain", "none"] * 2)
+
     def test_a_replay_that_fails(self):
         status, _, err = said_by(self.words(self.program("bad", "echo torn at 7 >&2; exit 2")))
         self.assertEqual(status, 2)
@@ -73,7 +81,7 @@ class Measured(unittest.TestCase):
         good = self.program("good", "exit 0")
         for words, says in (
             ([], "PROGRAM"), ([str(self.room / "none")], "isn't a program"), ([good, "even"], "even isn't one of small"),
-            ([good, "--runs", "0"], "at least 1"),
+            ([good, "--runs", "0"], "at least 1"), ([good, "--without", "SHADE"], "goes with --beside"),
         ):
             status, _, err = said_by(words)
             self.assertEqual(status, 2)
