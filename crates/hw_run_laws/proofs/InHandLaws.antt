@@ -189,7 +189,7 @@ given_up_keeps me a c name new (Ok m) validator sound left sound_behind ready at
     let on : GoesOn c.node.core.config c.node.keys name bytes m = again.starts in
     let next : StartsAgain c (standing m new) = record {
       bytes = bytes;
-      from = inr (again.mended, (again.says, refl));
+      from = inr (again.mended, again.says, refl);
       there = ap new on.log_is ∙ again.there;
       on = subst (λ (x : List ℕ). GoesOn c.node.core.config c.node.keys x bytes m) (sym on.log_is) on;
     } in
@@ -296,12 +296,12 @@ rests me a validator sound ready =
     call_keeps me a a validator sound sound ready (goes_on (serves [] [] 0 (raised 0) end.EndOfInput (quiet_serves a.node a.held 0) (fair_to_server me a.node)) tt)
 
 -- what was read and written in the first session of these
-first_read : Option (List Session) → List ℕ
+abbrev first_read : Option (List Session) → List ℕ
 first_read None = []
 first_read (Some []) = []
 first_read (Some (s ∷ more)) = s.read
 
-first_written : Option (List Session) → List ℕ
+abbrev first_written : Option (List Session) → List ℕ
 first_written None = []
 first_written (Some []) = []
 first_written (Some (s ∷ more)) = s.written
@@ -316,4 +316,4 @@ pub quiet_meeting_fair : QuietMeetingIsFair
 quiet_meeting_fair me side address n sent e read written told = subst (λ (bytes : List ℕ). IsFairMet me side n bytes) (ap first_read told) (fair_met me side n)
 
 pub crossed_there : CrossedAreThere
-crossed_there address sent back read written heard said caller host = (sym (ap first_read caller) ∙ ap first_written host, sym (ap first_read host) ∙ ap first_written caller)
+crossed_there address sent back read written heard said one other = (sym (ap first_read one) ∙ ap first_written other, sym (ap first_read other) ∙ ap first_written one)
