@@ -12,6 +12,9 @@ ghost use Rattle.hw_run_laws.specs.Prefixes.{StoppedReplays, StoppedParts, CutSe
 
 /// Consumers that had taken nothing, and are left where a replay or a run stops, have taken the first blocks of the
 /// chain that its node had decided by then, in order and each once.
+///
+/// Of a replay, `parts` is the clause to read: it says which entries of the log had been read by then, and that nothing
+/// behind them was told. `replays` leaves open which entries these are.
 pub fn cut_runs_leave_prefixes<B, K>()
     ensures replays { (sight : Sight B K) → StoppedReplays sight }
     ensures parts { (sight : Sight B K) → StoppedParts sight }

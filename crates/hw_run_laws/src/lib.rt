@@ -19,8 +19,10 @@ mod in_hand;
 mod laws;
 
 pub use in_hand::{
-    a_make_keeps_one_line, a_new_node_is_ready, a_planned_unit_may_be_taken,
-    a_session_keeps_one_line, a_start_keeps_one_line, nodes_that_met_agree,
+    a_driven_session_keeps_one_line, a_hosted_meeting_keeps_one_line, a_make_keeps_one_line,
+    a_meeting_keeps_one_line, a_new_node_is_ready, a_node_given_up_keeps_one_line,
+    a_planned_unit_may_be_taken, a_session_keeps_one_line, a_start_keeps_one_line,
+    an_accept_keeps_one_line, fair_sessions_are_there, nodes_that_met_agree,
 };
 pub use laws::{
     a_cut_log_is_mended, calls_keep_one_line, cut_calls_leave_a_log, cut_runs_are_there,

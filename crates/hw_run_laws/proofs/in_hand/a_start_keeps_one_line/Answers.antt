@@ -10,7 +10,5 @@ start-requires-clause-lawful g c = subst (λ (k : Config). config_fault k ≡ No
 pub start-requires-clause-keys : goal.start-requires-clause-keys
 start-requires-clause-keys g c = ap length c.requires.keys ∙ c.recall.ensures.kept.keys ∙ ap (λ (k : Config). length k.weights) (sym c.requires.config)
 
-pub returns : goal.returns
-returns g c = λ telling me validator ready.
-    start_keeps me c.args.node.now c.in_ok-next.next c.args.config c.args.keys c.args.log.now (g.F.Files.held c.args.files.now) (g.F.Files.held c.in_ok-next.new.files)
-    validator c.recall.ensures c.recall_2.ensures c.requires.config c.requires.keys c.requires.log (c.in_ok-next.ensures.said telling) (c.in_ok-next.ensures.log telling) ready
+pub returns-clause-line : goal.returns-clause-line
+returns-clause-line g c = λ telling me validator ready. start_keeps me c.args.node.now c.in_ok-next.next c.args.config c.args.keys c.args.log.now (g.F.Files.held c.args.files.now) (g.F.Files.held c.start.new.files) validator c.recall.ensures c.recall-2.ensures c.requires.config c.requires.keys c.requires.log (c.in_ok-next.ensures.said telling) (c.in_ok-next.ensures.log telling) ready
