@@ -1,17 +1,17 @@
 #!/usr/bin/env python3
 """Measures how long a built program takes to replay logs that are hard on it, alone or beside another one.
 
-    python3 tools/measure_replay.py PROGRAM [--beside OTHER [--without NAME]] [--runs 15] [--logs FOLDER] [--instructions] [NAME ..]
+    python3 tools/measure_replay.py PROGRAM [--beside OTHER [--without NAME]] [--runs 15] [--logs FOLDER] [--version2] [--instructions] [NAME ..]
     python3 tools/measure_replay.py PROGRAM --growth [NAME ..]
     python3 tools/measure_replay.py --list
 
 The logs are those of `--list`, or of them only the named ones; they are made by tools/worst_logs.py and kept in FOLDER. Each run is
 `PROGRAM replay LOG` in an empty folder. What is told are processor seconds (user and system), medians; beside another program the two run
 in turn, and the ratio is the median of the ratios of two runs that followed each other. With --without OTHER is run a third time in each
-turn, without that variable of the environment, in columns of its own. With --instructions one more run of each program is counted by
-`valgrind --tool=callgrind`. With --growth each kind is replayed at several sizes, and what is told of each is how
-much more it takes than the size before, beside how much more there are of bytes: the time of no kind should grow faster than its bytes
-times their logarithm.
+turn, without that variable of the environment, in columns of its own. With --version2 each log is replayed in version 2 too, in turn with
+version 1. With --instructions one more run of each program is counted by `valgrind --tool=callgrind`. With --growth each kind is replayed
+at several sizes, and what is told of each is how much more it takes than the size before, beside how much more there are of bytes: the
+time of no kind should grow faster than its bytes times their logarithm.
 
 The status is 0, 1 where a kind grows faster, and 2 where the words aren't understood or a replay ends with another status than 0.
 It stands outside the gate and proves nothing.
@@ -145,6 +145,11 @@ def environments(options):
     return [None, lacking] if options.without else [None]
 
 
+def ratio(some, others):
+    """The median of the ratios of seconds that followed each other."""
+    return statistics.median(one / two if two else math.inf for one, two in zip(some, others))
+
+
 def compared(options, log):
     """The medians of our seconds, and of the other program's and of their ratio with each environment, of so many runs in turn."""
     turns = []
@@ -154,8 +159,23 @@ def compared(options, log):
     ours, *others = zip(*turns)
     told = [statistics.median(ours)]
     for other in others:
-        told += [statistics.median(other), statistics.median(one / two if two else math.inf for one, two in zip(ours, other))]
+        told += [statistics.median(other), ratio(ours, other)]
     return told
+
+
+def newer(program, log):
+    """The same log in version 2, made by the program where it isn't beside it yet."""
+    path = log.path.with_suffix(".version2")
+    if not path.exists():
+        used(program, "migrate", log.path, path)
+    return Log(path, path.stat().st_size)
+
+
+def versions(options, log):
+    """The medians of our seconds in version 2, and of their ratio to those in version 1, of so many runs in turn."""
+    later = newer(options.program, log)
+    ours, earlier = zip(*[(seconds(options.program, later), seconds(options.program, log)) for _ in range(options.runs)])
+    return [statistics.median(ours), ratio(ours, earlier)]
 
 
 def row(options, name):
@@ -169,6 +189,9 @@ def row(options, name):
             told += [f"{other:.3f}", f"{ratio:.2f}"]
     else:
         told.append(f"{statistics.median(seconds(options.program, log) for _ in range(options.runs)):.3f}")
+    if options.version2:
+        ours, beside = versions(options, log)
+        told += [f"{ours:.3f}", f"{beside:.2f}"]
     if options.instructions:
         counts = [instructions(program, log) for program in (options.program, options.beside) if program]
         told += [f"{count / 1e6:.1f}" for count in counts]
@@ -181,6 +204,7 @@ def head(options):
     names = ["log", "MB", "s"]
     names += ["other, s", "ratio"] if options.beside else []
     names += [f"without {options.without}, s", "ratio"] if options.beside and options.without else []
+    names += ["version 2, s", "beside version 1"] if options.version2 else []
     if options.instructions:
         names += ["M instructions"]
         names += ["other, M", "ratio"] if options.beside else []
@@ -230,6 +254,7 @@ def parser_of_words():
     parser.add_argument("--without", metavar="NAME", help="run the other program without this variable of the environment too")
     parser.add_argument("--runs", type=int, default=15, help="how many runs of each (15)")
     parser.add_argument("--logs", type=pathlib.Path, default=pathlib.Path("logs"), help="the folder of the logs (logs)")
+    parser.add_argument("--version2", action="store_true", help="replay each log in version 2 too")
     parser.add_argument("--instructions", action="store_true", help="count instructions too, with valgrind")
     parser.add_argument("--growth", action="store_true", help="how each kind grows with its bytes")
     parser.add_argument("--slack", type=float, default=1.15, help="how many times more than allowed still passes (1.15)")

@@ -57,6 +57,13 @@ class Measured(unittest.TestCase):
         self.assertEqual(status, 0)
         self.assertIn("| log | MB | s | other, s | ratio |", out)
 
+    def test_both_versions(self):
+        program = self.program("both", "case $1 in migrate) cp \"$2\" \"$3\";; replay) test -s \"$2\";; *) exit 1;; esac")
+        status, out, _ = said_by([*self.words(program, "--version2"), "small"])
+        self.assertEqual(status, 0)
+        self.assertIn("| log | MB | s | version 2, s | beside version 1 |", out)
+        self.assertEqual(sorted(path.suffix for path in (self.room / "logs").iterdir()), [".hwlg", ".version2"])
+
     def test_without_a_variable(self):
         good = self.program("good", f"echo \"${{SHADE-none}}\" >>{self.room / 'shades'}")
         with mock.patch.dict("os.environ", {"SHADE": "plain"}):
