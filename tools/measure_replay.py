@@ -1,7 +1,8 @@
 #!/usr/bin/env python3
 """Measures how long a built program takes to replay logs that are hard on it, alone or beside another one.
 
-    python3 tools/measure_replay.py PROGRAM [--beside OTHER [--without NAME]] [--runs 15] [--logs FOLDER] [--version2] [--instructions] [NAME ..]
+    python3 tools/measure_replay.py PROGRAM [--beside OTHER [--without NAME]] [--version2] [--instructions] [--runs 15] [--logs FOLDER]
+                                    [NAME ..]
     python3 tools/measure_replay.py PROGRAM --growth [NAME ..]
     python3 tools/measure_replay.py --list
 
