@@ -12,7 +12,6 @@ use Rattle.hw_types.specs.Below.{Among}
 use Rattle.hw_types.specs.Journal.{Setting, received_of}
 use Rattle.hw_types.specs.Limits.{config_fault}
 use Rattle.hw_types.specs.Real.{CoreState, setting_of, received_in}
-use Rattle.hw_types.specs.Spelling.{VertexFits}
 use Rattle.hw_types.specs.Step.{step}
 use Rattle.hw_types.specs.laws.StateLaws.{SaysTheSame, HasSameState}
 use Rattle.hw_types.proofs.LimitLaws.{within_limits}
@@ -49,7 +48,6 @@ use Rattle.hw_session.specs.Restart.{journal_log}
 use Rattle.hw_session.specs.Sessions.{Serves, ServesPeer, ServesNone}
 use Rattle.hw_session.specs.Standing.{Standing, standing, driver_standing}
 use Rattle.hw_session.specs.Start.{GoesOn, Starts, StartsLog}
-use Rattle.hw_meeting.specs.Frames.{MeetingInRange}
 use Rattle.hw_meeting_node.specs.declared.end.MeetEnd.{MeetEnd}
 use Rattle.hw_meeting_node.specs.declared.end.MeetEnd.TheVariants as met_end
 use Rattle.hw_meeting_node.specs.declared.meeter.Side.{Side}

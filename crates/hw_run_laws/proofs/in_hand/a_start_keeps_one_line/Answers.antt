@@ -1,4 +1,4 @@
-use Rattle.std.proofs.Common.{List, length, ap, sym, subst, ◌∙◌, ◌≡◌, None}
+use Rattle.std.proofs.Common.{length, ap, sym, subst, ◌∙◌, ◌≡◌, None}
 use Rattle.hw_types.specs.declared.config.Config.{Config}
 use Rattle.hw_types.specs.Limits.{config_fault}
 use Rattle.hw_run_laws.proofs.InHandLaws.{start_keeps}
