@@ -4,7 +4,7 @@
   tools/bindings_numbers.py
 
 Statuses by name and number, rules by name and number, structs by their fields in order, and calls by their parameters
-in order stand in the crate, in bindings/c/highway.h and in bindings/rust/src. Where a text says another thing than the
+in order stand in the crate, in bindings/c/highway.h and in bindings/rust/src; the crate has rules' numbers from hw_text. Where a text says another thing than the
 crate, this names it and ends with 1. The texts are read as texts, so it proves nothing of them."""
 
 import re
@@ -155,12 +155,13 @@ def compared(crate, rules, header, wrapper, wrapper_rules):
 
 
 def texts(top=TOP):
-    """The texts that are compared: the crate, its statuses, the header, and the wrapper's declarations and rules."""
+    """The texts that are compared: the crate, the numbers of rules, the header, and the wrapper's declarations and rules."""
     folder, wrapper = top / "crates/hw_c/src", top / "bindings/rust/src"
     crate = "\n".join(it.read_text() for it in sorted(folder.glob("*.rt")))
     declared = (wrapper / "sys.rs").read_text() + (wrapper / "status.rs").read_text()
     header = (top / "bindings/c/highway.h").read_text()
-    return crate, (folder / "codes.rt").read_text(), header, declared, (wrapper / "rule.rs").read_text()
+    rules = (top / "crates/hw_text/src/rules.rt").read_text()
+    return crate, rules, header, declared, (wrapper / "rule.rs").read_text()
 
 
 def main():
