@@ -4,8 +4,9 @@
   tools/bindings_numbers.py
 
 Statuses by name and number, rules by name and number, structs by their fields in order, and calls by their parameters
-in order stand in the crate, in bindings/c/highway.h and in bindings/rust/src; the crate has rules' numbers from hw_text. Where a text says another thing than the
-crate, this names it and ends with 1. The texts are read as texts, so it proves nothing of them."""
+in order stand in the crate, in bindings/c/highway.h and in bindings/rust/src. The crate has the numbers of rules from
+hw_text. Where a text says another thing than the crate, this names it and ends with 1. The texts are read as texts, so
+it proves nothing of them."""
 
 import re
 import sys
