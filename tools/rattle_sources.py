@@ -174,6 +174,8 @@ def body_of(rows, at, indent):
                 if rows[last].rstrip() == indent + "}":
                     return start + 1, last
             return None
+        if start > at and row == indent + "{}":
+            return None
         if row.endswith(";") or (start > at and row == indent + "}"):
             return None
         if start == at and row.endswith("}"):

@@ -193,6 +193,11 @@ class Sources(InRepository):
         self.assertIn("more(self.count)", TOP.split("\n")[found["Steps::on"].body])
         self.assertEqual(found["odd"].cycle, "parity")
 
+    def test_a_body_without_lines_takes_no_line_of_the_next_function(self):
+        text = "fn hidden()\n    ensures { fact }\n{}\n\npub fn told(bytes: &[u8; 32])\n    ensures { fact }\n{\n    body()\n}\n"
+        self.assertEqual([it.name for it in functions_of(text)], ["told"])
+        self.assertIn("pub fn told(bytes: &[u8; 32])", interface_of(text))
+
     def test_functions_of_traits_are_named_by_type_and_trait(self):
         self.assertEqual([it.name for it in functions_of(LOW)], ["more", "helped", "Door::twice", "GateDoor::open"])
         self.assertEqual(owner_of("impl<T: Drop> From<AllocFailed<T>> for OutOfMemory {"), "OutOfMemoryFromAllocFailed")
