@@ -1,6 +1,6 @@
 -- The definitions with units named by SHA-256, as a node has them.
 -- Source: ours.
-use Rattle.std.specs.Prelude.{ℕ, Bool, List, Result}
+use Rattle.std.specs.Prelude.{ℕ, Bool, List, Option, Result, Some, length}
 use Rattle.hw_types.specs.declared.unit.Obs.{Obs}
 use Rattle.hw_types.specs.declared.unit.Vertex.{Vertex}
 use Rattle.hw_types.specs.declared.config.Config.{Config}
@@ -15,10 +15,20 @@ use Rattle.hw_types.specs.Spelling.{digest_of, instance_of}
 abbrev pub setting_of : Config → Setting
 setting_of config = record { config = config; instance = instance_of config; name = digest_of }
 
--- what a node is: its configuration and what it received
+-- what a node was asked last: after a journal of that length, the summit of the decided block of that place
+pub record Question : Type 0 where
+  pub decision : ℕ
+  pub at : ℕ
+
+-- what a node is: its configuration and what it received; and its last question, which no definition here looks at
 pub record CoreState : Type 0 where
   pub config : Config
   pub journal : List Vertex
+  pub asked : Option Question
+
+-- the node was asked this after its whole journal
+abbrev pub asked_in : CoreState → ℕ → CoreState
+asked_in c decision = record c { asked = Some (record { decision = decision; at = length c.journal }) }
 
 -- what the journal says
 abbrev pub received_in : CoreState → Received
