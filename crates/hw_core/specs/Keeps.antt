@@ -105,4 +105,4 @@ pub record IsKept (instance : Digest) (journal : List Vertex) (park : Parked Pre
   pub node : IsNode journal park state
   pub fork_is : IsChoice state worked.fork
   pub decided_is : IsDecided (setting_of state.config) journal state (length park.waiting) worked.decided
-  pub shown_is : IsShown (record { config = state.config; journal = journal }) state worked.shown
+  pub shown_is : IsShown (record { config = state.config; journal = journal; asked = worked.shown.asked }) state worked.shown

@@ -25,7 +25,7 @@ use Rattle.hw_core.specs.Readers.{node_in, fork_in, exceeded_in}
 
 -- a node that has received nothing
 abbrev pub begun : Config → CoreState
-begun config = record { config = config; journal = [] }
+begun config = record { config = config; journal = []; asked = None }
 
 -- the node after these deliveries
 abbrev pub delivered : Config → List (Vertex × Bool) → CoreState
@@ -39,7 +39,7 @@ answers_to c (d ∷ ds) = answer_in c d.0 d.1 ∷ answers_to (after_in c d.0 d.1
 -- After any deliveries a node has the journal that the definitions give of them, and gave their answers.
 abbrev pub DeliveriesAreTheJournal : Type 0
 DeliveriesAreTheJournal = (config : Config) (deliveries : List (Vertex × Bool))
-    → (delivered config deliveries ≡ record { config = config; journal = journal_of (setting_of config) deliveries })
+    → (delivered config deliveries ≡ record { config = config; journal = journal_of (setting_of config) deliveries; asked = None })
     × (answers_to (begun config) deliveries ≡ answers_from (setting_of config) [] deliveries)
 
 -- what holds of each node

@@ -1,10 +1,11 @@
 -- The summit of a decided block in the present state.
-use Rattle.std.specs.Prelude.{◌≡◌, ℕ, ◌≤◌, List, Option, Some, is_some, IsTrue, slice_get}
+use Rattle.std.specs.Prelude.{◌≡◌, ℕ, ◌≤◌, ◌==◌, Bool, false, List, Option, Some, None, is_some, IsTrue, length, slice_get}
 use Rattle.hw_types.specs.declared.answers.Decision.{Decision}
 use Rattle.hw_types.specs.declared.unit.Obs.{Obs}
 use Rattle.hw_types.specs.Graph.{Node}
 use Rattle.hw_types.specs.Below.{Among}
 use Rattle.hw_types.specs.Summit.{Committees, HasSummit, IsGreatest}
+use Rattle.hw_types.specs.declared.answers.Question.{Question}
 use Rattle.hw_types.specs.Real.{CoreState, settled_in, panorama_in}
 use Rattle.hw_admit.specs.State.{NodeState}
 use Rattle.hw_horizon.specs.Search.{Search, committees_of}
@@ -26,21 +27,6 @@ pub record HasSummitNow (c : CoreState) (index : ℕ) : Type 0 where
   pub is : IsDecidedBlock c index decision block
   pub summit : HasSummit c.config.weights (settled_in c) (panorama_in c) block decision.level decision.quorum
 
--- these are the committees of the greatest such summit of some decided block
-pub record AreGreatestNow (c : CoreState) (committees : Committees) : Type 0 where
-  pub index : ℕ
-  pub decision : Decision
-  pub block : Node
-  pub is : IsDecidedBlock c index decision block
-  pub greatest : IsGreatest c.config.weights (settled_in c) (panorama_in c) block decision.level decision.quorum committees
-
--- there the validator starts in the committee of the level of the greatest such summit of some decided block
-pub record IsStartNow (c : CoreState) (level validator start : ℕ) : Type 0 where
-  pub committees : Committees
-  pub greatest : AreGreatestNow c committees
-  pub member : IsTrue (committees.member level validator)
-  pub start_is : committees.start level validator ≡ start
-
 -- there the validator starts in the committee of that level, which is none above the decision's, of the greatest such summit of the
 -- decided block of that place; source: Highway
 pub record IsStartOf (c : CoreState) (index level validator start : ℕ) : Type 0 where
@@ -53,12 +39,24 @@ pub record IsStartOf (c : CoreState) (index level validator start : ℕ) : Type 
   pub member : IsTrue (committees.member level validator)
   pub start_is : committees.start level validator ≡ start
 
+-- no vertex came since the last question, and there the validator starts for the block that it was about
+pub record IsStartNow (c : CoreState) (level validator start : ℕ) : Type 0 where
+  pub question : Question
+  pub asked : c.asked ≡ Some question
+  pub now : question.at ≡ length c.journal
+  pub start : IsStartOf c question.decision level validator start
+
 -- ---- what a node keeps of it
 
--- what the last search left, and the place of the decided block that it was for, where no vertex came since
+-- what the last search left, and the question that it answered
 pub record ShownState : Type 0 where
   pub search : Search
-  pub asked : Option ℕ
+  pub asked : Option Question
+
+-- it is about a journal of this length
+abbrev pub is_about : Option Question → ℕ → Bool
+is_about None count = false
+is_about (Some q) count = q.at == count
 
 -- the search left the greatest such summit for the block, or none where there is none
 pub record IsAnswer (weights : List ℕ) (units : List Node) (panorama : List Obs) (block : Node) (level quorum : ℕ) (search : Search) : Type 0 where
@@ -79,7 +77,8 @@ pub record IsSearchOf (s : Search) (state : NodeState) : Type 0 where
   pub levels : s.levels ≡ state.config.levels
   pub walks : AreKept state.dag s.walks
 
--- what is shown is what there is for the decided block that was asked for
+-- what is shown is what there is for the decided block that was asked for, unless a vertex came since
 pub record IsShown (c : CoreState) (state : NodeState) (shown : ShownState) : Type 0 where
   pub search : IsSearchOf shown.search state
-  pub asked : (index : ℕ) → shown.asked ≡ Some index → IsAnswerOf c index shown.search
+  pub within : (q : Question) → shown.asked ≡ Some q → q.at ≤ length c.journal
+  pub asked : (q : Question) → shown.asked ≡ Some q → q.at ≡ length c.journal → IsAnswerOf c q.decision shown.search

@@ -5,20 +5,20 @@ ghost use Rattle.hw_types.specs.{Limits.{config_fault}, Summit.{HasSummit}};
 ghost use Rattle.hw_dag.specs.{Dag.{UnitGraph, graph, count_of, node_at, observations}, Admission.{IsGraph}};
 ghost use Rattle.hw_admit.specs.State.{observed_in};
 ghost use Rattle.hw_horizon.specs.{Search.{start_of}, Kept.{AreKept}};
-ghost use Rattle.hw_core.specs.Shown.{IsSearchOf, IsAnswer};
+ghost use Rattle.hw_core.specs.Shown.{IsSearchOf, IsAnswer, is_about};
 
 use hw_admit::State;
 use hw_dag::UnitNo;
 use hw_horizon::Horizons;
-use hw_types::{Config, OutOfMemory};
+use hw_types::{Config, OutOfMemory, Question};
 use std::alloc::Global;
 use std::marker::Model;
 
 /// The greatest summit that was asked for last.
 pub struct Shown {
     horizons: Horizons,
-    /// The place of the decided block that the last search was for, where no vertex came since.
-    asked: Option<u64>,
+    /// What the last search was for.
+    asked: Option<Question>,
 }
 
 // For the prover: so its drop is one call, and else is written out wherever one is let go.
@@ -56,19 +56,12 @@ impl Shown {
         })
     }
 
-    /// A vertex came, so that nothing is shown any more.
-    pub fn forget(&mut self)
-        ensures { self.new ≡ record self.old { asked = None } }
-    {
-        self.asked = None;
-    }
-
     /// Whether the block has a summit of this level and quorum in the state, whose greatest is then shown. It
-    /// is the decided block of that place.
+    /// is the decided block that is asked for.
     pub fn show(
         &mut self,
         state: &State,
-        index: u64,
+        question: Question,
         block: UnitNo,
         level: u32,
         quorum: u64,
@@ -77,7 +70,7 @@ impl Shown {
         requires known { block.0 < count_of state.now.dag }
         requires level { level ≤ state.now.config.levels }
         ensures exact { IsTrue result ↔ HasSummit state.now.config.weights (graph state.now.dag) (observations state.now.dag state.now.panorama) (node_at state.now.dag block.0) level quorum }
-        ensures asked { self.new.asked ≡ Some index }
+        ensures asked { self.new.asked ≡ Some question }
         ensures answer { IsAnswer state.now.config.weights (graph state.now.dag) (observations state.now.dag state.now.panorama) (node_at state.now.dag block.0) level quorum self.new.search }
         ensures search { IsSearchOf self.new.search state.now }
         ensures graph { IsGraph state.now.dag }
@@ -89,34 +82,50 @@ impl Shown {
         let found = self
             .horizons
             .greatest(dag, weights, panorama, block, level, quorum);
-        self.asked = Some(index);
+        self.asked = Some(question);
         found
     }
 
     /// Shows the same, unless it is shown already.
-    pub fn show_once(&mut self, state: &State, index: u64, block: UnitNo, level: u32, quorum: u64)
+    pub fn show_once(
+        &mut self,
+        state: &State,
+        question: Question,
+        block: UnitNo,
+        level: u32,
+        quorum: u64,
+    )
         requires search { IsSearchOf self.old.search state.now }
         requires known { block.0 < count_of state.now.dag }
         requires level { level ≤ state.now.config.levels }
-        requires shown { self.old.asked ≡ Some index → IsAnswer state.now.config.weights (graph state.now.dag) (observations state.now.dag state.now.panorama) (node_at state.now.dag block.0) level quorum self.old.search }
-        ensures asked { self.new.asked ≡ Some index }
+        requires shown { self.old.asked ≡ Some question → IsAnswer state.now.config.weights (graph state.now.dag) (observations state.now.dag state.now.panorama) (node_at state.now.dag block.0) level quorum self.old.search }
+        ensures asked { self.new.asked ≡ Some question }
         ensures answer { IsAnswer state.now.config.weights (graph state.now.dag) (observations state.now.dag state.now.panorama) (node_at state.now.dag block.0) level quorum self.new.search }
         ensures search { IsSearchOf self.new.search state.now }
     {
-        if self.asked == Some(index) {
-            return;
+        if !self.answers(question) {
+            self.show(state, question, block, level, quorum);
         }
-        self.show(state, index, block, level, quorum);
     }
 
-    /// The start of a validator in the committee of a level of the summit that is shown.
-    pub fn start(&self, level: u32, validator: u32) -> Option<u64>
-        ensures { result ≡ (if is_some self.now.asked then start_of self.now.search level validator else None) }
+    /// Whether the last search was for this question.
+    fn answers(&self, question: Question) -> bool
+        ensures { IsTrue result ↔ (self.now.asked ≡ Some question) }
     {
-        if self.asked.is_some() {
-            self.horizons.start(level, validator)
-        } else {
-            None
+        match self.asked {
+            Some(asked) => asked.decision == question.decision && asked.at == question.at,
+            None => false,
+        }
+    }
+
+    /// The start of a validator in the committee of a level of the summit that is shown, where the journal's length
+    /// is still what it was.
+    pub fn start(&self, count: u64, level: u32, validator: u32) -> Option<u64>
+        ensures { result ≡ (if is_about self.now.asked count then start_of self.now.search level validator else None) }
+    {
+        match self.asked {
+            Some(asked) if asked.at == count => self.horizons.start(level, validator),
+            _ => None,
         }
     }
 }

@@ -6,6 +6,7 @@ use Rattle.hw_types.specs.declared.unit.Vertex.{Vertex}
 use Rattle.hw_types.specs.declared.config.Config.{Config}
 use Rattle.hw_types.specs.declared.answers.Receipt.{Receipt}
 use Rattle.hw_types.specs.declared.answers.Cause.{Cause}
+use Rattle.hw_types.specs.declared.answers.Question.{Question}
 use Rattle.hw_types.specs.Graph.{Node}
 use Rattle.hw_types.specs.Settled.{settled_of, panorama_of, faulty_weight, Received}
 use Rattle.hw_types.specs.Journal.{Setting, received_of, answer, journal_after}
@@ -14,11 +15,6 @@ use Rattle.hw_types.specs.Spelling.{digest_of, instance_of}
 -- a configuration, with names by SHA-256
 abbrev pub setting_of : Config → Setting
 setting_of config = record { config = config; instance = instance_of config; name = digest_of }
-
--- what a node was asked last: after a journal of that length, the summit of the decided block of that place
-pub record Question : Type 0 where
-  pub decision : ℕ
-  pub at : ℕ
 
 -- what a node is: its configuration and what it received; and its last question, which no definition here looks at
 pub record CoreState : Type 0 where

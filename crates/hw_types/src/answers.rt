@@ -136,6 +136,15 @@ pub struct Decision {
     pub at: u64,
 }
 
+/// What a node was asked last: whether one of its decided blocks has a summit.
+#[derive(Clone, Copy)]
+pub struct Question {
+    /// The place of the decided block, from 0.
+    pub decision: u64,
+    /// How long the journal was then.
+    pub at: u64,
+}
+
 /// A validator that equivocated, shown by two signed units as they are spelled in a vertex.
 #[derive(Drop)]
 pub struct Culprit {
