@@ -90,7 +90,7 @@ module _ (instance : Digest) (journal : List Vertex) (names : List (Digest × �
     (kept : IsKept instance journal park state (record { names = names; rules = rules; room = room }) (record { fork = fork; decided = decided; shown = shown })) where
   -- what a node keeps after a delivery, of the same configuration
   pub kept_with : (vs : List Vertex) (names' : List (Digest × ℕ)) (after : Parked PreparedUnit) (rules' : List (Digest × Rule)) (room' : ℕ) (later : NodeState) (fork' : Option UnitNo) (decided' : DecidedState) (shown' : ShownState)
-      → later.config ≡ state.config → IsTable (setting_of state.config) vs names' → AreRules (setting_of state.config) vs rules' → length after.waiting ≤ room' → ((v : Vertex) → Among v vs → VertexFits v) → HasPairs (setting_of state.config) vs → IsNode vs after later → IsChoice later fork' → IsDecided (setting_of later.config) vs later (length after.waiting) decided' → IsShown (record { config = later.config; journal = vs }) later shown'
+      → later.config ≡ state.config → IsTable (setting_of state.config) vs names' → AreRules (setting_of state.config) vs rules' → length after.waiting ≤ room' → ((v : Vertex) → Among v vs → VertexFits v) → HasPairs (setting_of state.config) vs → IsNode vs after later → IsChoice later fork' → IsDecided (setting_of later.config) vs later (length after.waiting) decided' → IsShown (record { config = later.config; journal = vs; asked = shown'.asked }) later shown'
       → IsKept instance vs after later (record { names = names'; rules = rules'; room = room' }) (record { fork = fork'; decided = decided'; shown = shown' })
   kept_with vs names' after rules' room' later fork' decided' shown' same table rules_are places fit pairs node choice is_decided is_shown = record {
     instance_is = kept.instance_is ∙ ap (λ (c : Config). instance_of c) (sym same);

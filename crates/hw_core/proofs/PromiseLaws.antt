@@ -47,7 +47,7 @@ unfolding answers_from
 answers_are c [] = refl
 answers_are c (d ∷ ds) = ap (λ (rs : List (Result Receipt Cause)). answer_in c d.0 d.1 ∷ rs) (answers_are (after_in c d.0 d.1) ds)
 
-delivered_is : (config : Config) (ds : List (Vertex × Bool)) → delivered config ds ≡ record { config = config; journal = journal_of (setting_of config) ds }
+delivered_is : (config : Config) (ds : List (Vertex × Bool)) → delivered config ds ≡ record { config = config; journal = journal_of (setting_of config) ds; asked = None }
 delivered_is config ds = delivered_from (begun config) ds
 
 pub deliveries_are : DeliveriesAreTheJournal
@@ -63,11 +63,13 @@ nodes_sound config ds = subst IsSound (sym (delivered_is config ds)) (record {
 
 -- so is one whose journal deliveries made
 pub come_sound : (c : CoreState) → HasCome c.config c.journal → IsSound c
-come_sound c come = subst IsSound (delivered_is c.config come.0 ∙ ap (λ (vs : List Vertex). record { config = c.config; journal = vs }) (sym come.1)) (nodes_sound c.config come.0)
+come_sound c come =
+    let is = subst IsSound (delivered_is c.config come.0 ∙ ap (λ (vs : List Vertex). record { config = c.config; journal = vs; asked = None }) (sym come.1)) (nodes_sound c.config come.0) in
+    record { pairs = is.pairs; records = is.records; parked = is.parked; apart = is.apart }
 
 -- ---- order
 
-tells_same : (config : Config) (left right : List Vertex) → received_of (setting_of config) left ≡ received_of (setting_of config) right → TellsTheSame (record { config = config; journal = left }) (record { config = config; journal = right })
+tells_same : (config : Config) (left right : List Vertex) → received_of (setting_of config) left ≡ received_of (setting_of config) right → TellsTheSame (record { config = config; journal = left; asked = None }) (record { config = config; journal = right; asked = None })
 tells_same config left right e = record {
   settled = ap (λ (k : Received). settled_of config k) e;
   parked = ap (λ (k : Received). parked_of config k) e;

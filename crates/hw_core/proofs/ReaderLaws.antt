@@ -116,7 +116,7 @@ map_twice g f (Some a) = refl
 module _ (instance : Digest) (journal : List Vertex) (names : List (Digest × ℕ)) (park : Parked PreparedUnit) (rules : List (Digest × Rule)) (room : ℕ) (state : NodeState) (fork : Option UnitNo) (decided : DecidedState) (shown : ShownState)
     (kept : IsKept instance journal park state (record { names = names; rules = rules; room = room }) (record { fork = fork; decided = decided; shown = shown })) where
   abbrev pub core : CoreState
-  core = record { config = state.config; journal = journal }
+  core = record { config = state.config; journal = journal; asked = shown.asked }
 
   abbrev s : Setting
   s = setting_of state.config

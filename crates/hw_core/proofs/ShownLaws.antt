@@ -1,11 +1,12 @@
 -- The summit of a decided block in the present state.
-use Rattle.std.proofs.Common.{◌≡◌, ℕ, ◌<◌, ◌≤◌, Bool, true, false, List, cond, Some, refl, sym, ap, subst, subst₂, ◌∙◌, arith}
+use Rattle.std.proofs.Common.{◌≡◌, ℕ, ◌<◌, ◌≤◌, Bool, true, false, List, cond, length, Some, refl, sym, ap, subst, subst₂, ◌∙◌, eqb-true, eq-eqb, arith}
 use Rattle.std.proofs.lemmas.Bool.{leb-true}
-use Rattle.std.specs.Prelude.{◌↔◌, IsTrue, nat_le, slice_get, Option, None, is_some, IfSome, IfNone}
+use Rattle.std.specs.Prelude.{◌↔◌, ◌==◌, IsTrue, nat_le, slice_get, Option, None, is_some, IfSome, IfNone}
 use Rattle.hw_types.specs.declared.unit.Digest.{Digest}
 use Rattle.hw_types.specs.declared.unit.Obs.{Obs}
 use Rattle.hw_types.specs.declared.unit.Vertex.{Vertex}
 use Rattle.hw_types.specs.declared.answers.Decision.{Decision}
+use Rattle.hw_types.specs.declared.answers.Question.{Question}
 use Rattle.hw_types.specs.declared.config.Config.{Config}
 use Rattle.hw_types.specs.Graph.{Node, digest_eq}
 use Rattle.hw_types.specs.Below.{Among}
@@ -29,7 +30,7 @@ use Rattle.hw_horizon.specs.Detected.{decision_of, decisions_of as found_in}
 use Rattle.hw_core.specs.Settle.{HasMoreRoom}
 use Rattle.hw_core.specs.Keeps.{IsNode}
 use Rattle.hw_core.specs.Decided.{DecidedState, IsDecided}
-use Rattle.hw_core.specs.Shown.{IsDecidedBlock, HasSummitNow, IsStartNow, IsStartOf, ShownState, IsSearchOf, IsAnswer, IsAnswerOf, IsShown}
+use Rattle.hw_core.specs.Shown.{IsDecidedBlock, HasSummitNow, IsStartNow, IsStartOf, ShownState, IsSearchOf, IsAnswer, IsAnswerOf, IsShown, is_about}
 use Rattle.hw_core.proofs.SettleLaws.{grows_roomy}
 use Rattle.hw_core.proofs.SettleLaws.{all_at}
 use Rattle.hw_core.proofs.DecidedLaws.{decided_is, get_mapped, found_at, node_panorama}
@@ -45,18 +46,26 @@ search_stays q state later g h config grows is = record {
 
 -- nothing was asked for
 pub shown_none : (c : CoreState) (state : NodeState) (shown : ShownState) → shown.asked ≡ None → IsSearchOf shown.search state → IsShown c state shown
-shown_none c state shown none is = record { search = is; asked = λ i e. absurd (let both : None ≡ Some i = sym none ∙ e in cc) }
+shown_none c state shown none is = record {
+  search = is;
+  within = λ q e. absurd (let both : None ≡ Some q = sym none ∙ e in cc);
+  asked = λ q e. absurd (let both : None ≡ Some q = sym none ∙ e in cc);
+}
 
--- a vertex came
-pub shown_forgot : (before after : CoreState) (state later : NodeState) (shown forgot : ShownState) → IsGraph state.dag → IsGraph later.dag → later.config ≡ state.config → GrowsTo state.dag later.dag → forgot ≡ record shown { asked = None }
-    → IsShown before state shown → IsShown after later forgot
-shown_forgot before after state later shown forgot g h config grows is shows = shown_none after later forgot (ap (λ (t : ShownState). t.asked) is)
-    (subst (λ (t : ShownState). IsSearchOf t.search later) (sym is) (search_stays shown.search state later g h config grows shows.search))
+-- a vertex came, so that the last question is about a shorter journal
+pub shown_after : (before after : CoreState) (state later : NodeState) (shown : ShownState) → IsGraph state.dag → IsGraph later.dag → later.config ≡ state.config → GrowsTo state.dag later.dag → length before.journal < length after.journal
+    → IsShown before state shown → IsShown after later shown
+shown_after before after state later shown g h config grows longer shows = record {
+  search = search_stays shown.search state later g h config grows shows.search;
+  within = λ q e. (let few = shows.within q e in omega arith);
+  asked = λ q e now. absurd (let few = shows.within q e in omega arith);
+}
 
 -- more room in the state changes nothing
 pub shown_still : (c : CoreState) (state later : NodeState) (shown : ShownState) → IsGraph state.dag → IsGraph later.dag → HasMoreRoom state later → IsShown c state shown → IsShown c later shown
 shown_still c state later shown g h more is = record {
   search = search_stays shown.search state later g h (ap (λ (t : NodeState). t.config) more.unchanged) (grows_roomy state later more) is.search;
+  within = is.within;
   asked = is.asked;
 }
 
@@ -132,27 +141,50 @@ module _ (c : CoreState) (index : ℕ) (q : Search) (asked : IsAnswerOf c index 
   told_none one None e = start_is_none (sym e) one
   told_none one (Some n) e = tt
 
-pub start_told : (c : CoreState) (state : NodeState) (shown : ShownState) → IsShown c state shown → (level validator : ℕ) (r : Option ℕ) → r ≡ cond (is_some shown.asked) (start_of shown.search level validator) None
-    → IfSome r (IsStartNow c level validator)
-start_told c state shown is level validator None e = tt
-start_told c state shown is level validator (Some n) e = go shown.asked refl
-  where
-    go : (o : Option ℕ) → shown.asked ≡ o → IsStartNow c level validator n
-    go None f = absurd (let none : Some n ≡ None = e ∙ ap (λ (o : Option ℕ). cond (is_some o) (start_of shown.search level validator) None) f in cc)
-    go (Some index) f =
-        let at : start_of shown.search level validator ≡ Some n = sym (e ∙ ap (λ (o : Option ℕ). cond (is_some o) (start_of shown.search level validator) None) f) in
-        let s = start_is_of c index shown.search (is.asked index f) level validator n at in
-        record {
-          committees = s.committees;
-          greatest = record { index = index; decision = s.decision; block = s.block; is = s.is; greatest = s.greatest };
-          member = s.member;
-          start_is = s.start_is;
-        }
+-- a place of the decided blocks is that of one block alone
+one_decided : (c : CoreState) (state : NodeState) → graph state.dag ≡ settled_in c → (index : ℕ) (d e : Decision) (x y : Node) → IsDecidedBlock c index d x → IsDecidedBlock c index e y → (d ≡ e) × (x ≡ y)
+one_decided c state settled index d e x y is other =
+    let one : d ≡ e = (let both : Some d ≡ Some e = sym is.at ∙ other.at in cc) in
+    let name : x.digest ≡ y.digest = is.name ∙ ap (λ (t : Decision). t.block) one ∙ sym other.name in
+    let back : (z : Node) → Among z (settled_in c) → Among z (graph state.dag) = λ z m. subst (λ (xs : List Node). Among z xs) (sym settled) m in (
+      one,
+      rising_one_name (graph state.dag) (graph_rising state.dag) x y x.digest (back x is.settled) (back y other.settled) (digest_self x.digest)
+          (subst (λ (t : Digest). digest_eq t x.digest ≡ true) name (digest_self x.digest)),
+    )
+
+module _ (c : CoreState) (state : NodeState) (shown : ShownState) (is : IsShown c state shown) (same : c.asked ≡ shown.asked) (level validator : ℕ) where
+  told_at : Option Question → Option ℕ
+  told_at o = cond (is_about o (length c.journal)) (start_of shown.search level validator) None
+
+  -- the question is about the journal as it is
+  now_at : (q : Question) (b : Bool) → (q.at == length c.journal) ≡ b → (n : ℕ) → Some n ≡ cond b (start_of shown.search level validator) None → (q.at ≡ length c.journal) × (start_of shown.search level validator ≡ Some n)
+  now_at q true f n e = (eqb-true q.at (length c.journal) f, sym e)
+  now_at q false f n e = absurd (let none : Some n ≡ None = e in cc)
+
+  pub start_some : (r : Option ℕ) → r ≡ told_at shown.asked → IfSome r (IsStartNow c level validator)
+  start_some None e = tt
+  start_some (Some n) e = go shown.asked refl
+    where
+      go : (o : Option Question) → shown.asked ≡ o → IsStartNow c level validator n
+      go None f = absurd (let none : Some n ≡ None = e ∙ ap told_at f in cc)
+      go (Some q) f =
+          let now = now_at q (q.at == length c.journal) refl n (e ∙ ap told_at f) in
+          record { question = q; asked = same ∙ f; now = now.0; start = start_is_of c q.decision shown.search (is.asked q f now.0) level validator n now.1 }
+
+  pub start_none : graph state.dag ≡ settled_in c → (r : Option ℕ) → r ≡ told_at shown.asked → IfNone r ((n : ℕ) → IsStartNow c level validator n → ⊥)
+  start_none settled (Some n) e = tt
+  start_none settled None e = λ n s.
+      let asked : shown.asked ≡ Some s.question = sym same ∙ s.asked in
+      let answer = is.asked s.question asked s.now in
+      let about : (s.question.at == length c.journal) ≡ true = eq-eqb s.question.at (length c.journal) s.now in
+      let none : start_of shown.search level validator ≡ None = sym (e ∙ ap told_at asked ∙ ap (λ (b : Bool). cond b (start_of shown.search level validator) None) about) in
+      start_is_none c s.question.decision shown.search answer level validator none
+      (λ d x m. one_decided c state settled s.question.decision d answer.decision x answer.block m answer.is) n s.start
 
 module _ (journal : List Vertex) (park : Parked PreparedUnit) (state : NodeState) (node : IsNode journal park state) (d : DecidedState) (waiting : ℕ) (decided : IsDecided (setting_of state.config) journal state waiting d)
-    (index : ℕ) (told : Decision) (there : slice_get d.decisions index ≡ Some told) (f : Found) (at : slice_get d.detector.found index ≡ Some f) where
+    (asked : Option Question) (index : ℕ) (told : Decision) (there : slice_get d.decisions index ≡ Some told) (f : Found) (at : slice_get d.detector.found index ≡ Some f) where
   abbrev core : CoreState
-  core = record { config = state.config; journal = journal }
+  core = record { config = state.config; journal = journal; asked = asked }
 
   record_is : told ≡ decision_of state.dag f
   record_is =
@@ -183,14 +215,7 @@ module _ (journal : List Vertex) (park : Parked PreparedUnit) (state : NodeState
 
     -- and no other is
     pub one_block : (d : Decision) (x : Node) → IsDecidedBlock core index d x → (d ≡ told) × (x ≡ block)
-    one_block d x is =
-        let one : d ≡ told = (let both : Some d ≡ Some told = sym is.at ∙ is_block.at in cc) in
-        let name : x.digest ≡ block.digest = is.name ∙ ap (λ (e : Decision). e.block) (one ∙ record_is) in
-        let there : Among x (graph state.dag) = subst (λ (xs : List Node). Among x xs) (sym node.is_of.settled) is.settled in (
-          one,
-          rising_one_name (graph state.dag) (graph_rising state.dag) x block x.digest there (node_among state.dag g f.block.0 block_known) (digest_self x.digest)
-              (subst (λ (e : Digest). digest_eq e x.digest ≡ true) name (digest_self x.digest)),
-        )
+    one_block d x is = one_decided core state node.is_of.settled index d told x block is is_block
 
     module _ (observed : observations state.dag state.panorama ≡ observed_in state.config state.marked (graph state.dag)) where
       panorama_same : observations state.dag state.panorama ≡ panorama_in core

@@ -44,7 +44,7 @@ pub struct Refused {
     pub vertex: Vertex,
 }
 
-/// All that a node keeps. Contracts see its configuration and its journal, and nothing else.
+/// All that a node keeps. Contracts see its configuration, its journal and its last question, and nothing else.
 pub(crate) struct CoreInner {
     /// The digest of its configuration.
     instance: Digest,
@@ -90,6 +90,7 @@ impl Model for CoreInner {
     ghost view = { λ c. record {
       config = c.state.config;
       journal = c.journal.items;
+      asked = c.shown.asked;
     } };
 
     ghost invariant = { λ c. IsKept c.instance c.journal.items c.park c.state
@@ -104,6 +105,7 @@ impl CoreInner {
         ensures fault { IfErr result (IsStartFault (config_fault config)) }
         ensures config { IfOk result (λ core. core.config ≡ config) }
         ensures empty { IfOk result (λ core. core.journal ≡ []) }
+        ensures asked { IfOk result (λ core. core.asked ≡ None) }
     {
         let state = State::new(alloc, config)?;
         let start = begin(alloc, state.config())?;
@@ -274,16 +276,9 @@ impl CoreInner {
             Ok(receipt) => {
                 list_unit(&mut self.names, &mut self.journal, unit, name);
                 if let Receipt::Admitted { .. } = receipt {
-                    self.fork = follow(
-                        self.journal.as_slice(),
-                        &mut self.state,
-                        &mut self.decided,
-                        &mut self.shown,
-                    );
-                } else {
-                    // Nothing settled, so that the fork choice and the decided blocks stay as they are.
-                    self.shown.forget();
+                    self.fork = follow(self.journal.as_slice(), &mut self.state, &mut self.decided);
                 }
+                // Where nothing settled, the fork choice and the decided blocks stay as they are.
                 Ok(receipt)
             }
             Err(cause) => Err(unit_back(cause, unit)),
@@ -332,15 +327,9 @@ impl CoreInner {
             Ok(settled) => {
                 if settled == 0 {
                     // So the fork choice and the decided blocks stay as they are.
-                    self.shown.forget();
                     return Ok(Receipt::Admitted { settled });
                 }
-                self.fork = follow(
-                    self.journal.as_slice(),
-                    &mut self.state,
-                    &mut self.decided,
-                    &mut self.shown,
-                );
+                self.fork = follow(self.journal.as_slice(), &mut self.state, &mut self.decided);
                 Ok(Receipt::Admitted { settled })
             }
             Err(NotPut::Repeat) => Ok(Receipt::Repeat),
@@ -394,12 +383,7 @@ impl CoreInner {
         let _after = self.state.dag();
         match added {
             Ok(settled) => {
-                self.fork = follow(
-                    self.journal.as_slice(),
-                    &mut self.state,
-                    &mut self.decided,
-                    &mut self.shown,
-                );
+                self.fork = follow(self.journal.as_slice(), &mut self.state, &mut self.decided);
                 Ok(Receipt::Admitted { settled })
             }
             Err(evidence) => Err(sent_back(Cause::OutOfMemory, Vertex::Evidence(evidence))),

@@ -5,7 +5,7 @@ ghost use Rattle.hw_types.specs.Graph.{slot};
 ghost use Rattle.hw_types.specs.Settled.{has_evidence, parked_of, dropped_of};
 ghost use Rattle.hw_types.specs.Spelling.{VertexFits, Fits, instance_of};
 ghost use Rattle.hw_types.specs.laws.StateLaws.{units_in, NamesApart};
-ghost use Rattle.hw_types.specs.Real.{setting_of, received_in, settled_in, panorama_in, weight_in};
+ghost use Rattle.hw_types.specs.Real.{setting_of, received_in, settled_in, panorama_in, weight_in, asked_in};
 ghost use Rattle.hw_types.specs.Limits.{config_fault};
 ghost use Rattle.hw_types.specs.declared.unit.Vertex.TheVariants as vertex;
 ghost use Rattle.hw_safety.specs.Safety.{HasPairs};
@@ -254,21 +254,24 @@ impl CoreInner {
     pub(crate) fn summit_now(&mut self, index: u64) -> bool
         requires { index < length (decided_in self.old) }
         ensures exact { IsTrue result ↔ HasSummitNow self.old index }
-        ensures unchanged { self.new ≡ self.old }
+        ensures asked { self.new ≡ asked_in self.old index }
     {
         let block = self.decided.block(index);
         let decision = *self.decided.get(index);
+        let asked = self.journal.question(index);
         self.shown
-            .show(&self.state, index, block, decision.level, decision.quorum)
+            .show(&self.state, asked, block, decision.level, decision.quorum)
     }
 
     /// Where the validator starts in the committee of the level of the greatest summit that the last
-    /// `summit_now` or `summit_start_of` found. None for a validator outside the committee, where it found
-    /// none, and where a vertex came since.
+    /// `summit_now` or `summit_start_of` found. None exactly where a vertex came since or there was no such question,
+    /// where it found none, where the level is above the decision's, and for a validator outside the committee.
     pub(crate) fn summit_start(&self, level: u32, validator: u32) -> Option<u64>
-        ensures { IfSome result (IsStartNow self.now level validator) }
+        ensures start { IfSome result (IsStartNow self.now level validator) }
+        ensures none { IfNone result ((start : ℕ) → IsStartNow self.now level validator start → ⊥) }
     {
-        self.shown.start(level, validator)
+        let count = self.journal.len() as u64;
+        self.shown.start(count, level, validator)
     }
 
     /// Where the validator starts in the committee of the level of the greatest summit, of its level and quorum,
@@ -278,16 +281,17 @@ impl CoreInner {
         requires { index < length (decided_in self.old) }
         ensures start { IfSome result (IsStartOf self.old index level validator) }
         ensures none { IfNone result ((start : ℕ) → IsStartOf self.old index level validator start → ⊥) }
-        ensures unchanged { self.new ≡ self.old }
+        ensures asked { self.new ≡ asked_in self.old index }
     {
         // For the prover: what holds of the state's graph and panorama.
         let _dag = self.state.dag();
         let _panorama = self.state.panorama();
         let block = self.decided.block(index);
         let decision = *self.decided.get(index);
+        let asked = self.journal.question(index);
         self.shown
-            .show_once(&self.state, index, block, decision.level, decision.quorum);
-        self.shown.start(level, validator)
+            .show_once(&self.state, asked, block, decision.level, decision.quorum);
+        self.shown.start(asked.at, level, validator)
     }
 
     /// Its state, for reading.

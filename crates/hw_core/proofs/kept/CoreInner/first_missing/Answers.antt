@@ -27,7 +27,7 @@ returns-in-None c =
     let core = c.self.inside in
     let none = unit_none core.instance core.journal.items core.names.entries core.park core.dropped.entries core.dropped.room core.state core.fork core.decided core.shown c.self.invariant c.args.unit.now (subst (λ (vs : List Vertex). (n : ℕ) (u : SignedUnit) → lookup (digest_eq c.args.unit.now) core.names.entries ≡ Some n → slice_get vs n ≡ Some (vertex.Unit u) → ⊥) c.as_slice.ensures.value c.in-None.ensures.none) in
     c.new.ensures ∙ sym (none_of c.args.most)
-    ∙ ap (λ (o : Option SignedUnit). take c.args.most (missed_by (record { config = core.state.config; journal = core.journal.items }) o)) (sym none)
+    ∙ ap (λ (o : Option SignedUnit). take c.args.most (missed_by (record { config = core.state.config; journal = core.journal.items; asked = core.shown.asked }) o)) (sym none)
     ∙ ap (λ (k : CoreState). take c.args.most (missing_needs k c.args.unit.now)) c.self.view_is
 
 pub returns-in_ok-needs-in-Some : goal.returns-in_ok-needs-in-Some

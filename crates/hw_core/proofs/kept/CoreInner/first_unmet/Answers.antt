@@ -10,5 +10,5 @@ returns-clause-first c =
     let core = c.self.inside in
     let most = length c.args.list.now in
     c.first_needs.ensures.first
-    ∙ ap (λ (ns : List Need). take most ns) (awaited_is core.journal.items core.park core.state c.self.invariant.node core.names.entries c.self.invariant.table)
+    ∙ ap (λ (ns : List Need). take most ns) (awaited_is core.journal.items core.park core.state c.self.invariant.node core.names.entries c.self.invariant.table core.shown.asked)
     ∙ ap (λ (k : CoreState). take most (unmet_in k)) c.self.view_is

@@ -21,7 +21,7 @@ invariant_of-result c =
     c.new-journal.result.items c.new-journal.ensures.items c.new-names.result.entries c.new-names.ensures.empty c.new-dropped.result.entries c.new-dropped.ensures.empty c.new-dropped.result.room start.decided
     (decided_start c.args.config state start.decided c.new-journal.result.items (length start.park.waiting) begun.config c.dag-graph.ensures.graph begun.empty c.new-journal.ensures.items
     (ap (λ (k : Parked PreparedUnit). length k.waiting) e.park) (e.config ∙ same ∙ begun.config) e.none e.empty e.true_of)
-    start.shown (shown_start (record { config = state.config; journal = c.new-journal.result.items }) state start.shown (length c.args.config.weights) begun.validators
+    start.shown (shown_start (record { config = state.config; journal = c.new-journal.result.items; asked = start.shown.asked }) state start.shown (length c.args.config.weights) begun.validators
     (e.validators ∙ ap (λ (config : Config). length config.weights) (same ∙ begun.config)) (e.levels ∙ ap (λ (config : Config). config.levels) same)
     e.walks e.unshown)
 

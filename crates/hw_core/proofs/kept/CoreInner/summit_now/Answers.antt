@@ -1,6 +1,7 @@
 use Rattle.std.proofs.Common.{◌≡◌, ℕ, ◌<◌, Some, ◌∙◌, List, length, refl, sym, ap, subst, arith}
 use Rattle.std.specs.Prelude.{◌↔◌, IsTrue}
 use Rattle.hw_types.specs.declared.answers.Decision.{Decision}
+use Rattle.hw_types.specs.declared.answers.Question.{Question}
 use Rattle.hw_types.specs.Summit.{HasSummit}
 use Rattle.hw_types.specs.Real.{CoreState}
 use Rattle.hw_dag.specs.declared.numbers.UnitNo.{UnitNo}
@@ -32,13 +33,13 @@ show-requires-clause-known c =
     let core = c.self.inside in
     let f = c.block-block.ensures in
     subst (λ (b : UnitNo). b.0 < count_of core.state.dag) (sym f.2)
-    (block_known core.journal.items core.park core.state c.self.invariant.node core.decided (length core.park.waiting) c.self.invariant.decided_is c.args.index c.get-decision.result.now (sym c.get-decision.ensures) f.0 f.1)
+    (block_known core.journal.items core.park core.state c.self.invariant.node core.decided (length core.park.waiting) c.self.invariant.decided_is core.shown.asked c.args.index c.get-decision.result.now (sym c.get-decision.ensures) f.0 f.1)
 
 pub show-requires-clause-level : goal.show-requires-clause-level
 show-requires-clause-level c =
     let core = c.self.inside in
     let f = c.block-block.ensures in
-    level_high core.journal.items core.park core.state c.self.invariant.node core.decided (length core.park.waiting) c.self.invariant.decided_is c.args.index c.get-decision.result.now (sym c.get-decision.ensures) f.0 f.1
+    level_high core.journal.items core.park core.state c.self.invariant.node core.decided (length core.park.waiting) c.self.invariant.decided_is core.shown.asked c.args.index c.get-decision.result.now (sym c.get-decision.ensures) f.0 f.1
 
 pub returns-clause-exact : goal.returns-clause-exact
 returns-clause-exact c =
@@ -46,8 +47,8 @@ returns-clause-exact c =
     let f = c.block-block.ensures in
     let told = c.get-decision.result.now in
     let exact = subst (λ (b : UnitNo). IsTrue c.show.result ↔ HasSummit core.state.config.weights (graph core.state.dag) (observations core.state.dag core.state.panorama) (node_at core.state.dag b.0) told.level told.quorum) f.2 c.show.ensures.exact in
-    let to = summit_to core.journal.items core.park core.state c.self.invariant.node core.decided (length core.park.waiting) c.self.invariant.decided_is c.args.index told (sym c.get-decision.ensures) f.0 f.1 c.show.ensures.graph c.show.ensures.observed in
-    let back = summit_back core.journal.items core.park core.state c.self.invariant.node core.decided (length core.park.waiting) c.self.invariant.decided_is c.args.index told (sym c.get-decision.ensures) f.0 f.1 c.show.ensures.graph c.show.ensures.observed in
+    let to = summit_to core.journal.items core.park core.state c.self.invariant.node core.decided (length core.park.waiting) c.self.invariant.decided_is core.shown.asked c.args.index told (sym c.get-decision.ensures) f.0 f.1 c.show.ensures.graph c.show.ensures.observed in
+    let back = summit_back core.journal.items core.park core.state c.self.invariant.node core.decided (length core.park.waiting) c.self.invariant.decided_is core.shown.asked c.args.index told (sym c.get-decision.ensures) f.0 f.1 c.show.ensures.graph c.show.ensures.observed in
     subst (λ (k : CoreState). IsTrue c.show.result ↔ HasSummitNow k c.args.index) c.self.view_is (λ t. to (exact.0 t), λ h. exact.1 (back h))
 
 pub invariant_of-self : goal.invariant_of-self
@@ -55,14 +56,16 @@ invariant_of-self c =
     let core = c.self.inside in
     let f = c.block-block.ensures in
     let told = c.get-decision.result.now in
-    let answer = answer_to core.journal.items core.park core.state c.self.invariant.node core.decided (length core.park.waiting) c.self.invariant.decided_is c.args.index told (sym c.get-decision.ensures) f.0 f.1 c.show.ensures.graph c.show.ensures.observed in
+    let answer = answer_to core.journal.items core.park core.state c.self.invariant.node core.decided (length core.park.waiting) c.self.invariant.decided_is c.show.new.self.asked c.args.index told (sym c.get-decision.ensures) f.0 f.1 c.show.ensures.graph c.show.ensures.observed in
+    let is_question : (q : Question) → c.show.new.self.asked ≡ Some q → record { decision = c.args.index; at = length core.journal.items } ≡ q = λ q e.
+    (let both : Some (record { decision = c.args.index; at = length core.journal.items }) ≡ Some q = ap (λ (r : Question). Some r) (sym c.question-asked.ensures) ∙ sym c.show.ensures.asked ∙ e in cc) in
     kept_with core.instance core.journal.items core.names.entries core.park core.dropped.entries core.dropped.room core.state core.fork core.decided core.shown c.self.invariant
     core.journal.items core.names.entries core.park core.dropped.entries core.dropped.room core.state core.fork core.decided c.show.new.self refl c.self.invariant.table c.self.invariant.rules_are c.self.invariant.places c.self.invariant.fit
     c.self.invariant.pairs c.self.invariant.node c.self.invariant.fork_is c.self.invariant.decided_is
     (record {
       search = c.show.ensures.search;
-      asked = λ i e.
-          let same : c.args.index ≡ i = (let both : Some c.args.index ≡ Some i = sym c.show.ensures.asked ∙ e in cc) in
-          subst (λ (k : ℕ). IsAnswerOf (record { config = core.state.config; journal = core.journal.items }) k c.show.new.self.search) same
+      within = λ q e. (let same = ap (λ (r : Question). r.at) (is_question q e) in omega arith);
+      asked = λ q e now.
+          subst (λ (k : ℕ). IsAnswerOf (record { config = core.state.config; journal = core.journal.items; asked = c.show.new.self.asked }) k c.show.new.self.search) (ap (λ (r : Question). r.decision) (is_question q e))
           (answer c.show.new.self.search (subst (λ (b : UnitNo). IsAnswer core.state.config.weights (graph core.state.dag) (observations core.state.dag core.state.panorama) (node_at core.state.dag b.0) told.level told.quorum c.show.new.self.search) f.2 c.show.ensures.answer));
     })

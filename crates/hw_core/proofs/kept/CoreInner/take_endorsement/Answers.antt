@@ -60,7 +60,7 @@ invariant_of-self-in-Ok c =
     (subst (λ (vs : List Vertex). AreRules (setting_of core.state.config) vs done.dropped.entries) e.journal c.add_endorsement-added.ensures.rules) c.add_endorsement-added.ensures.places
     (fit_more core.instance core.journal.items core.names.entries core.park core.dropped.entries core.dropped.room core.state core.fork core.decided core.shown c.self.invariant v tt)
     (pairs_more core.instance core.journal.items core.names.entries core.park core.dropped.entries core.dropped.room core.state core.fork core.decided core.shown c.self.invariant v (λ e is. absurd cc))
-    run.new.decided run.result followed run.new.shown run.ensures.shown run.new.state run.ensures.state
+    run.new.decided run.result followed run.new.state run.ensures.state
 
 pub invariant_of-self : goal.invariant_of-self
 invariant_of-self c =
@@ -78,4 +78,3 @@ invariant_of-self c =
     (subst (λ (vs : List Vertex). AreRules (setting_of core.state.config) vs done.dropped.entries) e.journal c.add_endorsement-added.ensures.rules) c.add_endorsement-added.ensures.places
     (fit_more core.instance core.journal.items core.names.entries core.park core.dropped.entries core.dropped.room core.state core.fork core.decided core.shown c.self.invariant v tt)
     (pairs_more core.instance core.journal.items core.names.entries core.park core.dropped.entries core.dropped.room core.state core.fork core.decided core.shown c.self.invariant v (λ e is. absurd cc))
-    c.forget.new.self c.forget.ensures

@@ -56,7 +56,7 @@ invariant_of-self c =
     (pairs_more core.instance core.journal.items core.names.entries core.park core.dropped.entries core.dropped.room core.state core.fork core.decided core.shown c.self.invariant v (λ e is. (let same : c.args.evidence ≡ e = (let both : vertex.Evidence c.args.evidence ≡ vertex.Evidence e = is in cc) in
     subst (λ (p : Evidence). evidence_fault (setting_of core.state.config) p ≡ None) same
     (pair_taken (setting_of core.state.config) core.journal.items c.args.evidence (was_accepted core.state.config core.journal.items v (subst (λ (k : CoreState). IsTaken k.config k.journal v) (sym c.self.view_is) c.requires.taken)).not_refused))))
-    run.new.decided run.result followed run.new.shown run.ensures.shown run.new.state run.ensures.state
+    run.new.decided run.result followed run.new.state run.ensures.state
 
 pub invariant_of-self-in-Err : goal.invariant_of-self-in-Err
 invariant_of-self-in-Err c =

@@ -74,7 +74,7 @@ invariant_of-self c =
     listed.journal.items journal listed.names.entries done.dropped.entries done.dropped.room table placed.rules_are c.add_unit-added.ensures.places
     (fit_more core.instance core.journal.items core.names.entries core.park core.dropped.entries core.dropped.room core.state core.fork core.decided core.shown c.self.invariant (vertex.Unit u) c.requires.fits)
     (pairs_more core.instance core.journal.items core.names.entries core.park core.dropped.entries core.dropped.room core.state core.fork core.decided core.shown c.self.invariant (vertex.Unit u) (λ e is. absurd cc))
-    run.new.decided run.result followed run.new.shown run.ensures.shown run.new.state run.ensures.state
+    run.new.decided run.result followed run.new.state run.ensures.state
 
 pub invariant_of-self-in_default : goal.invariant_of-self-in_default
 invariant_of-self-in_default c =
@@ -99,7 +99,6 @@ invariant_of-self-in_default c =
     listed.journal.items journal listed.names.entries done.dropped.entries done.dropped.room table placed.rules_are c.add_unit-added.ensures.places
     (fit_more core.instance core.journal.items core.names.entries core.park core.dropped.entries core.dropped.room core.state core.fork core.decided core.shown c.self.invariant (vertex.Unit u) c.requires.fits)
     (pairs_more core.instance core.journal.items core.names.entries core.park core.dropped.entries core.dropped.room core.state core.fork core.decided core.shown c.self.invariant (vertex.Unit u) (λ e is. absurd cc))
-    c.forget.new.self c.forget.ensures
 
 pub invariant_of-self-in-Err : goal.invariant_of-self-in-Err
 invariant_of-self-in-Err c =
