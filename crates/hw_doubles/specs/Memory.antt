@@ -152,6 +152,10 @@ door_planned door = planned_calls door.plan
 abbrev pub door_calls : MemDoor → ℕ
 door_calls door = calls_made door.plan
 
+-- the most bytes that a read of it gives and a write takes, or 0 where that is one
+abbrev pub door_piece : MemDoor → ℕ
+door_piece door = door.piece
+
 -- the sessions of a watched door
 abbrev pub watched_sessions : WatchedDoor → List Session
 watched_sessions door = door_sessions door.door
@@ -163,6 +167,10 @@ watched_asks door = door.asks.items
 -- what the peers of a paced door hold back
 abbrev pub paced_holds : PacedDoor → List Hold
 paced_holds paced = paced.holds.items
+
+-- the same of a paced door, which keeps it: that of its door goes down where bytes are held back
+abbrev pub paced_piece : PacedDoor → ℕ
+paced_piece paced = paced.piece
 
 -- how many of the next bytes of a session are held back by none of these, after so many that were read and written; 2 ^ 64 - 1 where nothing is held back
 abbrev pub free_behind : List Hold → ℕ → ℕ → ℕ

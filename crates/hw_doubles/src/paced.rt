@@ -27,16 +27,18 @@ pub struct PacedDoor {
     /// The door, whose peers are told of and whose calls are planned as ever.
     pub door: MemDoor,
     holds: Vec<Hold>,
+    /// The most bytes that a read gives and a write takes, where no fewer are free.
     piece: usize,
 }
 
 impl PacedDoor {
-    ghost use Rattle.hw_doubles.specs.Memory.{paced_holds, paced_free};
+    ghost use Rattle.hw_doubles.specs.Memory.{door_piece, paced_holds, paced_piece, paced_free};
 
     /// The door, of which nothing is held back.
     pub fn new(alloc: Global, door: MemDoor) -> PacedDoor
         ensures door { result.door ≡ door }
         ensures holds { paced_holds result ≡ [] }
+        ensures piece { paced_piece result ≡ door_piece door }
     {
         let piece = door.piece();
         PacedDoor {
@@ -52,6 +54,7 @@ impl PacedDoor {
         ensures ok { OnOk result (paced_holds self.new ≡ paced_holds self.old ++ record { said = said; written = written } ∷ []) }
         ensures err { OnErr result (paced_holds self.new ≡ paced_holds self.old) }
         ensures door { self.new.door ≡ self.old.door }
+        ensures piece { paced_piece self.new ≡ paced_piece self.old }
     {
         self.holds.push(Hold { said, written })?;
         Ok(())
@@ -89,7 +92,7 @@ fn free_behind(holds: &[Hold], heard: usize, written: usize) -> usize
 }
 
 impl Door for PacedDoor {
-    ghost use Rattle.hw_doubles.specs.Memory.{door_sessions, door_is_open, door_numbers, paced_holds, paced_free};
+    ghost use Rattle.hw_doubles.specs.Memory.{door_sessions, door_is_open, door_numbers, paced_holds, paced_piece, paced_free};
 
     ghost sessions = { λ door. Some (door_sessions door.door) };
 
@@ -107,6 +110,7 @@ impl Door for PacedDoor {
 
     fn accept(&mut self) -> Result<(), IoFault>
         ensures holds { paced_holds self.new ≡ paced_holds self.old }
+        ensures piece { paced_piece self.new ≡ paced_piece self.old }
 
         ensures sessions { Some (door_sessions self.new.door) ≡ option_map (sessions_after None result) (Some (door_sessions self.old.door)) }
         ensures session { door_is_open self.new.door ≡ is_ok result }
@@ -120,6 +124,7 @@ impl Door for PacedDoor {
 
     fn dial(&mut self, address: &str) -> Result<(), IoFault>
         ensures holds { paced_holds self.new ≡ paced_holds self.old }
+        ensures piece { paced_piece self.new ≡ paced_piece self.old }
 
         ensures sessions { Some (door_sessions self.new.door) ≡ option_map (sessions_after (Some address.now) result) (Some (door_sessions self.old.door)) }
         ensures session { door_is_open self.new.door ≡ is_ok result }
@@ -136,6 +141,7 @@ impl Door for PacedDoor {
         ensures free { IfOk result (λ count. count ≤ paced_free self.old) }
         ensures sure { 0 < paced_free self.old → fails_next self.old.door.plan ≡ false → door_is_open self.old.door ≡ true → IsOk result }
         ensures holds { paced_holds self.new ≡ paced_holds self.old }
+        ensures piece { paced_piece self.new ≡ paced_piece self.old }
 
         ensures bound { ReadsAtMost result buf.new }
         ensures sessions { Some (door_sessions self.new.door) ≡ option_map (in_session (door_is_open self.old.door) (after_read result buf.new)) (Some (door_sessions self.old.door)) }
@@ -157,6 +163,7 @@ impl Door for PacedDoor {
 
     fn write(&mut self, bytes: &[u8]) -> Result<usize, IoFault>
         ensures holds { paced_holds self.new ≡ paced_holds self.old }
+        ensures piece { paced_piece self.new ≡ paced_piece self.old }
 
         ensures some { TakesSome result bytes.now }
         ensures sessions { Some (door_sessions self.new.door) ≡ option_map (in_session (door_is_open self.old.door) (after_write result bytes.now)) (Some (door_sessions self.old.door)) }
@@ -173,6 +180,8 @@ impl Door for PacedDoor {
 
     fn hang_up(&mut self)
         ensures holds { paced_holds self.new ≡ paced_holds self.old }
+        ensures piece { paced_piece self.new ≡ paced_piece self.old }
+        ensures plan { self.new.door.plan ≡ self.old.door.plan }
 
         ensures session { door_is_open self.new.door ≡ false }
         ensures sessions { Some (door_sessions self.new.door) ≡ Some (door_sessions self.old.door) }

@@ -21,7 +21,7 @@ use Rattle.hw_dag.proofs.LaneLaws.{history, on_lane_among, seen_entry, lane_is_s
 use Rattle.hw_dag.proofs.MarkLaws.{seen_earlier}
 use Rattle.hw_dag.proofs.GrowthLaws.{count_grows, unit_stays, is_lane_below_stays}
 use Rattle.hw_horizon.specs.Firsts.{is_after, sees_after, weight_after}
-use Rattle.hw_horizon.specs.Bounds.{LevelBound, KeptBounds, tip_of, bound_of, first_of, support_of, counts_at, IsBounded, tip_in, AreTips}
+use Rattle.hw_horizon.specs.Bounds.{LevelBound, AskedBounds, tip_of, bound_of, first_of, support_of, counts_at, IsBounded, tip_in, AreTips}
 use Rattle.hw_horizon.specs.Laws.{BoundsRuleOut, BoundsStay, SumsStay}
 use Rattle.hw_horizon.proofs.LaneLaws.{lane_self, lane_lower, lane_above}
 use Rattle.hw_horizon.proofs.VoteLaws.{votes_are}
@@ -63,7 +63,7 @@ slot_number dag panorama v u e = go (view_at panorama v) refl
 -- ---- a summit is within the bounds
 
 module _ (weights : List ℕ) (dag : UnitGraph) (g : IsGraph dag) (aw : AreWeights weights dag) (panorama : List View) (ip : IsPanorama dag panorama) (consistent : is_consistent (graph dag) (observations dag panorama) ≡ true)
-    (kept : KeptBounds) (block : UnitNo) (are : (v : ℕ) (tip : UnitNo) → tip_of kept v ≡ Some tip → IsBounded weights dag block.0 kept.least kept.levels v tip.0) (tips : AreTips panorama kept)
+    (kept : AskedBounds) (block : UnitNo) (are : (v : ℕ) (tip : UnitNo) → tip_of kept v ≡ Some tip → IsBounded weights dag block.0 kept.least kept.levels v tip.0) (tips : AreTips panorama kept)
     (known : block.0 < count_of dag) (level quorum : ℕ) (few : kept.least ≤ quorum) (c : Committees) (s : IsSummit weights (graph dag) (observations dag panorama) (node_at dag block.0) level quorum c) where
   abbrev bound : ℕ → LevelBound
   bound j = bound_of kept.levels j

@@ -14,7 +14,7 @@ use Rattle.hw_dag.specs.Admission.{IsGraph}
 use Rattle.hw_dag.specs.Lanes.{is_lane_below}
 use Rattle.hw_horizon.specs.Starts.{votes_over}
 use Rattle.hw_horizon.specs.Firsts.{is_after, sees_after, weight_after, has_quorum}
-use Rattle.hw_horizon.specs.Bounds.{LevelBound, KeptBounds, AreBounds, tip_in, bound_of, first_of, support_of, counts_at, counts_over, IsFirstOf, IsBounded, AreLowered, AreSameBelow, IsOutside, IsGap}
+use Rattle.hw_horizon.specs.Bounds.{LevelBound, AskedBounds, AreBounds, tip_in, bound_of, first_of, support_of, counts_at, counts_over, IsFirstOf, IsBounded, AreLowered, AreSameBelow, IsOutside, IsGap}
 use Rattle.hw_horizon.specs.declared.follow.Span.{Span}
 use Rattle.hw_horizon.proofs.LaneLaws.{lane_self, lane_same, lane_lower, lane_above}
 use Rattle.hw_horizon.proofs.BoundLaws.{lane_earlier, lane_order}
@@ -280,7 +280,7 @@ tip_correct view.Faulty tip e = absurd cc
 tip_correct (view.Correct number) tip e = let same : number ≡ tip = cc in ap view.Correct same
 
 -- what was kept serves where the same is asked again
-pub bounds_again : (weights : List ℕ) (dag : UnitGraph) (old : KeptBounds) (block : UnitNo) (least : ℕ) (tips : List (Option UnitNo)) (again : Bool) → AreBounds weights dag old → (again ≡ true → old.block ≡ Some block) → (again ≡ true → old.least ≡ least)
+pub bounds_again : (weights : List ℕ) (dag : UnitGraph) (old : AskedBounds) (block : UnitNo) (least : ℕ) (tips : List (Option UnitNo)) (again : Bool) → AreBounds weights dag old → (again ≡ true → old.block ≡ Some block) → (again ≡ true → old.least ≡ least)
     → (again ≡ true → tips ≡ old.tips) → (again ≡ false → (v : ℕ) → get_or tips v None ≡ None) → (v : ℕ) (tip : UnitNo) → get_or tips v None ≡ Some tip → IsBounded weights dag block.0 least old.levels v tip.0
 bounds_again weights dag old block least tips true are same_block same_least same_tips none v tip e =
     subst (λ (n : ℕ). IsBounded weights dag block.0 n old.levels v tip.0) (same_least refl)

@@ -10,7 +10,7 @@ use Rattle.hw_dag.specs.declared.numbers.View.TheVariants as view
 use Rattle.hw_dag.specs.Dag.{UnitGraph, unit_at, count_of, view_at, IsPanorama}
 use Rattle.hw_dag.specs.Admission.{IsGraph}
 use Rattle.hw_horizon.specs.Firsts.{is_after, sees_after, weight_after, IsNear, AreSeen}
-use Rattle.hw_horizon.specs.Bounds.{LevelBound, KeptBounds, AreBounds, AreTips, AreWide, IsExact, AreExact, tip_in}
+use Rattle.hw_horizon.specs.Bounds.{LevelBound, AskedBounds, AreBounds, AreTips, AreWide, IsExact, AreExact, tip_in}
 use Rattle.hw_horizon.proofs.FirstLaws.{correct_inside}
 use Rattle.hw_horizon.proofs.FollowLaws.{put_other, put_same}
 use Rattle.hw_horizon.proofs.WeightLaws.{one_fewer}
@@ -74,7 +74,7 @@ seen_now weights dag panorama bound firsts seen exact es ef =
     }))
 
 -- the bounds of this panorama say it of each level
-pub exact_levels : (weights : List ℕ) (dag : UnitGraph) (panorama : List View) (kept : KeptBounds) (block : UnitNo) → AreWide dag.validators kept → AreBounds weights dag kept → AreTips panorama kept → kept.block ≡ Some block → AreExact weights dag panorama kept
+pub exact_levels : (weights : List ℕ) (dag : UnitGraph) (panorama : List View) (kept : AskedBounds) (block : UnitNo) → AreWide dag.validators kept → AreBounds weights dag kept → AreTips panorama kept → kept.block ≡ Some block → AreExact weights dag panorama kept
 exact_levels weights dag panorama kept block wide are tips asked j lj = record {
   long = wide.support j lj;
   each = λ v tip slot. (are block asked v tip (tips v (correct_inside panorama v tip slot) ∙ ap tip_in slot)).support j lj;

@@ -18,7 +18,7 @@ use Rattle.hw_forks.proofs.AncestorLaws.{over_anc, anc_over}
 use Rattle.hw_horizon.specs.declared.kept.Walk.{Walk}
 use Rattle.hw_horizon.specs.declared.fences.Fence.{Fence}
 use Rattle.hw_horizon.specs.Starts.{IsStart, IsWalked, votes_over}
-use Rattle.hw_horizon.specs.Kept.{KeptWalks, walk_of, walk_from, IsWalk, AreWalks, IsFence}
+use Rattle.hw_horizon.specs.Kept.{AskedWalks, walk_of, walk_from, IsWalk, AreWalks, IsFence}
 use Rattle.hw_horizon.specs.Laws.{WalksStay}
 use Rattle.hw_horizon.proofs.VoteLaws.{vote_known}
 
@@ -30,7 +30,7 @@ from_start dag block tip (Some start) lt s walk e =
     subst (λ (w : Walk). IsWalk dag block w) same (record { known = lt; start_is = s })
 
 -- a walk more
-pub walks_more : (dag : UnitGraph) (block : ℕ) (old new : KeptWalks) (v : ℕ) (tip : UnitNo) (o : Option ℕ) → v < length old.walks → AreWalks dag block old → new.walks ≡ set old.walks v (walk_from tip o)
+pub walks_more : (dag : UnitGraph) (block : ℕ) (old new : AskedWalks) (v : ℕ) (tip : UnitNo) (o : Option ℕ) → v < length old.walks → AreWalks dag block old → new.walks ≡ set old.walks v (walk_from tip o)
     → tip.0 < count_of dag → IsStart dag tip.0 0 (votes_over dag block) o → AreWalks dag block new
 walks_more dag block old new v tip o lt are put known s w walk e = elim (cases_eq w v) [
   | inl same ↦ from_start dag block tip o known s walk

@@ -17,14 +17,14 @@ pub record LevelBound : Type 0 where
   pub support : List ℕ
 
 -- the block, the least quorum that they are for, the latest unit of each validator, and the bound of each level from 0 on
-pub record KeptBounds : Type 0 where
+pub record AskedBounds : Type 0 where
   pub block : Option UnitNo
   pub least : ℕ
   pub tips : List (Option UnitNo)
   pub levels : List LevelBound
 
 -- the latest unit of a validator
-abbrev pub tip_of : KeptBounds → ℕ → Option UnitNo
+abbrev pub tip_of : AskedBounds → ℕ → Option UnitNo
 tip_of kept v = slice_index_or kept.tips v None
 
 -- the bound of a level
@@ -56,7 +56,7 @@ pub record IsBounded (weights : List ℕ) (dag : UnitGraph) (block least : ℕ) 
   pub support : (j : ℕ) → j < length levels → weight_after weights dag (bound_of levels j).firsts tip ≡ support_of (bound_of levels j) v
 
 -- what is kept is true of the graph
-abbrev pub AreBounds : List ℕ → UnitGraph → KeptBounds → Type 0
+abbrev pub AreBounds : List ℕ → UnitGraph → AskedBounds → Type 0
 AreBounds weights dag kept = (block : UnitNo) → kept.block ≡ Some block → (v : ℕ) (tip : UnitNo) → tip_of kept v ≡ Some tip → IsBounded weights dag block.0 kept.least kept.levels v tip.0
 
 -- the unit of a slot
@@ -66,11 +66,11 @@ tip_in (view.Correct number) = Some number
 tip_in view.Faulty = None
 
 -- the latest units that are kept are those of the panorama
-abbrev pub AreTips : List View → KeptBounds → Type 0
+abbrev pub AreTips : List View → AskedBounds → Type 0
 AreTips panorama kept = (v : ℕ) → v < length panorama → tip_of kept v ≡ tip_in (view_at panorama v)
 
 -- a slot for each validator in the tips and in each level
-pub record AreWide (validators : ℕ) (kept : KeptBounds) : Type 0 where
+pub record AreWide (validators : ℕ) (kept : AskedBounds) : Type 0 where
   pub tips : length kept.tips ≡ validators
   pub firsts : (j : ℕ) → j < length kept.levels → length (bound_of kept.levels j).firsts ≡ validators
   pub support : (j : ℕ) → j < length kept.levels → length (bound_of kept.levels j).support ≡ validators
@@ -81,11 +81,11 @@ pub record IsExact (weights : List ℕ) (dag : UnitGraph) (panorama : List View)
   pub each : (v : ℕ) (tip : UnitNo) → view_at panorama v ≡ view.Correct tip → weight_after weights dag bound.firsts tip.0 ≡ support_of bound v
 
 -- each level has
-abbrev pub AreExact : List ℕ → UnitGraph → List View → KeptBounds → Type 0
+abbrev pub AreExact : List ℕ → UnitGraph → List View → AskedBounds → Type 0
 AreExact weights dag panorama kept = (j : ℕ) → j < length kept.levels → IsExact weights dag panorama (bound_of kept.levels j)
 
 -- at some lesser level those whose latest unit may see the quorum weigh less than one
-pub record IsRuledOut (weights : List ℕ) (kept : KeptBounds) (level quorum : ℕ) : Type 0 where
+pub record IsRuledOut (weights : List ℕ) (kept : AskedBounds) (level quorum : ℕ) : Type 0 where
   pub few : kept.least ≤ quorum
   pub at : ℕ
   pub below : at < level

@@ -13,8 +13,8 @@ use Rattle.hw_dag.specs.declared.numbers.View.{View}
 use Rattle.hw_dag.specs.Dag.{UnitGraph, unit_at, count_of, node_at, graph, observations, IsPanorama}
 use Rattle.hw_dag.specs.Admission.{IsGraph}
 use Rattle.hw_dag.specs.Lanes.{IsAncestorAt, AreWeights}
-use Rattle.hw_horizon.specs.Kept.{KeptWalks, AreKept}
-use Rattle.hw_horizon.specs.Bounds.{KeptBounds, AreBounds}
+use Rattle.hw_horizon.specs.Kept.{AskedWalks, AreKept}
+use Rattle.hw_horizon.specs.Bounds.{AskedBounds, AreBounds}
 use Rattle.hw_horizon.specs.declared.found.Found.{Found}
 use Rattle.hw_horizon.specs.declared.found.Outcome.{Outcome}
 use Rattle.hw_horizon.specs.declared.found.Outcome.TheVariants as outcome
@@ -94,8 +94,8 @@ pub record DetectorState : Type 0 where
   pub config : Config
   pub spare : ℕ
   pub found : List Found
-  pub walks : KeptWalks
-  pub bounds : KeptBounds
+  pub walks : AskedWalks
+  pub bounds : AskedBounds
 
 -- the quorum of each level from 1 on
 pub record AreQuorums (config : Config) (quorums : List ℕ) : Type 0 where

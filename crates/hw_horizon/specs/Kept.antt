@@ -8,13 +8,13 @@ use Rattle.hw_horizon.specs.declared.fences.Fence.{Fence}
 use Rattle.hw_horizon.specs.Starts.{IsLeastStart, IsWalked, votes_over}
 
 -- the block that was asked last, where each validator's lane begins to vote for it, and the fences
-pub record KeptWalks : Type 0 where
+pub record AskedWalks : Type 0 where
   pub block : Option UnitNo
   pub walks : List (Option Walk)
   pub fences : List (Option Fence)
 
 -- the walk of a validator
-abbrev pub walk_of : KeptWalks → ℕ → Option Walk
+abbrev pub walk_of : AskedWalks → ℕ → Option Walk
 walk_of kept v = slice_index_or kept.walks v None
 
 -- the walk that ended with this start, if it is one
@@ -28,7 +28,7 @@ pub record IsWalk (dag : UnitGraph) (block : ℕ) (walk : Walk) : Type 0 where
   pub start_is : IsLeastStart dag walk.tip.0 0 (votes_over dag block) walk.start
 
 -- each walk is true of the graph
-abbrev pub AreWalks : UnitGraph → ℕ → KeptWalks → Type 0
+abbrev pub AreWalks : UnitGraph → ℕ → AskedWalks → Type 0
 AreWalks dag block kept = (v : ℕ) (walk : Walk) → walk_of kept v ≡ Some walk → IsWalk dag block walk
 
 -- from its first unit on each unit of its tip's lane, up to the tip, votes for the block or a descendant of it
@@ -43,6 +43,6 @@ abbrev pub AreFences : UnitGraph → List (Option Fence) → Type 0
 AreFences dag fences = (k : ℕ) (fence : Fence) → slice_index_or fences k None ≡ Some fence → IsFence dag fence
 
 -- what is kept is true of the graph
-pub record AreKept (dag : UnitGraph) (kept : KeptWalks) : Type 0 where
+pub record AreKept (dag : UnitGraph) (kept : AskedWalks) : Type 0 where
   pub walks : (block : UnitNo) → kept.block ≡ Some block → AreWalks dag block.0 kept
   pub fences : AreFences dag kept.fences

@@ -4,7 +4,7 @@ use Rattle.hw_horizon.specs.declared.horizons.Scratch.{Scratch}
 use Rattle.hw_types.specs.Summit.{Committees}
 use Rattle.hw_safety.specs.Pruned.{or_zero}
 use Rattle.hw_horizon.specs.Tables.{Starts, entry}
-use Rattle.hw_horizon.specs.Kept.{KeptWalks}
+use Rattle.hw_horizon.specs.Kept.{AskedWalks}
 
 -- how many validators and levels there are, the level of the summit that the last search found, the table of each level, and what is kept of the walks
 pub record Search : Type 0 where
@@ -12,7 +12,7 @@ pub record Search : Type 0 where
   pub levels : ℕ
   pub found : Option ℕ
   pub tables : List Starts
-  pub walks : KeptWalks
+  pub walks : AskedWalks
 
 -- the table of a level
 abbrev pub table_of : List Starts → ℕ → Starts

@@ -125,9 +125,9 @@ pub struct Bounds {
 }
 
 impl Model for Bounds {
-    ghost use Rattle.hw_horizon.specs.Bounds.{KeptBounds};
+    ghost use Rattle.hw_horizon.specs.Bounds.{AskedBounds};
 
-    ghost Value = { KeptBounds };
+    ghost Value = { AskedBounds };
 
     ghost view = { λ b. record {
       block = b.block;

@@ -26,9 +26,9 @@ pub struct Walks {
 }
 
 impl Model for Walks {
-    ghost use Rattle.hw_horizon.specs.Kept.{KeptWalks};
+    ghost use Rattle.hw_horizon.specs.Kept.{AskedWalks};
 
-    ghost Value = { KeptWalks };
+    ghost Value = { AskedWalks };
 
     ghost view = { λ w. record { block = w.block; walks = w.walks.items; fences = w.fences } };
 }

@@ -15,7 +15,7 @@ use Rattle.hw_codec.specs.Last.{LastUnit, gone_on, last_by}
 use Rattle.hw_codec.specs.Compact.{told_bytes}
 use Rattle.hw_lanes.specs.declared.pieces.Part.{Part}
 use Rattle.hw_lanes.specs.Pieces.{IsWithin, part_of}
-use Rattle.hw_log.specs.Lasts.{LastUnits, Kept, vertex_in, vertex_bytes_in, with_noted}
+use Rattle.hw_log.specs.Lasts.{LastUnits, NotedUnit, vertex_in, vertex_bytes_in, with_noted}
 use Rattle.hw_log.specs.Following.{AreSpelled, Follows, IsFirst, IsRead, IsByOther, unit_of}
 use Rattle.hw_log.specs.declared.following.ReadUnit.{ReadUnit}
 use Rattle.hw_log.specs.declared.following.NextUnit.{NextUnit}
@@ -142,13 +142,13 @@ other_last (x ∷ xs) zero (suc j) y other = refl
 other_last (x ∷ xs) (suc i) zero y other = refl
 other_last (x ∷ xs) (suc i) (suc j) y other = other_last xs i j y (λ same. other (ap suc same))
 
-same_bytes : (lasts : LastUnits) (kept : Kept) (s : SignedUnit) → s.unit.creator ≢ kept.creator
+same_bytes : (lasts : LastUnits) (kept : NotedUnit) (s : SignedUnit) → s.unit.creator ≢ kept.creator
     → vertex_bytes_in lasts (vertex.Unit s) ≡ vertex_bytes_in (with_noted lasts (Some kept)) (vertex.Unit s)
 same_bytes lasts kept s other =
     let last : last_by lasts.units s.unit.creator ≡ last_by (set lasts.units kept.creator (Some kept.last)) s.unit.creator = sym (other_last lasts.units kept.creator s.unit.creator (Some kept.last) other) in
     ap (λ (o : Option LastUnit). if lasts.version == 1 then vertex_bytes (vertex.Unit s) else told_bytes (gone_on o s.unit) s) last
 
-still_follows : (lasts : LastUnits) (kept : Kept) (next : NextUnit) → next.read.signed.unit.creator ≢ kept.creator → Follows lasts next → Follows (with_noted lasts (Some kept)) next
+still_follows : (lasts : LastUnits) (kept : NotedUnit) (next : NextUnit) → next.read.signed.unit.creator ≢ kept.creator → Follows lasts next → Follows (with_noted lasts (Some kept)) next
 still_follows lasts kept next other is =
     let read = is.read in
     record {
@@ -156,7 +156,7 @@ still_follows lasts kept next other is =
       name = is.name;
     }
 
-pub noted_follow : (lasts : LastUnits) (noted : Option Kept) (units left : List NextUnit) → IfSome (option_map (λ (kept : Kept). kept.creator) noted) (λ validator. All (IsByOther validator) left)
+pub noted_follow : (lasts : LastUnits) (noted : Option NotedUnit) (units left : List NextUnit) → IfSome (option_map (λ (kept : NotedUnit). kept.creator) noted) (λ validator. All (IsByOther validator) left)
     → (left ≡ units) ⊎ (left ≡ []) → All (Follows lasts) units → All (Follows (with_noted lasts noted)) left
 noted_follow lasts None units left others (inl same) follow = subst (All (Follows lasts)) (sym same) follow
 noted_follow lasts (Some kept) units left others (inl same) follow = λ k d low. still_follows lasts kept _ (others k d low) (subst (All (Follows lasts)) (sym same) follow k d low)

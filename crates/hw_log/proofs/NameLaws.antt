@@ -15,7 +15,7 @@ use Rattle.hw_codec.specs.Last.{last_of}
 use Rattle.hw_codec.specs.Ranges.{AreBytes}
 use Rattle.hw_codec.proofs.Spelled.{vertex_read_spells, vertex_read_in_range}
 use Rattle.hw_lanes.specs.declared.pieces.Part.{Part}
-use Rattle.hw_log.specs.Lasts.{LastUnits, Kept, noted_in, noted_name}
+use Rattle.hw_log.specs.Lasts.{LastUnits, NotedUnit, noted_in, noted_name}
 use Rattle.hw_log.specs.Named.{IsNameOf, NamesUnit}
 
 long : (bytes unit signature : List ℕ) (kind : ℕ) → bytes ≡ kind ∷ (unit ++ signature) → length bytes ≡ 1 + length unit + length signature

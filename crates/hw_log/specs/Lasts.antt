@@ -24,22 +24,22 @@ abbrev pub no_lasts : ℕ → ℕ → LastUnits
 no_lasts version validators = record { version = version; units = if version == 1 then [] else replicate validators None }
 
 -- a unit that becomes its creator's last one
-pub record Kept : Type 0 where
+pub record NotedUnit : Type 0 where
   pub creator : ℕ
   pub last : LastUnit
 
 -- the unit that becomes its creator's last one with this vertex, if any
-abbrev pub noted_in : LastUnits → Vertex → Option Kept
+abbrev pub noted_in : LastUnits → Vertex → Option NotedUnit
 noted_in lasts (vertex.Unit s) = if nat_lt s.unit.creator (length lasts.units) then Some (record { creator = s.unit.creator; last = last_of s.unit }) else None
 noted_in lasts (vertex.Evidence e) = None
 noted_in lasts (vertex.Endorsement e) = None
 
 -- the name of the unit that becomes its creator's last one, if any
-abbrev pub noted_name : Option Kept → Option Digest
-noted_name noted = option_map (λ (kept : Kept). kept.last.name) noted
+abbrev pub noted_name : Option NotedUnit → Option Digest
+noted_name noted = option_map (λ (kept : NotedUnit). kept.last.name) noted
 
 -- with that unit
-abbrev pub with_noted : LastUnits → Option Kept → LastUnits
+abbrev pub with_noted : LastUnits → Option NotedUnit → LastUnits
 with_noted lasts (Some kept) = record lasts { units = set lasts.units kept.creator (Some kept.last) }
 with_noted lasts None = lasts
 

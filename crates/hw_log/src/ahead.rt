@@ -105,10 +105,8 @@ impl NamingBuffer {
         ensures name { result ≡ option_map (λ part. record { 0 = sha256 (part_of self.old part) }) unit }
         ensures same { self.new ≡ self.old }
     {
-        match unit {
-            Some(part) => Some(Digest(self.digest_of(part))),
-            None => None,
-        }
+        let part = unit?;
+        Some(Digest(self.digest_of(part)))
     }
 
     /// The digest of this part of the bytes that are held.

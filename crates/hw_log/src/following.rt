@@ -9,7 +9,7 @@ ghost use Rattle.hw_log.specs.Named.{IsNameOf};
 
 use crate::held::entry_at;
 use crate::lasts::{Lasts, Noted};
-use hw_codec::{encode_unit, vertex_is_in_range};
+use hw_codec::{UNIT_KIND, encode_unit, vertex_is_in_range};
 use hw_lanes::{Part, digests_in};
 use hw_types::{Bytes, Digest, OutOfMemory, SignedUnit, Vertex};
 use std::alloc::Global;
@@ -20,9 +20,6 @@ const MOST: usize = 64;
 
 /// Where the spellings have this many bytes together, no other is added.
 const MOST_BYTES: usize = 262_144;
-
-/// The kind of a vertex that is a unit in its full form.
-const WHOLE: u8 = 1;
 
 /// The kind of a vertex that is a unit in the compact form.
 const CHANGES: u8 = 4;
@@ -366,7 +363,7 @@ fn is_kept(lasts: &Lasts, vertex: &[u8]) -> bool {
 /// The creator of the unit that these bytes of a vertex seem to spell. Nothing that is answered depends on it.
 fn creator_in(vertex: &[u8]) -> Option<u32> {
     let at = match vertex.first() {
-        Some(&WHOLE) => 33,
+        Some(&UNIT_KIND) => 33,
         Some(&CHANGES) => 1,
         Some(_) | None => return None,
     };

@@ -48,9 +48,9 @@ pub struct Noted {
 
 impl Model for Noted {
     ghost use Rattle.std.specs.{Prelude.{Option}, Option.{option_map}};
-    ghost use Rattle.hw_log.specs.Lasts.{Kept};
+    ghost use Rattle.hw_log.specs.Lasts.{NotedUnit};
 
-    ghost Value = { Option Kept };
+    ghost Value = { Option NotedUnit };
 
     ghost view = { λ n. option_map (λ k. record { creator = k.creator; last = k.last }) n.kept };
 }

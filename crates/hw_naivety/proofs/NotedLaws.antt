@@ -6,7 +6,7 @@ use Rattle.hw_dag.specs.declared.numbers.UnitNo.{UnitNo}
 use Rattle.hw_dag.specs.declared.numbers.View.{View}
 use Rattle.hw_dag.specs.declared.numbers.View.TheVariants as view
 use Rattle.hw_dag.specs.Dag.{UnitGraph, unit_at, count_of, node_at, graph, view_at}
-use Rattle.hw_naivety.specs.Tips.{IsTip, TipsAre, LanesAre, HasTips, KeptTips, AreRows, IsGrown, tip_at}
+use Rattle.hw_naivety.specs.Tips.{IsTip, TipsAre, LanesAre, HasTips, TipTable, AreRows, IsGrown, tip_at}
 use Rattle.hw_naivety.specs.Naivety.{NaiveTips, IsNoted, KeepsEndorsed, HasNoNaiveFork}
 use Rattle.hw_naivety.proofs.RowLaws.{rows_own, tips_grown}
 
@@ -14,7 +14,7 @@ pub moved : (F : List View → List Digest → Type 0) (p q : List View) (d e : 
 moved F p q d e a b h = subst (λ (x : List View). F x e) a (subst (λ (y : List Digest). F p y) b h)
 
 -- the tips of observed units that were all noted
-pub has_tips : (dag : UnitGraph) (panorama : List View) (count : ℕ) (tips : KeptTips) → TipsAre dag count tips → count ≤ length tips.places
+pub has_tips : (dag : UnitGraph) (panorama : List View) (count : ℕ) (tips : TipTable) → TipsAre dag count tips → count ≤ length tips.places
     → ((slot : ℕ) (cited : UnitNo) → view_at panorama slot ≡ view.Correct cited → cited.0 < count) → HasTips dag panorama tips
 has_tips dag panorama count tips are room noted = record {
   kept = λ slot cited e. let less = noted slot cited e in omega arith;
@@ -22,7 +22,7 @@ has_tips dag panorama count tips are room noted = record {
 }
 
 -- the same over more rows
-pub noted_grown : (dag : UnitGraph) (old new : NaiveTips) (wanted : ℕ) (before after : KeptTips) → new.validators ≡ old.validators → new.count ≡ old.count → new.lanes ≡ old.lanes
+pub noted_grown : (dag : UnitGraph) (old new : NaiveTips) (wanted : ℕ) (before after : TipTable) → new.validators ≡ old.validators → new.count ≡ old.count → new.lanes ≡ old.lanes
     → old.tips ≡ before → new.tips ≡ after → old.count ≤ length before.places → AreRows old.validators before → IsGrown wanted before after → IsNoted old dag → IsNoted new dag
 noted_grown dag old new wanted before after sv sc sl sb sa room rows grown h = record {
   validators_are = sv ∙ h.validators_are;
@@ -38,9 +38,9 @@ noted_grown dag old new wanted before after sv sc sl sb sa room rows grown h = r
 
     stay : (n v : ℕ) → n < old.count → v < dag.validators → tip_at dag old.tips n v ≡ tip_at dag new.tips n v
     stay n v lt small =
-        ap (λ (tips : KeptTips). tip_at dag tips n v) sb
+        ap (λ (tips : TipTable). tip_at dag tips n v) sb
         ∙ sym (tips_grown dag wanted before after (rows_own old.validators before rows) grown n v (omega arith) (subst (λ (k : ℕ). v < k) (sym (rows.validators_are ∙ h.validators_are)) small))
-        ∙ sym (ap (λ (tips : KeptTips). tip_at dag tips n v) sa)
+        ∙ sym (ap (λ (tips : TipTable). tip_at dag tips n v) sa)
 
 pub noted_next : (dag : UnitGraph) (old new : NaiveTips) (unit : ℕ) → IsNoted old dag → old.count ≡ unit → unit < count_of dag → KeepsEndorsed (graph dag) (node_at dag unit) → HasNoNaiveFork (graph dag) (node_at dag unit)
     → new.validators ≡ old.validators → new.count ≡ unit + 1

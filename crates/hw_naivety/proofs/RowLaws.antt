@@ -9,7 +9,7 @@ use Rattle.hw_dag.specs.declared.numbers.View.{View}
 use Rattle.hw_dag.specs.declared.numbers.View.TheVariants as view
 use Rattle.hw_dag.specs.Dag.{UnitGraph, unit_at, view_at}
 use Rattle.hw_naivety.specs.Rows.{TipRows, row_slot, with_slot}
-use Rattle.hw_naivety.specs.Tips.{KeptTips, AreRows, AreKept, IsGrown, IsRoomy, IsRowKept, said_tip, placed_tip, tip_at}
+use Rattle.hw_naivety.specs.Tips.{TipTable, AreRows, AreKept, IsGrown, IsRoomy, IsRowKept, said_tip, placed_tip, tip_at}
 
 -- a slot with a unit is one of the panorama's
 pub slot_small : (ws : List View) (s : ℕ) (cited : UnitNo) → view_at ws s ≡ view.Correct cited → s < length ws
@@ -44,17 +44,17 @@ module _ (rows : TipRows) (taken v : ℕ) (said : View) (small : v < rows.valida
   put_length = length-set rows.slots (taken * rows.validators + v) said
 
 -- what was kept is kept of itself
-pub kept_same : (tips : KeptTips) → AreKept tips tips
+pub kept_same : (tips : TipTable) → AreKept tips tips
 kept_same tips = record { places_are = refl; taken_is = refl; validators_are = refl; length_is = refl; kept = λ row w less slot. refl }
 
 -- a row that is left stays left
-pub spare_kept : (first old : KeptTips) → AreKept first old → (first.taken + 1) * first.rows.validators ≤ length first.rows.slots → (old.taken + 1) * old.rows.validators ≤ length old.rows.slots
+pub spare_kept : (first old : TipTable) → AreKept first old → (first.taken + 1) * first.rows.validators ≤ length first.rows.slots → (old.taken + 1) * old.rows.validators ≤ length old.rows.slots
 spare_kept first old k spare =
     subst (λ (l : ℕ). (old.taken + 1) * old.rows.validators ≤ l) (sym k.length_is)
     (subst (λ (t : ℕ). (t + 1) * old.rows.validators ≤ length first.rows.slots) (sym k.taken_is) (subst (λ (t : ℕ). (first.taken + 1) * t ≤ length first.rows.slots) (sym k.validators_are) spare))
 
 -- what was kept, and a further tip in that row
-module _ (first old new : KeptTips) (v : ℕ) (said : View) (small : v < first.rows.validators) (spare : (first.taken + 1) * first.rows.validators ≤ length first.rows.slots) (k : AreKept first old)
+module _ (first old new : TipTable) (v : ℕ) (said : View) (small : v < first.rows.validators) (spare : (first.taken + 1) * first.rows.validators ≤ length first.rows.slots) (k : AreKept first old)
     (taken : new.taken ≡ old.taken) (rows : new.rows ≡ with_slot old.rows old.taken v said) where
   here : v < old.rows.validators
   here = subst (λ (t : ℕ). v < t) (sym k.validators_are) small
@@ -86,7 +86,7 @@ module _ (first old new : KeptTips) (v : ℕ) (said : View) (small : v < first.r
 -- ---- what is kept of a unit
 
 -- the rows' own number of slots is the validators'
-pub rows_own : (validators : ℕ) (tips : KeptTips) → AreRows validators tips → AreRows tips.rows.validators tips
+pub rows_own : (validators : ℕ) (tips : TipTable) → AreRows validators tips → AreRows tips.rows.validators tips
 rows_own validators tips are = record { validators_are = refl; placed = are.placed; there = are.there }
 
 -- a place whose row stays gives the same tip
@@ -94,13 +94,13 @@ pub placed_stays : (old new : TipRows) (slot : View) (v taken place : ℕ) → p
 placed_stays old new slot v taken zero within stay = refl
 placed_stays old new slot v taken (suc row) within stay = ap (λ (said : View). said_tip slot said) (stay row (omega arith))
 
-pub tips_kept : (dag : UnitGraph) (old new : KeptTips) → AreRows old.rows.validators old → AreKept old new → (n v : ℕ) → v < old.rows.validators → tip_at dag new n v ≡ tip_at dag old n v
+pub tips_kept : (dag : UnitGraph) (old new : TipTable) → AreRows old.rows.validators old → AreKept old new → (n v : ℕ) → v < old.rows.validators → tip_at dag new n v ≡ tip_at dag old n v
 tips_kept dag old new are k n v small =
     ap (λ (places : List ℕ). placed_tip new.rows (view_at (unit_at dag n).panorama v) v (get_or places n 0)) k.places_are
     ∙ placed_stays old.rows new.rows (view_at (unit_at dag n).panorama v) v old.taken (get_or old.places n 0) (are.placed n) (λ row less. k.kept row v less small)
 
 -- more room leaves the tips of the units that have a place
-pub tips_grown : (dag : UnitGraph) (wanted : ℕ) (old new : KeptTips) → AreRows old.rows.validators old → IsGrown wanted old new → (n v : ℕ) → n < length old.places → v < old.rows.validators → tip_at dag new n v ≡ tip_at dag old n v
+pub tips_grown : (dag : UnitGraph) (wanted : ℕ) (old new : TipTable) → AreRows old.rows.validators old → IsGrown wanted old new → (n v : ℕ) → n < length old.places → v < old.rows.validators → tip_at dag new n v ≡ tip_at dag old n v
 tips_grown dag wanted old new are grown n v lt small =
     ap (λ (place : ℕ). placed_tip new.rows (view_at (unit_at dag n).panorama v) v place) (grown.kept n lt)
     ∙ placed_stays old.rows new.rows (view_at (unit_at dag n).panorama v) v old.taken (get_or old.places n 0) (are.placed n) stay
@@ -111,20 +111,20 @@ tips_grown dag wanted old new are grown n v lt small =
         ∙ grown.rows_longer.kept (row * old.rows.validators + v) (let before = slot_before old.rows.validators row old.taken v less small in let there = are.there in omega (arith, before, there))
 
 -- a place that is put in leaves the tips of other units
-pub tips_beside : (dag : UnitGraph) (old new : KeptTips) (unit place : ℕ) → new.places ≡ slice_set old.places unit place → new.rows ≡ old.rows → (n v : ℕ) → n ≢ unit → tip_at dag new n v ≡ tip_at dag old n v
+pub tips_beside : (dag : UnitGraph) (old new : TipTable) (unit place : ℕ) → new.places ≡ slice_set old.places unit place → new.rows ≡ old.rows → (n v : ℕ) → n ≢ unit → tip_at dag new n v ≡ tip_at dag old n v
 tips_beside dag old new unit place places rows n v other =
     ap (λ (r : TipRows). placed_tip r (view_at (unit_at dag n).panorama v) v (get_or new.places n 0)) rows
     ∙ ap (λ (k : ℕ). placed_tip old.rows (view_at (unit_at dag n).panorama v) v k) (ap (λ (ps : List ℕ). get_or ps n 0) places ∙ get_or-set_other old.places unit n place 0 other)
 
 -- it gives the unit its tip
-pub tip_here : (dag : UnitGraph) (old new : KeptTips) (unit place v : ℕ) → unit < length old.places → new.places ≡ slice_set old.places unit place → new.rows ≡ old.rows
+pub tip_here : (dag : UnitGraph) (old new : TipTable) (unit place v : ℕ) → unit < length old.places → new.places ≡ slice_set old.places unit place → new.rows ≡ old.rows
     → tip_at dag new unit v ≡ placed_tip old.rows (view_at (unit_at dag unit).panorama v) v place
 tip_here dag old new unit place v known places rows =
     ap (λ (r : TipRows). placed_tip r (view_at (unit_at dag unit).panorama v) v (get_or new.places unit 0)) rows
     ∙ ap (λ (k : ℕ). placed_tip old.rows (view_at (unit_at dag unit).panorama v) v k) (ap (λ (ps : List ℕ). get_or ps unit 0) places ∙ get_or-set_same old.places unit place 0 known)
 
 -- rows that are kept are rows, and there is as much room
-pub are_kept : (validators : ℕ) (old new : KeptTips) → AreKept old new → AreRows validators old → AreRows validators new
+pub are_kept : (validators : ℕ) (old new : TipTable) → AreKept old new → AreRows validators old → AreRows validators new
 are_kept validators old new k are = record {
   validators_are = k.validators_are ∙ are.validators_are;
   placed = λ n. subst (λ (ps : List ℕ). get_or ps n 0 ≤ new.taken) (sym k.places_are) (subst (λ (t : ℕ). get_or old.places n 0 ≤ t) (sym k.taken_is) (are.placed n));
@@ -132,7 +132,7 @@ are_kept validators old new k are = record {
       (subst (λ (t : ℕ). t * new.rows.validators ≤ length old.rows.slots) (sym k.taken_is) (subst (λ (t : ℕ). old.taken * t ≤ length old.rows.slots) (sym k.validators_are) are.there));
 }
 
-pub roomy_kept : (count : ℕ) (old new : KeptTips) → AreKept old new → IsRoomy old count → IsRoomy new count
+pub roomy_kept : (count : ℕ) (old new : TipTable) → AreKept old new → IsRoomy old count → IsRoomy new count
 roomy_kept count old new k roomy = record {
   taken_within = subst (λ (t : ℕ). t ≤ count) (sym k.taken_is) roomy.taken_within;
   count_within = subst (λ (ps : List ℕ). count ≤ length ps) (sym k.places_are) roomy.count_within;
@@ -143,7 +143,7 @@ roomy_kept count old new k roomy = record {
 }
 
 -- where a unit has a place that isn't noted, a row is left
-pub row_left : (unit : ℕ) (tips : KeptTips) → unit < length tips.places → IsRoomy tips unit → (tips.taken + 1) * tips.rows.validators ≤ length tips.rows.slots
+pub row_left : (unit : ℕ) (tips : TipTable) → unit < length tips.places → IsRoomy tips unit → (tips.taken + 1) * tips.rows.validators ≤ length tips.rows.slots
 row_left unit tips known roomy =
     let more : tips.taken + 1 ≤ tips.taken + (length tips.places - unit) = omega arith in
     let less = mul-le-mul_right tips.rows.validators more in
@@ -152,7 +152,7 @@ row_left unit tips known roomy =
 
 -- ---- a row that is kept
 
-module _ (old new : KeptTips) (unit : ℕ) (known : unit < length old.places) (k : IsRowKept old unit new) where
+module _ (old new : TipTable) (unit : ℕ) (known : unit < length old.places) (k : IsRowKept old unit new) where
   pub kept_here : (dag : UnitGraph) (v : ℕ) → v < old.rows.validators → tip_at dag new unit v ≡ said_tip (view_at (unit_at dag unit).panorama v) (row_slot old.rows old.taken v)
   kept_here dag v small = tip_here dag old new unit k.place v known k.places_are k.rows_are ∙ ap (λ (said : View). said_tip (view_at (unit_at dag unit).panorama v) said) (k.says v small)
 

@@ -10,7 +10,7 @@ use Rattle.hw_dag.specs.Admission.{IsGraph}
 use Rattle.hw_dag.specs.Lanes.{is_seen}
 use Rattle.hw_dag.proofs.LaneLaws.{lane_is_seen}
 use Rattle.hw_naivety.specs.Rows.{TipRows}
-use Rattle.hw_naivety.specs.Tips.{IsNaive, IsUnder, IsNaiveTip, IsTip, HasLists, IsRaisedOver, HasTips, KeptTips, said_tip, placed_slot, placed_tip, tip_at}
+use Rattle.hw_naivety.specs.Tips.{IsNaive, IsUnder, IsNaiveTip, IsTip, HasLists, IsRaisedOver, HasTips, TipTable, said_tip, placed_slot, placed_tip, tip_at}
 use Rattle.hw_naivety.specs.declared.shared.Span.{Span}
 use Rattle.hw_naivety.specs.declared.shared.Shared.{Shared}
 use Rattle.hw_naivety.specs.Shared.{IsBeside, IsShared, HasTipOf, StandsFor, place_seen}
@@ -25,7 +25,7 @@ said_same v w (view.Correct tip) other = refl
 said_same v w view.Faulty other = refl
 
 -- units with one row that says something of a creator have one tip of it
-one_tip : (dag : UnitGraph) (tips : KeptTips) (n m v place : ℕ) → placed_slot tips.rows v place ≢ view.Absent → get_or tips.places n 0 ≡ place → get_or tips.places m 0 ≡ place → tip_at dag tips n v ≡ tip_at dag tips m v
+one_tip : (dag : UnitGraph) (tips : TipTable) (n m v place : ℕ) → placed_slot tips.rows v place ≢ view.Absent → get_or tips.places n 0 ≡ place → get_or tips.places m 0 ≡ place → tip_at dag tips n v ≡ tip_at dag tips m v
 one_tip dag tips n m v place says en em =
     ap (λ (k : ℕ). placed_tip tips.rows (view_at (unit_at dag n).panorama v) v k) en
     ∙ said_same (view_at (unit_at dag n).panorama v) (view_at (unit_at dag m).panorama v) (placed_slot tips.rows v place) says
@@ -37,7 +37,7 @@ says_place rows v zero says e = says refl
 says_place rows v (suc row) says e = absurd cc
 
 -- the source's unit stands for all beside the span, where its row says something of the creator
-pub shared_stands : (validators : ℕ) (dag : UnitGraph) (panorama : List View) (tips : KeptTips) (v : ℕ) (shared : Shared) → IsShared validators panorama tips shared → view_at panorama v ≡ view.Faulty → placed_slot tips.rows v shared.source.place ≢ view.Absent
+pub shared_stands : (validators : ℕ) (dag : UnitGraph) (panorama : List View) (tips : TipTable) (v : ℕ) (shared : Shared) → IsShared validators panorama tips shared → view_at panorama v ≡ view.Faulty → placed_slot tips.rows v shared.source.place ≢ view.Absent
     → StandsFor validators dag panorama tips v shared.source.slot shared.span
 shared_stands validators dag panorama tips v shared is marked says = record {
   within = is.places_are.within;
@@ -57,7 +57,7 @@ shared_stands validators dag panorama tips v shared is marked says = record {
     from cited here view.Faulty e there = absurd (says_place tips.rows v shared.source.place says (sym there))
 
 -- where all slots are in the span there is nothing to stand for
-pub whole_stands : (validators : ℕ) (dag : UnitGraph) (panorama : List View) (tips : KeptTips) (v source : ℕ) → StandsFor validators dag panorama tips v source (record { first = 0; end = validators })
+pub whole_stands : (validators : ℕ) (dag : UnitGraph) (panorama : List View) (tips : TipTable) (v source : ℕ) → StandsFor validators dag panorama tips v source (record { first = 0; end = validators })
 whole_stands validators dag panorama tips v source = record {
   within = omega arith;
   beside = λ slot cited small beside e. elim beside [
@@ -75,7 +75,7 @@ pub over_raised : (dag : UnitGraph) (panorama : List View) (endorsed : List Dige
     → IsOver dag panorama endorsed v slot raised
 over_raised dag panorama endorsed v slot other tip raised r over = λ cited n e h s. r.kept n h.known (over cited n e h s)
 
-module _ (dag : UnitGraph) (g : IsGraph dag) (panorama : List View) (panorama_is : IsPanorama dag panorama) (endorsed : List Digest) (lists : HasLists dag panorama endorsed) (tips : KeptTips) (has : HasTips dag panorama tips) where
+module _ (dag : UnitGraph) (g : IsGraph dag) (panorama : List View) (panorama_is : IsPanorama dag panorama) (endorsed : List Digest) (lists : HasLists dag panorama endorsed) (tips : TipTable) (has : HasTips dag panorama tips) where
   -- what is naive and seen by a unit is seen by the one that stands for it
   stand_seen : (v source slot n : ℕ) (cited : UnitNo) → v < dag.validators → (slot ≡ v → ⊥) → view_at panorama slot ≡ view.Correct cited → (h : HasTipOf dag panorama tips v source cited) → IsNaive dag panorama endorsed v n
       → is_seen dag n cited.0 ≡ true → is_seen dag n h.from.0 ≡ true

@@ -15,7 +15,7 @@ use Rattle.hw_dag.specs.Dag.{UnitGraph, unit_at, count_of, node_at, graph, creat
 use Rattle.hw_dag.specs.Admission.{IsGraph}
 use Rattle.hw_dag.specs.Lanes.{is_lane_below, is_seen}
 use Rattle.hw_dag.proofs.LaneLaws.{seen_cases, past_seen, seen_itself, lane_is_seen, seen_on_lane, seen_entry}
-use Rattle.hw_naivety.specs.Tips.{IsBelow, IsBelowEndorsed, IsNaive, IsUnder, IsNaiveTip, IsTip, HasLists, IsSightOf, IsRaised, IsRaisedOver, IsOnLaneOf, LanesAre, HasTips, KeptTips, IsPlain, slot_tip, tip_at}
+use Rattle.hw_naivety.specs.Tips.{IsBelow, IsBelowEndorsed, IsNaive, IsUnder, IsNaiveTip, IsTip, HasLists, IsSightOf, IsRaised, IsRaisedOver, IsOnLaneOf, LanesAre, HasTips, TipTable, IsPlain, slot_tip, tip_at}
 use Rattle.hw_naivety.specs.Heirs.{IsBequeathed}
 use Rattle.hw_naivety.specs.declared.fork.NaiveFork.{NaiveFork}
 use Rattle.hw_naivety.proofs.BelowLaws.{seen_trans, lane_trans, lane_order, lane_itself, under_below, below_under}
@@ -120,7 +120,7 @@ module _ (dag : UnitGraph) (g : IsGraph dag) where
 
     -- ---- what a slot's candidate is
 
-    module _ (validators : ℕ) (same : validators ≡ dag.validators) (tips : KeptTips) (has : HasTips dag panorama tips) (lists : HasLists dag panorama endorsed)
+    module _ (validators : ℕ) (same : validators ≡ dag.validators) (tips : TipTable) (has : HasTips dag panorama tips) (lists : HasLists dag panorama endorsed)
         (slot : ℕ) (cited : UnitNo) (v : ℕ) (e : view_at panorama slot ≡ view.Correct cited) (small : v < validators) where
       abbrev pub candidate_of : Option UnitNo
       candidate_of = if slot == v then Some cited else tip_at dag tips cited.0 v
@@ -253,7 +253,7 @@ module _ (dag : UnitGraph) (g : IsGraph dag) where
           go (view.Correct last) e = last_tip v last e (λ b. subst (λ (ds : List Digest). Among b.name ds) plain.unlisted b.among)
           go view.Faulty e = absurd (plain.unmarked v e)
 
-    pub tips_stay : (old new : KeptTips) → HasTips dag panorama old → new.places ≡ old.places → ((n v : ℕ) → v < dag.validators → tip_at dag new n v ≡ tip_at dag old n v) → HasTips dag panorama new
+    pub tips_stay : (old new : TipTable) → HasTips dag panorama old → new.places ≡ old.places → ((n v : ℕ) → v < dag.validators → tip_at dag new n v ≡ tip_at dag old n v) → HasTips dag panorama new
     tips_stay old new has same stay = record {
       kept = λ slot cited e. subst (λ (ps : List ℕ). cited.0 < length ps) (sym same) (has.kept slot cited e);
       right = λ slot cited v e small.

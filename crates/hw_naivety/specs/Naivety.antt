@@ -7,7 +7,7 @@ use Rattle.hw_types.specs.Below.{Among}
 use Rattle.hw_types.specs.Rules.{has_digest, has_naive_fork, is_naive}
 use Rattle.hw_dag.specs.declared.numbers.View.{View}
 use Rattle.hw_dag.specs.Dag.{UnitGraph, count_of, node_at, graph, observations}
-use Rattle.hw_naivety.specs.Tips.{KeptTips, TipsAre, LanesAre}
+use Rattle.hw_naivety.specs.Tips.{TipTable, TipsAre, LanesAre}
 use Rattle.hw_naivety.specs.declared.fork.NaiveFork.{NaiveFork}
 
 -- the list of endorsed units has each one of the lists of the units that it cites
@@ -43,7 +43,7 @@ pub record NaiveTips : Type 0 where
   pub validators : ℕ
   pub spare : ℕ
   pub count : ℕ
-  pub tips : KeptTips
+  pub tips : TipTable
   pub lanes : List View
 
 -- the first units of the graph were noted, each of which keeps the rules of endorsed lists and of naive forks

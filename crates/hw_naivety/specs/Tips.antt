@@ -52,7 +52,7 @@ pub record IsTip (dag : UnitGraph) (panorama : List View) (endorsed : List Diges
   pub all : (n : ℕ) → IsNaive dag panorama endorsed creator n → IsUnder dag n tip
 
 -- what is kept of units: of each the place of its row, which is 0 where its tips are its slots, else one more than the number of a row, which may be that of other units too; so many rows are taken
-pub record KeptTips : Type 0 where
+pub record TipTable : Type 0 where
   pub places : List ℕ
   pub taken : ℕ
   pub rows : TipRows
@@ -79,11 +79,11 @@ abbrev pub placed_tip : TipRows → View → ℕ → ℕ → Option UnitNo
 placed_tip rows slot creator place = said_tip slot (placed_slot rows creator place)
 
 -- the tip that is kept of a unit and a creator
-abbrev pub tip_at : UnitGraph → KeptTips → ℕ → ℕ → Option UnitNo
+abbrev pub tip_at : UnitGraph → TipTable → ℕ → ℕ → Option UnitNo
 tip_at dag tips n creator = placed_tip tips.rows (view_at (unit_at dag n).panorama creator) creator (slice_index_or tips.places n 0)
 
 -- what is kept of the first units is right
-abbrev pub TipsAre : UnitGraph → ℕ → KeptTips → Type 0
+abbrev pub TipsAre : UnitGraph → ℕ → TipTable → Type 0
 TipsAre dag count tips = (n creator : ℕ) → n < count → creator < dag.validators
     → IsTip dag (unit_at dag n).panorama (unit_at dag n).signed.unit.endorsed creator (tip_at dag tips n creator)
 
@@ -128,7 +128,7 @@ pub record IsRaisedOver (dag : UnitGraph) (panorama : List View) (endorsed : Lis
   pub more : (cited : UnitNo) (n : ℕ) → view_at panorama slot ≡ view.Correct cited → IsNaive dag panorama endorsed creator n → is_seen dag n cited.0 ≡ true → IsUnder dag n raised
 
 -- the tips that are kept of the observed units are right
-pub record HasTips (dag : UnitGraph) (panorama : List View) (tips : KeptTips) : Type 0 where
+pub record HasTips (dag : UnitGraph) (panorama : List View) (tips : TipTable) : Type 0 where
   pub kept : (slot : ℕ) (cited : UnitNo) → view_at panorama slot ≡ view.Correct cited → cited.0 < length tips.places
   pub right : (slot : ℕ) (cited : UnitNo) (creator : ℕ) → view_at panorama slot ≡ view.Correct cited → creator < dag.validators
       → IsTip dag (unit_at dag cited.0).panorama (unit_at dag cited.0).signed.unit.endorsed creator (tip_at dag tips cited.0 creator)
@@ -142,19 +142,19 @@ pub record IsSightOf (dag : UnitGraph) (n : ℕ) (panorama : List View) (endorse
 -- ---- what is kept
 
 -- rows have a slot for each validator, those that are taken are there, and each unit's row is one of them
-pub record AreRows (validators : ℕ) (tips : KeptTips) : Type 0 where
+pub record AreRows (validators : ℕ) (tips : TipTable) : Type 0 where
   pub validators_are : tips.rows.validators ≡ validators
   pub placed : (n : ℕ) → slice_index_or tips.places n 0 ≤ tips.taken
   pub there : tips.taken * tips.rows.validators ≤ length tips.rows.slots
 
 -- so many units were noted, and there is a row for each one more that has a place
-pub record IsRoomy (tips : KeptTips) (count : ℕ) : Type 0 where
+pub record IsRoomy (tips : TipTable) (count : ℕ) : Type 0 where
   pub taken_within : tips.taken ≤ count
   pub count_within : count ≤ length tips.places
   pub rows_left : (tips.taken + (length tips.places - count)) * tips.rows.validators ≤ length tips.rows.slots
 
 -- the places and rows so far stay, and there are no more places than are wanted
-pub record IsGrown (wanted : ℕ) (old new : KeptTips) : Type 0 where
+pub record IsGrown (wanted : ℕ) (old new : TipTable) : Type 0 where
   pub taken_is : new.taken ≡ old.taken
   pub rows_longer : IsLonger old.rows new.rows
   pub longer : length old.places ≤ length new.places
@@ -162,7 +162,7 @@ pub record IsGrown (wanted : ℕ) (old new : KeptTips) : Type 0 where
   pub bounded : (room : ℕ) → length old.places ≤ room → wanted ≤ room → length new.places ≤ room
 
 -- the tips that are in rows stay, and there are as many rows
-pub record AreKept (old new : KeptTips) : Type 0 where
+pub record AreKept (old new : TipTable) : Type 0 where
   pub places_are : new.places ≡ old.places
   pub taken_is : new.taken ≡ old.taken
   pub validators_are : new.rows.validators ≡ old.rows.validators
@@ -170,7 +170,7 @@ pub record AreKept (old new : KeptTips) : Type 0 where
   pub kept : (row creator : ℕ) → row < old.taken → creator < old.rows.validators → row_slot new.rows row creator ≡ row_slot old.rows row creator
 
 -- the unit has a row that says what the first row says that wasn't taken, and that row may be taken now
-pub record IsRowKept (old : KeptTips) (unit : ℕ) (new : KeptTips) : Type 0 where
+pub record IsRowKept (old : TipTable) (unit : ℕ) (new : TipTable) : Type 0 where
   pub place : ℕ
   pub places_are : new.places ≡ slice_set old.places unit place
   pub rows_are : new.rows ≡ old.rows

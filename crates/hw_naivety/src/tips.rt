@@ -32,9 +32,9 @@ pub struct Tips {
 }
 
 impl Model for Tips {
-    ghost use Rattle.hw_naivety.specs.Tips.{KeptTips};
+    ghost use Rattle.hw_naivety.specs.Tips.{TipTable};
 
-    ghost Value = { KeptTips };
+    ghost Value = { TipTable };
 
     ghost view = { λ tips. record { places = tips.places.items; taken = tips.taken; rows = tips.rows } };
 }

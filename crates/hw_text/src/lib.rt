@@ -2,8 +2,8 @@
 //! configurations. And what is read of texts: decimal numbers, and hexadecimal digits.
 //!
 //! Each call puts its part last in a list of bytes. Where there is no memory for it, the list stays
-//! as it was, but for `put_numbered`, of whose two parts the first may stay. `specs/Text.antt` has the
-//! printed forms.
+//! as it was, but for `put_numbered`, of whose two parts the first may stay, and for `put_codec` and
+//! `put_limit`, which put a word and a number by it. `specs/Text.antt` has the printed forms.
 #![tactic(auto)]
 
 mod digits;

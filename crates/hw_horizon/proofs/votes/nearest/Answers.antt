@@ -3,7 +3,7 @@ use Rattle.std.specs.Prelude.{unwrap_or}
 use Rattle.hw_dag.specs.declared.numbers.UnitNo.{UnitNo}
 use Rattle.hw_forks.specs.Votes.{height_at}
 use Rattle.hw_forks.specs.Walk.{is_over}
-use Rattle.hw_horizon.specs.Kept.{KeptWalks}
+use Rattle.hw_horizon.specs.Kept.{AskedWalks}
 use Rattle.hw_horizon.specs.Starts.{IsWalked, votes_over}
 use Rattle.hw_horizon.proofs.FenceLaws.{fences_more, walked_lower, over_at}
 use Rattle.hw_horizon.proofs.votes.nearest.Goals as goal
@@ -34,7 +34,7 @@ loop-slot-preserved-in-Some c =
       over = over_at c.args.dag.now c.requires.graph c.args.block.0 c.loop-slot.fence.block.0 c.in-Some.lower.block.0 i.fence.block_known i.over at.known at.ancestor reached;
       tip = c.in-Some.ensures.tip ∙ i.tip;
       fences = fences_more c.args.dag.now c.loop-slot.kept.fences c.put_fence-in-Some.new.self.fences c.in-Some.lower i.fences c.in-Some.ensures.fence c.put_fence-in-Some.ensures.fences;
-      rest = c.put_fence-in-Some.ensures.rest ∙ ap (λ (k : KeptWalks). record k { fences = c.put_fence-in-Some.new.self.fences }) i.rest;
+      rest = c.put_fence-in-Some.ensures.rest ∙ ap (λ (k : AskedWalks). record k { fences = c.put_fence-in-Some.new.self.fences }) i.rest;
     }
 
 pub returns-clause-walked : goal.returns-clause-walked

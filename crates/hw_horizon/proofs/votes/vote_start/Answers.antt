@@ -1,6 +1,6 @@
 use Rattle.std.proofs.Common.{sym, subst, ◌∙◌}
 use Rattle.hw_dag.specs.declared.numbers.UnitNo.{UnitNo}
-use Rattle.hw_horizon.specs.Kept.{KeptWalks, AreFences}
+use Rattle.hw_horizon.specs.Kept.{AskedWalks, AreFences}
 use Rattle.hw_horizon.specs.Starts.{IsWalked, votes_over}
 use Rattle.hw_horizon.proofs.VoteLaws.{walked_first}
 use Rattle.hw_horizon.proofs.votes.vote_start.Goals as goal
@@ -21,6 +21,6 @@ start_below-requires-clause-kept c = λ walk e. c.requires.kept c.args.validator
 
 pub returns-clause-fences : goal.returns-clause-fences
 returns-clause-fences c = elim c.match-walk.branch [
-  | in-Some-walk w ↦ subst (λ (k : KeptWalks). AreFences c.args.dag.now k.fences) (sym w.kept-is) c.requires.fences
-  | in-None w ↦ subst (λ (k : KeptWalks). AreFences c.args.dag.now k.fences) (sym w.kept-is) w.nearest-near.ensures.fences
+  | in-Some-walk w ↦ subst (λ (k : AskedWalks). AreFences c.args.dag.now k.fences) (sym w.kept-is) c.requires.fences
+  | in-None w ↦ subst (λ (k : AskedWalks). AreFences c.args.dag.now k.fences) (sym w.kept-is) w.nearest-near.ensures.fences
 ]

@@ -2,7 +2,7 @@ use Rattle.std.proofs.Common.{◌≡◌, ◌≤◌, ℕ, inl, inr, List, [], nat
 use Rattle.std.proofs.lemmas.Bool.{cases_lt}
 use Rattle.std.proofs.lemmas.List.{get_or_read}
 use Rattle.hw_types.specs.Votes.{weight_of}
-use Rattle.hw_horizon.specs.Bounds.{LevelBound, KeptBounds, bound_of, support_of, IsRuledOut}
+use Rattle.hw_horizon.specs.Bounds.{LevelBound, AskedBounds, bound_of, support_of, IsRuledOut}
 use Rattle.hw_horizon.proofs.bounds.Bounds.rules_out.Goals as goal
 use Rattle.hw_horizon.proofs.bounds.Bounds.rules_out.Goals.{else-below-level-via-then-below-level+else-supporters-quorum, else-below-level-via-else-below-level}
 
@@ -29,7 +29,7 @@ pub returns : goal.returns
 returns c = (
   λ h. absurd cc,
   λ out.
-      let there = subst (λ (k : KeptBounds). IsRuledOut c.args.weights.now k c.args.level c.args.quorum) (sym c.self.view_is) out in
+      let there = subst (λ (k : AskedBounds). IsRuledOut c.args.weights.now k c.args.level c.args.quorum) (sym c.self.view_is) out in
       let items = c.deref-bound-items.ensures.value in
       let many = ap length items in
       let end = c.loop-below-test.false in

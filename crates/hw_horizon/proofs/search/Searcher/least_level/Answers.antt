@@ -1,7 +1,7 @@
 use Rattle.std.proofs.Common.{◌≡◌, ◌+◌, true, false, ℕ, List, length, get_or, sym, ap, subst, ◌∙◌, arith}
 use Rattle.std.proofs.lemmas.List.{get_or_read}
 use Rattle.hw_types.specs.declared.config.Config.{Config}
-use Rattle.hw_horizon.specs.Bounds.{KeptBounds, AreBounds, AreTips}
+use Rattle.hw_horizon.specs.Bounds.{AskedBounds, AreBounds, AreTips}
 use Rattle.hw_horizon.specs.Detected.{HasSummitAt, IsLeastLevel}
 use Rattle.hw_horizon.proofs.LevelLaws.{none_more, is_first}
 use Rattle.hw_horizon.proofs.search.Searcher.least_level.Goals as goal
@@ -24,10 +24,10 @@ loop-below-preserved c =
           let here = s.exact.1 (subst (λ n. HasSummitAt c.loop-below.self.config c.args.dag.now c.args.panorama.now c.args.block.0 (c.loop-below.below + 1) n) (sym is) there) in
           absurd (let bad : false ≡ true = sym c.if-has_summit.false ∙ here in cc));
       walks = s.walks;
-      bounds = subst (λ (b : KeptBounds). AreBounds c.has_summit.new.self.config.weights c.args.dag.now b) (sym s.bounds)
+      bounds = subst (λ (b : AskedBounds). AreBounds c.has_summit.new.self.config.weights c.args.dag.now b) (sym s.bounds)
           (subst (λ (k : Config). AreBounds k.weights c.args.dag.now c.loop-below.self.bounds) (sym s.config) i.bounds);
-      tips = subst (λ (b : KeptBounds). AreTips c.args.panorama.now b) (sym s.bounds) i.tips;
-      asked = ap (λ (b : KeptBounds). b.block) s.bounds ∙ i.asked;
+      tips = subst (λ (b : AskedBounds). AreTips c.args.panorama.now b) (sym s.bounds) i.tips;
+      asked = ap (λ (b : AskedBounds). b.block) s.bounds ∙ i.asked;
       config = s.config ∙ i.config;
       quorums = s.quorums ∙ i.quorums;
     }
@@ -54,6 +54,6 @@ returns-then-has_summit-clause-kept c =
     let s = c.has_summit.ensures in
     record {
       walks_are = s.walks;
-      bounds_are = subst (λ (b : KeptBounds). AreBounds c.has_summit.new.self.config.weights c.args.dag.now b) (sym s.bounds)
+      bounds_are = subst (λ (b : AskedBounds). AreBounds c.has_summit.new.self.config.weights c.args.dag.now b) (sym s.bounds)
           (subst (λ (k : Config). AreBounds k.weights c.args.dag.now c.loop-below.self.bounds) (sym s.config) i.bounds);
     }
