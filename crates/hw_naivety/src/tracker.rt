@@ -225,10 +225,10 @@ fn may_fork(lanes: &Panorama, panorama: &Panorama, creator: u32) -> bool
     requires observed { creator < length panorama.now }
     ensures { result ≡ false → view_at lanes.now creator ≡ view.Faulty → view_at panorama.now creator ≡ view.Faulty → ⊥ }
 {
-    match (lanes.get(creator), panorama.get(creator)) {
-        (View::Faulty, View::Faulty) => true,
-        _ => false,
-    }
+    matches!(
+        (lanes.get(creator), panorama.get(creator)),
+        (View::Faulty, View::Faulty)
+    )
 }
 
 /// Takes a further unit into the lane of its creator.
