@@ -12,6 +12,9 @@ use hw_types::{Bytes, Config, Culprit, Digest, OutOfMemory};
 use sha2::{Digest as _, Sha256};
 use std::alloc::Global;
 
+/// The status with which a program ends whose audit tells of a conflict.
+pub const CONFLICT: u8 = 3;
+
 /// What an audit of two nodes of this configuration prints.
 pub fn audit_text(alloc: Global, verdict: &Verdict, config: &Config) -> Result<Bytes, OutOfMemory>
     ensures { IfOk result (λ text. text ≡ audit_text config.now.ftt verdict.now) }

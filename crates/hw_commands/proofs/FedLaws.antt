@@ -15,7 +15,6 @@ use Rattle.hw_replay.specs.State.{FanoutState}
 use Rattle.hw_replay.specs.Chain.{told_chain}
 use Rattle.hw_replay.specs.Fates.{Sight, Fate, is_left, answer_of, AreServed}
 use Rattle.hw_replay.specs.Told.{blocks_between, with_more, StopsAt, IsTold, IsFinished}
-use Rattle.hw_replay.specs.ToldLaws.{node_with}
 use Rattle.hw_replay.proofs.GrowLaws.{only_grows}
 use Rattle.hw_replay.specs.Feed.{Moment, moment, first_moment, IsPassed, ArePassed, AreFed, AreFedPart}
 use Rattle.hw_replay.proofs.FeedLaws.{none_told}
@@ -72,10 +71,7 @@ module _ {B K : Type 0} (sight : Sight B K) where
 
   -- the chain that they are told grew
   grows : (m z : Moment B) → IsPassed sight m z → Begins (told_chain m.core) (told_chain z.core)
-  grows m z p =
-      let is : z.core ≡ node_with m.core.config (m.core.journal ++ p.grown.0) = λ i. record { config = p.config i; journal = p.grown.1 i } in
-      let P : CoreState → Type 0 = λ c. Begins (told_chain m.core) (told_chain c) in
-      subst P (sym is) (only_grows m.core.config m.core.journal p.grown.0)
+  grows m z p = only_grows m.core z.core p.config p.grown
 
   got_one : (m z : Moment B) (fate : Fate B) → IsPassed sight m z → m.kept.passed ≡ length (told_chain m.core) → IsTold sight (told_chain z.core) m.kept.passed fate → fate.ended ≡ None
       → HasGot (told_chain m.core) 0 (sight.consumed fate.before) → HasGot (told_chain z.core) 0 (sight.consumed fate.after)

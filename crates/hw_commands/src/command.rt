@@ -11,7 +11,7 @@ use hw_text::number_up_to;
 use hw_types::Digest;
 
 /// A node has at most this many logs, one for each era.
-pub const MAX_LOGS: u64 = 64;
+pub const MAX_LOGS: u64 = hw_eras::MAX_LOGS as u64;
 
 /// A generated journal has at most this many rounds.
 pub const MAX_ROUNDS: u64 = 4_096;

@@ -15,7 +15,7 @@ pub const USAGE: u8 = 1;
 pub const INPUT: u8 = 2;
 
 /// Two logs report conflicting final blocks.
-pub const CONFLICT: u8 = 3;
+pub const CONFLICT: u8 = hw_audit::CONFLICT;
 
 /// A read of the files failed.
 pub const READ_FAULT: u8 = 4;

@@ -1,22 +1,20 @@
 -- The parts of a report.
-use Rattle.std.proofs.Common.{◌≡◌, ◌⊎◌, inl, inr, ℕ, ◌+◌, ◌<◌, Bool, true, false, cond, List, [], ◌∷◌, ◌++◌, length, map, Option, Some, None, refl, sym, ap, ◌∙◌, arith, append-nil}
+use Rattle.std.proofs.Common.{◌≡◌, ℕ, ◌+◌, Bool, true, false, cond, List, [], ◌∷◌, ◌++◌, map, Some, refl, sym, ap, ◌∙◌, arith, append-nil}
 use Rattle.std.proofs.lemmas.List.FromFn.{filter_of_map_range_with_len_more}
-use Rattle.std.specs.Prelude.{filter}
+use Rattle.std.specs.Prelude.{filter, ◌||◌}
 use Rattle.std.specs.List.{flat_map, range_with_len}
 use Rattle.std.specs.Prelude.{take, slice_get}
 use Rattle.std.proofs.lemmas.List.{take_more}
 use Rattle.std.proofs.lemmas.Option.{slice_get_within, get_or_from_slice_get}
 use Rattle.std.proofs.lemmas.Grind.{flat_map-append}
 use Rattle.hw_safety.specs.Decided.{decisions_of}
-use Rattle.hw_types.specs.declared.unit.Digest.{Digest}
-use Rattle.hw_types.specs.declared.unit.Obs.{Obs}
-use Rattle.hw_types.specs.declared.unit.Obs.TheVariants.{Absent, Correct, Faulty}
 use Rattle.hw_types.specs.declared.unit.Vertex.{Vertex}
-use Rattle.hw_types.specs.Graph.{Node, slot, is_faulty_mark}
-use Rattle.hw_types.specs.Settled.{correct_or_absent, is_faulty, panorama_of, tip_of}
+use Rattle.hw_types.specs.Graph.{Node}
+use Rattle.hw_types.specs.Settled.{has_evidence, equivocates, is_faulty}
 use Rattle.hw_types.specs.Journal.{Setting, received_of}
-use Rattle.hw_types.specs.Real.{CoreState, received_in, settled_in, panorama_in}
-use Rattle.hw_types.proofs.TipLaws.{slot_over}
+use Rattle.hw_types.specs.Real.{CoreState, received_in, settled_in}
+use Rattle.hw_dag.specs.Dag.{graph}
+use Rattle.hw_admit.specs.State.{NodeState, is_marked, is_faulty_in}
 use Rattle.hw_explain.specs.Report.{counts_line, faulty_line, fork_line, final_line, exceeded_line, counts_of, faulty_in, fork_in, exceeded_in, report_with, report_text}
 
 -- the report, line by line
@@ -32,25 +30,12 @@ one_more f xs i x is =
     let within = slice_get_within xs i x (sym is) in
     sym (ap (flat_map f) (take_more xs i x within ∙ ap (λ y. take i xs ++ y ∷ []) (get_or_from_slice_get xs i x x (sym is))) ∙ flat_map-append f (take i xs) (x ∷ []) ∙ ap (λ l. flat_map f (take i xs) ++ l) (append-nil (f x)))
 
-not_marked : (tip : Option Node) → is_faulty_mark (correct_or_absent tip) ≡ false
-not_marked None = refl
-not_marked (Some t) = refl
-
-marked_by : (b : Bool) (tip : Option Node) → is_faulty_mark (cond b Faulty (correct_or_absent tip)) ≡ b
-marked_by true tip = refl
-marked_by false tip = not_marked tip
-
--- another observation is no mark
-pub unmarked : (o : Obs) → (o ≡ Absent) ⊎ ((d : Digest) × (o ≡ Correct d)) → false ≡ is_faulty_mark o
-unmarked o (inl is) = ap is_faulty_mark (sym is)
-unmarked o (inr is) = ap is_faulty_mark (sym is.1)
-
--- a mark is the observation of a faulty validator
-pub mark_is : (c : CoreState) (v : ℕ) → v < length c.config.weights → is_faulty_mark (slot (panorama_in c) v) ≡ is_faulty (received_in c) (settled_in c) v
-unfolding panorama_of
-mark_is c v within =
-    ap is_faulty_mark (slot_over c.config (is_faulty (received_in c) (settled_in c)) (settled_in c) v within)
-    ∙ marked_by (is_faulty (received_in c) (settled_in c) v) (tip_of (settled_in c) v)
+-- Who is faulty in a state is so in a node of the same settled units, where the state marks just those against whom the node has evidence.
+pub faulty_is : (c : CoreState) (s : NodeState) (v : ℕ) → graph s.dag ≡ settled_in c → ((w : ℕ) → is_marked s.marked w ≡ has_evidence (received_in c).with_evidence w)
+    → is_faulty_in s.marked (graph s.dag) v ≡ is_faulty (received_in c) (settled_in c) v
+faulty_is c s v settled evidence =
+    ap (λ (b : Bool). b || equivocates (graph s.dag) v) (evidence v)
+    ∙ ap (λ (units : List Node). has_evidence (received_in c).with_evidence v || equivocates units v) settled
 
 same_list : {X : Type 0} (xs : List X) → map (λ x. x) xs ≡ xs
 same_list [] = refl

@@ -8,7 +8,7 @@ ghost use Rattle.hw_explain.specs.Report.{final_line, counts_of, faulty_in, repo
 use crate::lines::{Counts, put_counts, put_exceeded, put_faulty, put_final, put_fork};
 use crate::summit::validators;
 use hw_core::Core;
-use hw_types::{Bytes, Obs, OutOfMemory};
+use hw_types::{Bytes, OutOfMemory};
 use std::alloc::Global;
 
 /// The report on a node, after so many deliveries that were refused and so many that came again.
@@ -53,15 +53,11 @@ pub fn faulty(alloc: Global, core: &Core) -> Result<Vec<u32>, OutOfMemory>
 }
 
 /// Whether the validator is faulty.
-#[tactic(auto, using(crate::proofs::ReportLaws::mark_is))]
 fn is_faulty(core: &Core, validator: u32) -> bool
     requires { validator < length core.now.config.weights }
     ensures { result ≡ is_faulty (received_in core.now) (settled_in core.now) validator }
 {
-    match core.observation(validator) {
-        Obs::Faulty => true,
-        Obs::Absent | Obs::Correct(_) => false,
-    }
+    core.state().is_faulty(validator)
 }
 
 /// Puts the lines of the decided blocks last.

@@ -19,7 +19,6 @@ use Rattle.hw_replay.specs.Ends.{LeadsLasts}
 use Rattle.hw_replay.specs.State.{FanoutState}
 use Rattle.hw_replay.specs.Chain.{told_chain}
 use Rattle.hw_replay.specs.Told.{HasTaken}
-use Rattle.hw_replay.specs.ToldLaws.{node_with}
 use Rattle.hw_replay.proofs.GrowLaws.{only_grows, stays_taken}
 use Rattle.hw_replay.specs.Fates.{Sight}
 use Rattle.hw_replay.specs.Feed.{Moment, moment, first_moment, IsPassed, ArePassed, AreFed, AreFedUntil, AreFedTo, file_replayed}
@@ -54,16 +53,13 @@ grown_config c d (inr (v, is)) = ap (λ (x : CoreState). x.config) is
 
 -- as many blocks are told
 pub still_told : (c d : CoreState) (n : ℕ) → GrowsByOne c d → n ≤ length (told_chain c) → n ≤ length (told_chain d)
-still_told c d n (inl same) le = let P : CoreState → Type 0 = λ x. n ≤ length (told_chain x) in subst P (sym same) le
-still_told c d n (inr (v, is)) le =
-    let P : CoreState → Type 0 = λ x. n ≤ length (told_chain x) in
-    let g = only_grows c.config c.journal (v ∷ []) in
-    subst P (sym is) (omega (arith, le, ap length g.1, length-append (told_chain (node_with c.config c.journal)) g.0))
+still_told c d n grows le =
+    let g = only_grows c d (grown_config c d grows) (grown_journal c d grows) in
+    omega (arith, le, ap length g.1, length-append (told_chain c) g.0)
 
 -- what was taken is still the beginning
 still_taken : (c d : CoreState) (n : ℕ) (o : Option Consumed) → GrowsByOne c d → n ≤ length (told_chain c) → HasTaken (told_chain c) n o → HasTaken (told_chain d) n o
-still_taken c d n o (inl same) le h = let P : CoreState → Type 0 = λ x. HasTaken (told_chain x) n o in subst P (sym same) h
-still_taken c d n o (inr (v, is)) le h = let P : CoreState → Type 0 = λ x. HasTaken (told_chain x) n o in subst P (sym is) (stays_taken c.config c.journal (v ∷ []) n o le h)
+still_taken c d n o grows le h = stays_taken c d (grown_config c d grows) (grown_journal c d grows) n o le h
 
 pub all_still : {B : Type 0} (f : B → Option Consumed) (c d : CoreState) (n : ℕ) (xs : List B) → GrowsByOne c d → n ≤ length (told_chain c) → All (λ b. HasTaken (told_chain c) n (f b)) xs → All (λ b. HasTaken (told_chain d) n (f b)) xs
 all_still f c d n xs grows le h = λ k b lt. still_taken c d n _ grows le (h k b lt)

@@ -20,8 +20,14 @@ use Rattle.hw_safety.proofs.StoodLaws.{stays}
 use Rattle.hw_io.specs.Consumers.{Consumed}
 use Rattle.hw_replay.specs.Chain.{told_chain, value_in}
 use Rattle.hw_replay.specs.Told.{HasTaken}
-use Rattle.hw_replay.specs.ToldLaws.{node_with, ToldOnlyGrows, TakenStaysTaken}
+use Rattle.hw_replay.specs.ToldLaws.{ToldOnlyGrows, TakenStaysTaken}
 use Rattle.hw_replay.proofs.ChainLaws.{told_of}
+
+-- ---- a node that was asked nothing
+
+-- one with this journal
+abbrev node_with : Config → List Vertex → CoreState
+node_with config journal = record { config = config; journal = journal; asked = None }
 
 module _ (config : Config) (journal more : List Vertex) where
   abbrev s : Setting
@@ -56,12 +62,23 @@ module _ (config : Config) (journal more : List Vertex) where
             ∙ ap (λ l. l ++ map (told_of late) g.0) (told_same None (decisions_of s journal) (chain s journal (decisions_of s journal) decided).follow),
       )
 
-  taken_stays : (count : ℕ) (consumed : Option Consumed) → count ≤ length (told_chain early) → HasTaken (told_chain early) count consumed → HasTaken (told_chain late) count consumed
-  taken_stays count None le h = tt
-  taken_stays count (Some c) le h = let g = told_grows in h ∙ sym (ap (take count) g.1 ∙ take-append-le count (told_chain early) g.0 le)
+-- ---- each node
+
+-- what is told is of its configuration and its journal
+told_parts : (c : CoreState) → told_chain c ≡ told_chain (node_with c.config c.journal)
+unfolding told_chain
+told_parts c = refl
 
 pub only_grows : ToldOnlyGrows
-only_grows config journal more = told_grows config journal more
+only_grows node later same grown =
+    let parts : told_chain (node_with later.config later.journal) ≡ told_chain (node_with node.config (node.journal ++ grown.0)) = λ i. told_chain (node_with (same i) (grown.1 i)) in
+    let g = told_grows node.config node.journal grown.0 in
+    (g.0, told_parts later ∙ parts ∙ g.1 ∙ ap (λ l. l ++ g.0) (sym (told_parts node)))
+
+-- what was taken of a chain is still the beginning of a longer one
+taken_stays : (chain longer : List (ℕ × List ℕ)) → Begins chain longer → (count : ℕ) (consumed : Option Consumed) → count ≤ length chain → HasTaken chain count consumed → HasTaken longer count consumed
+taken_stays chain longer g count None le h = tt
+taken_stays chain longer g count (Some c) le h = h ∙ sym (ap (take count) g.1 ∙ take-append-le count chain g.0 le)
 
 pub stays_taken : TakenStaysTaken
-stays_taken config journal more count consumed le h = taken_stays config journal more count consumed le h
+stays_taken node later same grown count consumed le h = taken_stays (told_chain node) (told_chain later) (only_grows node later same grown) count consumed le h

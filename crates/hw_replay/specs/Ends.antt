@@ -34,8 +34,9 @@ LeadsLasts before after lasts (Ok true) = after ≡ before
 LeadsLasts before after lasts (Ok false) = before ≡ lasts
 LeadsLasts before after lasts (Err e) = Unit {0}
 
--- Deliveries made the node out of one that had received nothing, and each vertex of its journal keeps the limits of its format.
+-- Deliveries made the node out of one that had received nothing, whatever it was asked since, and each vertex of its journal keeps the
+-- limits of its format.
 pub record IsReached (c : CoreState) : Type 0 where
   pub deliveries : List (Vertex × Bool)
-  pub made : c ≡ delivered c.config deliveries
+  pub made : record c { asked = None } ≡ delivered c.config deliveries
   pub fit : (v : Vertex) → Among v c.journal → VertexFits v

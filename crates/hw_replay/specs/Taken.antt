@@ -32,7 +32,7 @@ pub record Taken : Type 0 where
 
 -- before the first entry
 abbrev pub nothing_taken : Config → Taken
-nothing_taken config = record { core = record { config = config; journal = [] }; refused = 0; repeats = 0 }
+nothing_taken config = record { core = record { config = config; journal = []; asked = None }; refused = 0; repeats = 0 }
 
 -- the vertex goes last in the journal
 abbrev pub with_vertex : Taken → Vertex → Taken

@@ -412,7 +412,7 @@ fn begun(alloc: Global, reader: LogReader, wanted: Option<&Config>) -> Result<Re
 fn new_core(alloc: Global, config: Config) -> Result<Core, OutOfMemory>
     requires fits { ConfigFits config }
     requires limits { config_fault config ≡ None }
-    ensures { IfOk result (λ core. core ≡ record { config = config; journal = [] }) }
+    ensures { IfOk result (λ core. core ≡ record { config = config; journal = []; asked = None }) }
 {
     Core::new(alloc, config).map_err(|_| OutOfMemory)
 }
