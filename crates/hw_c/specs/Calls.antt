@@ -36,7 +36,7 @@ IsWant f = ⊥
 
 -- a node that has received nothing, of the configuration that the bytes spell; or why there is none
 abbrev pub IsNodeOf : List ℕ → Result CoreState Fault → Type 0
-IsNodeOf bytes (Ok core) = (config_of bytes ≡ Ok core.config) × (config_fault core.config ≡ None) × (core.journal ≡ [])
+IsNodeOf bytes (Ok core) = (config_of bytes ≡ Ok core.config) × (config_fault core.config ≡ None) × (core.journal ≡ []) × (core.asked ≡ None)
 IsNodeOf bytes (Err (fault.Bytes e)) = IsErrorOf (config_of bytes) e
 IsNodeOf bytes (Err (fault.Config limit)) = (config : Config) × (config_of bytes ≡ Ok config) × (config_fault config ≡ Some limit)
 IsNodeOf bytes (Err f) = IsWant f

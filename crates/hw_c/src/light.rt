@@ -33,7 +33,10 @@ pub struct Judged {
 /// The certificate of the decided block of that place, as bytes.
 pub fn certificate(alloc: Global, core: &mut Core, index: u64) -> Result<Bytes, Fault>
     ensures made { IsCertificate core.old index result }
-    ensures unchanged { core.new ≡ core.old }
+
+    // The node is as it was, but for what it was asked last.
+    ensures config { core.new.config ≡ core.old.config }
+    ensures journal { core.new.journal ≡ core.old.journal }
 {
     if index >= core.decision_count() {
         return Err(Fault::OutOfRange);

@@ -1,5 +1,5 @@
 -- What is counted of a cluster.
-use Rattle.std.proofs.Common.{◌≡◌, ℕ, ◌+◌, ◌<◌, ◌≤◌, inl, inr, Bool, true, false, cond, List, [], ◌∷◌, length, map, get_or, take, drop, refl, sym, ap, ◌∙◌, arith}
+use Rattle.std.proofs.Common.{◌≡◌, ℕ, ◌+◌, ◌<◌, ◌≤◌, inl, inr, Bool, true, false, cond, List, [], ◌∷◌, None, length, map, get_or, take, drop, refl, sym, ap, ◌∙◌, arith}
 use Rattle.std.specs.Prelude.{◌&&◌, ◌||◌, ◌==◌, not, filter, max}
 use Rattle.std.specs.List.{list_any, range_with_len}
 use Rattle.std.proofs.lemmas.Bool.{cases_lt, cases_eq}
@@ -145,13 +145,13 @@ most_of_more cores i most core next lt is old e = record {
 module _ (config : Config) (cores : List CoreState) (sent : List Vertex) (have : HaveConfig config cores) where
   there : (k : ℕ) (lt : k < length cores) (d : CoreState) → decided_in (get_or cores k d) ≡ decisions_of (setting_of config) (journal_at (nodes_of cores sent) k)
   there k lt d =
-      ap (λ (c : Config). decisions_of (setting_of c) (get_or cores k d).journal) (have (get_or cores k d) (got_among cores k d lt))
+      ap (λ (c : Config). decisions_of (setting_of c) (get_or cores k d).journal) (have (get_or cores k d) (got_among cores k d lt)).0
       ∙ ap (λ (j : List Vertex). decisions_of (setting_of config) j) (sym (get_or-map (λ (c : CoreState). c.journal) cores k d [] lt))
 
   pub most_is : (most : ℕ) → 1 ≤ length cores → IsMostOf cores (length cores) most → IsMostDecisions (setting_of config) (length cores) (nodes_of cores sent) most
   most_is most some old =
       let k = old.node (omega arith) in
-      let d : CoreState = record { config = config; journal = [] } in record {
+      let d : CoreState = record { config = config; journal = []; asked = None } in record {
         node = k.0;
         there = k.1;
         decisions = decisions_of (setting_of config) (journal_at (nodes_of cores sent) k.0);

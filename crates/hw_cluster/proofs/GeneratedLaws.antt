@@ -29,7 +29,7 @@ use Rattle.hw_cluster.proofs.LanesLaws.{lanes_length}
 use Rattle.hw_cluster.proofs.WorkedLaws.{decided}
 
 -- what is given goes through the journal's tests
-given_is : (config : Config) (vs journal : List Vertex) → given (record { config = config; journal = journal }) vs ≡ record { config = config; journal = fold (journal_after (setting_of config)) journal (trusted vs) }
+given_is : (config : Config) (vs journal : List Vertex) → given (record { config = config; journal = journal; asked = None }) vs ≡ record { config = config; journal = fold (journal_after (setting_of config)) journal (trusted vs); asked = None }
 given_is config [] journal = refl
 given_is config (v ∷ vs) journal = given_is config vs (journal_after (setting_of config) journal (v, true))
 
@@ -84,7 +84,7 @@ after_more config key n j leader core later words next lanes after units order t
     let q : words.place + (length units - 1) ≡ 19 * j = omega arith in record {
       journal = gives ∙ ap (λ (c : CoreState). given c order) old.journal ∙ given_is config order (journal_of_rounds s (word_in key) n)
           ∙ (let e = ap (λ (vs : List Vertex). fold (journal_after s) (journal_of_rounds s (word_in key) n) (trusted vs)) same ∙ sym (journal_more config (word_in key) n) ∙ ap (journal_of_rounds s (word_in key)) (sym is) in
-          λ i. record { config = config; journal = e i });
+          λ i. record { config = config; journal = e i; asked = None });
       stream = takes ∙ (λ i. record { key = k i; place = q i });
       last = m.1 ∙ ap (λ i. lanes_of config (made ++ units_of_round s made i)) is ∙ ap (λ (xs : List Node). lanes_of config xs) (sym (units_more config (word_in key) n)) ∙ ap (λ i. lanes_of config (units_of_rounds s i)) (sym is);
       low = (let l = old.low in omega arith);
@@ -92,7 +92,7 @@ after_more config key n j leader core later words next lanes after units order t
 
 -- nothing was made
 pub after_none : (config : Config) (key : List ℕ) (core : CoreState) (words : WordStream) (lanes : LanesState) (instance : Digest) → length config.weights ≡ 10
-    → core ≡ record { config = config; journal = [] } → words ≡ record { key = key; place = 0 } → instance ≡ (setting_of config).instance → lanes ≡ record { instance = instance; last = replicate 10 None }
+    → core ≡ record { config = config; journal = []; asked = None } → words ≡ record { key = key; place = 0 } → instance ≡ (setting_of config).instance → lanes ≡ record { instance = instance; last = replicate 10 None }
     → IsAfter config key 0 core words lanes
 unfolding units_of_rounds deliveries_of
 after_none config key core words lanes instance ten c w named l =

@@ -68,7 +68,7 @@ on_ok (Err e) P Q f h = tt
 
 -- a refused vertex leaves the node as it was
 pub refused_stays : (c : CoreState) (v : Vertex) (why : Cause) → answer_in c v true ≡ Err why → after_in c v true ≡ c
-refused_stays c v why e = ap (λ (r : Result Receipt Cause). let journal = cond (is_accepted r) (c.journal ++ v ∷ []) c.journal in let now : CoreState = record { config = c.config; journal = journal } in now) e
+refused_stays c v why e = ap (λ (r : Result Receipt Cause). let journal = cond (is_accepted r) (c.journal ++ v ∷ []) c.journal in let now : CoreState = record c { journal = journal } in now) e
 
 -- a refusal for another cause than want of memory is that of the definitions
 pub refusal_is : (why : Cause) (given : Result Receipt Cause) → (why ≡ cause.OutOfMemory → ⊥) → IsRefusal why given → given ≡ Err why
@@ -85,14 +85,17 @@ module _ (config : Config) (cores : List CoreState) (sent : List Vertex) (have :
   core_among = subst (λ (k : CoreState). Among k cores) (sym is) (got_among cores node core lt)
 
   pub core_config : core.config ≡ config
-  core_config = have core core_among
+  core_config = (have core core_among).0
+
+  core_asked : core.asked ≡ None
+  core_asked = (have core core_among).1
 
   -- the node's journal is its own
   pub core_journal : journal_at (nodes_of cores sent) node ≡ core.journal
   core_journal = get_or-map (λ (k : CoreState). k.journal) cores node core [] lt ∙ ap (λ (k : CoreState). k.journal) (sym is)
 
-  pub core_is : core ≡ record { config = config; journal = journal_at (nodes_of cores sent) node }
-  core_is = (let e = core_config in let f = sym core_journal in λ i. record { config = e i; journal = f i })
+  pub core_is : core ≡ record { config = config; journal = journal_at (nodes_of cores sent) node; asked = None }
+  core_is = (let e = core_config in let f = sym core_journal in let g = core_asked in λ i. record { config = e i; journal = f i; asked = g i })
 
   pub answer_there : (v : Vertex) → answer_in core v true ≡ answer_at (setting_of config) (nodes_of cores sent) node v
   answer_there v = ap (λ (k : CoreState). answer_in k v true) core_is
@@ -104,7 +107,7 @@ module _ (config : Config) (cores : List CoreState) (sent : List Vertex) (have :
 
   pub config_there : (v : Vertex) → HaveConfig config (set cores node (after_in core v true))
   config_there v k m = elim (among_set k cores node (after_in core v true) m) [
-    | inl e ↦ ap (λ (c : CoreState). c.config) (sym e) ∙ core_config
+    | inl e ↦ (ap (λ (c : CoreState). c.config) (sym e) ∙ core_config, ap (λ (c : CoreState). c.asked) (sym e) ∙ core_asked)
     | inr old ↦ have k old
   ]
 
@@ -112,7 +115,7 @@ module _ (config : Config) (cores : List CoreState) (sent : List Vertex) (have :
   pub config_given : {A E : Type 0} (v : Vertex) (r : Result A E) (new : CoreState) → OnOk r (new ≡ after_in core v true) → OnErr r (new ≡ core) → HaveConfig config (set cores node new)
   config_given v (Ok x) new taken same = subst (λ (k : CoreState). HaveConfig config (set cores node k)) (sym taken) (config_there v)
   config_given v (Err x) new taken same = λ k m. elim (among_set k cores node new m) [
-    | inl e ↦ ap (λ (c : CoreState). c.config) (sym e ∙ same) ∙ core_config
+    | inl e ↦ (ap (λ (c : CoreState). c.config) (sym e ∙ same) ∙ core_config, ap (λ (c : CoreState). c.asked) (sym e ∙ same) ∙ core_asked)
     | inr old ↦ have k old
   ]
 
@@ -261,7 +264,7 @@ module _ (config : Config) (nodes : ℕ) where
   nodes_begun = (let e = map_copies (λ (k : CoreState). k.journal) nodes (begun_core config) in λ i. record { journals = e i; sent = [] })
 
   pub have_begun : HaveConfig config (replicate nodes (begun_core config))
-  have_begun core m = ap (λ (k : CoreState). k.config) (sym (copies nodes (begun_core config) core m))
+  have_begun core m = (let e = sym (copies nodes (begun_core config) core m) in (ap (λ (k : CoreState). k.config) e, ap (λ (k : CoreState). k.asked) e))
 
   many : nodes_in (begun_with config nodes) ≡ nodes
   many = length-replicate nodes []

@@ -1,6 +1,6 @@
 -- A cluster of nodes, as contracts see it.
 -- Source: ours.
-use Rattle.std.specs.Prelude.{◌≡◌, ℕ, ◌^◌, ◌<◌, ◌≤◌, List, length, map, Option}
+use Rattle.std.specs.Prelude.{◌≡◌, ℕ, ◌^◌, ◌<◌, ◌≤◌, List, length, map, Option, None}
 use Rattle.hw_types.specs.declared.unit.Vertex.{Vertex}
 use Rattle.hw_types.specs.declared.config.Config.{Config}
 use Rattle.hw_types.specs.declared.answers.Plan.{Plan}
@@ -29,7 +29,7 @@ nodes_in c = length c.cluster.journals
 
 -- one of the nodes
 abbrev pub node_in : ClusterState → ℕ → CoreState
-node_in c node = record { config = c.config; journal = journal_at c.cluster node }
+node_in c node = record { config = c.config; journal = journal_at c.cluster node; asked = None }
 
 -- ---- actions
 
@@ -59,9 +59,9 @@ pub record IsReached (c : ClusterState) : Type 0 where
 abbrev pub nodes_of : List CoreState → List Vertex → Cluster
 nodes_of cores sent = record { journals = map (λ core. core.journal) cores; sent = sent }
 
--- each node has the configuration
+-- each node has the configuration, and was asked nothing
 abbrev pub HaveConfig : Config → List CoreState → Type 0
-HaveConfig config cores = (core : CoreState) → Among core cores → core.config ≡ config
+HaveConfig config cores = (core : CoreState) → Among core cores → (core.config ≡ config) × (core.asked ≡ None)
 
 -- the same with their configuration
 abbrev pub state_of : Config → List CoreState → List Vertex → ClusterState

@@ -117,7 +117,7 @@ fn play(
     requires rounds { rounds ≤ 4096 }
     requires table { table.now ≡ config.now }
     requires begun { core.old ≡ begun config.now }
-    ensures { OnOk result (core.new ≡ record { config = config.now; journal = journal_of_rounds (setting_of config.now) (word_in (key_of key)) rounds }) }
+    ensures { OnOk result (core.new ≡ record { config = config.now; journal = journal_of_rounds (setting_of config.now) (word_in (key_of key)) rounds; asked = None }) }
 {
     let mut lanes = Lanes::new(alloc, instance_of(alloc, config)?, VALIDATORS)?;
     run(core, &mut Words::new(key), &mut lanes, table, rounds)

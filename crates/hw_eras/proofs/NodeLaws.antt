@@ -58,7 +58,7 @@ module _ (c : CoreState) (v : Vertex) (verdict : Bool) where
   pub made_after : IsMadeAgain c → IsMadeAgain (after_in c v verdict)
   made_after made = go (is_accepted (answer s c.journal v verdict)) refl
     where
-      go : (b : Bool) → is_accepted (answer s c.journal v verdict) ≡ b → IsMadeAgain (record { config = c.config; journal = cond b (c.journal ++ v ∷ []) c.journal })
+      go : (b : Bool) → is_accepted (answer s c.journal v verdict) ≡ b → IsMadeAgain (record c { journal = cond b (c.journal ++ v ∷ []) c.journal })
       go false e = made
       go true e =
           let took : is_accepted (answer s c.journal v true) ≡ true = subst (λ b. is_accepted (answer s c.journal v b) ≡ true) (accepted_true s c.journal v verdict e) e in

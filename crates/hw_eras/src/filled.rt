@@ -21,8 +21,8 @@ use hw_replay::{Replay, replay_log};
 use hw_types::OutOfMemory;
 use std::alloc::Global;
 
-/// Behind so many logs no further era is opened.
-const MAX_LOGS: usize = 64;
+/// The most logs of a node, one for each era: behind so many no further era is opened.
+pub const MAX_LOGS: usize = 64;
 
 /// How many entries of an era's log were refused, and how many came again.
 #[derive(Clone, Copy)]

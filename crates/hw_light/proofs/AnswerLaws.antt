@@ -78,7 +78,7 @@ module _ (c : Certificate) (verdicts : List Bool) where
   by_node : (core : CoreState) → IsTaken c verdicts core → checked_of c verdicts ≡ with_node core (fault_by core c.block (exceeded_in core))
   by_node core t =
       by_taken t.lawful (Ok core.journal) t.journal
-      ∙ ap (λ (k : CoreState). with_node k (fault_by k c.block (exceeded_in k))) (sym (same_core core c.config core.journal t.config refl))
+      ∙ ap (λ (k : CoreState). with_node k (fault_by k c.block (exceeded_in k))) (sym (same_core core c.config core.journal t.config refl t.asked))
 
   pub answer_is : (a : Checked) → IsAnswer c verdicts a → a ≡ checked_of c verdicts
   unfolding checked_of
@@ -111,7 +111,7 @@ module _ (c : Certificate) (verdicts : List Bool) where
       by_journal lawful (Err refused) e h = absurd cc
       by_journal lawful (Ok journal) e h =
           let k = node_with c journal in
-          by_fault core k (record { lawful = lawful; config = refl; journal = e }) (exceeded_in k) refl h
+          by_fault core k (record { lawful = lawful; config = refl; journal = e; asked = refl }) (exceeded_in k) refl h
 
       by_limit : (o : Option ConfigFault) → config_fault c.config ≡ o → by_limits c verdicts o ≡ Yes core → IsStanding c verdicts core
       by_limit (Some fault) e h = absurd cc

@@ -25,7 +25,7 @@ use Rattle.hw_light.specs.declared.certificate.Certificate.{Certificate}
 use Rattle.hw_light.specs.declared.answers.Checked.TheVariants.{Yes, No}
 use Rattle.hw_light.specs.declared.answers.CheckFault.TheVariants.{Config as BadConfig, Refused, Exceeded, Unstood}
 use Rattle.hw_light.specs.Standing.{BlockStands}
-use Rattle.hw_light.specs.Checked.{RefusedAt, taken_from, taken_of, IsTaken}
+use Rattle.hw_light.specs.Checked.{RefusedAt, taken_from, taken_of, node_with, IsTaken}
 use Rattle.hw_light.specs.declared.answers.Certified.{Certified}
 use Rattle.hw_light.specs.declared.answers.Certified.TheVariants.{Made, NotNow, TooLong}
 use Rattle.hw_light.specs.Certify.{IsMade, IsCertifiedAs, IfMade, IsYesFor}
@@ -65,13 +65,13 @@ module _ (made : Certificate) (lawful : config_fault made.config ≡ None) (is :
   trues = map (λ (v : Vertex). true) made.vertices
 
   abbrev node : CoreState
-  node = record { config = made.config; journal = journal_from (setting_of made.config) made.vertices }
+  node = node_with made (journal_from (setting_of made.config) made.vertices)
 
   all_taken : taken_of made trues ≡ Ok node.journal
   all_taken = ap (taken_from (setting_of made.config) 0 []) (zip_true made.vertices) ∙ taken_all (setting_of made.config) 0 [] (delivered made.vertices) is.taken
 
   node_is : (core : CoreState) → IsTaken made trues core → core ≡ node
-  node_is core t = let both : Ok core.journal ≡ Ok node.journal = sym t.journal ∙ all_taken in same_core core made.config node.journal t.config cc
+  node_is core t = let both : Ok core.journal ≡ Ok node.journal = sym t.journal ∙ all_taken in same_core core made.config node.journal t.config cc t.asked
 
   none_exceeded : (w : ℕ) → exceeded_in node ≡ Some w → ⊥
   none_exceeded w e = go (nat_lt made.config.ftt (weight_in node)) refl e

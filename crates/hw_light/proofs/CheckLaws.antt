@@ -23,7 +23,7 @@ use Rattle.hw_light.specs.declared.answers.Checked.TheVariants.{Yes, No}
 use Rattle.hw_light.specs.Standing.{BlockStands}
 use Rattle.hw_light.specs.declared.answers.CheckFault.{CheckFault}
 use Rattle.hw_light.specs.declared.answers.CheckFault.TheVariants.{Config as BadConfig, Refused, Exceeded, Unstood}
-use Rattle.hw_light.specs.Checked.{RefusedAt, taken_from, taken_of, IsTaken, IsStanding, IsAnswer, IsCertified, IfYes, IsTakenAs, IsNodeFault, with_node}
+use Rattle.hw_light.specs.Checked.{RefusedAt, taken_from, taken_of, node_with, IsTaken, IsStanding, IsAnswer, IsCertified, IfYes, IsTakenAs, IsNodeFault, with_node}
 
 -- ---- one delivery after the other
 
@@ -171,12 +171,13 @@ node_answers c bs core (Ok fault) taken is = node_answer c bs core fault taken i
 node_answers c bs core (Err e) taken is = tt
 
 -- a node that began with the certificate's configuration took all vertices
-pub taken_is : (c : Certificate) (bs : List Bool) (first later : CoreState) → config_fault c.config ≡ None → first.config ≡ c.config → first.journal ≡ [] → later.config ≡ first.config
+pub taken_is : (c : Certificate) (bs : List Bool) (first later : CoreState) → config_fault c.config ≡ None → first.config ≡ c.config → first.journal ≡ [] → later.config ≡ first.config → later.asked ≡ None
     → taken_from (setting_of first.config) 0 first.journal (zip c.vertices bs) ≡ Ok later.journal → IsTaken c bs later
-taken_is c bs first later lawful config empty same is = record {
+taken_is c bs first later lawful config empty same unasked is = record {
   lawful = lawful;
   config = same ∙ config;
   journal = ap (λ (j : List Vertex). taken_from (setting_of c.config) 0 j (zip c.vertices bs)) (sym empty) ∙ ap (λ (k : Config). taken_from (setting_of k) 0 first.journal (zip c.vertices bs)) (sym config) ∙ is;
+  asked = unasked;
 }
 
 -- or one was refused
@@ -196,8 +197,8 @@ few_faulty core is = go (ltb core.config.ftt (weight_in core)) refl is
     go true over is' = absurd cc
     go false within is' = ltb-false _ _ within
 
-pub same_core : (core : CoreState) (config : Config) (journal : List Vertex) → core.config ≡ config → core.journal ≡ journal → core ≡ record { config = config; journal = journal }
-same_core core config journal e f = ap (λ (k : Config). record { config = k; journal = core.journal }) e ∙ ap (λ (j : List Vertex). record { config = config; journal = j }) f
+pub same_core : (core : CoreState) (config : Config) (journal : List Vertex) → core.config ≡ config → core.journal ≡ journal → core.asked ≡ None → core ≡ record { config = config; journal = journal; asked = None }
+same_core core config journal e f g = λ i. record { config = e i; journal = f i; asked = g i }
 
 certified : (c : Certificate) (bs : List Bool) (core : CoreState) → length bs ≡ length c.vertices → IsStanding c bs core → IsCertified c core
 certified c bs core size standing =
@@ -206,8 +207,8 @@ certified c bs core size standing =
     let was = was_taken s 0 [] (zip c.vertices bs) core.journal standing.taken.journal in
     let are = true_deliveries c.vertices bs size was.verdicts in
     let journal : core.journal ≡ journal_from s c.vertices = sym was.is ∙ ap (λ (l : List (Vertex × Bool)). journal_of s l) are in
-    let node : CoreState = record { config = c.config; journal = journal_from s c.vertices } in
-    let same : core ≡ node = same_core core c.config (journal_from s c.vertices) standing.taken.config journal in
+    let node : CoreState = node_with c (journal_from s c.vertices) in
+    let same : core ≡ node = same_core core c.config (journal_from s c.vertices) standing.taken.config journal standing.taken.asked in
     let stands = subst (λ (k : CoreState). BlockStands k c.block) same standing.stands in
     record {
       config = standing.taken.config;

@@ -41,15 +41,16 @@ taken_of c verdicts = taken_from (setting_of c.config) 0 [] (zip c.vertices verd
 
 -- the node of the certificate's configuration with this journal
 abbrev pub node_with : Certificate → List Vertex → CoreState
-node_with c journal = record { config = c.config; journal = journal }
+node_with c journal = record { config = c.config; journal = journal; asked = None }
 
 -- ---- the answer
 
--- the configuration keeps its limits, and no vertex is refused, so that there is this node
+-- the configuration keeps its limits, and no vertex is refused, so that there is this node, of which nothing was asked
 pub record IsTaken (c : Certificate) (verdicts : List Bool) (core : CoreState) : Type 0 where
   pub lawful : config_fault c.config ≡ None
   pub config : core.config ≡ c.config
   pub journal : taken_of c verdicts ≡ Ok core.journal
+  pub asked : core.asked ≡ None
 
 -- it does, and the faulty weigh too much there
 pub record IsExceeded (c : Certificate) (verdicts : List Bool) (weight : ℕ) : Type 0 where
@@ -95,7 +96,7 @@ IfYes P (No fault) = Unit {0}
 
 -- a list of one new node with this configuration, which keeps its limits, or the first limit that it breaks
 abbrev pub IsBegun : Config → List CoreState → Option ConfigFault → Type 0
-IsBegun config nodes None = (config_fault config ≡ None) × (nodes ≡ record { config = config; journal = [] } ∷ [])
+IsBegun config nodes None = (config_fault config ≡ None) × (nodes ≡ record { config = config; journal = []; asked = None } ∷ [])
 IsBegun config nodes (Some fault) = config_fault config ≡ Some fault
 
 -- what a node after deliveries is answered: none of them was refused, or the first that was

@@ -41,7 +41,10 @@ pub fn certify_block(alloc: Global, core: &mut Core, block: &Digest) -> Result<A
     // A certificate is answered yes where its signatures are right, and it may be spelled.
     ensures yes { IfOk result (IfAnswered IsYesFor) }
     ensures fits { IfOk result (IfAnswered CertificateFits) }
-    ensures unchanged { core.new ≡ core.old }
+
+    // The node is as it was, but for what it was asked last.
+    ensures config { core.new.config ≡ core.old.config }
+    ensures journal { core.new.journal ≡ core.old.journal }
 {
     match decision_of(core, block) {
         Some(index) => Ok(Asked::Answered(certify(alloc, core, index)?)),

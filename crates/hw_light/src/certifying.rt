@@ -33,9 +33,28 @@ pub fn certify(alloc: Global, core: &mut Core, index: u64) -> Result<Certified, 
 
     // It may be spelled.
     ensures fits { IfOk result (IfMade CertificateFits) }
-    ensures unchanged { core.new ≡ core.old }
+
+    // The node is as it was, but for what it was asked last.
+    ensures config { core.new.config ≡ core.old.config }
+    ensures journal { core.new.journal ≡ core.old.journal }
 {
-    if core.exceeded().is_some() || !core.summit_now(index) {
+    if core.exceeded().is_some() {
+        return Ok(Certified::NotNow);
+    }
+    certify_if_standing(alloc, core, index)
+}
+
+/// The certificate of the decided block of that place, if it has a summit now. The faulty don't weigh too much.
+fn certify_if_standing(alloc: Global, core: &mut Core, index: u64) -> Result<Certified, OutOfMemory>
+    requires known { index < length (decided_in core.old) }
+    requires few_faulty { exceeded_in core.old ≡ None }
+    ensures answer { IfOk result (IsCertifiedAs core.old index) }
+    ensures yes { IfOk result (IfMade IsYesFor) }
+    ensures fits { IfOk result (IfMade CertificateFits) }
+    ensures config { core.new.config ≡ core.old.config }
+    ensures journal { core.new.journal ≡ core.old.journal }
+{
+    if !core.summit_now(index) {
         return Ok(Certified::NotNow);
     }
     certify_standing(alloc, core, index)

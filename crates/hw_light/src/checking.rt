@@ -101,6 +101,7 @@ fn find_fault(
     requires lawful { config_fault certificate.now.config ≡ None }
     requires config { core.old.config ≡ certificate.now.config }
     requires empty { core.old.journal ≡ [] }
+    requires unasked { core.old.asked ≡ None }
     ensures { IfOk result (λ fault. IsAnswer certificate.now verdicts.now (with_node core.new fault)) }
 {
     match take_all(core, certificate.vertices.as_slice(), verdicts)? {
@@ -135,6 +136,7 @@ fn take_all(
     requires verdicts { length verdicts.now ≡ length vertices.now }
     ensures taken { IfOk result (IsTakenAs (taken_from (setting_of core.old.config) 0 core.old.journal (zip vertices.now verdicts.now)) core.new) }
     ensures config { core.new.config ≡ core.old.config }
+    ensures asked { core.new.asked ≡ core.old.asked }
 {
     for (index, vertex) in vertices.iter().enumerate() {
         if let Err(refused) = core.deliver(vertex.copy()?, verdicts[index]) {

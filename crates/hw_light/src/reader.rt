@@ -5,7 +5,7 @@ ghost use Rattle.std.specs.Prelude.{◌≡◌, ◌≤◌, length, IfOk, IfErr};
 ghost use Rattle.hw_light.specs.Reading.{Gives, WrapsNoWant, rest_at, field_at, count_at, part_at, behind_magic, behind_version, ended_at};
 
 use crate::error::CertError;
-use hw_types::MAX_LENGTH;
+use hw_types::{MAX_LENGTH, MAX_RECORDS};
 use std::marker::Model;
 
 /// A certificate begins with these bytes.
@@ -14,8 +14,8 @@ pub(crate) const MAGIC: [u8; 4] = *b"HWCT";
 /// The version of a certificate's format.
 pub(crate) const VERSION: u8 = 1;
 
-/// A certificate has at most this many vertices.
-pub(crate) const MAX_VERTICES: u32 = 131_072;
+/// A certificate has at most this many vertices: as many as a journal may have.
+pub(crate) const MAX_VERTICES: u32 = MAX_RECORDS as u32;
 
 /// The bytes that aren't read yet, and how many were read before them.
 #[derive(Drop)]

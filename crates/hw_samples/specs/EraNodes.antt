@@ -36,10 +36,10 @@ brief_unit = record (unit 0 1 26 (Correct brief_name ∷ []) None) { instance = 
 
 -- the node behind both, and the one behind the block alone
 abbrev pub ended_node : CoreState
-ended_node = record { config = brief; journal = sends brief_block ∷ sends brief_unit ∷ [] }
+ended_node = record { config = brief; journal = sends brief_block ∷ sends brief_unit ∷ []; asked = None }
 
 abbrev pub block_node : CoreState
-block_node = record { config = brief; journal = sends brief_block ∷ [] }
+block_node = record { config = brief; journal = sends brief_block ∷ []; asked = None }
 
 -- the configuration after that era, whose leaders are drawn by the block
 abbrev pub next_brief : Config

@@ -27,7 +27,7 @@ log_of_all journal = log_bytes 1 equal_three (map (λ v. record { at = 0; verdic
 
 -- what a replay of it took
 abbrev pub took_all : List Vertex → Taken
-took_all journal = record { core = record { config = equal_three; journal = journal }; refused = 0; repeats = 0 }
+took_all journal = record { core = record { config = equal_three; journal = journal; asked = None }; refused = 0; repeats = 0 }
 
 -- each of three validators has the key of 32 zeros
 abbrev pub zeros : List ℕ

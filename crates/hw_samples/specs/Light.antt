@@ -1,6 +1,6 @@
 -- A certificate that is answered yes, beside a node that decided another block of that height.
 -- Source: ours.
-use Rattle.std.specs.Prelude.{◌≡◌, ◌≢◌, List, Any}
+use Rattle.std.specs.Prelude.{◌≡◌, ◌≢◌, List, None, Any}
 use Rattle.hw_types.specs.declared.unit.Vertex.{Vertex}
 use Rattle.hw_types.specs.declared.answers.Decision.{Decision}
 use Rattle.hw_types.specs.Below.{Among}
@@ -19,7 +19,7 @@ abbrev pub four_certify : Certificate
 four_certify = record { config = equal_three; block = a0_name; vertices = real_in_order }
 
 abbrev pub node_of : List Vertex → CoreState
-node_of journal = record { config = equal_three; journal = journal }
+node_of journal = record { config = equal_three; journal = journal; asked = None }
 
 -- four others decide that of validator 2
 abbrev pub other_decision : Decision

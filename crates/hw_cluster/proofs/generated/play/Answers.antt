@@ -1,4 +1,4 @@
-use Rattle.std.proofs.Common.{◌≡◌, ℕ, List, refl, ap, sym, subst, ◌∙◌}
+use Rattle.std.proofs.Common.{◌≡◌, ℕ, List, None, refl, ap, sym, subst, ◌∙◌}
 use Rattle.hw_types.specs.declared.config.Config.{Config}
 use Rattle.hw_types.specs.Real.{CoreState, setting_of}
 use Rattle.rand_chacha.specs.ChaCha.{key_of}
@@ -22,6 +22,6 @@ run-requires-clause-first c =
 
 pub returns : goal.returns
 returns c =
-    let left : Config → List ℕ → CoreState = λ k key. record { config = k; journal = journal_of_rounds (setting_of k) (word_in key) c.args.rounds } in
+    let left : Config → List ℕ → CoreState = λ k key. record { config = k; journal = journal_of_rounds (setting_of k) (word_in key) c.args.rounds; asked = None } in
     on_ok c.run.result (IsAfter c.args.table.now c.new-2.result.key c.args.rounds c.run.new.core c.run.new.words c.run.new.lanes) (c.run.new.core ≡ left c.args.config.now (key_of c.args.key))
     (λ after. after.journal ∙ ap (λ (k : Config). left k c.new-2.result.key) c.requires.table ∙ ap (λ (w : WordStream). left c.args.config.now w.key) c.new-2.ensures) c.run.ensures

@@ -34,4 +34,5 @@ returns-in-None c =
     let taken = subst (λ (vs : List Vertex). IsTakenAs (taken_from (setting_of start.config) 0 start.journal (zip vs bs)) later c.in_ok-fault.field-0) c.as_slice.ensures c.in_ok-fault.ensures.taken in
     let all : taken_from (setting_of start.config) 0 start.journal (zip c.args.certificate.now.vertices bs) ≡ Ok later.journal =
     subst (λ (f : Option CheckFault). IsTakenAs (taken_from (setting_of start.config) 0 start.journal (zip c.args.certificate.now.vertices bs)) later f) c.in-None.is taken in
-    node_answers c.args.certificate.now bs later c.node_fault.result (taken_is c.args.certificate.now bs start later c.requires.lawful c.requires.config c.requires.empty c.in_ok-fault.ensures.config all) c.node_fault.ensures
+    node_answers c.args.certificate.now bs later c.node_fault.result (taken_is c.args.certificate.now bs start later c.requires.lawful c.requires.config c.requires.empty c.in_ok-fault.ensures.config
+    (c.in_ok-fault.ensures.asked ∙ c.requires.unasked) all) c.node_fault.ensures

@@ -1,7 +1,7 @@
-use Rattle.std.proofs.Common.{◌≡◌, ◌<◌, length, Some, get_or, sym, subst}
+use Rattle.std.proofs.Common.{◌≡◌, ◌<◌, length, Some, get_or, sym, ap, subst, ◌∙◌}
 use Rattle.std.specs.List.{zip}
 use Rattle.hw_types.specs.declared.unit.Vertex.{Vertex}
-use Rattle.hw_types.specs.Real.{setting_of}
+use Rattle.hw_types.specs.Real.{CoreState, setting_of}
 use Rattle.hw_light.specs.Checked.{IsTakenAs, taken_from}
 use Rattle.hw_light.specs.declared.answers.CheckFault.{CheckFault}
 use Rattle.hw_light.proofs.CheckLaws.{one_taken, one_refused, all_taken}
@@ -18,7 +18,7 @@ loop-index-preserved c =
     let long : i < length bs = rw c.requires.verdicts c.loop-index-test.true in
     let next = one_taken start.config vs bs total i c.loop-index.core c.deliver.new.self c.in_ok-copy.field-0 _ c.in_default.field-0 c.loop-index-test.true long is_v c.loop-index.invariant.config
     c.in_default.ensures.accepted c.in_default.ensures.journal c.loop-index.invariant.taken in
-    record { config = next.0; taken = next.1 }
+    record { config = next.0; asked = ap (λ (k : CoreState). k.asked) c.in_default.ensures.journal ∙ c.loop-index.invariant.asked; taken = next.1 }
 
 pub returns-in-Err-clause-taken : goal.returns-in-Err-clause-taken
 returns-in-Err-clause-taken c =
