@@ -5,20 +5,19 @@ use Rattle.std.specs.Prelude.{Result, Ok, Err, IfOk, ◌↔◌, ◌&&◌, ◌||�
 use Rattle.std.specs.List.{list_any}
 use Rattle.std.specs.Option.{option_or, option_and_then}
 use Rattle.hw_types.specs.declared.unit.Digest.{Digest}
-use Rattle.hw_types.specs.declared.unit.Obs.TheVariants.{Faulty}
 use Rattle.hw_types.specs.declared.unit.SignedUnit.{SignedUnit}
 use Rattle.hw_types.specs.declared.unit.Evidence.{Evidence}
 use Rattle.hw_types.specs.declared.unit.Vertex.{Vertex}
 use Rattle.hw_types.specs.declared.unit.Vertex.TheVariants as vertex
 use Rattle.hw_types.specs.declared.answers.PairFault.{PairFault}
 use Rattle.hw_types.specs.declared.answers.PairFault.TheVariants as fault
-use Rattle.hw_types.specs.Graph.{Node, digest_eq, is_faulty_mark, slot}
+use Rattle.hw_types.specs.Graph.{Node, digest_eq}
 use Rattle.hw_types.specs.Below.{Among}
 use Rattle.hw_types.specs.Spelling.{digest_of}
-use Rattle.hw_types.specs.Settled.{Received, validators, has_evidence, equivocates, is_faulty, correct_or_absent, tip_of, panorama_of}
+use Rattle.hw_types.specs.Settled.{Received, validators, has_evidence, equivocates, is_faulty}
 use Rattle.hw_types.specs.Culprits.{pair_of}
 use Rattle.hw_types.specs.Journal.{Setting, named, unit_of_vertex, evidence_in, received_of, evidence_fault}
-use Rattle.hw_types.specs.Real.{CoreState, setting_of, received_in, settled_in, panorama_in}
+use Rattle.hw_types.specs.Real.{CoreState, setting_of, received_in, settled_in}
 use Rattle.hw_types.proofs.ClosureLaws.{Among-filter, filter-Among}
 use Rattle.hw_types.proofs.PastLaws.{some_of, any_of, or_cases}
 use Rattle.hw_types.proofs.StableLaws.{OneName, and_parts, both_ways, found_one}
@@ -27,7 +26,6 @@ use Rattle.hw_types.proofs.WordsLaws.{never_both, range_in, range_below}
 use Rattle.hw_types.proofs.EntryLaws.{mapped_among, among_mapped}
 use Rattle.hw_types.proofs.GraphLaws.{rising_one_name}
 use Rattle.hw_types.proofs.OrderLaws.{unit_vertex, received_in as in_units}
-use Rattle.hw_types.proofs.TipLaws.{slot_over}
 use Rattle.hw_safety.specs.Safety.{HasPairs}
 use Rattle.hw_safety.proofs.AccountLaws.{lawful_journal, in_journal}
 use Rattle.hw_core.specs.Readers.{signed_unit, unit_in, signed_evidence, evidence_of}
@@ -194,17 +192,6 @@ module _ (c : CoreState) where
       there : (b : Bool) → is_faulty k (settled_in c) v ≡ b → o ≡ None → b ≡ false
       there false e none = refl
       there true e none = absurd (let some = faulty_some v e in let both : None ≡ Some some.0 = sym none ∙ is ∙ some.1 in cc)
-
-  -- ---- who is faulty, by what the node observes
-
-  pub mark_is : (v : ℕ) → v < length c.config.weights → is_faulty_mark (slot (panorama_in c) v) ≡ is_faulty k (settled_in c) v
-  unfolding panorama_of
-  mark_is v lt = ap is_faulty_mark (slot_over c.config (is_faulty k (settled_in c)) (settled_in c) v lt) ∙ go (is_faulty k (settled_in c) v) (tip_of (settled_in c) v)
-    where
-      go : (b : Bool) (o : Option Node) → is_faulty_mark (cond b Faulty (correct_or_absent o)) ≡ b
-      go true o = refl
-      go false None = refl
-      go false (Some u) = refl
 
   -- who is no validator isn't
   pub stranger : (v : ℕ) → length c.config.weights ≤ v → is_faulty k (settled_in c) v ≡ false

@@ -174,7 +174,10 @@ not_clashing s e none apart =
 
 -- ---- after deliveries
 
-module _ (config : Config) (deliveries : List (Vertex × Bool)) (v : ℕ) where
+module _ (node : CoreState) (deliveries : List (Vertex × Bool)) (v : ℕ) where
+  abbrev config : Config
+  config = node.config
+
   abbrev s : Setting
   s = setting_of config
 
@@ -182,7 +185,7 @@ module _ (config : Config) (deliveries : List (Vertex × Bool)) (v : ℕ) where
   journal = journal_of s deliveries
 
   abbrev c : CoreState
-  c = record { config = config; journal = journal }
+  c = record node { journal = journal }
 
   -- the journal's unit of a settled unit's name is that unit
   signed_is : (x : Node) → Among x (settled_in c) → (u : SignedUnit) → unit_in c x.digest ≡ Some u → (u.unit ≡ x.unit) × (local_rule config s.instance u.unit ≡ None)
@@ -255,4 +258,4 @@ module _ (config : Config) (deliveries : List (Vertex × Bool)) (v : ℕ) where
       go None i k = settled_taken e k
 
 pub evidence_taken : EvidenceIsTaken
-evidence_taken config deliveries v e h = taken config deliveries v e h
+evidence_taken node deliveries v e is h = taken node deliveries v e (subst (λ (vs : List Vertex). evidence_against (record node { journal = vs }) v ≡ Some e) is h)

@@ -6,10 +6,10 @@ ghost use Rattle.hw_types.specs.declared.unit.Vertex.TheVariants as vertex;
 ghost use Rattle.hw_core.specs.Readers.{unit_in};
 ghost use Rattle.hw_needs.specs.{Needs.{evidence_against, settled_evidence, evidence_between}, Pairs.{names_of, ArePairs, StayKept, IsPairKept, IsSoughtKept}};
 
-use crate::forks::fork_of;
+use crate::forks::pair_of;
 use crate::pairs::{KnownPairs, PairNames};
 use hw_core::Core;
-use hw_types::{Digest, Evidence, Obs, OutOfMemory};
+use hw_types::{Digest, Evidence, OutOfMemory};
 use std::alloc::Global;
 
 /// The evidence against the validator: that of the node's journal, or else one of two settled units, each as
@@ -63,13 +63,11 @@ pub(crate) fn evidence_with(
 fn is_faulty(core: &Core, validator: u32) -> bool
     ensures { result ≡ is_faulty (received_in core.now) (settled_in core.now) validator }
 {
-    if validator as usize >= core.state().config().weights.len() {
+    let state = core.state();
+    if validator as usize >= state.config().weights.len() {
         return false;
     }
-    match core.observation(validator) {
-        Obs::Faulty => true,
-        Obs::Absent | Obs::Correct(_) => false,
-    }
+    state.is_faulty(validator)
 }
 
 /// The evidence of the two settled units of these names, None where there are none.
@@ -116,7 +114,7 @@ fn pair_names(alloc: Global, core: &Core, validator: u32) -> Result<Option<PairN
     ensures { IfOk result (λ names. names ≡ option_map names_of (pair_of (settled_in core.now) validator)) }
 {
     let dag = core.state().dag();
-    match fork_of(alloc, dag, validator)? {
+    match pair_of(alloc, dag, validator)? {
         Some((left, right)) => Ok(Some(PairNames {
             left: *dag.unit(left).digest(),
             right: *dag.unit(right).digest(),

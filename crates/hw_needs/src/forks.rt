@@ -142,7 +142,7 @@ fn least_two(dag: &Dag, creator: u32, seq: u64) -> Option<(UnitNo, UnitNo)>
 
 /// The two settled units that show that the creator equivocated: at the least sequence number that two of its
 /// units have, the two of the least digests, the lesser one first. None where no two of its units have one number.
-pub fn fork_of(
+pub fn pair_of(
     alloc: Global,
     dag: &Dag,
     creator: u32,

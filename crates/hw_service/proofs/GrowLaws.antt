@@ -1,9 +1,8 @@
--- A session leaves the configuration of a node as it is, and its journal only grows.
+-- A session leaves the configuration of a node and its last question as they are, and its journal only grows.
 use Rattle.std.specs.Prelude.{◌==◌}
 use Rattle.std.proofs.Common.{◌≡◌, ◌⊎◌, ◌≤◌, ℕ, Bool, true, false, cond, List, [], ◌∷◌, ◌++◌, length, Option, Result, Ok, Err, inl, inr, refl, sym, ap, subst, ◌∙◌, arith, length-append}
 use Rattle.std.specs.Prelude.{All}
 use Rattle.std.proofs.lemmas.List.{append-nil, append_assoc}
-use Rattle.hw_types.specs.declared.config.Config.{Config}
 use Rattle.hw_types.specs.declared.unit.Vertex.{Vertex}
 use Rattle.hw_types.specs.declared.answers.Frame.{Frame}
 use Rattle.hw_types.specs.declared.answers.Frame.TheVariants as frame
@@ -19,7 +18,6 @@ use Rattle.hw_replay.specs.State.{FanoutState}
 use Rattle.hw_replay.specs.Fates.{Sight, AreServed}
 use Rattle.hw_replay.specs.Told.{HasTaken, IsTold}
 use Rattle.hw_replay.specs.Feed.{moment, IsPassed}
-use Rattle.hw_replay.specs.ToldLaws.{node_with}
 use Rattle.hw_replay.proofs.GrowLaws.{only_grows, stays_taken}
 use Rattle.hw_link.specs.declared.end.SessionEnd.{SessionEnd}
 use Rattle.hw_link.specs.declared.end.SessionEnd.TheVariants as end
@@ -31,26 +29,21 @@ use Rattle.hw_service.specs.Talk.{HasGrown}
 use Rattle.hw_session.specs.Grows.{Logs, LogsAllBut}
 use Rattle.hw_session.specs.Accept.{given_to, taken_by}
 use Rattle.hw_session.specs.Serving.{is_clash, answer_to_vertex, serve_first, serve_frame, serve_step, served}
-use Rattle.hw_session.proofs.ConfigLaws.{talk_keeps, taken_config}
+use Rattle.hw_session.proofs.ConfigLaws.{talk_keeps, taken_config, taken_asked}
 use Rattle.hw_session.specs.Sessions.{StandsBefore, StandsCut, Leaves, ServesPeer, ServesNone}
 use Rattle.hw_session.specs.Standing.{standing}
 
 -- ---- a node that grew
 
--- it is the node with this journal
-grown_is : (c d : CoreState) → (g : HasGrown c d) → d ≡ node_with c.config (c.journal ++ g.journal.0)
-grown_is c d g = ap (λ (k : Config). let n : CoreState = record { config = k; journal = d.journal } in n) g.config ∙ ap (λ (j : List Vertex). node_with c.config j) g.journal.1
-
 -- as many blocks are told
 pub still_told : (c d : CoreState) (n : ℕ) → HasGrown c d → n ≤ length (told_chain c) → n ≤ length (told_chain d)
 still_told c d n grown le =
-    let P : CoreState → Type 0 = λ x. n ≤ length (told_chain x) in
-    let g = only_grows c.config c.journal grown.journal.0 in
-    subst P (sym (grown_is c d grown)) (omega (arith, le, ap length g.1, length-append (told_chain (node_with c.config c.journal)) g.0))
+    let g = only_grows c d grown.config grown.journal in
+    omega (arith, le, ap length g.1, length-append (told_chain c) g.0)
 
 -- what was taken is still the beginning
 taken_still : (c d : CoreState) (n : ℕ) (o : Option Consumed) → HasGrown c d → n ≤ length (told_chain c) → HasTaken (told_chain c) n o → HasTaken (told_chain d) n o
-taken_still c d n o grown le h = let P : CoreState → Type 0 = λ x. HasTaken (told_chain x) n o in subst P (sym (grown_is c d grown)) (stays_taken c.config c.journal grown.journal.0 n o le h)
+taken_still c d n o grown le h = stays_taken c d grown.config grown.journal n o le h
 
 pub still_taken : {B : Type 0} (f : B → Option Consumed) (c d : CoreState) (n : ℕ) (xs : List B) → HasGrown c d → n ≤ length (told_chain c) → All (λ b. HasTaken (told_chain c) n (f b)) xs → All (λ b. HasTaken (told_chain d) n (f b)) xs
 still_taken f c d n xs grown le h = λ k b lt. taken_still c d n _ grown le (h k b lt)
@@ -119,16 +112,20 @@ module _ (P : NodeState → Type 0) (takes : (m : NodeState) (v : Vertex) → P 
 pub served_config : (n : NodeState) (bytes : List ℕ) → (served n bytes).state.core.config ≡ n.core.config
 served_config n bytes = served_keeps (λ m. m.core.config ≡ n.core.config) (λ m v p. taken_config m v (given_to m v) ∙ p) n bytes refl
 
+served_asked : (n : NodeState) (bytes : List ℕ) → (served n bytes).state.core.asked ≡ n.core.asked
+served_asked n bytes = served_keeps (λ m. m.core.asked ≡ n.core.asked) (λ m v p. taken_asked m v (given_to m v) ∙ p) n bytes refl
+
 -- ---- a session
 
 -- a node that stands behind some bytes, and its log
-pub behind_logs : (tells : Bool) (n m : NodeState) (old new : List ℕ → Option (List ℕ)) → m.core.config ≡ n.core.config → Logs n m tells old new → HasGrown n.core m.core
-behind_logs tells n m old new config logs = record { config = config; journal = (logs.vertices, logs.gains.journal) }
+pub behind_logs : (tells : Bool) (n m : NodeState) (old new : List ℕ → Option (List ℕ)) → m.core.config ≡ n.core.config → m.core.asked ≡ n.core.asked → Logs n m tells old new → HasGrown n.core m.core
+behind_logs tells n m old new config asked logs = record { config = config; asked = asked; journal = (logs.vertices, logs.gains.journal) }
 
 -- or one vertex more, whose entry may be cut
-pub behind_cut : (tells : Bool) (n before m : NodeState) (v : Vertex) (old new : List ℕ → Option (List ℕ)) → before.core.config ≡ n.core.config → LogsAllBut n before v m tells old new → HasGrown n.core m.core
-behind_cut tells n before m v old new config logs = record {
+pub behind_cut : (tells : Bool) (n before m : NodeState) (v : Vertex) (old new : List ℕ → Option (List ℕ)) → before.core.config ≡ n.core.config → before.core.asked ≡ n.core.asked → LogsAllBut n before v m tells old new → HasGrown n.core m.core
+behind_cut tells n before m v old new config asked logs = record {
   config = ap (λ (k : NodeState). k.core.config) logs.unlogged.1 ∙ config;
+  asked = ap (λ (k : NodeState). k.core.asked) logs.unlogged.1 ∙ asked;
   journal = (
     logs.vertices ++ v ∷ [],
     ap (λ (k : NodeState). k.core.journal) logs.unlogged.1 ∙ ap (λ (j : List Vertex). j ++ v ∷ []) logs.gains.journal ∙ append_assoc n.core.journal logs.vertices (v ∷ []),
@@ -139,18 +136,19 @@ behind_cut tells n before m v old new config logs = record {
 pub grown_same : (n m : NodeState) → m ≡ n → HasGrown n.core m.core
 grown_same n m same = record {
   config = ap (λ (k : NodeState). k.core.config) same;
+  asked = ap (λ (k : NodeState). k.core.asked) same;
   journal = ([], ap (λ (k : NodeState). k.core.journal) same ∙ sym (append-nil n.core.journal));
 }
 
 module _ (tells : Bool) (n m : NodeState) (old new : List ℕ → Option (List ℕ)) (read written : List ℕ) where
   plain_grows : (m ≡ (served n read).state) × Logs n m tells old new → HasGrown n.core m.core
-  plain_grows left = behind_logs tells n m old new (ap (λ (k : NodeState). k.core.config) left.0 ∙ served_config n read) left.1
+  plain_grows left = behind_logs tells n m old new (ap (λ (k : NodeState). k.core.config) left.0 ∙ served_config n read) (ap (λ (k : NodeState). k.core.asked) left.0 ∙ served_asked n read) left.1
 
   cut_grows : StandsCut tells (standing n old) read written (standing m new) → HasGrown n.core m.core
-  cut_grows s = behind_cut tells n (served n s.first).state m s.vertex old new (served_config n s.first) s.logs
+  cut_grows s = behind_cut tells n (served n s.first).state m s.vertex old new (served_config n s.first) (served_asked n s.first) s.logs
 
   before_grows : StandsBefore tells (standing n old) read written (standing m new) → HasGrown n.core m.core
-  before_grows s = behind_logs tells n m old new (ap (λ (k : NodeState). k.core.config) s.state ∙ served_config n s.first) s.logs
+  before_grows s = behind_logs tells n m old new (ap (λ (k : NodeState). k.core.config) s.state ∙ served_config n s.first) (ap (λ (k : NodeState). k.core.asked) s.state ∙ served_asked n s.first) s.logs
 
   leaves_grows : (e : SessionEnd) → Leaves e tells (standing n old) read written (standing m new) → HasGrown n.core m.core
   leaves_grows end.Done left = plain_grows left

@@ -38,7 +38,8 @@ pub record DialsOne (old new : DoorSeen) : Type 0 where
   pub dials : new.dials ≡ raised old.dials
   pub accepts : new.accepts ≡ old.accepts
 
--- the configuration is the same, and vertices went last in the journal
+-- the configuration and the last question are the same, and vertices went last in the journal
 pub record HasGrown (old new : CoreState) : Type 0 where
   pub config : new.config ≡ old.config
+  pub asked : new.asked ≡ old.asked
   pub journal : Begins old.journal new.journal

@@ -1,4 +1,4 @@
--- A session that a node drives leaves its configuration as it is.
+-- A session that a node drives leaves its configuration and its last question as they are.
 use Rattle.std.specs.Prelude.{◌==◌, IfOk, IfSome}
 use Rattle.std.proofs.Common.{◌≡◌, ℕ, zero, suc, Bool, true, false, cond, List, [], ◌∷◌, take, drop, Option, Some, None, Result, Ok, Err, refl, subst, ◌∙◌}
 use Rattle.hw_types.specs.declared.unit.Vertex.{Vertex}
@@ -55,6 +55,19 @@ taken_config n v (Err (cause.Clash d)) = refl
 taken_config n v (Err cause.RecordsFull) = refl
 taken_config n v (Err cause.ParkFull) = refl
 taken_config n v (Err cause.OutOfMemory) = refl
+
+pub taken_asked : (n : NodeState) (v : Vertex) (a : Result Receipt Cause) → (taken_by n v a).core.asked ≡ n.core.asked
+taken_asked n v (Ok receipt.Repeat) = refl
+taken_asked n v (Ok (receipt.Admitted k)) = refl
+taken_asked n v (Ok (receipt.Parked k)) = refl
+taken_asked n v (Ok (receipt.Dropped rule)) = refl
+taken_asked n v (Err cause.BadSignature) = refl
+taken_asked n v (Err (cause.Local rule)) = refl
+taken_asked n v (Err (cause.Pair f)) = refl
+taken_asked n v (Err (cause.Clash d)) = refl
+taken_asked n v (Err cause.RecordsFull) = refl
+taken_asked n v (Err cause.ParkFull) = refl
+taken_asked n v (Err cause.OutOfMemory) = refl
 
 -- ---- driving
 
@@ -137,6 +150,9 @@ module _ (P : NodeState → Type 0) (takes : (m : NodeState) (v : Vertex) → P 
 
 pub driven_config : (n : NodeState) (mark : PeerMark) (bytes : List ℕ) → (driven n mark bytes).state.node.core.config ≡ n.core.config
 driven_config n mark bytes = driven_keeps (λ m. m.core.config ≡ n.core.config) (λ m v p. taken_config m v (given_to m v) ∙ p) n mark bytes refl
+
+pub driven_asked : (n : NodeState) (mark : PeerMark) (bytes : List ℕ) → (driven n mark bytes).state.node.core.asked ≡ n.core.asked
+driven_asked n mark bytes = driven_keeps (λ m. m.core.asked ≡ n.core.asked) (λ m v p. taken_asked m v (given_to m v) ∙ p) n mark bytes refl
 
 -- ---- own units
 

@@ -79,7 +79,7 @@ module _ (n : NodeState) (p : Plan) (reached : IsReached n.core) (step : IsAStep
   taken_is_made r is = elim told [
     | inl other ↦ absurd (let e : Err (cause.Clash (s.name p.unit)) ≡ Ok r = sym other.1 ∙ is in cc)
     | inr (inl many) ↦ absurd (let e : Err cause.RecordsFull ≡ Ok r = sym many.1 ∙ is in cc)
-    | inr (inr made) ↦ (made.0, ap (λ (j : List Vertex). let k : CoreState = record { config = n.core.config; journal = j } in record n { core = k }) (after_accepted s n.core.journal (own_vertex n p) true (ap is_accepted made.1.1)))
+    | inr (inr made) ↦ (made.0, ap (λ (j : List Vertex). let k : CoreState = record { config = n.core.config; journal = j; asked = n.core.asked } in record n { core = k }) (after_accepted s n.core.journal (own_vertex n p) true (ap is_accepted made.1.1)))
   ]
 
   -- where no other unit has its name and there is room, it is accepted

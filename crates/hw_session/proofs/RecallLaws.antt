@@ -1,5 +1,5 @@
 -- What holds of each core, by its journal.
-use Rattle.std.proofs.Common.{◌≡◌, ℕ, zero, suc, ◌+◌, ◌<◌, List, [], ◌∷◌, length, take, slice_get, Some, sym, ap, subst, ◌∙◌, arith}
+use Rattle.std.proofs.Common.{◌≡◌, ℕ, zero, suc, ◌+◌, ◌<◌, List, [], ◌∷◌, length, take, slice_get, Some, None, sym, ap, subst, ◌∙◌, arith}
 use Rattle.std.specs.List.{All}
 use Rattle.std.proofs.lemmas.List.Elements.{All-push}
 use Rattle.hw_types.specs.declared.unit.Vertex.{Vertex}
@@ -30,10 +30,10 @@ keeps_more journal i v at before this =
 pub all_in_range : (journal : List Vertex) → All Keeps journal → All VertexInRange journal
 all_in_range journal keeps = λ k d less. (keeps k d less).0
 
--- and deliveries reached it
+-- and deliveries reached it, whatever it was asked
 pub core_reached : (c : CoreState) → HasCome c.config c.journal → All Keeps c.journal → IsReached c
 core_reached c come keeps = record {
   deliveries = come.0;
-  made = ap (λ (vs : List Vertex). record { config = c.config; journal = vs }) come.1 ∙ sym (deliveries_are c.config come.0).0;
+  made = ap (λ (vs : List Vertex). record { config = c.config; journal = vs; asked = None }) come.1 ∙ sym (deliveries_are c.config come.0).0;
   fit = λ v m. (all_at Keeps c.journal keeps v m).1;
 }

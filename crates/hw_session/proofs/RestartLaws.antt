@@ -73,7 +73,7 @@ heads x y xs ys e = (cc, cc)
 given_from : (t : Taken) (es : List LogEntry) (vs : List Vertex) → map told_of es ≡ map told_of (true_entries vs) → AcceptedBehind (setting_of t.core.config) t.core.journal vs
     → entries_taken t es ≡ Ok (longer t vs)
 unfolding entries_taken entry_taken
-given_from t [] [] same a = ap (λ (j : List Vertex). let k : CoreState = record { config = t.core.config; journal = j } in Ok (record t { core = k })) (sym (append-nil t.core.journal))
+given_from t [] [] same a = ap (λ (j : List Vertex). let k : CoreState = record { config = t.core.config; journal = j; asked = t.core.asked } in Ok (record t { core = k })) (sym (append-nil t.core.journal))
 given_from t [] (v ∷ vs) same a = absurd cc
 given_from t (e ∷ es) [] same a = absurd cc
 given_from t (e ∷ es) (v ∷ vs) same a =
@@ -84,7 +84,7 @@ given_from t (e ∷ es) (v ∷ vs) same a =
     ap (λ (x : Result Taken StartFault). x >>= λ u. entries_taken u es) (taken_last t e (answer_in t.core e.vertex e.verdict) accepted)
     ∙ ap (λ (w : Vertex). entries_taken (longer t (w ∷ [])) es) vertex
     ∙ given_from (longer t (v ∷ [])) es vs both.1 a.1
-    ∙ ap (λ (j : List Vertex). let k : CoreState = record { config = t.core.config; journal = j } in Ok (record t { core = k })) (append_assoc t.core.journal (v ∷ []) vs)
+    ∙ ap (λ (j : List Vertex). let k : CoreState = record { config = t.core.config; journal = j; asked = t.core.asked } in Ok (record t { core = k })) (append_assoc t.core.journal (v ∷ []) vs)
 
 -- and the last units behind them
 same_lasts : (lasts : LastUnits) (es : List LogEntry) (vs : List Vertex) → map told_of es ≡ map told_of (true_entries vs) → lasts_behind lasts es ≡ lasts_behind lasts (true_entries vs)

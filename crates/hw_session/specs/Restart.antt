@@ -38,7 +38,7 @@ journal_lasts version config journal = lasts_behind (no_lasts version (length co
 
 -- the replay of that log leaves a node with that journal, which refused nothing, and these last units
 pub record GivesBack (version : ℕ) (config : Config) (journal : List Vertex) : Type 0 where
-  pub taken : replay_of (Some config) (journal_log version config journal) ≡ Ok (record { core = record { config = config; journal = journal }; refused = 0; repeats = 0 })
+  pub taken : replay_of (Some config) (journal_log version config journal) ≡ Ok (record { core = record { config = config; journal = journal; asked = None }; refused = 0; repeats = 0 })
   pub lasts : lasts_of_file (Some (journal_log version config journal)) ≡ Some (journal_lasts version config journal)
 
 -- The log of a journal that deliveries made gives it back, in both versions.

@@ -9,6 +9,7 @@ ghost use Rattle.hw_link.specs.Frames.{byte_limit, frame_here, framed, sent_byte
 ghost use Rattle.hw_link.specs.Links.{after_part, IsLinkCounted};
 ghost use Rattle.hw_link.specs.Sent.{Sends};
 ghost use Rattle.hw_link.specs.Told.{door_told};
+ghost use Rattle.hw_session.specs.declared.stage.PeerMark.{PeerMark};
 ghost use Rattle.hw_session.specs.declared.stage.Stage.TheVariants as stage;
 ghost use Rattle.hw_session.specs.Node.{NodeState};
 ghost use Rattle.hw_session.specs.Driving.{Driver, driven_said, hello, greeting, leave, want, pull, push, to_push, drive_step, drive_at, drive_greeting, drive_pushing, drive_told, drive_pulling, drive_wanting, drive_vertex};
@@ -332,7 +333,7 @@ impl Node {
         ensures reading { reading (F.begun files.new) (F.allowance files.new) (F.read_faults files.new) ≡ reading (F.begun files.old) (F.allowance files.old) (F.read_faults files.old) }
     {
         match frame {
-            Frame::Vertex(vertex) => self.take_vertex(*mark, files, vertex, Stage::Pulling(again)),
+            Frame::Vertex(vertex) => self.take_vertex(files, vertex, Stage::Pulling(again)),
             Frame::Have(told) => self.drive_told(mark, door, again, told),
             _ => Err(SessionEnd::BadFrame(place)),
         }
@@ -426,7 +427,7 @@ impl Node {
         ensures reading { reading (F.begun files.new) (F.allowance files.new) (F.read_faults files.new) ≡ reading (F.begun files.old) (F.allowance files.old) (F.read_faults files.old) }
     {
         match frame {
-            Frame::Vertex(vertex) => self.take_vertex(mark, files, vertex, Stage::Wanting),
+            Frame::Vertex(vertex) => self.take_vertex(files, vertex, Stage::Wanting),
             Frame::Missing(_) => Ok(Stage::Wanting),
             Frame::Have(_) => self.leave(mark, door),
             _ => Err(SessionEnd::BadFrame(place)),
@@ -448,14 +449,13 @@ impl Node {
     /// Takes a vertex of the peer, and goes on to wait for this. A clash ends the session.
     fn take_vertex<F: Files>(
         &mut self,
-        mark: PeerMark,
         files: &mut F,
         vertex: Vertex,
         stage: Stage,
     ) -> Result<Stage, SessionEnd>
         requires fits { VertexFits vertex }
-        requires due { (n : NodeState) → IsDue stage n mark }
-        ensures reacts { (sessions : Option (List Session)) → ReactsAs F.tells (standing self.old (F.held files.old)) (frame.Vertex vertex) (drive_vertex (record { stage = stage; node = self.old; mark = mark }) vertex) (driver_standing self.new mark (F.held files.new)) sessions sessions result }
+        requires due { (n : NodeState) (mark : PeerMark) → IsDue stage n mark }
+        ensures reacts { (mark : PeerMark) (sessions : Option (List Session)) → ReactsAs F.tells (standing self.old (F.held files.old)) (frame.Vertex vertex) (drive_vertex (record { stage = stage; node = self.old; mark = mark }) vertex) (driver_standing self.new mark (F.held files.new)) sessions sessions result }
         ensures appends { IsLogCounted (F.append_faults files.old) (F.append_faults files.new) result }
         ensures link { (count : ℕ) → IsLinkCounted count count result }
 

@@ -128,10 +128,7 @@ impl Node {
 fn plan_of(made: Option<MadeUnit>) -> Option<Plan>
     ensures { result ≡ made }
 {
-    match made {
-        Some(made) => Some(made.into_plan()),
-        None => None,
-    }
+    Some(made?.into_plan())
 }
 
 /// The own unit of a plan, signed, under its name, with its entry in the log.

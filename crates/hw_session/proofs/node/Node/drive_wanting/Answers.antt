@@ -10,7 +10,7 @@ use Rattle.hw_session.proofs.node.Node.drive_wanting.Goals as goal
 pub returns-in-Vertex-clause-reacts : goal.returns-in-Vertex-clause-reacts
 returns-in-Vertex-clause-reacts g c =
     subst (λ (f : Frame). ReactsAs g.F.Files.tells (standing c.args.self.now (g.F.Files.held c.args.files.now)) f (drive_wanting (record { stage = stage.Wanting; node = c.args.self.now; mark = c.args.mark }) c.args.place f) (driver_standing c.take_vertex.new.self c.args.mark (g.F.Files.held c.take_vertex.new.files)) (g.D.Door.sessions c.args.door.now) (g.D.Door.sessions c.args.door.now) c.take_vertex.result)
-    (sym c.in-Vertex.is) (c.take_vertex.ensures.reacts (g.D.Door.sessions c.args.door.now))
+    (sym c.in-Vertex.is) (c.take_vertex.ensures.reacts c.args.mark (g.D.Door.sessions c.args.door.now))
 
 pub returns-in-Vertex-clause-link : goal.returns-in-Vertex-clause-link
 returns-in-Vertex-clause-link g c = c.take_vertex.ensures.link (g.D.Door.faults c.args.door.now)

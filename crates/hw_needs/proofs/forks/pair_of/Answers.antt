@@ -2,7 +2,7 @@ use Rattle.std.proofs.Common.{ℕ, Option, Some, None, sym, subst}
 use Rattle.hw_dag.specs.Dag.{count_of}
 use Rattle.hw_needs.specs.Forks.{IsLeastWithTwo}
 use Rattle.hw_needs.proofs.ForkLaws.{none_is, told, known}
-use Rattle.hw_needs.proofs.forks.fork_of.Goals as goal
+use Rattle.hw_needs.proofs.forks.pair_of.Goals as goal
 
 pub returns-in-Some-clause-pair : goal.returns-in-Some-clause-pair
 returns-in-Some-clause-pair c =
