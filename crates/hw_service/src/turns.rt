@@ -1,16 +1,10 @@
 //! A validator that takes turns.
 
 ghost use Rattle.std.specs.Prelude.{◌≡◌, ◌≢◌, ◌<◌, ◌*◌, ℕ, length, IsTrue, IfOk, IfErr, OnOk};
-ghost use Rattle.hw_service.specs.Scene.{sight_of, scene, IsReady};
-ghost use Rattle.hw_service.specs.Begin.{names_of};
-ghost use Rattle.hw_service.specs.Begun.{IsAbout};
-ghost use Rattle.hw_service.specs.Environs.{outside_in};
-ghost use Rattle.hw_service.specs.Loans.{loans};
-ghost use Rattle.hw_service.specs.Steps.{Takes};
-ghost use Rattle.hw_service.specs.Run.{Proceeds, HaveTaken, course};
-ghost use Rattle.hw_service.specs.Turns.{DrivesAt, DrivesSession, TakesTurn, RunsTurns, turning};
-ghost use Rattle.hw_service.specs.declared.fault.ServiceFault.TheVariants as fault;
+ghost use Rattle.hw_service.specs.{Scene.{sight_of, scene, IsReady}, Begin.{names_of}, Begun.{IsAbout}, Environs.{outside_in}, Loans.{loans}};
+ghost use Rattle.hw_service.specs.{Run.{Proceeds, HaveTaken, course}, Steps.{Takes}, Turns.{DrivesAt, DrivesSession, TakesTurn, RunsTurns, turning}};
 ghost use Rattle.hw_service.specs.Counts.{IsReadCounted, IsAppendCounted, IsWriteCounted, IsDoorCounted, raised_by};
+ghost use Rattle.hw_service.specs.declared.fault.ServiceFault.TheVariants as fault;
 
 use crate::begin::{Sources, begin_host};
 use crate::close::close_host;
