@@ -1,14 +1,18 @@
 //! What the program answers and writes for the lines of its input.
 //!
-//! | Line | Answer |
-//! |---|---|
-//! | `run FILES PIECE CALL TAKE WRITE PATCHES WORDS` | the status and what was written |
-//! | `reads FILES PIECE CALLS WORDS` | each of the first calls of the files fails in turn: the statuses, and what was written |
-//! | `writes FILES TAKE WRITES WORDS` | each of the first writes fails in turn: the statuses, and how many bytes were taken |
-//! | `wants FILES WRITES WORDS` | each of the first writes, of a byte each, finds no memory in turn: the same |
-//! | `anew FILES PIECE CALL LEFT PATCHES NAME WORDS` | the status and what was written, and the bytes of the file NAME then as hexadecimal digits, or `-` where it isn't there; a failing append takes LEFT bytes |
-//! | `node FILES FAILURES MOMENTS SESSIONS WORDS` | there are a clock and peers: the status and what was written, the log then, and what the node wrote in each session, in hexadecimal digits |
-//! | `fed FILES PLANS WORDS` | there are consumers: the status, what was written, and how many consumers are left |
+//! The lines, and what each answers:
+//!
+//! - `run FILES PIECE CALL TAKE WRITE PATCHES WORDS`: the status and what was written.
+//! - `reads FILES PIECE CALLS WORDS`: each of the first calls of the files fails in turn: the statuses, and what was
+//!   written.
+//! - `writes FILES TAKE WRITES WORDS`: each of the first writes fails in turn: the statuses, and how many bytes were
+//!   taken.
+//! - `wants FILES WRITES WORDS`: each of the first writes, of a byte each, finds no memory in turn: the same.
+//! - `anew FILES PIECE CALL LEFT PATCHES NAME WORDS`: the status and what was written, and the bytes of the file NAME
+//!   then as hexadecimal digits, or `-` where it isn't there; a failing append takes LEFT bytes.
+//! - `node FILES FAILURES MOMENTS SESSIONS WORDS`: there are a clock and peers: the status and what was written, the
+//!   log then, and what the node wrote in each session, in hexadecimal digits.
+//! - `fed FILES PLANS WORDS`: there are consumers: the status, what was written, and how many consumers are left.
 //!
 //! FILES are `-` or pairs `NAME=file` with commas between: the name that the program sees, and the file of `data/` that
 //! it finds under it, or its first bytes, as `torn.hwlg@60`. A read gives at most PIECE bytes, and a write takes at

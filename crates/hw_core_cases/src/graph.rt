@@ -1,26 +1,31 @@
 //! What the layers of the graph answer for the lines of the input, and what a validator may make by the state of its
 //! node, one answer a line.
 //!
-//! | Line | What it does, and what it answers |
-//! |---|---|
-//! | `# TEXT` | repeats the line |
-//! | `weights N ..` | begins the state of a node with these weights; `ftt`, `levels`, `leaders` and `end` may follow, each with its numbers |
-//! | `unit NAME by V at T cites C ..` | judges a unit and admits it where it keeps all rules; `exp`, `number`, `block` and `endorsed` may follow, each with its words |
-//! | `mark V` | there is evidence against the validator |
-//! | `endorse NAME by V ..` | adds endorsements: New or Repeat for each, and whether the unit is endorsed then |
-//! | `show` | what the state observes, its fork choice, who is faulty and their weight |
-//! | `choice C ..` | the fork choice of a panorama |
-//! | `consistent C ..` | whether a panorama is consistent |
-//! | `most C .. C ..` | whether the first panorama is at most the second |
-//! | `join C .. C ..` | the least panorama above both |
-//! | `naive C .. endorsed NAME ..` | the naive fork of a unit with this panorama and list |
-//! | `summit NAME LEVEL QUORUM C ..` | whether the block has a summit, and its starts |
-//! | `chain N` | admits a chain of blocks by validator 0, `n0` to the N-th |
-//! | `lane NAME N`, `ancestor NAME N` | the unit of number N on the lane, the block of height N on the chain |
-//! | `on NAME NAME`, `sees NAME NAME` | whether the first is on the lane of the second, whether the first has seen the second |
-//! | `step by V at T` | the unit that the validator may make at this moment, or `none`; `block` may follow, with the value of a proposal |
-//! | `make NAME by V at T` | the same, and what becomes of that unit under this name |
-//! | `random UNITS PANORAMAS SEED` | of so many random panoramas of a random graph, how many have the fork choice that sums of scores give |
+//! The lines, what each does and what it answers:
+//!
+//! - `# TEXT`: repeats the line.
+//! - `weights N ..`: begins the state of a node with these weights; `ftt`, `levels`, `leaders` and `end` may follow,
+//!   each with its numbers.
+//! - `unit NAME by V at T cites C ..`: judges a unit and admits it where it keeps all rules; `exp`, `number`, `block`
+//!   and `endorsed` may follow, each with its words.
+//! - `mark V`: there is evidence against the validator.
+//! - `endorse NAME by V ..`: adds endorsements: New or Repeat for each, and whether the unit is endorsed then.
+//! - `show`: what the state observes, its fork choice, who is faulty and their weight.
+//! - `choice C ..`: the fork choice of a panorama.
+//! - `consistent C ..`: whether a panorama is consistent.
+//! - `most C .. C ..`: whether the first panorama is at most the second.
+//! - `join C .. C ..`: the least panorama above both.
+//! - `naive C .. endorsed NAME ..`: the naive fork of a unit with this panorama and list.
+//! - `summit NAME LEVEL QUORUM C ..`: whether the block has a summit, and its starts.
+//! - `chain N`: admits a chain of blocks by validator 0, `n0` to the N-th.
+//! - `lane NAME N`, `ancestor NAME N`: the unit of number N on the lane, the block of height N on the chain.
+//! - `on NAME NAME`, `sees NAME NAME`: whether the first is on the lane of the second, whether the first has seen the
+//!   second.
+//! - `step by V at T`: the unit that the validator may make at this moment, or `none`; `block` may follow, with the
+//!   value of a proposal.
+//! - `make NAME by V at T`: the same, and what becomes of that unit under this name.
+//! - `random UNITS PANORAMAS SEED`: of so many random panoramas of a random graph, how many have the fork choice that
+//!   sums of scores give.
 //!
 //! C is `-`, `!` or the name of a unit. The digest of a unit is its name, and all units are of one instance.
 //!

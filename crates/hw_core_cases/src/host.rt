@@ -1,17 +1,21 @@
 //! What the real files, output, clock, door and consumers answer for the lines of its input, one line for each.
 //!
-//! | Line | Answer |
-//! |---|---|
-//! | `# TITLE` | the line again |
-//! | `files STEPS` | what files of this machine answer to the steps |
-//! | `log LOG STEPS` | what the files of two nodes, `ours` and `theirs`, whose log this is, and those of `others` answer to the steps; each is `WHO:STEP` |
-//! | `door ADDRESS STEPS` | what a door that listens at the address answers to the steps, and its peers; then its numbers. For `-` it listens nowhere, and for `taken` where a peer listens |
-//! | `afar STEPS -> WANTED` | `as wanted`, where a door that listens at each address of this machine and its peers answer that; else what they answer. Without IPv6 a machine has no second address, and the answer is `as wanted` |
-//! | `output TEXT` | what the real output answers that the text is written to: the text stands before the answer |
-//! | `clock BOUNDS` | whether the moment of the real clock is within the bounds |
-//! | `values BLOCKS` | what the consumer of values over the real files answers to these blocks |
-//! | `count BLOCKS` | what the consumer that counts blocks answers over the real output: the count stands before the answer |
-//! | `count memory BLOCKS` | the same over a sink in memory, and what that took |
+//! The lines, and what each answers:
+//!
+//! - `# TITLE`: the line again.
+//! - `files STEPS`: what files of this machine answer to the steps.
+//! - `log LOG STEPS`: what the files of two nodes, `ours` and `theirs`, whose log this is, and those of `others` answer
+//!   to the steps; each is `WHO:STEP`.
+//! - `door ADDRESS STEPS`: what a door that listens at the address answers to the steps, and its peers; then its
+//!   numbers. For `-` it listens nowhere, and for `taken` where a peer listens.
+//! - `afar STEPS -> WANTED`: `as wanted`, where a door that listens at each address of this machine and its peers
+//!   answer that; else what they answer. Without IPv6 a machine has no second address, and the answer is `as wanted`.
+//! - `output TEXT`: what the real output answers that the text is written to: the text stands before the answer.
+//! - `clock BOUNDS`: whether the moment of the real clock is within the bounds.
+//! - `values BLOCKS`: what the consumer of values over the real files answers to these blocks.
+//! - `count BLOCKS`: what the consumer that counts blocks answers over the real output: the count stands before the
+//!   answer.
+//! - `count memory BLOCKS`: the same over a sink in memory, and what that took.
 //!
 //! STEPS and BLOCKS have commas between them. BOUNDS are `LEAST-MOST`; the answer is `from LEAST to MOST`, `below
 //! LEAST` or `above MOST`. A `/` in a text that is written or appended is a line feed. What was read is told as

@@ -1,24 +1,31 @@
 //! What a node answers for the lines of the input.
 //!
-//! | Line | What it does, and what it answers |
-//! |---|---|
-//! | `# TEXT` | repeats the line |
-//! | `weights N ..` | begins a node with these weights; `ftt`, `levels`, `leaders`, `records`, `parked` and `end` may follow, each with its numbers |
-//! | `unit NAME by V at T cites C ..` | defines a unit, and answers nothing; `exp`, `number`, `foreign`, `block` and `endorsed` may follow, each with its words |
-//! | `evidence NAME of NAME NAME` | defines an evidence of two units, and answers nothing |
-//! | `deliver NAME ..`, `forge NAME ..` | delivers vertices, the second with the verdict that their signatures are wrong: what became of each |
-//! | `endorse NAME by V ..` | delivers an endorsement of the unit by each of these: what became of each |
-//! | `place NAME ..` | where each unit stands, a settled one with its number |
-//! | `missing NAME ..` | what each unit misses, asked for place by place |
-//! | `unmet N` | the first N needs that parked units miss, in the order of parking; N is at most 8 |
-//! | `against V ..` | the evidence that the journal has against each validator |
-//! | `endorsers NAME ..` | who endorsed each unit, in the order of the journal |
-//! | `summit N ..` | whether the decided block of each of these places, counted from 0, has a summit now |
-//! | `starts LEVEL` | where each validator starts in the committee of that level of the summit that was asked for last |
-//! | `starts LEVEL of N` | where each validator starts in the committee of that level of the greatest summit that the decided block of place N has now |
-//! | `show fork`, `show panorama`, `show faulty`, `show final` | the fork choice; what the node observes; who is faulty; the decided blocks, and the faulty weight where it exceeds the threshold |
-//! | `show counts`, `show journal` | how many units are settled, parked and dropped, and the faulty weight; the journal in order |
-//! | `chain N forward`, `chain N reverse` | delivers a chain of N units of validator 0 in that order: the sums of what became of them |
+//! The lines, what each does and what it answers:
+//!
+//! - `# TEXT`: repeats the line.
+//! - `weights N ..`: begins a node with these weights; `ftt`, `levels`, `leaders`, `records`, `parked` and `end` may
+//!   follow, each with its numbers.
+//! - `unit NAME by V at T cites C ..`: defines a unit, and answers nothing; `exp`, `number`, `foreign`, `block` and
+//!   `endorsed` may follow, each with its words.
+//! - `evidence NAME of NAME NAME`: defines an evidence of two units, and answers nothing.
+//! - `deliver NAME ..`, `forge NAME ..`: delivers vertices, the second with the verdict that their signatures are
+//!   wrong: what became of each.
+//! - `endorse NAME by V ..`: delivers an endorsement of the unit by each of these: what became of each.
+//! - `place NAME ..`: where each unit stands, a settled one with its number.
+//! - `missing NAME ..`: what each unit misses, asked for place by place.
+//! - `unmet N`: the first N needs that parked units miss, in the order of parking; N is at most 8.
+//! - `against V ..`: the evidence that the journal has against each validator.
+//! - `endorsers NAME ..`: who endorsed each unit, in the order of the journal.
+//! - `summit N ..`: whether the decided block of each of these places, counted from 0, has a summit now.
+//! - `starts LEVEL`: where each validator starts in the committee of that level of the summit that was asked for last.
+//! - `starts LEVEL of N`: where each validator starts in the committee of that level of the greatest summit that the
+//!   decided block of place N has now.
+//! - `show fork`, `show panorama`, `show faulty`, `show final`: the fork choice; what the node observes; who is faulty;
+//!   the decided blocks, and the faulty weight where it exceeds the threshold.
+//! - `show counts`, `show journal`: how many units are settled, parked and dropped, and the faulty weight; the journal
+//!   in order.
+//! - `chain N forward`, `chain N reverse`: delivers a chain of N units of validator 0 in that order: the sums of what
+//!   became of them.
 //!
 //! C is `-`, `!` or the name of a unit. A list of endorsed units is put in rising order. A delivery that is refused for
 //! want of memory is tried once more, and its line has `memory` before the answer. `changed` behind a refusal says that

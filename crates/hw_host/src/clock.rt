@@ -2,11 +2,9 @@
 ghost use Rattle.std.specs.Prelude.{◌^◌, ◌<◌, None};
 
 use hw_io::Clock;
+use hw_types::END_OF_TIME;
 use std::time;
 use std::time::{SystemTime, UNIX_EPOCH};
-
-/// Moments are below this many milliseconds: 2^63.
-const MOMENT_LIMIT: u64 = 9_223_372_036_854_775_808;
 
 /// The clock of a runtime: milliseconds since the beginning of 1970.
 #[derive(Drop)]
@@ -38,7 +36,7 @@ fn milliseconds(time: SystemTime) -> u64
 {
     match time.duration_since(UNIX_EPOCH) {
         Ok(since) => match u64::try_from(since.as_millis()) {
-            Ok(moment) if moment < MOMENT_LIMIT => moment,
+            Ok(moment) if moment < END_OF_TIME => moment,
             _ => 0,
         },
         Err(_) => 0,

@@ -124,10 +124,10 @@ module _ (config : Config) (left right : List (Vertex × Bool)) (judge_left judg
   s = setting_of config
 
   abbrev l : CoreState
-  l = node_of config left
+  l = node_of config left h.asked_left
 
   abbrev r : CoreState
-  r = node_of config right
+  r = node_of config right h.asked_right
 
   abbrev read_left : List ℕ
   read_left = h.read_left

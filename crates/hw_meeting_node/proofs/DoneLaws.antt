@@ -77,6 +77,7 @@ module _ (side : Side) (judge : Vertex → Bool) (last : SessionEnd) (not_done :
     said : (over (taking c k theirs due) fs).said ≡ to_done side due
     config : (over (taking c k theirs due) fs).state.core.config ≡ c.config
     journal : (over (taking c k theirs due) fs).state.core.journal ≡ fold (journal_after (setting_of c.config)) c.journal (judged judge vertices)
+    asked : (over (taking c k theirs due) fs).state.core.asked ≡ c.asked
     refused : (over (taking c k theirs due) fs).state.refused ≡ refusals_from k (answers_from (setting_of c.config) c.journal (judged judge vertices))
 
   taken : (c : CoreState) (k : ℕ) (theirs : List LaneSummary) (due : List Vertex) (fs : List Placed) → (over (taking c k theirs due) fs).end ≡ by.Done → Taken c k theirs due fs
@@ -105,6 +106,7 @@ module _ (side : Side) (judge : Vertex → Bool) (last : SessionEnd) (not_done :
         said = ap (λ (x : Talk Meeting). x.said) whole ∙ t.said;
         config = ap (λ (x : Talk Meeting). x.state.core.config) whole ∙ t.config;
         journal = ap (λ (x : Talk Meeting). x.state.core.journal) whole ∙ t.journal;
+        asked = ap (λ (x : Talk Meeting). x.state.core.asked) whole ∙ t.asked;
         refused = ap (λ (x : Talk Meeting). x.state.refused) whole ∙ t.refused ∙ ap (λ (x : ℕ). refusals_from x (answers_from (setting_of c.config) (after v).journal (judged judge t.vertices))) count;
       }
 
@@ -138,6 +140,7 @@ module _ (side : Side) (judge : Vertex → Bool) (last : SessionEnd) (not_done :
         said = ap (λ (x : MeetingFrame). (by_frame x).said) here;
         config = ap (λ (x : MeetingFrame). (by_frame x).state.core.config) here;
         journal = ap (λ (x : MeetingFrame). (by_frame x).state.core.journal) here;
+        asked = ap (λ (x : MeetingFrame). (by_frame x).state.core.asked) here;
         refused = ap (λ (x : MeetingFrame). (by_frame x).state.refused) here;
       }
       go others (frame.Hello d) here h = absurd cc
@@ -262,6 +265,7 @@ done side c judge bytes is =
           ∙ words side c two.theirs three.torn;
       config = ap (λ (m : Meeting). m.core.config) states ∙ rest.config;
       journal = ap (λ (m : Meeting). m.core.journal) states ∙ rest.journal;
+      asked = ap (λ (m : Meeting). m.core.asked) states ∙ rest.asked;
       refused = ap (λ (m : Meeting). m.refused) states ∙ rest.refused;
     }
 

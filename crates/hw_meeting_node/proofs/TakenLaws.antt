@@ -106,11 +106,12 @@ module _ (side : Side) (judge : Vertex → Bool) (last : SessionEnd) where
     are : all ≡ taken ++ vertices
     config : now.core.config ≡ m.core.config
     journal : now.core.journal ≡ journal_from m.core vertices
+    asked : now.core.asked ≡ m.core.asked
     refused : now.refused ≡ refused_from m.refused m.core vertices
 
   nothing : (m : Meeting) (taken : List Vertex) → Leaves m taken m taken
   unfolding answers_from
-  nothing m taken = record { vertices = []; are = sym (append-nil taken); config = refl; journal = refl; refused = refl }
+  nothing m taken = record { vertices = []; are = sym (append-nil taken); config = refl; journal = refl; asked = refl; refused = refl }
 
   -- from where a frame without a vertex leaves it
   behind_none : (m next : Meeting) (taken : List Vertex) (now : Meeting) (all : List Vertex) → next.core ≡ m.core → next.refused ≡ m.refused → Leaves next taken now all → Leaves m taken now all
@@ -119,6 +120,7 @@ module _ (side : Side) (judge : Vertex → Bool) (last : SessionEnd) where
     are = l.are;
     config = l.config ∙ ap (λ (c : CoreState). c.config) core;
     journal = l.journal ∙ ap (λ (c : CoreState). journal_from c l.vertices) core;
+    asked = l.asked ∙ ap (λ (c : CoreState). c.asked) core;
     refused = l.refused ∙ ap (λ (c : CoreState). refused_from next.refused c l.vertices) core ∙ ap (λ (k : ℕ). refused_from k m.core l.vertices) count;
   }
 
@@ -130,6 +132,7 @@ module _ (side : Side) (judge : Vertex → Bool) (last : SessionEnd) where
     are = l.are ∙ append_assoc taken (v ∷ []) l.vertices;
     config = l.config ∙ ap (λ (c : CoreState). c.config) core;
     journal = l.journal ∙ ap (λ (c : CoreState). journal_from c l.vertices) core;
+    asked = l.asked ∙ ap (λ (c : CoreState). c.asked) core;
     refused = l.refused ∙ ap (λ (c : CoreState). refused_from next.refused c l.vertices) core ∙ ap (λ (k : ℕ). refused_from k (after_in m.core v (judge v)) l.vertices) count;
   }
 
@@ -163,5 +166,6 @@ take side c judge bytes =
     record {
       config = l.config;
       journal = l.journal ∙ ap (λ (vs : List Vertex). fold (journal_after (setting_of c.config)) c.journal (judged judge vs)) (sym l.are);
+      asked = l.asked;
       refused = l.refused ∙ ap (λ (vs : List Vertex). fold (λ k a. cond (is_ok a) k (raised k)) 0 (answers_from (setting_of c.config) c.journal (judged judge vs))) (sym l.are);
     }

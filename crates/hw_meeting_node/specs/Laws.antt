@@ -10,7 +10,7 @@ use Rattle.hw_types.specs.Journal.{received_of, journal_after, journal_of, answe
 use Rattle.hw_types.specs.Below.{Among}
 use Rattle.hw_types.specs.Limits.{config_fault}
 use Rattle.hw_types.specs.Spelling.{instance_of, VertexFits}
-use Rattle.hw_types.specs.Real.{CoreState, setting_of}
+use Rattle.hw_types.specs.Real.{Question, CoreState, setting_of}
 use Rattle.hw_types.specs.laws.StateLaws.{SaysTheSame, HasSameState}
 use Rattle.hw_codec.specs.Ranges.{VertexInRange}
 use Rattle.hw_io.specs.Faults.{Rose, raised}
@@ -50,8 +50,8 @@ abbrev pub all_words : CoreState → List LaneSummary → List ℕ → List Meet
 all_words c theirs torn = frame.Hello (instance_of c.config) ∷ frame.Summary (told_of c) ∷ frame.Torn (torn_by c theirs) ∷ all_due (owed_by c theirs torn)
 
 -- The peer said Hello of this instance, what it has of each validator, which are torn for it, vertices, and Done. The node said Hello, what
--- it has of each, which are torn for it, all that is due, and Done. Its journal is the one after these vertices, and as many were refused as
--- it counted.
+-- it has of each, which are torn for it, all that is due, and Done. Its journal is the one after these vertices, as many were refused as it
+-- counted, and its last question stayed.
 pub record WasDone (side : Side) (c : CoreState) (judge : Vertex → Bool) (bytes : List ℕ) : Type 0 where
   pub theirs : List LaneSummary
   pub torn : List ℕ
@@ -61,6 +61,7 @@ pub record WasDone (side : Side) (c : CoreState) (judge : Vertex → Bool) (byte
   pub said : (met side c judge bytes).said ≡ all_words c theirs torn
   pub config : (met side c judge bytes).state.core.config ≡ c.config
   pub journal : (met side c judge bytes).state.core.journal ≡ fold (journal_after (setting_of c.config)) c.journal (judged judge vertices)
+  pub asked : (met side c judge bytes).state.core.asked ≡ c.asked
   pub refused : (met side c judge bytes).state.refused ≡ refusals (answers_from (setting_of c.config) c.journal (judged judge vertices))
 
 -- So it is where a meeting ended as both said.
@@ -69,11 +70,12 @@ MeetingsAreDone = (side : Side) (c : CoreState) (judge : Vertex → Bool) (bytes
 
 -- ---- what was taken
 
--- The journal behind these bytes is the one before them with the vertices that were taken, in order, and as many were refused as the meeting
--- counted.
+-- The journal behind these bytes is the one before them with the vertices that were taken, in order, as many were refused as the meeting
+-- counted, and the node's last question stayed.
 pub record HasTakenAll (side : Side) (c : CoreState) (judge : Vertex → Bool) (bytes : List ℕ) : Type 0 where
   pub config : (met side c judge bytes).state.core.config ≡ c.config
   pub journal : (met side c judge bytes).state.core.journal ≡ fold (journal_after (setting_of c.config)) c.journal (judged judge (taken_in side c judge bytes))
+  pub asked : (met side c judge bytes).state.core.asked ≡ c.asked
   pub refused : (met side c judge bytes).state.refused ≡ refusals (answers_from (setting_of c.config) c.journal (judged judge (taken_in side c judge bytes)))
 
 -- So it is whatever a peer sends.
@@ -126,25 +128,27 @@ MeetingsSayInRange = (side : Side) (c : CoreState) (judge : Vertex → Bool) (by
 
 -- ---- convergence
 
--- a node that these deliveries reached
-abbrev pub node_of : Config → List (Vertex × Bool) → CoreState
-node_of config deliveries = record { config = config; journal = journal_of (setting_of config) deliveries }
+-- a node that these deliveries reached, and that was asked this last
+abbrev pub node_of : Config → List (Vertex × Bool) → Option Question → CoreState
+node_of config deliveries asked = record { config = config; journal = journal_of (setting_of config) deliveries; asked = asked }
 
--- A caller and a host of one configuration met, as a meeting promises it: both meetings ended as done with nothing refused, and each read what
--- the other wrote. Each number that was written is in its type's range, and the units of the two journals keep the limits of their format, as a
--- node's do.
+-- A caller and a host of one configuration, whatever they were asked before, met, as a meeting promises it: both meetings ended as done with
+-- nothing refused, and each read what the other wrote. Each number that was written is in its type's range, and the units of the two journals
+-- keep the limits of their format, as a node's do.
 pub record HaveMet (config : Config) (left right : List (Vertex × Bool)) (judge_left judge_right : Vertex → Bool) (one other : CoreState) : Type 0 where
+  pub asked_left : Option Question
+  pub asked_right : Option Question
   pub read_left : List ℕ
   pub read_right : List ℕ
   pub ends_left : ℕ × ℕ
   pub ends_right : ℕ × ℕ
-  pub left_met : Meets Caller (node_of config left) judge_left read_left read_right one ends_left.0 ends_left.1 (end.Done 0)
-  pub right_met : Meets Host (node_of config right) judge_right read_right read_left other ends_right.0 ends_right.1 (end.Done 0)
+  pub left_met : Meets Caller (node_of config left asked_left) judge_left read_left read_right one ends_left.0 ends_left.1 (end.Done 0)
+  pub right_met : Meets Host (node_of config right asked_right) judge_right read_right read_left other ends_right.0 ends_right.1 (end.Done 0)
   pub lawful : config_fault config ≡ None
-  pub left_fit : (v : Vertex) → Among v (node_of config left).journal → VertexFits v
-  pub right_fit : (v : Vertex) → Among v (node_of config right).journal → VertexFits v
-  pub left_in_range : All MeetingInRange (met Caller (node_of config left) judge_left read_left).said
-  pub right_in_range : All MeetingInRange (met Host (node_of config right) judge_right read_right).said
+  pub left_fit : (v : Vertex) → Among v (node_of config left asked_left).journal → VertexFits v
+  pub right_fit : (v : Vertex) → Among v (node_of config right asked_right).journal → VertexFits v
+  pub left_in_range : All MeetingInRange (met Caller (node_of config left asked_left) judge_left read_left).said
+  pub right_in_range : All MeetingInRange (met Host (node_of config right asked_right) judge_right read_right).said
 
 -- Then the two journals say the same, or two different units of one digest stand in the two.
 abbrev pub MeetingsConverge : Type 0

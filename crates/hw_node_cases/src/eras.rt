@@ -1,17 +1,21 @@
 //! What a node's eras answer for the lines of its input, and what is told of the eras of two nodes and of logs.
 //!
-//! | Line | What it does, and what it answers |
-//! |---|---|
-//! | `# TEXT` | repeats the line |
-//! | `next HEX HEX HEX` | the next configuration, as bytes, where the last block of an era of that configuration has that digest and that value, of which `-` has no bytes |
-//! | `begin HEX` | begins with era 0 of the configuration that these bytes spell: `begun`, or the limit that it breaks |
-//! | `deliver ERA HEX`, `forge ERA HEX` | delivers the vertex that these bytes spell, the second with the verdict that its signatures are wrong: what became of it |
-//! | `open` | opens the next era: its number, `none` or `full` |
-//! | `count` | how many eras there are |
-//! | `core ERA` | the configuration of the era as bytes, how many vertices its journal has, how many units are settled, and the decided blocks; or `none` |
-//! | `audit NODE against NODE` | what an audit of the eras of these two nodes prints; they stand in the place of those that began |
-//! | `logs eras LOG ..` | the report on the eras of these logs |
-//! | `logs audit COUNT LOG ..` | the audit of two nodes' eras, of which the first COUNT logs are the left node's |
+//! The lines, what each does and what it answers:
+//!
+//! - `# TEXT`: repeats the line.
+//! - `next HEX HEX HEX`: the next configuration, as bytes, where the last block of an era of that configuration has
+//!   that digest and that value, of which `-` has no bytes.
+//! - `begin HEX`: begins with era 0 of the configuration that these bytes spell: `begun`, or the limit that it breaks.
+//! - `deliver ERA HEX`, `forge ERA HEX`: delivers the vertex that these bytes spell, the second with the verdict that
+//!   its signatures are wrong: what became of it.
+//! - `open`: opens the next era: its number, `none` or `full`.
+//! - `count`: how many eras there are.
+//! - `core ERA`: the configuration of the era as bytes, how many vertices its journal has, how many units are settled,
+//!   and the decided blocks; or `none`.
+//! - `audit NODE against NODE`: what an audit of the eras of these two nodes prints; they stand in the place of those
+//!   that began.
+//! - `logs eras LOG ..`: the report on the eras of these logs.
+//! - `logs audit COUNT LOG ..`: the audit of two nodes' eras, of which the first COUNT logs are the left node's.
 //!
 //! `changed` behind a refusal says that another vertex came back than was delivered.
 //!

@@ -5,13 +5,18 @@
 //! FALSE those to which it gives a false one, each joined by `,`, or `-` for none. A read gives and a write takes at
 //! most PIECE bytes. The call of the door of number FAULT fails, counted from 0, or none for `-`.
 //!
-//! | Line | Answer |
-//! |---|---|
-//! | `meet CONFIG LEFT RIGHT` | of each of the two nodes: what it tells of each validator, `-` for nothing, `COUNT:TIP` for a line and `!` for a tangle; the validators that are torn for it; and the places in its journal of what it owes; `no node` where the configuration breaks a limit |
-//! | `frame VALIDATORS BODY` | the kind of the frame that the digits spell, or `none` |
-//! | `hear VALIDATORS PIECE BYTES` | of what a peer says that is met: the kind of each frame and the place behind it, then how the session ends, then the digits of what was sent back, which is each frame again |
-//! | `node meet CONFIG HAS FALSE PIECE FAULT SAYS` | of a node that dials: how the meeting ends; how many units are settled and parked; the weight of the faulty validators, and that it exceeds the threshold; the decided blocks; and the digits of what it sent; `no node` where the configuration breaks a limit |
-//! | `node host CONFIG HAS FALSE PIECE FAULT SAYS` | the same of a node that is dialled |
+//! The lines, and what each answers:
+//!
+//! - `meet CONFIG LEFT RIGHT`: of each of the two nodes: what it tells of each validator, `-` for nothing, `COUNT:TIP`
+//!   for a line and `!` for a tangle; the validators that are torn for it; and the places in its journal of what it
+//!   owes; `no node` where the configuration breaks a limit.
+//! - `frame VALIDATORS BODY`: the kind of the frame that the digits spell, or `none`.
+//! - `hear VALIDATORS PIECE BYTES`: of what a peer says that is met: the kind of each frame and the place behind it,
+//!   then how the session ends, then the digits of what was sent back, which is each frame again.
+//! - `node meet CONFIG HAS FALSE PIECE FAULT SAYS`: of a node that dials: how the meeting ends; how many units are
+//!   settled and parked; the weight of the faulty validators, and that it exceeds the threshold; the decided blocks;
+//!   and the digits of what it sent; `no node` where the configuration breaks a limit.
+//! - `node host CONFIG HAS FALSE PIECE FAULT SAYS`: the same of a node that is dialled.
 //!
 //! Covered, with the answers of an independent implementation:
 //!

@@ -1,24 +1,36 @@
 //! What is asked of a node and of what is made of its journal, for the lines of the input: needs, certificates,
 //! consumers, and clusters of nodes. There is one line for each, or more where it says so.
 //!
-//! | Line | What it does, and what it answers |
-//! |---|---|
-//! | `# TEXT` | repeats the line |
-//! | `begin HEX` | begins a node of the configuration that these bytes spell: `begun`, or the limit that it breaks |
-//! | `deliver HEX` | delivers the vertex that these bytes spell: what became of it |
-//! | `unit HEX`, `faulty V`, `endorsed HEX` | the vertices that the node has for the need, each as bytes, a dash where there is none: the unit of this digest, evidence against the validator, endorsements of the unit |
-//! | `against V` | the two units of the evidence against the validator, each as its signature begins, a dash where there is none |
-//! | `read HEX` | how many vertices the certificate has that these bytes spell, and whether it is spelled so again; or the error |
-//! | `certify HEX` | the certificate of that certificate's block, asked of a node that took its vertices: how many vertices it has, and its bytes; or why there is none. That node stands in the place of those that began |
-//! | `ask HEX` | the line that tells of the same |
-//! | `print HEX TEXT` | the line that tells of the check of that certificate with the verdicts by the keys of the text, or the text of what is wrong with its bytes |
-//! | `check HEX TEXT` | the answer to that certificate with the verdicts by the keys of the text, in which a `/` stands for a line feed |
-//! | `verdicts HEX DIGITS` | the same with these verdicts, a digit 0 or 1 for each vertex |
-//! | `each LOG PLAN ..`, `once LOG PLAN ..` | consumers with these plans are passed the blocks that the log decides, after each entry, or once behind the last, and are told then that no block follows: how many are left, and of each that was dropped, in order, `consumer PLACE dropped at HEIGHT`, with `out of memory` in place of `dropped` where it found none, and `finish` in place of the height behind the last block |
-//! | `feed LOG PLAN ..` | the replay itself passes the blocks on after each entry: how many are left, then the lines of those that were dropped, then an empty line |
-//! | `gen NUMBER ROUNDS` | how many units of a generated journal are settled, how many blocks are decided, and how high the last one is |
-//! | `sim NUMBER NODES STEPS` | how many vertices are sent, the most blocks that a node decides, how many actions are refused, and how many validators equivocate |
-//! | `nodes COUNT RECORDS ACTIONS` | what each action is answered, and how many vertices are sent then |
+//! The lines, what each does and what it answers:
+//!
+//! - `# TEXT`: repeats the line.
+//! - `begin HEX`: begins a node of the configuration that these bytes spell: `begun`, or the limit that it breaks.
+//! - `deliver HEX`: delivers the vertex that these bytes spell: what became of it.
+//! - `unit HEX`, `faulty V`, `endorsed HEX`: the vertices that the node has for the need, each as bytes, a dash where
+//!   there is none: the unit of this digest, evidence against the validator, endorsements of the unit.
+//! - `against V`: the two units of the evidence against the validator, each as its signature begins, a dash where there
+//!   is none.
+//! - `read HEX`: how many vertices the certificate has that these bytes spell, and whether it is spelled so again; or
+//!   the error.
+//! - `certify HEX`: the certificate of that certificate's block, asked of a node that took its vertices: how many
+//!   vertices it has, and its bytes; or why there is none. That node stands in the place of those that began.
+//! - `ask HEX`: the line that tells of the same.
+//! - `print HEX TEXT`: the line that tells of the check of that certificate with the verdicts by the keys of the text,
+//!   or the text of what is wrong with its bytes.
+//! - `check HEX TEXT`: the answer to that certificate with the verdicts by the keys of the text, in which a `/` stands
+//!   for a line feed.
+//! - `verdicts HEX DIGITS`: the same with these verdicts, a digit 0 or 1 for each vertex.
+//! - `each LOG PLAN ..`, `once LOG PLAN ..`: consumers with these plans are passed the blocks that the log decides,
+//!   after each entry, or once behind the last, and are told then that no block follows: how many are left, and of each
+//!   that was dropped, in order, `consumer PLACE dropped at HEIGHT`, with `out of memory` in place of `dropped` where
+//!   it found none, and `finish` in place of the height behind the last block.
+//! - `feed LOG PLAN ..`: the replay itself passes the blocks on after each entry: how many are left, then the lines of
+//!   those that were dropped, then an empty line.
+//! - `gen NUMBER ROUNDS`: how many units of a generated journal are settled, how many blocks are decided, and how high
+//!   the last one is.
+//! - `sim NUMBER NODES STEPS`: how many vertices are sent, the most blocks that a node decides, how many actions are
+//!   refused, and how many validators equivocate.
+//! - `nodes COUNT RECORDS ACTIONS`: what each action is answered, and how many vertices are sent then.
 //!
 //! LOG is the bytes of a log as hexadecimal digits. A PLAN is the calls that a consumer takes, in order and with commas
 //! between: `HEIGHT:VALUE`, with VALUE in hexadecimal digits, and `finish`; `-` is none. Each other call fails; behind

@@ -8,12 +8,13 @@ ghost use Rattle.hw_program.specs.{Services.{Serve, Host, sessions_of, turns_of,
 use hw_commands::{Words, are_words};
 use hw_service::Sources;
 use hw_text::number_up_to;
+use hw_types::MAX_VALIDATORS;
 
 /// A node serves at most this many sessions in one run, or meets so many peers that come.
 pub const MAX_SESSIONS: u64 = 65_536;
 
 /// A validator's number is at most this.
-pub const MAX_VALIDATOR: u64 = 1_023;
+pub const MAX_VALIDATOR: u64 = MAX_VALIDATORS as u64 - 1;
 
 /// A validator takes at most this many turns in one run.
 pub const MAX_TURNS: u64 = 1_000_000;

@@ -12,7 +12,6 @@ use Rattle.hw_types.specs.Limits.{config_fault}
 use Rattle.hw_types.specs.Real.{CoreState, setting_of}
 use Rattle.hw_types.specs.Spelling.{VertexFits}
 use Rattle.hw_codec.specs.Ranges.{ConfigInRange, VertexInRange}
-use Rattle.hw_core.proofs.PromiseLaws.{deliveries_are}
 use Rattle.hw_honest.specs.OneLine.{OneLine}
 use Rattle.hw_honest.specs.Restart.{Logged, Event, make, after_event, life_of, AreFair}
 use Rattle.hw_honest.specs.Laws.{IsSafeToStart}
@@ -24,6 +23,7 @@ use Rattle.hw_session.specs.Make.{planned_by, own_vertex, with_vertex, with_entr
 use Rattle.hw_session.specs.Restart.{HasLog, logged_of}
 use Rattle.hw_session.specs.Standing.{Standing}
 use Rattle.hw_session.proofs.LineLaws.{make_is_an_event}
+use Rattle.hw_session.proofs.RecallLaws.{Keeps, core_reached}
 use Rattle.hw_service.specs.Meets.{vertices_of}
 use Rattle.hw_run_laws.specs.Restart.{arrivals, TakesSome, HasCutLog, LeavesLog}
 use Rattle.hw_run_laws.specs.Taken.{taken_served, taken_driven}
@@ -120,13 +120,7 @@ module _ (me : ℕ) (a : NodeState) (sound : IsSound a) (validator : me < length
         kept = record {
           lawful = subst (λ (k : Config). config_fault k ≡ None) (sym l.config) sound.kept.lawful;
           keys = ap length l.keys ∙ sound.kept.keys ∙ ap (λ (k : Config). length k.weights) (sym l.config);
-          reached = record {
-            deliveries = s.deliveries;
-            made =
-                ap (λ (j : List Vertex). let k : CoreState = record { config = m.core.config; journal = j } in k) (s.journal ∙ ap (λ (k : Config). journal_of (setting_of k) s.deliveries) (sym l.config))
-                ∙ sym (deliveries_are m.core.config s.deliveries).0;
-            fit = λ v m. (each v m).1;
-          };
+          reached = core_reached m.core (s.deliveries, s.journal ∙ ap (λ (k : Config). journal_of (setting_of k) s.deliveries) (sym l.config)) (all_of Keeps m.core.journal each);
         };
         config = subst ConfigInRange (sym l.config) sound.config;
         vertices = all_of VertexInRange m.core.journal (λ v m. (each v m).0);

@@ -15,6 +15,7 @@ use Rattle.hw_types.specs.Real.{CoreState, setting_of, received_in}
 use Rattle.hw_types.specs.Step.{step}
 use Rattle.hw_types.specs.laws.StateLaws.{SaysTheSame, HasSameState}
 use Rattle.hw_types.proofs.LimitLaws.{within_limits}
+use Rattle.hw_types.proofs.BoundLaws.{journal_bounded}
 use Rattle.hw_io.specs.Doors.{Session}
 use Rattle.hw_io.specs.Faults.{raised}
 use Rattle.hw_io.specs.Files.{SameFiles, Appended, bytes_of}
@@ -24,8 +25,6 @@ use Rattle.hw_log.specs.Rewritten.{mended_of, HasRewritten}
 use Rattle.hw_link.specs.Told.{DoorTold}
 use Rattle.hw_admit.specs.State.{NodeState as Admitted}
 use Rattle.hw_core.specs.Deliver.{HasCome}
-use Rattle.hw_core.specs.Promises.{IsSound as IsSoundCore}
-use Rattle.hw_core.proofs.PromiseLaws.{deliveries_are, nodes_sound}
 use Rattle.hw_honest.specs.Plans.{IsPlanned, HasNamesake, delivered}
 use Rattle.hw_honest.proofs.NewLaws.{plan_is_admitted}
 use Rattle.hw_agree.specs.Converge.{UnitsClash}
@@ -48,6 +47,7 @@ use Rattle.hw_session.specs.Restart.{journal_log}
 use Rattle.hw_session.specs.Sessions.{Serves, ServesPeer, ServesNone}
 use Rattle.hw_session.specs.Standing.{Standing, standing, driver_standing}
 use Rattle.hw_session.specs.Start.{GoesOn, Starts, StartsLog}
+use Rattle.hw_session.proofs.MakeLaws.{journal_is}
 use Rattle.hw_meeting_node.specs.declared.end.MeetEnd.{MeetEnd}
 use Rattle.hw_meeting_node.specs.declared.end.MeetEnd.TheVariants as met_end
 use Rattle.hw_meeting_node.specs.declared.meeter.Side.{Side}
@@ -210,13 +210,12 @@ pub record IsHeld (c : CoreState) : Type 0 where
   pub lawful : config_fault c.config ≡ None
   pub vertices : All VertexInRange c.journal
 
-node_is : (c : CoreState) (r : IsReached c) → c ≡ node_of c.config r.deliveries
-node_is c r = r.made ∙ (deliveries_are c.config r.deliveries).0
+node_is : (c : CoreState) (r : IsReached c) → c ≡ node_of c.config r.deliveries c.asked
+node_is c r = ap (λ (j : List Vertex). let k : CoreState = record { config = c.config; journal = j; asked = c.asked } in k) (journal_is c r)
 
 short : (c : CoreState) → IsHeld c → length c.journal < 2 ^ 64
 short c held =
-    let sound = subst (λ (k : CoreState). IsSoundCore k) (sym held.reached.made) (nodes_sound c.config held.reached.deliveries) in
-    let records = sound.records in
+    let records : length c.journal ≤ c.config.max_records = subst (λ (j : List Vertex). length j ≤ c.config.max_records) (sym (journal_is c held.reached)) (journal_bounded (setting_of c.config) held.reached.deliveries).records in
     let most = (within_limits c.config held.lawful).records.1 in
     omega arith
 
@@ -224,16 +223,16 @@ module _ (address : List ℕ) (c d : CoreState) (config : c.config ≡ d.config)
   module _ (caller_old caller_new host_old host_new : DoorTold) (l : CallsPeer address c judge_left one caller_old caller_new (met_end.Done 0)) (r : HostsPeer d judge_right other host_old host_new (met_end.Done 0))
       (crossed : AreCrossed address caller_old.sessions caller_new.sessions host_old.sessions host_new.sessions) where
     abbrev caller : CoreState
-    caller = node_of c.config left.reached.deliveries
+    caller = node_of c.config left.reached.deliveries c.asked
 
     abbrev host : CoreState
-    host = node_of c.config right.reached.deliveries
+    host = node_of c.config right.reached.deliveries d.asked
 
     c_is : c ≡ caller
     c_is = node_is c left.reached
 
     d_is : d ≡ host
-    d_is = subst (λ (k : Config). d ≡ node_of k right.reached.deliveries) (sym config) (node_is d right.reached)
+    d_is = subst (λ (k : Config). d ≡ node_of k right.reached.deliveries d.asked) (sym config) (node_is d right.reached)
 
     each_read : (l.read ≡ r.written) × (r.read ≡ l.written)
     each_read = crossed l.read l.written r.read r.written l.told r.told
@@ -248,6 +247,8 @@ module _ (address : List ℕ) (c d : CoreState) (config : c.config ≡ d.config)
 
     have_met : HaveMet c.config left.reached.deliveries right.reached.deliveries judge_left judge_right one other
     have_met = record {
+      asked_left = c.asked;
+      asked_right = d.asked;
       read_left = l.read;
       read_right = r.read;
       ends_left = (caller_old.ends, caller_new.ends);

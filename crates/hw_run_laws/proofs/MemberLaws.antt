@@ -40,7 +40,7 @@ use Rattle.hw_run_laws.proofs.MeetLaws.{accepted_is}
 use Rattle.hw_meeting_node.proofs.RangeLaws.{hash_in_range}
 use Rattle.hw_run_laws.proofs.PlanLaws.{unit_fits, unit_in_range}
 use Rattle.hw_run_laws.proofs.QuietLaws.{fair_to_server, fair_to_driver, quiet_serves, quiet_drives, before_meeting, behind_meeting, quiet_meets, fair_met}
-use Rattle.hw_run_laws.proofs.StartLaws.{reached, each_fits, renewed, renews}
+use Rattle.hw_run_laws.proofs.StartLaws.{reached, each_fits, reached_again, renewed, renews}
 
 -- ---- one call
 
@@ -210,7 +210,7 @@ module _ (me : ℕ) (a : Standing) (validator : me < length a.node.core.config.w
   }
 
   started_sound : IsSound started.node
-  started_sound = record { kept = record { lawful = sound.kept.lawful; keys = sound.kept.keys; reached = sound.kept.reached }; config = sound.config; vertices = sound.vertices }
+  started_sound = record { kept = record { lawful = sound.kept.lawful; keys = sound.kept.keys; reached = reached_again a.node sound }; config = sound.config; vertices = sound.vertices }
 
 -- ---- calls
 

@@ -166,7 +166,7 @@ abbrev deliveries : List (Vertex × Bool)
 deliveries = (one_block, true) ∷ []
 
 abbrev with_journal : List Vertex → CoreState
-with_journal j = record { config = alone; journal = j }
+with_journal j = record { config = alone; journal = j; asked = None }
 
 abbrev reached : List Vertex
 reached = journal_of (setting_of alone) deliveries
@@ -183,7 +183,7 @@ met =
     let other = ap (λ (j : List Vertex). with_all none by_keys (due_to (setting_of alone) j [])) made ∙ none_grows in
     subst (λ (o : CoreState). HaveMet alone deliveries [] by_keys by_keys has o) other
     (subst (λ (o : CoreState). HaveMet alone deliveries [] by_keys by_keys o (with_all none by_keys (due_to (setting_of alone) reached []))) one
-    (meetings_there alone deliveries [] by_keys by_keys lawful
+    (meetings_there alone deliveries [] None None by_keys by_keys lawful
     (subst (λ (j : List Vertex). MayBeTold (with_journal j) none by_keys) (sym made) tells)
     (subst (λ (j : List Vertex). MayBeTold none (with_journal j) by_keys) (sym made) tells_back)))
 
@@ -192,10 +192,10 @@ calls = record {
   meets = record {
     read = sent_bytes (words_to none has);
     written = sent_bytes (words_to has none);
-    meets = subst (λ (o : CoreState). Meets Caller has by_keys (sent_bytes (words_to none has)) (sent_bytes (words_to has none)) o 0 0 (end.Done 0)) has_stays (meets_whole alone lawful Caller by_keys (one_block ∷ []) [] tells_back (append-nil _));
+    meets = subst (λ (o : CoreState). Meets Caller has by_keys (sent_bytes (words_to none has)) (sent_bytes (words_to has none)) o 0 0 (end.Done 0)) has_stays (meets_whole alone lawful Caller by_keys (one_block ∷ []) [] None None tells_back (append-nil _));
     told = refl;
   };
-  left = (ap (after_all has_block.node) (sym (takes_due alone lawful Caller by_keys (one_block ∷ []) [] tells_back ∙ none_due)), stays has_block.node has_block.held);
+  left = (ap (after_all has_block.node) (sym (takes_due alone lawful Caller by_keys (one_block ∷ []) [] None None tells_back ∙ none_due)), stays has_block.node has_block.held);
 }
 
 hosts : NodeMeets Host None true (at_door first_standing no_session) (at_door has_block (one_session None (words_to has none) (words_to none has))) (end.Done 0)
@@ -203,10 +203,10 @@ hosts = record {
   meets = record {
     read = sent_bytes (words_to has none);
     written = sent_bytes (words_to none has);
-    meets = subst (λ (o : CoreState). Meets Host none by_keys (sent_bytes (words_to has none)) (sent_bytes (words_to none has)) o 0 0 (end.Done 0)) none_grows (meets_whole alone lawful Host by_keys [] (one_block ∷ []) tells refl);
+    meets = subst (λ (o : CoreState). Meets Host none by_keys (sent_bytes (words_to has none)) (sent_bytes (words_to none has)) o 0 0 (end.Done 0)) none_grows (meets_whole alone lawful Host by_keys [] (one_block ∷ []) None None tells refl);
     told = refl;
   };
-  left = (sym (ap (after_all first_standing.node) (takes_due alone lawful Host by_keys [] (one_block ∷ []) tells ∙ due) ∙ taken), logs_entry first_standing.node one_block first_standing.held);
+  left = (sym (ap (after_all first_standing.node) (takes_due alone lawful Host by_keys [] (one_block ∷ []) None None tells ∙ due) ∙ taken), logs_entry first_standing.node one_block first_standing.held);
 }
 
 log : HasLog has_block.node (has_block.held has_block.node.log)

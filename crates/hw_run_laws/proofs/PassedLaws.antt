@@ -1,7 +1,7 @@
 -- What consumers took at each moment.
-use Rattle.std.proofs.Common.{◌≤◌, ℕ, List, [], ◌∷◌, length, Option, Some, None, sym, subst, inl, inr, arith}
+use Rattle.std.proofs.Common.{◌≡◌, ◌≤◌, ℕ, List, [], ◌∷◌, length, Option, Some, None, refl, sym, subst, inl, inr, arith}
 use Rattle.std.specs.Prelude.{All}
-use Rattle.hw_types.specs.Real.{CoreState}
+use Rattle.hw_types.specs.Real.{Question, CoreState}
 use Rattle.hw_io.specs.Consumers.{Consumed}
 use Rattle.hw_replay.specs.State.{FanoutState}
 use Rattle.hw_replay.specs.Fates.{Sight}
@@ -13,6 +13,11 @@ use Rattle.hw_service.specs.Scene.{none_told}
 use Rattle.hw_service.specs.Talk.{HasGrown}
 use Rattle.hw_service.proofs.GrowLaws.{still_told, still_taken}
 use Rattle.hw_run_laws.specs.Prefixes.{HaveNothing, StoppedReplays, StoppedParts}
+
+-- what a node tells is of its configuration and its journal, whatever it was asked
+pub same_chain : (c : CoreState) (asked : Option Question) → told_chain (record c { asked = asked }) ≡ told_chain c
+unfolding told_chain
+same_chain c asked = refl
 
 module _ {B K : Type 0} (sight : Sight B K) where
   -- no more blocks were passed than there are, and each consumer that is left has taken those
@@ -40,8 +45,10 @@ module _ {B K : Type 0} (sight : Sight B K) where
 
   pub good_passed : (old new : Moment B) → IsPassed sight old new → IsGood old → IsGood new
   good_passed old new is good =
-      let grown : HasGrown old.core new.core = record { config = is.config; journal = is.grown } in
-      let so = still_taken (λ b. sight.consumed b) old.core new.core old.kept.passed old.consumers grown good.passed good.taken in
+      let longer : CoreState = record new.core { asked = old.core.asked } in
+      let grown : HasGrown old.core longer = record { config = is.config; journal = is.grown; asked = refl } in
+      let so = subst (λ (chain : List (ℕ × List ℕ)). All (λ b. HasTaken chain old.kept.passed (sight.consumed b)) old.consumers) (same_chain new.core old.core.asked)
+      (still_taken (λ b. sight.consumed b) old.core longer old.kept.passed old.consumers grown good.passed good.taken) in
       let whole = all_whole sight (told_chain new.core) old.kept.passed old.consumers new.consumers old.kept new.kept is.told so in
       record {
         passed = omega (arith, is.passed);

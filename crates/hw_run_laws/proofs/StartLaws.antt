@@ -21,13 +21,14 @@ use Rattle.hw_replay.specs.declared.fault.StartFault.{StartFault}
 use Rattle.hw_replay.specs.declared.fault.StartFault.TheVariants as fault
 use Rattle.hw_replay.specs.Taken.{◌>>=◌, Taken, nothing_taken, entries_taken, or_fault, rest_taken}
 use Rattle.hw_replay.specs.Replay.{is_wanted, said_replayed, replay_of}
-use Rattle.hw_replay.specs.Ends.{lasts_of_file}
+use Rattle.hw_replay.specs.Ends.{lasts_of_file, IsReached}
 use Rattle.hw_log.specs.declared.rewritten.Rewritten.{Rewritten}
 use Rattle.hw_log.specs.Rewritten.{whole_entries, with_bytes, mended_of}
 use Rattle.hw_session.specs.Node.{NodeState, IsSound}
 use Rattle.hw_session.specs.Restart.{true_entries, journal_log, journal_lasts, GivesBack, HasLog, logged_of}
 use Rattle.hw_session.specs.Start.{taken_of, GoesOn}
 use Rattle.hw_session.proofs.MakeLaws.{journal_is}
+use Rattle.hw_session.proofs.RecallLaws.{Keeps, core_reached}
 use Rattle.hw_session.proofs.RestartLaws.{log_gives_back}
 use Rattle.hw_run_laws.specs.Calls.{MendsTo}
 
@@ -38,12 +39,25 @@ pub entries_fit : (vs : List Vertex) → ((v : Vertex) → Among v vs → Vertex
 entries_fit [] fit = All-nil EntryFits
 entries_fit (v ∷ vs) fit = All-cons EntryFits (record { at = 0; verdict = true; vertex = v }) (true_entries vs) (fit v (inl refl)) (entries_fit vs (λ w m. fit w (inr m)))
 
+-- and so does each vertex
+keep_all : (vs : List Vertex) → ((v : Vertex) → Among v vs → VertexInRange v × VertexFits v) → All Keeps vs
+keep_all [] fit = All-nil Keeps
+keep_all (v ∷ vs) fit = All-cons Keeps v vs (fit v (inl refl)) (keep_all vs (λ w m. fit w (inr m)))
+
+-- a node as a log gives it back: nothing was asked of it
+abbrev pub unasked : CoreState → CoreState
+unasked c = record c { asked = None }
+
 module _ (n : NodeState) (sound : IsSound n) where
   pub reached : n.core.journal ≡ journal_of (setting_of n.core.config) sound.kept.reached.deliveries
   reached = journal_is n.core sound.kept.reached
 
   pub each_fits : (v : Vertex) → Among v n.core.journal → VertexInRange v × VertexFits v
   each_fits v m = (all_at VertexInRange n.core.journal sound.vertices v m, sound.kept.reached.fit v m)
+
+  -- deliveries reach one of which nothing was asked too
+  pub reached_again : IsReached (unasked n.core)
+  reached_again = core_reached (unasked n.core) (sound.kept.reached.deliveries, reached) (keep_all n.core.journal each_fits)
 
   pub fits : All EntryFits (true_entries n.core.journal)
   fits = entries_fit n.core.journal each_fits
@@ -74,9 +88,9 @@ module _ (n m : NodeState) (sound : IsSound n) (name bytes : List ℕ) (on : Goe
   given : GivesBack has.version n.core.config n.core.journal
   given = gives_back n sound has.version has.known
 
-  same_core : m.core ≡ n.core
+  same_core : m.core ≡ unasked n.core
   same_core = ap (λ (t : Taken). t.core)
-      (same_taken (replay_of (Some n.core.config) bytes) (taken_of m) (record { core = n.core; refused = 0; repeats = 0 }) on.taken
+      (same_taken (replay_of (Some n.core.config) bytes) (taken_of m) (record { core = unasked n.core; refused = 0; repeats = 0 }) on.taken
       (ap (λ (b : List ℕ). replay_of (Some n.core.config) b) bytes_are ∙ given.taken))
 
   same_lasts : m.lasts ≡ journal_lasts has.version n.core.config n.core.journal
@@ -101,7 +115,7 @@ module _ (n m : NodeState) (sound : IsSound n) (name bytes : List ℕ) (on : Goe
 -- the node that a start from the log of this one gives
 abbrev pub renewed : (n : NodeState) (file : Option (List ℕ)) → HasLog n file → NodeState
 renewed n file has = record {
-  core = n.core;
+  core = unasked n.core;
   keys = n.keys;
   log = n.log;
   lasts = journal_lasts has.version n.core.config n.core.journal;

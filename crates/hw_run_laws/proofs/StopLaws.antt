@@ -30,6 +30,7 @@ use Rattle.hw_service.specs.Told.{HoldsSession}
 use Rattle.hw_run_laws.specs.CutMembers.{plain_sight, all_took, all_finished, none_dropped, ReplaysAreFed, ReplaysStop, named_as, door_asked, outside_at, IsCutAtReport, RunsAreCut}
 use Rattle.hw_run_laws.proofs.QuietLaws.{quiet_serves}
 use Rattle.hw_run_laws.proofs.StartLaws.{renewed, renews}
+use Rattle.hw_run_laws.proofs.PassedLaws.{same_chain}
 
 -- ---- consumers that are all left
 
@@ -171,6 +172,16 @@ module _ (a : Standing) (config keys written : List ℕ) (cs : List Consumed) (m
   abbrev first : DoorSeen → Scene Consumed
   first door = scene n kept (outside_at a door written (all_took (told_chain a.node.core) cs))
 
+  -- the node that a log gives back tells the same
+  abbrev told_to : List (ℕ × List ℕ) → Moment Consumed
+  told_to chain = moment n.core (all_took chain cs) (none_dropped cs (length chain))
+
+  is_fed : AreFed plain_sight (first_moment n.core.config cs (none_told cs)) (told_to (told_chain a.node.core))
+  is_fed = subst (λ (chain : List (ℕ × List ℕ)). AreFed plain_sight (first_moment n.core.config cs (none_told cs)) (told_to chain)) (same_chain a.node.core None) (fed_once n.core cs)
+
+  is_passed : IsPassed plain_sight (told_to (told_chain a.node.core)) (told_to (told_chain a.node.core))
+  is_passed = subst (λ (chain : List (ℕ × List ℕ)). IsPassed plain_sight (told_to chain) (told_to chain)) (same_chain a.node.core None) (passed_again n.core cs)
+
   starts : Starts a.node.core.config a.node.keys a.node.log (a.held a.node.log) (Ok n)
   starts = subst (λ (file : Option (List ℕ)). Starts a.node.core.config a.node.keys a.node.log file (Ok n)) (sym has.holds) (renews a.node (a.held a.node.log) has sound)
 
@@ -178,7 +189,7 @@ module _ (a : Standing) (config keys written : List ℕ) (cs : List Consumed) (m
   stays = subst (λ (file : Option (List ℕ)). StartsLog a.node.core.config a.node.log a.held a.held file (Ok n)) (sym has.holds) (λ name. refl)
 
   begun : (door : DoorSeen) → HasBegun plain_sight true (named_as config keys a) me (outside_at a door written cs) (first door)
-  begun door = record { reads = reads; starts = λ told. starts; log = λ told. stays; fed = fed_once a.node.core cs; door = refl; written = refl }
+  begun door = record { reads = reads; starts = λ told. starts; log = λ told. stays; fed = is_fed; door = refl; written = refl }
 
   -- nothing of the report is written
   unreported : (door : DoorSeen) → ReportsPart plain_sight (first door) (outside_at a door written (all_finished (told_chain a.node.core) cs))
@@ -219,7 +230,7 @@ module _ (a : Standing) (config keys written : List ℕ) (cs : List Consumed) (n
       served = inl (record { read = []; written = []; serves = quiet_serves (renewed a.node (a.held a.node.log) has) a.held 0; told = refl });
       came = record { accepts = refl; dials = refl };
     };
-    passed = passed_again a.node.core cs;
+    passed = is_passed a config keys written cs None sound has reads;
     told = (tt, (0, sym (append-nil written)));
   }
 

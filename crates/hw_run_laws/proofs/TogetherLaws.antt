@@ -14,7 +14,7 @@ use Rattle.hw_types.specs.declared.answers.Cause.{Cause}
 use Rattle.hw_types.specs.Journal.{Setting, answer, journal_after, answers_from}
 use Rattle.hw_types.specs.Limits.{is_within, config_fault}
 use Rattle.hw_types.specs.Spelling.{u32_bytes, instance_of}
-use Rattle.hw_types.specs.Real.{CoreState, setting_of}
+use Rattle.hw_types.specs.Real.{Question, CoreState, setting_of}
 use Rattle.hw_types.proofs.LimitLaws.{within_limits}
 use Rattle.hw_types.proofs.SettledLaws.{digest_self}
 use Rattle.hw_types.proofs.StableLaws.{and_whole}
@@ -118,12 +118,12 @@ ok_answered : (m : Meeting) (a : Result Receipt Cause) → IsOk a → answered m
 ok_answered m (Ok r) ok = refl
 ok_answered m (Err c) ok = absurd cc
 
-module _ (config : Config) (lawful : config_fault config ≡ None) (side : Side) (judge : Vertex → Bool) (mine theirs : List Vertex) where
+module _ (config : Config) (lawful : config_fault config ≡ None) (side : Side) (judge : Vertex → Bool) (mine theirs : List Vertex) (own_asked their_asked : Option Question) where
   abbrev c : CoreState
-  c = record { config = config; journal = mine }
+  c = record { config = config; journal = mine; asked = own_asked }
 
   abbrev d : CoreState
-  d = record { config = config; journal = theirs }
+  d = record { config = config; journal = theirs; asked = their_asked }
 
   abbrev s : Setting
   s = setting_of config
@@ -149,7 +149,7 @@ module _ (config : Config) (lawful : config_fault config ≡ None) (side : Side)
   tearing = (told side (begun c) (told_of d)).state
 
   abbrev taking : List Vertex → Meeting
-  taking journal = record (given_torn side tearing (torn_by d (told_of c))).state { core = record { config = config; journal = journal } }
+  taking journal = record (given_torn side tearing (torn_by d (told_of c))).state { core = record { config = config; journal = journal; asked = own_asked } }
 
   -- its steps
   greets : (k : ℕ) → meet_step side judge (begun c) (record { at = k; frame = frame.Hello (instance_of config) }) ≡ goes_on telling (to_hello side c)
@@ -327,14 +327,16 @@ in_range : (n : ℕ) (fs said : List MeetingFrame) → AllByRecursion (MayBeSaid
 in_range n fs said all is = subst (λ (xs : List MeetingFrame). All MeetingInRange xs) (sym is) (All-from_recursion MeetingInRange fs (ranges n fs all))
 
 pub meetings_there : MeetingsAreThere
-meetings_there config left right judge_left judge_right lawful of_left of_right =
-    let mine = (node_of config left).journal in
-    let theirs = (node_of config right).journal in
-    let one = meets_whole config lawful Caller judge_left mine theirs of_right (append-nil _) in
-    let other = meets_whole config lawful Host judge_right theirs mine of_left refl in
+meetings_there config left right asked_left asked_right judge_left judge_right lawful of_left of_right =
+    let l = node_of config left asked_left in
+    let r = node_of config right asked_right in
+    let one = meets_whole config lawful Caller judge_left l.journal r.journal asked_left asked_right of_right (append-nil _) in
+    let other = meets_whole config lawful Host judge_right r.journal l.journal asked_right asked_left of_left refl in
     record {
-      read_left = sent_bytes (words_to (node_of config right) (node_of config left));
-      read_right = sent_bytes (words_to (node_of config left) (node_of config right));
+      asked_left = asked_left;
+      asked_right = asked_right;
+      read_left = sent_bytes (words_to r l);
+      read_right = sent_bytes (words_to l r);
       ends_left = (0, 0);
       ends_right = (0, 0);
       left_met = one;
@@ -342,6 +344,6 @@ meetings_there config left right judge_left judge_right lawful of_left of_right 
       lawful = lawful;
       left_fit = of_left.fit;
       right_fit = of_right.fit;
-      left_in_range = in_range (length config.weights) (words_to (node_of config left) (node_of config right)) _ of_left.words (says_whole config lawful Caller judge_left mine theirs of_right (append-nil _));
-      right_in_range = in_range (length config.weights) (words_to (node_of config right) (node_of config left)) _ of_right.words (says_whole config lawful Host judge_right theirs mine of_left refl);
+      left_in_range = in_range (length config.weights) (words_to l r) _ of_left.words (says_whole config lawful Caller judge_left l.journal r.journal asked_left asked_right of_right (append-nil _));
+      right_in_range = in_range (length config.weights) (words_to r l) _ of_right.words (says_whole config lawful Host judge_right r.journal l.journal asked_right asked_left of_left refl);
     }

@@ -28,7 +28,7 @@ use Rattle.hw_run_laws.proofs.CutLaws.{taken_true}
 use Rattle.hw_run_laws.proofs.GivenLaws.{put, put_there, put_others}
 use Rattle.hw_run_laws.proofs.MemberLaws.{is_planned, fits, in_range, made_sound, fair, entry_sound}
 use Rattle.hw_run_laws.proofs.MendLaws.{cut_mended}
-use Rattle.hw_run_laws.proofs.StartLaws.{gives_back, same_some}
+use Rattle.hw_run_laws.proofs.StartLaws.{unasked, reached_again, gives_back, same_some}
 
 -- an append that fails behind so many bytes
 put_cut : {T E : Type 0} (held : List ℕ → Option (List ℕ)) (name whole bytes : List ℕ) (count : ℕ) (e : E) → held name ≡ Some whole → Appended {T = T} {E = E} held (put held name (whole ++ take count bytes)) name bytes (Err e)
@@ -53,7 +53,7 @@ module _ (c : Standing) (k : NodeState) (sound : IsSound k) (config : k.core.con
   abbrev started : Standing
   started = record {
     node = record {
-      core = k.core;
+      core = unasked k.core;
       keys = k.keys;
       log = c.node.log;
       lasts = journal_lasts mends.log.version k.core.config k.core.journal;
@@ -87,7 +87,7 @@ module _ (c : Standing) (k : NodeState) (sound : IsSound k) (config : k.core.con
             clash = refl;
           };
         };
-        sound = record { kept = record { lawful = sound.kept.lawful; keys = sound.kept.keys; reached = sound.kept.reached }; config = sound.config; vertices = sound.vertices };
+        sound = record { kept = record { lawful = sound.kept.lawful; keys = sound.kept.keys; reached = reached_again k sound }; config = sound.config; vertices = sound.vertices };
       }
 
 -- the bytes of the log

@@ -8,7 +8,7 @@ use Rattle.hw_types.specs.Below.{Among}
 use Rattle.hw_types.specs.Journal.{journal_after, answers_from}
 use Rattle.hw_types.specs.Limits.{config_fault}
 use Rattle.hw_types.specs.Spelling.{VertexFits}
-use Rattle.hw_types.specs.Real.{CoreState, setting_of}
+use Rattle.hw_types.specs.Real.{Question, CoreState, setting_of}
 use Rattle.hw_keys.specs.Signed.{verdict_of}
 use Rattle.hw_link.specs.Frames.{byte_limit}
 use Rattle.hw_agree.specs.Converge.{due_to}
@@ -51,9 +51,11 @@ pub record MayBeTold (c d : CoreState) (judge : Vertex → Bool) : Type 0 where
   pub short : length (sent_bytes (words_to c d)) ≤ byte_limit
   pub takes : AllByRecursion (λ a. IsOk a) (answers_from (setting_of d.config) d.journal (judged judge (due_to (setting_of c.config) c.journal d.journal)))
 
--- Two nodes of one configuration that can tell each other all that is due have met, as a caller and a host, and each has what was due to it.
+-- Two nodes of one configuration that can tell each other all that is due, whatever they were asked before, have met, as a caller and a host,
+-- and each has what was due to it.
 abbrev pub MeetingsAreThere : Type 0
-MeetingsAreThere = (config : Config) (left right : List (Vertex × Bool)) (judge_left judge_right : Vertex → Bool) → (let l = node_of config left in let r = node_of config right in
+MeetingsAreThere = (config : Config) (left right : List (Vertex × Bool)) (asked_left asked_right : Option Question) (judge_left judge_right : Vertex → Bool)
+    → (let l = node_of config left asked_left in let r = node_of config right asked_right in
     config_fault config ≡ None → MayBeTold l r judge_right → MayBeTold r l judge_left
     → HaveMet config left right judge_left judge_right (with_all l judge_left (due_to (setting_of config) r.journal l.journal)) (with_all r judge_right (due_to (setting_of config) l.journal r.journal)))
 
@@ -74,10 +76,11 @@ has_block = record {
 abbrev pub by_keys : Vertex → Bool
 by_keys = verdict_of first_standing.node.keys
 
--- a door that tells no session, and one that tells this one
+-- a door that tells no session,
 abbrev pub no_session : DoorSeen
 no_session = door_seen (Some []) 0 0 0
 
+-- and one that tells a session with this address, in which the node heard these frames and said those
 abbrev pub one_session : Option (List ℕ) → List MeetingFrame → List MeetingFrame → DoorSeen
 one_session address heard said = door_seen (Some (record { address = address; read = sent_bytes heard; written = sent_bytes said; failed = false } ∷ [])) 0 0 0
 

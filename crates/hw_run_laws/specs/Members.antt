@@ -89,6 +89,7 @@ pub data Turn : Type 0 where
   stops : Turn
   drops : Deed → Turn
 
+-- which of these an attempt is
 abbrev pub deed_of : {me : ℕ} {a b : Standing} → Attempt me a b → Deed
 deed_of (makes now value result d wrote) = making now value
 deed_of (accepts v result d wrote fair) = accepting v
@@ -96,6 +97,7 @@ deed_of (serves read written ends_old ends_new e d fair) = serving
 deed_of (drives mark now read written ends_old ends_new e d fair) = driving mark
 deed_of (meets side address from to e d fair) = meeting side address
 
+-- which of these a call is
 abbrev pub turn_of : {me : ℕ} {a b : Standing} → Call me a b → Turn
 turn_of (goes_on attempt whole) = does (deed_of attempt)
 turn_of (starts again) = stops
@@ -119,6 +121,7 @@ MayBeDone me serving = Unit {0}
 MayBeDone me (driving mark) = Unit {0}
 MayBeDone me (meeting side address) = Unit {0}
 
+-- what the node does in the call, if it does anything, may be done
 abbrev pub MayTurn : ℕ → Turn → Type 0
 MayTurn me (does deed) = MayBeDone me deed
 MayTurn me stops = Unit {0}
@@ -146,6 +149,7 @@ pub record IsWholeServed (n : NodeState) (held : List ℕ → Option (List ℕ))
   pub serves : Serves true (standing n held) (short_session n) written (standing n held) 0 0 end.Done
   pub ended : (served n (short_session n)).end ≡ end.Done
 
+-- So it is of each node, whatever its files hold.
 abbrev pub WholeSessionsAreThere : Type 0
 WholeSessionsAreThere = (n : NodeState) (held : List ℕ → Option (List ℕ)) → IsWholeServed n held
 
@@ -163,6 +167,7 @@ pub record IsWholeDriven (n : NodeState) (pulled : ℕ) (held : List ℕ → Opt
   pub drives : Drives true (driver_standing n (told_all n pulled) held) (driven_session n pulled) written (driver_standing n (told_all n pulled) held) 0 0 end.Done
   pub ended : (driven n (told_all n pulled) (driven_session n pulled)).end ≡ end.Done
 
+-- So it is of each node of which no unit waits, whatever its files hold, and however much it pulled before.
 abbrev pub WholeDrivesAreThere : Type 0
 WholeDrivesAreThere = (n : NodeState) (pulled : ℕ) (held : List ℕ → Option (List ℕ)) → pulled < 2 ^ 64 → unmet_in n.core ≡ [] → IsWholeDriven n pulled held
 

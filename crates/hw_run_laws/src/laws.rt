@@ -102,10 +102,10 @@ pub fn a_cut_log_is_mended()
 ///
 /// A new node with its log is a beginning, and one is written out. From each beginning there is a life of whatever
 /// calls, in any order: units that are made, whatever vertices that are handed over and hold no unit by the validator,
-/// sessions and meetings with peers that send nothing, starts, and nodes that are given up. Each node has a whole session that nothing disturbs, dialled or, where no unit waits, dialling. It says
-/// the vertices of its journal to a peer that asks for them, and takes a vertex that a peer sends. Wherever the append
-/// of a unit fails, or that of a vertex that is handed over, the node may be given up, and starts again from its log,
-/// mended.
+/// sessions and meetings with peers that send nothing, starts, and nodes that are given up. Each node has a whole
+/// session that nothing disturbs, dialled or, where no unit waits, dialling. It says the vertices of its journal to a
+/// peer that asks for them, and takes a vertex that a peer sends. Wherever the append of a unit fails, or that of a
+/// vertex that is handed over, the node may be given up, and starts again from its log, mended.
 pub fn lives_are_there()
     ensures begins { NewNodesAreReady }
     ensures one { OneBegins }

@@ -80,10 +80,7 @@ fn faulty(answer: &mut Answer, core: &Core) {
 fn is_faulty(core: &Core, validator: u32) -> bool
     requires { validator < length core.now.config.weights }
 {
-    match core.observation(validator) {
-        Obs::Faulty => true,
-        _ => false,
-    }
+    core.state().is_faulty(validator)
 }
 
 /// The decided blocks, a dash where there is none, and the faulty weight where it exceeds the threshold.

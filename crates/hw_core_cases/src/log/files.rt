@@ -32,7 +32,8 @@ fn take_step(files: &mut MemFiles, buf: &mut [u8], step: &str) -> Count {
     }
 }
 
-/// An exchange with files of which no call is to fail, or, for a number, four calls of which the one of that number fails.
+/// An exchange with files of which no call is to fail, or, for a number, four calls of which the one of that number
+/// fails.
 pub fn files_text(answer: &mut Answer, kind: &str) {
     match kind {
         "memory" | "sure" => exchange_text(answer, kind),

@@ -1,4 +1,4 @@
-use Rattle.hw_node_cases.proofs.GrownLaws.{still_told}
+use Rattle.hw_replay.proofs.FeedLaws.{still_told}
 use Rattle.hw_node_cases.proofs.node.passes.pass_along.Goals as goal
 
 pub pass_if-requires-clause-passed : goal.pass_if-requires-clause-passed
