@@ -3,7 +3,7 @@ use Rattle.std.proofs.Common.{◌≡◌, ◌⊎◌, inl, inr, ℕ, zero, suc, Bo
 use Rattle.std.specs.Prelude.{◌==◌, slice_get, is_none, if◌then◌else◌}
 use Rattle.std.specs.List.{cons_option, flat_map}
 use Rattle.std.specs.Map.{lookup}
-use Rattle.hw_types.specs.declared.answers.Question.{Question}
+use Rattle.hw_types.specs.declared.answers.LastQuestion.{LastQuestion}
 use Rattle.hw_types.specs.declared.unit.Digest.{Digest}
 use Rattle.hw_types.specs.declared.unit.Need.{Need}
 use Rattle.hw_types.specs.declared.unit.SignedUnit.{SignedUnit}
@@ -113,7 +113,7 @@ module _ (journal : List Vertex) (park : Parked PreparedUnit) (state : NodeState
   ]
 
   -- what those that wait need is what the units of the journal miss, in its order
-  pub awaited_is : (asked : Option Question) → awaited park.waiting ≡ unmet_in (record { config = state.config; journal = journal; asked = asked })
+  pub awaited_is : (asked : Option LastQuestion) → awaited park.waiting ≡ unmet_in (record { config = state.config; journal = journal; asked = asked })
   unfolding unmet_in
   awaited_is asked = ap distinct (given_by missed park.waiting (λ w m. (node.is_of.can.are.each w m).needs_are ∙ missing_is journal park state node (node_prepared w.item))
       ∙ part_gives missed (waiting_nodes park.waiting) (units_in s journal) node.is_of.order (once_in s journal apart) waits_or_whole)

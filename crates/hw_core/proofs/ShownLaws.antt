@@ -6,7 +6,7 @@ use Rattle.hw_types.specs.declared.unit.Digest.{Digest}
 use Rattle.hw_types.specs.declared.unit.Obs.{Obs}
 use Rattle.hw_types.specs.declared.unit.Vertex.{Vertex}
 use Rattle.hw_types.specs.declared.answers.Decision.{Decision}
-use Rattle.hw_types.specs.declared.answers.Question.{Question}
+use Rattle.hw_types.specs.declared.answers.LastQuestion.{LastQuestion}
 use Rattle.hw_types.specs.declared.config.Config.{Config}
 use Rattle.hw_types.specs.Graph.{Node, digest_eq}
 use Rattle.hw_types.specs.Below.{Among}
@@ -153,11 +153,11 @@ one_decided c state settled index d e x y is other =
     )
 
 module _ (c : CoreState) (state : NodeState) (shown : ShownState) (is : IsShown c state shown) (same : c.asked ≡ shown.asked) (level validator : ℕ) where
-  told_at : Option Question → Option ℕ
+  told_at : Option LastQuestion → Option ℕ
   told_at o = cond (is_about o (length c.journal)) (start_of shown.search level validator) None
 
   -- the question is about the journal as it is
-  now_at : (q : Question) (b : Bool) → (q.at == length c.journal) ≡ b → (n : ℕ) → Some n ≡ cond b (start_of shown.search level validator) None → (q.at ≡ length c.journal) × (start_of shown.search level validator ≡ Some n)
+  now_at : (q : LastQuestion) (b : Bool) → (q.at == length c.journal) ≡ b → (n : ℕ) → Some n ≡ cond b (start_of shown.search level validator) None → (q.at ≡ length c.journal) × (start_of shown.search level validator ≡ Some n)
   now_at q true f n e = (eqb-true q.at (length c.journal) f, sym e)
   now_at q false f n e = absurd (let none : Some n ≡ None = e in cc)
 
@@ -165,7 +165,7 @@ module _ (c : CoreState) (state : NodeState) (shown : ShownState) (is : IsShown 
   start_some None e = tt
   start_some (Some n) e = go shown.asked refl
     where
-      go : (o : Option Question) → shown.asked ≡ o → IsStartNow c level validator n
+      go : (o : Option LastQuestion) → shown.asked ≡ o → IsStartNow c level validator n
       go None f = absurd (let none : Some n ≡ None = e ∙ ap told_at f in cc)
       go (Some q) f =
           let now = now_at q (q.at == length c.journal) refl n (e ∙ ap told_at f) in
@@ -182,7 +182,7 @@ module _ (c : CoreState) (state : NodeState) (shown : ShownState) (is : IsShown 
       (λ d x m. one_decided c state settled s.question.decision d answer.decision x answer.block m answer.is) n s.start
 
 module _ (journal : List Vertex) (park : Parked PreparedUnit) (state : NodeState) (node : IsNode journal park state) (d : DecidedState) (waiting : ℕ) (decided : IsDecided (setting_of state.config) journal state waiting d)
-    (asked : Option Question) (index : ℕ) (told : Decision) (there : slice_get d.decisions index ≡ Some told) (f : Found) (at : slice_get d.detector.found index ≡ Some f) where
+    (asked : Option LastQuestion) (index : ℕ) (told : Decision) (there : slice_get d.decisions index ≡ Some told) (f : Found) (at : slice_get d.detector.found index ≡ Some f) where
   abbrev core : CoreState
   core = record { config = state.config; journal = journal; asked = asked }
 

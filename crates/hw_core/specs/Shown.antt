@@ -5,7 +5,7 @@ use Rattle.hw_types.specs.declared.unit.Obs.{Obs}
 use Rattle.hw_types.specs.Graph.{Node}
 use Rattle.hw_types.specs.Below.{Among}
 use Rattle.hw_types.specs.Summit.{Committees, HasSummit, IsGreatest}
-use Rattle.hw_types.specs.declared.answers.Question.{Question}
+use Rattle.hw_types.specs.declared.answers.LastQuestion.{LastQuestion}
 use Rattle.hw_types.specs.Real.{CoreState, settled_in, panorama_in}
 use Rattle.hw_admit.specs.State.{NodeState}
 use Rattle.hw_horizon.specs.Search.{Search, committees_of}
@@ -41,7 +41,7 @@ pub record IsStartOf (c : CoreState) (index level validator start : ℕ) : Type 
 
 -- no vertex came since the last question, and there the validator starts for the block that it was about
 pub record IsStartNow (c : CoreState) (level validator start : ℕ) : Type 0 where
-  pub question : Question
+  pub question : LastQuestion
   pub asked : c.asked ≡ Some question
   pub now : question.at ≡ length c.journal
   pub start : IsStartOf c question.decision level validator start
@@ -51,10 +51,10 @@ pub record IsStartNow (c : CoreState) (level validator start : ℕ) : Type 0 whe
 -- what the last search left, and the question that it answered
 pub record ShownState : Type 0 where
   pub search : Search
-  pub asked : Option Question
+  pub asked : Option LastQuestion
 
 -- it is about a journal of this length
-abbrev pub is_about : Option Question → ℕ → Bool
+abbrev pub is_about : Option LastQuestion → ℕ → Bool
 is_about None count = false
 is_about (Some q) count = q.at == count
 
@@ -80,5 +80,5 @@ pub record IsSearchOf (s : Search) (state : NodeState) : Type 0 where
 -- what is shown is what there is for the decided block that was asked for, unless a vertex came since
 pub record IsShown (c : CoreState) (state : NodeState) (shown : ShownState) : Type 0 where
   pub search : IsSearchOf shown.search state
-  pub within : (q : Question) → shown.asked ≡ Some q → q.at ≤ length c.journal
-  pub asked : (q : Question) → shown.asked ≡ Some q → q.at ≡ length c.journal → IsAnswerOf c q.decision shown.search
+  pub within : (q : LastQuestion) → shown.asked ≡ Some q → q.at ≤ length c.journal
+  pub asked : (q : LastQuestion) → shown.asked ≡ Some q → q.at ≡ length c.journal → IsAnswerOf c q.decision shown.search

@@ -10,7 +10,7 @@ ghost use Rattle.hw_core.specs.Shown.{IsSearchOf, IsAnswer, is_about};
 use hw_admit::State;
 use hw_dag::UnitNo;
 use hw_horizon::Horizons;
-use hw_types::{Config, OutOfMemory, Question};
+use hw_types::{Config, LastQuestion, OutOfMemory};
 use std::alloc::Global;
 use std::marker::Model;
 
@@ -18,7 +18,7 @@ use std::marker::Model;
 pub struct Shown {
     horizons: Horizons,
     /// What the last search was for.
-    asked: Option<Question>,
+    asked: Option<LastQuestion>,
 }
 
 // For the prover: so its drop is one call, and else is written out wherever one is let go.
@@ -61,7 +61,7 @@ impl Shown {
     pub fn show(
         &mut self,
         state: &State,
-        question: Question,
+        question: LastQuestion,
         block: UnitNo,
         level: u32,
         quorum: u64,
@@ -90,7 +90,7 @@ impl Shown {
     pub fn show_once(
         &mut self,
         state: &State,
-        question: Question,
+        question: LastQuestion,
         block: UnitNo,
         level: u32,
         quorum: u64,
@@ -109,7 +109,7 @@ impl Shown {
     }
 
     /// Whether the last search was for this question.
-    fn answers(&self, question: Question) -> bool
+    fn answers(&self, question: LastQuestion) -> bool
         ensures { IsTrue result ↔ (self.now.asked ≡ Some question) }
     {
         match self.asked {

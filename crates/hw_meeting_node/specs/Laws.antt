@@ -10,7 +10,8 @@ use Rattle.hw_types.specs.Journal.{received_of, journal_after, journal_of, answe
 use Rattle.hw_types.specs.Below.{Among}
 use Rattle.hw_types.specs.Limits.{config_fault}
 use Rattle.hw_types.specs.Spelling.{instance_of, VertexFits}
-use Rattle.hw_types.specs.Real.{Question, CoreState, setting_of}
+use Rattle.hw_types.specs.declared.answers.LastQuestion.{LastQuestion}
+use Rattle.hw_types.specs.Real.{CoreState, setting_of}
 use Rattle.hw_types.specs.laws.StateLaws.{SaysTheSame, HasSameState}
 use Rattle.hw_codec.specs.Ranges.{VertexInRange}
 use Rattle.hw_io.specs.Faults.{Rose, raised}
@@ -129,15 +130,15 @@ MeetingsSayInRange = (side : Side) (c : CoreState) (judge : Vertex → Bool) (by
 -- ---- convergence
 
 -- a node that these deliveries reached, and that was asked this last
-abbrev pub node_of : Config → List (Vertex × Bool) → Option Question → CoreState
+abbrev pub node_of : Config → List (Vertex × Bool) → Option LastQuestion → CoreState
 node_of config deliveries asked = record { config = config; journal = journal_of (setting_of config) deliveries; asked = asked }
 
 -- A caller and a host of one configuration, whatever they were asked before, met, as a meeting promises it: both meetings ended as done with
 -- nothing refused, and each read what the other wrote. Each number that was written is in its type's range, and the units of the two journals
 -- keep the limits of their format, as a node's do.
 pub record HaveMet (config : Config) (left right : List (Vertex × Bool)) (judge_left judge_right : Vertex → Bool) (one other : CoreState) : Type 0 where
-  pub asked_left : Option Question
-  pub asked_right : Option Question
+  pub asked_left : Option LastQuestion
+  pub asked_right : Option LastQuestion
   pub read_left : List ℕ
   pub read_right : List ℕ
   pub ends_left : ℕ × ℕ

@@ -1,7 +1,8 @@
 -- What consumers took at each moment.
 use Rattle.std.proofs.Common.{◌≡◌, ◌≤◌, ℕ, List, [], ◌∷◌, length, Option, Some, None, refl, sym, subst, inl, inr, arith}
 use Rattle.std.specs.Prelude.{All}
-use Rattle.hw_types.specs.Real.{Question, CoreState}
+use Rattle.hw_types.specs.declared.answers.LastQuestion.{LastQuestion}
+use Rattle.hw_types.specs.Real.{CoreState}
 use Rattle.hw_io.specs.Consumers.{Consumed}
 use Rattle.hw_replay.specs.State.{FanoutState}
 use Rattle.hw_replay.specs.Fates.{Sight}
@@ -15,7 +16,7 @@ use Rattle.hw_service.proofs.GrowLaws.{still_told, still_taken}
 use Rattle.hw_run_laws.specs.Prefixes.{HaveNothing, StoppedReplays, StoppedParts}
 
 -- what a node tells is of its configuration and its journal, whatever it was asked
-pub same_chain : (c : CoreState) (asked : Option Question) → told_chain (record c { asked = asked }) ≡ told_chain c
+pub same_chain : (c : CoreState) (asked : Option LastQuestion) → told_chain (record c { asked = asked }) ≡ told_chain c
 unfolding told_chain
 same_chain c asked = refl
 

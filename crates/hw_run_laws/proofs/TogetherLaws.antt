@@ -14,7 +14,8 @@ use Rattle.hw_types.specs.declared.answers.Cause.{Cause}
 use Rattle.hw_types.specs.Journal.{Setting, answer, journal_after, answers_from}
 use Rattle.hw_types.specs.Limits.{is_within, config_fault}
 use Rattle.hw_types.specs.Spelling.{u32_bytes, instance_of}
-use Rattle.hw_types.specs.Real.{Question, CoreState, setting_of}
+use Rattle.hw_types.specs.declared.answers.LastQuestion.{LastQuestion}
+use Rattle.hw_types.specs.Real.{CoreState, setting_of}
 use Rattle.hw_types.proofs.LimitLaws.{within_limits}
 use Rattle.hw_types.proofs.SettledLaws.{digest_self}
 use Rattle.hw_types.proofs.StableLaws.{and_whole}
@@ -118,7 +119,7 @@ ok_answered : (m : Meeting) (a : Result Receipt Cause) → IsOk a → answered m
 ok_answered m (Ok r) ok = refl
 ok_answered m (Err c) ok = absurd cc
 
-module _ (config : Config) (lawful : config_fault config ≡ None) (side : Side) (judge : Vertex → Bool) (mine theirs : List Vertex) (own_asked their_asked : Option Question) where
+module _ (config : Config) (lawful : config_fault config ≡ None) (side : Side) (judge : Vertex → Bool) (mine theirs : List Vertex) (own_asked their_asked : Option LastQuestion) where
   abbrev c : CoreState
   c = record { config = config; journal = mine; asked = own_asked }
 

@@ -8,7 +8,8 @@ use Rattle.hw_types.specs.Below.{Among}
 use Rattle.hw_types.specs.Journal.{journal_after, answers_from}
 use Rattle.hw_types.specs.Limits.{config_fault}
 use Rattle.hw_types.specs.Spelling.{VertexFits}
-use Rattle.hw_types.specs.Real.{Question, CoreState, setting_of}
+use Rattle.hw_types.specs.declared.answers.LastQuestion.{LastQuestion}
+use Rattle.hw_types.specs.Real.{CoreState, setting_of}
 use Rattle.hw_keys.specs.Signed.{verdict_of}
 use Rattle.hw_link.specs.Frames.{byte_limit}
 use Rattle.hw_agree.specs.Converge.{due_to}
@@ -54,7 +55,7 @@ pub record MayBeTold (c d : CoreState) (judge : Vertex → Bool) : Type 0 where
 -- Two nodes of one configuration that can tell each other all that is due, whatever they were asked before, have met, as a caller and a host,
 -- and each has what was due to it.
 abbrev pub MeetingsAreThere : Type 0
-MeetingsAreThere = (config : Config) (left right : List (Vertex × Bool)) (asked_left asked_right : Option Question) (judge_left judge_right : Vertex → Bool)
+MeetingsAreThere = (config : Config) (left right : List (Vertex × Bool)) (asked_left asked_right : Option LastQuestion) (judge_left judge_right : Vertex → Bool)
     → (let l = node_of config left asked_left in let r = node_of config right asked_right in
     config_fault config ≡ None → MayBeTold l r judge_right → MayBeTold r l judge_left
     → HaveMet config left right judge_left judge_right (with_all l judge_left (due_to (setting_of config) r.journal l.journal)) (with_all r judge_right (due_to (setting_of config) l.journal r.journal)))

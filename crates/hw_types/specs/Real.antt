@@ -6,7 +6,7 @@ use Rattle.hw_types.specs.declared.unit.Vertex.{Vertex}
 use Rattle.hw_types.specs.declared.config.Config.{Config}
 use Rattle.hw_types.specs.declared.answers.Receipt.{Receipt}
 use Rattle.hw_types.specs.declared.answers.Cause.{Cause}
-use Rattle.hw_types.specs.declared.answers.Question.{Question}
+use Rattle.hw_types.specs.declared.answers.LastQuestion.{LastQuestion}
 use Rattle.hw_types.specs.Graph.{Node}
 use Rattle.hw_types.specs.Settled.{settled_of, panorama_of, faulty_weight, Received}
 use Rattle.hw_types.specs.Journal.{Setting, received_of, answer, journal_after}
@@ -20,7 +20,7 @@ setting_of config = record { config = config; instance = instance_of config; nam
 pub record CoreState : Type 0 where
   pub config : Config
   pub journal : List Vertex
-  pub asked : Option Question
+  pub asked : Option LastQuestion
 
 -- the node was asked this after its whole journal
 abbrev pub asked_in : CoreState → ℕ → CoreState

@@ -138,7 +138,7 @@ pub struct Decision {
 
 /// What a node was asked last: whether one of its decided blocks has a summit.
 #[derive(Clone, Copy)]
-pub struct Question {
+pub struct LastQuestion {
     /// The place of the decided block, from 0.
     pub decision: u64,
     /// How long the journal was then.

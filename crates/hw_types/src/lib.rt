@@ -17,7 +17,8 @@ mod unit;
 mod words;
 
 pub use answers::{
-    Cause, CodecError, Culprit, Decision, Frame, PairFault, Plan, PlanKind, Question, Receipt, Rule,
+    Cause, CodecError, Culprit, Decision, Frame, LastQuestion, PairFault, Plan, PlanKind, Receipt,
+    Rule,
 };
 pub use committee::quorum;
 pub use config::{

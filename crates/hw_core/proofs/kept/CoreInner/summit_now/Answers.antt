@@ -1,7 +1,7 @@
 use Rattle.std.proofs.Common.{◌≡◌, ℕ, ◌<◌, Some, ◌∙◌, List, length, refl, sym, ap, subst, arith}
 use Rattle.std.specs.Prelude.{◌↔◌, IsTrue}
 use Rattle.hw_types.specs.declared.answers.Decision.{Decision}
-use Rattle.hw_types.specs.declared.answers.Question.{Question}
+use Rattle.hw_types.specs.declared.answers.LastQuestion.{LastQuestion}
 use Rattle.hw_types.specs.Summit.{HasSummit}
 use Rattle.hw_types.specs.Real.{CoreState}
 use Rattle.hw_dag.specs.declared.numbers.UnitNo.{UnitNo}
@@ -57,15 +57,15 @@ invariant_of-self c =
     let f = c.block-block.ensures in
     let told = c.get-decision.result.now in
     let answer = answer_to core.journal.items core.park core.state c.self.invariant.node core.decided (length core.park.waiting) c.self.invariant.decided_is c.show.new.self.asked c.args.index told (sym c.get-decision.ensures) f.0 f.1 c.show.ensures.graph c.show.ensures.observed in
-    let is_question : (q : Question) → c.show.new.self.asked ≡ Some q → record { decision = c.args.index; at = length core.journal.items } ≡ q = λ q e.
-    (let both : Some (record { decision = c.args.index; at = length core.journal.items }) ≡ Some q = ap (λ (r : Question). Some r) (sym c.question-asked.ensures) ∙ sym c.show.ensures.asked ∙ e in cc) in
+    let is_question : (q : LastQuestion) → c.show.new.self.asked ≡ Some q → record { decision = c.args.index; at = length core.journal.items } ≡ q = λ q e.
+    (let both : Some (record { decision = c.args.index; at = length core.journal.items }) ≡ Some q = ap (λ (r : LastQuestion). Some r) (sym c.question-asked.ensures) ∙ sym c.show.ensures.asked ∙ e in cc) in
     kept_with core.instance core.journal.items core.names.entries core.park core.dropped.entries core.dropped.room core.state core.fork core.decided core.shown c.self.invariant
     core.journal.items core.names.entries core.park core.dropped.entries core.dropped.room core.state core.fork core.decided c.show.new.self refl c.self.invariant.table c.self.invariant.rules_are c.self.invariant.places c.self.invariant.fit
     c.self.invariant.pairs c.self.invariant.node c.self.invariant.fork_is c.self.invariant.decided_is
     (record {
       search = c.show.ensures.search;
-      within = λ q e. (let same = ap (λ (r : Question). r.at) (is_question q e) in omega arith);
+      within = λ q e. (let same = ap (λ (r : LastQuestion). r.at) (is_question q e) in omega arith);
       asked = λ q e now.
-          subst (λ (k : ℕ). IsAnswerOf (record { config = core.state.config; journal = core.journal.items; asked = c.show.new.self.asked }) k c.show.new.self.search) (ap (λ (r : Question). r.decision) (is_question q e))
+          subst (λ (k : ℕ). IsAnswerOf (record { config = core.state.config; journal = core.journal.items; asked = c.show.new.self.asked }) k c.show.new.self.search) (ap (λ (r : LastQuestion). r.decision) (is_question q e))
           (answer c.show.new.self.search (subst (λ (b : UnitNo). IsAnswer core.state.config.weights (graph core.state.dag) (observations core.state.dag core.state.panorama) (node_at core.state.dag b.0) told.level told.quorum c.show.new.self.search) f.2 c.show.ensures.answer));
     })

@@ -1,6 +1,6 @@
 use Rattle.std.proofs.Common.{List, ℕ, cond, length, ap, subst, ◌∙◌}
 use Rattle.std.specs.Prelude.{Option, None, IfSome, IfNone}
-use Rattle.hw_types.specs.declared.answers.Question.{Question}
+use Rattle.hw_types.specs.declared.answers.LastQuestion.{LastQuestion}
 use Rattle.hw_types.specs.Real.{CoreState}
 use Rattle.hw_horizon.specs.Search.{start_of}
 use Rattle.hw_core.specs.Shown.{IsStartNow, is_about}
