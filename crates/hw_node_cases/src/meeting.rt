@@ -2,8 +2,8 @@
 //!
 //! CONFIG, BODY, BYTES and the vertices are hexadecimal digits, and what a peer SAYS is a script of them, as in the
 //! section `session`. LEFT, RIGHT and HAS are the vertices that a node was given before, each with a true verdict.
-//! FALSE are those to which it gives a false one. Each list is joined by `,`, or `-` for none. A read gives and a write takes
-//! at most PIECE bytes. The call of the door of number FAULT fails, counted from 0, or none for `-`.
+//! FALSE are those to which it gives a false one. Each list is joined by `,`, or `-` for none. A read gives and a write
+//! takes at most PIECE bytes. The call of the door of number FAULT fails, counted from 0, or none for `-`.
 //!
 //! The lines, and what each answers:
 //!
