@@ -30,11 +30,6 @@ abbrev pub Reads : {A : Type 0} → (CoreState → Result A Fault → Type 0) �
 Reads Is None r new = (r ≡ Err fault.Empty) × (new ≡ None)
 Reads Is (Some core) r new = Is core r × (new ≡ Some core)
 
--- a node is asked, and stays as it is but for its last question
-abbrev pub Asks : {A : Type 0} → (CoreState → Result A Fault → Type 0) → Option CoreState → Result A Fault → Option CoreState → Type 0
-Asks Is None r new = (r ≡ Err fault.Empty) × (new ≡ None)
-Asks Is (Some old) r new = (core : CoreState) × (new ≡ Some core) × Is old r × (core.config ≡ old.config) × (core.journal ≡ old.journal)
-
 -- two nodes are read, and stay as they are
 abbrev pub ReadsBoth : {A : Type 0} → (CoreState → CoreState → Result A Fault → Type 0) → Option CoreState → Option CoreState → Result A Fault → Option CoreState → Option CoreState → Type 0
 ReadsBoth Is None right r left_new right_new = (r ≡ Err fault.Empty) × (left_new ≡ None) × (right_new ≡ right)

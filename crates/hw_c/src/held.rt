@@ -3,7 +3,7 @@
 ghost use Rattle.std.specs.Prelude.{◌≡◌, None};
 ghost use Rattle.hw_c.specs.Audits.{IsAudit};
 ghost use Rattle.hw_c.specs.Calls.{IsEntry, IsSummary, IsObserved, IsPlaced, IsDecided, IsUnmet};
-ghost use Rattle.hw_c.specs.Handles.{Begins, Ends, Delivers, Reads, Asks, ReadsBoth};
+ghost use Rattle.hw_c.specs.Handles.{Begins, Ends, Delivers, Reads, ReadsBoth};
 ghost use Rattle.hw_c.specs.Light.{IsCertificate};
 ghost use Rattle.hw_c.specs.Needed.{IsForNeed};
 ghost use Rattle.hw_c.specs.Steps.{IsStep};
@@ -177,7 +177,7 @@ pub fn read_next(
 
 /// The certificate of the decided block of that place, as bytes.
 pub fn read_certificate(alloc: Global, core: &mut Handle, index: u64) -> Result<Bytes, Fault>
-    ensures { Asks (λ c. IsCertificate c index) core.old.held result core.new.held }
+    ensures { Reads (λ c. IsCertificate c index) core.old.held result core.new.held }
 {
     let Some(mut node) = core.take(alloc) else {
         return Err(Fault::Empty);

@@ -22,7 +22,7 @@ ghost use Rattle.hw_c.specs.declared.steps.Step.{Step};
 ghost use Rattle.hw_c.specs.Audits.{IsAudit, IsAuditPut};
 ghost use Rattle.hw_c.specs.Buffers.{IsWritten};
 ghost use Rattle.hw_c.specs.Calls.{IsSigned, IsEntry, IsSummary, IsObserved, IsPlaced, IsDecided, IsUnmet, IsWithSignature};
-ghost use Rattle.hw_c.specs.Handles.{Begins, Ends, Delivers, Reads, Asks, ReadsBoth};
+ghost use Rattle.hw_c.specs.Handles.{Begins, Ends, Delivers, Reads, ReadsBoth};
 ghost use Rattle.hw_c.specs.Light.{IsCertificate, IsCertifiedSigned, IsJudged};
 ghost use Rattle.hw_c.specs.Needed.{IsForNeed};
 ghost use Rattle.hw_c.specs.Settings.{IsConfig};
@@ -282,7 +282,7 @@ pub extern "C" fn hw_certificate(
     buf: &mut [u8],
     len: &mut usize,
 ) -> u32
-    ensures { (r : Result (List ℕ) Fault) × Asks (λ c. IsCertificate c index) core.old.held r core.new.held × IsWritten r buf.old buf.new len.old len.new × (result ≡ status r) }
+    ensures { (r : Result (List ℕ) Fault) × Reads (λ c. IsCertificate c index) core.old.held r core.new.held × IsWritten r buf.old buf.new len.old len.new × (result ≡ status r) }
 {
     let outcome = held::read_certificate(alloc, core, index);
     put_bytes(outcome, buf, len)

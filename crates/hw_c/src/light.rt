@@ -33,10 +33,7 @@ pub struct Judged {
 /// The certificate of the decided block of that place, as bytes.
 pub fn certificate(alloc: Global, core: &mut Core, index: u64) -> Result<Bytes, Fault>
     ensures made { IsCertificate core.old index result }
-
-    // The node is as it was, but for what it was asked last.
-    ensures config { core.new.config ≡ core.old.config }
-    ensures journal { core.new.journal ≡ core.old.journal }
+    ensures unchanged { core.new ≡ core.old }
 {
     if index >= core.decision_count() {
         return Err(Fault::OutOfRange);

@@ -12,7 +12,6 @@ pub mod EvidenceLaws
 pub mod MadeLaws
 pub mod CertifyLaws
 pub mod SummitLaws
-pub mod QuestionLaws
 pub mod PutLaws
 pub mod FindLaws
 pub mod AskedLaws

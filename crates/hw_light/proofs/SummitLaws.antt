@@ -1,6 +1,6 @@
 -- The units under a summit, of a node and of its state.
-use Rattle.std.proofs.Common.{◌≡◌, ℕ, zero, suc, ◌+◌, ◌<◌, ◌≤◌, inl, inr, true, List, [], ◌∷◌, ◌++◌, length, map, Some, None, sym, ap, subst, ◌∙◌, arith}
-use Rattle.std.specs.Prelude.{filter, IfOk, Result, Ok, Err, slice_get}
+use Rattle.std.proofs.Common.{◌≡◌, ℕ, zero, suc, ◌+◌, ◌<◌, ◌≤◌, inl, inr, Bool, true, List, [], ◌∷◌, ◌++◌, length, map, Option, Some, None, sym, ap, subst, ◌∙◌, arith}
+use Rattle.std.specs.Prelude.{◌↔◌, filter, IsTrue, IfSome, IfNone, slice_get}
 use Rattle.std.specs.List.{range_with_len}
 use Rattle.std.proofs.lemmas.Bool.{cases_lt}
 use Rattle.std.proofs.lemmas.List.{length-map}
@@ -25,7 +25,7 @@ use Rattle.hw_admit.specs.State.{NodeState}
 use Rattle.hw_core.proofs.CountLaws.{graph_length}
 use Rattle.hw_core.specs.Decided.{decided_in}
 use Rattle.hw_core.specs.Readers.{exceeded_in}
-use Rattle.hw_core.specs.Shown.{HasSummitNow}
+use Rattle.hw_core.specs.Shown.{IsDecidedBlock, HasSummitNow}
 use Rattle.hw_light.specs.declared.certificate.Certificate.{Certificate}
 use Rattle.hw_light.specs.declared.answers.Certified.{Certified}
 use Rattle.hw_light.specs.declared.answers.Certified.TheVariants.{Made, NotNow, TooLong}
@@ -33,7 +33,7 @@ use Rattle.hw_light.specs.Standing.{IsStateOf}
 use Rattle.hw_light.specs.Extract.{is_under, ComeAfterCited, IsSettlingOrder, vertices_for}
 use Rattle.hw_light.specs.Certify.{IsGreatestNow, AreVerticesOf, IsCertifiedAs, IsCounted}
 use Rattle.hw_light.specs.Under.{nodes_at, AreUnder}
-use Rattle.hw_light.proofs.StandingLaws.{same_unit, summit_here}
+use Rattle.hw_light.proofs.StandingLaws.{same_unit, summit_here, summit_there}
 use Rattle.hw_light.proofs.UnderLaws.{units_by_number}
 
 -- ---- the order in which units settled
@@ -87,53 +87,75 @@ module _ (core : CoreState) (state : NodeState) (of : IsStateOf core state) wher
       subst (λ (p : List Obs). nodes_at dag numbers ≡ filter (is_under (settled_in core) p c) order) of.panorama
       (subst (λ (xs : List Node). nodes_at dag numbers ≡ filter (is_under xs (observations dag state.panorama) c) order) of.settled e)
 
-  module _ (index : ℕ) (d : Decision) (at : slice_get (decided_in core) index ≡ Some d) (now : HasSummitNow core index) where
-    one_decision : now.decision ≡ d
-    one_decision = let both : Some now.decision ≡ Some d = sym now.is.at ∙ at in cc
+  -- what is said of parts of the state is said of the state
+  of_parts : (P : Config → UnitGraph → List View → Type 0) (config : Config) (given : UnitGraph) (panorama : List View) → config ≡ state.config → given ≡ dag → panorama ≡ state.panorama → P config given panorama → P state.config dag state.panorama
+  of_parts P config given panorama e f g said =
+      subst (λ (p : List View). P state.config dag p) g (subst (λ (h : UnitGraph). P state.config h panorama) f (subst (λ (k : Config). P k given panorama) e said))
 
-    block_named : now.block.digest ≡ d.block
-    block_named = now.is.name ∙ ap (λ (e : Decision). e.block) one_decision
+  module _ (index : ℕ) (d : Decision) (at : slice_get (decided_in core) index ≡ Some d) where
+    one_decision : (now : HasSummitNow core index) → now.decision ≡ d
+    one_decision now = let both : Some now.decision ≡ Some d = sym now.is.at ∙ at in cc
 
-    -- the decided block is in the graph
-    pub block_known : IsNew dag d.block → ⊥
-    block_known new =
+    block_named : (now : HasSummitNow core index) → now.block.digest ≡ d.block
+    block_named now = now.is.name ∙ ap (λ (e : Decision). e.block) (one_decision now)
+
+    -- a block that isn't in the graph has no summit
+    pub block_known : IsNew dag d.block → HasSummitNow core index → ⊥
+    block_known new now =
         let m = among_node dag now.block (subst (λ (xs : List Node). Among now.block xs) (sym of.settled) now.is.settled) in
-        new m.0 m.1 (ap (λ (y : Node). y.digest) m.2 ∙ block_named)
+        new m.0 m.1 (ap (λ (y : Node). y.digest) m.2 ∙ block_named now)
+
+    abbrev SummitBy : ℕ → Config → UnitGraph → List View → Type 0
+    SummitBy n config given panorama = HasSummit config.weights (graph given) (observations given panorama) (node_at given n) d.level d.quorum
+
+    abbrev GreatestBy : Committees → ℕ → Config → UnitGraph → List View → Type 0
+    GreatestBy c n config given panorama = IsGreatest config.weights (graph given) (observations given panorama) (node_at given n) d.level d.quorum c
 
     module _ (n : ℕ) (lt : n < count_of dag) (name : (unit_at dag n).digest ≡ d.block) where
-      the_block : node_at dag n ≡ now.block
-      the_block = same_unit core state of d.block n lt name now.block now.is.settled block_named
+      -- the unit of that number is the decided block
+      is_block : IsDecidedBlock core index d (node_at dag n)
+      is_block = record {
+        at = at;
+        settled = subst (λ (xs : List Node). Among (node_at dag n) xs) of.settled (node_among dag of.graph_is n lt);
+        name = name;
+      }
 
-      -- it has a summit there
-      pub summit_in_state : HasSummit state.config.weights (graph dag) (observations dag state.panorama) (node_at dag n) d.level d.quorum
-      summit_in_state = subst (λ (x : Node). HasSummit state.config.weights (graph dag) (observations dag state.panorama) x d.level d.quorum) (sym the_block)
-          (summit_here core state of d.block now.block d.level d.quorum (subst (λ (e : Decision). HasSummit core.config.weights (settled_in core) (panorama_in core) now.block e.level e.quorum) one_decision now.summit))
+      -- it has a summit there where the decided block has one now
+      summit_in_state : HasSummitNow core index → SummitBy n state.config dag state.panorama
+      summit_in_state now =
+          let same = same_unit core state of d.block n lt name now.block now.is.settled (block_named now) in
+          subst (λ (x : Node). HasSummit state.config.weights (graph dag) (observations dag state.panorama) x d.level d.quorum) (sym same)
+          (summit_here core state of d.block now.block d.level d.quorum (subst (λ (e : Decision). HasSummit core.config.weights (settled_in core) (panorama_in core) now.block e.level e.quorum) (one_decision now) now.summit))
+
+      -- and only there
+      summit_in_core : SummitBy n state.config dag state.panorama → HasSummitNow core index
+      summit_in_core summit = record { decision = d; block = node_at dag n; is = is_block; summit = summit_there core state of d.block (node_at dag n) d.level d.quorum summit }
 
       -- whose greatest is the node's
-      pub greatest_of : (c : Committees) → IsGreatest state.config.weights (graph dag) (observations dag state.panorama) (node_at dag n) d.level d.quorum c → IsGreatestNow core index d c
-      greatest_of c g = record {
+      greatest_in_core : (c : Committees) → GreatestBy c n state.config dag state.panorama → IsGreatestNow core index d c
+      greatest_in_core c g = record {
         block = node_at dag n;
-        is = record {
-          at = at;
-          settled = subst (λ (x : Node). Among x (settled_in core)) (sym the_block) now.is.settled;
-          name = name;
-        };
+        is = is_block;
         greatest = subst (λ (k : Config). IsGreatest k.weights (settled_in core) (panorama_in core) (node_at dag n) d.level d.quorum c) of.config
             (subst (λ (p : List Obs). IsGreatest state.config.weights (settled_in core) p (node_at dag n) d.level d.quorum c) of.panorama
             (subst (λ (xs : List Node). IsGreatest state.config.weights xs (observations dag state.panorama) (node_at dag n) d.level d.quorum c) of.settled g));
       }
 
-    -- the search that found it, over parts of the state
-    pub greatest_from : (config : Config) (given : UnitGraph) (panorama : List View) → config ≡ state.config → given ≡ dag → panorama ≡ state.panorama → (n : ℕ) → n < count_of given → (unit_at given n).digest ≡ d.block → (c : Committees)
-        → (HasSummit config.weights (graph given) (observations given panorama) (node_at given n) d.level d.quorum → IsGreatest config.weights (graph given) (observations given panorama) (node_at given n) d.level d.quorum c)
-        → IsGreatestNow core index d c
-    greatest_from config given panorama e f g n lt name c search =
-        let here = subst (λ (k : Config). HasSummit k.weights (graph dag) (observations dag state.panorama) (node_at dag n) d.level d.quorum → IsGreatest k.weights (graph dag) (observations dag state.panorama) (node_at dag n) d.level d.quorum c) e
-        (subst (λ (p : List View). HasSummit config.weights (graph dag) (observations dag p) (node_at dag n) d.level d.quorum → IsGreatest config.weights (graph dag) (observations dag p) (node_at dag n) d.level d.quorum c) g
-        (subst (λ (h : UnitGraph). HasSummit config.weights (graph h) (observations h panorama) (node_at h n) d.level d.quorum → IsGreatest config.weights (graph h) (observations h panorama) (node_at h n) d.level d.quorum c) f search)) in
-        let within = subst (λ (h : UnitGraph). n < count_of h) f lt in
-        let named = subst (λ (h : UnitGraph). (unit_at h n).digest ≡ d.block) f name in
-        greatest_of n within named c (here (summit_in_state n within named))
+    -- what a search answers, over parts of the state
+    module _ (config : Config) (given : UnitGraph) (panorama : List View) (e : config ≡ state.config) (f : given ≡ dag) (g : panorama ≡ state.panorama) (n : ℕ) (lt : n < count_of given) (name : (unit_at given n).digest ≡ d.block) (found : Bool) where
+      within : n < count_of dag
+      within = subst (λ (h : UnitGraph). n < count_of h) f lt
+
+      named : (unit_at dag n).digest ≡ d.block
+      named = subst (λ (h : UnitGraph). (unit_at h n).digest ≡ d.block) f name
+
+      pub found_exact : (IsTrue found ↔ SummitBy n config given panorama) → IsTrue found ↔ HasSummitNow core index
+      found_exact exact =
+          let here : IsTrue found ↔ SummitBy n state.config dag state.panorama = of_parts (λ (k : Config) (h : UnitGraph) (p : List View). IsTrue found ↔ SummitBy n k h p) config given panorama e f g exact in
+          (λ yes. summit_in_core n within named (here.0 yes), λ now. here.1 (summit_in_state n within named now))
+
+      pub found_greatest : (c : Committees) → (IsTrue found → GreatestBy c n config given panorama) → IsTrue found → IsGreatestNow core index d c
+      found_greatest c kept yes = greatest_in_core n within named c (of_parts (GreatestBy c n) config given panorama e f g (kept yes))
 
   -- ---- the answer
 
@@ -167,7 +189,9 @@ module _ (core : CoreState) (state : NodeState) (of : IsStateOf core state) wher
     room = subst (λ (k : Config). length made.vertices ≤ k.max_records) same (subst (λ (vs : List Vertex). length vs ≤ config.max_records) (sym (ap (λ (m : Certificate). m.vertices) counted.0)) counted.1);
   }
 
--- both of what is said of an answer
-pub both_ok : {T E : Type 0} (r : Result T E) (P Q R : T → Type 0) → ((x : T) → P x → Q x → R x) → IfOk r P → IfOk r Q → IfOk r R
-both_ok (Ok x) P Q R f a b = f x a b
-both_ok (Err e) P Q R f a b = tt
+-- what is said of what was found
+pub some_is : {T : Type 0} (found : Option T) (x : T) (P : T → Type 0) → found ≡ Some x → IfSome found P → P x
+some_is found x P e said = subst (λ o. IfSome o P) e said
+
+pub none_is : {T : Type 0} (found : Option T) (P : Type 0) → found ≡ None → IfNone found P → P
+none_is found P e said = subst (λ o. IfNone o P) e said

@@ -41,10 +41,7 @@ pub fn certify_block(alloc: Global, core: &mut Core, block: &Digest) -> Result<A
     // A certificate is answered yes where its signatures are right, and it may be spelled.
     ensures yes { IfOk result (IfAnswered IsYesFor) }
     ensures fits { IfOk result (IfAnswered CertificateFits) }
-
-    // The node is as it was, but for what it was asked last.
-    ensures config { core.new.config ≡ core.old.config }
-    ensures journal { core.new.journal ≡ core.old.journal }
+    ensures unchanged { core.new ≡ core.old }
 {
     match decision_of(core, block) {
         Some(index) => Ok(Asked::Answered(certify(alloc, core, index)?)),

@@ -2,7 +2,7 @@
 
 ghost use Rattle.std.specs.{Prelude.{◌≡◌, ◌<◌, length, None, Some, slice_get, IfOk}, List.{All}};
 ghost use Rattle.hw_types.specs.{Limits.{config_fault}, Spelling.{VertexFits}};
-ghost use Rattle.hw_core.specs.{Decided.{decided_in}, Readers.{exceeded_in}, Shown.{HasSummitNow}};
+ghost use Rattle.hw_core.specs.{Decided.{decided_in}, Readers.{exceeded_in}};
 ghost use Rattle.hw_light.specs.{Spelling.{CertificateFits}, Certify.{IsCertifiedAs, IsCounted, IfMade, IsYesFor}};
 
 use crate::answers::Certified;
@@ -33,10 +33,7 @@ pub fn certify(alloc: Global, core: &mut Core, index: u64) -> Result<Certified, 
 
     // It may be spelled.
     ensures fits { IfOk result (IfMade CertificateFits) }
-
-    // The node is as it was, but for what it was asked last.
-    ensures config { core.new.config ≡ core.old.config }
-    ensures journal { core.new.journal ≡ core.old.journal }
+    ensures unchanged { core.new ≡ core.old }
 {
     if core.exceeded().is_some() {
         return Ok(Certified::NotNow);
@@ -45,26 +42,9 @@ pub fn certify(alloc: Global, core: &mut Core, index: u64) -> Result<Certified, 
 }
 
 /// The certificate of the decided block of that place, if it has a summit now. The faulty don't weigh too much.
-fn certify_if_standing(alloc: Global, core: &mut Core, index: u64) -> Result<Certified, OutOfMemory>
-    requires known { index < length (decided_in core.old) }
-    requires few_faulty { exceeded_in core.old ≡ None }
-    ensures answer { IfOk result (IsCertifiedAs core.old index) }
-    ensures yes { IfOk result (IfMade IsYesFor) }
-    ensures fits { IfOk result (IfMade CertificateFits) }
-    ensures config { core.new.config ≡ core.old.config }
-    ensures journal { core.new.journal ≡ core.old.journal }
-{
-    if !core.summit_now(index) {
-        return Ok(Certified::NotNow);
-    }
-    certify_standing(alloc, core, index)
-}
-
-/// The certificate of the decided block of that place, which has a summit now.
-fn certify_standing(alloc: Global, core: &Core, index: u64) -> Result<Certified, OutOfMemory>
+fn certify_if_standing(alloc: Global, core: &Core, index: u64) -> Result<Certified, OutOfMemory>
     requires known { index < length (decided_in core.now) }
     requires few_faulty { exceeded_in core.now ≡ None }
-    requires stands { HasSummitNow core.now index }
     ensures answer { IfOk result (IsCertifiedAs core.now index) }
     ensures yes { IfOk result (IfMade IsYesFor) }
     ensures fits { IfOk result (IfMade CertificateFits) }
@@ -73,7 +53,9 @@ fn certify_standing(alloc: Global, core: &Core, index: u64) -> Result<Certified,
     let config = state.config();
     let dag = state.dag();
     let decision = core.decision(index);
-    let numbers = summit_units(alloc, core, state, decision, index)?;
+    let Some(numbers) = summit_units(alloc, core, state, decision, index)? else {
+        return Ok(Certified::NotNow);
+    };
     let vertices = vertices_for(alloc, core, dag, numbers.as_slice())?;
     counted(config, decision.block, vertices)
 }

@@ -1,6 +1,6 @@
 //! The units under the summit of a decided block.
 
-ghost use Rattle.std.specs.Prelude.{◌≡◌, ◌<◌, Some, slice_get, IfOk};
+ghost use Rattle.std.specs.Prelude.{◌≡◌, ◌↔◌, Some, slice_get, IsTrue, IfOk, IfSome, IfNone};
 ghost use Rattle.hw_horizon.specs.Search.{committees_of};
 ghost use Rattle.hw_core.specs.{Decided.{decided_in}, Shown.{HasSummitNow}};
 ghost use Rattle.hw_light.specs.{Standing.{IsStateOf, IsFresh}, Certify.{IsGreatestNow}, Under.{AreUnder}};
@@ -15,44 +15,48 @@ use hw_types::{Decision, OutOfMemory};
 use std::alloc::Global;
 
 /// The numbers of the units at or below the latest units of the first committee of the greatest summit
-/// that this decided block has now, in the order in which they settled.
+/// that this decided block has now, in the order in which they settled. None exactly where it has no summit
+/// now.
 pub(crate) fn summit_units(
     alloc: Global,
     core: &Core,
     state: &State,
     decision: &Decision,
     index: u64,
-) -> Result<Vec<UnitNo>, OutOfMemory>
+) -> Result<Option<Vec<UnitNo>>, OutOfMemory>
     requires of { IsStateOf core.now state.now }
     requires at { slice_get (decided_in core.now) index ≡ Some decision.now }
-    requires stands { HasSummitNow core.now index }
-    ensures { IfOk result (λ numbers. AreUnder core.now index decision.now state.now.dag numbers.items) }
+    ensures under { IfOk result (λ found. IfSome found (λ numbers. AreUnder core.now index decision.now state.now.dag numbers.items)) }
+    ensures none { IfOk result (λ found. IfNone found (HasSummitNow core.now index → ⊥)) }
 {
     let mut search = search_for(alloc, core)?;
-    find_summit(&mut search, core, state, decision, index);
-    numbers_under(alloc, &search, state.dag(), state.panorama())
+    if !find_summit(&mut search, core, state, decision, index) {
+        return Ok(None);
+    }
+    let numbers = numbers_under(alloc, &search, state.dag(), state.panorama())?;
+    Ok(Some(numbers))
 }
 
-/// Finds the greatest summit that this decided block has now.
-fn find_summit(search: &mut Horizons, core: &Core, state: &State, decision: &Decision, index: u64)
+/// Whether this decided block has a summit now. The search then keeps the greatest.
+fn find_summit(
+    search: &mut Horizons,
+    core: &Core,
+    state: &State,
+    decision: &Decision,
+    index: u64,
+) -> bool
     requires fresh { IsFresh search.old core.now.config }
     requires of { IsStateOf core.now state.now }
     requires at { slice_get (decided_in core.now) index ≡ Some decision.now }
-    requires stands { HasSummitNow core.now index }
-    ensures { IsGreatestNow core.now index decision.now (committees_of search.new) }
+    ensures exact { IsTrue result ↔ HasSummitNow core.now index }
+    ensures greatest { IsTrue result → IsGreatestNow core.now index decision.now (committees_of search.new) }
 {
     let dag = state.dag();
     let weights = &state.config().weights;
     let panorama = state.panorama();
-    let Some(block) = dag.find(&decision.block) else {
-        unreachable!()
-    };
-    let _found = search.greatest(
-        dag,
-        weights,
-        panorama,
-        block,
-        decision.level,
-        decision.quorum,
-    );
+    let level = decision.level;
+    match dag.find(&decision.block) {
+        Some(block) => search.greatest(dag, weights, panorama, block, level, decision.quorum),
+        None => false,
+    }
 }
