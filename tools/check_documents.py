@@ -9,7 +9,7 @@ It reads README.md, docs/*.md and the READMEs below bindings/, and says each pla
 - in the table of docs/ARCHITECTURE.md that has a column "Stands on", a row that says other crates than crates.txt does,
   and a crate that no row names.
 
-It also says lines above 120 columns, tables and quoted text left out. `--write` writes the column anew in place of
+It also says lines above 120 columns, tables and quoted text left out, and the marks that a merge leaves. `--write` writes the column anew in place of
 saying that it is wrong. The status is 1 where anything was said, and 2 where the repository can't be read."""
 
 import argparse
@@ -25,6 +25,7 @@ QUOTED = re.compile(r"`([^`]+)`")
 CRATE = re.compile(r"\bhw_[a-z0-9_]*[a-z0-9]\b")
 NAME = re.compile(r"[A-Za-z_][A-Za-z0-9_]*(?:::[A-Za-z_][A-Za-z0-9_]*)*")
 COLUMN = "Stands on"
+MERGE = re.compile(r"<{7} |={7}$|>{7} ")
 # Names of others, and the shortest name that is no variable of a formula.
 OTHERS = {"highway_core"}
 SHORTEST = 3
@@ -97,6 +98,8 @@ def faults_of(page, root, crates, words):
     """What is wrong with a page, line by line."""
     for number, line in prose(page.read_text(encoding="utf-8")):
         said = [*lacking_paths(page, root, line), *lacking_names(line, crates, words)]
+        if MERGE.match(line):
+            said.append("is the mark of a merge")
         if len(line) > WIDTH and not line.lstrip().startswith("|") and not LINK.search(line):
             said.append(f"has {len(line)} columns, above {WIDTH}")
         for what in said:

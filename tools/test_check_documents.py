@@ -47,6 +47,11 @@ class Documents(unittest.TestCase):
         self.assertEqual(self.said()[0], 1)
         self.assertIn("README.md:1: links to docs/NONE.md", self.said()[1])
 
+    def test_the_marks_of_a_merge(self):
+        self.put("README.md", "<<<<<<< HEAD\none\n=======\nother\n>>>>>>> side\n")
+        status, said = self.said()
+        self.assertEqual((status, said.count("is the mark of a merge")), (1, 3))
+
     def test_a_crate_that_is_none(self):
         self.put("README.md", "\nIn hw_none.\n")
         self.assertIn("README.md:2: names hw_none", self.said()[1])

@@ -30,14 +30,14 @@ fn main(rt: HostRuntime) -> ExitCode {
     ExitCode::from(run(rt).unwrap_or(OUT_OF_MEMORY))
 }
 
-/// Runs with the words behind the program's name.
+/// Runs with the words after the program's name.
 fn run(rt: HostRuntime) -> Result<u8, OutOfMemory> {
     let words = command_line(&rt)?;
     run_on_host(rt, &words)
 }
 
 /// Runs over the files, the output, the clock and the network of the host. The values of decided blocks go into a
-/// file, and their count onto standard error; a person is told of a consumer that is dropped. Where the words ask to
+/// file, and their count onto standard error; a consumer that is dropped is reported there. Where the words ask to
 /// serve or to host, the door listens at their address. The log of a node that runs is appended to by this process
 /// alone.
 fn run_on_host(rt: HostRuntime, words: &Words) -> Result<u8, OutOfMemory> {

@@ -1,4 +1,4 @@
-//! What a person is told whose words are in no command's grammar, or name a validator that there isn't.
+//! What is printed for words that are in no command's grammar, or name a validator that there isn't.
 //!
 //! Which words are in a grammar is `Request::of`'s to say. Here is found what is wrong first with words that are in
 //! none, as a person reads them: how many there are before what they say.
@@ -9,7 +9,7 @@ use hw_program::{
 };
 use hw_text::number_up_to;
 
-/// A command, how many words stand behind it, and which of them are numbers.
+/// A command, how many words come after it, and which of them are numbers.
 #[derive(Clone, Copy)]
 struct Form<'c> {
     command: &'c str,
@@ -18,7 +18,7 @@ struct Form<'c> {
     numbers: &'static [Number],
 }
 
-/// A word that is a number: its place behind the command, its name, and its range.
+/// A word that is a number: its place after the command, counted from 0, its name, and its range.
 #[derive(Clone, Copy)]
 struct Number {
     place: usize,
@@ -109,7 +109,7 @@ const COMMANDS: &str = "highway: the words are one of these; none is empty or be
   meet CONFIG KEYS LOG PEER
 ";
 
-/// Tells on standard error which word is wrong, where that can be told, and all commands.
+/// Writes on standard error which word is wrong, where that can be said, and all commands.
 pub fn tell_usage(rt: &impl Eprint, words: &[String], request: &Request<'_>) {
     match request {
         Request::Node(NodeCommand::Run { .. }) => {
@@ -120,7 +120,7 @@ pub fn tell_usage(rt: &impl Eprint, words: &[String], request: &Request<'_>) {
     let _ = eprint!(rt; "{COMMANDS}");
 }
 
-/// Tells the first thing that is wrong with these words.
+/// Writes the first thing that is wrong with these words.
 fn tell_wrong_word(rt: &impl Eprint, words: &[String]) {
     let Some((command, rest)) = words.split_first() else {
         let _ = eprintln!(rt; "highway: there is no command, or a word is no text");
@@ -164,7 +164,7 @@ fn form_of(command: &str) -> Option<Form<'_>> {
     })
 }
 
-/// Tells what is wrong with the words behind a command.
+/// Writes what is wrong with the words after a command.
 fn tell_of_form(rt: &impl Eprint, form: &Form<'_>, words: &[String]) {
     let (command, count) = (form.command, words.len());
     if count < form.least || form.most < count {
@@ -182,7 +182,7 @@ fn tell_of_form(rt: &impl Eprint, form: &Form<'_>, words: &[String]) {
     }
 }
 
-/// Tells that so many words stand behind a command, which takes fewer or more.
+/// Writes that `count` words come after a command, which takes fewer or more.
 fn tell_count(rt: &impl Eprint, form: &Form<'_>, count: usize) {
     let (command, least, most) = (form.command, form.least, form.most);
     let _ = if least == most {
@@ -192,7 +192,7 @@ fn tell_count(rt: &impl Eprint, form: &Form<'_>, count: usize) {
     };
 }
 
-/// Tells what is left to be wrong where the count of words and their numbers are right.
+/// Writes what is left to be wrong where the count of words and their numbers are right.
 fn tell_of_other_words(rt: &impl Eprint, command: &str) {
     let _ = match command {
         "certify" => eprintln!(rt; "highway: BLOCK of `certify` isn't 64 digits 0 to 9 and a to f"),

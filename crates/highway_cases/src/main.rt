@@ -37,7 +37,7 @@
 //!   append that takes none, some or all of the bytes, and a failure at each call of the files and each write;
 //!   `replay`, `explain` and `audit` of a migrated log;
 //! - `replay` with consumers that take the calls of a plan: all of them, none, a failing second block, a failing end,
-//!   two that fail at different blocks, a log that is torn behind a decided block, a missing file;
+//!   two that fail at different blocks, a log that is torn after a decided block, a missing file;
 //! - `certify` on ten logs, of each first three decided blocks, of other digests, with other words, a new file that
 //!   is there, the log's own name for it, and failing reads, appends and writes; `check` of a certificate cut at each
 //!   kind of place and with a byte changed in each field, of each limit of its configuration, by wrong, short and

@@ -31,7 +31,7 @@ pub fn node_run(rt: HostRuntime, answer: &mut Answer, names: &str, words: &[&str
     put_sessions(answer, &outside.door);
 }
 
-/// Lets the node run, and tells the status and what was written.
+/// Lets the node run, and puts the status and what was written.
 fn run_in(answer: &mut Answer, outside: &mut Outside, moments: &str, command: &[&str]) {
     let Outside { files, out, door } = outside;
     let words = words_of(answer, command);
@@ -95,7 +95,7 @@ fn clock_of(answer: &mut Answer, words: &str) -> Moments {
     Moments::new(moments)
 }
 
-/// Tells the bytes of the node's log, which is the fourth word of the command line.
+/// Puts the bytes of the node's log, which is the fourth word of the command line.
 fn put_log(answer: &mut Answer, files: &MemFiles, command: &[&str]) {
     answer.put("log ");
     match command {
@@ -104,7 +104,7 @@ fn put_log(answer: &mut Answer, files: &MemFiles, command: &[&str]) {
     }
 }
 
-/// Tells what the node wrote in each session.
+/// Puts what the node wrote in each session.
 fn put_sessions(answer: &mut Answer, door: &MemDoor) {
     for session in door.sessions() {
         answer.put("\nwrote ");

@@ -10,7 +10,7 @@ use hw_io::{Consumer, Files, IoFault};
 use hw_program::{Words, highway};
 use std::alloc::Global;
 
-/// Files in memory with these of the real ones, changed at places. A read gives at most so many bytes as the word says,
+/// Files in memory with these of the real ones, changed at places. A read gives at most as many bytes as the word says,
 /// or as many as there is room for.
 pub fn files_of(
     rt: HostRuntime,

@@ -24,7 +24,7 @@ impl Planned {
         }
     }
 
-    /// The next call of the plan, nothing behind the last one.
+    /// The next call of the plan, nothing after the last one.
     fn next_call(&self) -> &str {
         self.plan.as_str().split(',').nth(self.next).unwrap_or("")
     }

@@ -13,7 +13,8 @@ pub struct Parting {
     pub right: Digest,
 }
 
-/// Where the two chains part first, if both go on so far.
+/// The least height at which the two chains have different blocks, with both blocks. None where one begins the
+/// other.
 pub fn first_parting(left: &[Digest], right: &[Digest]) -> Option<Parting>
     ensures { result ≡ parting_of left.now right.now }
 {

@@ -1,4 +1,4 @@
-//! The units that stand in a journal.
+//! The units that are in a journal.
 
 ghost use Rattle.std.specs.Prelude.{◌≡◌, List, ◌∷◌, ◌++◌, true, OnOk, IfOk};
 ghost use Rattle.hw_types.specs.{declared.unit.Vertex.{Vertex as Accepted}, Spelling.{Fits, VertexFits, digest_of}};
@@ -12,12 +12,12 @@ use hw_types::{Digest, OutOfMemory, SignedUnit, Vertex, WireUnit, is_same_unit};
 use std::alloc::Global;
 use std::marker::Model;
 
-/// A unit that stands in a journal, under its name.
+/// A unit that is in a journal, under its name.
 #[derive(Drop)]
 pub struct Held<'a> {
     name: Digest,
     signed: &'a SignedUnit,
-    /// Whether the journal shows it: it is settled, or stands in an evidence.
+    /// Whether the journal shows it: it is settled, or is in an evidence.
     is_shown: bool,
 }
 
@@ -90,7 +90,7 @@ fn is_settled(dag: &Dag, name: &Digest, unit: &WireUnit) -> bool
     requires { name.now ≡ digest_of unit.now }
     ensures { result ≡ is_settled (graph dag.now) unit.now }
 {
-    // For the prover: what stands behind a `Dag` is a graph.
+    // For the prover: what a `Dag` holds is a graph.
     dag.recall_graph();
     match dag.find(name) {
         Some(no) => is_same_unit(&dag.unit(no).signed().unit, unit),

@@ -12,7 +12,7 @@ use hw_types::{Bytes, Config, Culprit, Digest, OutOfMemory};
 use sha2::{Digest as _, Sha256};
 use std::alloc::Global;
 
-/// The status with which a program ends whose audit tells of a conflict.
+/// The status with which a program ends whose audit reports a conflict.
 pub const CONFLICT: u8 = 3;
 
 /// What an audit of two nodes of this configuration prints.

@@ -13,7 +13,7 @@ use std::alloc::Global;
 use std::collections::HashMap;
 use std::marker::Model;
 
-/// Where a unit stands: its creator and its sequence number.
+/// The place of a unit: its creator and its sequence number.
 #[derive(Clone, Copy, PartialEq, Eq, Hash)]
 pub struct LanePlace {
     creator: u32,
@@ -40,7 +40,7 @@ impl<'a> Model for Twins<'a> {
 }
 
 impl Held<'_> {
-    /// Where it stands.
+    /// Its place.
     fn place(&self) -> LanePlace
         ensures { result ≡ place_of self.now }
     {
@@ -151,7 +151,7 @@ fn twins_with<'a>(
     }
 }
 
-/// Notes one unit more, and says whether two different units stand at its place now.
+/// Notes one unit more, and says whether two different units are at its place now.
 fn note_twins<'a>(
     alloc: Global,
     twins: &mut TwinsByPlace<'a>,
@@ -167,7 +167,7 @@ fn note_twins<'a>(
     Ok(two)
 }
 
-/// Lowers the validator's number to this one.
+/// Lowers the validator's least number to this one, where this one is less or there is none.
 fn lower(least: &mut Vec<Option<u64>>, creator: u32, seq: u64)
     ensures { IsLowered least.old.items least.new.items creator seq }
 {
@@ -226,7 +226,7 @@ impl<'a> Pair<'a> {
 }
 
 impl<'a> Equivocations<'a> {
-    /// No unit, of so many validators.
+    /// No unit, of this many validators.
     fn new(alloc: Global, validators: usize) -> Result<Equivocations<'a>, OutOfMemory>
         ensures noted { IfOk result (λ e. AreNoted e.twins.entries e.least.items []) }
         ensures validators { IfOk result (λ e. length e.least.items ≡ validators) }
@@ -237,7 +237,7 @@ impl<'a> Equivocations<'a> {
         })
     }
 
-    /// The units that are shown, of so many validators.
+    /// The units that are shown, of this many validators.
     pub fn of(
         alloc: Global,
         validators: usize,

@@ -13,8 +13,8 @@ use hw_safety::Verdict;
 use hw_types::{Digest, OutOfMemory};
 use std::alloc::Global;
 
-/// The verdict over the units of both journals, those of the left one first, and over both chains of
-/// decided blocks.
+/// The verdict over the units of both journals and over both chains of decided blocks. The left journal's units
+/// come first; there are `middle` of them.
 pub fn verdict<'a>(
     alloc: Global,
     weights: &[u64],

@@ -53,13 +53,13 @@ impl Answer {
         self.keep(put);
     }
 
-    /// Puts the label last, and the number behind it.
+    /// Puts the label last, and the number after it.
     pub fn labelled(&mut self, label: &str, number: u64) {
         self.put(label);
         self.number(number);
     }
 
-    /// Puts the text before its first `#` last, and the number: the text behind that is left.
+    /// Puts the text before its first `#` last, and then the number. Answers the text after that `#`.
     fn fill_one<'a>(&mut self, text: &'a str, number: u64) -> &'a str {
         match text.split_once('#') {
             Some((before, left)) => {
@@ -168,7 +168,7 @@ impl Answer {
         }
     }
 
-    /// So many bytes 0; none where there is no memory for them.
+    /// This many bytes 0; none where there is no memory for them.
     pub fn zeros(&mut self, count: usize) -> Vec<u8> {
         match vec![in self.alloc; 0u8; count] {
             Ok(bytes) => bytes,
@@ -233,14 +233,14 @@ impl Answer {
         }
     }
 
-    /// The answer is refused where this other one was, of which nothing else is told.
+    /// The answer is refused where this other one was. Nothing else of that one is used.
     pub fn join(&mut self, unheard: Answer) {
         if unheard.is_refused {
             self.refuse();
         }
     }
 
-    /// Refuses the answer, for want of memory or since the line isn't of the language.
+    /// Refuses the answer, since memory ran out or the line isn't of the language.
     pub fn refuse(&mut self) {
         self.is_refused = true;
     }

@@ -5,7 +5,7 @@ use crate::words::{after, number_of};
 use hw_types::{Config, IndexList, Items, Leaders};
 use std::str::FromStr;
 
-/// The configuration that the words tell: `weights` with its numbers, and `ftt`, `levels`, `exponents`, `leaders`,
+/// The configuration that the words give: `weights` with its numbers, and `ftt`, `levels`, `exponents`, `leaders`,
 /// `records`, `parked` and `end` with theirs, where they are there.
 pub fn config_of(answer: &mut Answer, words: &[&str]) -> Config {
     let (min_exponent, max_exponent) = exponents_of(words);
@@ -22,7 +22,7 @@ pub fn config_of(answer: &mut Answer, words: &[&str]) -> Config {
     }
 }
 
-/// The leaders by round, up to the first word that is no number; validator 0 alone where none are told.
+/// The leaders by round, up to the first word that is no number; validator 0 alone where none are given.
 fn leaders_of(answer: &mut Answer, words: &[&str]) -> IndexList {
     let mut leaders = numbers_of(answer, words);
     if leaders.len() == 0 {
@@ -50,7 +50,7 @@ fn levels_of(words: &[&str]) -> u8 {
     }
 }
 
-/// The least and the greatest exponent of a round; 4 and 8 where none are told.
+/// The least and the greatest exponent of a round; 4 and 8 where none are given.
 fn exponents_of(words: &[&str]) -> (u8, u8) {
     match after(words, "exponents") {
         [least, greatest, ..] => (least.parse().unwrap_or(0), greatest.parse().unwrap_or(0)),
@@ -58,7 +58,7 @@ fn exponents_of(words: &[&str]) -> (u8, u8) {
     }
 }
 
-/// The limit behind this word, else the usual one.
+/// The limit after this word, else the usual one.
 fn limit_of(words: &[&str], key: &str, usual: u32) -> u32 {
     match after(words, key) {
         [limit, ..] => limit.parse().unwrap_or(usual),

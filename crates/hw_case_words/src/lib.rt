@@ -1,4 +1,4 @@
-//! Configurations and units as the lines of worked cases tell them, and the answers to lines, for the programs that run
+//! Configurations and units as the lines of worked cases give them, and the answers to lines, for the programs that run
 //! such lines.
 #![tactic(auto)]
 

@@ -4,8 +4,8 @@ use crate::answer::Answer;
 use crate::words::{after, digest_of_byte, no_signature, number_of};
 use hw_types::{Bytes, Digest, DigestList, Obs, ObsList, SignedUnit, WireUnit};
 
-/// The unit that the words tell, with this panorama, this list and this number. It is of another instance where they
-/// say `foreign`, and has the bytes of the word behind `block` as its value, where that is there.
+/// The unit that the words give, with this panorama, this list and this number. It is of another instance where they
+/// say `foreign`, and has the bytes of the word after `block` as its value, where that is there.
 pub fn unit_of(
     answer: &mut Answer,
     words: &[&str],
@@ -74,7 +74,7 @@ pub fn own_observation(panorama: &ObsList, words: &[&str]) -> Obs {
     }
 }
 
-/// The number that the words tell of the unit, if they do.
+/// The number of the unit that the words give, if they do.
 pub fn told_number(words: &[&str]) -> Option<u64> {
     match after(words, "number") {
         [number, ..] => number.parse().ok(),

@@ -1,4 +1,4 @@
-//! Vertices that lines tell.
+//! Vertices that lines give.
 
 ghost use Rattle.std.specs.Prelude.{IsTrue};
 ghost use Rattle.hw_types.specs.Spelling.{VertexFits};

@@ -4,7 +4,7 @@ use crate::answer::Answer;
 use hw_types::{Digest, Signature};
 use std::alloc::Global;
 
-/// The words behind this one, none where it isn't there.
+/// The words after this one, none where it isn't there.
 pub fn after<'a, 'b>(words: &'a [&'b str], key: &str) -> &'a [&'b str] {
     match words {
         [first, rest @ ..] => {
@@ -33,7 +33,7 @@ pub fn byte(word: &str) -> u8 {
     word.parse().unwrap_or(0)
 }
 
-/// The number behind this word, else 0.
+/// The number after this word, else 0.
 pub fn number_of(words: &[&str], key: &str) -> u64 {
     match after(words, key) {
         [number, ..] => number.parse().unwrap_or(0),
@@ -109,7 +109,7 @@ pub fn lines_of(answer: &mut Answer, text: &str, sign: u8) -> Vec<u8> {
     bytes
 }
 
-/// The text with line feeds where it has `/`, None for want of memory.
+/// The text with line feeds where it has `/`; none where there is no memory for it.
 pub fn with_line_feeds(alloc: Global, text: &str) -> Option<Vec<u8>> {
     let mut bytes = Vec::new(alloc);
     for byte in text.bytes() {

@@ -250,7 +250,7 @@ fn heard(answer: Answer) -> Acted
     }
 }
 
-/// Whether none of the vertex's signers is one of so many nodes.
+/// Whether none of the vertex's signers is one of this many nodes.
 fn is_foreign(nodes: u64, vertex: &Vertex) -> bool
     ensures { result ≡ is_foreign nodes vertex.now }
 {

@@ -6,8 +6,8 @@ ghost use Rattle.hw_types.specs.declared.config.Leaders.TheVariants.{Drawn};
 use hw_types::{Config, Leaders, OutOfMemory, USUAL_PARKED, USUAL_RECORDS, WeightList};
 use std::alloc::Global;
 
-/// The configuration of so many validators of weight 1, with this threshold and so many levels. Rounds last 16 to 256
-/// milliseconds.
+/// The configuration of this many validators of weight 1, with this threshold and this many levels. Rounds last 16 to
+/// 256 milliseconds.
 pub fn drawn_config(
     alloc: Global,
     key: [u8; 32],
@@ -30,7 +30,7 @@ pub fn drawn_config(
     })
 }
 
-/// So many weights of 1.
+/// This many weights of 1.
 #[tactic(auto, using(std::proofs::lemmas::List::replicate_more))]
 fn ones(alloc: Global, count: u32) -> Result<WeightList, OutOfMemory>
     ensures { IfOk result (λ weights. weights ≡ replicate count 1) }

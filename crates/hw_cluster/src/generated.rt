@@ -21,7 +21,7 @@ use hw_rounds::LeaderTable;
 use hw_types::{Config, OutOfMemory};
 use std::alloc::Global;
 
-/// So many validators make the units of a generated journal.
+/// How many validators make the units of a generated journal.
 const VALIDATORS: u32 = 10;
 
 /// What came of a generated journal.
@@ -35,16 +35,19 @@ pub struct GenSummary {
     pub last: Option<u64>,
 }
 
-/// Gives a node the units of so many rounds, and counts what comes of them.
+/// Gives a node the units of `rounds` rounds, and counts what comes of them.
 ///
 /// There are ten validators of weight 1, a threshold of 3, three levels and 1 to 4,096 rounds of 16 milliseconds. The
-/// key is the SHA-256 digest of the bytes of `gen` and the number's eight bytes; it draws the leaders and gives the
-/// words, those of ChaCha8's first stream. Round j begins at 16 j milliseconds. Its leader makes a block then, whose
-/// value is j as four bytes; each of the others makes a unit 1 millisecond later, over the units up to that block; and
-/// all make one 10 milliseconds after the round's beginning, over the units up to those. These twenty are put into
-/// another order before the node is given them: from the last place down to the second, each changes with the place
-/// that the next word names, modulo how many places there are up to it. Signatures are zero bytes, and are taken for
-/// right.
+/// key is the SHA-256 digest of the bytes of `gen` and the number's eight bytes. It draws the leaders and gives the
+/// words, those of ChaCha8's first stream.
+///
+/// Round j begins at 16 j milliseconds. Its leader makes a block then, whose value is j as four bytes. Each of the
+/// others makes a unit 1 millisecond later, over the units up to that block. All make one 10 milliseconds after the
+/// round's beginning, over the units up to those. Signatures are zero bytes, and are taken for right.
+///
+/// A round's twenty units are put into another order before the node is given them. From the last place down to the
+/// second, each is swapped with the place that the next word names. The word is taken modulo the number of places up
+/// to the one that is swapped.
 ///
 /// Beside the node, no more is kept than one round's units and the names of the validators' last ones. The node's
 /// memory is left to the end of the process.
@@ -82,7 +85,7 @@ fn summary(core: &Core) -> GenSummary
     }
 }
 
-/// What comes of the units of so many rounds, of these ten validators.
+/// What comes of the units of `rounds` rounds, of these ten validators.
 fn totals(
     alloc: Global,
     config: &Config,
@@ -103,7 +106,7 @@ fn totals(
     Ok(ended)
 }
 
-/// Gives the units of so many rounds to a node that received nothing. The words of the key put them into order.
+/// Gives the units of `rounds` rounds to a node that received nothing. The words of the key put them into order.
 fn play(
     alloc: Global,
     core: &mut Core,
@@ -123,7 +126,7 @@ fn play(
     run(core, &mut Words::new(key), &mut lanes, table, rounds)
 }
 
-/// Makes so many rounds one after the other, and gives each round's units to a node.
+/// Makes `rounds` rounds one after the other, and gives each round's units to a node.
 fn run(
     core: &mut Core,
     words: &mut Words,

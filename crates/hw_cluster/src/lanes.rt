@@ -38,7 +38,7 @@ impl Model for Lanes {
 }
 
 impl Lanes {
-    /// So many validators that made nothing.
+    /// This many validators that made nothing.
     pub fn new(alloc: Global, instance: Digest, validators: u32) -> Result<Lanes, OutOfMemory>
         ensures { IfOk result (λ lanes. lanes ≡ record { instance = instance; last = replicate validators None }) }
     {
@@ -112,7 +112,7 @@ impl Lanes {
     }
 }
 
-/// So many validators that made nothing.
+/// This many validators that made nothing.
 #[tactic(auto, using(std::proofs::lemmas::List::replicate_more))]
 fn nothing(alloc: Global, validators: u32) -> Result<Vec<Option<LastUnit>>, OutOfMemory>
     ensures { IfOk result (λ last. last.items ≡ replicate validators None) }
@@ -124,7 +124,7 @@ fn nothing(alloc: Global, validators: u32) -> Result<Vec<Option<LastUnit>>, OutO
     Ok(last)
 }
 
-/// The number of the unit behind this one.
+/// The number of the unit after this one, 0 where there is none.
 fn seq_behind(last: Option<LastUnit>) -> u64
     requires { seq_behind last < 2 ^ 64 }
     ensures { result ≡ seq_behind last }

@@ -9,9 +9,9 @@ pub fn nodes_never_equivocate()
     ensures faulty { NodesAreNeverFaulty }
 {}
 
-/// Where the validators that are no nodes weigh no more than the threshold, no two nodes ever decide blocks that
-/// aren't on one chain, whatever the order of the actions, and whatever is forged; or two different units of
-/// one digest stand in their journals.
+/// Where the validators that are no nodes weigh no more than the threshold, all blocks that two nodes decide are
+/// on one chain. This holds whatever the order of the actions, and whatever is forged, unless two different units
+/// of one digest are in their journals.
 pub fn nodes_agree()
     ensures { NodesDecideOneChain }
 {}

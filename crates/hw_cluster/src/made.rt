@@ -11,13 +11,13 @@ use crate::names::digests_of;
 use hw_types::{Bytes, Digest, OutOfMemory, WireUnit};
 use std::alloc::Global;
 
-/// A round lasts so many milliseconds.
+/// How many milliseconds a round lasts.
 pub const ROUND: u64 = 16;
 
 /// The units of a round, in the order in which they are made.
 ///
-/// The leader makes a block at the round's beginning, with the round's number as its value; the others make a unit 1
-/// millisecond later, over the units up to that block; and all make one 10 milliseconds after the beginning, over the
+/// The leader makes a block at the round's beginning, with the round's number as its value. The others make a unit 1
+/// millisecond later, over the units up to that block. All make one 10 milliseconds after the beginning, over the
 /// units up to those.
 pub fn make_round(
     lanes: &mut Lanes,

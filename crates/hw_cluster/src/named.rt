@@ -9,7 +9,7 @@ use hw_core::{Core, Refused};
 use hw_types::{Cause, Digest, OutOfMemory, Receipt, Signature, SignedUnit, Vertex, WireUnit};
 use std::marker::Model;
 
-/// What a node answers to a vertex. Want of memory is no answer.
+/// What a node answers to a vertex. That memory ran out is no answer.
 pub type Answer = Result<Receipt, Cause>;
 
 /// A vertex, and its name where it is a unit that was made here. A node that is given it doesn't work the name out

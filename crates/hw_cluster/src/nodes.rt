@@ -39,8 +39,8 @@ impl Model for Cluster {
 }
 
 impl Cluster {
-    /// So many nodes that received nothing: the validators 0, 1, 2 and so on. There is no cluster exactly where
-    /// the configuration breaks one of its limits, which is named, or for want of memory.
+    /// `nodes` nodes that received nothing: the validators 0, 1, 2 and so on. `Fault` comes exactly where the
+    /// configuration breaks a limit, and names the first one. `OutOfMemory` comes where memory runs out.
     pub fn new(alloc: Global, config: Config, nodes: u32) -> Result<Cluster, StateFault>
         requires some { 1 ≤ nodes }
         requires few { nodes ≤ length config.weights }
@@ -63,10 +63,11 @@ impl Cluster {
     ///
     /// A step is that of the node's validator at this moment, in milliseconds. The value of its block is the
     /// node's number as four bytes and its round as eight, and its signature is 32 zero bytes. Its own node takes
-    /// the unit first; it is sent where that node admitted it, and only then. `Idle` is answered exactly where
-    /// there is no unit to make, `NotSent` exactly where the number isn't below that of the sent vertices,
-    /// `NotAllowed` exactly where one of the vertex's signers is a node, and `Refused` has the node's cause.
-    /// After these four, and for want of memory, nothing has changed.
+    /// the unit first; it is sent where that node admitted it, and only then.
+    ///
+    /// `Idle` is answered exactly where there is no unit to make. `NotSent` is answered exactly where the number
+    /// isn't below that of the sent vertices. `NotAllowed` is answered exactly where one of the vertex's signers
+    /// is a node. `Refused` has the node's cause. After these four, and after `OutOfMemory`, nothing has changed.
     pub fn act(&mut self, action: Action) -> Result<Acted, OutOfMemory>
         // The node is there, the moment is below 2^63, and units keep the limits of their format.
         requires { CanAct self.old action }
@@ -75,7 +76,7 @@ impl Cluster {
         ensures left { OnOk result (self.new ≡ left_by self.old action) }
         ensures unchanged { OnErr result (self.new ≡ self.old) }
 
-        // No two different units of one number by one node were sent or stand in a journal, inside evidence or not.
+        // No two different units of one number by one node were sent or are in a journal, inside evidence or not.
         ensures apart { AreApart self.new }
         ensures reached { IsReached self.new }
     {
@@ -131,7 +132,7 @@ pub fn begin(alloc: Global, config: Config) -> Result<Core, OutOfMemory>
     }
 }
 
-/// So many nodes that received nothing.
+/// This many nodes that received nothing.
 pub fn begin_all(alloc: Global, config: &Config, nodes: u32) -> Result<Vec<Core>, OutOfMemory>
     requires { config_fault config.now ≡ None }
     ensures { IfOk result (λ cores. cores.items ≡ replicate nodes (begun_core config.now)) }
@@ -141,7 +142,7 @@ pub fn begin_all(alloc: Global, config: &Config, nodes: u32) -> Result<Vec<Core>
     Ok(cores)
 }
 
-/// Puts so many nodes into a list that has none.
+/// Puts this many nodes into a list that has none.
 #[tactic(auto, using(std::proofs::lemmas::List::replicate_more))]
 fn fill(cores: &mut Vec<Core>, config: &Config, nodes: u32) -> Result<(), OutOfMemory>
     requires lawful { config_fault config.now ≡ None }

@@ -7,7 +7,7 @@ ghost use Rattle.hw_cluster.specs.Numbers.{word_in};
 use crate::named::NamedVertex;
 use crate::words::Words;
 
-/// Puts the units into another order: from the last place down to the second, each changes with a place up to it,
+/// Puts the units into another order. From the last place down to the second, each is swapped with a place up to it,
 /// which the next word names.
 pub fn shuffle(units: &mut [NamedVertex], words: &mut Words)
     requires some { 1 ≤ length units.old }

@@ -27,8 +27,8 @@ pub struct SimSummary {
     pub culprits: u32,
 }
 
-/// The configuration of a simulated run: so many validators of weight 1, of which less than a third may be faulty,
-/// two levels, rounds of 16 to 256 milliseconds, and leaders drawn by the key.
+/// The configuration of a simulated run: `nodes` validators of weight 1, of which less than a third may be faulty.
+/// It has two levels, rounds of 16 to 256 milliseconds, and leaders drawn by the key.
 fn sim_config(alloc: Global, key: [u8; 32], nodes: u32) -> Result<Config, OutOfMemory>
     requires { 1 ≤ nodes }
     ensures { IfOk result (λ config. config ≡ sim_config key nodes) }
@@ -50,7 +50,7 @@ fn begin(alloc: Global, key: [u8; 32], nodes: u32) -> Result<Cluster, OutOfMemor
     }
 }
 
-/// The action that two words choose after so many steps, where so many vertices were sent.
+/// The action that two words choose after `step` steps, where `sent` vertices were sent.
 fn next_action(nodes: u32, sent: u64, step: u32, x: u32, y: u32) -> Action
     requires { 1 ≤ nodes }
     ensures { (c : Nodes) → length c.sent ≡ sent → result ≡ next_action nodes c step x y }
@@ -69,7 +69,7 @@ fn next_action(nodes: u32, sent: u64, step: u32, x: u32, y: u32) -> Action
     }
 }
 
-/// Does the actions of so many steps, and says how many were refused.
+/// Does the actions of `steps` steps, and says how many were refused.
 fn run(cluster: &mut Cluster, words: &mut Words, nodes: u32, steps: u32) -> Result<u64, OutOfMemory>
     requires some { 1 ≤ nodes }
     requires nodes { nodes ≡ nodes_in cluster.old }
@@ -118,13 +118,15 @@ fn refusals(answer: Acted) -> u64
     }
 }
 
-/// Lets the words of a number choose the actions of so many steps, and counts what comes of them.
+/// Lets the words of a number choose the actions of `steps` steps, and counts what comes of them.
 ///
 /// There are `nodes` validators of weight 1, 1 to 16, all of them nodes, and 0 to 20,000 steps. The key is the
-/// SHA-256 digest of the bytes of `sim` and the number's eight bytes; it draws the leaders and gives the words,
-/// those of ChaCha8's first stream. Step s takes two words x and y. Where x is even, or nothing was sent yet, node
-/// `y mod nodes` makes its unit at the moment `16 + s`; else it is given the sent vertex of number `x / 2`, modulo
-/// how many were sent. The culprits are counted among what was sent, and there are none.
+/// SHA-256 digest of the bytes of `sim` and the number's eight bytes. It draws the leaders and gives the words,
+/// those of ChaCha8's first stream.
+///
+/// Step s takes two words x and y. Where x is even, or nothing was sent yet, node `y mod nodes` makes its unit at
+/// the moment `16 + s`. Else it is given the sent vertex of number `x / 2`, modulo how many were sent. The culprits
+/// are counted among what was sent, and there are none.
 ///
 /// The nodes' memory is left to the end of the process.
 pub fn simulate(
@@ -148,7 +150,7 @@ pub fn simulate(
     Ok(ended)
 }
 
-/// What came of the actions of a cluster, of which so many were refused.
+/// What came of the actions of a cluster, of which this many were refused.
 fn summary(cluster: &Cluster, refused: u64) -> SimSummary
     ensures units { result.units ≡ length cluster.now.cluster.sent }
     ensures finals { IsMostDecisions (setting_of cluster.now.config) (nodes_in cluster.now) cluster.now.cluster result.finals }

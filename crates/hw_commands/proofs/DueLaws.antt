@@ -188,8 +188,8 @@ certify_due held old block new absent =
 abbrev pub certificate_in : Word → Option (List ℕ) → Part Certificate
 certificate_in file o = elim o as (λ z. Part (List ℕ)) [ None ↦ Err read_fault_ended | Some bytes ↦ Ok bytes ] >>= λ bytes. or_misread file (certificate_of bytes)
 
-abbrev pub keys_told : Word → ℕ → Option (List ℕ) → Part (List (List ℕ))
-keys_told name validators o = elim o as (λ z. Part (List ℕ)) [ None ↦ Err read_fault_ended | Some bytes ↦ Ok bytes ] >>= λ bytes. or_no_keys name (keys_of validators bytes)
+abbrev pub keys_in_text : Word → ℕ → Option (List ℕ) → Part (List (List ℕ))
+keys_in_text name validators o = elim o as (λ z. Part (List ℕ)) [ None ↦ Err read_fault_ended | Some bytes ↦ Ok bytes ] >>= λ bytes. or_no_keys name (keys_of validators bytes)
 
 pub file_due : (held : Held) (file keys : Word) (log : Option Word) → IsDue (λ h. check_said h file keys log) held file
 file_due held file keys log = due_first (λ h o. certificate_in file o >>= next h) file held (λ h. (refl, λ four. not_input file (error_text BadMagic) (sym (ap (λ r. status (or_misread file r >>= next h)) no_certificate) ∙ four)))
@@ -204,7 +204,7 @@ behind_certificate held file keys log c name given due =
     due_then (certificate_in file) file (λ (x : Certificate) (h : Held). checked_said h file keys log x (config_fault x.config)) held c name given (file_due held file keys log) due
 
 pub keys_due : (held : Held) (file keys : Word) (log : Option Word) (c : Certificate) → config_fault c.config ≡ None → IsDue (λ h. checked_said h file keys log c None) held keys
-keys_due held file keys log c lawful = due_first (λ h o. keys_told keys (length c.config.weights) o >>= next h) keys held
+keys_due held file keys log c lawful = due_first (λ h o. keys_in_text keys (length c.config.weights) o >>= next h) keys held
     (λ h. (refl, λ four. not_input keys (codes "keys at " ++ number_text 0) (sym (ap (λ r. status (or_no_keys keys r >>= next h)) (no_keys (length c.config.weights) (within_limits c.config lawful).some)) ∙ four)))
   where
     next : Held → List (List ℕ) → Part Ended
@@ -214,7 +214,7 @@ keys_due held file keys log c lawful = due_first (λ h o. keys_told keys (length
 pub behind_keys : (held : Held) (file keys : Word) (log : Option Word) (c : Certificate) (given : List (List ℕ)) (name : Word) → config_fault c.config ≡ None → keys_said held keys (length c.config.weights) ≡ Ok given
     → IsDue (λ h. answer_said h file c log (checked_of c (verdicts_by given c.vertices))) held name → IsDue (λ h. checked_said h file keys log c None) held name
 behind_keys held file keys log c given name lawful told due =
-    due_then (keys_told keys (length c.config.weights)) keys (λ (x : List (List ℕ)) (h : Held). answer_said h file c log (checked_of c (verdicts_by x c.vertices))) held given name told (keys_due held file keys log c lawful) due
+    due_then (keys_in_text keys (length c.config.weights)) keys (λ (x : List (List ℕ)) (h : Held). answer_said h file c log (checked_of c (verdicts_by x c.vertices))) held given name told (keys_due held file keys log c lawful) due
 
 -- the log behind a yes
 pub beside_due : (held : Held) (file : Word) (c : Certificate) (core : CoreState) (name : Word) → IsDue (λ h. audited_with h file c core name) held name

@@ -9,7 +9,7 @@ use Rattle.hw_replay.specs.declared.fault.StartFault.{StartFault}
 use Rattle.hw_replay.specs.declared.fault.StartFault.TheVariants as start
 use Rattle.hw_replay.specs.Taken.{Taken}
 use Rattle.hw_eras.specs.Nodes.{next_of, first_config}
-use Rattle.hw_eras.specs.Logs.{Held, Stop, Stopped, ◌>>=◌, file_left, or_stopped, log_left, eras_from, eras_of, nodes_of}
+use Rattle.hw_eras.specs.Logs.{Held, LogStop, Stopped, ◌>>=◌, file_left, or_stopped, log_left, eras_from, eras_of, nodes_of}
 use Rattle.hw_eras.specs.Reports.{reports_of}
 use Rattle.hw_eras.specs.declared.audits.EraAudit.{EraAudit}
 use Rattle.hw_eras.specs.Audits.{eras_audited, audited_against, logs_audited}
@@ -28,7 +28,7 @@ module _ (held : Held) (name : Word) (file : Option (List ℕ)) (e : StartFault)
   changed = with_file held name file
 
   -- it stops there
-  abbrev Halts : {A : Type 0} → Result A Stop → Type 0
+  abbrev Halts : {A : Type 0} → Result A LogStop → Type 0
   Halts r = r ≡ Err (Stopped name e)
 
   its_halts : (wanted : Option Config) (log : Word) → log ≡ name → Halts (log_left changed wanted log)
@@ -43,7 +43,7 @@ module _ (held : Held) (name : Word) (file : Option (List ℕ)) (e : StartFault)
   -- ---- in its turn
 
   -- it is this log, or this one was replayed, and what follows halts
-  halts_at : {A : Type 0} (wanted : Option Config) (log : Word) (next : Taken → Result A Stop) (behind : Taken → Type 0) → ((t : Taken) → behind t → Halts (next t))
+  halts_at : {A : Type 0} (wanted : Option Config) (log : Word) (next : Taken → Result A LogStop) (behind : Taken → Type 0) → ((t : Taken) → behind t → Halts (next t))
       → (log ≡ name) ⊎ ((t : Taken) × (log_left held wanted log ≡ Ok t) × behind t) → Halts (log_left changed wanted log >>= next)
   halts_at wanted log next behind halts (inl is) = ap (λ r. r >>= next) (its_halts wanted log is)
   halts_at wanted log next behind halts (inr later) = go (bytes_eq log name) refl
@@ -58,19 +58,19 @@ module _ (held : Held) (name : Word) (file : Option (List ℕ)) (e : StartFault)
   from_halts None (log ∷ logs) turn = absurd turn
   from_halts (Some config) (log ∷ logs) turn =
       halts_at (Some config) log (λ t. eras_from changed (next_of t.core) logs >>= λ ts. Ok (t ∷ ts)) (λ t. HasTurnFrom held (next_of t.core) logs name)
-      (λ t behind. ap (λ (r : Result (List Taken) Stop). r >>= λ ts. Ok (t ∷ ts)) (from_halts (next_of t.core) logs behind)) turn
+      (λ t behind. ap (λ (r : Result (List Taken) LogStop). r >>= λ ts. Ok (t ∷ ts)) (from_halts (next_of t.core) logs behind)) turn
 
   pub of_halts : (wanted : Option Config) (logs : List Word) → HasTurnOf held wanted logs name → Halts (eras_of changed wanted logs)
   unfolding eras_of
   of_halts wanted [] turn = absurd turn
   of_halts wanted (log ∷ logs) turn =
       halts_at wanted log (λ t. eras_from changed (next_of t.core) logs >>= λ ts. Ok (take 64 (t ∷ ts))) (λ t. HasTurnFrom held (next_of t.core) logs name)
-      (λ t behind. ap (λ (r : Result (List Taken) Stop). r >>= λ ts. Ok (take 64 (t ∷ ts))) (from_halts (next_of t.core) logs behind)) turn
+      (λ t behind. ap (λ (r : Result (List Taken) LogStop). r >>= λ ts. Ok (take 64 (t ∷ ts))) (from_halts (next_of t.core) logs behind)) turn
 
   -- ---- before its turn
 
   -- all is as it was, or it halts
-  abbrev StaysOrHalts : {A : Type 0} → Result A Stop → Result A Stop → Type 0
+  abbrev StaysOrHalts : {A : Type 0} → Result A LogStop → Result A LogStop → Type 0
   StaysOrHalts r s = (s ≡ r) ⊎ Halts r
 
   log_stays : (wanted : Option Config) (log : Word) → StaysOrHalts (log_left changed wanted log) (log_left held wanted log)
@@ -80,11 +80,11 @@ module _ (held : Held) (name : Word) (file : Option (List ℕ)) (e : StartFault)
       go true is = inr (its_halts wanted log ((bytes_eq-Decides log name).0 is))
       go false is = inl (sym (elsewhere wanted log is))
 
-  then_stays : {A B : Type 0} (r s : Result A Stop) (f g : A → Result B Stop) → StaysOrHalts r s → ((a : A) → StaysOrHalts (f a) (g a)) → StaysOrHalts (r >>= f) (s >>= g)
+  then_stays : {A B : Type 0} (r s : Result A LogStop) (f g : A → Result B LogStop) → StaysOrHalts r s → ((a : A) → StaysOrHalts (f a) (g a)) → StaysOrHalts (r >>= f) (s >>= g)
   then_stays r s f g (inr halts) so = inr (ap (λ x. x >>= f) halts)
-  then_stays {A = A} {B = B} r s f g (inl is) so = subst (λ (x : Result A Stop). StaysOrHalts (x >>= f) (s >>= g)) is (go s)
+  then_stays {A = A} {B = B} r s f g (inl is) so = subst (λ (x : Result A LogStop). StaysOrHalts (x >>= f) (s >>= g)) is (go s)
     where
-      go : (x : Result A Stop) → StaysOrHalts (x >>= f) (x >>= g)
+      go : (x : Result A LogStop) → StaysOrHalts (x >>= f) (x >>= g)
       go (Ok a) = so a
       go (Err stop) = inl refl
 
@@ -109,28 +109,28 @@ module _ (held : Held) (name : Word) (file : Option (List ℕ)) (e : StartFault)
   -- ---- two nodes
 
   pub in_halts : (left right : List Word) → HasTurnIn held left right name → Halts (logs_audited changed left right)
-  in_halts left right (inl turn) = ap (λ (r : Result (List Taken) Stop). r >>= λ ls. audited_against changed ls right) (of_halts None left turn)
+  in_halts left right (inl turn) = ap (λ (r : Result (List Taken) LogStop). r >>= λ ls. audited_against changed ls right) (of_halts None left turn)
   in_halts left right (inr (ls, there, turn)) = go (of_stays None left)
     where
-      against : Result (List Taken) Stop → Result EraAudit Stop
+      against : Result (List Taken) LogStop → Result EraAudit LogStop
       against r = r >>= λ ks. audited_against changed ks right
 
       go : StaysOrHalts (eras_of changed None left) (eras_of held None left) → Halts (logs_audited changed left right)
       go (inr halts) = ap against halts
-      go (inl same) = ap against (sym same ∙ there) ∙ ap (λ (r : Result (List Taken) Stop). r >>= λ rs. Ok (eras_audited 0 0 (nodes_of ls) (nodes_of rs))) (of_halts (first_config (nodes_of ls)) right turn)
+      go (inl same) = ap against (sym same ∙ there) ∙ ap (λ (r : Result (List Taken) LogStop). r >>= λ rs. Ok (eras_audited 0 0 (nodes_of ls) (nodes_of rs))) (of_halts (first_config (nodes_of ls)) right turn)
 
 -- ---- so it is due
 
 pub eras_due : (held : Held) (logs : List Word) (name : Word) → HasTurnOf held None logs name → IsDue (λ h. eras_said h logs) held name
 eras_due held logs name turn = record {
-  missing = ap (λ (r : Result (List Taken) Stop). (eras_ended (reports_of r)).status) (of_halts held name None (start.Log log.ReadFault) (λ wanted. refl) None logs turn);
-  empty = λ four. not_input name (log_text log.BadMagic) (sym (ap (λ (r : Result (List Taken) Stop). (eras_ended (reports_of r)).status) (of_halts held name (Some []) (start.Log log.BadMagic) no_log None logs turn)) ∙ four);
+  missing = ap (λ (r : Result (List Taken) LogStop). (eras_ended (reports_of r)).status) (of_halts held name None (start.Log log.ReadFault) (λ wanted. refl) None logs turn);
+  empty = λ four. not_input name (log_text log.BadMagic) (sym (ap (λ (r : Result (List Taken) LogStop). (eras_ended (reports_of r)).status) (of_halts held name (Some []) (start.Log log.BadMagic) no_log None logs turn)) ∙ four);
 }
 
 pub era_audit_due : (held : Held) (left right : List Word) (name : Word) → HasTurnIn held left right name → IsDue (λ h. era_audit_said h left right) held name
 era_audit_due held left right name turn = record {
-  missing = ap (λ (r : Result EraAudit Stop). (era_audit_ended r).status) (in_halts held name None (start.Log log.ReadFault) (λ wanted. refl) left right turn);
-  empty = λ four. not_input name (log_text log.BadMagic) (sym (ap (λ (r : Result EraAudit Stop). (era_audit_ended r).status) (in_halts held name (Some []) (start.Log log.BadMagic) no_log left right turn)) ∙ four);
+  missing = ap (λ (r : Result EraAudit LogStop). (era_audit_ended r).status) (in_halts held name None (start.Log log.ReadFault) (λ wanted. refl) left right turn);
+  empty = λ four. not_input name (log_text log.BadMagic) (sym (ap (λ (r : Result EraAudit LogStop). (era_audit_ended r).status) (in_halts held name (Some []) (start.Log log.BadMagic) no_log left right turn)) ∙ four);
 }
 
 -- ---- what is said hangs on the logs alone
@@ -143,10 +143,10 @@ module _ (h k : Held) where
   log_alike : (wanted : Option Config) (log : Word) → h log ≡ k log → log_left h wanted log ≡ log_left k wanted log
   log_alike wanted log same = ap (λ (o : Option (List ℕ)). or_stopped log (file_left wanted o)) same
 
-  then_alike : {A B : Type 0} (r s : Result A Stop) (f g : A → Result B Stop) → r ≡ s → ((a : A) → f a ≡ g a) → (r >>= f) ≡ (s >>= g)
-  then_alike {A = A} r s f g is so = ap (λ (x : Result A Stop). x >>= f) is ∙ go s
+  then_alike : {A B : Type 0} (r s : Result A LogStop) (f g : A → Result B LogStop) → r ≡ s → ((a : A) → f a ≡ g a) → (r >>= f) ≡ (s >>= g)
+  then_alike {A = A} r s f g is so = ap (λ (x : Result A LogStop). x >>= f) is ∙ go s
     where
-      go : (x : Result A Stop) → (x >>= f) ≡ (x >>= g)
+      go : (x : Result A LogStop) → (x >>= f) ≡ (x >>= g)
       go (Ok a) = so a
       go (Err stop) = refl
 
@@ -158,7 +158,7 @@ module _ (h k : Held) where
   from_alike (Some config) (log ∷ logs) same =
       then_alike (log_left h (Some config) log) (log_left k (Some config) log) (λ t. eras_from h (next_of t.core) logs >>= λ ts. Ok (t ∷ ts)) (λ t. eras_from k (next_of t.core) logs >>= λ ts. Ok (t ∷ ts))
       (log_alike (Some config) log (same log (inl refl)))
-      (λ t. ap (λ (r : Result (List Taken) Stop). r >>= λ ts. Ok (t ∷ ts)) (from_alike (next_of t.core) logs (λ name m. same name (inr m))))
+      (λ t. ap (λ (r : Result (List Taken) LogStop). r >>= λ ts. Ok (t ∷ ts)) (from_alike (next_of t.core) logs (λ name m. same name (inr m))))
 
   of_alike : (wanted : Option Config) (logs : List Word) → AreAlike logs → eras_of h wanted logs ≡ eras_of k wanted logs
   unfolding eras_of
@@ -166,13 +166,13 @@ module _ (h k : Held) where
   of_alike wanted (log ∷ logs) same =
       then_alike (log_left h wanted log) (log_left k wanted log) (λ t. eras_from h (next_of t.core) logs >>= λ ts. Ok (take 64 (t ∷ ts))) (λ t. eras_from k (next_of t.core) logs >>= λ ts. Ok (take 64 (t ∷ ts)))
       (log_alike wanted log (same log (inl refl)))
-      (λ t. ap (λ (r : Result (List Taken) Stop). r >>= λ ts. Ok (take 64 (t ∷ ts))) (from_alike (next_of t.core) logs (λ name m. same name (inr m))))
+      (λ t. ap (λ (r : Result (List Taken) LogStop). r >>= λ ts. Ok (take 64 (t ∷ ts))) (from_alike (next_of t.core) logs (λ name m. same name (inr m))))
 
   pub reported_alike : (logs : List Word) → AreAlike logs → eras_said h logs ≡ eras_said k logs
-  reported_alike logs same = ap (λ (r : Result (List Taken) Stop). Ok (eras_ended (reports_of r))) (of_alike None logs same)
+  reported_alike logs same = ap (λ (r : Result (List Taken) LogStop). Ok (eras_ended (reports_of r))) (of_alike None logs same)
 
   pub audited_alike : (left right : List Word) → AreAlike left → AreAlike right → era_audit_said h left right ≡ era_audit_said k left right
   audited_alike left right left_same right_same =
-      ap (λ (r : Result EraAudit Stop). Ok (era_audit_ended r))
+      ap (λ (r : Result EraAudit LogStop). Ok (era_audit_ended r))
       (then_alike (eras_of h None left) (eras_of k None left) (λ ls. audited_against h ls right) (λ ls. audited_against k ls right) (of_alike None left left_same)
-      (λ ls. ap (λ (r : Result (List Taken) Stop). r >>= λ rs. Ok (eras_audited 0 0 (nodes_of ls) (nodes_of rs))) (of_alike (first_config (nodes_of ls)) right right_same)))
+      (λ ls. ap (λ (r : Result (List Taken) LogStop). r >>= λ rs. Ok (eras_audited 0 0 (nodes_of ls) (nodes_of rs))) (of_alike (first_config (nodes_of ls)) right right_same)))

@@ -12,7 +12,7 @@ use Rattle.hw_eras.specs.declared.audits.EraAudit.{EraAudit}
 use Rattle.hw_eras.specs.declared.stop.EraFault.{EraFault}
 use Rattle.hw_eras.specs.declared.stop.EraFault.TheVariants as stop
 use Rattle.hw_eras.specs.Stops.{StopsSo}
-use Rattle.hw_eras.specs.Logs.{Held, Stop, NoEra, Stopped, nodes_of}
+use Rattle.hw_eras.specs.Logs.{Held, LogStop, NoEra, Stopped, nodes_of}
 use Rattle.hw_eras.specs.Reports.{era_line}
 use Rattle.hw_eras.specs.Audits.{threshold_in, TellsVerdict, IsAuditOfLogs}
 use Rattle.hw_commands.specs.declared.ended.Ended.{Ended}
@@ -28,7 +28,7 @@ use Rattle.hw_commands.proofs.AuditLaws.{no_conflict}
 -- ---- logs that stop
 
 -- what the definitions say ends in the same way
-pub ends_so : {T : Type 0} (f : Result T Stop → Ended) → ((s : Stop) → f (Err s) ≡ logs_stopped s) → (said : Result T Stop) (by : EraFault) (r : Result Ended RunFault)
+pub ends_so : {T : Type 0} (f : Result T LogStop → Ended) → ((s : LogStop) → f (Err s) ≡ logs_stopped s) → (said : Result T LogStop) (by : EraFault) (r : Result Ended RunFault)
     → StopsSo by said → IfOk r (EndsBy by) → IfOk r (λ e. e ≡ f said)
 ends_so f errs said by (Err x) so ends = tt
 ends_so f errs said (stop.NoEra name) (Ok e) so ends = ends ∙ sym (ap f so ∙ errs (NoEra name.now))

@@ -15,7 +15,7 @@ use Rattle.hw_eras.specs.declared.verdict.EraVerdict.TheVariants as eras
 use Rattle.hw_eras.specs.declared.audits.EraAudit.{EraAudit}
 use Rattle.hw_eras.specs.Eras.{IsNoAgreement}
 use Rattle.hw_eras.specs.Nodes.{AreErasFrom, next_of, first_config}
-use Rattle.hw_eras.specs.Logs.{Stop}
+use Rattle.hw_eras.specs.Logs.{LogStop}
 use Rattle.hw_eras.specs.EraAudit.{AreAgreed, DifferIn, IsVerdictByEras}
 use Rattle.hw_eras.specs.Audits.{agreed, in_era, status_of, TellsVerdict}
 use Rattle.hw_eras.proofs.AuditLaws.{next_same}
@@ -26,7 +26,7 @@ use Rattle.hw_commands.proofs.AuditedLaws.{verdict_is_there}
 
 pub era_audit_is_the_verdict : EraAuditIsTheVerdict
 era_audit_is_the_verdict held left right ls rs v told left_is right_is is tells =
-    ap (λ (r : Result EraAudit Stop). Ok (era_audit_ended r)) (said_by_eras held left right ls rs v told left_is right_is is tells)
+    ap (λ (r : Result EraAudit LogStop). Ok (era_audit_ended r)) (said_by_eras held left right ls rs v told left_is right_is is tells)
 
 -- ---- there is a verdict
 

@@ -31,7 +31,7 @@ use Rattle.hw_commands.specs.Audited.{audit_ended}
 use Rattle.hw_commands.specs.Program.{◌>>=◌, Held, Part, done, report_of, or_unwritten, or_parted, log_replayed, audited_against, audit_said, script_said, rewrite_said, certify_said, yes_said, answer_said, checked_said, check_said, eras_said, era_audit_said, request_said}
 use Rattle.hw_commands.specs.Due.{with_file, FailsDue, FailsOf}
 use Rattle.hw_commands.proofs.FileLaws.{file_replayed}
-use Rattle.hw_commands.proofs.DueLaws.{status, file_elsewhere, certificate_in, keys_told}
+use Rattle.hw_commands.proofs.DueLaws.{status, file_elsewhere, certificate_in, keys_in_text}
 use Rattle.hw_commands.proofs.EraDueLaws.{reported_alike, audited_alike}
 
 -- a call about one of the files failed, or one of them isn't there
@@ -119,8 +119,8 @@ of_checked file keys log h k same =
     checked : (c : Certificate) (fault : Option ConfigFault) → checked_said h file keys log c fault ≡ checked_said k file keys log c fault
     checked c (Some fault) = refl
     checked c None =
-        ap (λ (o : Option (List ℕ)). keys_told keys (length c.config.weights) o >>= λ given. answer_said h file c log (checked_of c (verdicts_by given c.vertices))) same.1.0
-        ∙ ap (λ (f : List (List ℕ) → Part Ended). keys_told keys (length c.config.weights) (k keys) >>= f) (λ i given. answered c (checked_of c (verdicts_by given c.vertices)) i)
+        ap (λ (o : Option (List ℕ)). keys_in_text keys (length c.config.weights) o >>= λ given. answer_said h file c log (checked_of c (verdicts_by given c.vertices))) same.1.0
+        ∙ ap (λ (f : List (List ℕ) → Part Ended). keys_in_text keys (length c.config.weights) (k keys) >>= f) (λ i given. answered c (checked_of c (verdicts_by given c.vertices)) i)
 
 -- each of the files under these names
 same_at : (h k : Held) (names : List Word) → AreSame h k names → (name : Word) → Among name names → h name ≡ k name

@@ -64,8 +64,8 @@ sim_of (Some number) None steps = None
 sim_of None nodes steps = None
 
 -- the digest that a word tells by 64 digits in lower case
-unfoldable pub digest_told : Word → Option Digest
-digest_told word = if list_all is_lower_digit word then option_map (λ bytes. record { 0 = bytes }) (result_ok (decode_sized word 32)) else None
+unfoldable pub digest_in_word : Word → Option Digest
+digest_in_word word = if list_all is_lower_digit word then option_map (λ bytes. record { 0 = bytes }) (result_ok (decode_sized word 32)) else None
 
 -- the certificate of a block
 abbrev pub certify_of : Word → Option Digest → Word → Option Request
@@ -76,7 +76,7 @@ certify_of log (Some block) new = Some (Certify log block new)
 unfoldable pub of_three : Word → Word → Word → Word → Option Request
 of_three command a b c =
     if bytes_eq command (codes "sim") then sim_of (number_below (2 ^ 64) a) (number_below 17 b) (number_below 20001 c)
-    else if bytes_eq command (codes "certify") then certify_of a (digest_told b) c
+    else if bytes_eq command (codes "certify") then certify_of a (digest_in_word b) c
     else if bytes_eq command (codes "check") then Some (Check a b (Some c))
     else None
 

@@ -15,23 +15,23 @@ use Rattle.hw_eras.specs.EraAudit.{AreAgreed}
 use Rattle.hw_eras.specs.declared.audits.EraAudit.{EraAudit}
 use Rattle.hw_eras.specs.declared.stop.EraFault.{EraFault}
 use Rattle.hw_eras.specs.declared.stop.EraFault.TheVariants as stop
-use Rattle.hw_eras.specs.Logs.{Held, Stop, NoEra, Stopped, eras_of, nodes_of}
+use Rattle.hw_eras.specs.Logs.{Held, LogStop, NoEra, Stopped, eras_of, nodes_of}
 use Rattle.hw_eras.specs.Reports.{era_line}
 use Rattle.hw_commands.specs.declared.ended.Ended.{Ended}
 use Rattle.hw_commands.specs.Texts.{input_ended, stopped_ended}
 
 -- the era of a log isn't there, or its replay stopped
-abbrev pub logs_stopped : Stop → Ended
+abbrev pub logs_stopped : LogStop → Ended
 logs_stopped (NoEra log) = input_ended log (codes "no era")
 logs_stopped (Stopped log fault) = stopped_ended log fault
 
 -- the reports on eras, or what stopped their logs
-abbrev pub eras_ended : Result (List ℕ) Stop → Ended
+abbrev pub eras_ended : Result (List ℕ) LogStop → Ended
 eras_ended (Ok text) = record { status = 0; text = text }
 eras_ended (Err s) = logs_stopped s
 
 -- the audit of the eras of two nodes, or what stopped their logs
-abbrev pub era_audit_ended : Result EraAudit Stop → Ended
+abbrev pub era_audit_ended : Result EraAudit LogStop → Ended
 era_audit_ended (Ok e) = record { status = e.status; text = e.text }
 era_audit_ended (Err s) = logs_stopped s
 

@@ -29,8 +29,8 @@ use std::alloc::Global;
 
 /// Audits the logs under these two words, and says how the run ends.
 ///
-/// The left log is replayed first. The configuration of the right one is compared with the left one's
-/// as soon as its header was read.
+/// The left log is replayed first. The right one's configuration is compared with the left one's as soon as its
+/// header was read.
 pub fn audit_logs<F: Files>(alloc: Global, files: &mut F, left: &str, right: &str) -> Ending
     ensures said { IsTrue F.tells → IfOk result (λ e. e ≡ ended (audit_said (F.held files.old) left.now right.now)) }
     ensures conflict { IsTrue F.tells → IfOk result (λ e. e.status ≡ 3 → IsConflictOf (F.held files.old) left.now right.now e.text) }
@@ -52,7 +52,8 @@ pub fn audit_logs<F: Files>(alloc: Global, files: &mut F, left: &str, right: &st
     }
 }
 
-/// Audits the log under the other word against the node of a certificate that the file under the one word holds.
+/// Audits the log under the word `log` against the node of a certificate that the file under the word `file`
+/// holds.
 ///
 /// The log is the left one. Where it is of another configuration, the certificate's file is named.
 pub fn audit_certified<F: Files>(
@@ -81,8 +82,8 @@ pub fn audit_certified<F: Files>(
     }
 }
 
-/// The replay of the log under the other word stopped. That it is of another configuration is told of the file
-/// under the one word.
+/// How the run ends where the replay of the log stopped. Where the log is of another configuration, the
+/// certificate's file is named.
 fn not_beside(alloc: Global, file: &str, log: &str, fault: StartFault) -> Ending
     ensures said { IfOk result (λ e. (Err e ≡ or_parted file.now log.now (Err fault)) × IsReadEnd e.status × (IsOutside fault → ⊥)) }
     ensures cause { (before now : ℕ) → IsReplayCounted {T = Unit {0}} before now (Err fault) → IsReadCounted before now result }
@@ -115,7 +116,7 @@ fn audit_against<F: Files>(alloc: Global, files: &mut F, left: &Core, right: &st
     }
 }
 
-/// The end of a part that can't read.
+/// How a part of a run ends that reads no file.
 pub fn or_no_memory(part: Result<Ended, OutOfMemory>) -> Ending
     ensures ended { IfOk result (λ e. part ≡ Ok e) }
     ensures fault { IfErr result (λ fault. fault ≡ RunFaults.OutOfMemory) }

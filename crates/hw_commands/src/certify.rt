@@ -25,7 +25,8 @@ use std::alloc::Global;
 /// Writes the certificate of a block that the log under the one word decided into a new file under the other, and
 /// says how the run ends.
 ///
-/// That the file is there is tested first. The log is replayed to its end before the first byte is written.
+/// Whether the new file is there already is tested first. The log is replayed to its end before the first byte
+/// is written.
 pub fn certified<F: Files>(
     alloc: Global,
     files: &mut F,
@@ -150,7 +151,7 @@ fn put<F: Files>(
     }
 }
 
-/// What is told of an answer.
+/// How a run ends with this answer.
 fn asked_ended(alloc: Global, asked: &Asked) -> Result<Ended, OutOfMemory>
     ensures { IfOk result (λ e. e ≡ told_ended (told_in asked.now)) }
 {

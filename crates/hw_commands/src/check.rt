@@ -85,7 +85,7 @@ fn decoded(alloc: Global, file: &str, bytes: &[u8]) -> Result<Result<Certificate
     }
 }
 
-/// The bytes can't be read as a certificate.
+/// How the run ends where the bytes can't be read as a certificate.
 fn undecoded(alloc: Global, file: &str, error: CertError) -> Ending
     ensures said { IfOk result (λ e. (e ≡ input_ended file.now (error_text error)) × (error ≢ CertErrors.OutOfMemory)) }
     ensures fault { IfErr result (λ fault. fault ≡ RunFaults.OutOfMemory) }
@@ -148,7 +148,8 @@ fn check_lawful<F: Files>(
     }
 }
 
-/// The keys in the file under this word, one for each validator, or how the run ends where it tells others.
+/// The keys in the file under this word, one for each validator, or how the run ends where a byte of it is
+/// wrong.
 fn keys_in<F: Files>(
     alloc: Global,
     files: &mut F,
@@ -164,11 +165,11 @@ fn keys_in<F: Files>(
     ensures appends { F.append_faults files.new ≡ F.append_faults files.old }
 {
     let text = bytes_of(alloc, files, name)?;
-    keys_told(alloc, name, text.as_slice(), validators)
+    keys_in_text(alloc, name, text.as_slice(), validators)
 }
 
-/// The keys that the text tells, or how the run ends where it tells others.
-fn keys_told(
+/// The keys that the text spells, one for each validator, or how the run ends where a byte of it is wrong.
+fn keys_in_text(
     alloc: Global,
     name: &str,
     text: &[u8],
@@ -208,7 +209,8 @@ fn check_with<F: Files>(
     answer(alloc, files, file, certificate, &checked, log)
 }
 
-/// Tells the answer to a certificate; after a yes, against the log of this word if there is one.
+/// How the run ends with the answer to a certificate. After a yes the log of this word, if there is one, is
+/// audited against the certificate's node.
 fn answer<F: Files>(
     alloc: Global,
     files: &mut F,
@@ -241,7 +243,7 @@ fn answer<F: Files>(
     }
 }
 
-/// The certificate shows its block.
+/// How the run ends where the certificate shows its block.
 fn shown_ended(
     alloc: Global,
     certificate: &Certificate,
@@ -254,7 +256,7 @@ fn shown_ended(
     Ok(Ended { status: DONE, text })
 }
 
-/// The certificate shows nothing.
+/// How the run ends where the certificate shows nothing, for this fault.
 fn refused(alloc: Global, fault: CheckFault) -> Result<Ended, OutOfMemory>
     ensures { IfOk result (λ e. e ≡ no_ended fault) }
 {

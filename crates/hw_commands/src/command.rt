@@ -2,10 +2,10 @@
 
 ghost use Rattle.std.specs.{Prelude.{◌≡◌, ◌<◌, ◌+◌, ◌^◌, length, map, string_bytes, IfSome}, List.{list_all}};
 ghost use Rattle.hw_text.specs.Numbers.{number_below};
-ghost use Rattle.hw_commands.specs.Commands.{is_word, are_logs, eras_of, two_nodes, numbered_of, of_words, of_few, of_one, of_two, of_three, gen_of, sim_of, certify_of, digest_told, request_of};
+ghost use Rattle.hw_commands.specs.Commands.{is_word, are_logs, eras_of, two_nodes, numbered_of, of_words, of_few, of_one, of_two, of_three, gen_of, sim_of, certify_of, digest_in_word, request_of};
 ghost use Rattle.hw_commands.specs.Asked.{asked, IsInRange};
 
-use crate::digits::digest_told;
+use crate::digits::digest_in_word;
 use crate::words::Words;
 use hw_text::number_up_to;
 use hw_types::Digest;
@@ -30,16 +30,16 @@ pub enum Command<'w> {
     Replay {
         log: &'w str,
     },
-    /// Takes the vertices of a log, in order, and tells each final block with its summit.
+    /// Takes the vertices of a log, in order, and prints each final block with its summit.
     Explain {
         log: &'w str,
     },
-    /// Takes the vertices of two logs, and tells what the two nodes say of each other.
+    /// Takes the vertices of two logs, and prints what the two nodes say of each other.
     Audit {
         left: &'w str,
         right: &'w str,
     },
-    /// Delivers what a script says, and tells what becomes of it.
+    /// Delivers what a script says, and prints what becomes of it.
     Script {
         file: &'w str,
     },
@@ -64,18 +64,19 @@ pub enum Command<'w> {
         file: &'w str,
         keys: &'w str,
     },
-    /// Checks a certificate by keys, and tells what a log and the node of a yes say of each other.
+    /// Checks a certificate by keys. After a yes it prints what a log and the certificate's node say of each
+    /// other.
     CheckLog {
         file: &'w str,
         keys: &'w str,
         log: &'w str,
     },
-    /// Gives a node the units of so many rounds, which a number makes, and tells what comes of them.
+    /// Gives a node the units of `rounds` rounds, which the number makes, and prints what comes of them.
     Gen {
         number: u64,
         rounds: u32,
     },
-    /// Lets the words of a number choose so many steps of so many nodes, and tells what comes of it.
+    /// Lets the words of the number choose `steps` steps of `nodes` nodes, and prints what comes of it.
     Sim {
         number: u64,
         nodes: u32,
@@ -85,7 +86,8 @@ pub enum Command<'w> {
     Eras {
         logs: &'w [String],
     },
-    /// Takes the vertices of the logs of two nodes, each in its era, and tells what the eras say of each other.
+    /// Takes the vertices of the logs of two nodes, each in its era, and prints what the eras say of each
+    /// other.
     EraAudit {
         left: &'w [String],
         right: &'w [String],
@@ -106,7 +108,7 @@ pub fn command_of(words: &Words) -> Option<Command<'_>>
     of_words(command.as_str(), words)
 }
 
-/// The command of the words behind it.
+/// The command of this name with the words after it.
 fn of_words<'w>(command: &str, words: &'w [String]) -> Option<Command<'w>>
     ensures asked { asked result ≡ of_words command.now (map string_bytes words.now) }
     ensures range { IfSome result IsInRange }
@@ -130,7 +132,7 @@ fn eras<'w>(logs: &'w [String]) -> Option<Command<'w>>
     }
 }
 
-/// The eras of two nodes, of which the left one has so many of the logs as the first word tells.
+/// The audit of the eras of two nodes. The first word says how many of the logs are the left node's.
 fn era_audit<'w>(words: &'w [String]) -> Option<Command<'w>>
     ensures asked { asked result ≡ numbered_of (map string_bytes words.now) }
     ensures range { IfSome result IsInRange }
@@ -141,7 +143,7 @@ fn era_audit<'w>(words: &'w [String]) -> Option<Command<'w>>
     two_nodes(left, right)
 }
 
-/// The eras of two nodes, which these logs leave.
+/// The audit of the eras of two nodes, which these logs leave.
 fn two_nodes<'w>(left: &'w [String], right: &'w [String]) -> Option<Command<'w>>
     ensures asked { asked result ≡ two_nodes (map string_bytes left.now) (map string_bytes right.now) }
     ensures range { IfSome result IsInRange }
@@ -153,14 +155,14 @@ fn two_nodes<'w>(left: &'w [String], right: &'w [String]) -> Option<Command<'w>>
     }
 }
 
-/// Whether a node has so many logs.
+/// Whether a node may have this many logs: 1 to 64.
 fn are_logs(logs: &[String]) -> bool
     ensures { result ≡ are_logs (map string_bytes logs.now) }
 {
     (1..=MAX_LOGS as usize).contains(&logs.len())
 }
 
-/// The command of at most three words behind it.
+/// The command of this name with one to three words after it.
 #[tactic(auto, unfolding(crate::specs::Commands::of_few))]
 fn of_few<'w>(command: &str, words: &'w [String]) -> Option<Command<'w>>
     ensures asked { asked result ≡ of_few command.now (map string_bytes words.now) }
@@ -179,7 +181,7 @@ fn of_few<'w>(command: &str, words: &'w [String]) -> Option<Command<'w>>
     }
 }
 
-/// The command of one word.
+/// The command of this name with one word after it.
 fn of_one<'w>(command: &str, word: &'w str) -> Option<Command<'w>>
     ensures asked { asked result ≡ of_one command.now word.now }
     ensures range { IfSome result IsInRange }
@@ -195,7 +197,7 @@ fn of_one<'w>(command: &str, word: &'w str) -> Option<Command<'w>>
     }
 }
 
-/// The command of two words.
+/// The command of this name with two words after it.
 #[tactic(auto, unfolding(crate::specs::Commands::of_two))]
 fn of_two<'w>(command: &str, first: &'w str, second: &'w str) -> Option<Command<'w>>
     ensures asked { asked result ≡ of_two command.now first.now second.now }
@@ -228,7 +230,7 @@ fn of_two<'w>(command: &str, first: &'w str, second: &'w str) -> Option<Command<
     }
 }
 
-/// The generated journal of a number, with so many rounds.
+/// The generated journal of a number, with 1 to 4096 rounds.
 fn generation<'w>(number: &str, rounds: &str) -> Option<Command<'w>>
     ensures asked { asked result ≡ gen_of (number_below (2 ^ 64) number.now) (number_below 4097 rounds.now) }
     ensures range { IfSome result IsInRange }
@@ -244,7 +246,7 @@ fn generation<'w>(number: &str, rounds: &str) -> Option<Command<'w>>
     })
 }
 
-/// The command of three words.
+/// The command of this name with three words after it.
 #[tactic(auto, unfolding(crate::specs::Commands::of_three))]
 fn of_three<'w>(
     command: &str,
@@ -272,14 +274,14 @@ fn of_three<'w>(
 
 /// The certificate of the block that a word names, which a log decided, in a new file.
 fn certification<'w>(log: &'w str, block: &str, new: &'w str) -> Option<Command<'w>>
-    ensures asked { asked result ≡ certify_of log.now (digest_told block.now) new.now }
+    ensures asked { asked result ≡ certify_of log.now (digest_in_word block.now) new.now }
     ensures range { IfSome result IsInRange }
 {
-    let block = digest_told(block)?;
+    let block = digest_in_word(block)?;
     Some(Command::Certify { log, block, new })
 }
 
-/// A simulated run of a number, with so many nodes and steps.
+/// A simulated run of a number, with 1 to 16 nodes and at most 20000 steps.
 fn simulation<'w>(number: &str, nodes: &str, steps: &str) -> Option<Command<'w>>
     ensures asked { asked result ≡ sim_of (number_below (2 ^ 64) number.now) (number_below 17 nodes.now) (number_below 20001 steps.now) }
     ensures range { IfSome result IsInRange }

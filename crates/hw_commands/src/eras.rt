@@ -66,7 +66,7 @@ pub fn audit_eras<F: Files>(
     }
 }
 
-/// The logs of eras stopped there.
+/// How the run ends where logs of eras stopped with this fault.
 fn logs_stopped(alloc: Global, stop: EraFault<'_>) -> Ending
     ensures said { IfOk result (EndsBy stop.entry) }
     ensures status { IfOk result (λ e. IsReadEnd e.status) }

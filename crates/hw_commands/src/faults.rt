@@ -79,7 +79,7 @@ fn unread(alloc: Global, name: &str, error: LogError) -> Ending
     }
 }
 
-/// The log can't be read on, for what stands in it.
+/// The log can't be read on, because of what is in it.
 pub fn bad_log(alloc: Global, name: &str, error: LogError) -> Result<Ended, OutOfMemory>
     ensures { IfOk result (λ ended. ended ≡ input_ended name.now (log_text error)) }
 {
@@ -110,7 +110,7 @@ pub fn bad_input(alloc: Global, name: &str, wrong: Wrong<'_>) -> Result<Ended, O
     input_end(text)
 }
 
-/// The begin of a line that names a file's fault.
+/// The beginning of a line that names a file's fault.
 pub fn input(alloc: Global, name: &str) -> Result<Bytes, OutOfMemory>
     ensures { IfOk result (λ text. text ≡ codes "input " ++ name.now ++ codes ": ") }
 {

@@ -2,15 +2,15 @@
 
 ghost use Rattle.hw_commands.specs.Laws.{AuditIsTheVerdict, VerdictIsThere, EraAuditIsTheVerdict, EraVerdictIsThere, ConflictIsTold, ReadsTheSame, LogIsAnswered, CheckIsAnswered};
 
-/// An audit of two logs that can be replayed tells the verdict on what their nodes accepted, with any decided blocks
-/// that the definition allows. There is one on any two journals.
+/// An audit of two logs that can be replayed reports the verdict on what their nodes accepted, with any decided
+/// blocks that the definition allows. There is one on any two journals.
 pub fn an_audit_tells_the_verdict()
     ensures tells { AuditIsTheVerdict }
     ensures there { VerdictIsThere }
 {}
 
-/// An audit of eras whose logs can be replayed tells the verdict on the nodes that they leave, era by era. There is
-/// one on the eras of any two nodes that begin with one configuration.
+/// An audit of eras whose logs can be replayed reports the verdict on the nodes that they leave, era by era.
+/// There is one on the eras of any two nodes that begin with one configuration.
 pub fn an_era_audit_tells_the_verdict()
     ensures tells { EraAuditIsTheVerdict }
     ensures there { EraVerdictIsThere }
@@ -22,14 +22,14 @@ pub fn a_conflict_is_told()
     ensures { ConflictIsTold }
 {}
 
-/// A log that was written anew in version 2 says what the old one says: `replay` and `explain` tell the same of
-/// both. After `migrate` with status 0 the two files are so, by the top call's clause on what a run leaves.
+/// A log that was written anew in version 2 says what the old one says: `replay` and `explain` print the same
+/// for both. After `migrate` with status 0 the two files are so, by the top call's clause on what a run leaves.
 pub fn a_migrated_log_reads_the_same()
     ensures { ReadsTheSame }
 {}
 
-/// With files that can be read, a request about a certificate is answered: by the top call's clause on what is
-/// complete, where nothing of the outside fails the status is this one, or that of want of memory.
+/// With files that can be read, a request about a certificate is answered. By the top call's clause on what is
+/// complete, the status is this one or that of out of memory, where nothing of the outside fails.
 pub fn certificates_are_answered()
     ensures asked { LogIsAnswered }
     ensures checked { CheckIsAnswered }

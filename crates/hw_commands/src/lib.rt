@@ -1,9 +1,9 @@
 //! The commands whose end and text are worked out from their words and what the files hold.
 //!
-//! [`command_of`] is the parser of their words, and [`work`] runs them, one module each here, or one with its like.
-//! `specs/Program.antt` says how a run ends and what it writes, and `specs/Files.antt` what it leaves of the files. Each
-//! command is one case in both, and one variant of [`Command`]. `specs/Fed.antt` says what a command that calls
-//! consumers tells them, and which of them its text names.
+//! [`command_of`] is the parser of their words, and [`work`] runs them, one module each here, or one with its
+//! like. `specs/Program.antt` says how a run ends and what it writes, and `specs/Files.antt` what it leaves of
+//! the files. Each command is one case in both, and one variant of [`Command`]. `specs/Fed.antt` says what a
+//! command that calls consumers gives them, and which of them its text names.
 //!
 //! How a run ends (its status, and the lines of what went wrong) is the same for the commands of nodes, in the crate
 //! above.

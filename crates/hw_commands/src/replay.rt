@@ -1,4 +1,4 @@
-//! `replay`: the report on a log, of which consumers are told the decided blocks.
+//! `replay`: the report on a log, whose decided blocks are given to consumers.
 
 ghost use Rattle.std.specs.Prelude.{◌≡◌, ◌≤◌, ◌++◌, None, length, IsTrue, IfOk, IfErr};
 ghost use Rattle.hw_io.specs.{Faults.{FailsOrLacks}, Files.{SameFiles}};
@@ -36,11 +36,11 @@ pub fn replay<F: Files>(
 {
     let mut fanout = Fanout::new(alloc);
     fanout.reserve(consumers.len())?;
-    replay_told(alloc, files, log, &mut fanout, consumers)
+    replay_ending(alloc, files, log, &mut fanout, consumers)
 }
 
 /// The same, where there is room for the consumers.
-fn replay_told<F: Files>(
+fn replay_ending<F: Files>(
     alloc: Global,
     files: &mut F,
     log: &str,
@@ -69,8 +69,8 @@ fn replay_told<F: Files>(
     }
 }
 
-/// Tells the consumers that no block follows, and makes the report on what a replay left. The consumers that
-/// were dropped are named behind it.
+/// Finishes the consumers, and makes the report on what a replay left. The consumers that were dropped are
+/// named after it.
 fn reported(
     alloc: Global,
     replay: &Replay,

@@ -13,7 +13,7 @@ use hw_types::{Bytes, OutOfMemory};
 pub enum Wrong<'w> {
     /// What the words say.
     Words(&'w str),
-    /// What the words say, with a number behind them.
+    /// What the words say, with a number after them.
     Numbered(&'w str, u64),
     /// It can't be read on as a log.
     Log(LogError),

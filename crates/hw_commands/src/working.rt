@@ -38,11 +38,11 @@ pub const APPEND_FAULT_LINE: &str = "append fault\n";
 
 const OUT_OF_MEMORY_LINE: &str = "out of memory\n";
 
-/// Runs a command whose text is worked out, and answers the exit status. Where there is none, the words are told the
-/// usage.
+/// Runs a command whose text is worked out, and answers the exit status. Where there is no command, the usage
+/// is written.
 ///
 /// Its text is made whole before the first byte of it is written. A fault has one line, which is written if the
-/// output takes it. The words are those that ask for the command; they stand for the prover alone.
+/// output takes it. The words are those that ask for the command; they are for the prover alone.
 pub fn work<F: Files, S: Sink>(
     alloc: Global,
     words: &Words,
@@ -67,13 +67,13 @@ pub fn work<F: Files, S: Sink>(
     ensures write_fault { result ≡ 5 → Rose (S.faults out.old) (S.faults out.new) ⊎ Rose (F.append_faults files.old) (F.append_faults files.new) }
     ensures unwritten { IsTrue F.tells → result ≡ 5 → IsDone (run_of words.now (F.held files.old)).status ⊎ Rose (F.append_faults files.old) (F.append_faults files.new) }
 
-    // A read or an append that failed is told: with each other status its count is what it was, unless the output found
-    // no memory.
+    // A read or an append that failed is reported: with each other status its count is what it was, unless the
+    // output found no memory.
     ensures reads { result ≢ 4 → (F.read_faults files.new ≡ F.read_faults files.old) ⊎ ((result ≡ 7) × Rose (S.wants out.old) (S.wants out.new)) }
     ensures appended { result ≢ 5 → (F.append_faults files.new ≡ F.append_faults files.old) ⊎ ((result ≡ 7) × Rose (S.wants out.old) (S.wants out.new)) }
 
-    // Where no count rose, the answer is the one that the words and the bytes have, or want of memory. Where it is
-    // allowed to write a log anew, that is done.
+    // Where no count rose, the answer is the one that the words and the bytes have, or out of memory. Where it
+    // is allowed to write a log anew, that is done.
     ensures complete { IsTrue F.tells → (Rose (F.read_faults files.old) (F.read_faults files.new) → ⊥) → (Rose (S.faults out.old) (S.faults out.new) → ⊥) → OnlyReads (request_of words.now) ⊎ (Rose (F.append_faults files.old) (F.append_faults files.new) → ⊥) → (result ≡ (run_of words.now (F.held files.old)).status) ⊎ (result ≡ 7) }
     ensures allowed { IsTrue F.tells → IsAllowed (request_of words.now) (F.held files.old) → (Rose (F.read_faults files.old) (F.read_faults files.new) → ⊥) → (Rose (S.faults out.old) (S.faults out.new) → ⊥) → (Rose (F.append_faults files.old) (F.append_faults files.new) → ⊥) → (result ≡ 0) ⊎ (result ≡ 7) }
 
@@ -85,7 +85,7 @@ pub fn work<F: Files, S: Sink>(
     // each is signed.
     ensures certified { IsTrue F.tells → IsShown result → IfChecks (ShowsCertificate (F.held files.old)) (request_of words.now) }
 
-    // What is written with each status. Behind a report the text names the consumers that were dropped.
+    // What is written with each status. After a report the text names the consumers that were dropped.
     ensures text { IsTrue F.tells → IsDone result → WritesText (IsTextOf (seen (λ b. consumed b) (λ b. (⟦<dyn Consumer as Consumer>⟧ b.vtable).faults b.value) (λ b. (⟦<dyn Consumer as Consumer>⟧ b.vtable).wants b.value) (λ b. b.vtable)) F.tells words.now (F.held files.old) consumers.old.items consumers.new.items) (S.taken out.old) (S.taken out.new) }
     ensures line { IsTrue F.tells → IsRefusal result → WritesLine (S.taken out.old) (S.taken out.new) (run_of words.now (F.held files.old)).text (S.faults out.old) (S.faults out.new) }
     ensures usage_line { result ≡ 1 → WritesLine (S.taken out.old) (S.taken out.new) usage_line (S.faults out.old) (S.faults out.new) }
@@ -98,7 +98,7 @@ pub fn work<F: Files, S: Sink>(
     // What a run leaves of the files.
     ensures left { IsTrue F.tells → FilesAfter (request_of words.now) result (F.held files.old) (F.held files.new) }
 
-    // What the consumers were told.
+    // What the consumers were given.
     ensures consumers { ConsumersAfter (seen (λ b. consumed b) (λ b. (⟦<dyn Consumer as Consumer>⟧ b.vtable).faults b.value) (λ b. (⟦<dyn Consumer as Consumer>⟧ b.vtable).wants b.value) (λ b. b.vtable)) F.tells (request_of words.now) (F.held files.old) result consumers.old.items consumers.new.items }
 
     // What a command doesn't use stays as it was.
@@ -114,7 +114,7 @@ pub fn work<F: Files, S: Sink>(
     }
 }
 
-/// Runs the command up to its text. The words are those that ask for it; they stand for the prover alone.
+/// Runs the command up to its text. The words are those that ask for it; they are for the prover alone.
 #[tactic(auto, using(crate::proofs::AuditLaws::no_conflict, crate::proofs::AuditLaws::no_conflict_asked, crate::proofs::AuditLaws::reports), unfolding(crate::specs::Program::run_of))]
 fn run<F: Files>(
     alloc: Global,
@@ -178,7 +178,7 @@ pub fn finish<S: Sink>(out: &mut S, status: u8, text: &[u8]) -> u8
     }
 }
 
-/// Ends a run for want of memory, with its line if the output takes it.
+/// Ends a run that is out of memory, with its line if the output takes it.
 pub fn out_of_memory<S: Sink>(out: &mut S) -> u8
     ensures status { result ≡ 7 }
     ensures line { WritesMemoryLine (record { taken = S.taken out.old; faults = S.faults out.old; wants = S.wants out.old }) (record { taken = S.taken out.new; faults = S.faults out.new; wants = S.wants out.new }) }

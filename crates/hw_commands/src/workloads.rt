@@ -11,7 +11,7 @@ use hw_text::{end_line, put_number, put_numbered, put_word};
 use hw_types::{Bytes, OutOfMemory};
 use std::alloc::Global;
 
-/// Gives a node the units of so many rounds, which a number makes, and says how the run ends.
+/// Gives a node the units of `rounds` rounds, which the number makes, and says how the run ends.
 pub fn generated(alloc: Global, number: u64, rounds: u32) -> Ending
     requires some { 1 ≤ rounds }
     requires few { rounds ≤ 4096 }
@@ -48,7 +48,7 @@ fn put_height(text: &mut Bytes, height: Option<u64>) -> Result<(), OutOfMemory>
     }
 }
 
-/// Lets the words of a number choose so many steps of so many nodes, and says how the run ends.
+/// Lets the words of the number choose `steps` steps of `nodes` nodes, and says how the run ends.
 pub fn simulated(alloc: Global, number: u64, nodes: u32, steps: u32) -> Ending
     requires some { 1 ≤ nodes }
     requires few { nodes ≤ 16 }

@@ -3,9 +3,9 @@
 //! | Line | What it does |
 //! |---|---|
 //! | `once` | reads, writes and names a unit, and prints nothing |
-//! | `measure ROUNDS` | goes so many rounds of each, and prints the three rates, by the processor time of its thread |
+//! | `measure ROUNDS` | does ROUNDS rounds of each, and prints the three rates, by the processor time of its thread |
 //!
-//! No answer is compared: the gate goes one round that prints nothing, and the speed is measured by hand.
+//! No answer is compared: the gate does one round that prints nothing, and the speed is measured by hand.
 
 mod codec;
 
@@ -29,7 +29,7 @@ fn once(answer: &mut Answer, sample: &Sample) {
     let _ = sample.go(answer.alloc(), Work::Name, 1);
 }
 
-/// Goes so many rounds of each, and puts the three rates.
+/// Does this many rounds of each, and puts the three rates.
 fn measure(rt: HostRuntime, answer: &mut Answer, sample: &Sample, rounds: u32) {
     let read = time_of(rt, answer, sample, Work::Read, rounds);
     let written = time_of(rt, answer, sample, Work::Write, rounds);
@@ -72,7 +72,7 @@ fn moment(rt: HostRuntime, answer: &mut Answer) -> u128 {
     }
 }
 
-/// How many rounds a second are gone in so many microseconds.
+/// How many rounds a second that is, if the rounds took this many microseconds.
 fn put_rate(answer: &mut Answer, what: &str, rounds: u32, micros: u128) {
     answer.put(what);
     answer.show(&(rounds as u128 * 1_000_000 / micros.max(1)));

@@ -24,8 +24,8 @@
 //! - `step by V at T`: the unit that the validator may make at this moment, or `none`; `block` may follow, with the
 //!   value of a proposal.
 //! - `make NAME by V at T`: the same, and what becomes of that unit under this name.
-//! - `random UNITS PANORAMAS SEED`: of so many random panoramas of a random graph, how many have the fork choice that
-//!   sums of scores give.
+//! - `random UNITS PANORAMAS SEED`: of PANORAMAS random panoramas of a random graph of UNITS units, how many have the
+//!   fork choice that sums of scores give.
 //!
 //! C is `-`, `!` or the name of a unit. The digest of a unit is its name, and all units are of one instance.
 //!

@@ -11,7 +11,8 @@
 //! - `deliver NAME ..`, `forge NAME ..`: delivers vertices, the second with the verdict that their signatures are
 //!   wrong: what became of each.
 //! - `endorse NAME by V ..`: delivers an endorsement of the unit by each of these: what became of each.
-//! - `place NAME ..`: where each unit stands, a settled one with its number.
+//! - `place NAME ..`: whether each unit is unknown, settled, parked or dropped: with its number, how many needs it
+//!   misses, or the rule that it breaks.
 //! - `missing NAME ..`: what each unit misses, asked for place by place.
 //! - `unmet N`: the first N needs that parked units miss, in the order of parking; N is at most 8.
 //! - `against V ..`: the evidence that the journal has against each validator.
@@ -27,14 +28,15 @@
 //! - `chain N forward`, `chain N reverse`: delivers a chain of N units of validator 0 in that order: the sums of what
 //!   became of them.
 //!
-//! C is `-`, `!` or the name of a unit. A list of endorsed units is put in rising order. A delivery that is refused for
-//! want of memory is tried once more, and its line has `memory` before the answer. `changed` behind a refusal says that
-//! another vertex came back than was delivered, `lost` behind a place that the node keeps another unit of that digest.
+//! C is `-`, `!` or the name of a unit. A list of endorsed units is put in rising order. A delivery that is refused
+//! since there is no memory is tried once more, and its line has `memory` before the answer. `changed` after a refusal
+//! says that another vertex came back than was delivered. `lost` after a place says that the node keeps another unit of
+//! that digest.
 //!
 //! Covered, with the answers of two independent implementations, one of them by the letter of the definitions; those
 //! of the worked examples were written down by hand before:
 //!
-//! - each receipt, and each refusal but a clash and want of memory, in the order in which the tests come;
+//! - each receipt, and each refusal but a clash and out of memory, in the order in which the tests come;
 //! - each of the nineteen rules, the first eight refused and the others dropped; each fault of a pair;
 //! - the places of units and what each misses, need by need, while needs are met one after the other;
 //! - units that settle by a unit, by evidence, by an equivocation among the settled units and by the last

@@ -14,7 +14,7 @@
 //! - `print NUMBER`, `digest HEX`, `rule NUMBER`: printed parts.
 //! - `park LIMIT STEP ..`: what becomes of items: `p:NEEDS:ITEM` parks, `m:NEED` meets, `n` asks for the next, `c`
 //!   counts; a need is `uN`, `eN` or `dN`.
-//! - `parks COUNT`: so many items with chosen needs are parked, met and handed out in order.
+//! - `parks COUNT`: COUNT items with chosen needs are parked, met and handed out in order.
 //! - `endorse VALIDATORS STEP ..`: `a:UNIT:ENDORSER` adds, `q:UNIT` asks, `h:UNIT:ENDORSER` asks for a pair.
 //! - `endorsers VALIDATORS`: how many of them, one after the other, make a unit endorsed.
 //! - `KIND HEX`: what the bytes spell: their length and room, their name, and what is in them; KIND is `unit`,

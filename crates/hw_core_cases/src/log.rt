@@ -2,8 +2,8 @@
 //! one line for each.
 //!
 //! LOG, NEW, ONE, TWO and what is held then are the bytes of files as hexadecimal digits, or `-` for a file that isn't
-//! there. ONE and TWO are one log in both versions. The worked logs have three validators of weight 1: behind the
-//! header stand a first block, a unit that cites it, and units that cite both. PIECE is how many bytes a read gives at
+//! there. ONE and TWO are one log in both versions. The worked logs have three validators of weight 1: after the
+//! header come a first block, a unit that cites it, and units that cite both. PIECE is how many bytes a read gives at
 //! most. CALL is the number of the call of the files that fails, counted from 0, or `-`; a failing append takes LEFT
 //! bytes. COMMAND is `mend` or `migrate`.
 //!
@@ -31,16 +31,16 @@
 //! - `door PIECE CALLS PEERS STEPS`: what a door answers to the steps, its sessions and its numbers; the calls of these
 //!   numbers fail, a read gives at most PIECE bytes, and the peers say these words.
 //! - `sure PEERS STEPS`: the same of a door of which no call is to fail.
-//! - `watched PEERS STEPS`: the same of one that tells the calls of `read` in its last session: each as
+//! - `watched PEERS STEPS`: the same of one that records the calls of `read` in its last session: each as
 //!   `HEARD/WRITTEN`, what had been by then, and how many.
 //! - `paced PIECE HOLDS PEERS STEPS`: the same as of `door`, where no call is to fail and the peers wait: each of
-//!   HOLDS, with commas between, is `SAID:WRITTEN`, and what a peer says behind so many bytes comes only once so many
+//!   HOLDS, with commas between, is `SAID:WRITTEN`, and what a peer says after SAID bytes comes only once WRITTEN bytes
 //!   were written.
 //! - `consumer CALLS STEPS`: what a consumer answers to the steps, and what it took; the calls of these numbers fail.
 //!
 //! CALLS and PEERS are lists with commas between, or `-`. A step of a door is `accept`, `dial:ADDRESS`, `read:COUNT`,
-//! `write:TEXT` or `end`; one of a consumer is `HEIGHT:VALUE` or `finish`. A session is told as
-//! `ADDRESS/HEARD/WRITTEN`, with `!` behind it where a call failed in it, and `-` for no address.
+//! `write:TEXT` or `end`; one of a consumer is `HEIGHT:VALUE` or `finish`. A session is printed as
+//! `ADDRESS/HEARD/WRITTEN`, with `!` after it where a call failed in it, and `-` for no address.
 //!
 //! Covered:
 //!

@@ -5,7 +5,7 @@
 //! | `file NAME` | the file of that name in `data/` |
 //! | `text LINES` | these lines, a `|` between them |
 //!
-//! Before the output stands the line again; for a text outside the grammar the output is `line N`.
+//! The line is repeated before the output; for a text outside the grammar the output is `line N`.
 //!
 //! Covered, with the answers of an independent implementation:
 //!

@@ -7,7 +7,7 @@ use Rattle.hw_types.specs.declared.config.Config.{Config}
 use Rattle.hw_types.specs.Real.{CoreState}
 use Rattle.hw_replay.specs.Taken.{Taken}
 use Rattle.hw_eras.specs.Nodes.{first_config}
-use Rattle.hw_eras.specs.Logs.{Held, Stop, ◌>>=◌, eras_of, nodes_of}
+use Rattle.hw_eras.specs.Logs.{Held, LogStop, ◌>>=◌, eras_of, nodes_of}
 use Rattle.hw_eras.specs.declared.audits.EraAudit.{EraAudit}
 use Rattle.hw_eras.specs.declared.verdict.EraVerdict.{EraVerdict}
 use Rattle.hw_eras.specs.EraAudit.{IsVerdictByEras}
@@ -30,8 +30,8 @@ module _ (held : Held) (left right : List (List ℕ)) where
   pub said_by_eras : (ls rs : List Taken) (v : EraVerdict) (e : EraAudit) → eras_of held None left ≡ Ok ls → eras_of held (first_config (nodes_of ls)) right ≡ Ok rs
       → IsVerdictByEras (nodes_of ls) (nodes_of rs) v → TellsVerdict (nodes_of ls) v e → logs_audited held left right ≡ Ok e
   said_by_eras ls rs v e left_is right_is is told =
-      ap (λ (x : Result (List Taken) Stop). x >>= λ ls. audited_against held ls right) left_is
-      ∙ ap (λ (x : Result (List Taken) Stop). x >>= λ rs. Ok (eras_audited 0 0 (nodes_of ls) (nodes_of rs))) right_is
+      ap (λ (x : Result (List Taken) LogStop). x >>= λ ls. audited_against held ls right) left_is
+      ∙ ap (λ (x : Result (List Taken) LogStop). x >>= λ rs. Ok (eras_audited 0 0 (nodes_of ls) (nodes_of rs))) right_is
       ∙ ap (λ (x : EraAudit). Ok x) (sym (told_by_eras (nodes_of ls) (nodes_of rs) v e (eras_signed held None left ls left_is) (eras_signed held (first_config (nodes_of ls)) right rs right_is) is told))
 
   -- and so is what was told
@@ -48,7 +48,7 @@ module _ (held : Held) (left right : List (List ℕ)) where
     -- one of them stops
     pub right_stops : (e : EraFault) → StopsSo e (eras_of now (Some core.config) right) → StopsSo e (logs_audited held left right)
     right_stops e stops =
-        subst (StopsSo e) (sym (ap (λ (x : Result (List Taken) Stop). x >>= λ ls. audited_against held ls right) there))
+        subst (StopsSo e) (sym (ap (λ (x : Result (List Taken) LogStop). x >>= λ ls. audited_against held ls right) there))
         (stops_then (eras_of held (first_config (nodes_of (eras_in l))) right) (λ rs. Ok (eras_audited 0 0 (nodes_of (eras_in l)) (nodes_of rs))) e (subst (StopsSo e) (sym rights) stops))
 
     pub audit_is : (r : Filled) (e : EraAudit) → eras_of now (Some core.config) right ≡ Ok (eras_in r) → IsAudit l.eras r.eras e → IsAuditOfLogs held left right e

@@ -14,7 +14,7 @@ use Rattle.hw_eras.specs.declared.answers.EraOpen.{EraOpen}
 use Rattle.hw_eras.specs.Nodes.{next_of, first_config, last_core, AreNodeEras, IsLastUnended, HasOpened}
 use Rattle.hw_eras.proofs.EndedLaws.{ended_names, last_made}
 use Rattle.hw_replay.specs.Taken.{Taken, nothing_taken}
-use Rattle.hw_eras.specs.Logs.{Held, Stop, NoEra, ◌>>=◌, log_left, without_log, eras_from, eras_of, nodes_of}
+use Rattle.hw_eras.specs.Logs.{Held, LogStop, NoEra, ◌>>=◌, log_left, without_log, eras_from, eras_of, nodes_of}
 use Rattle.hw_eras.specs.declared.filled.EraCounts.{EraCounts}
 use Rattle.hw_eras.specs.declared.filled.Filled.{Filled}
 use Rattle.hw_eras.specs.Filled.{counted, eras_in, logs_in, next_in, ahead_in, IsFilled, opened, HasTaken, HasFirst}
@@ -205,10 +205,10 @@ module _ (f g : Filled) (t : Taken) (few : logs_in f < 64) (filled : IsFilled f)
       let xs : List Taken = take (logs_in f) (eras_in f) in
       let step : ahead_in held f (log ∷ logs) ≡ ((eras_from held (next_of t.core) logs >>= λ ts. Ok (t ∷ ts)) >>= λ ts. Ok (take 64 (xs ++ ts))) =
       ap (λ (o : Option Config). eras_from held o (log ∷ logs) >>= λ ts. Ok (take 64 (xs ++ ts))) next
-      ∙ ap (λ (r : Result Taken Stop). (r >>= λ u. eras_from held (next_of u.core) logs >>= λ ts. Ok (u ∷ ts)) >>= λ ts. Ok (take 64 (xs ++ ts))) left in
+      ∙ ap (λ (r : Result Taken LogStop). (r >>= λ u. eras_from held (next_of u.core) logs >>= λ ts. Ok (u ∷ ts)) >>= λ ts. Ok (take 64 (xs ++ ts))) left in
       step ∙ go (logs_in g == 64) refl
     where
-      rest : (r : Result (List Taken) Stop) → ((r >>= λ ts. Ok (t ∷ ts)) >>= λ ts. Ok (take 64 (take (logs_in f) (eras_in f) ++ ts))) ≡ (r >>= λ ts. Ok (take 64 (take (logs_in g) (eras_in g) ++ ts)))
+      rest : (r : Result (List Taken) LogStop) → ((r >>= λ ts. Ok (t ∷ ts)) >>= λ ts. Ok (take 64 (take (logs_in f) (eras_in f) ++ ts))) ≡ (r >>= λ ts. Ok (take 64 (take (logs_in g) (eras_in g) ++ ts)))
       rest (Ok ts) = ap (λ (us : List Taken). Ok (take 64 us)) (sym (append_assoc (take (logs_in f) (eras_in f)) (t ∷ []) ts)) ∙ ap (λ (us : List Taken). Ok (take 64 (us ++ ts))) (sym taken_more)
       rest (Err e) = refl
 
@@ -320,7 +320,7 @@ module _ (f : Filled) (t : Taken) (has : HasFirst f t) where
       ap (λ (n : ℕ). take n (eras_in f)) one_log
       ∙ ap (λ (cs : List CoreState). take 1 (counted cs f.counts.items)) has.eras
       ∙ ap (λ (cs : List EraCounts). take 1 (counted (t.core ∷ opened (next_of t.core)) cs)) has.counts in
-      ap (λ (r : Result Taken Stop). r >>= λ u. eras_from held (next_of u.core) logs >>= λ ts. Ok (take 64 (u ∷ ts))) left
+      ap (λ (r : Result Taken LogStop). r >>= λ u. eras_from held (next_of u.core) logs >>= λ ts. Ok (take 64 (u ∷ ts))) left
       ∙ ap (λ (us : List Taken). eras_from held (next_of t.core) logs >>= λ ts. Ok (take 64 (us ++ ts))) (sym first)
       ∙ ap (λ (o : Option Config). eras_from held o logs >>= λ ts. Ok (take 64 (take (logs_in f) (eras_in f) ++ ts))) (sym next_first)
 

@@ -30,7 +30,7 @@ use Rattle.hw_replay.specs.Replay.{same_config, replay_of, taken_in, IsOutside, 
 use Rattle.hw_replay.specs.Ends.{IsReached}
 use Rattle.hw_replay.specs.Laws.{IsSigned}
 use Rattle.hw_replay.proofs.DeliveredLaws.{replay_delivers}
-use Rattle.hw_eras.specs.Logs.{Held, Stop, ◌>>=◌, file_left, or_stopped, log_left, eras_from, eras_of, nodes_of}
+use Rattle.hw_eras.specs.Logs.{Held, LogStop, ◌>>=◌, file_left, or_stopped, log_left, eras_from, eras_of, nodes_of}
 
 -- ---- the file was replayed
 
@@ -106,7 +106,7 @@ left_signed held wanted log t = go (held log)
         back (Err f) is = absurd cc
 
 -- what went on was there
-pub bound : {A B : Type 0} (r : Result A Stop) (f : A → Result B Stop) (b : B) → (r >>= f) ≡ Ok b → (a : A) × (r ≡ Ok a) × (f a ≡ Ok b)
+pub bound : {A B : Type 0} (r : Result A LogStop) (f : A → Result B LogStop) (b : B) → (r >>= f) ≡ Ok b → (a : A) × (r ≡ Ok a) × (f a ≡ Ok b)
 bound (Ok a) f b e = (a, refl, e)
 bound (Err s) f b e = absurd cc
 

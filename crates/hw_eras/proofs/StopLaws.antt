@@ -6,7 +6,7 @@ use Rattle.hw_types.specs.declared.config.Config.{Config}
 use Rattle.hw_types.specs.Below.{Among}
 use Rattle.hw_eras.specs.Nodes.{next_of}
 use Rattle.hw_replay.specs.Taken.{Taken}
-use Rattle.hw_eras.specs.Logs.{Held, Stop, ◌>>=◌, log_left, eras_from, eras_of}
+use Rattle.hw_eras.specs.Logs.{Held, LogStop, ◌>>=◌, log_left, eras_from, eras_of}
 use Rattle.hw_eras.specs.declared.filled.Filled.{Filled}
 use Rattle.hw_eras.specs.declared.stop.EraFault.{EraFault}
 use Rattle.hw_eras.specs.declared.stop.EraFault.TheVariants as stop
@@ -15,7 +15,7 @@ use Rattle.hw_eras.specs.Filled.{eras_in, logs_in, next_in, ahead_in, IsFilled, 
 use Rattle.hw_eras.proofs.FilledLaws.{begun_ahead, nothing_ahead}
 
 -- what stops, stops what follows
-pub stops_then : {A B : Type 0} (r : Result A Stop) (f : A → Result B Stop) (e : EraFault) → StopsSo e r → StopsSo e (r >>= f)
+pub stops_then : {A B : Type 0} (r : Result A LogStop) (f : A → Result B LogStop) (e : EraFault) → StopsSo e r → StopsSo e (r >>= f)
 stops_then r f (stop.NoEra log) is = ap (λ x. x >>= f) is
 stops_then r f (stop.Stopped log e) (inl out) = inl out
 stops_then r f (stop.Stopped log e) (inr is) = inr (ap (λ x. x >>= f) is)
@@ -25,7 +25,7 @@ stops_then r f stop.OutOfMemory is = tt
 pub stopped_ahead : (held : Held) (f : Filled) (log : List ℕ) (logs : List (List ℕ)) (config : Config) (e : EraFault) → next_in f ≡ Some config → StopsSo e (log_left held (Some config) log) → StopsSo e (ahead_in held f (log ∷ logs))
 unfolding eras_from
 stopped_ahead held f log logs config e next stops =
-    let behind : List Taken → Result (List Taken) Stop = λ ts. Ok (take 64 (take (logs_in f) (eras_in f) ++ ts)) in
+    let behind : List Taken → Result (List Taken) LogStop = λ ts. Ok (take 64 (take (logs_in f) (eras_in f) ++ ts)) in
     subst (StopsSo e) (sym (ap (λ (o : Option Config). eras_from held o (log ∷ logs) >>= behind) next))
     (stops_then (eras_from held (Some config) (log ∷ logs)) behind e (stops_then (log_left held (Some config) log) (λ t. eras_from held (next_of t.core) logs >>= λ ts. Ok (t ∷ ts)) e stops))
 

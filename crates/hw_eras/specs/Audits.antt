@@ -20,7 +20,7 @@ use Rattle.hw_eras.specs.declared.verdict.EraVerdict.TheVariants as eras
 use Rattle.hw_eras.specs.Nodes.{first_config, AreNodeEras}
 use Rattle.hw_eras.specs.EraAudit.{IsVerdictOnEras, IsVerdictByEras, IsAccounted}
 use Rattle.hw_replay.specs.Taken.{Taken}
-use Rattle.hw_eras.specs.Logs.{Held, Stop, ◌>>=◌, eras_of, nodes_of}
+use Rattle.hw_eras.specs.Logs.{Held, LogStop, ◌>>=◌, eras_of, nodes_of}
 use Rattle.hw_eras.specs.Reports.{era_line}
 use Rattle.hw_eras.specs.declared.audits.EraAudit.{EraAudit}
 
@@ -61,11 +61,11 @@ eras_audited era common (l ∷ ls) [] = agreed common
 eras_audited era common (l ∷ ls) (r ∷ rs) = told_or era (era_said (setting_of l.config) l.journal r.journal) (λ here. eras_audited (era + 1) (common + here) ls rs)
 
 -- the same of nodes of which these logs leave the right one, whose first log is of the left one's first configuration
-abbrev pub audited_against : Held → List Taken → List (List ℕ) → Result EraAudit Stop
+abbrev pub audited_against : Held → List Taken → List (List ℕ) → Result EraAudit LogStop
 audited_against held ls right = eras_of held (first_config (nodes_of ls)) right >>= λ rs. Ok (eras_audited 0 0 (nodes_of ls) (nodes_of rs))
 
 -- What the eras of these logs say of each other. The left logs are all read first.
-abbrev pub logs_audited : Held → List (List ℕ) → List (List ℕ) → Result EraAudit Stop
+abbrev pub logs_audited : Held → List (List ℕ) → List (List ℕ) → Result EraAudit LogStop
 logs_audited held left right = eras_of held None left >>= λ ls. audited_against held ls right
 
 -- ---- by the verdict
@@ -97,7 +97,7 @@ pub record IsAudit (left right : List CoreState) (e : EraAudit) : Type 0 where
   pub told : TellsVerdict left said e
 
 -- the same, where this is the left node, and logs leave the right one
-pub record IsAuditAgainst (held : Held) (left : Result (List Taken) Stop) (right : List (List ℕ)) (e : EraAudit) : Type 0 where
+pub record IsAuditAgainst (held : Held) (left : Result (List Taken) LogStop) (right : List (List ℕ)) (e : EraAudit) : Type 0 where
   pub lefts : List Taken
   pub left_is : left ≡ Ok lefts
   pub rights : List Taken

@@ -9,7 +9,7 @@ use Rattle.hw_eras.specs.Nodes.{next_of}
 use Rattle.hw_replay.specs.declared.replay.Replay.{Replay}
 use Rattle.hw_replay.specs.Taken.{Taken}
 use Rattle.hw_replay.specs.Replay.{taken_in}
-use Rattle.hw_eras.specs.Logs.{Held, Stop, ◌>>=◌, eras_from}
+use Rattle.hw_eras.specs.Logs.{Held, LogStop, ◌>>=◌, eras_from}
 use Rattle.hw_eras.specs.declared.filled.EraCounts.{EraCounts}
 use Rattle.hw_eras.specs.declared.filled.Filled.{Filled}
 use Rattle.hw_eras.specs.declared.stop.EraFault.{EraFault}
@@ -38,7 +38,7 @@ abbrev pub next_in : Filled → Option Config
 next_in f = option_map (λ (c : CoreState). c.config) (slice_get f.eras (logs_in f))
 
 -- the eras that will be there once these logs came too
-abbrev pub ahead_in : Held → Filled → List (List ℕ) → Result (List Taken) Stop
+abbrev pub ahead_in : Held → Filled → List (List ℕ) → Result (List Taken) LogStop
 ahead_in held f logs = eras_from held (next_in f) logs >>= λ ts. Ok (take 64 (take (logs_in f) (eras_in f) ++ ts))
 
 -- Each era but the last one got its log, and where that one didn't, nothing came in it.
@@ -65,12 +65,12 @@ pub record HasFirst (f : Filled) (t : Taken) : Type 0 where
   pub counts : f.counts.items ≡ record { refused = t.refused; repeats = t.repeats } ∷ []
 
 -- the replay took what the log left, or it stops there
-abbrev pub Leaves : Result Taken Stop → Result Replay EraFault → Type 0
+abbrev pub Leaves : Result Taken LogStop → Result Replay EraFault → Type 0
 Leaves left (Ok replay) = left ≡ Ok (taken_in replay)
 Leaves left (Err e) = StopsSo e left
 
 -- the first log was taken, or it stops there
-abbrev pub HasBegun : Result Taken Stop → Result Filled EraFault → Type 0
+abbrev pub HasBegun : Result Taken LogStop → Result Filled EraFault → Type 0
 HasBegun left (Ok f) = (t : Taken) × (left ≡ Ok t) × HasFirst f t
 HasBegun left (Err e) = StopsSo e left
 
@@ -80,11 +80,11 @@ TakesLog held old log new (Ok x) = (logs : List (List ℕ)) → logs_in old + 1 
 TakesLog held old log new (Err e) = (logs : List (List ℕ)) → StopsSo e (ahead_in held old (log ∷ logs))
 
 -- all that was ahead is there, or it stops there
-abbrev pub TakesAll : Result (List Taken) Stop → Filled → Result (Unit {0}) EraFault → Type 0
+abbrev pub TakesAll : Result (List Taken) LogStop → Filled → Result (Unit {0}) EraFault → Type 0
 TakesAll ahead new (Ok x) = ahead ≡ Ok (eras_in new)
 TakesAll ahead new (Err e) = StopsSo e ahead
 
 -- these eras are there, or the logs stop there
-abbrev pub Fills : Result (List Taken) Stop → Result Filled EraFault → Type 0
+abbrev pub Fills : Result (List Taken) LogStop → Result Filled EraFault → Type 0
 Fills eras (Ok f) = eras ≡ Ok (eras_in f)
 Fills eras (Err e) = StopsSo e eras

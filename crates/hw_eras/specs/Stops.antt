@@ -5,18 +5,18 @@ use Rattle.hw_io.specs.Faults.{subject_of}
 use Rattle.hw_types.specs.Below.{Among}
 use Rattle.hw_replay.specs.Replay.{IsOutside}
 use Rattle.hw_replay.specs.Causes.{IsFaultCounted, IsFaultAbout, IsOfReplay}
-use Rattle.hw_eras.specs.Logs.{Stop, NoEra, Stopped}
+use Rattle.hw_eras.specs.Logs.{LogStop, NoEra, Stopped}
 use Rattle.hw_eras.specs.declared.stop.EraFault.{EraFault}
 use Rattle.hw_eras.specs.declared.stop.EraFault.TheVariants as stop
 
 -- it is what the definitions stop with, if it isn't of the outside: a failed read, or want of memory
-abbrev pub StopsSo : {T : Type 0} → EraFault → Result T Stop → Type 0
+abbrev pub StopsSo : {T : Type 0} → EraFault → Result T LogStop → Type 0
 StopsSo (stop.NoEra log) said = said ≡ Err (NoEra log.now)
 StopsSo (stop.Stopped log e) said = IsOutside e ⊎ (said ≡ Err (Stopped log.now e))
 StopsSo stop.OutOfMemory said = Unit {0}
 
 -- what is answered is what the definitions say, or they stop so
-abbrev pub Says : {T : Type 0} → Result T Stop → Result T EraFault → Type 0
+abbrev pub Says : {T : Type 0} → Result T LogStop → Result T EraFault → Type 0
 Says said (Ok x) = said ≡ Ok x
 Says said (Err e) = StopsSo e said
 

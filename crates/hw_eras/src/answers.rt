@@ -1,4 +1,4 @@
-//! What is answered of eras where a vertex is refused, or the next era isn't opened.
+//! Why a vertex is refused in an era, and why the next era isn't opened.
 
 use hw_types::{Cause, Vertex};
 
@@ -21,7 +21,7 @@ pub struct EraRefused {
 /// Why the next era wasn't opened.
 #[derive(Clone, Copy, Debug, PartialEq, Eq)]
 pub enum EraOpen {
-    /// As many eras are there as may be: 64.
+    /// There are 64 eras, and a node has no more.
     Full,
     /// There was no memory.
     OutOfMemory,

@@ -17,8 +17,8 @@ use std::alloc::Global;
 
 /// What the eras of two nodes say of each other, which begin with one configuration.
 ///
-/// The first era that both have in which they don't agree is named, with its verdict. Otherwise they agree, in
-/// so many blocks of all eras that both have.
+/// The first era that both have in which they don't agree is named, with its verdict. Otherwise they agree, and
+/// `common` is in how many blocks of all eras that both have.
 ///
 /// Instances is answered exactly where the configurations of era 0 differ.
 pub fn audit_eras(alloc: Global, left: &Eras, right: &Eras) -> Result<EraVerdict, AuditError>

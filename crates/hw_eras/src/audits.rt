@@ -28,7 +28,7 @@ const CONFLICT: u8 = 3;
 /// Two different units have one digest.
 const CLASH: u8 = 9;
 
-/// What is told of the eras of two nodes.
+/// What an audit of the eras of two nodes comes to.
 #[derive(Drop)]
 pub struct EraAudit {
     /// 0 where they agree, 3 where they are in conflict, and 9 where two different units have one digest.
@@ -38,9 +38,11 @@ pub struct EraAudit {
 
 /// Replays these logs into the eras of two nodes, and says what the eras say of each other.
 ///
-/// The left logs are all replayed before the first right one, which must be of the left ones' first configuration;
-/// each other one must be of its era's. Where the two don't agree in an era, the first such era is told; otherwise in
-/// how many blocks of all eras together they agree.
+/// The left logs are all replayed before the first right one, which must be of the left ones' first
+/// configuration; each other one must be of its era's. Where the two don't agree in an era, the text gives the
+/// first such era. Otherwise it gives in how many blocks of all eras together they agree.
+///
+/// An error names the log that stopped the run, or is out of memory.
 pub fn audit_logs<'a, F: Files>(
     alloc: Global,
     files: &mut F,
@@ -79,7 +81,7 @@ fn first_core(eras: &Eras) -> &Core
     }
 }
 
-/// What is told of the eras of two nodes, which begin with one configuration.
+/// What the audit of the eras of two nodes comes to, which begin with one configuration.
 fn audited(alloc: Global, left: &Eras, right: &Eras) -> Result<EraAudit, OutOfMemory>
     requires { first_config left.now ≡ first_config right.now }
     ensures audit { IfOk result (IsAudit left.now right.now) }
@@ -96,7 +98,7 @@ fn audited(alloc: Global, left: &Eras, right: &Eras) -> Result<EraAudit, OutOfMe
     }
 }
 
-/// The eras agree in so many blocks.
+/// The eras agree in this many blocks.
 #[tactic(auto, using(std::proofs::Common::append_assoc), unfolding(hw_audit::specs::Text::agree_line))]
 fn agreed(alloc: Global, common: u64) -> Result<EraAudit, OutOfMemory>
     ensures { IfOk result (λ e. e ≡ agreed common) }

@@ -47,7 +47,7 @@ fn of_era(refused: Refused) -> EraRefused
     }
 }
 
-/// Lets a node that its journal's vertices make again change places with the last one, whose configuration it has.
+/// Swaps the last node with this one, which has its configuration and which its journal's vertices make again.
 pub fn put_last(cores: &mut Vec<Core>, core: &mut Core)
     requires eras { AreNodeEras cores.old.items }
     requires made { IsMadeAgain core.old }

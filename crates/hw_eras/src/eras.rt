@@ -18,7 +18,7 @@ use std::marker::Model;
 
 /// The eras of a node: an instance for each, one after the other.
 ///
-/// Contracts see the configuration and the journal of each.
+/// Contracts see the configuration, the journal and the last question of each.
 #[derive(Drop)]
 pub struct Eras {
     cores: Vec<Core>,
@@ -37,8 +37,8 @@ impl Model for Eras {
 }
 
 impl Eras {
-    /// Era 0 alone, with this configuration, in which nothing was received. There is none exactly where the
-    /// configuration breaks one of its limits, which is named, or for want of memory.
+    /// Era 0 alone, with this configuration, in which nothing was received. `Fault` names the limit that the
+    /// configuration breaks. `OutOfMemory` is answered only where it breaks none.
     pub fn new(alloc: Global, config: Config) -> Result<Eras, StateFault>
         ensures lawful { IfOk result (λ eras. config_fault config ≡ None) }
         ensures fault { IfErr result (IsStartFault (config_fault config)) }
@@ -71,8 +71,8 @@ impl Eras {
         deliver_to(&mut self.cores, era, vertex, verdict)
     }
 
-    /// Puts a node in the place of the last era's, whose configuration it has, and gives that one out. Its
-    /// journal's vertices make the node again, as they do for each that came to it by deliveries.
+    /// Swaps the last era's node with this one, which has its configuration. Its journal's vertices must make
+    /// it again, as they do for each node that came about by deliveries.
     pub fn put_last(&mut self, core: &mut Core)
         requires made { IsMadeAgain core.old }
         requires config { IfSome (last_core self.old) (λ last. core.old.config ≡ last.config) }
@@ -86,7 +86,7 @@ impl Eras {
     /// Opens the next era, once the last block of the last one is decided, and answers its number.
     ///
     /// None is answered exactly where the last era has no end, or decided no block of that height. `Full` is
-    /// answered exactly where otherwise 64 eras are there. After these two and for want of memory nothing has
+    /// answered exactly where otherwise 64 eras are there. After these two and after `OutOfMemory` nothing has
     /// changed. Otherwise the next era has the configuration that the last block names.
     pub fn open_next(&mut self) -> Result<Option<u32>, EraOpen>
         ensures none { (result ≡ Ok None) ↔ IsLastUnended self.old }

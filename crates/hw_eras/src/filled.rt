@@ -21,7 +21,7 @@ use hw_replay::{Replay, replay_log};
 use hw_types::OutOfMemory;
 use std::alloc::Global;
 
-/// The most logs of a node, one for each era: behind so many no further era is opened.
+/// The most logs of a node, one for each era: after this many no further era is opened.
 pub const MAX_LOGS: usize = 64;
 
 /// How many entries of an era's log were refused, and how many came again.
@@ -63,7 +63,7 @@ impl Filled {
         Ok(filled)
     }
 
-    /// The same, if the first log is of the configuration of this node.
+    /// The same, if the first log is of this node's configuration; otherwise its replay stops.
     pub fn of_logs_like<'a, F: Files>(
         alloc: Global,
         files: &mut F,
@@ -196,7 +196,7 @@ impl Filled {
         self.open()
     }
 
-    /// Opens the next era, but behind the last log that there may be.
+    /// Opens the next era, but not after the last log that a node may have.
     fn open(&mut self) -> Result<(), OutOfMemory>
         requires { logs_in self.old ≡ length self.old.eras }
         ensures eras { OnOk result ((core : CoreState) → last_core self.old.eras ≡ Some core → self.new.eras ≡ self.old.eras ++ (if logs_in self.old == 64 then [] else opened (next_of core))) }

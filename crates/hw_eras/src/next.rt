@@ -10,10 +10,10 @@ use std::alloc::Global;
 
 /// The configuration of the next era, where the last block of an era has this digest and this value.
 ///
-/// Its leaders are drawn by the digest. A value that is just a count of four bytes, so many weights of
-/// eight bytes and a threshold of eight bytes names the next weights and the next threshold, if the
-/// configuration keeps all limits with them; otherwise both stay as they are. All else stays, the height of
-/// the last block too.
+/// Its leaders are drawn by the digest. A value names the next weights and threshold where it is just a count
+/// of four bytes, that many weights and a threshold, of eight bytes each. They are taken if the configuration
+/// keeps all limits with them; otherwise both stay as they are. All else stays, the height of the last block
+/// too.
 pub fn next_config(
     alloc: Global,
     config: &Config,

@@ -94,7 +94,7 @@ fn config_after(alloc: Global, core: &Core, block: &Digest) -> Result<Config, Ou
 {
     let state = core.state();
     let dag = state.dag();
-    // For the prover: what stands behind a `Dag` is a graph.
+    // For the prover: what a `Dag` holds is a graph.
     dag.recall_graph();
     match dag.find(block) {
         Some(no) => next_config(

@@ -20,9 +20,11 @@ use std::alloc::Global;
 
 /// Replays these logs into the eras of a node, one into each, and reports on each era that is there.
 ///
-/// An era is there once the one before has decided its last block, and its log must be of its configuration. Behind
-/// the last log there may be an era that has none; behind the 64th there is no other. A limit or a clash stops a
-/// replay, and other refusals are counted.
+/// An era is there once the one before has decided its last block, and its log must be of its configuration.
+/// After the last log there may be an era that has none; after the 64th log there is no further era. A limit or
+/// a clash stops a replay, and other refusals are counted.
+///
+/// An error names the log that stopped the run, or is out of memory.
 pub fn report_logs<'a, F: Files>(
     alloc: Global,
     files: &mut F,
@@ -73,7 +75,7 @@ fn counts_at(filled: &Filled, era: u32) -> EraCounts
     }
 }
 
-/// Puts the report on an era last, behind the line that names it.
+/// Puts the report on an era last, after the line that names it.
 #[tactic(auto, using(std::proofs::Common::append_assoc))]
 fn put_report(
     alloc: Global,

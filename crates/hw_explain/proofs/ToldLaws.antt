@@ -14,7 +14,7 @@ use Rattle.hw_text.specs.Lines.{line_of}
 use Rattle.hw_safety.proofs.DetectorLaws.{nothing_at_first}
 use Rattle.hw_core.specs.Decided.{decided_in}
 use Rattle.hw_core.proofs.DecidedLaws.{decided_is, found_at}
-use Rattle.hw_explain.specs.declared.told.Told.{Told}
+use Rattle.hw_explain.specs.declared.told.DecisionLines.{DecisionLines}
 use Rattle.hw_explain.specs.Report.{exceeded_line, exceeded_in}
 use Rattle.hw_explain.specs.Explain.{explained_line, explained_lines, explained_text, explained_in}
 use Rattle.hw_explain.specs.Searched.{IsDecidedNow}
@@ -29,7 +29,7 @@ use Rattle.hw_explain.proofs.GrowLaws.{same_received, decisions_more, at_moment,
 none_decided : (c : CoreState) → c.journal ≡ [] → decided_in c ≡ []
 none_decided c none = ap (decisions_of (setting_of c.config)) none ∙ sym (decided_is c.config [] [] (nothing_at_first (setting_of c.config)))
 
-pub told_nothing : (c : CoreState) (told : Told) → c.journal ≡ [] → told.text ≡ [] → told.count ≡ 0 → HasTold told c
+pub told_nothing : (c : CoreState) (told : DecisionLines) → c.journal ≡ [] → told.text ≡ [] → told.count ≡ 0 → HasTold told c
 told_nothing c told none text count = record {
   count = count ∙ sym (ap (λ (ds : List Decision). length ds) (none_decided c none));
   lines = record { lines = text ∙ sym (ap (λ n. flat_map (line_in c) (take n (decided_in c))) count) };
@@ -57,7 +57,7 @@ grown : (c : CoreState) (v : Vertex) → decided_in (after c v) ≡ decided_in c
 grown c v = decisions_more (setting_of c.config) c.journal v
 
 -- so what was told is the begin of what there is to tell
-begun : (told : Told) (c : CoreState) (v : Vertex) → HasTold told c → HasLines told (after c v) told.count
+begun : (told : DecisionLines) (c : CoreState) (v : Vertex) → HasTold told c → HasLines told (after c v) told.count
 begun told c v h = record {
   lines = h.lines.lines
       ∙ ap (λ n. flat_map (line_in c) (take n (decided_in c))) h.count
@@ -69,25 +69,25 @@ begun told c v h = record {
 }
 
 -- and what comes behind was decided by the vertex
-new_behind : (told : Told) (c : CoreState) (v : Vertex) → HasTold told c → AreNewFrom (after c v) told.count
+new_behind : (told : DecisionLines) (c : CoreState) (v : Vertex) → HasTold told c → AreNewFrom (after c v) told.count
 new_behind told c v h = λ index d le is.
     let count = h.count in
     at_moment (setting_of c.config) (c.journal ++ v ∷ []) (length (c.journal ++ v ∷ [])) d
     (behind (decided_in c) _ index d (omega arith) (ap (λ ds. slice_get ds index) (sym (grown c v)) ∙ is))
 
-within_more : (told : Told) (c : CoreState) (v : Vertex) → HasTold told c → told.count ≤ length (decided_in (after c v))
+within_more : (told : DecisionLines) (c : CoreState) (v : Vertex) → HasTold told c → told.count ≤ length (decided_in (after c v))
 within_more told c v h =
     let count = h.count in
     let long = ap (λ (ds : List Decision). length ds) (grown c v) ∙ length-append (decided_in c) _ in
     omega arith
 
-pub behind_lines : (told : Told) (c : CoreState) → IsBehind told c → HasLines told c told.count
+pub behind_lines : (told : DecisionLines) (c : CoreState) → IsBehind told c → HasLines told c told.count
 behind_lines told c b = elim b.grows as (λ z. HasLines told c told.count) [
   | inl same ↦ subst (λ (k : CoreState). HasLines told k told.count) (sym same) b.told_before.lines
   | inr more ↦ subst (λ (k : CoreState). HasLines told k told.count) (sym more.1) (begun told b.before more.0 b.told_before)
 ]
 
-pub behind_new : (told : Told) (c : CoreState) → IsBehind told c → AreNewFrom c told.count
+pub behind_new : (told : DecisionLines) (c : CoreState) → IsBehind told c → AreNewFrom c told.count
 behind_new told c b = elim b.grows as (λ z. AreNewFrom c told.count) [
   | inl same ↦ λ index d le is.
       let count = b.told_before.count in
@@ -97,7 +97,7 @@ behind_new told c b = elim b.grows as (λ z. AreNewFrom c told.count) [
   | inr more ↦ subst (λ (k : CoreState). AreNewFrom k told.count) (sym more.1) (new_behind told b.before more.0 b.told_before)
 ]
 
-pub behind_within : (told : Told) (c : CoreState) → IsBehind told c → told.count ≤ length (decided_in c)
+pub behind_within : (told : DecisionLines) (c : CoreState) → IsBehind told c → told.count ≤ length (decided_in c)
 behind_within told c b = elim b.grows as (λ z. told.count ≤ length (decided_in c)) [
   | inl same ↦ (
       let count = b.told_before.count in
@@ -138,8 +138,8 @@ whole : (c : CoreState) → ended c (explained_lines (setting_of c.config) c.jou
 unfolding explained_text
 whole c = refl
 
-pub told_some : (c : CoreState) (told : Told) → HasTold told c → (told.count ≡ 0 → ⊥) → told.text ++ exceeded_line (exceeded_in c.config (received_in c)) ≡ explained_in c
+pub told_some : (c : CoreState) (told : DecisionLines) → HasTold told c → (told.count ≡ 0 → ⊥) → told.text ++ exceeded_line (exceeded_in c.config (received_in c)) ≡ explained_in c
 told_some c told h some = ap (ended c) (h.lines.lines ∙ some_lines c (decided_in c) told.count h.count some) ∙ whole c
 
-pub told_none : (c : CoreState) (told : Told) → HasTold told c → told.count ≡ 0 → told.text ++ codes "final -\n" ++ exceeded_line (exceeded_in c.config (received_in c)) ≡ explained_in c
+pub told_none : (c : CoreState) (told : DecisionLines) → HasTold told c → told.count ≡ 0 → told.text ++ codes "final -\n" ++ exceeded_line (exceeded_in c.config (received_in c)) ≡ explained_in c
 told_none c told h none = ap (ended c) (ap (λ l. l ++ codes "final -\n") h.lines.lines ∙ no_lines c (decided_in c) told.count h.count none) ∙ whole c

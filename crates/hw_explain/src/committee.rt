@@ -8,8 +8,8 @@ use hw_horizon::Horizons;
 use hw_text::{put_numbered, put_word};
 use hw_types::{Bytes, OutOfMemory};
 
-/// Puts the members of the committee of this level last, each with its starts. They are those of the
-/// summit that the last search found, among so many validators.
+/// Puts the members of the committee of this level last, each with its starts. They are those of the summit
+/// that the last search found, among this many validators.
 #[tactic(auto, using(crate::proofs::CommitteeLaws::words_are))]
 pub(crate) fn put_committee(
     text: &mut Bytes,
@@ -26,7 +26,7 @@ pub(crate) fn put_committee(
     Ok(())
 }
 
-/// Puts a member last, and nothing for another validator.
+/// Puts the validator last where it is a member, and nothing otherwise.
 fn put_if_member(
     text: &mut Bytes,
     search: &Horizons,
@@ -59,7 +59,7 @@ fn put_member(
     Ok(())
 }
 
-/// The start of the validator, or 0.
+/// The start of the validator at this level, or 0 where it has none.
 fn start(search: &Horizons, level: u32, validator: u32) -> u64
     ensures { result ≡ start_or_zero search.now level validator }
 {

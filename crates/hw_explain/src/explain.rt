@@ -8,9 +8,9 @@ use hw_core::Core;
 use hw_types::{Bytes, OutOfMemory};
 use std::alloc::Global;
 
-/// The line of the decided block of that place, with the committee and the starts of its greatest summit.
-/// None exactly where the last vertex of the journal decided no block of that place: there is no such
-/// block, or the journal is longer now than its `at`.
+/// The line of the decided block at this place, with the committee and the starts of its greatest summit. None
+/// exactly where the last vertex of the journal didn't decide it: there is no such block, or the journal is
+/// longer now than its `at`.
 pub fn explain_line(
     alloc: Global,
     core: &mut Core,
@@ -22,7 +22,7 @@ pub fn explain_line(
     line_at(alloc, core, index)
 }
 
-/// The line of that place, if it is there now.
+/// The line of the block at this place, if the last vertex decided it.
 fn line_at(alloc: Global, core: &Core, index: u64) -> Result<Option<Bytes>, OutOfMemory>
     ensures { IfOk result (λ line. line ≡ line_now core.now index) }
 {

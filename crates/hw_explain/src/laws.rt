@@ -1,7 +1,8 @@
 //! What a reader may believe in place of what is worked out.
 //!
 //! A journal has one list of decided blocks (`decisions_are_one`, of hw_types), and `decisions_of` is it
-//! (`safety_decides`, of hw_safety). So each text is told by the definitions of decided blocks and of greatest summits.
+//! (`safety_decides`, of hw_safety). So each text is given by the definitions of decided blocks and of greatest
+//! summits.
 
 ghost use Rattle.hw_explain.specs.Laws.{ReportIsOfDecisions, ExplainedIsOfGreatest, DecidedHaveGreatest};
 

@@ -1,7 +1,7 @@
 //! The state of a node as text: the report, and each final block with the summit that made it final.
 //!
-//! A summit is told at its moment, right after the vertex that made the block final. So what is explained
-//! of a log is gathered while the log is replayed.
+//! A summit is written at its moment, right after the vertex that made the block final. So what is explained of
+//! a log is gathered while the log is replayed.
 #![tactic(auto)]
 
 mod committee;

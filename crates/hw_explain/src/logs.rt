@@ -5,15 +5,17 @@ ghost use Rattle.hw_io.specs.{Faults.{subject_of}, Files.{SameFiles}};
 ghost use Rattle.hw_replay.specs.{Replay.{taken_in, ahead_in, TakesAll}, Causes.{HasReplayCause, IsReplayAbout}, Steps.{HasRoom}};
 ghost use Rattle.hw_explain.specs.{Told.{HasTold}, Logs.{Explains, ExplainsAll}};
 
-use crate::told::Told;
+use crate::told::DecisionLines;
 use hw_io::Files;
 use hw_replay::{Replay, StartFault};
 use hw_types::Bytes;
 use std::alloc::Global;
 
-/// What is explained of the log under this name: a line for each block that the node of the log decides,
-/// made right after the vertex that decided it, and the weight of the faulty where it exceeds the
-/// threshold. A limit or a clash stops it, as it stops a replay. The node's memory is left to the end of the process.
+/// What is explained of the log under this name: a line for each block that the node of the log decides, made
+/// right after the vertex that decided it. The last line is the weight of the faulty where it exceeds the
+/// threshold.
+///
+/// An error says why the replay stopped. The node's memory isn't freed before the process ends.
 pub fn explain_log<F: Files>(alloc: Global, files: &mut F, name: &str) -> Result<Bytes, StartFault>
     ensures said { IsTrue F.tells → Explains (F.held files.old name.now) result }
     ensures cause { HasReplayCause (F.read_faults files.old) (F.read_faults files.new) result }
@@ -28,7 +30,7 @@ pub fn explain_log<F: Files>(alloc: Global, files: &mut F, name: &str) -> Result
     told
 }
 
-/// What is explained of a log behind whose header this replay stands.
+/// What is explained of a log whose header this replay has just read.
 fn explain_rest<F: Files>(
     alloc: Global,
     files: &mut F,
@@ -43,13 +45,17 @@ fn explain_rest<F: Files>(
     ensures files { SameFiles (F.held files.old) (F.held files.new) }
     ensures appends { F.append_faults files.new ≡ F.append_faults files.old }
 {
-    let mut told = Told::new(alloc);
+    let mut told = DecisionLines::new(alloc);
     tell_all(files, replay, &mut told)?;
     Ok(told.finish(&replay.core)?)
 }
 
-/// Takes all entries that are left, and tells what each decides.
-fn tell_all<F: Files>(files: &mut F, replay: &mut Replay, told: &mut Told) -> Result<(), StartFault>
+/// Takes all entries that are left, and adds the lines of the blocks that each decides.
+fn tell_all<F: Files>(
+    files: &mut F,
+    replay: &mut Replay,
+    told: &mut DecisionLines,
+) -> Result<(), StartFault>
     requires told { HasTold told.old replay.old.core }
     requires room { HasRoom replay.old (F.allowance files.old) }
     ensures said { IsTrue F.tells → TakesAll (ahead_in replay.old (F.unread files.old)) (taken_in replay.new) result }

@@ -11,7 +11,7 @@ use hw_core::Core;
 use hw_types::{Bytes, OutOfMemory};
 use std::alloc::Global;
 
-/// The report on a node, after so many deliveries that were refused and so many that came again.
+/// The report on a node. `refused` deliveries to it were refused, and `repeats` came again.
 #[tactic(auto, using(crate::proofs::ReportLaws::report_parts))]
 pub fn report(alloc: Global, core: &Core, refused: u64, repeats: u64) -> Result<Bytes, OutOfMemory>
     ensures { IfOk result (λ text. text ≡ report_text (setting_of core.now.config) core.now.journal refused repeats) }

@@ -29,8 +29,8 @@ pub(crate) fn put_line(
     end_line(text)
 }
 
-/// Puts the last committee of a block that is decided now last, each word behind a space: its members in
-/// rising order, each with its starts. It is that of the greatest summit for the block.
+/// Puts the last committee of a block that is decided now last, each word after a space: its members in rising
+/// order, each with its starts. It is that of the greatest summit for the block.
 pub fn put_summit(
     alloc: Global,
     text: &mut Bytes,

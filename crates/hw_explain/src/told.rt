@@ -12,27 +12,27 @@ use hw_text::put_word;
 use hw_types::{Bytes, OutOfMemory};
 use std::alloc::Global;
 
-/// The lines of the blocks that are decided so far.
+/// The lines of the blocks that are decided so far, and how many blocks they are.
 #[derive(Drop)]
-pub(crate) struct Told {
+pub(crate) struct DecisionLines {
     alloc: Global,
     text: Bytes,
     count: u64,
 }
 
-impl Told {
-    /// Nothing is told of a node that has received nothing.
-    pub(crate) fn new(alloc: Global) -> Told
+impl DecisionLines {
+    /// No line, for a node that has received nothing.
+    pub(crate) fn new(alloc: Global) -> DecisionLines
         ensures { (c : CoreState) → c.journal ≡ [] → HasTold result c }
     {
-        Told {
+        DecisionLines {
             alloc,
             text: Bytes::new(alloc),
             count: 0,
         }
     }
 
-    /// Tells the blocks that the last vertex decided.
+    /// Adds the lines of the blocks that the last vertex decided.
     pub(crate) fn tell(&mut self, core: &Core) -> Result<(), OutOfMemory>
         requires { IsBehind self.old core.now }
         ensures { OnOk result (HasTold self.new core.now) }
@@ -45,7 +45,7 @@ impl Told {
         Ok(())
     }
 
-    /// Tells the block of that place, which is decided now.
+    /// Adds the line of the block at this place, which the last vertex decided.
     fn put(&mut self, core: &Core, index: u64) -> Result<(), OutOfMemory>
         requires within { index < length (decided_in core.now) }
         requires is_new { AreNewFrom core.now index }
@@ -57,7 +57,7 @@ impl Told {
         put_line(self.alloc, &mut self.text, core, decision)
     }
 
-    /// The whole text, which ends with the weight of the faulty where it is too great.
+    /// The whole text, which ends with the weight of the faulty where it exceeds the threshold.
     pub(crate) fn finish(mut self, core: &Core) -> Result<Bytes, OutOfMemory>
         requires { HasTold self core.now }
         ensures { IfOk result (λ text. text ≡ explained_in core.now) }
@@ -66,7 +66,7 @@ impl Told {
         Ok(self.text)
     }
 
-    /// Puts the end of the text, and a line in its place where no block is decided.
+    /// Puts the end of the text last. Where no block is decided, a line that says so comes before it.
     fn put_end(&mut self, core: &Core) -> Result<(), OutOfMemory>
         requires { HasTold self.old core.now }
         ensures { OnOk result (self.new.text ≡ explained_in core.now) }

@@ -1,11 +1,11 @@
-//! A consumer whose end a person is told of.
+//! A consumer whose failures are reported to a person.
 ghost use Rattle.std.specs.Prelude.{◌≡◌};
 
 use crate::complaints::Voice;
 use hw_io::{Consumer, IoFault};
 
-/// A consumer that tells on standard error when it fails, since it is dropped then. It is called by the number
-/// that reports have for it.
+/// A consumer whose failures are reported on standard error, since it is dropped then. It is named by the number
+/// that it has in reports.
 #[derive(Drop)]
 pub struct Announced<R, C> {
     runtime: R,

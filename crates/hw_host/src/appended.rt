@@ -91,7 +91,7 @@ fn open<R: rt::Files>(runtime: &R, name: &str) -> io::Result<Appended<R::File>>
 }
 
 /// Puts the bytes at the end of the file of that name, and keeps the file. Where the file that was kept
-/// is of that name, it goes on with that one, and otherwise opens the file. After an error none is kept.
+/// has that name, it goes on with that one, and otherwise it opens the file. After an error none is kept.
 pub(crate) fn append_to<R: rt::Files>(
     runtime: &R,
     kept: &mut Option<Appended<R::File>>,

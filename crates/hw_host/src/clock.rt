@@ -1,4 +1,4 @@
-//! The clock of the machine, which tells no moments that it gave.
+//! The clock of the machine. It keeps no record of the moments that it gave.
 ghost use Rattle.std.specs.Prelude.{◌^◌, ◌<◌, None};
 
 use hw_io::Clock;

@@ -1,4 +1,4 @@
-//! A door to peers over TCP, which tells no sessions.
+//! A door to peers over TCP. It keeps no record of its sessions.
 ghost use Rattle.std.specs.{Prelude.{◌≡◌, [], None, false, IfErr, IsErr, is_ok, is_some}, Io.{ReadsAtMost}};
 ghost use Rattle.hw_io.specs.Sinks.{TakesSome};
 
@@ -30,31 +30,36 @@ const LONGEST_PAUSE: u64 = 5_000;
 ///
 /// `accept` waits until a peer comes and says something. Connections that say nothing wait beside each
 /// other, at most 64 of them and for 5 seconds; they are no sessions. A dial waits 5 seconds for each
-/// address of the peer, a read or a write 5 seconds for the peer, and a session ends after 10 seconds and
-/// a second more for each 65,536 bytes that went either way. A peer that was dialled and let a call wait
-/// for all of this is given a tenth of it the next time, until a session with it ends well. Where it lets a
-/// call wait for all of that too, it isn't dialled for 19 times as long, and each dial of it fails at once.
+/// address of the peer, and a read or a write 5 seconds for the peer. A session ends after 10 seconds, and
+/// a second more for each 65,536 bytes that went either way.
+///
+/// A peer that was dialled and let a call wait for all of this is given a tenth of it from then on, until a
+/// session with it ends well. Where it lets a call wait for all of that too, it isn't dialled for 19 times as
+/// long, and each dial of it fails at once.
 ///
 /// On a peer that came, the reads and writes of a session wait 2 seconds in all. It hung where they waited longer
-/// than half a second for each of its answers, and a second for each 65,536 bytes that it sent, or took while they
-/// waited. Then its address, without the port, owes 19 times as long as they waited, which it pays by the time that
-/// passes. Where it owes more than 19 seconds it is suspect: who comes from there is served after all others that wait
-/// and said something, and is waited for 20 milliseconds in a session, and as long again for each answer. 64 addresses
-/// are kept. An honest peer of such an address goes on where its link answers in 20 milliseconds. One whose link is
-/// slower is starved while somebody else hangs there each time, but for the session that comes first when enough is
-/// paid. Who comes from many addresses is no suspect before each of them hung.
+/// than half a second for each of its answers and a second for each 65,536 bytes that it sent. Then its address,
+/// without the port, owes 19 times as long as they waited, which it pays by the time that passes. Where it owes more
+/// than 19 seconds it is suspect.
 ///
-/// A read takes what came, 65,536 bytes at most, and hands out as much of it as is asked for. The reads behind it hand
+/// Who comes from a suspect address is served after all others that wait and said something. In a session it is waited
+/// for 20 milliseconds, and as long again for each answer. 64 addresses are kept. An honest peer of such an address
+/// goes on where its link answers in 20 milliseconds. One whose link is slower is starved while somebody else hangs
+/// there each time, but for the session that comes first when enough is paid. Who comes from many addresses is no
+/// suspect before each of them hung.
+///
+/// A read takes what came, 65,536 bytes at most, and hands out as much of it as is asked for. The reads after it hand
 /// out the rest, and call the system again where nothing is left. What is written is held and goes out in pieces of
 /// 65,536 bytes, before each read that calls the system, and at `hang_up`. So who sent many frames at once is answered
-/// at once, and nobody waits for an answer that is held. A call that sends what is held and fails is the one that
-/// counts.
+/// at once, and nobody waits for an answer that is held. Where sending what is held fails, the call that sent it fails.
 ///
-/// Where the door is handed the log of a node, all that was appended to it is on the disk before the next byte
-/// is sent. So no unit that a node made goes out before it is on the disk, and what a peer was told to be
+/// Where the door has the log of a node, all that was appended to it is on the disk before the next byte
+/// is sent. So no unit that a node made goes out before it is on the disk, and what was reported to a peer as
 /// taken is kept. What is appended until then needs one sync.
 ///
-/// Each error of the system is `Failed`, counted, and told on standard error, with the peer's address.
+/// Each error of the system is `Failed` and counted, or `OutOfMemory`. It is reported on standard error, with
+/// the peer's address.
+///
 /// `hang_up` ends what is written, and then reads on until the peer ends its side, an error comes or half
 /// a second has passed. It doesn't learn whether the peer read what was written.
 #[derive(Drop)]
@@ -114,7 +119,7 @@ impl Peer {
 }
 
 impl<'a, R: Net + Voice> HostDoor<'a, R> {
-    /// A door that listens at this address. Where that fails, it is told at once, and each `accept` fails.
+    /// A door that listens at this address. Where that fails, it is reported at once, and each `accept` fails.
     pub fn new(runtime: R, address: &str) -> HostDoor<'a, R>
         ensures open { result.session ≡ None }
         ensures numbers { result.numbers ≡ record { accepts = 0; dials = 0; ends = 0; faults = 0 } }
@@ -146,7 +151,7 @@ impl<'a, R: Net + Voice> HostDoor<'a, R> {
         }
     }
 
-    /// The same door, behind the log of a node.
+    /// The same door. What was appended to this log, if there is one, is put on the disk before anything is sent.
     pub fn behind(self, log: Option<&'a LogFile>) -> HostDoor<'a, R>
         ensures { result ≡ record self.entry { log = result.log } }
     {
@@ -205,8 +210,8 @@ impl<'a, R: Net + Voice> HostDoor<'a, R> {
         Ok(())
     }
 
-    /// Reads of the session, if one is there. Where nothing was read ahead, what is held is sent before. An empty buffer
-    /// waits for nothing.
+    /// Reads bytes of the session, if one is there, and answers how many. Where nothing was read ahead, what is held is
+    /// sent before. An empty buffer waits for nothing.
     fn receive(&mut self, buf: &mut [u8]) -> io::Result<usize>
         ensures bound { ReadsAtMost result buf.new }
         ensures none { is_some self.old.session ≡ false → IsErr result }
@@ -291,8 +296,9 @@ impl<'a, R: Net + Voice> HostDoor<'a, R> {
         }
     }
 
-    /// What a call answers that failed by this error, which is told. A peer that was dialled and let the call
-    /// wait too long is given less time from now on.
+    /// The fault that a call answers which failed with this error. The error is reported, unless it says that there is
+    /// no session or no listener. A peer that was dialled and let the call wait too long is given less time from now
+    /// on.
     fn fault(&mut self, error: io::Error) -> IoFault
         ensures { self.new ≡ record self.old { hung = self.new.hung; complaints = self.new.complaints } }
     {

@@ -1,4 +1,4 @@
-//! The real file system and standard output. They tell no content, and count each error.
+//! The real file system and standard output. Nothing is promised of their content, and each error is counted.
 ghost use Rattle.std.specs.{Prelude.{◌≡◌, ◌≤◌, ◌^◌, ℕ, [], false, None, Some, IfErr, OnOk, OnErr}, Option.{option_map}};
 ghost use Rattle.hw_io.specs.Faults.{HasCause, raised};
 
@@ -58,7 +58,7 @@ impl<R: rt::Files> HostFiles<R> {
         READ_LIMIT.saturating_sub(self.allowance) as u64
     }
 
-    /// Gives at most so many bytes more of the file that is begun.
+    /// Gives at most this many bytes more of the file that is begun.
     pub(crate) fn restrict(&mut self, limit: usize)
         ensures fewer { self.new.allowance ≤ self.old.allowance }
         ensures rest { self.new ≡ record self.old { allowance = self.new.allowance } }

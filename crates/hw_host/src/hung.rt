@@ -41,7 +41,7 @@ impl HungPeers {
         }
     }
 
-    /// Keeps that the peer at this address hung, and took so much time until now. Where there is no memory or
+    /// Keeps that the peer at this address hung, and took this much time until now. Where there is no memory or
     /// no room for it, that is forgotten.
     pub(crate) fn note(&mut self, address: &str, now: Instant, taken: Duration) {
         match place_of(self.peers.as_slice(), address) {

@@ -1,8 +1,8 @@
 //! The outside of the program on a real machine: files, standard output, the clock, and TCP.
 //!
-//! Each type keeps the contract of its trait in `hw_io` and tells no content. It stands apart, so that
-//! nothing below the program depends on how the machine is reached. The program's two consumers are here too: the values
-//! of decided blocks go into a file, and their count onto an output.
+//! Each type keeps the contract of its trait in `hw_io`, and promises nothing of content. The crate is apart, so that
+//! nothing below the program depends on how the machine is reached. The program's two consumers are here too: the
+//! values of decided blocks go into a file, and their count onto an output.
 #![tactic(auto)]
 
 mod announced;

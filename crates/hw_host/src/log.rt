@@ -8,17 +8,17 @@ use std::io::{ErrorKind, Write};
 use std::path::Path;
 use std::{fs, io, rt};
 
-/// What stands behind the name of a log in the name of its lock.
+/// The name of a log's lock is that of the log with this after it.
 const LOCK_SUFFIX: &str = ".lock";
 
-/// What stands behind the name of a log in the name of the file that becomes the log.
+/// The name of the file that becomes the log is that of the log with this after it.
 const PART_SUFFIX: &str = ".part";
 
 /// The log that a node appends to. One process has it at a time, nobody else appends to it, and what was
 /// appended is on the disk before anything is sent.
 ///
-/// The process has the log while it has an advisory lock of the system on the file `LOG.lock` beside it,
-/// which it takes before it reads the log for the first time. The system frees the lock when the process
+/// The process has the log while it has an advisory lock of the system on the file `LOG.lock` beside it.
+/// It takes that before it reads the log for the first time. The system frees the lock when the process
 /// ends, however it ends. The file stays, and is empty. From its first append on the process also has such
 /// a lock on the log itself, so that the log is safe under its other names too.
 ///
@@ -37,7 +37,7 @@ pub struct LogFile {
 }
 
 impl LogFile {
-    /// The log of that name, of which nothing is asked yet.
+    /// The log of that name. No file was opened yet.
     pub fn new(alloc: Global, name: &str) -> Result<LogFile, AllocError>
         ensures name { IfOk result (λ log. string_bytes log.name ≡ name.now) }
     {

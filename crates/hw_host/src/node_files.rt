@@ -1,4 +1,4 @@
-//! The files of a node that runs: its log is safe, and a person is told of each failure.
+//! The files of a node that runs: its log is safe, and each failure is reported to a person.
 ghost use Rattle.std.specs.{Prelude.{◌≡◌, ◌≤◌, ◌^◌, [], false, None, IfErr, OnOk, OnErr}, Option.{option_map}};
 ghost use Rattle.hw_io.specs.Faults.{HasCause, raised};
 
@@ -15,10 +15,10 @@ pub const NO_LIMIT: usize = READ_LIMIT;
 /// The files of a runtime, as `HostFiles` has them, of which one may be the log of a node. That one is
 /// appended to as `LogFile` says, and where another process has it, it can't be read either.
 ///
-/// Each failure is told on standard error, with the file's name and the system's reason.
+/// Each failure is reported on standard error, with the file's name and the system's reason.
 ///
-/// Files may have a limit, so that one that is read at once, and has no end, is a fault and no want of
-/// memory.
+/// Files may have a limit, so that one that is read at once, and has no end, is a read fault and doesn't run the
+/// program out of memory.
 #[derive(Drop)]
 pub struct NodeFiles<'a, R: rt::Files<File = File> + Voice> {
     runtime: R,
@@ -59,7 +59,7 @@ impl<'a, R: rt::Files<File = File> + Voice> NodeFiles<'a, R> {
         }
     }
 
-    /// The same, which give at most so many bytes of each file but the one of that name.
+    /// The same files, which give at most `limit` bytes of each file but the one named `unlimited`.
     pub fn within(self, limit: usize, unlimited: Option<&'a str>) -> NodeFiles<'a, R>
         ensures { result ≡ record self.entry { limit = limit; unlimited = result.unlimited } }
     {
@@ -126,7 +126,7 @@ impl<'a, R: rt::Files<File = File> + Voice> NodeFiles<'a, R> {
         }
     }
 
-    /// Begins the file of that name, of which at most as many bytes are given as its limit is.
+    /// Begins the file of that name. At most its limit of bytes is given.
     fn open(&mut self, name: &str) -> Result<(), IoFault>
         ensures begun { OnOk result (self.new.files ≡ record self.old.files { file = self.new.files.file; allowance = self.new.files.allowance }) }
         ensures allowance { OnOk result (self.new.files.allowance ≤ 2 ^ 62) }
@@ -148,7 +148,7 @@ impl<'a, R: rt::Files<File = File> + Voice> NodeFiles<'a, R> {
         }
     }
 
-    /// Tells why the last call failed, which was about this name.
+    /// Reports why the last call failed, which was about this name.
     fn tell(&mut self, name: &str)
         ensures { self.new ≡ record self.old { complaints = self.new.complaints } }
     {
@@ -220,7 +220,7 @@ impl<'a> Begun<'a> {
     }
 }
 
-/// Keeps that a read that asked for so many bytes came to the end of the file, or tells why it failed.
+/// Keeps that a read of at most `asked` bytes came to the end of the file, or reports why it failed.
 fn note_read<R: rt::Files<File = File> + Voice>(
     complaints: &mut Complaints<R>,
     begun: &Begun,

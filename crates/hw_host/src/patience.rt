@@ -64,7 +64,7 @@ impl Patience {
         WAIT_MILLISECONDS / self.share()
     }
 
-    /// How many milliseconds a session may take in which so many bytes went either way.
+    /// How many milliseconds a session may take in which `moved` bytes went either way.
     fn session(self, moved: u64) -> u64
         ensures { result ≡ session_time self moved }
     {
@@ -84,7 +84,7 @@ impl Patience {
         }
     }
 
-    /// How many milliseconds the next read or write may wait in a session that is so far, or none where its time
+    /// How many milliseconds the next read or write may wait in a session with this progress, or none where its time
     /// is up.
     pub(crate) fn next_wait(self, session: Progress) -> Option<u64>
         ensures up { IsNone result ↔ ((session_time self session.moved ≤ session.taken)

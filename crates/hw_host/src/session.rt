@@ -24,7 +24,7 @@ pub(crate) struct Session<S> {
     stream: BufReader<S>,
     began: Instant,
     patience: Patience,
-    /// How many milliseconds the stream waits, as it was told last, or 0 where it wasn't told.
+    /// How many milliseconds the stream waits, as it was set last, or 0 where it wasn't set.
     wait: u64,
     /// How many bytes went either way.
     moved: u64,

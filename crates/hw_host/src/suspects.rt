@@ -64,7 +64,7 @@ impl Suspects {
         }
     }
 
-    /// Keeps that a peer from this address hung, on which the node was blocked for so long until now. Where there
+    /// Keeps that a peer from this address hung, on which the node was blocked for this long until now. Where there
     /// is no memory for it, that is forgotten.
     pub(crate) fn note(&mut self, address: IpAddr, now: Instant, blocked: Duration) {
         let Some(paid) = paid_after(now, self.paid(address, now), blocked) else {
@@ -107,8 +107,8 @@ fn is_suspect(now: Instant, paid: Instant) -> bool
     paid.duration_since(now) > Duration::from_millis(GRACE_MILLISECONDS)
 }
 
-/// When an address owes nothing any more on whose peer the node was blocked for so long until now, and that would
-/// have owed nothing from `paid` on.
+/// When an address owes nothing any more that would have owed nothing from `paid` on, and on whose peer the node was
+/// blocked for this long until now.
 fn paid_after(now: Instant, paid: Instant, blocked: Duration) -> Option<Instant>
     ensures { IfSome result (λ after. instant_nanos after ≡ max (instant_nanos now) (instant_nanos paid) + as_nanos blocked * 19) }
 {

@@ -1,11 +1,11 @@
-//! Files that say themselves why a call failed.
+//! Files that report on standard error why a call failed.
 ghost use Rattle.std.specs.{Prelude.{◌≡◌, [], false, None}, Option.{option_map}};
 
 use crate::files::HostFiles;
 use hw_io::{Files, IoFault};
 use std::rt;
 
-/// The files of a runtime, as `HostFiles` has them, for a consumer. Each failure is told on standard error, with
+/// The files of a runtime, as `HostFiles` has them, for a consumer. Each failure is reported on standard error, with
 /// the file's name and the system's reason. A consumer that fails is dropped, so there is no need to count them.
 #[derive(Drop)]
 pub struct ToldFiles<R: rt::Files + Eprint + Copy> {
@@ -27,7 +27,7 @@ impl<R: rt::Files + Eprint + Copy> ToldFiles<R> {
         }
     }
 
-    /// Tells why the last call failed, if it did.
+    /// Reports why the last call failed, if it did.
     fn tell(&self, name: &str, has_failed: bool) {
         match self.files.error() {
             Some(error) if has_failed => {

@@ -20,7 +20,7 @@ pub(crate) struct WaitingRoom<S> {
     visitors: Vec<Visitor<S>>,
 }
 
-/// A connection, from where and when it came, and where it stands.
+/// A connection, from where and when it came, and its state.
 #[derive(Drop)]
 pub(crate) struct Visitor<S> {
     pub(crate) stream: S,
@@ -29,7 +29,7 @@ pub(crate) struct Visitor<S> {
     standing: Standing,
 }
 
-/// Where a connection stood when it was looked at last.
+/// The state of a connection when it was looked at last.
 #[derive(Clone, Copy, PartialEq, Eq)]
 enum Standing {
     /// It said nothing.
@@ -101,7 +101,7 @@ impl<S: OpenStream + Drop> WaitingRoom<S> {
         }
     }
 
-    /// The next one to be served. Those that are gone, or were silent for too long, are let go.
+    /// The next one to be served. Those that are gone, or were silent for too long, are dropped.
     pub(crate) fn next(&mut self, now: Instant, suspects: &Suspects) -> Option<Visitor<S>> {
         for visitor in self.visitors.iter_mut() {
             visitor.standing = standing_of(visitor, now, suspects);
@@ -144,7 +144,7 @@ fn first_suspect<S>(visitors: &[Visitor<S>]) -> Option<usize>
         .position(|visitor| visitor.standing.is_suspect())
 }
 
-/// Where a connection stands now.
+/// The state of a connection now.
 fn standing_of<S: OpenStream>(visitor: &Visitor<S>, now: Instant, suspects: &Suspects) -> Standing {
     let mut first = [0];
     match visitor.stream.peek(&mut first) {

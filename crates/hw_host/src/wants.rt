@@ -1,4 +1,4 @@
-//! The count of want of memory.
+//! The count of calls that found no memory.
 
 ghost use Rattle.hw_io.specs.Faults.{IsWantCounted};
 

@@ -1,4 +1,4 @@
-//! Light certificates: a block, and the few vertices that make it stand.
+//! Light certificates: a block, and the vertices that make it stand.
 //!
 //! Who checks a certificate needs nothing else of the log that it comes from.
 //!
@@ -8,10 +8,10 @@
 //! `certify` makes the certificate of a decided block: the settled units that its greatest summit rests on,
 //! with the evidence and the endorsements that they need.
 //!
-//! A check delivers the vertices to a new node and answers it where the block stands there. So a yes shows
-//! that the vertices certify the block: its block is decided, and another node that decided another block of
-//! that height is in a conflict with it whose culprits weigh more than the threshold. A certificate that was
-//! made is answered yes where its signatures are right.
+//! A check delivers the vertices to a new node. It answers yes where no vertex is refused, the faulty weigh no
+//! more than the threshold, and the block stands. So a yes shows that the vertices certify the block: it is
+//! decided. Another node that decided another block of that height is in a conflict with it whose culprits weigh
+//! more than the threshold. A certificate that was made is answered yes where its signatures are right.
 #![tactic(auto)]
 
 mod answers;

@@ -29,7 +29,7 @@ use Rattle.hw_agree.specs.Converge.{units_by, is_settled_below, is_line_of, summ
 use Rattle.hw_agree.proofs.LineLaws.{IsLine, settled, count_is, no_higher}
 use Rattle.hw_meeting.specs.declared.mark.Mark.{Mark}
 use Rattle.hw_meeting.specs.declared.mark.Mark.TheVariants as mark
-use Rattle.hw_meeting.specs.Lanes.{IsHighest, IsOnTip, HasOther, IsMark, told_by, AreHighest, AreMarks, tip_at, mark_at}
+use Rattle.hw_meeting.specs.Lanes.{IsHighest, IsOnTip, HasOther, IsMark, lane_summary, AreHighest, AreMarks, tip_at, mark_at}
 
 -- units of a journal are named by what they are
 named_so : (s : Setting) (journal : List Vertex) (x : Node) → Among x (units_in s journal) → x ≡ named s x.unit
@@ -164,7 +164,7 @@ module _ (s : Setting) (journal : List Vertex) (dag : UnitGraph) (g : IsGraph da
       go (Some t) e = absurd (let f = found_one (is_line_of s journal v) t units e in no_line tip high other t f.0 f.1)
 
   -- what is told of a validator is its summary
-  pub told_is : (tip : Option UnitNo) (m : Mark) → IsHighest dag (count_of dag) v tip → IsMark (IsOnTip dag tip) v (units_in s journal) m → told_by dag tip m ≡ summary_of s journal v
+  pub told_is : (tip : Option UnitNo) (m : Mark) → IsHighest dag (count_of dag) v tip → IsMark (IsOnTip dag tip) v (units_in s journal) m → lane_summary dag tip m ≡ summary_of s journal v
   told_is tip mark.Unseen high none = unseen_told none
   told_is (Some tip) mark.Whole high whole = whole_told tip high whole
   told_is None mark.Whole high whole = absurd (whole.1 whole.0.unit whole.0.among whole.0.creator_is)
@@ -179,8 +179,8 @@ map_same f g (x ∷ xs) same = ap (λ y. y ∷ map f xs) (same x (inl refl)) ∙
 
 pub summaries_are : (s : Setting) (journal : List Vertex) (dag : UnitGraph) → IsGraph dag → graph dag ≡ settled s journal → NamesApart (units_in s journal) → dag.validators ≡ length s.config.weights
     → (tips : List (Option UnitNo)) (marks : List Mark) → AreHighest dag (count_of dag) tips → AreMarks dag tips (units_in s journal) marks
-    → map (λ v. told_by dag (tip_at tips v) (mark_at marks v)) (range_with_len 0 dag.validators) ≡ summaries s journal
+    → map (λ v. lane_summary dag (tip_at tips v) (mark_at marks v)) (range_with_len 0 dag.validators) ≡ summaries s journal
 summaries_are s journal dag g same apart size tips marks high are =
-    map_same (λ v. told_by dag (tip_at tips v) (mark_at marks v)) (summary_of s journal) (range_with_len 0 dag.validators)
+    map_same (λ v. lane_summary dag (tip_at tips v) (mark_at marks v)) (summary_of s journal) (range_with_len 0 dag.validators)
     (λ v m. let lt = (range_below 0 dag.validators v m).1 in told_is s journal dag g same apart v (tip_at tips v) (mark_at marks v) (high.each v (omega arith)) (are.each v (omega arith)))
     ∙ ap (λ n. map (summary_of s journal) (range_with_len 0 n)) size

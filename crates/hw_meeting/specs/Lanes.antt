@@ -86,8 +86,8 @@ pub record AreMarks (dag : UnitGraph) (tips : List (Option UnitNo)) (units : Lis
 -- ---- what is told
 
 -- what an entry and its mark tell
-abbrev pub told_by : UnitGraph → Option UnitNo → Mark → LaneSummary
-told_by dag tip mark.Unseen = Nothing
-told_by dag (Some tip) mark.Whole = Line (seq_of (unit_at dag tip.0) + 1) (unit_at dag tip.0).digest
-told_by dag None mark.Whole = Tangled
-told_by dag tip mark.Broken = Tangled
+abbrev pub lane_summary : UnitGraph → Option UnitNo → Mark → LaneSummary
+lane_summary dag tip mark.Unseen = Nothing
+lane_summary dag (Some tip) mark.Whole = Line (seq_of (unit_at dag tip.0) + 1) (unit_at dag tip.0).digest
+lane_summary dag None mark.Whole = Tangled
+lane_summary dag tip mark.Broken = Tangled

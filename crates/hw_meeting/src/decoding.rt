@@ -12,8 +12,8 @@ use hw_codec::{Reader, decode_vertex, read_list};
 use hw_types::{CodecError, Digest, IndexList, Vertex};
 use std::alloc::Global;
 
-/// The frame that the bytes spell, all of them, where there are so many validators: the kind, and what
-/// stands behind it.
+/// The frame that the bytes spell, all of them, where there are this many validators: the kind, and what
+/// comes after it.
 ///
 /// `Form` answers that they spell none. A summary has one part for each validator, and a line in it at
 /// least one unit; torn are validators, in rising order.
@@ -58,7 +58,7 @@ fn whole_frame(alloc: Global, validators: u32, body: &[u8]) -> Result<MeetingFra
     }
 }
 
-/// What stands behind the kind.
+/// The frame of this kind, from the bytes after the kind.
 fn frame_behind(
     alloc: Global,
     validators: u32,

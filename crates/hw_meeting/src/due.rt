@@ -22,11 +22,11 @@ pub(crate) enum Owed {
 /// Places in a journal.
 pub type PlaceList = Items<u64>;
 
-/// The places of the vertices that a node owes, among the first so many of its journal, in order.
+/// The places of the vertices that a node owes, among the first `count` of its journal, in order.
 ///
-/// All evidence and endorsements are owed, all units of torn validators, and of each other validator the
-/// units that the other node hasn't reached, where it has none or a shorter line. `torn` has those of both
-/// sides, `mine` and `theirs` are the two summaries.
+/// All evidence and endorsements are owed, and all units of torn validators. Of each other validator the units
+/// are owed that the other node hasn't reached, where it has none or a shorter line. `torn` has the torn
+/// validators of both sides. `mine` and `theirs` are the two summaries.
 pub fn due_places(
     alloc: Global,
     core: &Core,
@@ -48,7 +48,7 @@ pub fn due_places(
     Ok(places)
 }
 
-/// What is owed of each validator that the node's summary tells of.
+/// What is owed of each validator that the node's summary is about.
 fn owed_table(
     alloc: Global,
     torn: &[u32],
@@ -64,7 +64,7 @@ fn owed_table(
     Ok(table)
 }
 
-/// Whether the vertex is owed. Of a creator behind the table's end it is worked out.
+/// Whether the vertex is owed. Of a creator past the table's end it is worked out.
 #[tactic(auto, using(crate::proofs::DueLaws::owed_says))]
 fn is_due(
     table: &[Owed],
@@ -102,7 +102,7 @@ fn has_number(numbers: &[u32], number: usize) -> bool
     numbers.iter().any(|n| *n as usize == number)
 }
 
-/// What is owed of a validator by what is told of it.
+/// What is owed of a validator, by what the two summaries say of it.
 fn owed_by(is_torn: bool, mine: LaneSummary, theirs: LaneSummary) -> Owed
     ensures { result ≡ owed_by is_torn mine theirs }
 {

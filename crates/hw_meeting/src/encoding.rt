@@ -10,7 +10,7 @@ use hw_codec::{Field, encode_vertex, put_list};
 use hw_types::{Bytes, OutOfMemory, Vertex};
 use std::alloc::Global;
 
-/// The one spelling of a frame, without its length, where there are so many validators. Units in it keep
+/// The one spelling of a frame, without its length, where there are this many validators. Units in it keep
 /// the limits of their format, a summary has one part for each validator, and torn are validators in
 /// rising order.
 pub fn encode_meeting(

@@ -6,7 +6,7 @@ ghost use Rattle.hw_meeting.specs.declared.frame.FrameError.TheVariants as Fault
 use hw_agree::LaneSummary;
 use hw_types::{Digest, IndexList, Items, OutOfMemory, Vertex};
 
-/// What a node tells of each validator, in their order.
+/// What a node says of each validator, in their order.
 pub type SummaryList = Items<LaneSummary>;
 
 /// What two nodes that meet say to each other.

@@ -1,8 +1,8 @@
 //! What two nodes that meet say to each other, and what each owes the other.
 //!
-//! Each tells by a summary what its journal has of each validator: no unit, so many units on the lane of
-//! one of them, or a tangle. Where the two don't fit, the validator is torn for a side, which says so. Then
-//! each sends what the other lacks. This crate has their frames as bytes, and what a node's journal tells.
+//! Each says in a summary what its journal has of each validator. This is no unit, n units on the lane of one
+//! of them, or a tangle. Where the two don't fit, the validator is torn for a side, which says so. Then each
+//! sends what the other lacks. This crate has their frames as bytes, and the summary of a node's journal.
 #![tactic(auto)]
 
 mod decoding;

@@ -1,4 +1,4 @@
-//! What a summary tells of each validator, as bytes.
+//! What a summary says of each validator, as bytes.
 
 ghost use Rattle.std.specs.Prelude.{◌≡◌, ◌<◌, ◌^◌, ◌++◌, length, OnOk};
 ghost use Rattle.hw_types.specs.{Reading.{Gives, many_at, counted_at}, Spelling.{counted}};
@@ -10,7 +10,7 @@ use hw_codec::{Field, Reader};
 use hw_types::{CodecError, Items, OutOfMemory};
 use std::alloc::Global;
 
-/// Reads a count that is at most the limit, and so many parts.
+/// Reads a count that is at most the limit, and as many parts.
 #[tactic(auto, unfolding(hw_types::specs::Reading::counted_at))]
 pub(crate) fn read_parts(
     alloc: Global,
@@ -23,7 +23,7 @@ pub(crate) fn read_parts(
     many_parts(alloc, count, reader)
 }
 
-/// Reads so many parts.
+/// Reads this many parts.
 fn many_parts(alloc: Global, count: u32, reader: &mut Reader<'_>) -> Result<SummaryList, CodecError>
     ensures { Gives (λ parts. (parts, reader.new)) result (many_at part_at count reader.old) }
 {
@@ -34,7 +34,7 @@ fn many_parts(alloc: Global, count: u32, reader: &mut Reader<'_>) -> Result<Summ
     Ok(parts)
 }
 
-/// Reads what is told of a validator.
+/// Reads what a summary says of a validator.
 #[tactic(auto, unfolding(crate::specs::Frames::part_at))]
 fn read_part(reader: &mut Reader<'_>) -> Result<LaneSummary, CodecError>
     ensures { Gives (λ part. (part, reader.new)) result (part_at reader.old) }
@@ -44,7 +44,7 @@ fn read_part(reader: &mut Reader<'_>) -> Result<LaneSummary, CodecError>
     read_behind(place, tag, reader)
 }
 
-/// Reads what stands behind the tag, whose place this is.
+/// Reads what comes after the tag, whose place this is.
 fn read_behind(place: u64, tag: u8, reader: &mut Reader<'_>) -> Result<LaneSummary, CodecError>
     ensures { Gives (λ part. (part, reader.new)) result (part_behind place tag reader.old) }
 {

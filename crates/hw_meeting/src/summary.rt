@@ -7,7 +7,7 @@ ghost use Rattle.std.specs.{Prelude.{◌≡◌, ◌<◌, length, map, IfOk, IfSo
 ghost use Rattle.hw_types.specs.Real.{setting_of};
 ghost use Rattle.hw_dag.specs.Dag.{count_of};
 ghost use Rattle.hw_agree.specs.Converge.{summaries};
-ghost use Rattle.hw_meeting.specs.Lanes.{AreHighest, tip_at, told_by, mark_at, AreMarks};
+ghost use Rattle.hw_meeting.specs.Lanes.{AreHighest, tip_at, lane_summary, mark_at, AreMarks};
 
 use crate::frame::SummaryList;
 use crate::highest::highest;
@@ -19,8 +19,8 @@ use hw_dag::{Dag, UnitNo};
 use hw_types::OutOfMemory;
 use std::alloc::Global;
 
-/// What the node has of each validator, in their order: no unit; so many units, all settled and all on the
-/// lane of the one with this digest; or anything else.
+/// What the node has of each validator, in their order. `Nothing` is no unit. `Line` is n units, all settled
+/// and all on the lane of the one with this digest. `Tangled` is anything else.
 ///
 /// It goes over the graph and the journal once, and takes memory for a few words a validator.
 pub fn summary_of(alloc: Global, core: &Core) -> Result<SummaryList, OutOfMemory>
@@ -32,7 +32,7 @@ pub fn summary_of(alloc: Global, core: &Core) -> Result<SummaryList, OutOfMemory
     parts_of(alloc, dag, tips.as_slice(), marks.as_slice())
 }
 
-/// What the entries and their marks tell.
+/// The summary of each validator, by its highest settled unit and its mark.
 fn parts_of(
     alloc: Global,
     dag: &Dag,
@@ -41,19 +41,19 @@ fn parts_of(
 ) -> Result<SummaryList, OutOfMemory>
     requires tips { AreHighest dag.now (count_of dag.now) tips.now }
     requires marks { length marks.now ≡ dag.now.validators }
-    ensures { IfOk result (λ parts. parts ≡ map (λ v. told_by dag.now (tip_at tips.now v) (mark_at marks.now v)) (range_with_len 0 dag.now.validators)) }
+    ensures { IfOk result (λ parts. parts ≡ map (λ v. lane_summary dag.now (tip_at tips.now v) (mark_at marks.now v)) (range_with_len 0 dag.now.validators)) }
 {
     let mut parts = SummaryList::new(alloc);
     for validator in 0..dag.validators() as usize {
-        parts.push(told_by(dag, tips[validator], marks[validator]))?;
+        parts.push(lane_summary(dag, tips[validator], marks[validator]))?;
     }
     Ok(parts)
 }
 
-/// What an entry and its mark tell.
-fn told_by(dag: &Dag, tip: Option<UnitNo>, mark: Mark) -> LaneSummary
+/// The summary of a validator with this highest settled unit and this mark.
+fn lane_summary(dag: &Dag, tip: Option<UnitNo>, mark: Mark) -> LaneSummary
     requires { IfSome tip (λ no. no.0 < count_of dag.now) }
-    ensures { result ≡ told_by dag.now tip mark }
+    ensures { result ≡ lane_summary dag.now tip mark }
 {
     dag.recall_graph();
     match (mark, tip) {

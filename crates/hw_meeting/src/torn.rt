@@ -12,8 +12,8 @@ use hw_dag::Dag;
 use hw_types::{Digest, IndexList, Items, OutOfMemory};
 use std::alloc::Global;
 
-/// The validators that are torn for the node, in rising order, by what the other node tells: of each both
-/// have units, and one of the two has a tangle, or both have lines, the node's is no shorter, and the
+/// The validators that are torn for the node, in rising order, by the other node's summary. Both nodes have
+/// units of each. Either one of the two has a tangle; or both have lines, the node's is no shorter, and the
 /// other's tip isn't on it.
 ///
 /// `mine` is the node's own summary.
@@ -46,7 +46,7 @@ pub(crate) fn put_if<T: Drop>(is_so: bool, item: T, list: &mut Items<T>) -> Resu
     if is_so { list.push(item) } else { Ok(()) }
 }
 
-/// What a summary tells of a validator.
+/// What a summary says of a validator.
 pub(crate) fn part(summary: &[LaneSummary], validator: usize) -> LaneSummary
     ensures { result ≡ part summary.now validator }
 {
@@ -56,7 +56,7 @@ pub(crate) fn part(summary: &[LaneSummary], validator: usize) -> LaneSummary
     }
 }
 
-/// Whether the two don't fit, for the node that tells the first.
+/// Whether the two don't fit, for the node that the first is of.
 fn is_torn(dag: &Dag, mine: LaneSummary, theirs: LaneSummary) -> bool
     ensures { result ≡ is_torn (graph dag.now) mine theirs }
 {

@@ -116,16 +116,28 @@ pub nothing_left : (first part : List ℕ) → [] ≡ first ++ part → part ≡
 nothing_left [] part is = sym is
 nothing_left (x ∷ first) part is = absurd cc
 
+-- it is so of the first of these bytes, while there are more of them
+abbrev pub IsSoBefore : (List ℕ → Type 0) → List ℕ → Type 0
+IsSoBefore IsSo read = (first part : List ℕ) → read ≡ first ++ part → part ≢ [] → IsSo first
+
 -- nothing was read
+pub none_before : (IsSo : List ℕ → Type 0) → IsSoBefore IsSo []
+none_before IsSo first part is some = absurd (some (nothing_left first part is))
+
+-- what is read next
+pub more_before : (IsSo : List ℕ → Type 0) (read part : List ℕ) → IsSoBefore IsSo read → ((front back : List ℕ) → part ≡ front ++ back → back ≢ [] → IsSo (read ++ front)) → IsSoBefore IsSo (read ++ part)
+more_before IsSo read part so_far next first rest is some = elim (parted read part first rest is) [
+  | inl p ↦ subst IsSo (sym p.1) (next p.0 rest p.2 some)
+  | inr p ↦ so_far first (p.0 ∷ p.1) p.2 (λ e. cc)
+]
+
+-- nothing is read further than nothing
 pub none_further : (ends : List ℕ → SessionEnd) → IsReadNoFurther ends []
-none_further ends first part is some = absurd (some (nothing_left first part is))
+none_further ends = none_before (λ (first : List ℕ). IsCutEnd (ends first))
 
 -- what is read next is read no further
 pub no_further : (ends : List ℕ → SessionEnd) (read part : List ℕ) → IsReadNoFurther ends read → ((front back : List ℕ) → part ≡ front ++ back → back ≢ [] → IsCutEnd (ends (read ++ front))) → IsReadNoFurther ends (read ++ part)
-no_further ends read part so_far cut first rest is some = elim (parted read part first rest is) [
-  | inl p ↦ subst (λ (x : List ℕ). IsCutEnd (ends x)) (sym p.1) (cut p.0 rest p.2 some)
-  | inr p ↦ so_far first (p.0 ∷ p.1) p.2 (λ e. cc)
-]
+no_further ends read part so_far cut = more_before (λ (first : List ℕ). IsCutEnd (ends first)) read part so_far cut
 
 pub stops_so : (e : MeetEnd) (ends : List ℕ → SessionEnd) (read : List ℕ) → IsReadNoFurther ends read → StopsReading e ends read
 stops_so (end.Done refused) ends read none = none

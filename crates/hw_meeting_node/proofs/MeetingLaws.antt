@@ -31,12 +31,12 @@ use Rattle.hw_meeting_node.specs.declared.end.MeetEnd.TheVariants as end
 use Rattle.hw_meeting_node.specs.declared.meeter.Side.{Side}
 use Rattle.hw_meeting_node.specs.Talk.{Reaction, Talk, HasHeard, placed_behind}
 use Rattle.hw_meeting_node.specs.Meeting.{Meeting, first_word, begun, meet_step, met, met_said}
-use Rattle.hw_meeting_node.specs.Sessions.{meet_end, IsOfOutside, EndsAs, IsFinal, IsEndOf, IsCutEnd, IsReadNoFurther, IsWritten, Leaves, Meets, is_link_end, MeetsPeer, MeetsNone, IsLinkEnd, IsTakerEnd}
+use Rattle.hw_meeting_node.specs.Sessions.{meet_end, IsOfOutside, EndsAs, IsFinal, IsEndOf, IsCutEnd, IsReadNoFurther, IsWritten, IsAnswered, Leaves, Meets, is_link_end, MeetsPeer, MeetsNone, IsLinkEnd, IsTakerEnd}
 use Rattle.hw_meeting_node.specs.Handling.{Reacts, Quits, Handles, IsTakerCounted}
 use Rattle.hw_meeting_node.specs.Taking.{vertex_at, taken_in, TakeStep, TakesAll, Took, TakesThere, TakesPeer, TakesNone, TakesOf, GoesNext, with_taker, meeting_with}
 use Rattle.hw_meeting_node.proofs.TalkLaws.{begins, leads_on, frame_ends, no_frame_ends, heard_here, heard_first}
 use Rattle.hw_meeting_node.proofs.EndLaws.{IsOfFrame, step_ends, no_frame_so}
-use Rattle.hw_meeting_node.proofs.FurtherLaws.{NoneBehind, frame_alone, none_there, part_cut, cut_so_far, none_further, no_further, stops_so}
+use Rattle.hw_meeting_node.proofs.FurtherLaws.{NoneBehind, frame_alone, none_there, part_cut, cut_so_far, none_before, more_before, none_further, no_further, stops_so}
 use Rattle.hw_meeting_node.proofs.TakingLaws.{HasTaken, taken_nothing, takes_here, takes_over, takes_first, takes_more, takes_last, takes_alike}
 
 -- ---- what was said
@@ -48,13 +48,15 @@ said_more said more = flat_map-append framed said more
 all_of : (bytes : List ℕ) → IsPrefixOf bytes bytes
 all_of bytes = (length bytes, sym (take_all (length bytes) bytes (omega arith)))
 
+-- and so is what is a first part of less
+prefix_more : (bytes all more : List ℕ) → IsPrefixOf bytes all → IsPrefixOf bytes (all ++ more)
+prefix_more bytes all more (k, is) = elim (cases_lt k (length all)) [
+  | inl less ↦ (k, is ∙ sym (take-append-le k all more (omega arith)))
+  | inr whole ↦ (length all, is ∙ take_all k all whole ∙ sym (take-append-le (length all) all more (omega arith) ∙ take_all (length all) all (omega arith)))
+]
+
 first_of_more : (bytes : List ℕ) (said more : List MeetingFrame) → IsPrefixOf bytes (sent_bytes said) → IsPrefixOf bytes (sent_bytes (said ++ more))
-first_of_more bytes said more (k, is) =
-    let joined : sent_bytes (said ++ more) ≡ sent_bytes said ++ sent_bytes more = said_more said more in
-    elim (cases_lt k (length (sent_bytes said))) [
-      | inl less ↦ (k, is ∙ sym (ap (take k) joined ∙ take-append-le k (sent_bytes said) (sent_bytes more) (omega arith)))
-      | inr all ↦ (length (sent_bytes said), is ∙ take_all k (sent_bytes said) all ∙ sym (ap (take (length (sent_bytes said))) joined ∙ take-append-le (length (sent_bytes said)) (sent_bytes said) (sent_bytes more) (omega arith) ∙ take_all (length (sent_bytes said)) (sent_bytes said) (omega arith)))
-    ]
+first_of_more bytes said more first = subst (λ (all : List ℕ). IsPrefixOf bytes all) (sym (said_more said more)) (prefix_more bytes (sent_bytes said) (sent_bytes more) first)
 
 -- a first part of what is said last, behind all that was said before
 first_of_last : (said says : List MeetingFrame) (part : List ℕ) → IsPrefixOf part (sent_bytes says) → IsPrefixOf (sent_bytes said ++ part) (sent_bytes (said ++ says))
@@ -145,6 +147,10 @@ module _ {A : Type 0} (taking : TakeStep A) (side : Side) (c : CoreState) (judge
   abbrev Further : List ℕ → Type 0
   Further read = IsReadNoFurther (λ (bytes : List ℕ). (met side c judge bytes).end) read
 
+  -- what is said to the first of these bytes, and not yet to all of them, stands first in what was written
+  abbrev Answered : List ℕ → List ℕ → Type 0
+  Answered read written = IsAnswered (met_said side c judge) read written
+
   -- what was read so far was read of the session that is there, the node stands behind it, and all that it said was sent
   pub record IsMeeting (m : Meeting) (place : ℕ) (u : A) (old now : Option (List Session)) : Type 0 where
     pub read : List ℕ
@@ -153,10 +159,14 @@ module _ {A : Type 0} (taking : TakeStep A) (side : Side) (c : CoreState) (judge
     pub within : length read ≤ byte_limit
     pub heard : Heard read said m
     pub no_further : Further read
+    pub answered : Answered read (sent_bytes said)
     pub told : now ≡ after_part read (sent_bytes said) false old
     pub took : HasTaken taking side c judge t m read u
 
   -- before the first byte
+  none_answered : (written : List ℕ) → Answered [] written
+  none_answered written = none_before (λ (bytes : List ℕ). IsPrefixOf (met_said side c judge bytes) written)
+
   pub meeting_begins : (m : Meeting) (old new : Option (List Session)) → m ≡ begun c → new ≡ after_part [] (sent_bytes first) false old → IsMeeting m 0 t old new
   meeting_begins m old new is told = record {
     read = [];
@@ -165,6 +175,7 @@ module _ {A : Type 0} (taking : TakeStep A) (side : Side) (c : CoreState) (judge
     within = omega arith;
     heard = subst (λ (x : Meeting). Heard [] first x) (sym is) (begins n step first (begun c));
     no_further = none_further (λ (bytes : List ℕ). (met side c judge bytes).end);
+    answered = none_answered (sent_bytes first);
     told = told;
     took = subst (λ (x : Meeting). HasTaken taking side c judge t x [] t) (sym is) (taken_nothing taking side c judge t);
   }
@@ -172,25 +183,45 @@ module _ {A : Type 0} (taking : TakeStep A) (side : Side) (c : CoreState) (judge
   abbrev Whole : List ℕ → Meeting → List MeetingFrame → SessionEnd → Type 0
   Whole bytes m said e = met side c judge bytes ≡ record { state = m; said = said; end = e }
 
-  -- bytes that are no more than a frame are read no further than it
-  reads_part : (m : Meeting) (read : List ℕ) (said : List MeetingFrame) → Heard read said m → (part : List ℕ) → NoneBehind n (length read) part → length (read ++ part) ≤ byte_limit → Further read → Further (read ++ part)
-  reads_part m read said heard part none few so_far = no_further (λ (bytes : List ℕ). (met side c judge bytes).end) read part so_far (λ front back is some.
-      let (e, ends) = part_cut n (length read) part front back is some none in
-      let all : length (read ++ (front ++ back)) ≤ byte_limit = subst (λ (p : List ℕ). length (read ++ p) ≤ byte_limit) is few in
-      let fewer : length (read ++ front) ≤ byte_limit = omega (arith, length-append read (front ++ back), length-append front back, length-append read front) in
-      subst IsCutEnd (sym (ap (λ (t : Talk Meeting). t.end) (no_frame_ends n step first (begun c) read said m heard front e ends fewer))) (cut_so_far (rest_at (length read) front) e (no_frame_so n (length read) front e ends)))
+  -- ---- bytes that are no more than a frame
+
+  module _ (m : Meeting) (read : List ℕ) (said : List MeetingFrame) (heard : Heard read said m) (part : List ℕ) (none : NoneBehind n (length read) part) (few : length (read ++ part) ≤ byte_limit) where
+    -- there is no frame in the first of them
+    none_in : (front back : List ℕ) → part ≡ front ++ back → back ≢ [] → (e : SessionEnd) × EndsIn n (length read) front e × Whole (read ++ front) m said e
+    none_in front back is some =
+        let (e, ends) = part_cut n (length read) part front back is some none in
+        let all : length (read ++ (front ++ back)) ≤ byte_limit = subst (λ (p : List ℕ). length (read ++ p) ≤ byte_limit) is few in
+        let fewer : length (read ++ front) ≤ byte_limit = omega (arith, length-append read (front ++ back), length-append front back, length-append read front) in
+        (e, ends, no_frame_ends n step first (begun c) read said m heard front e ends fewer)
+
+    -- they are read no further than it
+    reads_part : Further read → Further (read ++ part)
+    reads_part so_far = no_further (λ (bytes : List ℕ). (met side c judge bytes).end) read part so_far (λ front back is some.
+        let (e, ends, whole) = none_in front back is some in
+        subst IsCutEnd (sym (ap (λ (t : Talk Meeting). t.end) whole)) (cut_so_far (rest_at (length read) front) e (no_frame_so n (length read) front e ends)))
+
+    -- all was out before them
+    says_part : Answered read (sent_bytes said) → Answered (read ++ part) (sent_bytes said)
+    says_part so_far = more_before (λ (bytes : List ℕ). IsPrefixOf (met_said side c judge bytes) (sent_bytes said)) read part so_far (λ front back is some.
+        let (e, ends, whole) = none_in front back is some in
+        subst (λ (bytes : List ℕ). IsPrefixOf bytes (sent_bytes said)) (sym (ap (λ (t : Talk Meeting). sent_bytes t.said) whole)) (all_of (sent_bytes said)))
+
+  -- no less of it is out where more is written
+  answered_more : (read written sent : List ℕ) → Answered read written → Answered read (written ++ sent)
+  answered_more read written sent out front part is some = prefix_more (met_said side c judge front) written sent (out front part is some)
 
   -- ---- what a meeting comes to
 
   -- it ended so, and all that was read was handled
   plain_meets : (read written : List ℕ) (said : List MeetingFrame) (m : Meeting) (ends_old ends_new : ℕ) (e by_bytes : SessionEnd) → length read ≤ byte_limit → Whole read m said by_bytes → EndsAs (meet_end e m.refused) (record { state = m; said = said; end = by_bytes })
-      → IsEndOf side c judge read ends_old ends_new (meet_end e m.refused) → Further read → IsWritten (meet_end e m.refused) said written → (e ≡ by.OutOfMemory → ⊥) → Meets side c judge read written m.core ends_old ends_new (meet_end e m.refused)
-  plain_meets read written said m ends_old ends_new e by_bytes few whole ended counted further wrote some = record {
+      → IsEndOf side c judge read ends_old ends_new (meet_end e m.refused) → Further read → IsWritten (meet_end e m.refused) said written → Answered read written → (e ≡ by.OutOfMemory → ⊥) → Meets side c judge read written m.core ends_old ends_new (meet_end e m.refused)
+  plain_meets read written said m ends_old ends_new e by_bytes few whole ended counted further wrote answered some = record {
     within = few;
     ended = subst (λ (t : Talk Meeting). EndsAs (meet_end e m.refused) t) (sym whole) ended;
     end_counted = counted;
     no_further = stops_so (meet_end e m.refused) (λ (bytes : List ℕ). (met side c judge bytes).end) read further;
     wrote = subst (λ (t : Talk Meeting). IsWritten (meet_end e m.refused) t.said written) (sym whole) wrote;
+    answered = λ linked. answered;
     left = leaves e (ap (λ (t : Talk Meeting). t.state.core) (sym whole)) some;
   }
     where
@@ -214,6 +245,7 @@ module _ {A : Type 0} (taking : TakeStep A) (side : Side) (c : CoreState) (judge
     end_counted = tt;
     no_further = tt;
     wrote = subst (λ (s : List MeetingFrame). IsPrefixOf written (sent_bytes s)) (sym further) (first_of_more written said more wrote);
+    answered = λ linked. absurd cc;
     left = record { first = front; part = part; split = refl; stands = stands };
   }
 
@@ -235,7 +267,7 @@ module _ {A : Type 0} (taking : TakeStep A) (side : Side) (c : CoreState) (judge
           meets = record {
             read = s.read;
             written = sent_bytes s.said;
-            meets = plain_meets s.read (sent_bytes s.said) s.said m ends ends by.ByteLimit (cut_end (rest_at (length s.read) [])) s.within here (inl (ap (λ (e : SessionEnd). meet_end e m.refused) (sym is))) (omega (arith, s.place_is)) s.no_further refl (λ e. cc);
+            meets = plain_meets s.read (sent_bytes s.said) s.said m ends ends by.ByteLimit (cut_end (rest_at (length s.read) [])) s.within here (inl (ap (λ (e : SessionEnd). meet_end e m.refused) (sym is))) (omega (arith, s.place_is)) s.no_further refl s.answered (λ e. cc);
             told = s.told;
           };
           took = takes_here taking side c judge t m s.read u s.took s.within;
@@ -260,7 +292,7 @@ module _ {A : Type 0} (taking : TakeStep A) (side : Side) (c : CoreState) (judge
           meets = record {
             read = s.read ++ h.part;
             written = sent_bytes s.said;
-            meets = plain_meets (s.read ++ h.part) (sent_bytes s.said) s.said m ends_now ends_new how by_bytes few (over by_bytes none) agrees counted (reads_part m s.read s.said s.heard h.part (none_there n (length s.read) h.part by_bytes none) few s.no_further) wrote some;
+            meets = plain_meets (s.read ++ h.part) (sent_bytes s.said) s.said m ends_now ends_new how by_bytes few (over by_bytes none) agrees counted (reads_part m s.read s.said s.heard h.part (none_there n (length s.read) h.part by_bytes none) few s.no_further) wrote (says_part m s.read s.said s.heard h.part (none_there n (length s.read) h.part by_bytes none) few s.answered) some;
             told = told;
           };
           took = took;
@@ -334,6 +366,10 @@ module _ {A : Type 0} (taking : TakeStep A) (side : Side) (c : CoreState) (judge
       further : Further bytes
       further = reads_part m s.read s.said s.heard part (frame_alone n (length s.read) part f has) fits s.no_further
 
+      -- all was out before the frame was read, whatever is sent behind it
+      out : (sent : List ℕ) → Answered bytes (sent_bytes s.said ++ sent)
+      out sent = answered_more bytes (sent_bytes s.said) sent (says_part m s.read s.said s.heard part (frame_alone n (length s.read) part f has) fits s.answered)
+
       stops : (e : SessionEnd) → reaction.end ≡ Some e → (more : List ℕ) → length (bytes ++ more) ≤ byte_limit → Whole (bytes ++ more) reaction.state said e
       stops e some more few = frame_ends n step first (begun c) s.read s.said m s.heard part f has e some more few
 
@@ -373,7 +409,7 @@ module _ {A : Type 0} (taking : TakeStep A) (side : Side) (c : CoreState) (judge
             meets = record {
               read = bytes;
               written = sent_bytes s.said ++ sent_bytes reaction.says;
-              meets = plain_meets bytes (sent_bytes s.said ++ sent_bytes reaction.says) said reaction.state ends ends how how fits (stops_here how some) (inl refl) counted further wrote others;
+              meets = plain_meets bytes (sent_bytes s.said ++ sent_bytes reaction.says) said reaction.state ends ends how how fits (stops_here how some) (inl refl) counted further wrote (out (sent_bytes reaction.says)) others;
               told = told (sent_bytes reaction.says) false sent ∙ ap (λ (b : Bool). after_part bytes (sent_bytes s.said ++ sent_bytes reaction.says) b old) (sym linked);
             };
             took = took how reaction.state.refused of_taker;
@@ -399,7 +435,7 @@ module _ {A : Type 0} (taking : TakeStep A) (side : Side) (c : CoreState) (judge
             meets = record {
               read = bytes;
               written = sent_bytes s.said ++ sent;
-              meets = plain_meets bytes (sent_bytes s.said ++ sent) said reaction.state ends ends how whole.0 fits whole.1 (inr of) counted further wrote others;
+              meets = plain_meets bytes (sent_bytes s.said ++ sent) said reaction.state ends ends how whole.0 fits whole.1 (inr of) counted further wrote (out sent) others;
               told = told sent failed is ∙ ap (λ (b : Bool). after_part bytes (sent_bytes s.said ++ sent) b old) linked;
             };
             took = took how reaction.state.refused takes;
@@ -437,6 +473,7 @@ module _ {A : Type 0} (taking : TakeStep A) (side : Side) (c : CoreState) (judge
         within = fits;
         heard = subst (λ (x : Meeting). Heard bytes said x) (sym r.1) (leads_on n step first (begun c) s.read s.said m s.heard part f has r.0);
         no_further = further;
+        answered = subst (λ (w : List ℕ). Answered bytes w) all_said (out (sent_bytes reaction.says));
         told = told (sent_bytes reaction.says) false r.2 ∙ ap (λ (w : List ℕ). after_part bytes w false old) all_said;
         took = subst (λ (x : Meeting). HasTaken taking side c judge t x bytes w) (sym r.1) (takes_more taking side c judge t m s.read u s.took part f has fits w x r.0 takes);
       }
@@ -503,7 +540,7 @@ module _ {A : Type 0} (taking : TakeStep A) (side : Side) (c : CoreState) (judge
     meets = record {
       read = [];
       written = s.part;
-      meets = plain_meets [] s.part first (begun c) ends ends by.LinkFault (cut_end (rest_at 0 [])) (omega arith) start (inr tt) tt (none_further (λ (bytes : List ℕ). (met side c judge bytes).end)) s.first (λ e. cc);
+      meets = plain_meets [] s.part first (begun c) ends ends by.LinkFault (cut_end (rest_at 0 [])) (omega arith) start (inr tt) tt (none_further (λ (bytes : List ℕ). (met side c judge bytes).end)) s.first (none_answered s.part) (λ e. cc);
       told = s.told;
     };
     took = none_taken;
@@ -570,7 +607,7 @@ module _ {A : Type 0} (taking : TakeStep A) (side : Side) (c : CoreState) (judge
           meets = record {
             read = [];
             written = [];
-            meets = plain_meets [] [] first (begun c) ends_old ends_old by.LinkFault (cut_end (rest_at 0 [])) (omega arith) start (inr tt) tt (none_further (λ (bytes : List ℕ). (met side c judge bytes).end)) (0, refl) (λ e. cc);
+            meets = plain_meets [] [] first (begun c) ends_old ends_old by.LinkFault (cut_end (rest_at 0 [])) (omega arith) start (inr tt) tt (none_further (λ (bytes : List ℕ). (met side c judge bytes).end)) (0, refl) (none_answered []) (λ e. cc);
             told = told;
           };
           took = none_taken;

@@ -19,7 +19,7 @@ use Rattle.hw_meeting_node.specs.declared.end.MeetEnd.TheVariants as end
 use Rattle.hw_meeting_node.specs.declared.meeter.Side.{Side}
 use Rattle.hw_meeting_node.specs.declared.meeter.Side.TheVariants.{Caller, Host}
 use Rattle.hw_meeting_node.specs.Talk.{Talk}
-use Rattle.hw_meeting_node.specs.Meeting.{Meeting, met}
+use Rattle.hw_meeting_node.specs.Meeting.{Meeting, met, met_said}
 
 -- ---- how it ended
 
@@ -88,6 +88,11 @@ IsWritten end.LinkFault said written = IsPrefixOf written (sent_bytes said)
 IsWritten end.OutOfMemory said written = IsPrefixOf written (sent_bytes said)
 IsWritten e said written = written ≡ sent_bytes said
 
+-- Each frame's answer was out before a byte of the next frame was read: what is said to the first of these bytes, and not yet to all of them,
+-- stands first in what was written.
+abbrev pub IsAnswered : (List ℕ → List ℕ) → List ℕ → List ℕ → Type 0
+IsAnswered says read written = (first part : List ℕ) → read ≡ first ++ part → part ≢ [] → IsPrefixOf (says first) written
+
 -- ---- what it left
 
 -- it stands where the first of these bytes leave it
@@ -104,13 +109,15 @@ Leaves e side c judge read m = m ≡ (met side c judge read).state.core
 
 -- ---- one session
 
--- A node met a peer that sent these bytes: how the session ended, what was written, and what the node has received.
+-- A node met a peer that sent these bytes: how the session ended, what was written, and what the node has received. Where the link failed, only
+-- the answer to the last of the frames that were read whole may be wanting, and only if no byte was read behind that frame.
 pub record Meets (side : Side) (c : CoreState) (judge : Vertex → Bool) (read written : List ℕ) (m : CoreState) (ends_old ends_new : ℕ) (e : MeetEnd) : Type 0 where
   pub within : length read ≤ byte_limit
   pub ended : EndsAs e (met side c judge read)
   pub end_counted : IsEndOf side c judge read ends_old ends_new e
   pub no_further : StopsReading e (λ (bytes : List ℕ). (met side c judge bytes).end) read
   pub wrote : IsWritten e (met side c judge read).said written
+  pub answered : e ≡ end.LinkFault → IsAnswered (met_said side c judge) read written
   pub left : Leaves e side c judge read m
 
 -- a call of the door failed

@@ -77,8 +77,8 @@ fn is_above(bound: Option<Digest>, digest: &Digest) -> bool
     }
 }
 
-/// Of the units with this creator and this sequence number whose digests are above the bound, where there is
-/// one, the unit of the least digest.
+/// Of the units with this creator and this sequence number, the unit of the least digest. Where there is a
+/// bound, only those whose digests are above it are looked at.
 fn least_above(dag: &Dag, creator: u32, seq: u64, bound: Option<Digest>) -> Option<UnitNo>
     ensures { IsLeastAbove dag.now (count_of dag.now) creator seq bound result }
 {
@@ -140,8 +140,9 @@ fn least_two(dag: &Dag, creator: u32, seq: u64) -> Option<(UnitNo, UnitNo)>
     Some((first, second))
 }
 
-/// The two settled units that show that the creator equivocated: at the least sequence number that two of its
-/// units have, the two of the least digests, the lesser one first. None where no two of its units have one number.
+/// The two settled units that show that the creator equivocated. At the least sequence number that two of its
+/// units have, these are the two of the least digests, the lesser one first. None where no two of its units have
+/// one number.
 pub fn pair_of(
     alloc: Global,
     dag: &Dag,

@@ -3,7 +3,7 @@
 ghost use Rattle.hw_needs.specs.Laws.{EvidenceIsTaken};
 
 /// The evidence that a node has against a validator is two different units of that validator with one sequence
-/// number, and no node of the configuration refuses it.
+/// number. No node of the configuration refuses it.
 pub fn evidence_is_taken()
     ensures { EvidenceIsTaken }
 {}

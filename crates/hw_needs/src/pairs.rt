@@ -16,7 +16,7 @@ pub struct PairNames {
 }
 
 /// The pairs that a node's settled units show, one for each validator for which it was looked for. A peer may ask
-/// for one as often as it likes, so it is looked for once, and kept while the node's journal stays as it is.
+/// for one as often as it likes. So it is looked for once, and kept while the node's journal stays as it is.
 /// Contracts see them by validator, None where none was looked for.
 #[derive(Drop)]
 pub struct KnownPairs {
@@ -72,7 +72,7 @@ impl KnownPairs {
         Ok(())
     }
 
-    /// Makes a place for each of so many validators, where there are fewer. What is kept stays.
+    /// Makes a place for each of this many validators, where there are fewer. What is kept stays.
     fn make_places(&mut self, validators: usize) -> Result<(), OutOfMemory>
         ensures places { OnOk result (validators ≤ length self.new) }
         ensures same { (w : ℕ) → slice_index_or self.new w None ≡ slice_index_or self.old w None }

@@ -15,9 +15,9 @@ use std::alloc::Global;
 /// Vertices.
 pub type VertexList = Items<Vertex>;
 
-/// The vertices that the node has for the need, in order: the unit; evidence against the validator, as
-/// [`crate::evidence_of`] gives it; or the journal's endorsements of the unit. The list is empty exactly where the
-/// node has none.
+/// The vertices that the node has for the need, in order. These are the unit, the evidence against the validator
+/// that [`crate::evidence_of`] gives, or the journal's endorsements of the unit. The list is empty exactly where
+/// the node has none.
 pub fn vertices_of(alloc: Global, core: &Core, need: &Need) -> Result<VertexList, OutOfMemory>
     ensures vertices { IfOk result (λ vertices. vertices ≡ vertices_of core.now need.now) }
     ensures fit { IfOk result (λ vertices. All VertexFits vertices) }
@@ -25,8 +25,8 @@ pub fn vertices_of(alloc: Global, core: &Core, need: &Need) -> Result<VertexList
     vertices_with(alloc, core, &mut KnownPairs::new(alloc), need)
 }
 
-/// The vertices that the node has for the need, as [`vertices_of`] gives them, with the pairs that were looked
-/// for before, since when the node's journal has stayed as it is. A pair that is looked for is kept among them.
+/// The vertices that the node has for the need, as [`vertices_of`] gives them. `pairs` were looked for before,
+/// while the node's journal was as it is now. A pair that is looked for is kept among them.
 pub fn vertices_with(
     alloc: Global,
     core: &Core,
@@ -98,6 +98,6 @@ fn endorsements(alloc: Global, core: &Core, unit: &Digest) -> Result<VertexList,
             None => return Ok(vertices),
         }
     }
-    // No memory has room for so many.
+    // No memory has room for this many.
     Err(OutOfMemory)
 }

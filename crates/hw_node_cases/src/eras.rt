@@ -1,4 +1,4 @@
-//! What a node's eras answer for the lines of its input, and what is told of the eras of two nodes and of logs.
+//! What a node's eras answer for the lines of its input, and what is reported of the eras of two nodes and of logs.
 //!
 //! The lines, what each does and what it answers:
 //!
@@ -12,15 +12,15 @@
 //! - `count`: how many eras there are.
 //! - `core ERA`: the configuration of the era as bytes, how many vertices its journal has, how many units are settled,
 //!   and the decided blocks; or `none`.
-//! - `audit NODE against NODE`: what an audit of the eras of these two nodes prints; they stand in the place of those
-//!   that began.
+//! - `audit NODE against NODE`: what an audit of the eras of these two nodes prints; they replace those that began.
 //! - `logs eras LOG ..`: the report on the eras of these logs.
 //! - `logs audit COUNT LOG ..`: the audit of two nodes' eras, of which the first COUNT logs are the left node's.
 //!
-//! `changed` behind a refusal says that another vertex came back than was delivered.
+//! `changed` after a refusal says that another vertex came back than was delivered.
 //!
-//! A NODE is a list of words: the bytes of its first configuration, and then in turn a vertex as bytes for the era that
-//! is meant, `to ERA`, which says which one is, or `open`, which opens the next era and means it. Era 0 is meant first.
+//! A NODE is a list of words: the bytes of its first configuration, and then any of three in turn. A vertex as bytes is
+//! for the era that is meant. `to ERA` says which one that is, and `open` opens the next era and means it. Era 0 is
+//! meant first.
 //!
 //! A LOG is the bytes of a log as hexadecimal digits, or `-` where there is no file. Its name is its place, from 0 on.
 //! The answer is the exit status of a program and its text, with `bad log` for a log that can't be read on.

@@ -3,11 +3,11 @@
 use hw_case_words::{Answer, number};
 use hw_doubles::{MemDoor, PacedDoor};
 
-/// A door with a peer that says what the script tells, which gives and takes at most `piece` bytes at once, or all
-/// where that is no number, and of which that call fails, if it is a number.
+/// A door with a peer that says what the script gives. It gives and takes at most `piece` bytes at once, or all where
+/// that is no number. The call of this number fails, if it is a number.
 ///
 /// The script has parts with `+` between them, of hexadecimal digits. With `COUNT.` before its digits, a part and all
-/// behind it are held back until so many bytes were written.
+/// after it are held back until COUNT bytes were written.
 pub fn door_of(answer: &mut Answer, script: &str, piece: &str, call: &str) -> PacedDoor {
     let door = MemDoor::in_pieces(answer.alloc(), piece.parse().unwrap_or(usize::MAX));
     let mut paced = PacedDoor::new(answer.alloc(), door);
@@ -19,7 +19,7 @@ pub fn door_of(answer: &mut Answer, script: &str, piece: &str, call: &str) -> Pa
     paced
 }
 
-/// Expects a peer that says what the script tells.
+/// Expects a peer that says what the script gives.
 fn expect(answer: &mut Answer, paced: &mut PacedDoor, script: &str) {
     let mut said = Vec::new(answer.alloc());
     for part in script.split('+') {

@@ -10,7 +10,7 @@ pub struct ReceiptWords {
     parked: &'static str,
     dropped: &'static str,
     repeat: &'static str,
-    /// What stands behind a number or a rule.
+    /// What comes after a number or a rule.
     end: &'static str,
 }
 

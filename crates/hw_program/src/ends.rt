@@ -18,8 +18,8 @@ use hw_text::{put_limit, put_word};
 use hw_types::{Bytes, OutOfMemory};
 use std::alloc::Global;
 
-/// Ends a run of a node that came to this, and answers the status. The line of what stopped it is written behind
-/// what was written before, if the output takes it. Behind a report, and where a write failed, nothing is written.
+/// Ends a run of a node that came to this, and answers the status. The line of what stopped it is written after
+/// what was written before, if the output takes it. After a report, and where a write failed, nothing is written.
 #[tactic(auto, using(crate::proofs::ServedLaws::ends_told))]
 pub fn end_run<S: Sink>(
     alloc: Global,
@@ -50,8 +50,8 @@ fn status_of(served: &Served) -> u8
     }
 }
 
-/// Writes the line of what stopped the run, which is no fault of the output and no want of memory, and answers the
-/// status.
+/// Writes the line of what stopped the run, and answers the status. The fault is neither one of the output nor out of
+/// memory.
 fn tell<S: Sink>(alloc: Global, sources: Sources<'_>, fault: ServiceFault, out: &mut S) -> u8
     requires write { fault ≢ ServiceFaults.Write }
     ensures { Tells (service_stopped (names_of sources.entry) fault) result (record { taken = S.taken out.old; faults = S.faults out.old; wants = S.wants out.old }) (record { taken = S.taken out.new; faults = S.faults out.new; wants = S.wants out.new }) }
@@ -83,7 +83,7 @@ fn stopped_run(alloc: Global, sources: Sources<'_>, fault: ServiceFault) -> Resu
     }
 }
 
-/// The settings in the file of this name say no configuration.
+/// The line for settings in the file of this name that are no configuration, and its status.
 #[tactic(auto, using(std::proofs::Common::append_assoc), unfolding(hw_commands::specs::Texts::input_ended))]
 fn bad_settings(alloc: Global, name: &str, fault: SettingsFault) -> Result<Ended, OutOfMemory>
     ensures { IfOk result (λ ended. ended ≡ input_ended name.now (settings_text fault)) }
@@ -93,7 +93,7 @@ fn bad_settings(alloc: Global, name: &str, fault: SettingsFault) -> Result<Ended
     input_end(text)
 }
 
-/// Puts the text of what is wrong with settings last. Want of memory has none.
+/// Puts the text of what is wrong with settings last. Out of memory has none.
 #[tactic(auto, using(std::proofs::Common::append_assoc), unfolding(crate::specs::Served::settings_text))]
 fn put_settings(text: &mut Bytes, fault: SettingsFault) -> Result<(), OutOfMemory>
     ensures { OnOk result (text.new ≡ text.old ++ settings_text fault) }

@@ -13,7 +13,7 @@ pub enum Request<'w> {
     /// A node is to run.
     Node(NodeCommand<'w>),
     /// The end and the text of a command are to be worked out from its words and what the files hold. Words that
-    /// are in no command's grammar ask for no command, and are told the usage.
+    /// are in no command's grammar ask for no command, and are answered with the usage.
     Work(Option<Command<'w>>),
 }
 

@@ -29,18 +29,26 @@ use std::alloc::Global;
 /// Runs the command that the words ask for, and answers the exit status.
 ///
 /// Most commands make their text whole before the first byte of it is written. In `replay` the consumers are given
-/// the decided blocks after each entry, and are told that no block follows before the report is made; one that
-/// answers an error is dropped, leaves the list, and is named behind the report. `serve`, `run`, `host` and `meet` let
-/// a node run, and tell what happens as it happens: each own unit, and each session that ended otherwise than as Done;
-/// then they report.
+/// the decided blocks after each entry, and are told that no block follows before the report is made. A consumer that
+/// answers an error is dropped, leaves the list, and is named after the report. `serve`, `run`, `host` and `meet` let
+/// a node run, and report what happens as it happens: each own unit, and each session that ended otherwise than as
+/// Done. Then they write their report.
 ///
-/// The status is 0 where all was done, 1 where the words aren't in the grammar or name a validator that the settings
-/// don't have, 2 where a file's bytes aren't in the grammar, two configurations differ or a file that is to be new is
-/// there, 3 where two logs, a log and a certificate, or the eras of two nodes report conflicting final blocks, 4 where
-/// a read of the files failed, 5 where a write of the output or an append to a file failed, 6 where a call of a link
-/// failed in a session of a run that went on, 7 where there was no memory, 8 where a limit was met, 9 where two
-/// different units have one digest, and 10 where no certificate could be made or one shows nothing. A fault has one
-/// line, which is written behind what was written before, if the output takes it.
+/// The status is:
+///
+/// - 0 where all was done,
+/// - 1 where the words aren't in the grammar or name a validator that the settings don't have,
+/// - 2 where a file's bytes aren't in the grammar, two configurations differ or a file that is to be new is there,
+/// - 3 where two logs, a log and a certificate, or the eras of two nodes report conflicting final blocks,
+/// - 4 where a read of the files failed,
+/// - 5 where a write of the output or an append to a file failed,
+/// - 6 where a call of a link failed in a session of a run that went on,
+/// - 7 where there was no memory,
+/// - 8 where a limit was met,
+/// - 9 where two different units have one digest,
+/// - 10 where no certificate could be made or one shows nothing.
+///
+/// A fault has one line, which is written after what was written before, if the output takes it.
 pub fn highway<F: Files, S: Sink, C: Clock, D: Door>(
     alloc: Global,
     words: &Words,
@@ -61,19 +69,19 @@ pub fn highway<F: Files, S: Sink, C: Clock, D: Door>(
     ensures grammar { IsNoCommand words.now → (result ≡ 1) ⊎ (result ≡ 7) }
     ensures validator { IsTrue F.tells → AsksNoValidator F.tells (service_of words.now) (F.held files.old) → (result ≡ 1) ⊎ (result ≡ 4) ⊎ (result ≡ 7) }
 
-    // 4 and 5 come only where a count of faults rose in this run, 4 only where a call about a file that is due
+    // 4 and 5 come only where a count of faults rose in this run. 4 comes only where a call about a file that is due
     // failed or such a file isn't there, and 5 only in place of a text that was whole.
     ensures read_fault { result ≡ 4 → Rose (F.read_faults files.old) (F.read_faults files.new) }
     ensures read_about { IsWorkedOut words.now → IsTrue F.tells → result ≡ 4 → FailsOf (F.held files.old) (request_of words.now) (F.faults_about files.old) (F.faults_about files.new) }
     ensures write_fault { result ≡ 5 → Rose (S.faults out.old) (S.faults out.new) ⊎ Rose (F.append_faults files.old) (F.append_faults files.new) }
     ensures unwritten { IsWorkedOut words.now → IsTrue F.tells → result ≡ 5 → IsDone (run_of words.now (F.held files.old)).status ⊎ Rose (F.append_faults files.old) (F.append_faults files.new) }
 
-    // A read or an append that failed is told: with each other status its count is what it was, unless the output found
-    // no memory.
+    // A read or an append that failed is reported: with each other status its count is what it was, unless the output
+    // found no memory.
     ensures reads { IsWorkedOut words.now → result ≢ 4 → (F.read_faults files.new ≡ F.read_faults files.old) ⊎ ((result ≡ 7) × Rose (S.wants out.old) (S.wants out.new)) }
     ensures appended { IsWorkedOut words.now → result ≢ 5 → (F.append_faults files.new ≡ F.append_faults files.old) ⊎ ((result ≡ 7) × Rose (S.wants out.old) (S.wants out.new)) }
 
-    // Where no count rose, the answer is the one that the words and the bytes have, or want of memory. Where it is
+    // Where no count rose, the answer is the one that the words and the bytes have, or out of memory. Where it is
     // allowed to write a log anew, that is done.
     ensures complete { IsWorkedOut words.now → IsTrue F.tells → (Rose (F.read_faults files.old) (F.read_faults files.new) → ⊥) → (Rose (S.faults out.old) (S.faults out.new) → ⊥) → OnlyReads (request_of words.now) ⊎ (Rose (F.append_faults files.old) (F.append_faults files.new) → ⊥) → (result ≡ (run_of words.now (F.held files.old)).status) ⊎ (result ≡ 7) }
     ensures allowed { IsTrue F.tells → IsAllowed (request_of words.now) (F.held files.old) → (Rose (F.read_faults files.old) (F.read_faults files.new) → ⊥) → (Rose (S.faults out.old) (S.faults out.new) → ⊥) → (Rose (F.append_faults files.old) (F.append_faults files.new) → ⊥) → (result ≡ 0) ⊎ (result ≡ 7) }
@@ -86,7 +94,7 @@ pub fn highway<F: Files, S: Sink, C: Clock, D: Door>(
     // each is signed.
     ensures certified { IsTrue F.tells → IsShown result → IfChecks (ShowsCertificate (F.held files.old)) (request_of words.now) }
 
-    // What is written with each status by a command whose text is worked out. Behind a report the text names the
+    // What is written with each status by a command whose text is worked out. After a report the text names the
     // consumers that were dropped.
     ensures text { IsWorkedOut words.now → IsTrue F.tells → IsDone result → WritesText (IsTextOf (seen (λ b. consumed b) (λ b. (⟦<dyn Consumer as Consumer>⟧ b.vtable).faults b.value) (λ b. (⟦<dyn Consumer as Consumer>⟧ b.vtable).wants b.value) (λ b. b.vtable)) F.tells words.now (F.held files.old) consumers.old.items consumers.new.items) (S.taken out.old) (S.taken out.new) }
     ensures line { IsWorkedOut words.now → IsTrue F.tells → IsRefusal result → WritesLine (S.taken out.old) (S.taken out.new) (run_of words.now (F.held files.old)).text (S.faults out.old) (S.faults out.new) }
@@ -100,7 +108,7 @@ pub fn highway<F: Files, S: Sink, C: Clock, D: Door>(
     // What such a command leaves of the files.
     ensures left { IsWorkedOut words.now → IsTrue F.tells → FilesAfter (request_of words.now) result (F.held files.old) (F.held files.new) }
 
-    // What it told the consumers.
+    // What it passed to the consumers.
     ensures consumers { IsWorkedOut words.now → ConsumersAfter (seen (λ b. consumed b) (λ b. (⟦<dyn Consumer as Consumer>⟧ b.vtable).faults b.value) (λ b. (⟦<dyn Consumer as Consumer>⟧ b.vtable).wants b.value) (λ b. b.vtable)) F.tells (request_of words.now) (F.held files.old) result consumers.old.items consumers.new.items }
 
     // What it doesn't use stays as it was.
@@ -110,19 +118,19 @@ pub fn highway<F: Files, S: Sink, C: Clock, D: Door>(
     ensures clock { UsesNoClock (service_of words.now) → UsesFilesAlone (request_of words.now) → clock.new ≡ clock.old }
     ensures door { IsWorkedOut words.now → UsesFilesAlone (request_of words.now) → door.new ≡ door.old }
 
-    // A run of a node: what came of it, the counts that rose, its status, and the line behind what was written before.
+    // A run of a node: what came of it, the counts that rose, its status, and the line after what was written before.
     ensures node { IfSome (service_of words.now) (λ s. RunsNode (seen (λ b. consumed b) (λ b. (⟦<dyn Consumer as Consumer>⟧ b.vtable).faults b.value) (λ b. (⟦<dyn Consumer as Consumer>⟧ b.vtable).wants b.value) (λ b. b.vtable)) F.tells s result
         (around (F.held files.old) (door_seen (D.sessions door.old) (D.accepts door.old) (D.dials door.old) (D.ends door.old)) (C.given clock.old) (output (S.taken out.old) (S.faults out.old) (S.wants out.old)) (counts (F.read_faults files.old) (F.append_faults files.old) (F.faults_about files.old) (D.faults door.old)) consumers.old.items)
         (around (F.held files.new) (door_seen (D.sessions door.new) (D.accepts door.new) (D.dials door.new) (D.ends door.new)) (C.given clock.new) (output (S.taken out.new) (S.faults out.new) (S.wants out.new)) (counts (F.read_faults files.new) (F.append_faults files.new) (F.faults_about files.new) (D.faults door.new)) consumers.new.items)) }
 
     // 6 comes only where a call of the door failed in it. A read that failed was about a file that it begins from, or
-    // its settings or keys aren't there. A count of reads or of appends that rose is told, where there is memory.
+    // its settings or keys aren't there. A count of reads or of appends that rose is reported, where there is memory.
     ensures link { result ≡ 6 → IsSome (service_of words.now) × Rose (D.faults door.old) (D.faults door.new) }
     ensures node_about { IsTrue F.tells → result ≡ 4 → IfSome (service_of words.now) (λ s. IsAbout (names_in s) (maker_in s) (F.held files.old) (F.faults_about files.old) (F.faults_about files.new)) }
     ensures node_reads { IsSome (service_of words.now) → result ≢ 4 → (F.read_faults files.new ≡ F.read_faults files.old) ⊎ (result ≡ 7) }
     ensures node_appended { IsSome (service_of words.now) → result ≢ 5 → (F.append_faults files.new ≡ F.append_faults files.old) ⊎ (result ≡ 7) }
 
-    // Where settings, keys and log are as they must be and no count of the files and the output rose, it comes to its
+    // Settings, keys and log are as they must be, and no count of the files and the output rose. Then it comes to its
     // report, or there was no memory, or a peer brought a unit that has the digest of another.
     ensures runs { IsTrue F.tells → CanRun (service_of words.now) (F.held files.old) → (Rose (F.read_faults files.old) (F.read_faults files.new) → ⊥) → (Rose (S.faults out.old) (S.faults out.new) → ⊥) → (Rose (F.append_faults files.old) (F.append_faults files.new) → ⊥) → IsRunEnd result }
 

@@ -11,7 +11,7 @@ use hw_service::{Environment, Peer, ServiceFault, Sources, run};
 use hw_types::OutOfMemory;
 use std::alloc::Global;
 
-/// Lets the validator of a node take so many turns, and answers the status. In each turn it dials the peers at
+/// Lets the validator of a node take this many turns, and answers the status. In each turn it dials the peers at
 /// these addresses, each of which has a mark of its own.
 pub fn run_turns<F: Files, S: Sink, C: Clock, D: Door>(
     alloc: Global,

@@ -1,4 +1,4 @@
-//! The grammar of a command line: what a node is asked for that runs.
+//! The grammar of a command line: what a node that runs is asked for.
 
 ghost use Rattle.std.specs.{Prelude.{◌≡◌, map, string_bytes}, Option.{option_map}};
 ghost use Rattle.hw_text.specs.Numbers.{number_below};
@@ -10,7 +10,7 @@ use hw_service::Sources;
 use hw_text::number_up_to;
 use hw_types::MAX_VALIDATORS;
 
-/// A node serves at most this many sessions in one run, or meets so many peers that come.
+/// A node serves at most this many sessions in one run, or meets this many peers that come.
 pub const MAX_SESSIONS: u64 = 65_536;
 
 /// A validator's number is at most this.
@@ -22,16 +22,16 @@ pub const MAX_TURNS: u64 = 1_000_000;
 /// A validator dials at most this many peers in a turn.
 const MAX_PEERS: usize = 16;
 
-/// What a node is asked for that runs, with the words that it works on.
+/// What a node that runs is asked for, with the words that it works on.
 #[derive(Drop)]
 pub enum NodeCommand<'w> {
-    /// Serves so many sessions, one after the other, to peers that come to the address.
+    /// Serves this many sessions, one after the other, to peers that come to the address.
     Serve {
         sources: Sources<'w>,
         address: &'w str,
         sessions: u64,
     },
-    /// Lets a validator take so many turns. In each it makes its unit, if there is one to make, and dials the peers
+    /// Lets a validator take this many turns. In each it makes its unit, if there is one to make, and dials the peers
     /// at these addresses.
     Run {
         sources: Sources<'w>,
@@ -39,7 +39,7 @@ pub enum NodeCommand<'w> {
         turns: u64,
         peers: &'w [String],
     },
-    /// Meets so many peers that come to the address, one after the other.
+    /// Meets this many peers that come to the address, one after the other.
     Host {
         sources: Sources<'w>,
         address: &'w str,
@@ -102,7 +102,7 @@ pub fn service_of(words: &Words) -> Option<NodeCommand<'_>>
     }
 }
 
-/// The run of a node that the command asks for, by the one word behind the names of its files.
+/// The run of a node that the command asks for, by the one word after the names of its files.
 #[tactic(auto, unfolding(crate::specs::Services::meeting_in))]
 fn meeting_in<'w>(command: &str, sources: Sources<'w>, peer: &'w str) -> Option<NodeCommand<'w>>
     ensures { asked_service result ≡ meeting_in command.now (names_of sources.entry) peer.now }
@@ -113,7 +113,7 @@ fn meeting_in<'w>(command: &str, sources: Sources<'w>, peer: &'w str) -> Option<
     }
 }
 
-/// The run of a node that the command asks for, by the two words and the rest behind the names of its files.
+/// The run of a node that the command asks for, by the two words and the rest after the names of its files.
 #[tactic(auto, unfolding(crate::specs::Services::service_in))]
 fn service_in<'w>(
     command: &str,
@@ -140,7 +140,7 @@ fn service_in<'w>(
     }
 }
 
-/// So many sessions, and no word behind.
+/// How many sessions the word gives, where that is in its range and no word comes after it.
 fn sessions_of(sessions: &str, rest: &[String]) -> Option<u64>
     ensures { result ≡ sessions_of (number_below 65537 sessions.now) (map string_bytes rest.now) }
 {
@@ -151,7 +151,7 @@ fn sessions_of(sessions: &str, rest: &[String]) -> Option<u64>
     Some(sessions)
 }
 
-/// So many turns of the validator of a number, with the peers at these addresses.
+/// A run of the validator `me` for `turns` turns with the peers at these addresses, where each is in its range.
 fn turns_of<'w>(
     sources: Sources<'w>,
     me: &str,

@@ -5,7 +5,7 @@ use hw_io::IoFault;
 /// Where a consumer failed.
 #[derive(Clone, Copy)]
 pub struct Ending {
-    /// The height of the block that it was given, None where it was told that no block follows.
+    /// The height of the block that it failed to take, or None where it failed to finish.
     pub height: Option<u64>,
     /// What it answered.
     pub fault: IoFault,
@@ -14,7 +14,7 @@ pub struct Ending {
 /// A consumer that was dropped.
 #[derive(Clone, Copy)]
 pub struct Dropped {
-    /// Its place in the first list.
+    /// Its place in the first list: that of all consumers, as if none was dropped.
     pub place: usize,
     pub ending: Ending,
 }

@@ -14,20 +14,21 @@ use hw_types::OutOfMemory;
 use std::alloc::Global;
 use std::marker::Model;
 
-/// Who was passed the decided blocks, how many, and which consumers were dropped.
+/// The consumers that are left, how many decided blocks were passed on, and the consumers that were dropped.
 #[derive(Drop)]
 pub struct FanoutOf<B: Drop> {
     /// How many decided blocks were passed on.
     passed: u64,
     /// The places in the first list of the consumers that are left.
     places: Vec<usize>,
-    /// The consumers that were dropped, in order. There is room for those that are left.
+    /// The consumers that were dropped, in the order of dropping. There is room for those that are left.
     drops: Vec<Dropped>,
-    /// These themselves, in the same order. None of them is called any more. There is room as for `drops`.
+    /// The dropped consumers themselves, in the same order. None of them is called any more. There is room as
+    /// in `drops`.
     gone: Vec<B>,
 }
 
-/// The same of boxed consumers.
+/// The same for boxed consumers.
 pub type Fanout = FanoutOf<Box<dyn Consumer>>;
 
 impl<B: Drop> Model for FanoutOf<B> {
@@ -42,7 +43,7 @@ impl<B: Drop> Model for FanoutOf<B> {
 }
 
 impl<B: Drop> FanoutOf<B> {
-    /// Nothing was passed on, and there is room for no consumer.
+    /// Nothing is passed on yet, and there is room for no consumer.
     pub fn new(alloc: Global) -> FanoutOf<B>
         ensures { result ≡ record { passed = 0; places = []; drops = []; gone = [] } }
     {
@@ -54,7 +55,7 @@ impl<B: Drop> FanoutOf<B> {
         }
     }
 
-    /// Makes room for so many consumers in the first list. Where there is no memory, nothing has changed.
+    /// Makes room for this many consumers in the first list. After `OutOfMemory` nothing has changed.
     pub fn reserve(&mut self, consumers: usize) -> Result<(), OutOfMemory>
         ensures room { OnOk result (self.new.places ≡ self.old.places ++ range_with_len (length self.old.drops + length self.old.places) (consumers - (length self.old.drops + length self.old.places))) }
         ensures drops { OnOk result (self.new.drops ≡ self.old.drops) }
@@ -72,7 +73,8 @@ impl<B: Drop> FanoutOf<B> {
         Ok(())
     }
 
-    /// Drops the consumer at this index of the list, which failed so. It is kept as it is.
+    /// Drops the consumer at this index of the list, which failed with this ending. It is kept as it is, and
+    /// isn't called again.
     fn drop_out(&mut self, consumers: &mut Vec<B>, index: usize, ending: Ending)
         requires here { index < length consumers.old.items }
         requires room { length consumers.old.items ≤ length self.old.places }
@@ -98,8 +100,8 @@ impl<B: Drop> FanoutOf<B> {
         self.drops.len()
     }
 
-    /// The consumer that was dropped at this place, from 0 on: its place in the first list, the height of
-    /// the block that it failed to take, None where it failed to finish, and what it answered.
+    /// The consumer that was dropped at this place, counted from 0: its place in the first list, the height of
+    /// the block that it failed to take, and what it answered. The height is None where it failed to finish.
     pub fn drop_at(&self, index: usize) -> (usize, Option<u64>, IoFault)
         requires { index < length self.now.drops }
         ensures { slice_get self.now.drops index ≡ Some (record { place = result.0; ending = record { height = result.1; fault = result.2 } }) }
@@ -132,7 +134,8 @@ impl Fanout {
         self.passed = chain_length(core);
     }
 
-    /// Tells each consumer of the list that no block follows. One that answers an error is dropped.
+    /// Finishes each consumer of the list: no block follows. One that answers an error is dropped and leaves
+    /// the list.
     #[tactic(auto, using(crate::proofs::Serving::begins, crate::proofs::Serving::ends))]
     pub fn finish(&mut self, consumers: &mut Vec<Box<dyn Consumer>>)
         requires { length consumers.old.items ≤ length self.old.places }
@@ -150,7 +153,7 @@ impl Fanout {
     }
 }
 
-/// Puts the numbers from `from` to `to` last, for which there is room.
+/// Puts the numbers from `from` up to `to`, without `to`, last. There is room for them.
 #[tactic(auto, using(crate::proofs::Serving::range_more))]
 fn number(places: &mut Vec<usize>, from: usize, to: usize)
     requires order { from ≤ to }

@@ -32,7 +32,7 @@ impl From<OutOfMemory> for StartFault {
     }
 }
 
-/// An error of the log as one of the replay. Want of memory is the same in both.
+/// An error of the log as one of the replay. Out of memory is the same in both.
 pub fn fault_of(error: LogError) -> StartFault
     ensures { result ≡ fault_of error }
 {

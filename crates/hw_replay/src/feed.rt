@@ -1,4 +1,4 @@
-//! Consumers are told the decided blocks while a log is replayed, and what is said of those that failed.
+//! Replays that give consumers the decided blocks, entry by entry.
 
 ghost use Rattle.std.specs.{Prelude.{◌≡◌, ◌≤◌, true, [], length, All, IsTrue, IfOk, IfErr, IfSome, OnOk}, Option.{option_copied}};
 ghost use Rattle.hw_io.specs.{Faults.{subject_of}, Files.{SameFiles}};
@@ -20,9 +20,11 @@ use std::alloc::Global;
 
 /// Replays the log under this name, and gives the consumers the new decided blocks after each entry.
 ///
-/// Where a configuration is wanted, the log's is compared with it as soon as its header was read. The consumers
-/// are handed in as they are, and room is reserved for them. One that answers an error is dropped and leaves the
-/// list. They aren't told that no block follows.
+/// Where a configuration is wanted, the log's is compared with it as soon as its header was read. Room for the
+/// consumers is reserved in the fanout, which has passed nothing on yet. A consumer that answers an error is
+/// dropped and leaves the list. None is finished here: the caller does that.
+///
+/// An error says why the replay stopped.
 pub fn replay_fed<F: Files>(
     alloc: Global,
     files: &mut F,
@@ -43,8 +45,8 @@ pub fn replay_fed<F: Files>(
     ensures fed { IfOk result (λ r. AreFed (seen (λ b. consumed b) (λ b. faults b) (λ b. wants b) (λ b. b.vtable)) (first_moment r.core.config consumers.old.items fanout.old) (moment r.core consumers.new.items fanout.new)) }
     ensures whole { All (λ b. HasTaken [] 0 (consumed b)) consumers.old.items → IfOk result (λ r. All (λ b. HasTaken (told_chain r.core) (length (told_chain r.core)) (consumed b)) consumers.new.items) }
     ensures stopped { IfErr result (λ e. AreFedSome (seen (λ b. consumed b) (λ b. faults b) (λ b. wants b) (λ b. b.vtable)) F.tells (file_replayed (option_copied wanted.entry) (F.held files.old name.now)) consumers.old.items consumers.new.items fanout.old fanout.new) }
-    // A replay that stops passes on what the log's entries decide before the one that stops it, and nothing of what
-    // stands behind. Where the outside stops it, it has passed on what the first of them decide.
+    // A replay that stops has passed on what the entries before the one that stops it decide, and nothing of
+    // what comes after. Where a read or memory fails, it has passed on what some first entries decide.
     ensures part { IfErr result (λ e. AreFedPart (seen (λ b. consumed b) (λ b. faults b) (λ b. wants b) (λ b. b.vtable)) F.tells (file_begun (option_copied wanted.entry) (F.held files.old name.now)) e consumers.old.items consumers.new.items fanout.old fanout.new) }
     ensures room { length consumers.new.items ≤ length fanout.new.places }
 

@@ -1,9 +1,9 @@
-//! The replay of a log: each entry is delivered to a node, in order. And the consumers of decided blocks, which are fed
+//! The replay of a log: each entry is delivered to a node, in order. Consumers are given the decided blocks
 //! meanwhile.
 //!
-//! A replay goes on entry by entry, so that its caller can look at the node after each. A limit or a
-//! clash stops it; other refusals are counted. [`Fanout`] hands the decided chain to consumers, block by block, and drops
-//! those that fail.
+//! A replay goes on entry by entry, so that its caller can look at the node after each. A limit or a clash
+//! stops it, and other refusals are counted. [`Fanout`] hands the decided chain to consumers, block by block,
+//! and drops those that fail.
 #![tactic(auto)]
 
 mod chain;

@@ -1,4 +1,4 @@
-//! What is said of the consumers that were dropped.
+//! The lines about the consumers that were dropped.
 
 ghost use Rattle.std.specs.Prelude.{◌≡◌, ◌++◌, OnOk, OnErr};
 ghost use Rattle.hw_text.specs.Lines.{AddsFront};
@@ -9,9 +9,9 @@ use hw_io::IoFault;
 use hw_text::{end_line, put_number, put_numbered, put_word};
 use hw_types::{Bytes, OutOfMemory};
 
-/// Puts one line last for each consumer that was dropped, in the order of dropping: its place in the first
-/// list, and at which height it failed, or that it failed to finish. Where memory ends among them, the
-/// front of the lines stays.
+/// Puts one line last for each consumer that was dropped, in the order of dropping. A line has its place in the
+/// first list, what it answered, and the height at which it failed, or `finish`. After `OutOfMemory` the front
+/// of the lines stays.
 pub fn put_drops(out: &mut Bytes, fanout: &Fanout) -> Result<(), OutOfMemory>
     ensures ok { OnOk result (out.new ≡ out.old ++ drop_lines fanout.now.drops) }
     ensures err { OnErr result (AddsFront out.old out.new (drop_lines fanout.now.drops)) }
@@ -52,7 +52,7 @@ fn fault_words(fault: IoFault) -> &'static str
     }
 }
 
-/// Puts the height of a block last, or that a consumer failed to finish.
+/// Puts the height of a block last, or `finish` where there is none.
 fn put_place(out: &mut Bytes, height: Option<u64>) -> Result<(), OutOfMemory>
     ensures ok { OnOk result (out.new ≡ out.old ++ place_word height) }
     ensures err { OnErr result (out.new ≡ out.old) }

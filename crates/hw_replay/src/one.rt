@@ -7,7 +7,7 @@ ghost use Rattle.hw_replay.specs.{Fates.{seen, answer_of, ending_of}, Told.{IsFi
 use crate::ending::Ending;
 use hw_io::{Consumer, IoFault};
 
-/// Gives a consumer one block.
+/// Gives a consumer one block. An error has the block's height and what the consumer answered.
 pub(crate) fn give(
     consumer: &mut Box<dyn Consumer>,
     height: u64,
@@ -28,7 +28,7 @@ pub(crate) fn give(
     }
 }
 
-/// Tells a consumer that no block follows.
+/// Finishes a consumer: no block follows. An error has no height.
 pub(crate) fn end(consumer: &mut Box<dyn Consumer>) -> Result<(), Ending>
     ensures consumed { consumed consumer.new ≡ option_map (after_finish (answer_of (ending_of result))) (consumed consumer.old) }
     ensures cause { HasCause (faults consumer.old) (faults consumer.new) (answer_of (ending_of result)) }

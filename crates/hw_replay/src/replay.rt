@@ -53,9 +53,10 @@ pub struct Replayed {
 }
 
 impl Replay {
-    /// Begins the log under this name, with a node of its configuration.
+    /// Begins the replay of the log under this name, with a node of its configuration.
     ///
     /// Where a configuration is wanted, the log's is compared with it as soon as its header was read.
+    /// `OtherConfig` is answered where the two differ, and `Log` where the header is wrong or can't be read.
     pub fn begin<F: Files>(
         alloc: Global,
         files: &mut F,
@@ -64,9 +65,10 @@ impl Replay {
     ) -> Result<Replay, StartFault>
         requires { IfSome wanted (λ config. ConfigFits config.now) }
         ensures said { IsTrue F.tells → Begins (option_copied wanted.entry) (F.held files.old name.now) (F.unread files.new) result }
-        // It stands behind the header, with nothing taken and all entries to come.
+        // It is right after the header, with nothing taken and all entries to come.
         ensures midway { IsTrue F.tells → IfOk result (λ r. file_begun (option_copied wanted.entry) (F.held files.old name.now) ≡ Some (midway_in r (F.unread files.new))) }
-        // No replay begins where the log has no header or isn't the wanted one, unless it is the outside that fails.
+        // An error comes only where the log has no good header or isn't of the wanted configuration, or where a
+        // read or memory fails.
         ensures unbegun { IsTrue F.tells → IfErr result (λ e. IsOutside e ⊎ (file_begun (option_copied wanted.entry) (F.held files.old name.now) ≡ None)) }
         ensures empty { IfOk result (λ r. taken_in r ≡ nothing_taken r.core.config) }
         ensures room { IfOk result (λ r. HasRoom r (F.allowance files.new)) }
@@ -87,7 +89,8 @@ impl Replay {
         }
     }
 
-    /// Takes the next entry, and answers whether there was one. At the end of the log there is none.
+    /// Takes the next entry, and answers whether there was one. At the end of the log there is none. An error
+    /// says why the replay stops here.
     pub fn step<F: Files>(&mut self, files: &mut F) -> Result<bool, StartFault>
         requires { HasRoom self.old (F.allowance files.old) }
         // What will have been taken at the end of the log stays what it is.
@@ -97,7 +100,7 @@ impl Replay {
         ensures grows { GrowsByOne self.old.core self.new.core }
         ensures end { IfOk result (λ more. more ≡ false → self.new.core ≡ self.old.core) }
         ensures room { IfOk result (λ more. IsTrue more → HasRoom self.new (F.allowance files.new)) }
-        // So do the last units behind all its entries, and at the end they are those of the reader.
+        // The last units after all its entries stay what they are, and at the end they are those of the reader.
         ensures lasts { IsTrue F.tells → LeadsLasts (lasts_ahead self.old (F.unread files.old)) (lasts_ahead self.new (F.unread files.new)) self.new.reader.lasts result }
         ensures reached { IsReached self.old.core → IsReached self.new.core }
         ensures nearer { IfOk result (λ more. IsTrue more → ahead_of self.new.reader (F.allowance files.new) < ahead_of self.old.reader (F.allowance files.old)) }
@@ -156,8 +159,8 @@ impl Replay {
         }
     }
 
-    /// Takes the vertex of an entry at that byte, with its verdict. An endorsement stays apart from the rest, which has
-    /// room for the two units of an evidence.
+    /// Takes the vertex of an entry at that byte, with its verdict. An endorsement is delivered by itself,
+    /// since to move a whole `Vertex` is to move room for the two units of an evidence.
     fn take_unnamed(
         &mut self,
         at: u64,
@@ -329,7 +332,8 @@ fn endorsement_in(vertex: &Vertex) -> Option<Endorsement>
     }
 }
 
-/// Stops a replay where the cause of a refusal does. The entry is at that byte.
+/// Answers the fault with which the cause of a refusal stops a replay, or Ok where the replay goes on. The
+/// entry is at that byte.
 fn stop(
     alloc: Global,
     core: &Core,
@@ -376,7 +380,7 @@ fn clash(
     }
 }
 
-/// The spelling of a unit, which keeps the limits of its format. Where there is none, no bytes.
+/// The spelling of a unit that keeps the limits of its format, or no bytes where there is no unit.
 pub fn spelling_of(alloc: Global, unit: Option<&SignedUnit>) -> Result<Bytes, OutOfMemory>
     requires { IfSome unit (λ u. Fits u.now.unit) }
     ensures { IfOk result (λ bytes. bytes ≡ spelling_of (option_copied unit.entry)) }
@@ -387,7 +391,8 @@ pub fn spelling_of(alloc: Global, unit: Option<&SignedUnit>) -> Result<Bytes, Ou
     }
 }
 
-/// A replay behind the header that was read, if its configuration is wanted.
+/// A replay that is right after the header that was read. `OtherConfig` where its configuration isn't the
+/// wanted one.
 fn begun(alloc: Global, reader: LogReader, wanted: Option<&Config>) -> Result<Replay, StartFault>
     requires wanted { IfSome wanted (λ config. ConfigFits config.now) }
     requires fits { ConfigFits reader.config }
@@ -434,6 +439,9 @@ fn is_wanted(alloc: Global, wanted: Option<&Config>, config: &Config) -> Result<
 }
 
 /// Replays the log under this name to its end.
+///
+/// Where a configuration is wanted, `OtherConfig` is answered as soon as the header shows another. Any other
+/// error says why the replay stopped.
 pub fn replay_log<F: Files>(
     alloc: Global,
     files: &mut F,

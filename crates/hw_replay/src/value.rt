@@ -8,7 +8,7 @@ ghost use Rattle.hw_replay.specs.Chain.{value_in};
 use hw_admit::State;
 use hw_types::Digest;
 
-/// The value of the settled block of this digest, and nothing where it is none.
+/// The value of the block of this digest. No bytes where it isn't settled or has no value.
 pub(crate) fn value_of<'a>(state: &'a State, block: &Digest) -> &'a [u8]
     ensures { result.now ≡ value_in (find_node (graph state.now.dag) block.now) }
 {

@@ -20,7 +20,7 @@ use Rattle.hw_session.specs.declared.stage.PeerMark.{PeerMark}
 use Rattle.hw_session.specs.Node.{NodeState}
 use Rattle.hw_session.specs.Restart.{logged_of}
 use Rattle.hw_session.specs.Accept.{given_to, taken_by}
-use Rattle.hw_session.specs.Driving.{Driver, hello, greeting, leave, want_some, want, pull, push_first, push, to_push, with_pushed, with_pulled, not_due, after_vertex, drive_told, drive_step, driven}
+use Rattle.hw_session.specs.Driving.{Driver, hello, greeting, leave, want_some, want, pull, push_first, push, to_push, with_pushed, with_pulled, not_due, after_vertex, drive_have, drive_step, driven}
 use Rattle.hw_session.specs.Drives.{LeavesDriven, Drives}
 use Rattle.hw_session.specs.Standing.{driver_standing}
 use Rattle.hw_service.specs.Meets.{after_all}
@@ -93,7 +93,7 @@ wants d f none = go (take 64 (unmet_in d.node.core))
     go [] = leaves d f none
     go (n ∷ ns) = record { staged = inr (inr (inr (inl (n, refl)))); leads = stayed d.node f none; speaks = quiet_speaks d.node (frame.Want (n ∷ ns) ∷ []) (refl, tt) }
 
-told : (d : Driver) (again place : ℕ) (f : Frame) → vertex_in f ≡ None → Does d.node f (drive_told d again place)
+told : (d : Driver) (again place : ℕ) (f : Frame) → vertex_in f ≡ None → Does d.node f (drive_have d again place)
 told d zero place f none = wants (with_pulled d place) f none
 told d (suc more) place f none = go (place == d.mark.pulled)
   where

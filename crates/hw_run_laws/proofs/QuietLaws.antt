@@ -120,6 +120,7 @@ module _ (side : Side) (c : CoreState) (judge : Vertex → Bool) where
     end_counted = refl;
     no_further = none_met_further (λ (bytes : List ℕ). (met side c judge bytes).end);
     wrote = ap (λ (t : MetTalk Meeting). sent_bytes t.said) (sym meets_quietly);
+    answered = λ linked. absurd cc;
     left = ap (λ (t : MetTalk Meeting). t.state.core) (sym meets_quietly);
   }
 

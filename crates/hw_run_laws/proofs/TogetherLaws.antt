@@ -308,6 +308,7 @@ module _ (config : Config) (lawful : config_fault config ≡ None) (side : Side)
       end_counted = λ more fits. over_all alone (meet_step side judge) itself more fits ∙ sym whole;
       no_further = further_by n few (meet_step side judge) (first_word side c) (begun c) before said_before (taking now) (at_end alone (meet_step side judge) itself) frame.Done (first_of gets words).1 short;
       wrote = ap (λ (t : Talk Meeting). sent_bytes t.said) (sym whole);
+      answered = λ linked. absurd cc;
       left = ap (λ (t : Talk Meeting). t.state.core) (sym whole);
     }
 

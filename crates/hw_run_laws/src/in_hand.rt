@@ -1,5 +1,5 @@
-//! The laws of nodes in hand: each makes the call and recalls what holds of the node, so that no premise is left that a
-//! caller hasn't. The call's own promise stands beside the law's, so the answer is that of the call.
+//! The laws of nodes in hand: each makes the call and recalls what holds of the node, so that it asks only
+//! what its caller can show. Beside the law is the call's own promise, so the answer is that of the call.
 
 ghost use Rattle.std.specs.Prelude.{◌≡◌, ◌⊎◌, ◌<◌, ◌≤◌, ◌^◌, ℕ, None, Some, length, IsTrue, IfOk, IfErr, IfSome};
 ghost use Rattle.hw_types.specs.{Limits.{config_fault}, Real.{setting_of, received_in}, Spelling.{VertexFits}, Step.{step}};
@@ -188,7 +188,7 @@ pub fn a_hosted_meeting_keeps_one_line<D: Door, F: Files>(
     end
 }
 
-/// A node that is ready is given up, and starts again from its log, which stands under this name: then it is ready.
+/// A node that is ready is given up, and starts again from its log, which has this name: then it is ready.
 pub fn a_start_keeps_one_line<F: Files>(
     alloc: Global,
     node: &Node,
@@ -212,9 +212,9 @@ pub fn a_start_keeps_one_line<F: Files>(
     Ok(next)
 }
 
-/// A node that was ready is given up behind one of these calls, however that ended, as by a failed append. Its log,
-/// which stands under the first name, is mended into a new file of the second, and the node starts again from that:
-/// then it is ready. That the node was sound before the call is what `Node::recall` said then.
+/// A node that was ready is given up after one of these calls, however that ended, as by a failed append. Its log,
+/// which has the first name, is mended into a new file of the second. The node starts again from that: then it is
+/// ready. That the node was sound before the call is what `Node::recall` said then.
 pub fn a_node_given_up_keeps_one_line<F: Files>(
     alloc: Global,
     node: &Node,
@@ -285,8 +285,8 @@ pub fn nodes_that_met_agree<D: Door, E: Door, T: Taker, U: Taker>(
     (one, other)
 }
 
-/// What these laws ask of doors is there: a door that tells the session of a peer that sends nothing tells a fair one,
-/// and there are two doors by which each node read what the other wrote. A node that does nothing stays on its line.
+/// What these laws ask of doors is there. A session with a peer that sends nothing is a fair one, and there are two
+/// doors by which each node read what the other wrote. A node that does nothing stays on its line.
 pub fn fair_sessions_are_there()
     ensures rests { RestsOnLine }
     ensures served { QuietIsFair }

@@ -10,11 +10,11 @@ ghost use Rattle.hw_run_laws.specs.Restart.{ServedIsALife, DrivenIsALife, MetIsA
 ghost use Rattle.hw_run_laws.specs.Taken.{ServedTakesThese, DrivenTakesThese};
 ghost use Rattle.hw_run_laws.specs.Prefixes.{StoppedReplays, StoppedParts, CutServices, CutTurns, CutHosts, CutCalls};
 
-/// Consumers that had taken nothing, and are left where a replay or a run stops, have taken the first blocks of the
-/// chain that its node had decided by then, in order and each once.
+/// Where a replay or a run stops, each consumer that is left, and had taken nothing before, has taken the first blocks
+/// of the chain that the node had decided by then: in order, and each once.
 ///
 /// Of a replay, `parts` is the clause to read: it says which entries of the log had been read by then, and that nothing
-/// behind them was told. `replays` leaves open which entries these are.
+/// after them was passed on. `replays` leaves open which entries these are.
 pub fn cut_runs_leave_prefixes<B, K>()
     ensures replays { (sight : Sight B K) → StoppedReplays sight }
     ensures parts { (sight : Sight B K) → StoppedParts sight }
@@ -25,15 +25,15 @@ pub fn cut_runs_leave_prefixes<B, K>()
 {}
 
 /// A session that nothing outside disturbs, with a peer that sends the frames of a whole session, ends as both said,
-/// or for want of memory.
+/// or out of memory.
 pub fn undisturbed_sessions_are_whole()
     ensures serving { ServesAreComplete }
     ensures driving { DrivesAreComplete }
 {}
 
-/// What a session or a meeting does to the journal and the log of a node is that the first of the peer's vertices reach
-/// it: so its life is one of those that start again without a second unit of one number. So it is of a vertex that a
-/// host hands over. Which vertices a session takes is told by the frames that it handles.
+/// A session or a meeting does one thing to the journal and the log of a node: the first of the peer's vertices reach
+/// it. So its life is one of those that start again without a second unit of one number. That holds too of a vertex
+/// that a host hands over. The frames that a session handles say which vertices it takes.
 pub fn sessions_are_lives()
     ensures served_takes { ServedTakesThese }
     ensures driven_takes { DrivenTakesThese }
@@ -54,9 +54,9 @@ pub fn sessions_keep_the_log()
     ensures accepts { AcceptsKeepsLog }
 {}
 
-/// What goes out of a node in a session is of its log: a vertex that stands there, or evidence of two units that do.
-/// That is so of each byte that was written, however the session ends, and also by a failed append or for want of
-/// memory. What goes out in a meeting stood there before it.
+/// What goes out of a node in a session is of its log: a vertex that is in it, or evidence of two units that are. That
+/// is so of each byte that was written, however the session ends, also by a failed append or out of memory. What goes
+/// out in a meeting was in the log before it.
 pub fn sessions_say_what_is_logged()
     ensures served { ServedSaysOfLog }
     ensures driven { DrivenSaysOfLog }
@@ -68,12 +68,12 @@ pub fn sessions_say_what_is_logged()
     ensures meets { MeetsSaysOfLog }
 {}
 
-/// A node that begins with its own units on one line and the log of its journal keeps both through any calls of
-/// `make`, `accept` of fair vertices, sessions and meetings with fair peers, and starts; and no two different units by
-/// it of one number ever stood in its log or went out. A peer is fair if no vertex that the node takes from it brings a
+/// A node that begins with its own units on one line and the log of its journal keeps both through any calls. These are
+/// `make`, `accept` of fair vertices, sessions and meetings with fair peers, and starts. No two different units by it
+/// of one number were ever in its log or went out. A peer is fair if no vertex that the node takes from it brings a
 /// new unit by the node.
 ///
-/// Where an append fails or there is no memory, and at the end of any other call, the node may be given up, and is
+/// Where an append fails or there is no memory, and at the end of any other call, the node may be given up. It is
 /// started again from its log, mended where that is torn. What it said until then has no unit of its own that couldn't
 /// go out of its log before.
 pub fn calls_keep_one_line()
@@ -83,8 +83,8 @@ pub fn calls_keep_one_line()
     ensures apart { CallsKeepApart }
 {}
 
-/// However a call ends, it leaves the log of its node; or the node took one vertex more than its log has, and behind
-/// the log of the node before it a first part of that vertex's entry stands.
+/// However a call ends, it leaves the log of its node; or the node took one vertex more than its log has. Then
+/// the file is the log of the node before it, with a first part of that vertex's entry after it.
 pub fn cut_calls_leave_a_log()
     ensures serves { ServesLeavesLog }
     ensures drives { DrivesLeavesLog }
@@ -98,7 +98,7 @@ pub fn a_cut_log_is_mended()
     ensures { CutLogIsMended }
 {}
 
-/// What these laws speak of is there, so none of them holds for want of a case.
+/// What these laws speak of is there, so none of them holds only because there is no case.
 ///
 /// A new node with its log is a beginning, and one is written out. From each beginning there is a life of whatever
 /// calls, in any order: units that are made, whatever vertices that are handed over and hold no unit by the validator,
@@ -119,18 +119,18 @@ pub fn lives_are_there()
     ensures torn_accepts { TornAcceptsAreThere }
 {}
 
-/// There are replays and runs that are cut short, with consumers that take what they are told.
+/// There are replays and runs that are cut short, with consumers that take what they are passed.
 ///
 /// Wherever a replay comes to, they were passed what its entries so far decide, and where an entry or the log's error
-/// stops it, no more. A run over the files of whatever node with its log, whose settings and keys are read, can be cut at
-/// its report, and one that serves at the line of a session.
+/// stops it, no more. A run over the files of whatever node with its log, whose settings and keys are read, can be cut
+/// at its report. One that serves can be cut at the line of a session too.
 pub fn cut_runs_are_there()
     ensures fed { ReplaysAreFed }
     ensures stopped { ReplaysStop }
     ensures runs { RunsAreCut }
 {}
 
-/// There are meetings of two nodes behind their first words.
+/// There are meetings of two nodes after their first words.
 ///
 /// Two nodes of one configuration have met, wherever what they say keeps its limits and neither refuses what is due to
 /// it. Two nodes with logs are written out, of which one brings the other a block.

@@ -1,18 +1,16 @@
 //! Laws of sessions, of meetings and of runs of a node.
 //!
-//! A session, or a meeting of two nodes, is a life of the node's log, from which it starts again without a second unit
-//! of one number: the first of the peer's vertices reach the node, its log stays that of its journal, and what goes out
-//! stands there. A node that is given up where an append fails or there is no memory starts again from its log, mended
-//! where that is torn.
+//! After a session or a meeting the log is that of the journal, and what went out is in it. A node started from that
+//! log makes no second unit of one number. A node that is given up where an append fails or there is no memory starts
+//! again from its log, mended where that is torn.
 //!
-//! A session that nothing outside disturbs, with a peer that sends what is due, ends as both said, or for want of
-//! memory.
+//! A session that nothing outside disturbs, with a peer that sends what is due, ends as both said, or out of memory.
 //!
-//! Each law whose premises are about nodes holds of nodes in hand: a call of these, with what it recalls of its node,
-//! leaves no premise that a caller hasn't.
+//! Each law whose premises are about nodes holds of nodes in hand: a call of these recalls what holds of its node, and
+//! asks only what its caller can show.
 //!
-//! A run that comes to its report says itself that each consumer that is left took the whole decided chain. Of one that
-//! a fault, a clash or want of memory ends, and of a replay that stops, each took a prefix of it.
+//! The contract of a run that comes to its report says that each consumer that is left took the whole decided chain.
+//! Where a fault, a clash or out of memory ends the run, and where a replay stops, each took a prefix of it.
 #![tactic(auto)]
 
 mod in_hand;

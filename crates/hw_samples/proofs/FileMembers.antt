@@ -29,7 +29,7 @@ unfold_log = Unit {0}
 
 -- how words ask
 unfoldable unfold_words : Type 0
-unfolding request_of Rattle.hw_commands.specs.Commands.of_few Rattle.hw_commands.specs.Commands.of_two Rattle.hw_commands.specs.Commands.of_three Rattle.hw_commands.specs.Commands.digest_told Rattle.hex.specs.Hex.decode_pairs
+unfolding request_of Rattle.hw_commands.specs.Commands.of_few Rattle.hw_commands.specs.Commands.of_two Rattle.hw_commands.specs.Commands.of_three Rattle.hw_commands.specs.Commands.digest_in_word Rattle.hex.specs.Hex.decode_pairs
 unfold_words = Unit {0}
 
 -- ---- logs

@@ -1,4 +1,4 @@
-//! What a delivery is answered, as text.
+//! The answer to a delivery, as text.
 
 ghost use Rattle.std.specs.Prelude.{◌≡◌, ◌++◌, OnOk};
 ghost use Rattle.hw_script.specs.Answers.{numbered_rule, pair_text, cause_text, receipt_text, answer_text};
@@ -6,7 +6,7 @@ ghost use Rattle.hw_script.specs.Answers.{numbered_rule, pair_text, cause_text, 
 use hw_text::{put_number, put_numbered, put_word, rule_name, rule_number};
 use hw_types::{Bytes, Cause, OutOfMemory, PairFault, Receipt, Rule};
 
-/// Puts what a delivery is answered last.
+/// Puts the answer to a delivery last.
 #[tactic(auto, using(std::proofs::Common::append_assoc))]
 pub(crate) fn put_answer(out: &mut Bytes, answer: Result<Receipt, Cause>) -> Result<(), OutOfMemory>
     ensures { OnOk result (out.new ≡ out.old ++ answer_text answer) }

@@ -1,4 +1,4 @@
-//! The lines of the final blocks, each told right after the vertex that made it final.
+//! The lines of the final blocks, each made right after the vertex that made the block final.
 
 ghost use Rattle.std.specs.Prelude.{◌≡◌, ◌+◌, ◌++◌, ◌<◌, [], length, IfOk, OnOk};
 ghost use Rattle.hw_core.specs.Decided.{decided_in};
@@ -22,7 +22,7 @@ pub(crate) struct Finals {
 }
 
 impl Finals {
-    /// Nothing is told of a node that has received nothing.
+    /// No line, for a node that has received nothing.
     pub(crate) fn new(alloc: Global) -> Finals
         ensures { result ≡ record { text = []; count = 0 } }
     {
@@ -32,7 +32,7 @@ impl Finals {
         }
     }
 
-    /// Tells the blocks that the last vertex made final.
+    /// Adds the lines of the blocks that the last vertex made final.
     #[tactic(auto, using(crate::proofs::ToldLaws::behind_lines, crate::proofs::ToldLaws::behind_new, crate::proofs::ToldLaws::behind_within, crate::proofs::ToldLaws::told_all))]
     pub(crate) fn tell(
         &mut self,
@@ -51,7 +51,7 @@ impl Finals {
         Ok(())
     }
 
-    /// Tells the block of that place, which is final now.
+    /// Adds the line of the block at this place, which the last vertex made final.
     fn put(
         &mut self,
         alloc: Global,
@@ -69,7 +69,8 @@ impl Finals {
         put_named(alloc, &mut self.text, names, core, decision)
     }
 
-    /// Puts all lines last, and then the weight of the faulty where it is too great.
+    /// Puts all lines last, or one that says so where no block is final. The weight of the faulty follows where
+    /// it exceeds the threshold.
     #[tactic(auto, using(std::proofs::Common::append_assoc, crate::proofs::ToldLaws::shown_some))]
     pub(crate) fn show(
         &self,

@@ -2,7 +2,8 @@
 
 ghost use Rattle.hw_script.specs.Output.{ThatOutputIsPrinted, ThatWrongIsNamed};
 
-/// The output is that of the script which the text writes, as the grammar has it.
+/// The output of a text is what its script prints, by the grammar. A line is named exactly where it is the
+/// first that is wrong.
 pub fn output_is_printed()
     ensures printed { ThatOutputIsPrinted }
     ensures wrong { ThatWrongIsNamed }

@@ -1,7 +1,8 @@
 //! Scripts: small worlds of validators as text, and what a node prints as their vertices are delivered.
 //!
-//! A script is read whole before anything of it runs. Then each step is done in order: a vertex is delivered,
-//! and what became of it is printed; or what the node tells at that moment is shown, blocks by their names.
+//! A script is read whole before anything of it runs. Then each step is done in order. Either a vertex is
+//! delivered, and what became of it is printed; or what the node says at that moment is shown, blocks by their
+//! names.
 #![tactic(auto)]
 
 mod answers;

@@ -11,8 +11,8 @@ use hw_script_grammar::{Acts, Names, Script, ScriptError, read_script};
 use hw_types::{Bytes, Config, OutOfMemory};
 use std::alloc::Global;
 
-/// Runs a script, and answers what it prints. `Line` names the first line outside the grammar, counted from
-/// 1; then nothing of the script has run.
+/// Runs a script, and answers what it prints. `Line` names the first line outside the grammar, counted from 1.
+/// Then nothing of the script has run.
 #[tactic(auto, unfolding(crate::specs::Output::output_in))]
 pub fn run_script(alloc: Global, text: &[u8]) -> Result<Bytes, ScriptError>
     ensures { Reads (λ output. output) result (output_of text.now) }
@@ -35,7 +35,7 @@ fn run(alloc: Global, config: Config, names: &Names, acts: &Acts) -> Result<Byte
     }
 }
 
-/// The same, on this node.
+/// What all steps print on this node, which has received nothing.
 fn printed(alloc: Global, names: &Names, acts: &Acts, core: &mut Core) -> Result<Bytes, OutOfMemory>
     requires { core.old.journal ≡ [] }
     ensures { IfOk result (λ output. output ≡ acts_text names.now (setting_of core.old.config) [] acts.now) }

@@ -108,7 +108,7 @@ fn put_endorsed(out: &mut Bytes, name: &[u8], endorser: u32) -> Result<(), OutOf
     put_word(out, " ")
 }
 
-/// Delivers the vertex, and puts what it is answered last, to the end of the line. `digest` is that of a unit.
+/// Delivers the vertex, and puts the answer and the end of the line last. `digest` is that of a unit.
 #[tactic(auto, using(std::proofs::Common::append_assoc, crate::proofs::ToldLaws::behind_after))]
 fn take(
     alloc: Global,
@@ -132,7 +132,7 @@ fn take(
     finals.tell(alloc, names, core)
 }
 
-/// Delivers the vertex, and says what it is answered. `digest` is that of a unit, which isn't hashed again.
+/// Delivers the vertex, and gives the node's answer. `digest` is that of a unit, which isn't hashed again.
 fn answer_of(
     core: &mut Core,
     vertex: Vertex,
@@ -149,7 +149,7 @@ fn answer_of(
     }
 }
 
-/// Delivers the unit under its name, and says what it is answered.
+/// Delivers the unit under its name, and gives the node's answer.
 #[tactic(auto, using(crate::proofs::AnswerLaws::refusal_is, crate::proofs::AnswerLaws::refused_stays))]
 fn unit_answer(
     core: &mut Core,
@@ -167,7 +167,7 @@ fn unit_answer(
     }
 }
 
-/// Delivers the vertex, whose name the node works out where it is a unit, and says what it is answered.
+/// Delivers the vertex, and gives the node's answer. The node works out the name of a unit.
 #[tactic(auto, using(crate::proofs::AnswerLaws::refusal_is, crate::proofs::AnswerLaws::refused_stays))]
 fn vertex_answer(core: &mut Core, vertex: Vertex) -> Result<Result<Receipt, Cause>, OutOfMemory>
     requires { VertexFits vertex }
@@ -180,7 +180,7 @@ fn vertex_answer(core: &mut Core, vertex: Vertex) -> Result<Result<Receipt, Caus
     }
 }
 
-/// The cause, unless there was no memory.
+/// The cause as an answer. Out of memory is an error instead.
 fn cause_of(cause: Cause) -> Result<Result<Receipt, Cause>, OutOfMemory>
     ensures cause { IfOk result (λ answer. answer ≡ Err cause) }
     ensures known { IfOk result (λ _. cause ≡ Causes.OutOfMemory → ⊥) }

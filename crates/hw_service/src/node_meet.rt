@@ -3,12 +3,14 @@
 //! A vertex gets the verdict of the node's keys, and an accepted one goes last in the journal and then its entry
 //! last in the log, as in any session of the node.
 
-ghost use Rattle.std.specs.Prelude.{◌≡◌, ◌⊎◌, false};
+ghost use Rattle.std.specs.Prelude.{◌≡◌, ◌⊎◌, false, All};
 ghost use Rattle.hw_io.specs.Faults.{raised};
 ghost use Rattle.hw_keys.specs.Signed.{verdict_of};
+ghost use Rattle.hw_meeting_node.specs.Meeting.{met_said};
 ghost use Rattle.hw_meeting_node.specs.Sessions.{CallsPeer, HostsPeer, MeetsNone, IsLinkEnd, IsTakerEnd};
+ghost use Rattle.hw_meeting_node.specs.declared.meeter.Side.TheVariants as side;
 ghost use Rattle.hw_service.specs.{Talk.{talker}, Meets.{NodeCalls, NodeHosts}};
-ghost use Rattle.hw_link.specs.Told.{door_told};
+ghost use Rattle.hw_link.specs.{Asked.{IsPrompt}, Told.{door_told}};
 
 use crate::taker::NodeTaker;
 use hw_io::{Door, Files};
@@ -32,6 +34,7 @@ pub fn meet_node<D: Door, F: Files>(
     ensures met { CallsPeer address.now node.old.core (verdict_of node.old.keys) node.new.core (door_told (D.sessions door.old) (D.ends door.old)) (door_told (D.sessions door.new) (D.ends door.new)) result
         ⊎ MeetsNone node.old.core node.new.core (D.sessions door.old) (D.sessions door.new) result }
     ensures node { NodeCalls address.now F.tells (talker F.Files D.Door node.old files.old door.old) (talker F.Files D.Door node.new files.new door.new) result }
+    ensures prompt { All (IsPrompt (met_said side.Caller node.old.core (verdict_of node.old.keys))) (D.asks door.new) }
     ensures link { IsLinkEnd (D.faults door.old) (D.faults door.new) result }
     ensures appends { IsTakerEnd (F.append_faults files.old) (F.append_faults files.new) result }
 
@@ -57,6 +60,7 @@ pub fn host_node<D: Door, F: Files>(
     ensures met { HostsPeer node.old.core (verdict_of node.old.keys) node.new.core (door_told (D.sessions door.old) (D.ends door.old)) (door_told (D.sessions door.new) (D.ends door.new)) result
         ⊎ MeetsNone node.old.core node.new.core (D.sessions door.old) (D.sessions door.new) result }
     ensures node { NodeHosts F.tells (talker F.Files D.Door node.old files.old door.old) (talker F.Files D.Door node.new files.new door.new) result }
+    ensures prompt { All (IsPrompt (met_said side.Host node.old.core (verdict_of node.old.keys))) (D.asks door.new) }
     ensures link { IsLinkEnd (D.faults door.old) (D.faults door.new) result }
     ensures appends { IsTakerEnd (F.append_faults files.old) (F.append_faults files.new) result }
 

@@ -24,7 +24,7 @@ use Rattle.hw_session.specs.Node.{NodeState}
 use Rattle.hw_session.specs.Accept.{given_to, taken_by}
 use Rattle.hw_session.specs.declared.fault.MakeFault.{MakeFault}
 use Rattle.hw_session.specs.Make.{Makes}
-use Rattle.hw_session.specs.Driving.{Driver, greeting, want_some, want, pull, push_first, push, to_push, with_pushed, with_pulled, after_vertex, drive_told, drive_at, drive_step, driven}
+use Rattle.hw_session.specs.Driving.{Driver, greeting, want_some, want, pull, push_first, push, to_push, with_pushed, with_pulled, after_vertex, drive_have, drive_at, drive_step, driven}
 
 -- ---- talks
 
@@ -87,7 +87,7 @@ module _ (P : NodeState → Type 0) (takes : (m : NodeState) (v : Vertex) → P 
       go [] = p
       go (n ∷ ns) = p
 
-  told_keeps : (d : Driver) (again place : ℕ) → P d.node → P (drive_told d again place).state.node
+  told_keeps : (d : Driver) (again place : ℕ) → P d.node → P (drive_have d again place).state.node
   told_keeps d zero place p = want_keeps (with_pulled d place) p
   told_keeps d (suc more) place p = go (place == d.mark.pulled)
     where

@@ -27,7 +27,7 @@ use Rattle.hw_session.specs.declared.stage.Stage.{Stage}
 use Rattle.hw_session.specs.declared.stage.Stage.TheVariants as stage
 use Rattle.hw_session.specs.declared.stage.Onward.{Onward}
 use Rattle.hw_session.specs.Node.{NodeState}
-use Rattle.hw_session.specs.Driving.{Driver, waiting, pull, push_first, push, to_push, not_due, want_some, want, with_pushed, with_pulled, after_vertex, drive_vertex, drive_greeting, drive_pushing, drive_told, drive_pulling, drive_wanting, drive_leaving, drive_at, drive_step}
+use Rattle.hw_session.specs.Driving.{Driver, waiting, pull, push_first, push, to_push, not_due, want_some, want, with_pushed, with_pulled, after_vertex, drive_vertex, drive_greeting, drive_pushing, drive_have, drive_pulling, drive_wanting, drive_leaving, drive_at, drive_step}
 use Rattle.hw_session.specs.Serving.{is_clash}
 use Rattle.hw_session.specs.Handling.{Answers, Reacts, IsOfOther, Receives}
 use Rattle.hw_session.specs.DriveHandling.{node_part, IsDue, ReactsAs, AnswersAs, HandlesAs}
@@ -315,7 +315,7 @@ some_node : (d : Driver) (ns : List Need) → d.node ≡ (want_some d ns).state.
 some_node d [] = refl
 some_node d (n ∷ ns) = refl
 
-pub told_node : (d : Driver) (again place : ℕ) → d.node ≡ (drive_told d again place).state.node
+pub told_node : (d : Driver) (again place : ℕ) → d.node ≡ (drive_have d again place).state.node
 told_node d zero place = some_node (with_pulled d place) (take 64 (unmet_in d.node.core))
 told_node d (suc more) place = go (place == d.mark.pulled)
   where
@@ -328,7 +328,7 @@ some_alike : (n : NodeState) (mark : PeerMark) (s t : Stage) (ns : List Need) �
 some_alike n mark s t [] = refl
 some_alike n mark s t (x ∷ ns) = refl
 
-pub told_alike : (n : NodeState) (mark : PeerMark) (s t : Stage) (again place : ℕ) → drive_told (record { stage = s; node = n; mark = mark }) again place ≡ drive_told (record { stage = t; node = n; mark = mark }) again place
+pub told_alike : (n : NodeState) (mark : PeerMark) (s t : Stage) (again place : ℕ) → drive_have (record { stage = s; node = n; mark = mark }) again place ≡ drive_have (record { stage = t; node = n; mark = mark }) again place
 told_alike n mark s t zero place = some_alike n (record mark { pulled = place }) s t (take 64 (unmet_in n.core))
 told_alike n mark s t (suc more) place = go (place == mark.pulled)
   where

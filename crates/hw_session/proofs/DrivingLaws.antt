@@ -39,7 +39,7 @@ use Rattle.hw_session.specs.Node.{NodeState}
 use Rattle.hw_session.specs.Make.{with_entry}
 use Rattle.hw_session.specs.Grows.{Logs, LogsAllBut}
 use Rattle.hw_session.specs.Accept.{given_to, taken_by}
-use Rattle.hw_session.specs.Driving.{Driver, hello, greeting, want_some, want, pull, push_first, push, to_push, with_pushed, with_pulled, not_due, after_vertex, drive_told, drive_at, drive_step, driven, driven_said}
+use Rattle.hw_session.specs.Driving.{Driver, hello, greeting, want_some, want, pull, push_first, push, to_push, with_pushed, with_pulled, not_due, after_vertex, drive_have, drive_at, drive_step, driven, driven_said}
 use Rattle.hw_session.specs.Handling.{Took, Stayed, WasCut, Reacts, Quits}
 use Rattle.hw_session.specs.Sessions.{EndsAs, IsCutEnd, IsReadNoFurther, IsAnswered, IsSaidSoFar}
 use Rattle.hw_session.specs.DriveHandling.{node_part, IsDue, HandlesAs}
@@ -81,7 +81,7 @@ vertex_ends d (Err cause.RecordsFull) e is = absurd cc
 vertex_ends d (Err cause.ParkFull) e is = absurd cc
 vertex_ends d (Err cause.OutOfMemory) e is = absurd cc
 
-told_goes : (d : Driver) (again place : ℕ) (e : SessionEnd) → (drive_told d again place).end ≡ Some e → ⊥
+told_goes : (d : Driver) (again place : ℕ) (e : SessionEnd) → (drive_have d again place).end ≡ Some e → ⊥
 told_goes d zero place e is = want_goes (with_pulled d place) e is
 told_goes d (suc more) place e is = go (place == d.mark.pulled) is
   where
@@ -146,7 +146,7 @@ some_moves : (d : Driver) (ns : List Need) → (want_some d ns).state.node ≡ d
 some_moves d [] = refl
 some_moves d (n ∷ ns) = refl
 
-told_moves : (d : Driver) (again place : ℕ) → (drive_told d again place).state.node ≡ d.node
+told_moves : (d : Driver) (again place : ℕ) → (drive_have d again place).state.node ≡ d.node
 told_moves d zero place = some_moves (with_pulled d place) (take 64 (unmet_in d.node.core))
 told_moves d (suc more) place = go (place == d.mark.pulled)
   where

@@ -98,14 +98,14 @@ abbrev pub with_pulled : Driver → ℕ → Driver
 with_pulled d place = record d { mark = record d.mark { pulled = place } }
 
 -- The place up to which the peer has told now. It is asked again until that stays, but no more than so many times.
-abbrev pub drive_told : Driver → ℕ → ℕ → Reaction Driver
-drive_told d zero place = want (with_pulled d place)
-drive_told d (suc more) place = if place == d.mark.pulled then want (with_pulled d place) else pull (with_pulled d place) more
+abbrev pub drive_have : Driver → ℕ → ℕ → Reaction Driver
+drive_have d zero place = want (with_pulled d place)
+drive_have d (suc more) place = if place == d.mark.pulled then want (with_pulled d place) else pull (with_pulled d place) more
 
 -- the peer's vertices, and then its place
 abbrev pub drive_pulling : Driver → ℕ → ℕ → Frame → Reaction Driver
 drive_pulling d again at (frame.Vertex v) = drive_vertex d v
-drive_pulling d again at (frame.Have place) = drive_told d again place
+drive_pulling d again at (frame.Have place) = drive_have d again place
 drive_pulling d again at f = not_due d at
 
 -- what was wanted, or that it is missing, and then the peer's place

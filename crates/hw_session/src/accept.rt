@@ -35,11 +35,13 @@ impl Node {
     /// Takes a peer's vertex as a session does, with the verdict that the keys give its signatures. Each of
     /// its units keeps the limits of its format.
     ///
-    /// An accepted vertex goes last in the journal, and then its entry goes last in the log; one that came
-    /// again is counted. `Refused` has the cause by which the node refuses it, and is counted: of a clash
-    /// both spellings are kept. Its cause is never want of memory. After `AppendFault` the vertex stands in
-    /// the journal alone, and the log holds a first part of its entry. `OutOfMemory` comes before anything
-    /// changed, or from the append, and then the same holds as after `AppendFault`.
+    /// An accepted vertex goes last in the journal, and then its entry goes last in the log. One that came
+    /// again is counted, and changes neither.
+    ///
+    /// `Refused` has the cause, which is never `OutOfMemory`. It is counted, and of a clash both spellings
+    /// are kept. After `AppendFault` the vertex is in the journal alone, and the log holds a first part of
+    /// its entry. `OutOfMemory` comes before anything changed, or from the append. From the append, the same
+    /// holds as after `AppendFault`.
     pub fn accept<F: Files>(
         &mut self,
         files: &mut F,

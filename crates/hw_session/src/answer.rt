@@ -15,8 +15,8 @@ use hw_needs::{KnownPairs, vertices_with};
 use hw_types::{Frame, MAX_LIST, Need, NeedList, OutOfMemory, Receipt, Vertex};
 use std::alloc::Global;
 
-/// Answers a Have: sends the journal's vertices from this place on, 256 at most, and then a Have of the
-/// place behind the last one.
+/// Answers a Have: sends the journal's vertices from this place on, 256 at most. Then it sends a Have of the
+/// place after the last one.
 pub fn answer_have<D: Door>(
     alloc: Global,
     core: &Core,
@@ -77,8 +77,8 @@ pub fn answer_want<D: Door>(
 
     ensures door { door_calls (D.is_open door.new) (D.ends door.new) (D.accepts door.new) (D.dials door.new) (D.asks door.new) ≡ door_calls (D.is_open door.old) (D.ends door.old) (D.accepts door.old) (D.dials door.old) (D.asks door.old) }
 {
-    // A peer may ask for evidence against one validator in each of its needs, so what is looked for is kept for the
-    // needs behind.
+    // A peer may ask for evidence against one validator in each of its needs. So what was looked for is kept for
+    // the later needs.
     let mut pairs = KnownPairs::new(alloc);
     send_each(alloc, core, &mut pairs, door, needs)?;
     say(alloc, door, Frame::Have(core.journal_count()))
@@ -160,8 +160,8 @@ pub fn send_vertex<D: Door>(alloc: Global, door: &mut D, vertex: &Vertex) -> Res
     say(alloc, door, Frame::Vertex(vertex.copy()?))
 }
 
-/// What is wanted of a peer whose vertex had this receipt: where it is parked, which is then the journal's
-/// last one, the first 256 needs that it misses.
+/// What is wanted of a peer whose vertex had this receipt. A parked vertex is the journal's last one, and the
+/// first 256 needs that it misses are wanted. Of another vertex nothing is wanted.
 pub fn wanted(alloc: Global, core: &Core, receipt: Receipt) -> Result<NeedList, OutOfMemory>
     ensures wanted { IfOk result (λ needs. (v : Vertex) → StandsLast receipt v core.now.journal → needs ≡ wanted_by core.now receipt v) }
     ensures few { IfOk result (λ needs. length needs ≤ 256) }

@@ -12,7 +12,7 @@ ghost use Rattle.hw_link.specs.Told.{door_told};
 ghost use Rattle.hw_session.specs.declared.stage.PeerMark.{PeerMark};
 ghost use Rattle.hw_session.specs.declared.stage.Stage.TheVariants as stage;
 ghost use Rattle.hw_session.specs.Node.{NodeState};
-ghost use Rattle.hw_session.specs.Driving.{Driver, driven_said, hello, greeting, leave, want, pull, push, to_push, drive_step, drive_at, drive_greeting, drive_pushing, drive_told, drive_pulling, drive_wanting, drive_vertex};
+ghost use Rattle.hw_session.specs.Driving.{Driver, driven_said, hello, greeting, leave, want, pull, push, to_push, drive_step, drive_at, drive_greeting, drive_pushing, drive_have, drive_pulling, drive_wanting, drive_vertex};
 ghost use Rattle.hw_session.specs.Outside.{door_calls, reading};
 ghost use Rattle.hw_session.specs.Handling.{Quits, IsLogCounted, IsLogEnd, IsLinkEnd};
 ghost use Rattle.hw_session.specs.DriveHandling.{IsDue, ReactsAs, AnswersAs, HandlesAs};
@@ -37,16 +37,21 @@ const MOST_WANTED: usize = 64;
 impl Node {
     /// Dials the peer of this address and drives a session with it. Then it hangs up.
     ///
-    /// It says Hello, and the peer's Hello is of the same instance. It pushes the vertices of its journal behind
-    /// the mark `pushed`, 256 at most, each answered with a Want, which moves the mark and isn't acted on. It asks
-    /// for the peer's journal from the mark `pulled` on, which each Have moves, again while it moved but no more
-    /// than 64 times; what comes is delivered with its verdict, and an accepted vertex goes last in the log. It
-    /// wants the first 64 needs that parked units miss, if there are some, and then says Done. The marks keep
-    /// what they reached, however the session ends.
+    /// It says Hello, and the peer's Hello is of the same instance. It pushes the vertices of its journal from
+    /// the mark `pushed` on, 256 at most. The peer answers each with a Want, which moves the mark and isn't acted
+    /// on.
     ///
-    /// Another frame than is due, one that spells nothing and one that is cut end it as `BadFrame` with the place
-    /// of the frame's first byte; the peer's end behind a frame as `EndOfInput`; and 268,435,456 bytes as
-    /// `ByteLimit`, once the frame that ends with them was handled. A failed call of the door is `LinkFault`.
+    /// Then it asks for the peer's journal from the mark `pulled` on. Each Have moves the mark, and it asks again
+    /// while the mark moved, but no more than 64 times. What comes is delivered with its verdict, and an accepted
+    /// vertex goes last in the log.
+    ///
+    /// Last it wants the first 64 needs that parked units miss, if there are some, and then says Done. The marks
+    /// keep what they reached, however the session ends.
+    ///
+    /// The session ends as `BadFrame`, with the place of the frame's first byte, at a frame that isn't due, spells
+    /// nothing or is cut. It ends as `EndOfInput` where the peer's bytes end and no frame is cut. It ends as
+    /// `ByteLimit` at 268,435,456 bytes, once the frame that ends with them was handled. A failed call of the door
+    /// is `LinkFault`. The other ends have the causes that [`SessionEnd`] names.
     pub fn drive_one<D: Door, F: Files>(
         &mut self,
         mark: &mut PeerMark,
@@ -142,8 +147,8 @@ impl Node {
         SessionEnd::ByteLimit
     }
 
-    /// Reads the frame that begins at this place of the session and handles it, waiting for this. The place
-    /// behind it and what is waited for then, or how the session ends.
+    /// Reads the frame that begins at this place of the session and handles it, waiting for this. Answers the
+    /// place after it and what is waited for then, or how the session ends.
     fn drive_next<D: Door, F: Files>(
         &mut self,
         mark: &mut PeerMark,
@@ -258,7 +263,7 @@ impl Node {
             .min(MAX_LIST as u64)
     }
 
-    /// Pushes the next vertex, if so many are still to be pushed, and begins to pull otherwise.
+    /// Pushes the next vertex, and begins to pull where none is left to push. `left` are still to be pushed.
     fn push<D: Door>(&self, mark: PeerMark, door: &mut D, left: u64) -> Result<Stage, SessionEnd>
         requires open { D.is_open door.old ≡ true }
         ensures answers { AnswersAs self.now mark (push (greeting self.now mark) left) (D.sessions door.old) (D.sessions door.new) result }
@@ -301,7 +306,7 @@ impl Node {
         }
     }
 
-    /// Asks for the peer's journal behind the mark, which may be asked for so many times more.
+    /// Asks for the peer's journal from the mark on, which may be asked for `again` more times.
     fn pull<D: Door>(&self, mark: PeerMark, door: &mut D, again: u64) -> Result<Stage, SessionEnd>
         requires open { D.is_open door.old ≡ true }
         ensures answers { AnswersAs self.now mark (pull (greeting self.now mark) again) (D.sessions door.old) (D.sessions door.new) result }
@@ -313,7 +318,7 @@ impl Node {
         Ok(Stage::Pulling(again))
     }
 
-    /// Handles a vertex of the peer's journal, or the place up to which it has told.
+    /// Handles a vertex of the peer's journal, or the Have after them with the place that they reach.
     fn drive_pulling<D: Door, F: Files>(
         &mut self,
         mark: &mut PeerMark,
@@ -334,13 +339,14 @@ impl Node {
     {
         match frame {
             Frame::Vertex(vertex) => self.take_vertex(files, vertex, Stage::Pulling(again)),
-            Frame::Have(told) => self.drive_told(mark, door, again, told),
+            Frame::Have(told) => self.drive_have(mark, door, again, told),
             _ => Err(SessionEnd::BadFrame(place)),
         }
     }
 
-    /// Notes the place up to which the peer has told. It is asked again while that moved, if it may be.
-    fn drive_told<D: Door>(
+    /// Moves the mark to the place of a Have. Asks for more where that moved it and `again` isn't 0. Otherwise
+    /// wants what parked units miss.
+    fn drive_have<D: Door>(
         &self,
         mark: &mut PeerMark,
         door: &mut D,
@@ -348,8 +354,8 @@ impl Node {
         told: u64,
     ) -> Result<Stage, SessionEnd>
         requires open { D.is_open door.old ≡ true }
-        ensures answers { AnswersAs self.now mark.new (drive_told (greeting self.now mark.old) again told) (D.sessions door.old) (D.sessions door.new) result }
-        ensures marks { mark.new ≡ (drive_told (greeting self.now mark.old) again told).state.mark }
+        ensures answers { AnswersAs self.now mark.new (drive_have (greeting self.now mark.old) again told) (D.sessions door.old) (D.sessions door.new) result }
+        ensures marks { mark.new ≡ (drive_have (greeting self.now mark.old) again told).state.mark }
         ensures link { IsLinkCounted (D.faults door.old) (D.faults door.new) result }
 
         ensures door { door_calls (D.is_open door.new) (D.ends door.new) (D.accepts door.new) (D.dials door.new) (D.asks door.new) ≡ door_calls (D.is_open door.old) (D.ends door.old) (D.accepts door.old) (D.dials door.old) (D.asks door.old) }
@@ -408,7 +414,7 @@ impl Node {
         Ok(needs)
     }
 
-    /// Handles what was wanted, or that it is missing, and the Have behind it.
+    /// Handles what was wanted, or that it is missing, and the Have after it.
     fn drive_wanting<D: Door, F: Files>(
         &mut self,
         mark: PeerMark,

@@ -18,7 +18,7 @@ pub struct NewEntry {
     pub noted: Noted,
 }
 
-/// The entry of a vertex with a true verdict behind these last units. The vertex's units keep the limits of
+/// The entry of a vertex with a true verdict, after these last units. The vertex's units keep the limits of
 /// their format.
 pub fn new_entry(alloc: Global, lasts: &Lasts, vertex: &Vertex) -> Result<NewEntry, OutOfMemory>
     requires { VertexFits vertex.now }

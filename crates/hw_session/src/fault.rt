@@ -9,7 +9,7 @@ use hw_types::{Cause, OutOfMemory};
 /// Why a node can't make a unit.
 #[derive(Clone, Copy, Debug, PartialEq, Eq)]
 pub enum MakeFault {
-    /// The append to the log failed. The unit stands in the journal, and the log holds a first part of its
+    /// The append to the log failed. The unit is in the journal, and the log holds a first part of its
     /// entry: the node has to be given up.
     AppendFault,
     /// The journal is as long as it may be.
@@ -29,9 +29,9 @@ impl From<OutOfMemory> for MakeFault {
 /// Why a node doesn't accept a peer's vertex.
 #[derive(Clone, Copy, Debug, PartialEq, Eq)]
 pub enum AcceptFault {
-    /// The node refuses it by this cause, which is no want of memory.
+    /// The node refuses it with this cause, which is never `OutOfMemory`.
     Refused(Cause),
-    /// The append to the log failed. The vertex stands in the journal, and the log holds a first part of its
+    /// The append to the log failed. The vertex is in the journal, and the log holds a first part of its
     /// entry: the node has to be given up.
     AppendFault,
     /// There was no memory. Where it was the append's, the same holds as after `AppendFault`.

@@ -2,10 +2,10 @@
 //!
 //! A [`Node`] starts from its log, or begins a new one. What it accepts goes last in its journal, and then
 //! its entry goes last in the log, before anything else is answered. So a node that starts again from its
-//! log stands where it stood, and a unit whose entry is torn was never handed out.
+//! log goes on where it was. A unit whose entry is torn was never handed out.
 //!
-//! It serves a peer frame by frame: what it does at a frame is a reaction of the definitions, and a session
-//! is the talk that these make over the frames of the peer's bytes, however the reads are cut.
+//! It serves a peer frame by frame. What it does at a frame is a reaction of the definitions. A session is
+//! the talk of these reactions over the frames of the peer's bytes, however the reads are cut.
 #![tactic(auto)]
 
 mod accept;

@@ -67,8 +67,9 @@ impl Node {
     /// appended to the log.
     ///
     /// There is none where the step has none, and where another unit of the journal has its digest.
-    /// `RecordsFull` comes where the journal is full; it is counted. After a failed append the log may hold
-    /// a first part of the entry.
+    /// `RecordsFull` comes where the journal is full; it is counted. After `AppendFault` the unit is in the
+    /// journal, and the log holds a first part of the entry. `OutOfMemory` comes before anything changed, or
+    /// from the append. From the append, the same holds as after `AppendFault`.
     pub fn make<F: Files>(
         &mut self,
         files: &mut F,
@@ -89,10 +90,7 @@ impl Node {
         ensures allowance { F.allowance files.new ≡ F.allowance files.old }
         ensures reads { F.read_faults files.new ≡ F.read_faults files.old }
     {
-        match self.make_named(files, me, now, value) {
-            Ok(made) => Ok(plan_of(made)),
-            Err(fault) => Err(fault),
-        }
+        Ok(plan_of(self.make_named(files, me, now, value)?))
     }
 
     /// Makes the unit as [`make`](Node::make) does, and answers it with its name.

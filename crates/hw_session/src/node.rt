@@ -1,4 +1,4 @@
-//! A node, and what it tells of itself.
+//! A node, and what it reports of itself.
 
 ghost use Rattle.std.specs.{Prelude.{◌≡◌}, Option.{option_copied, option_map}};
 
@@ -63,8 +63,8 @@ impl Node {
         &self.core
     }
 
-    /// How many vertices of peers and own units it refused because the journal is as long as it may be, or
-    /// as many units are parked as may be.
+    /// How many vertices of peers and own units it refused for a limit: the length of the journal, or the
+    /// number of parked units.
     pub fn limit_hits(&self) -> u64
         ensures { result ≡ self.now.limited }
     {

@@ -23,16 +23,21 @@ impl Node {
     /// Takes a peer and answers its frames, each before the next is read, up to the end of the session. Then
     /// it hangs up.
     ///
-    /// The peer begins with a Hello, which is answered with one where it is of the own instance. A vertex is
-    /// delivered with its verdict, an accepted one goes last in the log, and then it is answered with a Want
-    /// of the first 256 needs that it misses. A Have of a place is answered with the journal's vertices from
-    /// there on, 256 at most, and a Have of the place behind them; a Want with what there is of each need
-    /// and a Have of the journal's length; a Missing with nothing; and Done with Done, which ends the session.
+    /// The peer begins with a Hello, which is answered with one where it is of the own instance. Then:
     ///
-    /// Another frame than is due, one that spells nothing and one that is cut end it as `BadFrame` with the
-    /// place of the frame's first byte; the peer's end behind a frame as `EndOfInput`; and 268,435,456 bytes
-    /// as `ByteLimit`, once the frame that ends with them was answered. After `AppendFault` and `Clash` that
-    /// frame has no answer. A failed call of the door is `LinkFault`.
+    /// - A vertex is delivered with its verdict, and an accepted one goes last in the log. Then it is answered
+    ///   with a Want of the first 256 needs that it misses.
+    /// - A Have of a place is answered with the journal's vertices from there on, 256 at most. Then a Have of
+    ///   the place after them is sent.
+    /// - A Want is answered with what there is of each need, and a Have of the journal's length.
+    /// - A Missing has no answer.
+    /// - Done is answered with Done, which ends the session.
+    ///
+    /// The session ends as `BadFrame`, with the place of the frame's first byte, at a frame that isn't due,
+    /// spells nothing or is cut. It ends as `EndOfInput` where the peer's bytes end and no frame is cut. It
+    /// ends as `ByteLimit` at 268,435,456 bytes, once the frame that ends with them was answered. A failed call
+    /// of the door is `LinkFault`. The other ends have the causes that [`SessionEnd`] names. After `AppendFault`
+    /// and `Clash` the frame that led to them has no answer.
     pub fn serve_one<D: Door, F: Files>(&mut self, door: &mut D, files: &mut F) -> SessionEnd
         ensures served { ServesPeer F.tells (standing self.old (F.held files.old)) (standing self.new (F.held files.new)) (door_told (D.sessions door.old) (D.ends door.old)) (door_told (D.sessions door.new) (D.ends door.new)) result
             ⊎ ServesNone F.tells (standing self.old (F.held files.old)) (standing self.new (F.held files.new)) (D.sessions door.old) (D.sessions door.new) result }
@@ -79,8 +84,8 @@ impl Node {
         SessionEnd::ByteLimit
     }
 
-    /// Reads the frame that begins at this place of the session and answers it. The place behind it, or how
-    /// the session ends.
+    /// Reads the frame that begins at this place of the session and answers it. Gives the place after it, or
+    /// how the session ends.
     fn serve_next<D: Door, F: Files>(
         &mut self,
         door: &mut D,
@@ -156,7 +161,7 @@ impl Node {
         say(self.alloc, door, Frame::Hello(own))
     }
 
-    /// Answers a frame behind the first one.
+    /// Answers a frame after the first one.
     fn answer_later<D: Door, F: Files>(
         &mut self,
         door: &mut D,

@@ -1,11 +1,11 @@
 //! How far a session is that a node drives.
 
-/// How far a node and a peer that it dials have told each other their journals.
+/// How far a node and a peer that it dials have sent each other their journals.
 #[derive(Clone, Copy, Debug, PartialEq, Eq)]
 pub struct PeerMark {
-    /// The place of the own journal up to which the peer was told.
+    /// The place of the own journal up to which it was pushed to the peer.
     pub pushed: u64,
-    /// The place of the peer's journal up to which it has told.
+    /// The place of the peer's journal up to which it was pulled, by the peer's last Have.
     pub pulled: u64,
 }
 
@@ -14,9 +14,9 @@ pub struct PeerMark {
 pub(crate) enum Stage {
     /// The peer's Hello.
     Greeting,
-    /// The Want for the vertex that was pushed, with so many to be pushed behind it.
+    /// The Want for the vertex that was pushed. This many are to be pushed after it.
     Pushing(u64),
-    /// Vertices up to a Have, which may be asked for so many times more.
+    /// Vertices up to a Have, which may be asked for this many more times.
     Pulling(u64),
     /// Vertices and Missing up to a Have.
     Wanting,
@@ -24,7 +24,7 @@ pub(crate) enum Stage {
     Leaving,
 }
 
-/// The place behind a frame, and what is waited for then.
+/// The place after a frame, and what is waited for then.
 #[derive(Clone, Copy, Debug, PartialEq, Eq)]
 pub(crate) struct Onward {
     pub(crate) place: u64,

@@ -25,8 +25,8 @@ impl Node {
     /// there is none, a new one of version 2 is made.
     ///
     /// The configuration keeps all limits, and the keys were read for as many validators. Where the log is
-    /// there, the node's configuration is compared with the log's as soon as its header was read, and a
-    /// refusal for a limit or a clash stops the start, as do errors of the log.
+    /// there, the node's configuration is compared with the log's as soon as its header was read. A refusal
+    /// for a limit or a clash stops the start, as do errors of the log.
     pub fn start<F: Files>(
         alloc: Global,
         files: &mut F,
@@ -50,9 +50,9 @@ impl Node {
         }
     }
 
-    /// The node that a replay of its log leaves, which stands under this name. The replay wanted this
-    /// configuration, which keeps all limits, and the keys were read for as many validators. The node goes on
-    /// in the log's version.
+    /// The node that a replay of its log leaves. The log has this name. The replay wanted this configuration,
+    /// which keeps all limits, and the keys were read for as many validators. The node goes on in the log's
+    /// version.
     pub fn replayed(alloc: Global, log: String, config: &Config, keys: Keys, replay: Replay) -> Node
         requires lawful { config_fault config.now ≡ None }
         requires keys { length keys ≡ length config.now.weights }

@@ -16,15 +16,16 @@ use std::alloc::Global;
 
 /// The configuration that settings say, which keeps all of its limits.
 ///
-/// `Form` answers that the bytes aren't one JSON value in UTF-8, or that the value isn't an object with
-/// the members of settings and no others, each in its form. `Fault` answers the first limit that the
-/// configuration breaks, in the order of [`hw_types::ConfigFault`].
+/// `Form` answers that the bytes aren't one JSON value in UTF-8, or that the value isn't that of settings. It
+/// has to be an object with the members of settings and no others, each in its form. `Fault` answers the
+/// first limit that the configuration breaks, in the order of [`hw_types::ConfigFault`]. `OutOfMemory`
+/// answers that memory ran out.
 ///
 /// The value is made whole before its members are read, so it takes memory and time in proportion to
 /// the bytes.
 #[tactic(auto, unfolding(crate::specs::Settings::settings_of))]
 pub fn read_settings(alloc: Global, bytes: &[u8]) -> Result<Config, SettingsFault>
-    // What is answered is what the settings say, and want of memory may stand in place of it.
+    // What is answered is what the settings say, or that memory ran out.
     ensures config { IfOk result (λ config. settings_of bytes.now ≡ Ok config) }
     ensures fault { IfErr result (IsFaultOf (settings_of bytes.now)) }
 
@@ -143,7 +144,7 @@ fn drawn_in(value: &Value) -> Result<Leaders, SettingsFault>
     }
 }
 
-/// The key that 64 digits tell.
+/// The key that 64 hexadecimal digits in lower case spell, None of another text.
 fn key_of(text: &str) -> Option<[u8; 32]>
     ensures { result ≡ key_of text.now }
 {

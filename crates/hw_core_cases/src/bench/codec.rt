@@ -50,7 +50,7 @@ fn spelling(answer: &mut Answer, unit: &WireUnit) -> Bytes {
 }
 
 impl Sample {
-    /// Does it so many times: the sum of what comes of it.
+    /// Does it as many times as there are rounds: the sum of what comes of it.
     pub fn go(&self, alloc: Global, work: Work, rounds: u32) -> u64 {
         let mut sum = 0u64;
         for _ in 0..rounds {

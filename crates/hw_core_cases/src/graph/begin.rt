@@ -3,7 +3,7 @@
 use hw_admit::{State, StateFault};
 use hw_case_words::{Answer, config_of};
 
-/// Begins a state with the configuration that the words tell. Where there is none, why.
+/// Begins a state with the configuration that the words give. Where there is none, why.
 pub fn weights(answer: &mut Answer, held: &mut Option<State>, words: &[&str]) {
     let config = config_of(answer, words);
     match State::new(answer.alloc(), config) {

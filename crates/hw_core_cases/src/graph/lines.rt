@@ -1,4 +1,4 @@
-//! Lines of words. A line that isn't of the language is refused, and so is one for want of memory.
+//! Lines of words. A line that isn't of the language is refused, and so is one that runs out of memory.
 
 use crate::graph::begin::weights;
 use crate::graph::lanes::{ancestor, chain, lane, on_lane, sees};
@@ -59,7 +59,7 @@ fn read_state(answer: &mut Answer, state: &State, kind: &str, words: &[&str]) {
     }
 }
 
-/// What stands where on lanes and chains.
+/// What is where on lanes and chains.
 fn looked_up(answer: &mut Answer, state: &State, kind: &str, words: &[&str]) {
     let [first, second] = words else {
         return answer.refuse();

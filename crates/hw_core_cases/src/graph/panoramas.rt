@@ -1,4 +1,4 @@
-//! Panoramas as lines tell them.
+//! Panoramas as lines give them.
 
 ghost use Rattle.std.specs.Prelude.{◌≡◌, ◌<◌, ◌≤◌, length, true, IsTrue, IfSome};
 ghost use Rattle.hw_types.specs.Graph.{is_consistent};

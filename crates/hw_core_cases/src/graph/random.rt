@@ -51,7 +51,7 @@ pub fn random(answer: &mut Answer, held: &mut Option<State>, words: &[&str]) {
     }
 }
 
-/// The state of so many units.
+/// A state with this many random units. None where one wasn't admitted.
 fn grown(answer: &mut Answer, lots: &mut Lots, units: u32) -> Option<State> {
     let config = config_of(answer, lots, units);
     let mut state = State::new(answer.alloc(), config).ok()?;
@@ -85,7 +85,7 @@ fn leaders_of(answer: &mut Answer, lots: &mut Lots, units: u32) -> IndexList {
     leaders
 }
 
-/// Admits so many units, and answers whether all were admitted.
+/// Admits this many units, and answers whether all were admitted.
 fn grow(answer: &mut Answer, state: &mut State, lots: &mut Lots, units: u32) -> bool {
     for number in 0..units {
         let unit = next_unit(answer, state, lots, number);
@@ -162,7 +162,7 @@ fn seen_with(answer: &mut Answer, unit: &Unit) -> ObsList {
     ObsList::from_vec(seen)
 }
 
-/// Compares the fork choices of so many panoramas.
+/// Compares the fork choices of this many panoramas.
 fn compared(answer: &mut Answer, state: &State, lots: &mut Lots, panoramas: u32) {
     let mut same: u32 = 0;
     let mut changes: u32 = 0;

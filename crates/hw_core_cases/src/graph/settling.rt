@@ -25,7 +25,7 @@ pub enum Outcome {
     Waits,
 }
 
-/// What becomes of the unit that the words tell.
+/// What becomes of the unit that the words give.
 pub fn unit(answer: &mut Answer, state: &mut State, words: &[&str]) {
     let [name, ..] = words else {
         return answer.refuse();

@@ -39,8 +39,8 @@ fn signed(mut unit: WireUnit) -> SignedUnit {
     hw_case_words::signed(unit)
 }
 
-/// What the validator may make at the moment that the words tell. None for want of memory, and where there is no such
-/// validator, moment or value.
+/// What the validator may make at the moment that the words give. None when out of memory, and where there
+/// is no such validator, moment or value.
 fn plan(alloc: Global, state: &State, words: &[&str]) -> Option<Option<Plan>> {
     let (me, now) = (
         small(word_after(words, "by")),
@@ -53,7 +53,7 @@ fn plan(alloc: Global, state: &State, words: &[&str]) -> Option<Option<Plan>> {
     next_unit(alloc, state, me, now, value.as_bytes()).ok()
 }
 
-/// The word behind this one, an empty one where there is none.
+/// The word after this one, an empty one where there is none.
 fn word_after<'a, 'b>(words: &'a [&'b str], key: &str) -> &'b str {
     match after(words, key) {
         [word, ..] => word,
@@ -61,7 +61,7 @@ fn word_after<'a, 'b>(words: &'a [&'b str], key: &str) -> &'b str {
     }
 }
 
-/// The plan in the words that a line tells a unit by.
+/// The plan in the words by which a line gives a unit.
 fn put_plan(answer: &mut Answer, plan: &Plan) {
     answer.debug(&plan.kind);
     put_numbers(answer, &plan.unit);

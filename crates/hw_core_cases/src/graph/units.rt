@@ -1,4 +1,4 @@
-//! Units as lines tell them. The digest of a unit is its name.
+//! Units as lines give them. The digest of a unit is its name.
 
 use hw_case_words::{Answer, after, named, own_observation, told_number, unit_of, until_key};
 use hw_dag::Dag;
@@ -34,7 +34,7 @@ pub fn names(answer: &mut Answer, words: &[&str]) -> DigestList {
     list
 }
 
-/// The unit that the words tell. Its number is that after the unit that it cites of its creator, unless they tell one.
+/// The unit that the words give. Its number is that after the unit that it cites of its creator, unless they give one.
 pub fn wire_unit(answer: &mut Answer, dag: &Dag, words: &[&str]) -> SignedUnit {
     let panorama = observations(answer, after(words, "cites"));
     let seq = match told_number(words) {

@@ -6,7 +6,7 @@ ghost use Rattle.hw_dag.specs.Dag.{count_of};
 use hw_case_words::Answer;
 use hw_dag::{Dag, Panorama, UnitNo, View};
 
-/// The name of a unit, behind this word.
+/// The name of a unit, after this word.
 pub fn put_name(answer: &mut Answer, dag: &Dag, word: &str, no: UnitNo) {
     answer.put(word);
     if no.0 < dag.count() {

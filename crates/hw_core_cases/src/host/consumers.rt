@@ -6,7 +6,7 @@ use hw_doubles::MemSink;
 use hw_host::{BlockCount, HostFiles, HostSink, ValueFile};
 use hw_io::Consumer;
 
-/// What a consumer answers that is given these blocks, and told then that none follows.
+/// What a consumer answers that is given these blocks, and then the end.
 fn feed<C: Consumer>(answer: &mut Answer, consumer: &mut C, blocks: &str) {
     let mut height = 0u64;
     for block in blocks.split(',') {

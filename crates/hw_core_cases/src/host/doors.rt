@@ -109,7 +109,7 @@ fn take_word<D: Door>(
     }
 }
 
-/// Takes a step of the door that tells something.
+/// Takes a step of the door that has an argument.
 fn take_call<D: Door>(
     rt: HostRuntime,
     answer: &mut Answer,
@@ -127,7 +127,7 @@ fn take_call<D: Door>(
     }
 }
 
-/// Takes a step of a peer that tells something.
+/// Takes a step of a peer that has an argument.
 fn take_peer_call(
     rt: HostRuntime,
     answer: &mut Answer,
@@ -161,14 +161,14 @@ fn begin_clock(rt: HostRuntime, answer: &mut Answer, peers: &mut Peers) {
     }
 }
 
-/// Reads at most so many bytes, or sixteen.
+/// Reads at most this many bytes, or sixteen.
 fn read<D: Door>(answer: &mut Answer, door: &mut D, count: usize) {
     let mut piece = answer.zeros(count.min(16));
     let outcome = door.read(piece.as_mut_slice());
     put_read(answer, outcome, piece.as_slice());
 }
 
-/// The last peer hears at most so many bytes, or sixteen.
+/// The last peer hears at most this many bytes, or sixteen.
 fn hear(answer: &mut Answer, peers: &mut Peers, count: usize) {
     let mut piece = answer.zeros(count.min(16));
     let outcome = match peers.hear(piece.as_mut_slice()) {

@@ -44,7 +44,7 @@ fn take_call<F: Files>(
     }
 }
 
-/// Takes a step that tells two things.
+/// Takes a step with two arguments.
 fn take_pair<F: Files>(
     rt: HostRuntime,
     answer: &mut Answer,
@@ -60,7 +60,7 @@ fn take_pair<F: Files>(
     }
 }
 
-/// Reads at most so many bytes, or sixteen.
+/// Reads at most this many bytes, or sixteen.
 fn read<F: Files>(answer: &mut Answer, files: &mut F, count: usize) {
     let mut piece = answer.zeros(count.min(16));
     let outcome = files.read(piece.as_mut_slice());

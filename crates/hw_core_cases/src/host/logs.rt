@@ -1,4 +1,4 @@
-//! A log that two nodes would have, and others write behind.
+//! A log that two nodes want to have, and to which others append.
 
 use crate::host::files::take_step;
 use hw_case_words::Answer;

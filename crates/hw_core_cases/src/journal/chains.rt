@@ -17,7 +17,7 @@ struct Sums {
     other: u32,
 }
 
-/// Delivers a chain of so many units of validator 0, each on the one before it, the first one a block.
+/// Delivers a chain of this many units of validator 0, each on the one before it, the first one a block.
 pub fn chain(answer: &mut Answer, instance: Digest, core: &mut Core, words: &[&str]) {
     let [count, order] = words else {
         return answer.refuse();
@@ -31,7 +31,7 @@ pub fn chain(answer: &mut Answer, instance: Digest, core: &mut Core, words: &[&s
     put_sums(answer, count, sums);
 }
 
-/// What became of so many units, as a line.
+/// What became of this many units, as a line.
 fn put_sums(answer: &mut Answer, count: &str, sums: Sums) {
     answer.put("chain ");
     answer.put(count);

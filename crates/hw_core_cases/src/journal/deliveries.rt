@@ -6,7 +6,7 @@ use hw_case_words::{Answer, no_signature, small};
 use hw_core::Core;
 use hw_types::{Cause, Digest, Endorsement, Vertex};
 
-/// Delivers each of the named vertices with this verdict, and tells what became of it.
+/// Delivers each of the named vertices with this verdict, and puts what became of it.
 pub fn deliver(answer: &mut Answer, node: &mut Node, words: &[&str], verdict: bool) {
     for word in words {
         delivered(answer, &mut node.core, node.names.as_slice(), word, verdict);
@@ -23,7 +23,7 @@ fn delivered(answer: &mut Answer, core: &mut Core, names: &[Named], word: &str, 
     }
 }
 
-/// Delivers an endorsement of the unit by each of these validators, and tells what became of it.
+/// Delivers an endorsement of the unit by each of these validators, and puts what became of it.
 pub fn endorse(answer: &mut Answer, node: &mut Node, words: &[&str]) {
     let [name, _by, endorsers @ ..] = words else {
         return answer.refuse();
@@ -54,7 +54,7 @@ fn endorsed(answer: &mut Answer, core: &mut Core, unit: Digest, endorser: u32) {
     became(answer, core, &vertex, true);
 }
 
-/// What became of the vertex. Where it is refused for want of memory, it is delivered once more.
+/// What became of the vertex. Where it is refused since there is no memory, it is delivered once more.
 fn became(answer: &mut Answer, core: &mut Core, vertex: &Vertex, verdict: bool) {
     answer.put(" ");
     match delivery(core, vertex, verdict) {

@@ -1,4 +1,4 @@
-//! Lines of words. A line that isn't of the language is refused, and so is one for want of memory.
+//! Lines of words. A line that isn't of the language is refused, and so is one that runs out of memory.
 
 use crate::journal::chains::chain;
 use crate::journal::deliveries::{deliver, endorse};
@@ -31,7 +31,7 @@ fn repeated(answer: &mut Answer, line: &str) {
     answer.put("\n");
 }
 
-/// Begins a node with the configuration that the words tell. Where there is none, why.
+/// Begins a node with the configuration that the words give. Where there is none, why.
 fn began(answer: &mut Answer, nodes: &mut Vec<Node>, words: &[&str]) {
     let config = config_of(answer, words);
     match instance_in_limits(answer.alloc(), &config) {

@@ -18,8 +18,8 @@ pub enum Outcome {
     Changed(Cause),
 }
 
-/// What becomes of a vertex like this one. None where it doesn't keep the limits of its format, and for want of memory
-/// before it is delivered.
+/// What becomes of a vertex like this one. None where it doesn't keep the limits of its format, and where memory
+/// runs out before it is delivered.
 pub fn delivery(core: &mut Core, vertex: &Vertex, verdict: bool) -> Option<Outcome> {
     if !is_in_format(vertex) {
         return None;
@@ -85,7 +85,7 @@ fn receipt_text(answer: &mut Answer, receipt: Receipt) {
     }
 }
 
-/// A word, and a number behind it.
+/// A word, and a number after it.
 pub fn counted(answer: &mut Answer, word: &str, number: u32) {
     answer.put(word);
     answer.number(number as u64);

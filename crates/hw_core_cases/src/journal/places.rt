@@ -1,4 +1,4 @@
-//! Where units stand, and what they miss.
+//! Whether units are settled, parked or dropped, and what they miss.
 
 use crate::journal::names::{Named, Node, digest_named, find, word_of};
 use crate::journal::outcome::{counted, is_same, rule_text};
@@ -6,7 +6,7 @@ use hw_case_words::Answer;
 use hw_core::{Core, Place};
 use hw_types::{Digest, Need, Vertex, is_same_unit};
 
-/// Where each of the named units stands.
+/// Whether each of the named units is unknown, settled, parked or dropped.
 pub fn place(answer: &mut Answer, node: &Node, words: &[&str]) {
     for word in words {
         match find(node.names.as_slice(), word) {

@@ -1,4 +1,4 @@
-//! The summit of a decided block, as a node tells it.
+//! The summit of a decided block, as a node gives it.
 
 use hw_case_words::{Answer, number, small};
 use hw_core::Core;

@@ -8,7 +8,7 @@ use hw_codec::{digest_of, fits};
 use hw_types::{Digest, DigestList, Evidence, Obs, ObsList, SignedUnit, Vertex, WireUnit};
 use std::alloc::Global;
 
-/// Defines the unit that the words tell.
+/// Defines the unit that the words give.
 pub fn unit(answer: &mut Answer, instance: Digest, names: &mut Vec<Named>, words: &[&str]) {
     let [name, ..] = words else {
         return answer.refuse();
@@ -78,7 +78,7 @@ pub fn digest_in_format(alloc: Global, unit: &WireUnit) -> Option<Digest> {
     }
 }
 
-/// The unit that the words tell. Its number is that after the unit that it cites of its creator, unless they tell one.
+/// The unit that the words give. Its number is that after the unit that it cites of its creator, unless they give one.
 fn told_unit(answer: &mut Answer, instance: Digest, names: &[Named], words: &[&str]) -> SignedUnit {
     let panorama = observations(answer, names, after(words, "cites"));
     let seq = match told_number(words) {

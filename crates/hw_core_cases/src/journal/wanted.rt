@@ -22,7 +22,7 @@ pub fn unmet(answer: &mut Answer, node: &Node, words: &[&str]) {
     ended(answer, count == 0);
 }
 
-/// Room for so many needs.
+/// Room for this many needs.
 fn room_for(answer: &mut Answer, count: u64) -> Vec<Need> {
     let mut needs = Vec::new(answer.alloc());
     for _ in 0..count {

@@ -76,7 +76,7 @@ pub fn checked(answer: &mut Answer, weights: &str, words: &[&str]) {
     answer.debug(&config.check());
 }
 
-/// The threshold, the levels, and the least and the greatest exponent, behind their words.
+/// The threshold, the levels, and the least and the greatest exponent, after their words.
 pub fn limits_text(answer: &mut Answer, ftt: u64, levels: u8, least: u8, greatest: u8) {
     answer.labelled(" threshold ", ftt);
     answer.labelled(" levels ", levels as u64);

@@ -71,7 +71,7 @@ fn walk(answer: &mut Answer, told: &mut Endorsements, validators: u32, steps: &[
     }
 }
 
-/// An instance of so many validators of weight 1.
+/// An instance of this many validators of weight 1.
 fn equals(answer: &mut Answer, validators: u32) -> Config {
     let weights = answer.filled("#x1", validators as u64);
     config_of(answer, weights.as_str(), "1x0")

@@ -8,7 +8,7 @@ use hw_codec::decode_vertex;
 use hw_keys::{Keys, KeysFault};
 use hw_types::{Digest, Signature, Vertex};
 
-/// What keys answer: what is asked, and behind it how many validators there are, and the text of the keys.
+/// What keys answer: what is asked, then how many validators there are and the text of the keys.
 pub fn keyed(answer: &mut Answer, kind: &str, words: &[&str]) {
     let [validators, text, words @ ..] = words else {
         return answer.refuse();

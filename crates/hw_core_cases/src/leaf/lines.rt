@@ -32,7 +32,7 @@ fn tell_words(answer: &mut Answer, words: &[&str]) {
     }
 }
 
-/// Answers a line with one word behind its kind.
+/// Answers a line with one word after its kind.
 fn of_one(answer: &mut Answer, kind: &str, word: &str) {
     match kind {
         "pointers" => pointers_text(answer, number(word)),
@@ -45,7 +45,7 @@ fn of_one(answer: &mut Answer, kind: &str, word: &str) {
     }
 }
 
-/// Answers a line with more words behind its kind.
+/// Answers a line with more words after its kind.
 fn of_more(answer: &mut Answer, kind: &str, first: &str, words: &[&str]) {
     match kind {
         "park" => parked(answer, small(first), words),
@@ -57,7 +57,7 @@ fn of_more(answer: &mut Answer, kind: &str, first: &str, words: &[&str]) {
     }
 }
 
-/// Answers a line with two or three words behind its kind.
+/// Answers a line with two or three words after its kind.
 fn of_few(answer: &mut Answer, kind: &str, first: &str, words: &[&str]) {
     match words {
         [second] => of_two(answer, kind, first, second),
@@ -66,7 +66,7 @@ fn of_few(answer: &mut Answer, kind: &str, first: &str, words: &[&str]) {
     }
 }
 
-/// Answers a line with two words behind its kind.
+/// Answers a line with two words after its kind.
 fn of_two(answer: &mut Answer, kind: &str, first: &str, second: &str) {
     match kind {
         "cut" => cut_text(answer, first, second),
@@ -75,7 +75,7 @@ fn of_two(answer: &mut Answer, kind: &str, first: &str, second: &str) {
     }
 }
 
-/// Answers a line with three words behind its kind.
+/// Answers a line with three words after its kind.
 fn of_three(answer: &mut Answer, kind: &str, first: &str, second: &str, third: &str) {
     match kind {
         "quorum" => quorum_text(answer, number(first), number(second), small(third)),

@@ -49,7 +49,7 @@ fn step(answer: &mut Answer, park: &mut Park<u32>, word: &str) {
     }
 }
 
-/// Parks the item behind its needs.
+/// Parks the item that comes after its needs.
 fn park_item(answer: &mut Answer, park: &mut Park<u32>, word: &str) {
     match word.split_once(':') {
         Some((needs, item)) => {
@@ -86,7 +86,7 @@ fn chosen(number: u32) -> Digest {
     digest_with(7, 28, number)
 }
 
-/// Parks so many items, each for a unit of its own and one of seven validators' evidence.
+/// Parks this many items, each for a unit of its own and one of seven validators' evidence.
 fn park_many(park: &mut Park<u32>, count: u32) -> u32 {
     let mut done = 0u32;
     for item in 0..count {

@@ -5,7 +5,7 @@ use hw_case_words::Answer;
 use hw_settings::{SettingsFault, read_settings};
 use hw_types::{Config, ConfigFault, Leaders};
 
-/// What the settings of this text say, or of the bytes that it spells behind `hex`.
+/// What the settings of this text say, or of the bytes that it spells after `hex`.
 pub fn settings_text(answer: &mut Answer, text: &str) {
     match text.strip_prefix("hex ") {
         None => said(answer, text.as_bytes()),

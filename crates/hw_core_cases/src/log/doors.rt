@@ -6,7 +6,7 @@ use hw_case_words::{Answer, number};
 use hw_doubles::{MemAsk, MemDoor, MemSession, PacedDoor, WatchedDoor};
 use hw_io::{Door, DoorNumbers};
 
-/// What a door in such pieces answers to the steps, and what it tells then.
+/// What a door in such pieces answers to the steps, and then its sessions and its numbers.
 pub fn door_text(answer: &mut Answer, piece: usize, calls: &str, peers: &str, steps: &str) {
     let mut door = MemDoor::in_pieces(answer.alloc(), piece);
     plan(answer, &mut door.plan, calls);
@@ -16,7 +16,7 @@ pub fn door_text(answer: &mut Answer, piece: usize, calls: &str, peers: &str, st
     put_numbers(answer, door.numbers());
 }
 
-/// The same of one that tells the calls of `read` in its last session, and with how much read and written each came.
+/// The same of one that records the calls of `read` in its last session: what was read and written before each.
 pub fn watched_text(answer: &mut Answer, peers: &str, steps: &str) {
     let mut door = MemDoor::new(answer.alloc());
     expect(answer, &mut door, peers);
@@ -37,7 +37,7 @@ pub fn paced_text(answer: &mut Answer, piece: usize, holds: &str, peers: &str, s
     put_numbers(answer, paced.door.numbers());
 }
 
-/// Holds back what the peers say behind so many bytes until so many were written.
+/// Holds back what the peers say after a number of bytes until another number of bytes was written.
 fn hold(answer: &mut Answer, paced: &mut PacedDoor, holds: &str) {
     for hold in holds.split(',') {
         if let Some((said, written)) = hold.split_once(':') {
@@ -47,7 +47,7 @@ fn hold(answer: &mut Answer, paced: &mut PacedDoor, holds: &str) {
     }
 }
 
-/// Tells of the peers.
+/// Makes the door expect the peers.
 fn expect(answer: &mut Answer, door: &mut MemDoor, peers: &str) {
     for peer in peers.split(',') {
         if peer != "-" {
@@ -78,7 +78,7 @@ fn take_step<D: Door>(answer: &mut Answer, door: &mut D, step: &str) -> Count {
     }
 }
 
-/// Reads at most so many bytes, or sixteen.
+/// Reads at most this many bytes, or sixteen.
 fn read<D: Door>(answer: &mut Answer, door: &mut D, count: usize) -> Count {
     let mut buf = answer.zeros(count.min(16));
     door.read(buf.as_mut_slice())
@@ -108,7 +108,7 @@ fn put_asks(answer: &mut Answer, asks: &[MemAsk]) {
     answer.labelled("asks ", asks.len() as u64);
 }
 
-/// What was heard of a peer, and what it was told.
+/// What was heard from a peer, and what was written to it.
 fn put_talk(answer: &mut Answer, heard: &[u8], told: &[u8]) {
     answer.characters(heard);
     answer.put("/");

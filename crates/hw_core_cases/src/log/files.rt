@@ -41,7 +41,7 @@ pub fn files_text(answer: &mut Answer, kind: &str) {
     }
 }
 
-/// The answers of an exchange, what was read in it, what is held then, and the counts that this kind tells.
+/// The answers of an exchange, what was read in it, what is held then, and the counts that this kind has.
 fn exchange_text(answer: &mut Answer, kind: &str) {
     let mut files = MemFiles::new(answer.alloc());
     let mut buf = answer.zeros(8);
@@ -74,7 +74,7 @@ fn planned_text(answer: &mut Answer, call: u64) {
     put_file(answer, files.file("log"));
 }
 
-/// Asks for so many bytes.
+/// Asks for this many bytes.
 fn ask(answer: &mut Answer, files: &mut MemFiles, buffer: &mut ReadBuffer, count: usize)
     requires { count ≤ 100000 }
 {

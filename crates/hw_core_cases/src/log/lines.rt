@@ -21,7 +21,7 @@ pub fn tell(answer: &mut Answer, line: &str) {
     }
 }
 
-/// Answers a line with one word behind its kind.
+/// Answers a line with one word after its kind.
 fn of_one(answer: &mut Answer, kind: &str, word: &str) {
     match kind {
         "cuts" => cuts(answer, word),
@@ -35,7 +35,7 @@ fn of_one(answer: &mut Answer, kind: &str, word: &str) {
     }
 }
 
-/// Answers a line with two words behind its kind.
+/// Answers a line with two words after its kind.
 fn of_two(answer: &mut Answer, kind: &str, first: &str, second: &str) {
     match kind {
         "both" => both(answer, first, second),
@@ -47,7 +47,7 @@ fn of_two(answer: &mut Answer, kind: &str, first: &str, second: &str) {
     }
 }
 
-/// Answers a line with four words behind its kind.
+/// Answers a line with four words after its kind.
 fn of_four(answer: &mut Answer, kind: &str, first: &str, second: &str, third: &str, fourth: &str) {
     match kind {
         "count" => counted(answer, first, second, third, fourth),

@@ -108,7 +108,7 @@ fn copy_from(
     copy_entries(alloc, files, reader, &mut lasts, places)
 }
 
-/// Appends the entries that are left behind these last units, and puts down their places.
+/// Appends the entries that are left after these last units, and puts down their places.
 fn copy_entries(
     alloc: Global,
     files: &mut MemFiles,
@@ -124,7 +124,7 @@ fn copy_entries(
     Ok(())
 }
 
-/// Appends the entry behind these last units, and puts down its place.
+/// Appends the entry after these last units, and puts down its place.
 fn copy_entry(
     alloc: Global,
     files: &mut MemFiles,
@@ -142,7 +142,7 @@ fn copy_entry(
     Ok(())
 }
 
-/// Appends the entry behind these last units.
+/// Appends the entry after these last units.
 fn append_copy(
     alloc: Global,
     files: &mut MemFiles,
@@ -158,7 +158,7 @@ fn append_copy(
     }
 }
 
-/// Copies a log, and tells the places of its entries or the error, how much was copied, and the faults counted.
+/// Copies a log, and puts the places of its entries or the error, how much was copied, and the faults counted.
 pub fn copied(answer: &mut Answer, piece: &str, call: &str, left: &str, digits: &str) {
     let log = answer.bytes(digits);
     let (piece, left) = (number(piece) as usize, number(left) as usize);

@@ -50,7 +50,7 @@ pub fn clock_text(answer: &mut Answer, moments: &str) {
     }
 }
 
-/// What stands before each moment.
+/// What is put before each moment.
 const BETWEEN: [&str; 4] = ["[", ", ", ", ", ", "];
 
 fn told_text(answer: &mut Answer, clock: &mut SetClock) {

@@ -1,4 +1,4 @@
-//! What is done to eras, and what they tell.
+//! What is done to eras, and what they answer.
 
 ghost use Rattle.hw_types.specs.Spelling.{VertexFits};
 

@@ -7,7 +7,7 @@ use hw_case_words::Answer;
 use hw_eras::{AuditError, EraVerdict, Eras, audit_eras};
 use hw_safety::Verdict;
 
-/// The audit of the two nodes that the words tell. They stand in the place of those that began.
+/// The audit of the two nodes that the words give. They replace those that began.
 pub fn audited(answer: &mut Answer, nodes: &mut Vec<Eras>, words: &[&str]) {
     nodes.clear();
     for node in words.split(|word| *word == "against") {

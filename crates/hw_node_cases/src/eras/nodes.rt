@@ -1,10 +1,10 @@
-//! Nodes as words tell them.
+//! Nodes as words give them.
 
 use crate::eras::acts::{begin, deliver};
 use hw_case_words::{Answer, small};
 use hw_eras::{EraOpen, Eras};
 
-/// Puts the eras of the node that these words tell last, if they begin with a configuration. What is said of it
+/// Puts the eras of the node that these words give last, if they begin with a configuration. What is said of it
 /// meanwhile is no part of the answer.
 pub fn tell_of(answer: &mut Answer, nodes: &mut Vec<Eras>, words: &[&str]) {
     let mut unheard = Answer::new(answer.alloc());

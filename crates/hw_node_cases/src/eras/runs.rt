@@ -22,7 +22,7 @@ fn eras(answer: &mut Answer, logs: &[&str]) {
     eras_of(answer, &mut files, names.as_slice());
 }
 
-/// The audit of the eras of these logs, of which so many are the left node's.
+/// The audit of the eras of these logs, of which the first `count` are the left node's.
 fn audit(answer: &mut Answer, logs: &[&str], count: usize) {
     let mut files = MemFiles::new(answer.alloc());
     let names = put_logs(answer, &mut files, logs);

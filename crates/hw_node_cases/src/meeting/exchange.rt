@@ -74,7 +74,7 @@ fn turn<D: Door>(
     Ok(heard)
 }
 
-/// Puts the kind of a frame, and the place behind it.
+/// Puts the kind of a frame, and the place after it.
 fn put_frame(answer: &mut Answer, heard: &HeardMeeting) {
     answer.put(kind_of(&heard.frame));
     answer.put(" ");

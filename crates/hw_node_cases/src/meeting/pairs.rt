@@ -11,7 +11,7 @@ use hw_core::Core;
 use hw_meeting::{LaneSummary, due_places, summary_of, torn_for};
 use hw_types::IndexList;
 
-/// What two nodes of these vertices tell and owe each other. They are the only ones then.
+/// What two nodes of these vertices say and owe to each other. They are the only ones then.
 pub fn met(answer: &mut Answer, nodes: &mut Vec<Core>, config: &str, left: &str, right: &str) {
     nodes.clear();
     begin(answer, nodes, config);
@@ -26,7 +26,7 @@ pub fn met(answer: &mut Answer, nodes: &mut Vec<Core>, config: &str, left: &str,
     }
 }
 
-/// What the two tell, what is torn for each, and what each owes.
+/// The summaries of the two, what is torn for each, and what each owes.
 fn put_pair(answer: &mut Answer, left: &Core, right: &Core) {
     let left_parts = summary_of(answer.alloc(), left);
     let right_parts = summary_of(answer.alloc(), right);
@@ -83,7 +83,7 @@ fn put_torn(
     }
 }
 
-/// What one side tells, what is torn for it, and what it owes.
+/// The summary of one side, what is torn for it, and what it owes.
 fn put_side(
     answer: &mut Answer,
     core: &Core,

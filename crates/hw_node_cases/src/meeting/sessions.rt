@@ -37,7 +37,7 @@ pub fn session_text(
     }
 }
 
-/// What takes a peer's vertices into this node behind those that it has, and gives those of the last words a false
+/// A taker of a peer's vertices into this node, after those that it has. It gives those of the last words a false
 /// verdict.
 fn taker_of(answer: &mut Answer, mut core: Core, has: &str, refused: &str) -> MemTaker {
     deliver_all(answer, &mut core, has);

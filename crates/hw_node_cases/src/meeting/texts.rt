@@ -4,7 +4,7 @@ use hw_case_words::Answer;
 use hw_meeting::LaneSummary;
 use std::fmt::Display;
 
-/// What is told of each validator.
+/// The summary of each validator.
 pub fn put_parts(answer: &mut Answer, parts: &[LaneSummary]) {
     let mut between = "";
     for part in parts {

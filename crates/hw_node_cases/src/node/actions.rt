@@ -14,7 +14,7 @@ use hw_types::{
 };
 use std::alloc::Global;
 
-/// What each action is answered, and how many vertices are sent then, where a node keeps so many records at most. Where
+/// What each action is answered, and how many vertices are sent then. A node keeps this many records at most. Where
 /// there is no such cluster, why.
 pub fn acts(
     alloc: Global,
@@ -33,7 +33,7 @@ pub fn acts(
     }
 }
 
-/// The answers of a cluster of so many nodes.
+/// The answers of a cluster of this many nodes.
 fn acted(
     alloc: Global,
     cluster: &mut Cluster,
@@ -71,7 +71,7 @@ fn act(cluster: &mut Cluster, nodes: u64, action: Action) -> Result<&'static str
     }
 }
 
-/// Whether a cluster of so many nodes can do the action.
+/// Whether a cluster of this many nodes can do the action.
 fn is_possible(nodes: u64, action: &Action) -> bool
     ensures { IsTrue result → (c : ClusterState) → nodes_in c ≡ nodes → CanAct c action.now }
 {
@@ -117,7 +117,7 @@ fn leaders(alloc: Global) -> Result<IndexList, OutOfMemory> {
     Ok(leaders)
 }
 
-/// The action that the word tells.
+/// The action that the word gives.
 fn action_of(alloc: Global, instance: Digest, word: &str) -> Result<Option<Action>, OutOfMemory> {
     let parts: Vec<&str> = word.split(':').collect(alloc)?;
     match parts.as_slice() {

@@ -98,7 +98,7 @@ fn put_checked(answer: &mut Answer, certificate: &Certificate, verdicts: &[bool]
     }
 }
 
-/// That the block stands, its height and the node's journal.
+/// That the block stands, its height, and the length of the node's journal.
 fn put_yes(answer: &mut Answer, core: &Core, block: &Digest) {
     for index in 0..core.decision_count() {
         let decision = core.decision(index);

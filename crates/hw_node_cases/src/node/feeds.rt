@@ -86,7 +86,7 @@ fn drops_text(alloc: Global, left: usize, fanout: &Fanout) -> Result<String, Out
     }
 }
 
-/// Tells that the consumer at this place was dropped, and where.
+/// Puts that the consumer at this place was dropped, and where.
 fn put_drop(text: &mut Answer, place: usize, height: Option<u64>, fault: IoFault) {
     text.labelled(" consumer ", place as u64);
     text.put(match fault {

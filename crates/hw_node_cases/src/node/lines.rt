@@ -49,7 +49,7 @@ fn of_log(answer: &mut Answer, kind: &str, words: &[&str]) {
     }
 }
 
-/// Answers a line with one word behind its kind.
+/// Answers a line with one word after its kind.
 fn of_one(answer: &mut Answer, nodes: &mut Vec<Core>, kind: &str, word: &str) {
     match kind {
         "begin" => begin(answer, nodes, word),

@@ -12,7 +12,8 @@ use hw_core::Core;
 use hw_light::{Certificate, Certified, certify, encode_certificate};
 use hw_types::{Cause, Digest, Vertex};
 
-/// The certificate of a certificate's block, asked of a node that took its vertices, or the line that tells of it.
+/// The certificate of a certificate's block, asked of a node that took its vertices, or the line that is printed for
+/// it.
 pub fn made(answer: &mut Answer, nodes: &mut Vec<Core>, certificate: &Certificate, kind: &str)
     requires { All VertexFits certificate.now.vertices }
 {
@@ -26,8 +27,8 @@ pub fn made(answer: &mut Answer, nodes: &mut Vec<Core>, certificate: &Certificat
     }
 }
 
-/// Begins a node of the certificate's configuration, where there is one, in the place of all others. What is said of it
-/// is no part of the answer.
+/// Begins a node of the certificate's configuration, where there is one, in place of all others. What is said of it is
+/// no part of the answer.
 fn begin_taker(answer: &mut Answer, nodes: &mut Vec<Core>, certificate: &Certificate) {
     let mut unheard = Answer::new(answer.alloc());
     nodes.clear();
@@ -59,7 +60,7 @@ fn take(answer: &mut Answer, core: &mut Core, vertex: &Vertex)
     }
 }
 
-/// A refusal is let go, but for want of memory.
+/// Delivers the vertex. A refusal is ignored, unless memory ran out.
 fn taken(answer: &mut Answer, core: &mut Core, vertex: Vertex)
     requires { VertexFits vertex }
 {

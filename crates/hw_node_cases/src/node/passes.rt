@@ -10,8 +10,8 @@ use hw_doubles::MemFiles;
 use hw_io::Consumer;
 use hw_replay::{Fanout, Replay};
 
-/// Passes the decided blocks on after each entry of the log that is left, or after the last one, and tells the
-/// consumers then that no block follows.
+/// Passes the decided blocks on after each entry of the log that is left, or after the last one, and then
+/// tells the consumers that no block follows.
 pub fn pass_along(
     files: &mut MemFiles,
     replay: &mut Replay,

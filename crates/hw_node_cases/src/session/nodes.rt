@@ -61,7 +61,7 @@ fn files_of(answer: &mut Answer, log: &str, failure: &str) -> MemFiles {
     files
 }
 
-/// Lets a node act, and tells what came of it.
+/// Lets a node act, and puts what came of it.
 fn step(
     answer: &mut Answer,
     scene: &Scene,
@@ -89,7 +89,7 @@ fn act_on(answer: &mut Answer, files: &mut MemFiles, nodes: &mut [Node], kind: &
     }
 }
 
-/// Starts a node in the place of all others, and tells how it started.
+/// Starts a node in place of all others, and puts how it started.
 fn start(answer: &mut Answer, scene: &Scene, files: &mut MemFiles, nodes: &mut Vec<Node>) {
     nodes.clear();
     match decode_config(answer.alloc(), scene.config.as_slice()) {
@@ -141,7 +141,7 @@ fn begun(answer: &mut Answer, nodes: &mut Vec<Node>, node: Node) {
     answer.put("started");
 }
 
-/// Tells why no node started.
+/// Puts why no node started.
 fn put_fault(answer: &mut Answer, fault: &StartFault) {
     match fault {
         StartFault::Log(error) => answer.debug(error),
@@ -159,7 +159,7 @@ fn put_full(answer: &mut Answer, word: &str, at: u64) {
     answer.put(")");
 }
 
-/// Lets the node make a unit, and tells which. There is none where the validator, the moment or the value can't be.
+/// Lets the node make a unit, and puts which. There is none where the validator, the moment or the value can't be.
 fn make(answer: &mut Answer, files: &mut MemFiles, node: &mut Node, me: u32, words: &str) {
     let Some((now, value)) = words.split_once(':') else {
         return answer.put("-");
@@ -178,14 +178,14 @@ fn make(answer: &mut Answer, files: &mut MemFiles, node: &mut Node, me: u32, wor
     }
 }
 
-/// Tells what was made.
+/// Puts what was made.
 fn put_plan(answer: &mut Answer, plan: &Plan) {
     let (kind, seq, time) = (plan.kind, plan.unit.seq, plan.unit.time);
     let put = write!(answer.text, "{kind:?}:{seq}:{time}");
     answer.keep(put);
 }
 
-/// Tells the node's counts and its log.
+/// Puts the node's counts and its log.
 fn put_end(answer: &mut Answer, files: &MemFiles, nodes: &[Node]) {
     for node in nodes {
         put_counts(answer, node);

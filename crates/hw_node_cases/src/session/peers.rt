@@ -8,7 +8,7 @@ use hw_doubles::{MemDoor, MemFiles};
 use hw_session::{AcceptFault, Node, PeerMark, SessionEnd};
 use hw_types::Receipt;
 
-/// Gives the node a peer's vertex, and tells what became of it.
+/// Gives the node a peer's vertex, and puts what became of it.
 pub fn accept(answer: &mut Answer, files: &mut MemFiles, node: &mut Node, vertex: &str) {
     match vertex_of(answer, vertex) {
         Ok(vertex) => put_accepted(answer, node.accept(files, vertex)),
@@ -16,7 +16,7 @@ pub fn accept(answer: &mut Answer, files: &mut MemFiles, node: &mut Node, vertex
     }
 }
 
-/// Tells what became of a vertex.
+/// Puts what became of a vertex.
 fn put_accepted(answer: &mut Answer, accepted: Result<Receipt, AcceptFault>) {
     match accepted {
         Ok(receipt) => put_receipt(answer, &BRACKETED, receipt),
@@ -25,7 +25,7 @@ fn put_accepted(answer: &mut Answer, accepted: Result<Receipt, AcceptFault>) {
     }
 }
 
-/// Lets the node serve a peer, and tells how the session ended, how often the peer's bytes ended, and what
+/// Lets the node serve a peer, and puts how the session ended, how often the peer's bytes ended, and what
 /// was written.
 pub fn serve(answer: &mut Answer, files: &mut MemFiles, node: &mut Node, peer: &str) {
     let words = answer.words(peer, ':');
@@ -37,7 +37,7 @@ pub fn serve(answer: &mut Answer, files: &mut MemFiles, node: &mut Node, peer: &
     put_session(answer, &paced.door, end);
 }
 
-/// Lets the node drive a session with a peer, and tells the same and the marks then.
+/// Lets the node drive a session with a peer, and puts the same and the marks then.
 pub fn drive(answer: &mut Answer, files: &mut MemFiles, node: &mut Node, peer: &str) {
     let words = answer.words(peer, ':');
     let [said, piece, call, pushed, pulled] = words.as_slice() else {
@@ -55,7 +55,7 @@ pub fn drive(answer: &mut Answer, files: &mut MemFiles, node: &mut Node, peer: &
     answer.keep(put);
 }
 
-/// Tells what came of a session.
+/// Puts what came of a session.
 fn put_session(answer: &mut Answer, door: &MemDoor, end: SessionEnd) {
     match (end, door.sessions()) {
         (SessionEnd::OutOfMemory, _) => answer.refuse(),

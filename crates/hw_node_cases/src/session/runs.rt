@@ -1,4 +1,4 @@
-//! Runs of nodes over an outside in memory, and what is told of them.
+//! Runs of nodes over an outside in memory, and what is answered for them.
 
 ghost use Rattle.std.specs.Prelude.{◌≤◌, length};
 
@@ -19,11 +19,11 @@ const SOURCES: Sources<'static> = Sources {
 /// What a node does.
 #[derive(Drop)]
 pub enum Command {
-    /// It serves so many sessions.
+    /// It serves this many sessions.
     Serve(u64),
     /// It takes turns as a validator.
     TakeTurns(Turns),
-    /// It is dialled by so many peers that meet it.
+    /// It is dialled by this many peers that meet it.
     Host(u64),
     /// It dials one peer and meets it.
     Meet,
@@ -37,7 +37,7 @@ pub struct Turns {
     pub clock: Moments,
 }
 
-/// Does what the command says, with consumers of these plans, and tells the status and the outside then.
+/// Does what the command says, with consumers of these plans, and puts the status and the outside then.
 pub fn put_run(answer: &mut Answer, outside: &mut Outside, plans: &str, command: Command) {
     let mut consumers: Vec<Box<dyn Consumer>> = Vec::new(answer.alloc());
     if plans != "none" {
@@ -125,7 +125,7 @@ fn status_of(served: &Result<Served, ServiceFault>) -> u8 {
     }
 }
 
-/// Tells what was written, the log, and what the node wrote in each session.
+/// Puts what was written, the log, and what the node wrote in each session.
 fn put_outside(answer: &mut Answer, outside: &Outside) {
     answer.put(" ");
     put_lines(answer, outside.out.taken());

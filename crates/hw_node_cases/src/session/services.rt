@@ -5,7 +5,7 @@ use crate::session::runs::{Command, Turns, put_run};
 use hw_case_words::{Answer, number};
 use hw_service::Peer;
 
-/// What comes of a service with the outside that these words tell.
+/// What comes of a service with the outside that these words give.
 pub fn service_text(answer: &mut Answer, words: &[&str]) {
     let mut outside = outside_of(answer, words);
     if let [_, _, _, _, plans, command, ..] = words {
@@ -22,7 +22,7 @@ fn command_of(answer: &mut Answer, word: &str) -> Command {
     }
 }
 
-/// The turns that these words tell: the validator, how many peers it has, and the moment of each turn.
+/// The turns that these words give: the validator, how many peers it has, and the moment of each turn.
 fn turns_of(answer: &mut Answer, words: &str) -> Turns {
     let words = answer.words(words, ':');
     match words.as_slice() {
@@ -39,7 +39,7 @@ fn turns_of(answer: &mut Answer, words: &str) -> Turns {
     }
 }
 
-/// So many peers.
+/// This many peers.
 fn peers_of(answer: &mut Answer, count: u64) -> Vec<Peer> {
     let mut peers = Vec::new(answer.alloc());
     for _ in 0..count {

@@ -9,7 +9,7 @@ use Rattle.hw_commands.proofs.replay.replay.Goals as goal
 pub returns-clause-about : goal.returns-clause-about
 returns-clause-about g c = λ tells.
     let held = g.F.Files.held c.args.files.now in
-    due_fails _ held c.args.log.now _ _ _ _ c.replay_told.result (log_due None c.args.log.now (λ h t. done (report_of t)) held) refl refl (c.replay_told.ensures.about tells)
+    due_fails _ held c.args.log.now _ _ _ _ c.replay_ending.result (log_due None c.args.log.now (λ h t. done (report_of t)) held) refl refl (c.replay_ending.ensures.about tells)
 
 pub returns-in_err-reserve-clause-told : goal.returns-in_err-reserve-clause-told
 returns-in_err-reserve-clause-told g c =

@@ -9,7 +9,7 @@ use Rattle.hw_dag.specs.declared.numbers.UnitNo.{UnitNo}
 use Rattle.hw_dag.specs.Dag.{UnitGraph, count_of, graph}
 use Rattle.hw_dag.specs.Admission.{IsGraph}
 use Rattle.hw_agree.proofs.LineLaws.{settled}
-use Rattle.hw_meeting.specs.Lanes.{AreHighest, AreMarks, tip_at, mark_at, told_by}
+use Rattle.hw_meeting.specs.Lanes.{AreHighest, AreMarks, tip_at, mark_at, lane_summary}
 use Rattle.hw_meeting.proofs.SummaryLaws.{summaries_are}
 use Rattle.hw_meeting.proofs.summary.summary_of.Goals as goal
 
@@ -28,5 +28,5 @@ returns c =
     let is_graph : IsGraph dag = subst IsGraph (sym c.dag-dag.ensures.dag) c.dag-dag.ensures.graph in
     let high : AreHighest dag (count_of dag) tips = c.in_ok-tips.ensures in
     let are : AreMarks dag tips (units_in s core.journal) marks = subst (λ (ts : List (Option UnitNo)). AreMarks dag ts (units_in s core.journal) marks) c.as_slice.ensures.value c.in_ok-marks.ensures in
-    let told : IfOk c.parts_of.result (λ parts. parts ≡ map (λ v. told_by dag (tip_at tips v) (mark_at marks v)) (range_with_len 0 dag.validators)) = rw (c.as_slice-2.ensures.value, c.as_slice-3.ensures.value) at c.parts_of.ensures in
+    let told : IfOk c.parts_of.result (λ parts. parts ≡ map (λ v. lane_summary dag (tip_at tips v) (mark_at marks v)) (range_with_len 0 dag.validators)) = rw (c.as_slice-2.ensures.value, c.as_slice-3.ensures.value) at c.parts_of.ensures in
     IfOk-weaker c.parts_of.result _ _ (λ parts e. e ∙ summaries_are s core.journal dag is_graph same c.state.ensures.apart size tips marks high are) told

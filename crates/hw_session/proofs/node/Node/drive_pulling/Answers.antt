@@ -24,8 +24,8 @@ returns-clause-reacts g c =
 
 pub returns-in-Have-clause-reacts : goal.returns-in-Have-clause-reacts
 returns-in-Have-clause-reacts g c =
-    let AtFrame : Frame → Type 0 = λ f. ReactsAs g.F.Files.tells (standing c.args.self.now (g.F.Files.held c.args.files.now)) f (drive_pulling (record { stage = stage.Pulling c.args.again; node = c.args.self.now; mark = c.args.mark.now }) c.args.again c.args.place f) (driver_standing c.args.self.now c.drive_told.new.mark (g.F.Files.held c.args.files.now)) (g.D.Door.sessions c.args.door.now) (g.D.Door.sessions c.drive_told.new.door) c.drive_told.result in
-    let By : Reaction Driver → Type 0 = λ r. ReactsAs g.F.Files.tells (standing c.args.self.now (g.F.Files.held c.args.files.now)) (frame.Have c.in-Have.told) r (driver_standing c.args.self.now c.drive_told.new.mark (g.F.Files.held c.args.files.now)) (g.D.Door.sessions c.args.door.now) (g.D.Door.sessions c.drive_told.new.door) c.drive_told.result in
+    let AtFrame : Frame → Type 0 = λ f. ReactsAs g.F.Files.tells (standing c.args.self.now (g.F.Files.held c.args.files.now)) f (drive_pulling (record { stage = stage.Pulling c.args.again; node = c.args.self.now; mark = c.args.mark.now }) c.args.again c.args.place f) (driver_standing c.args.self.now c.drive_have.new.mark (g.F.Files.held c.args.files.now)) (g.D.Door.sessions c.args.door.now) (g.D.Door.sessions c.drive_have.new.door) c.drive_have.result in
+    let By : Reaction Driver → Type 0 = λ r. ReactsAs g.F.Files.tells (standing c.args.self.now (g.F.Files.held c.args.files.now)) (frame.Have c.in-Have.told) r (driver_standing c.args.self.now c.drive_have.new.mark (g.F.Files.held c.args.files.now)) (g.D.Door.sessions c.args.door.now) (g.D.Door.sessions c.drive_have.new.door) c.drive_have.result in
     subst AtFrame (sym c.in-Have.is)
     (subst By (told_alike c.args.self.now c.args.mark.now stage.Greeting (stage.Pulling c.args.again) c.args.again c.in-Have.told)
-    (as_reacts c.args.self.now _ c.drive_told.new.mark _ _ _ _ _ _ (told_node (greeting c.args.self.now c.args.mark.now) c.args.again c.in-Have.told) c.drive_told.ensures.marks c.drive_told.ensures.answers))
+    (as_reacts c.args.self.now _ c.drive_have.new.mark _ _ _ _ _ _ (told_node (greeting c.args.self.now c.args.mark.now) c.args.again c.in-Have.told) c.drive_have.ensures.marks c.drive_have.ensures.answers))

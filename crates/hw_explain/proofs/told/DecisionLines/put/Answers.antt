@@ -3,7 +3,7 @@ use Rattle.hw_types.specs.Real.{received_in}
 use Rattle.hw_explain.specs.Explain.{explained_line}
 use Rattle.hw_explain.proofs.ToldLaws.{now_at, line_more}
 use Rattle.hw_explain.proofs.CommitteeLaws.{on_ok}
-use Rattle.hw_explain.proofs.told.Told.put.Goals as goal
+use Rattle.hw_explain.proofs.told.DecisionLines.put.Goals as goal
 
 pub put_line-requires : goal.put_line-requires
 put_line-requires c = now_at c.args.core.now c.args.index c.decision-decision.result.now c.requires.is_new c.decision-decision.ensures

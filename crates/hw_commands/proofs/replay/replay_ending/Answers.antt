@@ -6,7 +6,7 @@ use Rattle.hw_replay.specs.Fates.{seen}
 use Rattle.hw_commands.proofs.CauseLaws.{read_about}
 use Rattle.hw_commands.proofs.FedLaws.{told_all, told_some}
 use Rattle.hw_commands.proofs.ToldLaws.{of_replay, reported_text, reported_told, stopped_text, stopped_told}
-use Rattle.hw_commands.proofs.replay.replay_told.Goals as goal
+use Rattle.hw_commands.proofs.replay.replay_ending.Goals as goal
 
 pub replay_fed-requires-clause-room : goal.replay_fed-requires-clause-room
 replay_fed-requires-clause-room g c =

@@ -1,5 +1,5 @@
 use Rattle.hw_explain.specs.Told.{HasLines}
-use Rattle.hw_explain.proofs.told.Told.tell.Given as goal
+use Rattle.hw_explain.proofs.told.DecisionLines.tell.Given as goal
 
 abbrev pub invariant-loop-index : goal.invariant-loop-index
 invariant-loop-index l = HasLines l.self l.core l.index

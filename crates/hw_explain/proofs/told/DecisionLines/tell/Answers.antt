@@ -1,6 +1,6 @@
 use Rattle.std.proofs.Common.{arith}
 use Rattle.hw_explain.proofs.ToldLaws.{behind_lines, behind_new}
-use Rattle.hw_explain.proofs.told.Told.tell.Goals as goal
+use Rattle.hw_explain.proofs.told.DecisionLines.tell.Goals as goal
 
 pub loop-index-init : goal.loop-index-init
 loop-index-init c = behind_lines c.args.self.now c.args.core.now c.requires

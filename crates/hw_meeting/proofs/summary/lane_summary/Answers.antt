@@ -2,7 +2,7 @@ use Rattle.std.proofs.Common.{◌≡◌, ◌<◌, ap, ◌∙◌, arith}
 use Rattle.hw_types.specs.declared.unit.SignedUnit.{SignedUnit}
 use Rattle.hw_dag.specs.Dag.{SettledUnit, unit_at, count_of, seq_of}
 use Rattle.hw_meeting.proofs.SeqLaws.{seq_small}
-use Rattle.hw_meeting.proofs.summary.told_by.Goals as goal
+use Rattle.hw_meeting.proofs.summary.lane_summary.Goals as goal
 
 pub overflow_add-result : goal.overflow_add-result
 overflow_add-result c =
