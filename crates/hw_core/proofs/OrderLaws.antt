@@ -1,5 +1,5 @@
 -- Laws of what parked units miss, in the order of parking.
-use Rattle.std.proofs.Common.{◌≡◌, ◌⊎◌, inl, inr, ℕ, zero, suc, Bool, true, false, List, [], ◌∷◌, ◌++◌, length, Some, None, refl, sym, ap, subst, ◌∙◌, arith, eqb-true}
+use Rattle.std.proofs.Common.{◌≡◌, ◌⊎◌, inl, inr, ℕ, zero, suc, Bool, true, false, List, [], ◌∷◌, ◌++◌, length, Option, Some, None, refl, sym, ap, subst, ◌∙◌, arith, eqb-true}
 use Rattle.std.specs.Prelude.{◌==◌, slice_get, is_none, if◌then◌else◌}
 use Rattle.std.specs.List.{cons_option, flat_map}
 use Rattle.std.specs.Map.{lookup}

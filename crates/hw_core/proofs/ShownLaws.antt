@@ -153,7 +153,7 @@ one_decided c state settled index d e x y is other =
     )
 
 module _ (c : CoreState) (state : NodeState) (shown : ShownState) (is : IsShown c state shown) (same : c.asked ≡ shown.asked) (level validator : ℕ) where
-  told_at : Option LastQuestion → Option ℕ
+  abbrev told_at : Option LastQuestion → Option ℕ
   told_at o = cond (is_about o (length c.journal)) (start_of shown.search level validator) None
 
   -- the question is about the journal as it is
@@ -169,7 +169,7 @@ module _ (c : CoreState) (state : NodeState) (shown : ShownState) (is : IsShown 
       go None f = absurd (let none : Some n ≡ None = e ∙ ap told_at f in cc)
       go (Some q) f =
           let now = now_at q (q.at == length c.journal) refl n (e ∙ ap told_at f) in
-          record { question = q; asked = same ∙ f; now = now.0; start = start_is_of c q.decision shown.search (is.asked q f now.0) level validator n now.1 }
+          record { question = q; asked = same ∙ f; now = now.0; is = start_is_of c q.decision shown.search (is.asked q f now.0) level validator n now.1 }
 
   pub start_none : graph state.dag ≡ settled_in c → (r : Option ℕ) → r ≡ told_at shown.asked → IfNone r ((n : ℕ) → IsStartNow c level validator n → ⊥)
   start_none settled (Some n) e = tt
@@ -179,7 +179,7 @@ module _ (c : CoreState) (state : NodeState) (shown : ShownState) (is : IsShown 
       let about : (s.question.at == length c.journal) ≡ true = eq-eqb s.question.at (length c.journal) s.now in
       let none : start_of shown.search level validator ≡ None = sym (e ∙ ap told_at asked ∙ ap (λ (b : Bool). cond b (start_of shown.search level validator) None) about) in
       start_is_none c s.question.decision shown.search answer level validator none
-      (λ d x m. one_decided c state settled s.question.decision d answer.decision x answer.block m answer.is) n s.start
+      (λ d x m. one_decided c state settled s.question.decision d answer.decision x answer.block m answer.is) n s.is
 
 module _ (journal : List Vertex) (park : Parked PreparedUnit) (state : NodeState) (node : IsNode journal park state) (d : DecidedState) (waiting : ℕ) (decided : IsDecided (setting_of state.config) journal state waiting d)
     (asked : Option LastQuestion) (index : ℕ) (told : Decision) (there : slice_get d.decisions index ≡ Some told) (f : Found) (at : slice_get d.detector.found index ≡ Some f) where

@@ -44,7 +44,7 @@ pub record IsStartNow (c : CoreState) (level validator start : ℕ) : Type 0 whe
   pub question : LastQuestion
   pub asked : c.asked ≡ Some question
   pub now : question.at ≡ length c.journal
-  pub start : IsStartOf c question.decision level validator start
+  pub is : IsStartOf c question.decision level validator start
 
 -- ---- what a node keeps of it
 

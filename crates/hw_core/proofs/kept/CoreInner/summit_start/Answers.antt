@@ -1,4 +1,4 @@
-use Rattle.std.proofs.Common.{List, ℕ, cond, length, ap, subst, ◌∙◌}
+use Rattle.std.proofs.Common.{List, ℕ, cond, length, refl, ap, subst, ◌∙◌}
 use Rattle.std.specs.Prelude.{Option, None, IfSome, IfNone}
 use Rattle.hw_types.specs.declared.answers.LastQuestion.{LastQuestion}
 use Rattle.hw_types.specs.Real.{CoreState}
