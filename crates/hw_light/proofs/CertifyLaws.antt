@@ -71,7 +71,10 @@ module _ (made : Certificate) (lawful : config_fault made.config ≡ None) (is :
   all_taken = ap (taken_from (setting_of made.config) 0 []) (zip_true made.vertices) ∙ taken_all (setting_of made.config) 0 [] (delivered made.vertices) is.taken
 
   node_is : (core : CoreState) → IsTaken made trues core → core ≡ node
-  node_is core t = let both : Ok core.journal ≡ Ok node.journal = sym t.journal ∙ all_taken in same_core core made.config node.journal t.config cc t.asked
+  node_is core t =
+      let both : Ok core.journal ≡ Ok node.journal = sym t.journal ∙ all_taken in
+      let journal : core.journal ≡ node.journal = cc in
+      same_core core made.config node.journal t.config journal t.asked
 
   none_exceeded : (w : ℕ) → exceeded_in node ≡ Some w → ⊥
   none_exceeded w e = go (nat_lt made.config.ftt (weight_in node)) refl e

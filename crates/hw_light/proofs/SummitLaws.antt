@@ -152,10 +152,10 @@ module _ (core : CoreState) (state : NodeState) (of : IsStateOf core state) wher
       pub found_exact : (IsTrue found ↔ SummitBy n config given panorama) → IsTrue found ↔ HasSummitNow core index
       found_exact exact =
           let here : IsTrue found ↔ SummitBy n state.config dag state.panorama = of_parts (λ (k : Config) (h : UnitGraph) (p : List View). IsTrue found ↔ SummitBy n k h p) config given panorama e f g exact in
-          (λ yes. summit_in_core n within named (here.0 yes), λ now. here.1 (summit_in_state n within named now))
+          (λ held. summit_in_core n within named (here.0 held), λ now. here.1 (summit_in_state n within named now))
 
       pub found_greatest : (c : Committees) → (IsTrue found → GreatestBy c n config given panorama) → IsTrue found → IsGreatestNow core index d c
-      found_greatest c kept yes = greatest_in_core n within named c (of_parts (GreatestBy c n) config given panorama e f g (kept yes))
+      found_greatest c kept held = greatest_in_core n within named c (of_parts (GreatestBy c n) config given panorama e f g (kept held))
 
   -- ---- the answer
 
