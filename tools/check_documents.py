@@ -9,8 +9,9 @@ It reads README.md, docs/*.md and the READMEs below bindings/, and says each pla
 - in the table of docs/ARCHITECTURE.md that has a column "Stands on", a row that says other crates than crates.txt does,
   and a crate that no row names.
 
-It also says lines above 120 columns, tables and quoted text left out, and the marks that a merge leaves. `--write` writes the column anew in place of
-saying that it is wrong. The status is 1 where anything was said, and 2 where the repository can't be read."""
+It also says lines above 120 columns, tables and quoted text left out, and the marks that a merge leaves. `--write`
+writes the column anew in place of saying that it is wrong. The status is 1 where anything was said, and 2 where the
+repository can't be read."""
 
 import argparse
 import re
