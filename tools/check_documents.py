@@ -6,7 +6,7 @@ It reads README.md, docs/*.md and the READMEs below bindings/, and says each pla
 - a link to a file of the repository, or a path in backquotes that begins with a folder of it;
 - a crate: a word that begins with hw_ and isn't in crates.txt;
 - a name in backquotes, as `deliver` or `Core::deliver`, whose words stand nowhere in the sources;
-- in the table of docs/ARCHITECTURE.md that has a column "Stands on", a row that says other crates than crates.txt does,
+- in the table of docs/ARCHITECTURE.md that has a column "Depends on", a row that says other crates than crates.txt does,
   and a crate that no row names.
 
 It also says lines above 120 columns, tables and quoted text left out, and the marks that a merge leaves. `--write`
@@ -25,7 +25,7 @@ LINK = re.compile(r"\[[^\]]*\]\(([^)\s]+)\)")
 QUOTED = re.compile(r"`([^`]+)`")
 CRATE = re.compile(r"\bhw_[a-z0-9_]*[a-z0-9]\b")
 NAME = re.compile(r"[A-Za-z_][A-Za-z0-9_]*(?:::[A-Za-z_][A-Za-z0-9_]*)*")
-COLUMN = "Stands on"
+COLUMN = "Depends on"
 MERGE = re.compile(r"<{7} |={7}$|>{7} ")
 # Names of others, and the shortest name that is no variable of a formula.
 OTHERS = {"highway_core"}
@@ -101,7 +101,7 @@ def faults_of(page, root, crates, words):
         said = [*lacking_paths(page, root, line), *lacking_names(line, crates, words)]
         if MERGE.match(line):
             said.append("is the mark of a merge")
-        if len(line) > WIDTH and not line.lstrip().startswith("|") and not LINK.search(line):
+        if len(line) > WIDTH and not line.lstrip().startswith("|"):
             said.append(f"has {len(line)} columns, above {WIDTH}")
         for what in said:
             yield f"{page.relative_to(root)}:{number}: {what}"
@@ -134,7 +134,7 @@ def with_column(text, crates):
             named.update(names)
             wanted = said_of(names, crates)
             if names and cells[at] != wanted:
-                faults.append(f"{number}: {cells[0]} stands on {wanted}, and the row says {cells[at]}")
+                faults.append(f"{number}: {cells[0]} depends on {wanted}, and the row says {cells[at]}")
                 cells[at] = wanted
                 line = f"| {' | '.join(cells)} |"
         rows.append(line)

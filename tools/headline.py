@@ -62,19 +62,19 @@ SAID = {
     "hw_types.Rules.state_rule": "the first rule that a unit breaks over the units below it",
 }
 
-HEAD = """# The definitions that `replay`, `explain` and `audit` stand on
+HEAD = """# The definitions that `replay`, `explain` and `audit` depend on
 
 `tools/headline.py` makes this page from the definitions, and the gate checks that it is up to date. Who believes these
 {count} definitions ({lines} lines without comments) knows what `highway` promises of the three commands. That is the
 text and the status which it gives of the bytes of the logs (clauses `said`, `text` and `line`), and what status 3 says
-of two logs (clause `conflict`). Each stands on those above it. Begin at the top; or read the last three sections
+of two logs (clause `conflict`). Each uses those above it. Begin at the top; or read the last three sections
 first, and look up what they name.
 
-Not listed: what the clauses say of failing reads and writes, of want of memory and of consumers; the other commands;
-{types} types of the code, as `Digest`; {words} words of the toolchain's library, as `filter`.
-[DEFINITIONS.md](DEFINITIONS.md) tells the protocol's part with examples, and how to read a definition.
+Not listed: what the clauses say of failing reads and writes, of memory that runs out, and of consumers; the other
+commands; {types} types of the code, as `Digest`; {words} words of the toolchain's library, as `filter`.
+[DEFINITIONS.md](DEFINITIONS.md) explains the protocol's part with examples, and how to read a definition.
 
-Three definitions are worked out, and a law says what they are. In their place stand here the definitions of the law.
+Three definitions are worked out, and a law says what they are. In their place here are the definitions of the law.
 
 | Worked out | The law | Believed in its place |
 |---|---|---|

@@ -8,7 +8,7 @@ from pathlib import Path
 
 import check_documents
 
-TABLE = """| Crate | What it is | Stands on |
+TABLE = """| Crate | What it is | Depends on |
 |---|---|---|
 | hw_low | the values | nothing |
 | hw_high | the rest | {said} |
@@ -66,7 +66,7 @@ class Documents(unittest.TestCase):
 
     def test_a_wrong_column_is_said_and_written(self):
         self.put("docs/ARCHITECTURE.md", TABLE.format(said="low"))
-        self.assertIn("ARCHITECTURE.md:4: hw_high stands on low, sha2", self.said()[1])
+        self.assertIn("ARCHITECTURE.md:4: hw_high depends on low, sha2", self.said()[1])
         self.assertEqual(self.said("--write")[0], 0)
         self.assertEqual(self.said()[0], 0)
 
@@ -77,6 +77,10 @@ class Documents(unittest.TestCase):
     def test_a_long_line(self):
         self.put("README.md", "a" * 121 + "\n")
         self.assertIn("has 121 columns", self.said()[1])
+
+    def test_a_long_line_with_a_link(self):
+        self.put("README.md", "a " * 60 + "[b](docs/ARCHITECTURE.md)\n")
+        self.assertIn("README.md:1: has 145 columns", self.said()[1])
 
     def test_no_repository(self):
         self.assertEqual(check_documents.main([str(self.root / "docs")]), 2)
