@@ -12,7 +12,7 @@ mod words;
 pub use answer::Answer;
 pub use config::config_of;
 pub use sections::{Sections, answer_all};
-pub use unit::{own_observation, panorama_of, plain_unit, signed, told_number, unit_of};
+pub use unit::{number_in, own_observation, panorama_of, plain_unit, signed, unit_of};
 pub use vertex::is_in_format;
 pub use words::{
     after, byte, digest_of_byte, digest_with, lines_of, named, no_signature, number, number_of,

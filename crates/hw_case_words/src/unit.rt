@@ -75,7 +75,7 @@ pub fn own_observation(panorama: &ObsList, words: &[&str]) -> Obs {
 }
 
 /// The number of the unit that the words give, if they do.
-pub fn told_number(words: &[&str]) -> Option<u64> {
+pub fn number_in(words: &[&str]) -> Option<u64> {
     match after(words, "number") {
         [number, ..] => number.parse().ok(),
         [] => None,

@@ -1,6 +1,6 @@
 //! Units as lines give them. The digest of a unit is its name.
 
-use hw_case_words::{Answer, after, named, own_observation, told_number, unit_of, until_key};
+use hw_case_words::{Answer, after, named, number_in, own_observation, unit_of, until_key};
 use hw_dag::Dag;
 use hw_types::{Digest, DigestList, Obs, ObsList, SignedUnit};
 
@@ -37,7 +37,7 @@ pub fn names(answer: &mut Answer, words: &[&str]) -> DigestList {
 /// The unit that the words give. Its number is that after the unit that it cites of its creator, unless they give one.
 pub fn wire_unit(answer: &mut Answer, dag: &Dag, words: &[&str]) -> SignedUnit {
     let panorama = observations(answer, after(words, "cites"));
-    let seq = match told_number(words) {
+    let seq = match number_in(words) {
         Some(number) => number,
         None => next_number(dag, own_observation(&panorama, words)),
     };

@@ -48,7 +48,7 @@ fn shown_starts(answer: &mut Answer, core: &Core, word: &str) {
 
 fn put_start(answer: &mut Answer, core: &Core, level: u32, validator: usize) {
     match u32::try_from(validator) {
-        Ok(validator) => told_start(answer, core.summit_start(level, validator)),
+        Ok(validator) => put_optional(answer, core.summit_start(level, validator)),
         Err(_) => answer.refuse(),
     }
 }
@@ -65,7 +65,7 @@ fn block_starts(answer: &mut Answer, core: &mut Core, word: &str, place: &str) {
 
 fn put_start_of(answer: &mut Answer, core: &mut Core, index: u64, level: u32, validator: usize) {
     match u32::try_from(validator) {
-        Ok(validator) => told_start(answer, start_of(core, index, level, validator)),
+        Ok(validator) => put_optional(answer, start_of(core, index, level, validator)),
         Err(_) => answer.refuse(),
     }
 }
@@ -79,7 +79,7 @@ fn start_of(core: &mut Core, index: u64, level: u32, validator: u32) -> Option<u
     }
 }
 
-fn told_start(answer: &mut Answer, start: Option<u64>) {
+fn put_optional(answer: &mut Answer, start: Option<u64>) {
     answer.put(" ");
     match start {
         Some(start) => answer.number(start),

@@ -2,7 +2,7 @@
 
 use crate::journal::names::{Named, digest_named, unit_named, with_digest};
 use hw_case_words::{
-    Answer, after, digest_of_byte, own_observation, told_number, unit_of, until_key,
+    Answer, after, digest_of_byte, number_in, own_observation, unit_of, until_key,
 };
 use hw_codec::{digest_of, fits};
 use hw_types::{Digest, DigestList, Evidence, Obs, ObsList, SignedUnit, Vertex, WireUnit};
@@ -13,7 +13,7 @@ pub fn unit(answer: &mut Answer, instance: Digest, names: &mut Vec<Named>, words
     let [name, ..] = words else {
         return answer.refuse();
     };
-    let unit = told_unit(answer, instance, names.as_slice(), words);
+    let unit = unit_in(answer, instance, names.as_slice(), words);
     define_unit(answer, names, name, unit);
 }
 
@@ -79,9 +79,9 @@ pub fn digest_in_format(alloc: Global, unit: &WireUnit) -> Option<Digest> {
 }
 
 /// The unit that the words give. Its number is that after the unit that it cites of its creator, unless they give one.
-fn told_unit(answer: &mut Answer, instance: Digest, names: &[Named], words: &[&str]) -> SignedUnit {
+fn unit_in(answer: &mut Answer, instance: Digest, names: &[Named], words: &[&str]) -> SignedUnit {
     let panorama = observations(answer, names, after(words, "cites"));
-    let seq = match told_number(words) {
+    let seq = match number_in(words) {
         Some(number) => number,
         None => next_number(names, own_observation(&panorama, words)),
     };

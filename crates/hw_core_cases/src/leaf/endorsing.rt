@@ -13,14 +13,19 @@ fn unit_of(word: &str) -> Digest {
 }
 
 /// Adds an endorsement, and says whether it is new.
-fn added(told: &mut Endorsements, validators: u32, unit: &Digest, endorser: u32) -> &'static str
-    requires { length told.old.weights ≡ validators }
-    ensures { told.new.weights ≡ told.old.weights }
+fn added(
+    endorsements: &mut Endorsements,
+    validators: u32,
+    unit: &Digest,
+    endorser: u32,
+) -> &'static str
+    requires { length endorsements.old.weights ≡ validators }
+    ensures { endorsements.new.weights ≡ endorsements.old.weights }
 {
     if endorser >= validators {
         return "no validator";
     }
-    match told.add(unit, endorser) {
+    match endorsements.add(unit, endorser) {
         Ok(Added::New) => "new",
         Ok(Added::Repeat) => "repeat",
         Err(_) => "memory",
@@ -28,45 +33,51 @@ fn added(told: &mut Endorsements, validators: u32, unit: &Digest, endorser: u32)
 }
 
 /// Whether the pair is known.
-fn has(told: &Endorsements, validators: u32, unit: &Digest, endorser: u32) -> bool
-    requires { length told.now.weights ≡ validators }
+fn has(endorsements: &Endorsements, validators: u32, unit: &Digest, endorser: u32) -> bool
+    requires { length endorsements.now.weights ≡ validators }
 {
-    endorser < validators && told.has(unit, endorser)
+    endorser < validators && endorsements.has(unit, endorser)
 }
 
 /// What a step answers.
-fn step(answer: &mut Answer, told: &mut Endorsements, validators: u32, word: &str)
-    requires { length told.old.weights ≡ validators }
-    ensures { told.new.weights ≡ told.old.weights }
+fn step(answer: &mut Answer, endorsements: &mut Endorsements, validators: u32, word: &str)
+    requires { length endorsements.old.weights ≡ validators }
+    ensures { endorsements.new.weights ≡ endorsements.old.weights }
 {
     match word.split_once(':') {
-        Some(("q", unit)) => answer.truth(told.endorsed(&unit_of(unit))),
-        Some((kind, pair)) => pair_step(answer, told, validators, kind, pair),
+        Some(("q", unit)) => answer.truth(endorsements.endorsed(&unit_of(unit))),
+        Some((kind, pair)) => pair_step(answer, endorsements, validators, kind, pair),
         None => answer.put("no step"),
     }
 }
 
 /// What a step answers with a unit and an endorser.
-fn pair_step(answer: &mut Answer, told: &mut Endorsements, validators: u32, kind: &str, pair: &str)
-    requires { length told.old.weights ≡ validators }
-    ensures { told.new.weights ≡ told.old.weights }
+fn pair_step(
+    answer: &mut Answer,
+    endorsements: &mut Endorsements,
+    validators: u32,
+    kind: &str,
+    pair: &str,
+)
+    requires { length endorsements.old.weights ≡ validators }
+    ensures { endorsements.new.weights ≡ endorsements.old.weights }
 {
     let Some((unit, endorser)) = pair.split_once(':') else {
         return answer.refuse();
     };
     let (unit, endorser) = (unit_of(unit), small(endorser));
     if kind == "a" {
-        answer.put(added(told, validators, &unit, endorser));
+        answer.put(added(endorsements, validators, &unit, endorser));
     } else {
-        answer.truth(has(told, validators, &unit, endorser));
+        answer.truth(has(endorsements, validators, &unit, endorser));
     }
 }
 
-fn walk(answer: &mut Answer, told: &mut Endorsements, validators: u32, steps: &[&str])
-    requires { length told.old.weights ≡ validators }
+fn walk(answer: &mut Answer, endorsements: &mut Endorsements, validators: u32, steps: &[&str])
+    requires { length endorsements.old.weights ≡ validators }
 {
     for word in steps {
-        step(answer, told, validators, word);
+        step(answer, endorsements, validators, word);
         answer.put(" ");
     }
 }
@@ -91,22 +102,27 @@ fn endorsed_in(answer: &mut Answer, config: &Config, steps: &[&str])
 {
     let validators = u32::try_from(config.weights.len());
     match (Endorsements::new(answer.alloc(), config), validators) {
-        (Ok(mut told), Ok(validators)) => walk(answer, &mut told, validators, steps),
+        (Ok(mut endorsements), Ok(validators)) => walk(
+            answer,
+            &mut endorsements,
+            validators,
+            steps,
+        ),
         _ => answer.refuse(),
     }
 }
 
 /// How many endorsers, one after the other, make the unit endorsed.
-fn count(told: &mut Endorsements, validators: u32, unit: &Digest) -> u32
-    requires { length told.old.weights ≡ validators }
+fn count(endorsements: &mut Endorsements, validators: u32, unit: &Digest) -> u32
+    requires { length endorsements.old.weights ≡ validators }
 {
     let mut before = 0u32;
     for endorser in 0..validators {
-        if !told.endorsed(unit) {
+        if !endorsements.endorsed(unit) {
             before = before.saturating_add(1);
         }
-        let _ = added(told, validators, unit, endorser);
-        let _ = added(told, validators, unit, endorser);
+        let _ = added(endorsements, validators, unit, endorser);
+        let _ = added(endorsements, validators, unit, endorser);
     }
     before
 }
@@ -125,8 +141,8 @@ fn endorsers_in(answer: &mut Answer, config: &Config)
 {
     let validators = u32::try_from(config.weights.len());
     match (Endorsements::new(answer.alloc(), config), validators) {
-        (Ok(mut told), Ok(validators)) => {
-            let before = count(&mut told, validators, &digest_of_byte(7));
+        (Ok(mut endorsements), Ok(validators)) => {
+            let before = count(&mut endorsements, validators, &digest_of_byte(7));
             answer.number(before as u64);
         }
         _ => answer.refuse(),

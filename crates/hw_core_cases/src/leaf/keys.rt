@@ -86,12 +86,12 @@ fn signed_text(answer: &mut Answer, kind: &str, keys: &Keys, validator: u32, dig
 fn verdict_text(answer: &mut Answer, keys: &Keys, vertex: &str) {
     let bytes = answer.bytes(vertex);
     match decode_vertex(answer.alloc(), bytes.as_slice()) {
-        Ok(vertex) => told_verdict(answer, keys, &vertex),
+        Ok(vertex) => put_verdict(answer, keys, &vertex),
         Err(_) => answer.put("no vertex"),
     }
 }
 
-fn told_verdict(answer: &mut Answer, keys: &Keys, vertex: &Vertex)
+fn put_verdict(answer: &mut Answer, keys: &Keys, vertex: &Vertex)
     requires { VertexFits vertex.now }
 {
     match keys.verdict(vertex) {

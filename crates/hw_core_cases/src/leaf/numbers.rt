@@ -79,6 +79,6 @@ fn unit_of(answer: &mut Answer, word: &str) -> SignedUnit {
 pub fn pair_text(answer: &mut Answer, validators: u32, left: &str, right: &str) {
     let left = unit_of(answer, left);
     let right = unit_of(answer, right);
-    let told = check_pair(&Evidence { left, right }, &digest_of_byte(1), validators);
-    answer.debug(&told);
+    let checked = check_pair(&Evidence { left, right }, &digest_of_byte(1), validators);
+    answer.debug(&checked);
 }

@@ -109,8 +109,8 @@ fn put_asks(answer: &mut Answer, asks: &[MemAsk]) {
 }
 
 /// What was heard from a peer, and what was written to it.
-fn put_talk(answer: &mut Answer, heard: &[u8], told: &[u8]) {
+fn put_talk(answer: &mut Answer, heard: &[u8], said: &[u8]) {
     answer.characters(heard);
     answer.put("/");
-    answer.characters(told);
+    answer.characters(said);
 }

@@ -39,13 +39,13 @@ fn write(answer: &mut Answer, sink: &mut MemSink, piece: &[u8]) {
 
 /// The first four moments of a clock that has 5, 3 and 9, or 7 alone, or none.
 pub fn clock_text(answer: &mut Answer, moments: &str) {
-    let told = match moments {
+    let read = match moments {
         "5,3,9" => Vec::from_slice(answer.alloc(), &[5, 3, 9]),
         "7" => Vec::from_slice(answer.alloc(), &[7]),
         _ => Ok(Vec::new(answer.alloc())),
     };
-    match told {
-        Ok(moments) => told_text(answer, &mut SetClock::new(moments)),
+    match read {
+        Ok(moments) => put_moments(answer, &mut SetClock::new(moments)),
         Err(_) => answer.refuse(),
     }
 }
@@ -53,7 +53,7 @@ pub fn clock_text(answer: &mut Answer, moments: &str) {
 /// What is put before each moment.
 const BETWEEN: [&str; 4] = ["[", ", ", ", ", ", "];
 
-fn told_text(answer: &mut Answer, clock: &mut SetClock) {
+fn put_moments(answer: &mut Answer, clock: &mut SetClock) {
     for between in BETWEEN.as_slice() {
         answer.put(between);
         answer.number(clock.now());

@@ -32,7 +32,7 @@ fn put_pair(answer: &mut Answer, left: &Core, right: &Core) {
     let right_parts = summary_of(answer.alloc(), right);
     match (left_parts, right_parts) {
         (Ok(left_parts), Ok(right_parts)) => {
-            told_by(
+            put_summaries(
                 answer,
                 left,
                 right,
@@ -45,7 +45,7 @@ fn put_pair(answer: &mut Answer, left: &Core, right: &Core) {
 }
 
 /// The same by the two summaries.
-fn told_by(
+fn put_summaries(
     answer: &mut Answer,
     left: &Core,
     right: &Core,
