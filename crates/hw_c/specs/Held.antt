@@ -2,12 +2,13 @@
 use base.Fml.{Fml, feq}
 use base.Stored.{Coded}
 use denote.RawPtr.{Ptr, null_ptr}
-use Rattle.std.specs.Prelude.{Option, Some, None}
+use Rattle.std.specs.Prelude.{Option, Some, None, Result, Ok, Err}
 use Rattle.std.specs.Coded.{coded_option}
 use Rattle.std.specs.Global.{Global}
 use Rattle.std.specs.Box.Ownership.{box_owns}
 use Rattle.std_alloc.specs.declared.boxed.Box.{Box}
 use Rattle.std_heap.specs.contracts.GlobalAllocator.TheImpl.{ghosts}
+use Rattle.hw_c.specs.declared.codes.Fault.{Fault}
 use Rattle.hw_c.specs.declared.content.Content.{Content}
 use Rattle.hw_core.specs.contracts.node.Core.{the_row}
 
@@ -29,7 +30,7 @@ abbrev pub value_in : Option (Content Held Global) → Option Held
 value_in None = None
 value_in (Some c) = Some c.value
 
--- the value of the box, where there is one
-abbrev pub boxed_in : Option (Box Held Global) → Option Held
-boxed_in None = None
-boxed_in (Some b) = Some b.value
+-- The value of the box, where there is one.
+abbrev pub boxed_in : Result (Box Held Global) Fault → Option Held
+boxed_in (Ok b) = Some b.value
+boxed_in (Err f) = None

@@ -8,6 +8,43 @@ use hw_light::CertError;
 use hw_text::rule_number;
 use hw_types::{Cause, CodecError, ConfigFault, OutOfMemory, PairFault};
 
+/// Why a call did nothing.
+#[derive(Clone, Copy)]
+pub enum Fault {
+    /// The handle holds no node.
+    Empty,
+    /// The handle holds a node already.
+    Full,
+    /// There was no memory.
+    OutOfMemory,
+    /// There is none.
+    Nothing,
+    /// A number is outside its range.
+    OutOfRange,
+    /// What was asked for is longer than its format or its journal allows.
+    TooLong,
+    /// The two nodes are of different configurations.
+    OtherInstance,
+    /// The bytes are no spelling.
+    Bytes(CodecError),
+    /// The configuration breaks this limit.
+    Config(ConfigFault),
+    /// The vertex was refused.
+    Refused(Cause),
+    /// The bytes are no certificate.
+    Certificate(CertError),
+}
+
+/// What stands behind a status. What a status doesn't need is 0.
+#[repr(C)]
+#[derive(Clone, Copy)]
+pub struct Answer {
+    pub kind: u32,
+    pub count: u32,
+    pub at: u64,
+    pub digest: [u8; 32],
+}
+
 /// It is done.
 pub const OK: u32 = 0;
 
@@ -65,33 +102,6 @@ pub const BAD_CERTIFIED_CONFIG: u32 = 0x510;
 /// A vertex in a certificate is no spelling: the last digit says why.
 pub const BAD_CERTIFIED_VERTEX: u32 = 0x520;
 
-/// Why a call did nothing.
-#[derive(Clone, Copy)]
-pub enum Fault {
-    /// The handle holds no node.
-    Empty,
-    /// The handle holds a node already.
-    Full,
-    /// There was no memory.
-    OutOfMemory,
-    /// There is none.
-    Nothing,
-    /// A number is outside its range.
-    OutOfRange,
-    /// What was asked for is longer than its format or its journal allows.
-    TooLong,
-    /// The two nodes are of different configurations.
-    OtherInstance,
-    /// The bytes are no spelling.
-    Bytes(CodecError),
-    /// The configuration breaks this limit.
-    Config(ConfigFault),
-    /// The vertex was refused.
-    Refused(Cause),
-    /// The bytes are no certificate.
-    Certificate(CertError),
-}
-
 impl From<OutOfMemory> for Fault {
     ghost from_gives = { λ _ f. f ≡ faults.OutOfMemory };
 
@@ -114,16 +124,6 @@ impl From<CodecError> for Fault {
     fn from(e: CodecError) -> Fault {
         Fault::Bytes(e)
     }
-}
-
-/// What stands behind a status. What a status doesn't need is 0.
-#[repr(C)]
-#[derive(Clone, Copy)]
-pub struct Answer {
-    pub kind: u32,
-    pub count: u32,
-    pub at: u64,
-    pub digest: [u8; 32],
 }
 
 fn codec_status(error: CodecError) -> u32

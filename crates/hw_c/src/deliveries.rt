@@ -28,13 +28,8 @@ fn deliver_named(
     }
 }
 
-/// Delivers one of several vertices, of whom none has a name that was worked out ahead.
-fn deliver_unnamed(
-    alloc: Global,
-    core: &mut Core,
-    bytes: &[u8],
-    sent: Sent,
-) -> Result<Receipt, Fault>
+/// Delivers one of several vertices, without a name that was worked out ahead.
+fn deliver_one(alloc: Global, core: &mut Core, bytes: &[u8], sent: Sent) -> Result<Receipt, Fault>
     ensures { IsDeliveryOf core.old bytes.now sent result core.new }
 {
     match bytes_of(bytes, sent) {
@@ -55,7 +50,7 @@ fn deliver_others(
     ensures { AreDeliveries core.old bytes.now vertices.now delivered.new core.new }
 {
     'vertices: for k in 0..vertices.len() {
-        let outcome = deliver_unnamed(alloc, core, bytes, vertices[k]);
+        let outcome = deliver_one(alloc, core, bytes, vertices[k]);
         delivered[k] = delivered_of(outcome);
     }
 }

@@ -1,11 +1,18 @@
 //! How an outcome goes to the caller.
 
 ghost use Rattle.std.specs.Prelude.{◌≡◌, length};
-ghost use Rattle.hw_c.specs.{Told.{status, behind, Puts, PutsWith, receipt_answer}, Buffers.{IsWritten, copied}};
+ghost use Rattle.hw_c.specs.{Told.{status, behind, Puts, PutsWith, receipt_answer}, Buffers.{IsWritten, IsPutWithBytes, copied}};
 
 use crate::codes::{Answer, Fault, OK, answer_of, blank, status_of};
 use hw_text::rule_number;
 use hw_types::{Bytes, Receipt};
+
+/// A value for one of the caller's structs, and the bytes for the buffer beside it.
+#[derive(Drop)]
+pub struct WithBytes<T> {
+    pub value: T,
+    pub bytes: Bytes,
+}
 
 /// Puts the value, where there is one, and answers the status.
 pub fn put<T: Copy>(outcome: Result<T, Fault>, out: &mut T) -> u32
@@ -106,6 +113,21 @@ pub fn put_bytes(outcome: Result<Bytes, Fault>, buf: &mut [u8], len: &mut usize)
     match outcome {
         Ok(bytes) => {
             *len = copy_bytes(bytes.as_slice(), buf);
+            OK
+        }
+        Err(fault) => status_of(fault),
+    }
+}
+
+/// Puts a value and its bytes, where they are there, and answers the status.
+pub fn put_both<T: Copy>(outcome: Result<WithBytes<T>, Fault>, out: &mut T, buf: &mut [u8]) -> u32
+    ensures status { result ≡ status outcome }
+    ensures put { IsPutWithBytes outcome out.old out.new buf.old buf.new }
+{
+    match outcome {
+        Ok(WithBytes { value, bytes }) => {
+            *out = value;
+            copy_bytes(bytes.as_slice(), buf);
             OK
         }
         Err(fault) => status_of(fault),

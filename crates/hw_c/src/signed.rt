@@ -27,14 +27,6 @@ pub struct Signed {
     pub second: Signer,
 }
 
-/// Who signed the vertex that the bytes spell, and what.
-pub fn signatures(alloc: Global, bytes: &[u8]) -> Result<Signed, Fault>
-    ensures { IsSigned bytes.now result }
-{
-    let vertex = decode_vertex(alloc, bytes)?;
-    Ok(signed_of(alloc, &vertex)?)
-}
-
 /// Who signed the vertex, and what.
 pub fn signed_of(alloc: Global, vertex: &Vertex) -> Result<Signed, OutOfMemory>
     requires { VertexFits vertex.now }
@@ -100,4 +92,12 @@ fn no_signer() -> Signer
         unit: [0; 32],
         signature: [0; 32],
     }
+}
+
+/// Who signed the vertex that the bytes spell, and what.
+pub fn signatures(alloc: Global, bytes: &[u8]) -> Result<Signed, Fault>
+    ensures { IsSigned bytes.now result }
+{
+    let vertex = decode_vertex(alloc, bytes)?;
+    Ok(signed_of(alloc, &vertex)?)
 }
