@@ -14,13 +14,15 @@ use Rattle.hw_c.specs.declared.put.WithBytes.{WithBytes}
 use Rattle.hw_c.specs.Calls.{IsWant}
 use Rattle.hw_c.specs.Told.{zeros}
 
--- 0 they agree on so many blocks; 1 they decided two blocks at a height, and the culprits weigh so much; 2 two units clash
+-- Kind 0: they agree on this number of blocks. Kind 1: they decided two blocks at this height, and the culprits have
+-- this weight. Kind 2: two units clash.
 abbrev pub audited_of : Verdict → ℕ → Audited
 audited_of (verdict.Agree common) count = record { kind = 0; length = count; height = common; culprits = 0; weight = 0; left = zeros; right = zeros }
 audited_of (verdict.Conflict height left right culprits weight) count = record { kind = 1; length = count; height = height; culprits = length culprits; weight = weight; left = left.0; right = right.0 }
 audited_of (verdict.Clash left right) count = record { kind = 2; length = count; height = 0; culprits = 0; weight = 0; left = zeros; right = zeros }
 
--- the verdict on two nodes of one configuration, field by field and as text; or they are of two
+-- The verdict on two nodes of one configuration, field by field and as text. The fault `OtherInstance` says that the
+-- configurations differ.
 abbrev pub IsAudit : CoreState → CoreState → Result (WithBytes Audited) Fault → Type 0
 IsAudit left right (Ok a) =
     (v : Verdict) × IsVerdictOn left right v × IsWeighty left.config.ftt v × ShowsFirstClash (setting_of left.config) left.journal right.journal v

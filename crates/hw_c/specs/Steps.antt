@@ -1,4 +1,4 @@
--- What a step answers.
+-- The next unit of a validator.
 -- Source: ours.
 use Rattle.std.specs.Prelude.{◌≡◌, ◌⊎◌, ℕ, ◌^◌, ◌<◌, ◌≤◌, List, length, Option, Some, None, Result, Ok, Err}
 use Rattle.hw_types.specs.declared.answers.Plan.{Plan}
@@ -12,20 +12,20 @@ use Rattle.hw_c.specs.declared.steps.Planned.{Planned}
 use Rattle.hw_c.specs.Answers.{plan_number}
 use Rattle.hw_c.specs.Calls.{IsWant}
 
--- what the plan is for, how many bytes its unit has, and what its creator signs
+-- what the planned unit is for, how many bytes it has, and the digest that its creator signs
 abbrev pub planned_of : Plan → ℕ → Planned
 planned_of plan count = record { kind = plan_number plan.kind; length = count; digest = (digest_of plan.unit).0 }
 
--- the plan, and the spelling of its unit
+-- the fields of the plan, and the spelling of its unit
 pub record IsSpelledStep (plan : Plan) (s : WithBytes Planned) : Type 0 where
   pub spelled : SpellsUnit s.bytes plan.unit
   pub planned : s.value ≡ planned_of plan (length s.bytes)
 
--- what the journal plans for the validator at this moment
+-- what the definitions plan for the validator at this moment
 abbrev pub step_in : CoreState → ℕ → ℕ → List ℕ → Option Plan
 step_in c me now value = step (setting_of c.config) (received_in c) me now value
 
--- the validator is none, the moment is behind the end of time, or the value is too long
+-- there is no such validator, the moment is after the end of time, or the value is too long
 abbrev pub IsOutOfRange : CoreState → ℕ → ℕ → List ℕ → Type 0
 IsOutOfRange c me now value = (length c.config.weights ≤ me) ⊎ ((2 ^ 63 ≤ now) ⊎ (4096 < length value))
 

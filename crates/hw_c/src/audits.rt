@@ -1,4 +1,4 @@
-//! What two nodes say of each other.
+//! Audits of two nodes.
 
 ghost use Rattle.std.specs.Prelude.{◌≡◌, length};
 ghost use Rattle.hw_c.specs.Audits.{audited_of, IsAudit};
@@ -9,7 +9,7 @@ use hw_audit::{AuditError, Verdict, audit, audit_text};
 use hw_core::Core;
 use std::alloc::Global;
 
-/// What two nodes say of each other, and how many bytes the text of it has.
+/// What an audit of two nodes found, and how many bytes its text has.
 #[repr(C)]
 #[derive(Clone, Copy)]
 pub struct Audited {
@@ -57,7 +57,7 @@ fn audited_of(verdict: &Verdict, length: u64) -> Audited
     audited
 }
 
-/// What the journals of two nodes say of each other.
+/// Audits the journals of two nodes against each other. `OtherInstance` where their configurations differ.
 pub fn audit_of(alloc: Global, left: &Core, right: &Core) -> Result<WithBytes<Audited>, Fault>
     ensures { IsAudit left.now right.now result }
 {

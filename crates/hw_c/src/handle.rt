@@ -1,4 +1,4 @@
-//! What a caller in another language holds: a place for a node.
+//! The handle that a caller in another language holds: a place for a node.
 
 ghost use Rattle.std.specs.Prelude.{◌≡◌, Some, None, Option, IfErr, option_map};
 ghost use Rattle.hw_c.specs.declared.codes.Fault.TheVariants as faults;
@@ -26,7 +26,7 @@ impl Model for Handle {
 }
 
 impl Handle {
-    /// A place with no node.
+    /// A place without a node.
     fn empty(alloc: Global) -> Handle
         ensures { result.held ≡ None }
     {
@@ -47,7 +47,7 @@ impl Handle {
         }
     }
 
-    /// The content of the place, where it has one.
+    /// The node of the place as its pointer and allocator, where there is one.
     fn content(self) -> Option<Content<Core, Global>>
         ensures { value_in result ≡ self.held }
     {

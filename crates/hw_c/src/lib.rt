@@ -1,12 +1,12 @@
-//! The core for C and Rust: what stands in `highway.h`.
+//! The core for C and Rust: the functions that `highway.h` declares.
 //!
-//! A caller owns a handle, one word that is null until `hw_core_new` fills it. A call takes the node out of its
-//! handle, works, and puts it back; so calls of one handle never overlap, and a handle that holds no node is answered
-//! with a status of its own. No memory of the library is handed out: bytes go into the caller's buffer as far as they
-//! fit, and the length that is told is that of all of them.
+//! A caller owns a handle: one word, which is null until `hw_core_new` fills it. A call takes the node out of its
+//! handle, works, and puts it back. So calls of one handle never overlap. A handle without a node gets a status of its
+//! own. The library hands out none of its memory: bytes go into the caller's buffer as far as they fit. The length in
+//! the answer counts all of them.
 //!
-//! Each contract names the outcome of the call, says what it is of the node, and what of it stands in the status and
-//! in the caller's structs.
+//! Each contract names the outcome of the call and relates it to the node. It then says what the status and the
+//! caller's structs hold of that outcome.
 #![tactic(auto)]
 
 ghost use Rattle.std.specs.Prelude.{◌≡◌, ℕ, List, Result, None};
@@ -59,7 +59,7 @@ pub use signed::{Signed, Signer};
 use std::alloc::Global;
 pub use steps::Planned;
 
-/// The bytes of the configuration with these fields.
+/// Spells the configuration with these fields as bytes.
 #[unsafe(no_mangle)]
 pub extern "C" fn hw_config(
     alloc: Global,
@@ -76,7 +76,7 @@ pub extern "C" fn hw_config(
     put_bytes_with(outcome, buf, len, answer)
 }
 
-/// Puts a node of the configuration that the bytes spell into an empty handle.
+/// Puts a new node into an empty handle. The bytes spell its configuration.
 #[unsafe(no_mangle)]
 pub extern "C" fn hw_core_new(
     alloc: Global,
@@ -90,7 +90,7 @@ pub extern "C" fn hw_core_new(
     put_done(outcome, answer)
 }
 
-/// Lets the node of a handle go, which is empty then.
+/// Frees the node of a handle. The handle is empty then.
 #[unsafe(no_mangle)]
 pub extern "C" fn hw_core_free(alloc: Global, core: &mut Handle) -> u32
     ensures { (r : Result Unit Fault) × Ends core.old.held r core.new.held × (result ≡ status r) }
@@ -99,7 +99,7 @@ pub extern "C" fn hw_core_free(alloc: Global, core: &mut Handle) -> u32
     put::said(outcome)
 }
 
-/// Who signed the vertex that the bytes spell, and what.
+/// Who signed the vertex that the bytes spell, and which units.
 #[unsafe(no_mangle)]
 pub extern "C" fn hw_signed(
     alloc: Global,
@@ -113,8 +113,8 @@ pub extern "C" fn hw_signed(
     put_with(outcome, signed, answer)
 }
 
-/// Delivers the vertices, which stand in the bytes, in order, each with the verdict on its signatures; and tells what
-/// each was answered. The two lists are equally long. The units among the vertices are hashed four side by side.
+/// Delivers the vertices in order, each with the verdict on its signatures, and writes the answer to each. The bytes
+/// hold all of the vertices. The two lists are equally long. The units among the vertices are hashed four side by side.
 #[unsafe(no_mangle)]
 pub extern "C" fn hw_deliver(
     alloc: Global,
@@ -144,7 +144,7 @@ pub extern "C" fn hw_journal(
     put_bytes(outcome, buf, len)
 }
 
-/// How much the node has of what, the weight of its faulty validators, and its fork choice.
+/// The counts of the node, the weight of its faulty validators, and its fork choice.
 #[unsafe(no_mangle)]
 pub extern "C" fn hw_summary(alloc: Global, core: &mut Handle, summary: &mut Summary) -> u32
     ensures { (r : Result Summary Fault) × Reads IsSummary core.old.held r core.new.held × Puts r summary.old summary.new result }
@@ -195,7 +195,7 @@ pub extern "C" fn hw_decision(
     put(outcome, decided)
 }
 
-/// The first needs that parked units miss, as many as fit.
+/// The first needs that parked units miss, as many as fit. The count says how many that are.
 #[unsafe(no_mangle)]
 pub extern "C" fn hw_unmet(
     alloc: Global,
@@ -259,7 +259,7 @@ pub extern "C" fn hw_with_signature(
     put_bytes_with(outcome, buf, len, answer)
 }
 
-/// What the journals of two nodes say of each other, and that as text. The handles are two.
+/// Audits the journals of two nodes against each other, and writes the result as text too. The two handles differ.
 #[unsafe(no_mangle)]
 pub extern "C" fn hw_audit(
     alloc: Global,
@@ -289,7 +289,7 @@ pub extern "C" fn hw_certificate(
     put_bytes(outcome, buf, len)
 }
 
-/// Who signed the vertex of that place in the certificate that the bytes spell, and what.
+/// Who signed the vertex of that place in the certificate that the bytes spell, and which units.
 #[unsafe(no_mangle)]
 pub extern "C" fn hw_certified(
     alloc: Global,
@@ -304,7 +304,7 @@ pub extern "C" fn hw_certified(
     put_with(outcome, signed, answer)
 }
 
-/// What the certificate that the bytes spell is answered, with these verdicts on its vertices' signatures.
+/// The answer to the certificate that the bytes spell, with these verdicts on the signatures of its vertices.
 #[unsafe(no_mangle)]
 pub extern "C" fn hw_check(
     alloc: Global,

@@ -1,4 +1,4 @@
-//! Who signed a vertex, and what: so a caller can judge the signatures before it delivers the vertex.
+//! Who signed a vertex, and which units. A caller checks these signatures before it delivers the vertex.
 
 ghost use Rattle.std.specs.Prelude.{◌≡◌, IfOk};
 ghost use Rattle.hw_types.specs.Spelling.{Fits, VertexFits};
@@ -27,7 +27,7 @@ pub struct Signed {
     pub second: Signer,
 }
 
-/// Who signed the vertex, and what.
+/// Who signed the vertex, and which units.
 pub fn signed_of(alloc: Global, vertex: &Vertex) -> Result<Signed, OutOfMemory>
     requires { VertexFits vertex.now }
     ensures { IfOk result (λ signed. signed ≡ signed_of vertex.now) }
@@ -94,7 +94,7 @@ fn no_signer() -> Signer
     }
 }
 
-/// Who signed the vertex that the bytes spell, and what.
+/// Who signed the vertex that the bytes spell, and which units.
 pub fn signatures(alloc: Global, bytes: &[u8]) -> Result<Signed, Fault>
     ensures { IsSigned bytes.now result }
 {

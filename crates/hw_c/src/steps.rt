@@ -14,7 +14,7 @@ use hw_types::{
 use hw_validator::next_unit_of;
 use std::alloc::Global;
 
-/// What a planned unit is for, how many bytes it has without a signature, and what its creator signs.
+/// What a planned unit is for, its length in bytes without a signature, and the digest that its creator signs.
 #[repr(C)]
 #[derive(Clone, Copy)]
 pub struct Planned {
@@ -23,7 +23,8 @@ pub struct Planned {
     pub digest: [u8; 32],
 }
 
-/// The unit that the validator may make at this moment, where there is one.
+/// The unit that the validator may make at this moment, if any. For the prover: this is a function of its own, so that
+/// the lemma about the journal applies to its call alone.
 #[tactic(auto, using(crate::proofs::StepLaws::step_is))]
 fn planned_unit(
     alloc: Global,
@@ -68,7 +69,9 @@ fn spelled(alloc: Global, plan: &Plan) -> Result<WithBytes<Planned>, OutOfMemory
     })
 }
 
-/// The unit that the validator may make at this moment, as bytes without a signature.
+/// The unit that the validator may make at this moment, as bytes without a signature. `Nothing` where there is none,
+/// and `TooLong` where it is longer than the format allows. `OutOfRange` where there is no such validator, the moment
+/// is after the end of time, or the value is too long.
 pub fn next(
     alloc: Global,
     core: &Core,
