@@ -25,8 +25,8 @@ pub(crate) struct UnitNumbers {
     seq: Option<u64>,
 }
 
-/// Reads the line of a unit, after its first word: `NAME by V at T exp E [seq N] cites C.. [block TEXT] [endorsed
-/// NAME..]`. Parts in brackets may be left out. There is one citation `C` for each validator.
+/// Reads the line of a unit, after its first word. Parts in brackets may be left out, and there is one citation `C` for
+/// each validator: `NAME by V at T exp E [seq N] cites C.. [block TEXT] [endorsed NAME..]`.
 #[tactic(auto, unfolding(crate::specs::Units::unit_line))]
 pub(crate) fn unit_line(
     alloc: Global,
